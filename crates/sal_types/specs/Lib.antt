@@ -1,0 +1,5 @@
+pub mod Order
+pub mod Prefix
+pub mod Reading
+pub mod Tree
+pub mod formers

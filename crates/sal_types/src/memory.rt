@@ -1,0 +1,41 @@
+//! Want of memory, and copies that may meet it.
+ghost use Rattle.std.specs.Prelude.{◌≡◌, IfOk};
+
+use std::alloc::{AllocError, AllocFailed};
+use thiserror::Error;
+
+/// Memory ran out.
+#[derive(Clone, Copy, Debug, PartialEq, Eq, Error)]
+#[error("out of memory")]
+pub struct NoMemory;
+
+impl From<AllocError> for NoMemory {
+    fn from(_refused: AllocError) -> NoMemory {
+        NoMemory
+    }
+}
+
+impl<T: Drop> From<AllocFailed<T>> for NoMemory {
+    fn from(_refused: AllocFailed<T>) -> NoMemory {
+        NoMemory
+    }
+}
+
+/// A value of which a second one can be made.
+pub trait Duplicate: Drop {
+    /// A second one, equal to this.
+    fn copy(&self) -> Result<Self, NoMemory>
+        ensures { IfOk result (λ it. it ≡ self.now) };
+}
+
+impl Duplicate for u8 {
+    fn copy(&self) -> Result<u8, NoMemory> {
+        Ok(*self)
+    }
+}
+
+impl Duplicate for u32 {
+    fn copy(&self) -> Result<u32, NoMemory> {
+        Ok(*self)
+    }
+}

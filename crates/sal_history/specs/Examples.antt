@@ -1,0 +1,68 @@
+-- Worked examples: two clients, the leafs a and b of a container box, and the operations on them.
+use Rattle.std.specs.Prelude.{ℕ, List, [], ◌∷◌, codes, map}
+use Prim.Native.String.{String}
+use Rattle.sal_types.specs.declared.value.Store.{Store}
+use Rattle.sal_types.specs.declared.value.Store.TheVariants.{Config}
+use Rattle.sal_types.specs.declared.value.Atom.TheVariants.{Text}
+use Rattle.sal_types.specs.declared.value.Step.{Step}
+use Rattle.sal_types.specs.declared.value.Step.TheVariants.{Node}
+use Rattle.sal_types.specs.declared.value.Cell.TheVariants.{Leaf}
+use Rattle.sal_types.specs.declared.row.Row.{Row}
+use Rattle.sal_rows.specs.declared.op.Op.{Op}
+use Rattle.sal_rows.specs.declared.op.Act.TheVariants.{Put, Merge, Delete}
+use Rattle.sal_rows.specs.declared.outcome.Mode.TheVariants.{Ro, Rw}
+use Rattle.sal_history.specs.declared.opening.Opening.{Opening}
+use Rattle.sal_history.specs.declared.call.Call.{Call}
+use Rattle.sal_history.specs.declared.call.Call.TheVariants.{Begin, Submit, Settle}
+use Rattle.sal_history.specs.declared.call.Entry.{Entry}
+use Rattle.sal_history.specs.declared.reply.Reply.{Reply}
+use Rattle.sal_history.specs.History.{history}
+
+-- the leafs a and b of the container box
+abbrev pub a : List Step
+a = Node 0 ∷ Node 1 ∷ []
+
+abbrev pub b : List Step
+b = Node 0 ∷ Node 2 ∷ []
+
+-- a leaf's row with a text
+abbrev pub leaf : List Step → String → Row
+leaf path text = record { path = path; cell = Leaf (record { member = 0; atom = Text (codes text) }) }
+
+abbrev pub put : List Step → String → Op
+put path text = record { store = Config; path = path; act = Put (leaf path text ∷ []) }
+
+abbrev pub merge : List Step → String → Op
+merge path text = record { store = Config; path = path; act = Merge (leaf path text ∷ []) }
+
+abbrev pub delete : List Step → Op
+delete path = record { store = Config; path = path; act = Delete }
+
+-- a world of one domain with these rows in its configuration
+abbrev pub opened : List Row → List Opening
+opened rows = record { config = rows; oper = [] } ∷ []
+
+-- calls of one client after another, each with its client; the numbers of entries tell nothing here
+abbrev pub by : ℕ → Call → Entry
+by client call = record { client = client; number = 0; call = call }
+
+abbrev pub begin : Call
+begin = Begin 0 Rw
+
+abbrev pub snapshot : Call
+snapshot = Begin 0 Ro
+
+-- the replies to a log
+abbrev pub replies : List Opening → List Entry → List Reply
+replies world log = map (λ answered. answered.reply) (history world log)
+
+-- Client 0 begins and client 1 begins; client 0 submits and settles, then client 1 does.
+abbrev pub crossed : Op → Op → List Entry
+crossed first second =
+    by 0 begin ∷ by 1 begin ∷ by 0 (Submit 0 (first ∷ [])) ∷ by 0 (Settle 1) ∷ by 1 (Submit 1 (second ∷ [])) ∷ by 1 (Settle 2) ∷ []
+
+-- Client 0 begins; client 1 makes commits of the two operations; then client 0 submits and settles.
+abbrev pub overtaken : Op → Op → Op → List Entry
+overtaken own first second =
+    by 0 begin ∷ by 1 begin ∷ by 1 (Submit 1 (first ∷ [])) ∷ by 1 (Settle 1) ∷ by 1 begin ∷ by 1 (Submit 4 (second ∷ [])) ∷ by 1 (Settle 2)
+    ∷ by 0 (Submit 0 (own ∷ [])) ∷ by 0 (Settle 3) ∷ []

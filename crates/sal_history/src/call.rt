@@ -1,0 +1,25 @@
+//! The shared calls, and the log of them.
+use sal_rows::{Mode, Ops};
+use sal_types::Seq;
+
+/// A shared call: what one turn of the broker is asked. Tokens are numbers.
+#[derive(Debug, Drop)]
+pub enum Call {
+    /// Begins a transaction of the domain.
+    Begin { domain: u32, mode: Mode },
+    /// Submits the transaction that the entry at this place of the log began, with its operations in order.
+    Submit { place: u64, ops: Ops },
+    /// Decides what is pending, up to and including this receipt.
+    Settle { receipt: u64 },
+}
+
+/// A call in the log: the client that made it, the count of that client's earlier entries, and the call.
+#[derive(Debug, Drop)]
+pub struct Entry {
+    pub client: u32,
+    pub number: u32,
+    pub call: Call,
+}
+
+/// The log: the shared calls in the order in which they were made. An entry's place is its index.
+pub type Log = Seq<Entry>;

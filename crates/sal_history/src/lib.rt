@@ -1,0 +1,21 @@
+//! The log of shared calls and what it means: the definitions on which every claim of the broker rests.
+//!
+//! | type | what it is |
+//! |---|---|
+//! | `Call`, `Entry`, `Log` | a shared call; a call with its client; the calls in order |
+//! | `Reply`, `Refusal` | what a step is answered; why it made no call |
+//! | `Opening` | a domain's trees before the first commit |
+//!
+//! `specs/History` answers a log entry by entry: receipts, outcomes, commits, trees, base and view of a transaction.
+//! It keeps the list of calls and nothing else: every tree is computed from the opening, every conflict by looking
+//! through the later commits. `examples` has worked examples, each proved by computing it.
+#![tactic(auto)]
+
+pub mod call;
+pub mod examples;
+pub mod opening;
+pub mod reply;
+
+pub use call::{Call, Entry, Log};
+pub use opening::Opening;
+pub use reply::{Refusal, Reply};

@@ -1,0 +1,67 @@
+-- The commits of a domain: the trees at them, what touches a path, and what stays as it was.
+-- A commit is the list of its operations; commits are numbered from 1, and 0 is the opening.
+use Rattle.std.specs.Prelude.{ℕ, zero, suc, ◌+◌, ◌-◌, Bool, false, not, ◌&&◌, ◌||◌, List, [], ◌∷◌, take, find, reverse, Option, Some, None, slice_get, if◌then◌else◌}
+use Rattle.std.specs.List.{fold, list_any}
+use Rattle.sal_types.specs.declared.value.Store.{Store}
+use Rattle.sal_types.specs.declared.value.Step.{Step}
+use Rattle.sal_types.specs.declared.row.Row.{Row}
+use Rattle.sal_types.specs.Tree.{has}
+use Rattle.sal_rows.specs.declared.op.Op.{Op}
+use Rattle.sal_rows.specs.declared.outcome.ClashKind.{ClashKind}
+use Rattle.sal_rows.specs.declared.outcome.ClashKind.TheVariants.{Changed, Created, Deleted}
+use Rattle.sal_rows.specs.Apply.{apply_ops}
+use Rattle.sal_rows.specs.Touch.{touches}
+
+-- the tree of the store after one more commit
+abbrev pub next_tree : Store → List Row → List Op → List Row
+next_tree s tree ops = apply_ops tree s ops
+
+-- the tree of the store after the commits
+abbrev pub tree_after : Store → List Row → List (List Op) → List Row
+tree_after s tree commits = fold (next_tree s) tree commits
+
+-- a piece of commit numbers: those after `from`, up to and including `to`
+pub record Span : Type 0 where
+  pub from : ℕ
+  pub to : ℕ
+
+-- the n numbers after a
+abbrev pub numbers_after : ℕ → ℕ → List ℕ
+numbers_after a zero = []
+numbers_after a (suc n) = (a + 1) ∷ numbers_after (a + 1) n
+
+-- the commits in a span
+abbrev pub numbers_in : Span → List ℕ
+numbers_in span = numbers_after span.from (span.to - span.from)
+
+module _ (opening : Store → List Row) (commits : List (List Op)) where
+  -- the tree of the store at commit k
+  abbrev pub tree_at : Store → ℕ → List Row
+  tree_at s k = tree_after s (opening s) (take k commits)
+
+  -- commit k touches p: one of its puts or merges has a row under p, or one of its operations sets a row under p
+  -- that stands before it
+  abbrev pub touches_at : Store → List Step → ℕ → Bool
+  touches_at s p k = touched (slice_get commits (k - 1))
+    where
+      touched : Option (List Op) → Bool
+      touched None = false
+      touched (Some ops) = touches (tree_at s (k - 1)) s ops p
+
+  -- p is absent at both ends of the span, or present at both and touched by no commit in it
+  abbrev pub is_unchanged : Store → List Step → Span → Bool
+  is_unchanged s p span = both_absent || both_present && not (list_any (touches_at s p) (numbers_in span))
+    where
+      both_absent : Bool
+      both_absent = not (has (tree_at s span.from) p) && not (has (tree_at s span.to) p)
+
+      both_present : Bool
+      both_present = has (tree_at s span.from) p && has (tree_at s span.to) p
+
+  -- the last commit in the span that touches p
+  abbrev pub last_touch : Store → List Step → Span → Option ℕ
+  last_touch s p span = find (touches_at s p) (reverse (numbers_in span))
+
+  -- how p differs at the ends of a span over which it is not unchanged
+  abbrev pub kind_over : Store → List Step → Span → ClashKind
+  kind_over s p span = if not (has (tree_at s span.from) p) then Created else (if has (tree_at s span.to) p then Changed else Deleted)

@@ -1,0 +1,9 @@
+-- The report is computed.
+use Rattle.std.proofs.Common.{refl}
+use Rattle.std.specs.Fmt.{digits}
+use Rattle.json.specs.Print.{escape_byte}
+use Rattle.sal_script.proofs.examples.different_leafs.Goals as goal
+
+pub returns : goal.returns
+unfolding digits escape_byte
+returns c = refl

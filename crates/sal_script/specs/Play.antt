@@ -1,0 +1,201 @@
+-- What a script does in an order: each number of the order lets that client go on to its next shared call, which is
+-- then made and answered by the log; at the end each client answers the local steps that are left.
+use Rattle.std.specs.Prelude.{ℕ, ◌+◌, Bool, true, false, List, [], ◌∷◌, ◌++◌, length, map, Option, None, Some, Result, Ok, Err, if◌then◌else◌, nat_eq, slice_get}
+use Rattle.std.specs.List.{slice_set}
+use Rattle.sal_types.specs.declared.value.Store.{Store}
+use Rattle.sal_types.specs.declared.value.Step.{Step}
+use Rattle.sal_types.specs.Tree.{under}
+use Rattle.sal_rows.specs.declared.op.Op.{Op}
+use Rattle.sal_rows.specs.declared.op.Act.TheVariants.{Put as PutAct}
+use Rattle.sal_rows.specs.declared.outcome.Mode.{Mode}
+use Rattle.sal_rows.specs.declared.outcome.Mode.TheVariants.{Ro, Wo, Rw}
+use Rattle.sal_history.specs.declared.opening.Opening.{Opening}
+use Rattle.sal_history.specs.declared.call.Call.{Call}
+use Rattle.sal_history.specs.declared.call.Call.TheVariants.{Begin as BeginCall, Submit as SubmitCall, Settle as SettleCall}
+use Rattle.sal_history.specs.declared.call.Entry.{Entry}
+use Rattle.sal_history.specs.declared.reply.Reply.{Reply}
+use Rattle.sal_history.specs.declared.reply.Reply.TheVariants.{Begun, Accepted, Read as ReadReply, Receipt, Settled, Refused}
+use Rattle.sal_history.specs.declared.reply.Refusal.TheVariants.{EmptySlot, ReadOnly}
+use Rattle.sal_history.specs.History.{reply, view, entries_of}
+use Rattle.sal_script.specs.declared.script.ScriptStep.{ScriptStep}
+use Rattle.sal_script.specs.declared.script.ScriptStep.TheVariants.{Begin, Put, Read, Submit, Settle}
+use Rattle.sal_script.specs.Plain.{text_row}
+use Rattle.sal_script.specs.Script.{Parts}
+
+-- a client's transaction: where it began in the log, its domain and mode, and its operations so far
+pub record Open : Type 0 where
+  pub place : ℕ
+  pub domain : ℕ
+  pub mode : Mode
+  pub ops : List Op
+
+-- what each slot holds
+abbrev pub Slots : Type 0 → Type 0
+Slots A = ℕ → Option A
+
+abbrev pub set_slot : {A : Type 0} → ℕ → Option A → Slots A → Slots A
+set_slot slot x slots = λ k. if nat_eq k slot then x else slots k
+
+-- a client: its slots, and the replies to its steps so far
+pub record Client : Type 0 where
+  pub transactions : Slots Open
+  pub receipts : Slots ℕ
+  pub replies : List Reply
+
+abbrev pub new_client : Client
+new_client = record { transactions = λ k. None; receipts = λ k. None; replies = [] }
+
+-- one step more is answered
+abbrev pub replied : Reply → Client → Client
+replied r client = record client { replies = client.replies ++ r ∷ [] }
+
+-- what a step comes to: an answer at once, or a shared call
+pub data Meeting : Type 0 where
+  local : Reply → Client → Meeting
+  shared : Call → Meeting
+
+abbrev pub refused_empty : Client → Meeting
+refused_empty client = local (Refused EmptySlot) client
+
+-- a write in a transaction that may write
+abbrev pub write_in : ℕ → Op → Open → Mode → Client → Meeting
+write_in slot op tx Ro client = local (Refused ReadOnly) client
+write_in slot op tx mode client = local Accepted (record client { transactions = set_slot slot (Some (record tx { ops = tx.ops ++ op ∷ [] })) client.transactions })
+
+abbrev pub write : ℕ → Op → Client → Option Open → Meeting
+write slot op client None = refused_empty client
+write slot op client (Some tx) = write_in slot op tx tx.mode client
+
+abbrev pub submit_in : Open → Mode → Client → Meeting
+submit_in tx Ro client = local (Refused ReadOnly) client
+submit_in tx mode client = shared (SubmitCall tx.place tx.ops)
+
+abbrev pub submit : Client → Option Open → Meeting
+submit client None = refused_empty client
+submit client (Some tx) = submit_in tx tx.mode client
+
+abbrev pub settle : Client → Option ℕ → Meeting
+settle client None = refused_empty client
+settle client (Some receipt) = shared (SettleCall receipt)
+
+-- a put of a text at a leaf
+abbrev pub put_op : Store → List Step → List ℕ → Op
+put_op store path text = record { store = store; path = path; act = PutAct (text_row path text ∷ []) }
+
+module _ (world : List Opening) where
+  -- a read answers the rows under the path in the transaction's view
+  abbrev pub read : List Entry → Store → List Step → Client → Option Open → Meeting
+  read log store path client None = refused_empty client
+  read log store path client (Some tx) = local (ReadReply tx.domain path (under (view world log tx.domain tx.place tx.ops store) path)) client
+
+  -- what a client's step comes to after a log
+  abbrev pub meet : List Entry → Client → ScriptStep → Meeting
+  meet log client (Begin slot domain mode) = shared (BeginCall domain mode)
+  meet log client (Put slot store path text) = write slot (put_op store path text) client (client.transactions slot)
+  meet log client (Read slot store path) = read log store path client (client.transactions slot)
+  meet log client (Submit slot) = submit client (client.transactions slot)
+  meet log client (Settle slot) = settle client (client.receipts slot)
+
+-- what the answer to a shared call leaves in the slots; `place` is that of the call's entry
+abbrev pub keep : ℕ → ScriptStep → Reply → Client → Client
+keep place (Begin slot domain mode) (Begun commit on) client =
+    record client { transactions = set_slot slot (Some (record { place = place; domain = domain; mode = mode; ops = [] })) client.transactions }
+keep place (Submit slot) (Receipt number) client =
+    record client { transactions = set_slot slot None client.transactions; receipts = set_slot slot (Some number) client.receipts }
+keep place step r client = client
+
+-- a client and the steps that are still to come
+pub record Run : Type 0 where
+  pub client : Client
+  pub steps : List ScriptStep
+
+-- where a client comes to by its local steps: its end, or a shared call with the steps behind it
+pub data Arrival : Type 0 where
+  ended : Client → Arrival
+  calls : Call → ScriptStep → Run → Arrival
+
+-- where a run stands: the log, and each client
+pub record Stand : Type 0 where
+  pub log : List Entry
+  pub runs : List Run
+
+-- an answered step is followed by the next ones; a shared call waits for its turn
+abbrev pub arrive_by : (Client → Arrival) → (Call → Arrival) → Meeting → Arrival
+arrive_by next wait (local r client) = next (replied r client)
+arrive_by next wait (shared call) = wait call
+
+module _ (world : List Opening) where
+  -- the client goes on to its next shared call
+  abbrev pub arrive : List Entry → Client → List ScriptStep → Arrival
+  arrive log client [] = ended client
+  arrive log client (step ∷ steps) = arrive_by (λ next. arrive log next steps) (λ call. calls call step (record { client = client; steps = steps })) (meet world log client step)
+
+  -- the call is made and answered
+  abbrev pub make : Stand → ℕ → Arrival → Option Stand
+  make stand c (ended client) = None
+  make stand c (calls call step run) =
+      let e : Entry = record { client = c; number = entries_of stand.log c; call = call } in
+      let r = reply world stand.log e in
+      Some (record { log = stand.log ++ e ∷ []; runs = slice_set stand.runs c (record run { client = replied r (keep (length stand.log) step r run.client) }) })
+
+  -- one number of the order: none where no client has it, or where that client comes to its end first
+  abbrev pub turn_of : Stand → ℕ → Option Run → Option Stand
+  turn_of stand c None = None
+  turn_of stand c (Some run) = make stand c (arrive stand.log run.client run.steps)
+
+  abbrev pub turn : Stand → ℕ → Option Stand
+  turn stand c = turn_of stand c (slice_get stand.runs c)
+
+  -- the replies of each client at its end; none where a shared call is left
+  abbrev pub replies_at : Arrival → Option (List Reply)
+  replies_at (ended client) = Some client.replies
+  replies_at (calls call step run) = None
+
+  abbrev pub cons_replies : Option (List Reply) → Option (List (List Reply)) → Option (List (List Reply))
+  cons_replies None rest = None
+  cons_replies (Some rs) None = None
+  cons_replies (Some rs) (Some rest) = Some (rs ∷ rest)
+
+  abbrev pub replies_of : List Entry → List Run → Option (List (List Reply))
+  replies_of log [] = Some []
+  replies_of log (run ∷ runs) = cons_replies (replies_at (arrive log run.client run.steps)) (replies_of log runs)
+
+-- what a script came to: the log, and the replies of each client to each of its steps
+pub record Played : Type 0 where
+  pub log : List Entry
+  pub replies : List (List Reply)
+
+-- the order fails where no call was made
+abbrev pub play_by : ℕ → (Stand → Result Played ℕ) → Option Stand → Result Played ℕ
+play_by index next None = Err index
+play_by index next (Some stand) = next stand
+
+module _ (world : List Opening) where
+  abbrev pub end_by : ℕ → List Entry → Option (List (List Reply)) → Result Played ℕ
+  end_by index log None = Err index
+  end_by index log (Some replies) = Ok (record { log = log; replies = replies })
+
+  -- the rest of an order, from this index on; the fault is the index at which it fails
+  abbrev pub play_from : ℕ → Stand → List ℕ → Result Played ℕ
+  play_from index stand [] = end_by index stand.log (replies_of world stand.log stand.runs)
+  play_from index stand (c ∷ order) = play_by index (λ next. play_from (index + 1) next order) (turn world stand c)
+
+-- the clients of a script at their beginning
+abbrev pub start : List (List ScriptStep) → Stand
+start clients = record { log = []; runs = map (λ steps. record { client = new_client; steps = steps }) clients }
+
+-- the one domain of a script, whose trees open empty
+abbrev pub plain_world : List Opening
+plain_world = record { config = []; oper = [] } ∷ []
+
+-- what a script does in an order, or the index at which the order fails
+abbrev pub play : List (List ScriptStep) → List ℕ → Result Played ℕ
+play clients order = play_from plain_world 0 (start clients) order
+
+-- the order is one of the clients' shared calls: each once, and in its client's own order
+abbrev pub IsLegal : List (List ScriptStep) → List ℕ → Type 0
+IsLegal clients order = is_ok_result (play clients order)
+  where
+    is_ok_result : Result Played ℕ → Type 0
+    is_ok_result (Ok played) = Unit {0}
+    is_ok_result (Err index) = ⊥

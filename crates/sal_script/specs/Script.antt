@@ -1,0 +1,151 @@
+-- Which script bytes stand for, or the first bad place, looked for in the order of the lines below.
+use Rattle.std.specs.Prelude.{ℕ, ◌+◌, ◌^◌, Bool, List, [], ◌∷◌, ◌++◌, length, Option, None, Some, option_and_then, Result, Ok, Err, codes, decimal, if◌then◌else◌, not, nat_le}
+use Rattle.std.specs.Option.{option_map}
+use Rattle.sal_types.specs.Reading.{◌>>=◌}
+use Rattle.sal_types.specs.declared.value.Store.{Store}
+use Rattle.sal_types.specs.declared.value.Store.TheVariants.{Config}
+use Rattle.sal_types.specs.declared.value.Step.{Step}
+use Rattle.sal_rows.specs.declared.outcome.Mode.{Mode}
+use Rattle.sal_rows.specs.declared.outcome.Mode.TheVariants.{Ro, Rw}
+use Rattle.serde_json.specs.Data.{Data, Members}
+use Rattle.serde_json.specs.Find.{as_str, as_object, get_member}
+use Rattle.sal_script.specs.declared.script.ScriptStep.{ScriptStep}
+use Rattle.sal_script.specs.declared.script.ScriptStep.TheVariants.{Begin, Put, Read, Submit, Settle}
+use Rattle.sal_script.specs.Json.{text_eq, list_of, all_named, whole_below, data_of}
+use Rattle.sal_script.specs.Plain.{path_of_text}
+
+-- what a script has
+pub record Parts : Type 0 where
+  pub clients : List (List ScriptStep)
+  pub order : List ℕ
+
+-- a place is a text, such as `clients/0/2`
+abbrev pub client_place : ℕ → List ℕ
+client_place c = codes "clients/" ++ decimal c
+
+abbrev pub step_place : ℕ → ℕ → List ℕ
+step_place c s = client_place c ++ (47 ∷ decimal s)
+
+-- the value, or the place as the fault
+abbrev pub or_bad : {A : Type 0} → List ℕ → Option A → Result A (List ℕ)
+or_bad place None = Err place
+or_bad place (Some x) = Ok x
+
+-- the list, where it is no longer than the limit
+abbrev pub at_most : {A : Type 0} → ℕ → List A → Option (List A)
+at_most limit xs = if nat_le (length xs) limit then Some xs else None
+
+-- ---- steps
+
+abbrev pub slot_of : Data → Option ℕ
+slot_of d = whole_below 256 d
+
+-- the one domain
+abbrev pub domain_of : Data → Option ℕ
+domain_of d = whole_below 1 d
+
+abbrev pub mode_named : List ℕ → Option Mode
+mode_named name = if text_eq name (codes "ro") then Some Ro else (if text_eq name (codes "rw") then Some Rw else None)
+
+abbrev pub mode_of : Data → Option Mode
+mode_of d = option_and_then mode_named (as_str d)
+
+abbrev pub store_named : List ℕ → Option Store
+store_named name = if text_eq name (codes "config") then Some Config else None
+
+abbrev pub store_of : Data → Option Store
+store_of d = option_and_then store_named (as_str d)
+
+abbrev pub path_of : Data → Option (List Step)
+path_of d = option_and_then path_of_text (as_str d)
+
+abbrev pub begin_of : List Data → Option ScriptStep
+begin_of (t ∷ d ∷ o ∷ []) = option_and_then (λ slot. option_and_then (λ domain. option_map (Begin slot domain) (mode_of o)) (domain_of d)) (slot_of t)
+begin_of parts = None
+
+abbrev pub put_of : List Data → Option ScriptStep
+put_of (t ∷ s ∷ p ∷ v ∷ []) = option_and_then (λ slot. option_and_then (λ store. option_and_then (λ path. option_map (Put slot store path) (as_str v)) (path_of p)) (store_of s)) (slot_of t)
+put_of parts = None
+
+abbrev pub read_of : List Data → Option ScriptStep
+read_of (t ∷ s ∷ p ∷ []) = option_and_then (λ slot. option_and_then (λ store. option_map (Read slot store) (path_of p)) (store_of s)) (slot_of t)
+read_of parts = None
+
+abbrev pub submit_of : List Data → Option ScriptStep
+submit_of (t ∷ []) = option_map Submit (slot_of t)
+submit_of parts = None
+
+abbrev pub settle_of : List Data → Option ScriptStep
+settle_of (t ∷ []) = option_map Settle (slot_of t)
+settle_of parts = None
+
+-- the step with this word and these parts behind it
+abbrev pub step_named : List ℕ → List Data → Option ScriptStep
+step_named word parts =
+    if text_eq word (codes "begin") then begin_of parts
+    else (if text_eq word (codes "put") then put_of parts
+    else (if text_eq word (codes "read") then read_of parts
+    else (if text_eq word (codes "submit") then submit_of parts
+    else (if text_eq word (codes "settle") then settle_of parts else None))))
+
+abbrev pub step_from : List Data → Option ScriptStep
+step_from [] = None
+step_from (word ∷ parts) = option_and_then (λ name. step_named name parts) (as_str word)
+
+-- the step that an array stands for
+abbrev pub step_of : Data → Option ScriptStep
+step_of d = option_and_then step_from (list_of d)
+
+-- ---- members
+
+-- an object with no members but these
+abbrev pub members_of : List (List ℕ) → Data → Option Members
+members_of names d = option_and_then (λ ms. if all_named names ms then Some ms else None) (as_object d)
+
+-- the values of an array member; an absent one is empty
+abbrev pub list_member : List ℕ → Members → Option (List Data)
+list_member name ms = listed (get_member name ms)
+  where
+    listed : Option Data → Option (List Data)
+    listed None = Some []
+    listed (Some d) = list_of d
+
+-- a client's steps, not yet read: an object with the one member `steps`, an array that is not too long
+abbrev pub program_of : Data → Option (List Data)
+program_of d = option_and_then (λ ms. option_and_then (λ steps. option_and_then (at_most 256) (list_of steps)) (get_member (codes "steps") ms)) (members_of (codes "steps" ∷ []) d)
+
+-- the clients from number c on
+abbrev pub programs_from : ℕ → List Data → Result (List (List Data)) (List ℕ)
+programs_from c [] = Ok []
+programs_from c (d ∷ ds) = or_bad (client_place c) (program_of d) >>= (λ program. programs_from (c + 1) ds >>= (λ programs. Ok (program ∷ programs)))
+
+-- the steps of client c, from number s on
+abbrev pub steps_from : ℕ → ℕ → List Data → Result (List ScriptStep) (List ℕ)
+steps_from c s [] = Ok []
+steps_from c s (d ∷ ds) = or_bad (step_place c s) (step_of d) >>= (λ step. steps_from c (s + 1) ds >>= (λ steps. Ok (step ∷ steps)))
+
+-- the steps of the clients from number c on
+abbrev pub clients_from : ℕ → List (List Data) → Result (List (List ScriptStep)) (List ℕ)
+clients_from c [] = Ok []
+clients_from c (p ∷ ps) = steps_from c 0 p >>= (λ steps. clients_from (c + 1) ps >>= (λ clients. Ok (steps ∷ clients)))
+
+-- the numbers of an order, whole and below 2^32
+abbrev pub numbers_of : List Data → Option (List ℕ)
+numbers_of [] = Some []
+numbers_of (d ∷ ds) = option_and_then (λ n. option_map (λ ns. n ∷ ns) (numbers_of ds)) (whole_below (2 ^ 32) d)
+
+-- ---- the script
+
+abbrev pub parts_of : Members → Result Parts (List ℕ)
+parts_of ms =
+    or_bad (codes "clients") (option_and_then (at_most 16) (list_member (codes "clients") ms))
+    >>= (λ ds. programs_from 0 ds
+    >>= (λ programs. clients_from 0 programs
+    >>= (λ clients. or_bad (codes "order") (option_and_then numbers_of (list_member (codes "order") ms))
+    >>= (λ order. Ok (record { clients = clients; order = order })))))
+
+-- the script that bytes stand for, or the first bad place
+abbrev pub script_of : List ℕ → Result Parts (List ℕ)
+script_of bytes =
+    or_bad (codes "json") (data_of bytes)
+    >>= (λ d. or_bad (codes "script") (members_of (codes "clients" ∷ codes "order" ∷ []) d) >>= parts_of)

@@ -1,0 +1,22 @@
+//! Scripts: what each client of a run does, and the order in which their shared calls are made.
+//!
+//! | type or call | what it is |
+//! |---|---|
+//! | `Script`, `Program`, `ScriptStep` | a script; a client's steps; one step |
+//! | `read_script` | the script that bytes stand for, or the first bad place |
+//! | `ScriptFault` | why bytes are no script |
+//!
+//! `specs/Script` says which script bytes stand for, `specs/Play` what a script does in an order, and
+//! `specs/Report` the text of that.
+//!
+//! ```
+//! let script = read_script(alloc, br#"{"clients":[{"steps":[["begin",0,0,"rw"]]}],"order":[0]}"#)?;
+//! ```
+//!
+//! Cost: linear in the bytes. Hostile input is refused by its place; nesting is bounded by the JSON reader.
+#![tactic(auto)]
+
+pub mod examples;
+pub mod script;
+
+pub use script::{MAX_CLIENTS, MAX_PROGRAM, Program, Script, ScriptStep};

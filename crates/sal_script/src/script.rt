@@ -1,0 +1,55 @@
+//! Scripts and their steps.
+ghost use Rattle.std.specs.Prelude.{IsTrue};
+ghost use Rattle.sal_script.specs.Limits.{within_limits};
+
+use sal_rows::Mode;
+use sal_types::{Path, Seq, Store, Str};
+
+/// How many clients a script has at most.
+pub const MAX_CLIENTS: usize = 16;
+
+/// How many steps a client has at most.
+pub const MAX_PROGRAM: usize = 256;
+
+/// One step of a client. Slots are the client's own places for transactions and for receipts, from 0 to 255.
+#[derive(Debug, Drop)]
+pub enum ScriptStep {
+    /// Begins a transaction of the domain into the slot.
+    Begin {
+        slot: u8,
+        domain: u32,
+        mode: Mode,
+    },
+    /// Puts a text at the leaf, in the slot's transaction.
+    Put {
+        slot: u8,
+        store: Store,
+        path: Path,
+        text: Str,
+    },
+    /// Reads what the slot's transaction sees at the path.
+    Read {
+        slot: u8,
+        store: Store,
+        path: Path,
+    },
+    /// Submits the slot's transaction; its receipt goes into the receipt slot of the same number.
+    Submit {
+        slot: u8,
+    },
+    /// Settles the receipt in the slot.
+    Settle {
+        slot: u8,
+    },
+}
+
+/// The steps of a client, in order.
+pub type Program = Seq<ScriptStep>;
+
+/// A script: at most 16 clients with at most 256 steps each, and the order of their shared calls.
+#[derive(Debug, Drop)]
+pub struct Script {
+    pub clients: Seq<Program>,
+    pub order: Seq<u32>,
+    ghost limits: { IsTrue (within_limits clients) },
+}

@@ -1,12 +1,13 @@
 -- What the log of shared calls means: each entry's answer, the receipts, their outcomes, the commits and the trees.
 -- The log is all that there is; every definition here looks at entries alone.
-use Rattle.std.specs.Prelude.{ℕ, zero, suc, ◌+◌, ◌-◌, List, [], ◌∷◌, ◌++◌, length, take, Option, Some, None, if◌then◌else◌, nat_eq, slice_get, unwrap_or, option_and_then, count_by}
+use Rattle.std.specs.Prelude.{ℕ, Bool, zero, suc, ◌+◌, ◌-◌, List, [], ◌∷◌, ◌++◌, length, take, Option, Some, None, if◌then◌else◌, nat_eq, slice_get, unwrap_or, option_and_then, count_by}
 use Rattle.std.specs.List.{fold, filter_map, flat_map}
 use Rattle.sal_types.specs.declared.value.Store.{Store}
 use Rattle.sal_types.specs.declared.row.Row.{Row}
 use Rattle.sal_rows.specs.declared.op.Op.{Op}
 use Rattle.sal_rows.specs.declared.outcome.Outcome.{Outcome}
 use Rattle.sal_rows.specs.declared.outcome.Outcome.TheVariants.{Done, Conflict}
+use Rattle.sal_rows.specs.declared.outcome.CallFault.TheVariants.{NoDomain}
 use Rattle.sal_rows.specs.Apply.{apply_ops}
 use Rattle.sal_rows.specs.Commits.{Span, tree_after}
 use Rattle.sal_rows.specs.Clash.{Clash, clash}
@@ -15,7 +16,8 @@ use Rattle.sal_history.specs.declared.call.Call.{Call}
 use Rattle.sal_history.specs.declared.call.Call.TheVariants.{Begin, Submit, Settle}
 use Rattle.sal_history.specs.declared.call.Entry.{Entry}
 use Rattle.sal_history.specs.declared.reply.Reply.{Reply}
-use Rattle.sal_history.specs.declared.reply.Reply.TheVariants.{Begun, Accepted, Receipt, Settled}
+use Rattle.sal_history.specs.declared.reply.Reply.TheVariants.{Begun, Accepted, Receipt, Settled, Refused}
+use Rattle.sal_history.specs.declared.reply.Refusal.TheVariants.{Shared}
 use Rattle.sal_history.specs.Trees.{opening_of}
 
 -- a transaction that was begun: its domain and the number of its base commit
@@ -56,6 +58,10 @@ done_ops domain (s ∷ ss) (o ∷ os) = (if nat_eq s.base.domain domain then ops
 
 abbrev pub commits : List Answered → ℕ → List (List Op)
 commits answered domain = done_ops domain (sents answered) (outcomes answered)
+
+-- domain 0 is always live, and no other is
+abbrev pub is_live : ℕ → Bool
+is_live domain = nat_eq domain 0
 
 -- the transaction that a call with this answer began
 abbrev pub began : Call → Reply → Option Base
@@ -103,7 +109,7 @@ module _ (world : List Opening) where
 
   -- the reply to a call after these entries
   abbrev pub reply_to : List Answered → Call → Reply
-  reply_to answered (Begin domain mode) = Begun (length (commits answered domain)) None
+  reply_to answered (Begin domain mode) = if is_live domain then Begun (length (commits answered domain)) None else Refused (Shared (NoDomain domain))
   reply_to answered (Submit place ops) = Receipt (length (sents answered) + 1)
   reply_to answered (Settle receipt) = settled (slice_get (sents answered) (receipt - 1)) (slice_get (outcomes answered ++ decided_by answered (Settle receipt)) (receipt - 1))
 

@@ -1,14 +1,16 @@
 //! What a client's step is answered.
-use sal_rows::{Outcome, Rows};
+use sal_rows::{CallFault, Outcome, Rows};
 use sal_types::Path;
 
-/// Why a step made no call.
+/// Why a step was refused.
 #[derive(Clone, Copy, Debug, PartialEq, Eq)]
 pub enum Refusal {
     /// No transaction or receipt is in the slot.
     EmptySlot,
     /// The transaction is read-only.
     ReadOnly,
+    /// The shared call was refused.
+    Shared { fault: CallFault },
 }
 
 /// The answer to a step: of a shared call, what the log gives; of a local step, what the client's own transaction gives.
@@ -24,6 +26,6 @@ pub enum Reply {
     Receipt { number: u64 },
     /// The outcome of a submission of the domain.
     Settled { domain: u32, outcome: Outcome },
-    /// The step was refused where it was made.
+    /// The step was refused.
     Refused { refusal: Refusal },
 }

@@ -1,5 +1,6 @@
-//! How a submission is decided.
+//! How a submission is decided, and how a call is refused.
 use sal_types::{Duplicate, NoMemory, Path, Store};
+use thiserror::Error;
 
 /// What a transaction may do: read, write, or both.
 #[derive(Clone, Copy, Debug, PartialEq, Eq)]
@@ -37,6 +38,14 @@ pub enum Outcome {
         kind: ClashKind,
         commit: u64,
     },
+}
+
+/// Why a shared call was refused. The log has its entry, and nothing else changed.
+#[derive(Clone, Copy, Debug, PartialEq, Eq, Error)]
+pub enum CallFault {
+    /// The domain is not live.
+    #[error("no live domain {id}")]
+    NoDomain { id: u32 },
 }
 
 impl Duplicate for Outcome {

@@ -114,7 +114,12 @@ pub data Arrival : Type 0 where
   ended : Client → Arrival
   calls : Call → ScriptStep → Run → Arrival
 
--- where a run stands: the log, and each client
+-- the log and the client after a shared call
+pub record Made : Type 0 where
+  pub log : List Entry
+  pub run : Run
+
+-- where a script stands: the log, and each client
 pub record Stand : Type 0 where
   pub log : List Entry
   pub runs : List Run
@@ -130,18 +135,27 @@ module _ (world : List Opening) where
   arrive log client [] = ended client
   arrive log client (step ∷ steps) = arrive_by (λ next. arrive log next steps) (λ call. calls call step (record { client = client; steps = steps })) (meet world log client step)
 
-  -- the call is made and answered
-  abbrev pub make : Stand → ℕ → Arrival → Option Stand
-  make stand c (ended client) = None
-  make stand c (calls call step run) =
-      let e : Entry = record { client = c; number = entries_of stand.log c; call = call } in
-      let r = reply world stand.log e in
-      Some (record { log = stand.log ++ e ∷ []; runs = slice_set stand.runs c (record run { client = replied r (keep (length stand.log) step r run.client) }) })
+  -- the call is made and answered; `none` where the client has come to its end
+  abbrev pub make : List Entry → ℕ → Arrival → Option Made
+  make log c (ended client) = None
+  make log c (calls call step run) =
+      let e : Entry = record { client = c; number = entries_of log c; call = call } in
+      let r = reply world log e in
+      Some (record { log = log ++ e ∷ []; run = record run { client = replied r (keep (length log) step r run.client) } })
+
+  -- client c goes on to its next shared call and makes it
+  abbrev pub go : List Entry → ℕ → Run → Option Made
+  go log c run = make log c (arrive log run.client run.steps)
+
+  -- the log and that client's run are the new ones
+  abbrev pub stand_with : Stand → ℕ → Option Made → Option Stand
+  stand_with stand c None = None
+  stand_with stand c (Some made) = Some (record { log = made.log; runs = slice_set stand.runs c made.run })
 
   -- one number of the order: none where no client has it, or where that client comes to its end first
   abbrev pub turn_of : Stand → ℕ → Option Run → Option Stand
   turn_of stand c None = None
-  turn_of stand c (Some run) = make stand c (arrive stand.log run.client run.steps)
+  turn_of stand c (Some run) = stand_with stand c (go stand.log c run)
 
   abbrev pub turn : Stand → ℕ → Option Stand
   turn stand c = turn_of stand c (slice_get stand.runs c)

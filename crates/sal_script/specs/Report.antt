@@ -8,12 +8,14 @@ use Rattle.sal_rows.specs.declared.outcome.ClashKind.{ClashKind}
 use Rattle.sal_rows.specs.declared.outcome.ClashKind.TheVariants.{Changed, Created, Deleted}
 use Rattle.sal_rows.specs.declared.outcome.Outcome.{Outcome}
 use Rattle.sal_rows.specs.declared.outcome.Outcome.TheVariants.{Done, Conflict}
+use Rattle.sal_rows.specs.declared.outcome.CallFault.{CallFault}
+use Rattle.sal_rows.specs.declared.outcome.CallFault.TheVariants.{NoDomain}
 use Rattle.sal_history.specs.declared.opening.Opening.{Opening}
 use Rattle.sal_history.specs.declared.call.Entry.{Entry}
 use Rattle.sal_history.specs.declared.reply.Reply.{Reply}
 use Rattle.sal_history.specs.declared.reply.Reply.TheVariants.{Begun, Accepted, Read, Receipt, Settled, Refused}
 use Rattle.sal_history.specs.declared.reply.Refusal.{Refusal}
-use Rattle.sal_history.specs.declared.reply.Refusal.TheVariants.{EmptySlot, ReadOnly}
+use Rattle.sal_history.specs.declared.reply.Refusal.TheVariants.{EmptySlot, ReadOnly, Shared}
 use Rattle.sal_history.specs.History.{history, commits, newest_tree}
 use Rattle.json.specs.Print.{quoted}
 use Rattle.serde_json.specs.Written.{compact_text}
@@ -42,9 +44,13 @@ abbrev pub on_text : Option ℕ → List ℕ
 on_text None = []
 on_text (Some receipt) = codes " on" ++ number receipt
 
+abbrev pub fault_text : CallFault → List ℕ
+fault_text (NoDomain id) = codes "no-domain" ++ number id
+
 abbrev pub refusal_text : Refusal → List ℕ
 refusal_text EmptySlot = codes "empty-slot"
 refusal_text ReadOnly = codes "read-only"
+refusal_text (Shared fault) = fault_text fault
 
 -- what a read found at a leaf: its value, or nothing
 abbrev pub rows_text : List Row → List ℕ

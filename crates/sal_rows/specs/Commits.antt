@@ -34,29 +34,32 @@ numbers_after a (suc n) = (a + 1) ∷ numbers_after (a + 1) n
 abbrev pub numbers_in : Span → List ℕ
 numbers_in span = numbers_after span.from (span.to - span.from)
 
+-- a commit touches p: one of its puts or merges has a row under p, or one of its operations sets a row under p that
+-- stands before it
+abbrev pub commit_touches : List Row → Store → List Step → Option (List Op) → Bool
+commit_touches before s p None = false
+commit_touches before s p (Some ops) = touches before s ops p
+
+-- whether a path is unchanged that was there or not, is there or not, and was touched or not
+abbrev pub unchanged_by : Bool → Bool → Bool → Bool
+unchanged_by was is touched = (not was && not is) || ((was && is) && not touched)
+
+-- how such a path differs
+abbrev pub kind_by : Bool → Bool → ClashKind
+kind_by was is = if not was then Created else (if is then Changed else Deleted)
+
 module _ (opening : Store → List Row) (commits : List (List Op)) where
   -- the tree of the store at commit k
   abbrev pub tree_at : Store → ℕ → List Row
   tree_at s k = tree_after s (opening s) (take k commits)
 
-  -- commit k touches p: one of its puts or merges has a row under p, or one of its operations sets a row under p
-  -- that stands before it
+  -- commit k touches p
   abbrev pub touches_at : Store → List Step → ℕ → Bool
-  touches_at s p k = touched (slice_get commits (k - 1))
-    where
-      touched : Option (List Op) → Bool
-      touched None = false
-      touched (Some ops) = touches (tree_at s (k - 1)) s ops p
+  touches_at s p k = commit_touches (tree_at s (k - 1)) s p (slice_get commits (k - 1))
 
   -- p is absent at both ends of the span, or present at both and touched by no commit in it
   abbrev pub is_unchanged : Store → List Step → Span → Bool
-  is_unchanged s p span = both_absent || both_present && not (list_any (touches_at s p) (numbers_in span))
-    where
-      both_absent : Bool
-      both_absent = not (has (tree_at s span.from) p) && not (has (tree_at s span.to) p)
-
-      both_present : Bool
-      both_present = has (tree_at s span.from) p && has (tree_at s span.to) p
+  is_unchanged s p span = unchanged_by (has (tree_at s span.from) p) (has (tree_at s span.to) p) (list_any (touches_at s p) (numbers_in span))
 
   -- the last commit in the span that touches p
   abbrev pub last_touch : Store → List Step → Span → Option ℕ
@@ -64,4 +67,4 @@ module _ (opening : Store → List Row) (commits : List (List Op)) where
 
   -- how p differs at the ends of a span over which it is not unchanged
   abbrev pub kind_over : Store → List Step → Span → ClashKind
-  kind_over s p span = if not (has (tree_at s span.from) p) then Created else (if has (tree_at s span.to) p then Changed else Deleted)
+  kind_over s p span = kind_by (has (tree_at s span.from) p) (has (tree_at s span.to) p)

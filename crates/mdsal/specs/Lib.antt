@@ -1,0 +1,4 @@
+pub mod Current
+pub mod Deciding
+pub mod Found
+pub mod Kept

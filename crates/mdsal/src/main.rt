@@ -1,0 +1,9 @@
+//! The data broker's command.
+#![tactic(auto)]
+
+pub mod broker;
+pub mod commit;
+pub mod conflict;
+pub mod decided;
+
+fn main() {}

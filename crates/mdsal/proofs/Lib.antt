@@ -6,3 +6,4 @@ pub mod KeptLemmas
 pub mod Lists
 pub mod Looking
 pub mod Numbers
+pub mod Views

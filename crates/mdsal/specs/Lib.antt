@@ -2,3 +2,5 @@ pub mod Current
 pub mod Deciding
 pub mod Found
 pub mod Kept
+pub mod Slots
+pub mod Views

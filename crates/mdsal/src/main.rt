@@ -5,5 +5,7 @@ pub mod broker;
 pub mod commit;
 pub mod conflict;
 pub mod decided;
+pub mod slots;
+pub mod transaction;
 
 fn main() {}

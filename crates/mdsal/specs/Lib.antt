@@ -1,3 +1,4 @@
+pub mod Clients
 pub mod Current
 pub mod Deciding
 pub mod Found

@@ -1,5 +1,5 @@
 -- What a client's transaction keeps of the log.
-use Rattle.std.specs.Prelude.{◌≡◌, ℕ, ◌≤◌, List, [], ◌∷◌, ◌++◌, length, Some}
+use Rattle.std.specs.Prelude.{◌≡◌, ℕ, ◌<◌, List, [], ◌∷◌, ◌++◌, length, Some}
 use Rattle.sal_types.specs.declared.value.Store.{Store}
 use Rattle.sal_types.specs.declared.value.Store.TheVariants.{Config, Oper}
 use Rattle.sal_types.specs.declared.row.Row.{Row}
@@ -41,5 +41,5 @@ pub record Accepts (op : Op) (old new : Transaction) : Type 0 where
 -- the transaction is one that the log began, and its view is the log's
 pub record IsSoundView (log : List Entry) (tx : Transaction) : Type 0 where
   pub began : began_at (history plain_world log) tx.place ≡ Some (record { domain = 0; commit = tx.base })
-  pub within : tx.place ≤ length log
+  pub within : tx.place < length log
   pub views : (s : Store) → view_of tx s ≡ view plain_world log 0 tx.place tx.ops.items s

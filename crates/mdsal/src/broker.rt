@@ -3,6 +3,7 @@ ghost use Rattle.std.specs.Prelude.{◌≡◌, ◌+◌, ◌≤◌, ◌<◌, [], 
 ghost use Rattle.sal_types.specs.declared.value.Store.TheVariants.{Config, Oper};
 ghost use Rattle.sal_history.specs.History.{began_at, commits, history, newest_tree, reply, sents};
 ghost use Rattle.sal_history.specs.declared.call.Call.TheVariants.{Begin, Submit, Settle};
+ghost use Rattle.sal_history.specs.declared.reply.Reply.TheVariants.{Receipt};
 ghost use Rattle.sal_rows.specs.Commits.{tree_after};
 ghost use Rattle.sal_script.specs.Play.{plain_world};
 ghost use Rattle.mdsal.specs.Kept.{AreKept, begun_reply, empty_opening, ops_of};
@@ -119,7 +120,8 @@ impl Broker {
         Ok(reply)
     }
 
-    /// Submits the operations of the transaction that the entry at the place began, on the commit `base`.
+    /// Submits the operations of the transaction that the entry at the place began, on the commit `base`. The answer is
+    /// the receipt's number.
     pub fn submit(
         &mut self,
         client: u32,
@@ -127,9 +129,9 @@ impl Broker {
         place: u64,
         base: u64,
         ops: Ops,
-    ) -> Result<Reply, NoMemory>
+    ) -> Result<u64, NoMemory>
         requires { began_at (history plain_world self.old) place ≡ Some (record { domain = 0; commit = base }) }
-        ensures ok { IfOk result (λ r. (self.new ≡ self.old ++ record { client = client; number = number; call = Submit place ops } ∷ []) × (r ≡ reply plain_world self.old (record { client = client; number = number; call = Submit place ops }))) }
+        ensures ok { IfOk result (λ n. (self.new ≡ self.old ++ record { client = client; number = number; call = Submit place ops } ∷ []) × (Receipt n ≡ reply plain_world self.old (record { client = client; number = number; call = Submit place ops }))) }
         ensures err { OnErr result (self.new ≡ self.old) }
     {
         let kept = ops.copy()?;
@@ -143,7 +145,7 @@ impl Broker {
                 call: Call::Submit { place, ops },
             })
             .unwrap();
-        Ok(Reply::Receipt { number: receipt })
+        Ok(receipt)
     }
 
     /// Decides what is pending, up to and including the receipt, and answers its outcome. Where memory is wanting, what

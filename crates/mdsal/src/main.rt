@@ -2,6 +2,7 @@
 #![tactic(auto)]
 
 pub mod broker;
+pub mod client;
 pub mod commit;
 pub mod conflict;
 pub mod decided;

@@ -33,7 +33,7 @@ standing_in Rw = Writable
 
 abbrev pub standing_of : Option Open → Standing
 standing_of None = Empty
-standing_of (Some open) = standing_in open.mode
+standing_of (Some tx) = standing_in tx.mode
 
 -- each transaction is one that the log began, with its view, and each receipt one that the log gave
 pub record IsSound (log : List Entry) (c : ClientState) : Type 0 where

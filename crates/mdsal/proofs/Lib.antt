@@ -1,3 +1,4 @@
+pub mod Answering
 pub mod Clashes
 pub mod Deciding
 pub mod Histories
@@ -6,4 +7,5 @@ pub mod KeptLemmas
 pub mod Lists
 pub mod Looking
 pub mod Numbers
+pub mod Soundness
 pub mod Views

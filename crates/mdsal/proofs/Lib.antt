@@ -1,6 +1,7 @@
 pub mod Answering
 pub mod Clashes
 pub mod Deciding
+pub mod Going
 pub mod Histories
 pub mod Keeping
 pub mod KeptLemmas
@@ -8,4 +9,5 @@ pub mod Lists
 pub mod Looking
 pub mod Numbers
 pub mod Soundness
+pub mod Standing
 pub mod Views

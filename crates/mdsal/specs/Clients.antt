@@ -8,7 +8,7 @@ use Rattle.sal_history.specs.declared.call.Entry.{Entry}
 use Rattle.sal_history.specs.declared.reply.Reply.{Reply}
 use Rattle.sal_history.specs.History.{entries_of, history, reply, sents}
 use Rattle.sal_script.specs.declared.script.ScriptStep.{ScriptStep}
-use Rattle.sal_script.specs.Play.{Client, Open, keep, local, meet, plain_world, shared}
+use Rattle.sal_script.specs.Play.{Client, Open, keep, local, meet, plain_world, replied, shared}
 use Rattle.mdsal.specs.declared.client.ClientState.{ClientState}
 use Rattle.mdsal.specs.declared.client.Standing.{Standing}
 use Rattle.mdsal.specs.declared.client.Standing.TheVariants.{Empty, ReadOnly, Writable}
@@ -65,3 +65,7 @@ pub record Calls (r : Reply) (c : ℕ) (log : List Entry) (old : Client) (step :
 abbrev pub Answers : Went → Reply → ℕ → List Entry → Client → ScriptStep → List Entry → Client → Type 0
 Answers Local r c log old step log' new = (meet plain_world log old step ≡ local r new) × (log' ≡ log)
 Answers Shared r c log old step log' new = (call : Call) × Calls r c log old step log' new call
+
+-- and with its reply among its replies
+abbrev pub Steps : Went → ℕ → List Entry → Client → ScriptStep → List Entry → Client → Type 0
+Steps went c log old step log' new = (r : Reply) × (between : Client) × Answers went r c log old step log' between × (new ≡ replied r between)

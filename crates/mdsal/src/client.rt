@@ -1,5 +1,5 @@
 //! A client: its slots, and how it answers its steps.
-ghost use Rattle.std.specs.Prelude.{◌≡◌, ◌+◌, ◌<◌, ◌^◌, [], ◌∷◌, ◌++◌, IfOk, OnOk};
+ghost use Rattle.std.specs.Prelude.{◌≡◌, ◌+◌, ◌<◌, ◌≤◌, ◌^◌, [], ◌∷◌, ◌++◌, IfOk, OnOk};
 ghost use Rattle.sal_script.specs.Play.{local, new_client, plain_world};
 ghost use Rattle.sal_script.specs.Play as play_spec;
 
@@ -62,7 +62,7 @@ fn refused(refusal: Refusal) -> Reply
 }
 
 impl ClientState {
-    ghost use Rattle.mdsal.specs.Clients.{client_of, opened, standing_of, IsSound, Answers, Counted, Same};
+    ghost use Rattle.mdsal.specs.Clients.{client_of, opened, standing_of, IsSound, Answers, Counted, Same, Steps};
 
     /// A client at its beginning.
     pub fn new(alloc: Global, number: u32) -> Self
@@ -190,6 +190,109 @@ impl ClientState {
                 let number = broker.submit(self.number, self.made, tx.place, tx.base, ops)?;
                 fill_slot(&mut self.receipts, slot, number)?;
                 Ok(Reply::Receipt { number })
+            }
+        }
+    }
+
+    // Submits the slot's transaction, where it may write.
+    fn submit_slot(&mut self, broker: &mut Broker, slot: u8) -> Result<(Went, Reply), NoMemory>
+        requires sound { IsSound broker.old self.old }
+        requires counted { Counted broker.old self.old }
+        ensures answers { IfOk result (λ p. Answers p.0 p.1 self.old.number broker.old (client_of self.old) (ScriptStep.Submit slot) broker.new (client_of self.new)) }
+        ensures sound { OnOk result (IsSound broker.new self.new) }
+        ensures same { OnOk result (Same self.old self.new) }
+    {
+        match self.standing(slot) {
+            Standing::Empty => Ok((Went::Local, refused(Refusal::EmptySlot))),
+            Standing::ReadOnly => Ok((Went::Local, refused(Refusal::ReadOnly))),
+            Standing::Writable => {
+                let reply = self.submit(broker, slot)?;
+                Ok((Went::Shared, reply))
+            }
+        }
+    }
+
+    // Settles the receipt in the slot.
+    fn settle_slot(
+        &self,
+        alloc: Global,
+        broker: &mut Broker,
+        slot: u8,
+    ) -> Result<(Went, Reply), NoMemory>
+        requires sound { IsSound broker.old self.now }
+        requires counted { Counted broker.old self.now }
+        ensures answers { IfOk result (λ p. Answers p.0 p.1 self.now.number broker.old (client_of self.now) (ScriptStep.Settle slot) broker.new (client_of self.now)) }
+        ensures sound { OnOk result (IsSound broker.new self.now) }
+    {
+        match look_at(&self.receipts, slot) {
+            None => Ok((Went::Local, refused(Refusal::EmptySlot))),
+            Some(receipt) => {
+                let reply = broker.settle(alloc, self.number, self.made, *receipt)?;
+                Ok((Went::Shared, reply))
+            }
+        }
+    }
+
+    // Answers the step; the reply is not yet among the replies.
+    fn meet(
+        &mut self,
+        alloc: Global,
+        broker: &mut Broker,
+        step: &ScriptStep,
+    ) -> Result<(Went, Reply), NoMemory>
+        requires sound { IsSound broker.old self.old }
+        requires counted { Counted broker.old self.old }
+        ensures answers { IfOk result (λ p. Answers p.0 p.1 self.old.number broker.old (client_of self.old) step.now broker.new (client_of self.new)) }
+        ensures sound { OnOk result (IsSound broker.new self.new) }
+        ensures same { OnOk result (Same self.old self.new) }
+    {
+        match step {
+            ScriptStep::Begin { slot, domain, mode } => {
+                let reply = self.begin(alloc, broker, *slot, *domain, *mode)?;
+                Ok((Went::Shared, reply))
+            }
+            ScriptStep::Put {
+                slot,
+                store,
+                path,
+                text,
+            } => {
+                let op = put_op(alloc, *store, path, text)?;
+                let reply = self.write(alloc, broker, *slot, op)?;
+                Ok((Went::Local, reply))
+            }
+            ScriptStep::Read { slot, store, path } => {
+                let reply = self.read(broker, *slot, *store, path)?;
+                Ok((Went::Local, reply))
+            }
+            ScriptStep::Submit { slot } => self.submit_slot(broker, *slot),
+            ScriptStep::Settle { slot } => self.settle_slot(alloc, broker, *slot),
+        }
+    }
+
+    /// Answers the step, by itself or by a shared call. After want of memory neither is to be used again.
+    pub fn step(
+        &mut self,
+        alloc: Global,
+        broker: &mut Broker,
+        step: &ScriptStep,
+    ) -> Result<Went, NoMemory>
+        requires sound { IsSound broker.old self.old }
+        requires counted { Counted broker.old self.old }
+        requires room { self.old.made + 1 < 2 ^ 32 }
+        ensures steps { IfOk result (λ went. Steps went self.old.number broker.old (client_of self.old) step.now broker.new (client_of self.new)) }
+        ensures sound { OnOk result (IsSound broker.new self.new) }
+        ensures counted { OnOk result (Counted broker.new self.new) }
+        ensures number { OnOk result (self.new.number ≡ self.old.number) }
+        ensures made { OnOk result (self.new.made ≤ self.old.made + 1) }
+    {
+        let (went, reply) = self.meet(alloc, broker, step)?;
+        self.replies.push(reply)?;
+        match went {
+            Went::Local => Ok(Went::Local),
+            Went::Shared => {
+                self.made += 1;
+                Ok(Went::Shared)
             }
         }
     }

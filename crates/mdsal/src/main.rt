@@ -6,6 +6,8 @@ pub mod client;
 pub mod commit;
 pub mod conflict;
 pub mod decided;
+pub mod run;
+pub mod simulation;
 pub mod slots;
 pub mod transaction;
 

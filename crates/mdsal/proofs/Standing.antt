@@ -1,0 +1,165 @@
+-- Where all clients stand: looked at and changed by index.
+use Rattle.std.proofs.Common.{◌≡◌, ℕ, zero, suc, ◌+◌, ◌<◌, ◌≤◌, Bool, true, false, List, [], ◌∷◌, ◌++◌, length, map, get_or, set, drop, take, Option, None, Some, Result, Ok, Err, refl, ap, sym, ◌∙◌, subst, arith, append_assoc, append-nil, ◌&&◌, nat_eq, cond, IsTrue, inl, inr}
+use Rattle.std.specs.Prelude.{slice_get, nat_le, count_by}
+use Rattle.std.specs.List.{list_all, fold}
+use Rattle.std.proofs.lemmas.List.{get_or-set_other, get_or-set_same, length-set, drop_more}
+use Rattle.std.proofs.lemmas.Bool.{cases_order, leb-true}
+use Rattle.std.proofs.lemmas.Bool.Decides.{nat_tests}
+use Rattle.std.specs.Cmp.{first_so, second_so}
+use Rattle.sal_history.specs.declared.call.Entry.{Entry}
+use Rattle.sal_history.specs.declared.reply.Reply.{Reply}
+use Rattle.sal_history.specs.History.{entries_of}
+use Rattle.sal_script.specs.declared.script.ScriptStep.{ScriptStep}
+use Rattle.sal_script.specs.Limits.{within_limits}
+use Rattle.sal_script.specs.Play.{Arrival, Client, Made, Played, Run, Stand, arrive, calls, cons_replies, ended, go, make, new_client, plain_world, replies_at, replies_of, stand_with, start, turn, turn_of}
+use Rattle.mdsal.specs.declared.run.Run.{Run as CodeRun}
+use Rattle.mdsal.specs.Clients.{client_of, IsSound}
+use Rattle.mdsal.specs.Runs.{AreRuns, GrowsBy, IsRun, replies_in, run_of, runs_of, stand_of}
+use Rattle.mdsal.proofs.Soundness.{IsSound-push}
+
+-- ---- by index
+
+pub runs_of-at : (ps : List (List ScriptStep)) (rs : List CodeRun) (i : ℕ) (p : List ScriptStep) (r : CodeRun) → length rs ≡ length ps → i < length rs → p ≡ get_or ps i p → r ≡ get_or rs i r → slice_get (runs_of ps rs) i ≡ Some (run_of p r)
+runs_of-at [] [] i p r long h at_p at_r = absurd (omega arith)
+runs_of-at [] (x ∷ rs) i p r long h at_p at_r = absurd (omega arith)
+runs_of-at (q ∷ ps) [] i p r long h at_p at_r = absurd (omega arith)
+runs_of-at (q ∷ ps) (x ∷ rs) zero p r long h at_p at_r = λ k. Some (run_of (sym at_p k) (sym at_r k))
+runs_of-at (q ∷ ps) (x ∷ rs) (suc i) p r long h at_p at_r = runs_of-at ps rs i p r (omega arith) (omega arith) at_p at_r
+
+pub runs_of-none : (ps : List (List ScriptStep)) (rs : List CodeRun) (i : ℕ) → length rs ≡ length ps → length rs ≤ i → slice_get (runs_of ps rs) i ≡ None
+runs_of-none [] rs i long h = refl
+runs_of-none (q ∷ ps) [] i long h = refl
+runs_of-none (q ∷ ps) (x ∷ rs) zero long h = absurd (omega arith)
+runs_of-none (q ∷ ps) (x ∷ rs) (suc i) long h = runs_of-none ps rs i (omega arith) (omega arith)
+
+pub runs_of-set : (ps : List (List ScriptStep)) (rs : List CodeRun) (i : ℕ) (p : List ScriptStep) (r : CodeRun) → length rs ≡ length ps → i < length rs → p ≡ get_or ps i p → runs_of ps (set rs i r) ≡ set (runs_of ps rs) i (run_of p r)
+runs_of-set [] [] i p r long h at_p = absurd (omega arith)
+runs_of-set [] (x ∷ rs) i p r long h at_p = absurd (omega arith)
+runs_of-set (q ∷ ps) [] i p r long h at_p = absurd (omega arith)
+runs_of-set (q ∷ ps) (x ∷ rs) zero p r long h at_p = ap (λ (o : List ScriptStep). run_of o r ∷ runs_of ps rs) (sym at_p)
+runs_of-set (q ∷ ps) (x ∷ rs) (suc i) p r long h at_p = ap (λ (us : List Run). run_of q x ∷ us) (runs_of-set ps rs i p r (omega arith) (omega arith) at_p)
+
+-- ---- other clients
+
+other_client : (c n : ℕ) → (c ≡ n → ⊥) → nat_eq c n ≡ false
+other_client c n no = grind (arith, nat_tests)
+
+entries-other : (log : List Entry) (e : Entry) (n : ℕ) → (e.client ≡ n → ⊥) → entries_of (log ++ e ∷ []) n ≡ entries_of log n
+entries-other [] e n no = ap (λ b. cond b (1 + 0) 0) (other_client e.client n no)
+entries-other (x ∷ log) e n no =
+    elim (nat_eq x.client n) as (λ b. cond b (1 + entries_of (log ++ e ∷ []) n) (entries_of (log ++ e ∷ []) n) ≡ cond b (1 + entries_of log n) (entries_of log n)) [
+      | true ↦ ap (λ k. 1 + k) (entries-other log e n no)
+      | false ↦ entries-other log e n no
+    ]
+
+IsRun-other : (log : List Entry) (e : Entry) (p : List ScriptStep) (r : CodeRun) → (e.client ≡ r.client.number → ⊥) → IsRun log p r → IsRun (log ++ e ∷ []) p r
+IsRun-other log e p r no is = record {
+  sound = IsSound-push log e r.client is.sound;
+  counted = is.counted ∙ sym (entries-other log e r.client.number no);
+  before = is.before;
+  within = is.within;
+  short = is.short;
+}
+
+-- one client went on
+pub AreRuns-set : (log log' : List Entry) (ps : List (List ScriptStep)) (rs : List CodeRun) (c : ℕ) (p : List ScriptStep) (new : CodeRun) → AreRuns log ps rs → GrowsBy c log log' → c < length rs → p ≡ get_or ps c p → IsRun log' p new → new.client.number ≡ c → AreRuns log' ps (set rs c new)
+AreRuns-set log log' ps rs c p new are (e, (by, is)) h at_p run number = record {
+  long = length-set rs c new ∙ are.long;
+  each = λ i q r within at_q at_r.
+      elim (cases_order i c) [
+        | inl same ↦
+            let r_is : new ≡ r = sym (at_r ∙ ap (λ k. get_or (set rs c new) k r) same ∙ get_or-set_same rs c new r h) in
+            let q_is : p ≡ q = at_p ∙ ap (λ (k : ℕ). get_or ps k p) (sym same) ∙ get_or_any ps i p q (omega (arith, within, length-set rs c new, are.long)) ∙ sym at_q in
+            (subst (λ (x : CodeRun). IsRun log' q x) r_is (subst (λ (x : List ScriptStep). IsRun log' x new) q_is run), ap (λ (x : CodeRun). x.client.number) (sym r_is) ∙ number ∙ sym same)
+        | inr differs ↦
+            let apart : i ≡ c → ⊥ = λ eq. elim differs [ inl less ↦ omega arith | inr more ↦ omega arith ] in
+            let r_is : r ≡ get_or rs i r = at_r ∙ get_or-set_other rs c i new r apart in
+            let was = are.each i q r (omega (arith, within, length-set rs c new)) at_q r_is in
+            (subst (λ (l : List Entry). IsRun l q r) (sym is) (IsRun-other log e q r (λ eq. apart (sym was.1 ∙ sym eq ∙ by)) was.0), was.1)
+      ];
+}
+  where
+    get_or_any : {X : Type 0} (xs : List X) (i : ℕ) (d f : X) → i < length xs → get_or xs i d ≡ get_or xs i f
+    get_or_any [] i d f l = absurd (omega arith)
+    get_or_any (x ∷ xs) zero d f l = refl
+    get_or_any (x ∷ xs) (suc i) d f l = get_or_any xs i d f (omega arith)
+
+-- ---- one number of the order
+
+pub turn-none : (log : List Entry) (ps : List (List ScriptStep)) (rs : List CodeRun) (c : ℕ) → AreRuns log ps rs → length rs ≤ c → turn plain_world (stand_of ps log rs) c ≡ None
+turn-none log ps rs c are h = ap (turn_of plain_world (stand_of ps log rs) c) (runs_of-none ps rs c are.long h)
+
+pub turn-made : (log log' : List Entry) (ps : List (List ScriptStep)) (rs : List CodeRun) (c : ℕ) (p : List ScriptStep) (old new : CodeRun) → AreRuns log ps rs → c < length rs → p ≡ get_or ps c p → old ≡ get_or rs c old → go plain_world log c (run_of p old) ≡ Some (record { log = log'; run = run_of p new }) → turn plain_world (stand_of ps log rs) c ≡ Some (stand_of ps log' (set rs c new))
+turn-made log log' ps rs c p old new are h at_p at_old goes =
+    ap (turn_of plain_world (stand_of ps log rs) c) (runs_of-at ps rs c p old are.long h at_p at_old) ∙ ap (stand_with (stand_of ps log rs) c) goes
+    ∙ ap (λ (us : List Run). Some (let s : Stand = record { log = log'; runs = us } in s)) (sym (runs_of-set ps rs c p new are.long h at_p))
+
+pub turn-ended : (log : List Entry) (ps : List (List ScriptStep)) (rs : List CodeRun) (c : ℕ) (p : List ScriptStep) (old : CodeRun) (client : Client) → AreRuns log ps rs → c < length rs → p ≡ get_or ps c p → old ≡ get_or rs c old → arrive plain_world log (client_of old.client) (drop old.at p) ≡ ended client → turn plain_world (stand_of ps log rs) c ≡ None
+turn-ended log ps rs c p old client are h at_p at_old arrived =
+    ap (turn_of plain_world (stand_of ps log rs) c) (runs_of-at ps rs c p old are.long h at_p at_old) ∙ ap (λ a. stand_with (stand_of ps log rs) c (make plain_world log c a)) arrived
+
+-- ---- the end
+
+-- replies in front of those that come
+abbrev pub with_replies : List (List Reply) → Option (List (List Reply)) → Option (List (List Reply))
+with_replies done None = None
+with_replies done (Some rest) = Some (done ++ rest)
+
+pub with_replies-cons : (done : List (List Reply)) (rs : List Reply) (rest : Option (List (List Reply))) → with_replies done (cons_replies (Some rs) rest) ≡ with_replies (done ++ rs ∷ []) rest
+with_replies-cons done rs None = refl
+with_replies-cons done rs (Some rest) = ap Some (sym (append_assoc done (rs ∷ []) rest))
+
+-- a client that made a call has not come to its end
+not_ended : (log : List Entry) (c : ℕ) (a : Arrival) (made : Made) → make plain_world log c a ≡ Some made → replies_at a ≡ None
+not_ended log c (ended client) made e = cc
+not_ended log c (calls call step run) made e = refl
+
+from_index : (ps : List (List ScriptStep)) (rs : List CodeRun) (i : ℕ) (p : List ScriptStep) (r : CodeRun) → i < length rs → i < length ps → p ≡ get_or ps i p → r ≡ get_or rs i r → runs_of (drop i ps) (drop i rs) ≡ run_of p r ∷ runs_of (drop (i + 1) ps) (drop (i + 1) rs)
+from_index ps rs i p r h g at_p at_r =
+    (λ k. runs_of (drop_more ps i p g k) (drop_more rs i r h k)) ∙ (λ k. run_of (sym at_p k) (sym at_r k) ∷ runs_of (drop (i + 1) ps) (drop (i + 1) rs))
+
+pub end-client : (log : List Entry) (ps : List (List ScriptStep)) (rs : List CodeRun) (i : ℕ) (p : List ScriptStep) (r : CodeRun) (client : Client) (done : List (List Reply)) → i < length rs → i < length ps → p ≡ get_or ps i p → r ≡ get_or rs i r → arrive plain_world log (client_of r.client) (drop r.at p) ≡ ended client → with_replies done (replies_of plain_world log (runs_of (drop i ps) (drop i rs))) ≡ with_replies (done ++ client.replies ∷ []) (replies_of plain_world log (runs_of (drop (i + 1) ps) (drop (i + 1) rs)))
+end-client log ps rs i p r client done h g at_p at_r arrived =
+    let rest = replies_of plain_world log (runs_of (drop (i + 1) ps) (drop (i + 1) rs)) in
+    ap (λ (us : List Run). with_replies done (replies_of plain_world log us)) (from_index ps rs i p r h g at_p at_r)
+    ∙ ap (λ a. with_replies done (cons_replies (replies_at a) rest)) arrived ∙ with_replies-cons done client.replies rest
+
+pub end-call : (log : List Entry) (ps : List (List ScriptStep)) (rs : List CodeRun) (i c : ℕ) (p : List ScriptStep) (r : CodeRun) (made : Made) (done : List (List Reply)) → i < length rs → i < length ps → p ≡ get_or ps i p → r ≡ get_or rs i r → go plain_world log c (run_of p r) ≡ Some made → with_replies done (replies_of plain_world log (runs_of (drop i ps) (drop i rs))) ≡ None
+end-call log ps rs i c p r made done h g at_p at_r goes =
+    let rest = replies_of plain_world log (runs_of (drop (i + 1) ps) (drop (i + 1) rs)) in
+    ap (λ (us : List Run). with_replies done (replies_of plain_world log us)) (from_index ps rs i p r h g at_p at_r)
+    ∙ ap (λ o. with_replies done (cons_replies o rest)) (not_ended log c (arrive plain_world log (client_of r.client) (drop r.at p)) made goes)
+
+-- ---- the beginning
+
+-- a client at its beginning
+pub record IsFresh (r : CodeRun) : Type 0 where
+  pub made : r.client.made ≡ 0
+  pub at : r.at ≡ 0
+  pub client : client_of r.client ≡ new_client
+  pub sound : IsSound [] r.client
+
+pub fresh_runs : (ps : List (List ScriptStep)) (rs : List CodeRun) → length rs ≡ length ps → ((i : ℕ) (r : CodeRun) → i < length rs → r ≡ get_or rs i r → IsFresh r) → runs_of ps rs ≡ map (λ (steps : List ScriptStep). let run : Run = record { client = new_client; steps = steps } in run) ps
+fresh_runs [] rs long fresh = refl
+fresh_runs (p ∷ ps) [] long fresh = absurd (omega arith)
+fresh_runs (p ∷ ps) (r ∷ rs) long fresh =
+    let is = fresh 0 r (omega arith) refl in
+    (λ k. (let run : Run = record { client = is.client k; steps = drop (is.at k) p } in run) ∷ runs_of ps rs)
+    ∙ ap (λ (us : List Run). (let run : Run = record { client = new_client; steps = p } in run) ∷ us) (fresh_runs ps rs (omega arith) (λ i x h at. fresh (suc i) x (omega arith) at))
+
+all_at : {X : Type 0} (f : X → Bool) (xs : List X) (i : ℕ) (x : X) → list_all f xs ≡ true → i < length xs → x ≡ get_or xs i x → f x ≡ true
+all_at f [] i x all h at = absurd (omega arith)
+all_at f (y ∷ xs) zero x all h at = ap f at ∙ first_so (f y) (list_all f xs) all
+all_at f (y ∷ xs) (suc i) x all h at = all_at f xs i x (second_so (f y) (list_all f xs) all) (omega arith) at
+
+pub few_programs : (ps : List (List ScriptStep)) → IsTrue (within_limits ps) → length ps ≤ 16
+few_programs ps limits = leb-true (length ps) 16 (first_so (nat_le (length ps) 16) (list_all (λ (p : List ScriptStep). nat_le (length p) 256) ps) limits)
+
+pub AreRuns-fresh : (ps : List (List ScriptStep)) (rs : List CodeRun) → IsTrue (within_limits ps) → length rs ≡ length ps → ((i : ℕ) (r : CodeRun) → i < length rs → r ≡ get_or rs i r → IsFresh r × (r.client.number ≡ i)) → AreRuns [] ps rs
+AreRuns-fresh ps rs limits long fresh = record {
+  long = long;
+  each = λ i p r h at_p at_r.
+      let is = fresh i r h at_r in
+      let short : length p ≤ 256 = leb-true (length p) 256 (all_at (λ (q : List ScriptStep). nat_le (length q) 256) ps i p (second_so (nat_le (length ps) 16) (list_all (λ (q : List ScriptStep). nat_le (length q) 256) ps) limits) (omega arith) at_p) in
+      (record { sound = is.0.sound; counted = is.0.made; before = omega (arith, is.0.made, is.0.at); within = omega (arith, is.0.at); short = short }, is.1);
+}

@@ -1,0 +1,36 @@
+-- A step is answered by the client, or makes the shared call.
+use Rattle.std.proofs.Common.{◌≡◌, drop, ap, sym, ◌∙◌, refl, subst, arith}
+use Rattle.sal_script.specs.Play.{make, plain_world}
+use Rattle.mdsal.specs.Clients.{client_of, Counted, IsSound}
+use Rattle.mdsal.specs.declared.client.Went.TheVariants.{Local, Shared}
+use Rattle.mdsal.proofs.Going.{steps_at, local_turn, local_log, shared_turn, shared_grows}
+use Rattle.mdsal.proofs.run.Run.go.Goals as goal
+
+pub loop-i-preserved : goal.loop-i-preserved
+loop-i-preserved g c =
+    let step = c.index-steps-i.result in
+    let was = c.loop-i.invariant in
+    let steps = steps_at _ Local _ c.args.self.now.client.number _ c.args.broker.now c.step.new.broker (client_of c.loop-i.self.client) (client_of c.step.new.self) step c.in-Local.is was.number was.log c.in_ok-went.ensures.steps in
+    let log = local_log _ _ _ _ _ step steps in
+    record {
+      at = refl;
+      run = record {
+        sound = c.in_ok-went.ensures.sound;
+        counted = c.in_ok-went.ensures.counted;
+        before = omega (arith, c.in_ok-went.ensures.made, was.run.before, was.at);
+        within = c.loop-i-test.true;
+        short = was.run.short;
+      };
+      log = log;
+      number = c.in_ok-went.ensures.number ∙ was.number;
+      rest = was.rest ∙ local_turn _ _ _ _ _ c.args.steps.now c.loop-i.i step c.loop-i-test.true c.index-steps-i.is steps;
+    }
+
+pub returns-in-Shared-clause-goes : goal.returns-in-Shared-clause-goes
+returns-in-Shared-clause-goes g c =
+    let step = c.index-steps-i.result in
+    let was = c.loop-i.invariant in
+    let steps = steps_at _ Shared _ c.args.self.now.client.number _ c.args.broker.now c.step.new.broker (client_of c.loop-i.self.client) (client_of c.step.new.self) step c.in-Shared.is was.number was.log c.in_ok-went.ensures.steps in (
+      ap (make plain_world c.args.broker.now c.args.self.now.client.number) was.rest ∙ shared_turn _ _ _ _ _ c.args.steps.now c.loop-i.i step c.loop-i-test.true c.index-steps-i.is steps,
+      shared_grows _ _ _ _ _ step steps,
+    )

@@ -1,0 +1,8 @@
+-- The replies of the clients so far.
+use Rattle.std.proofs.Common.{◌≡◌, List, map}
+use Rattle.sal_history.specs.declared.reply.Reply.{Reply}
+use Rattle.mdsal.specs.Runs.{replies_in}
+use Rattle.mdsal.proofs.simulation.into_replies.Given as goal
+
+abbrev pub invariant-loop-run : goal.invariant-loop-run
+invariant-loop-run l = l.replies.items ≡ map replies_in l.yielded

@@ -1,0 +1,62 @@
+//! A client's run through its program, from one shared call to the next.
+ghost use Rattle.std.specs.Prelude.{◌≡◌, [], IfOk, OnOk};
+ghost use Rattle.sal_script.specs.Play.{new_client};
+
+use crate::broker::Broker;
+use crate::client::{ClientState, Went};
+use sal_io::Gate;
+use sal_script::ScriptStep;
+use sal_types::NoMemory;
+use std::alloc::Global;
+
+/// A client, and the index of its next step.
+#[derive(Debug, Drop)]
+pub struct Run {
+    pub client: ClientState,
+    pub at: usize,
+}
+
+impl Run {
+    ghost use Rattle.mdsal.specs.Clients.{client_of, IsSound};
+    ghost use Rattle.mdsal.specs.Runs.{IsRun, Goes};
+
+    /// A client at the beginning of its program.
+    pub fn new(alloc: Global, number: u32) -> Self
+        ensures number { result.client.number ≡ number }
+        ensures made { result.client.made ≡ 0 }
+        ensures at { result.at ≡ 0 }
+        ensures client { client_of result.client ≡ new_client }
+        ensures sound { IsSound [] result.client }
+    {
+        Run {
+            client: ClientState::new(alloc, number),
+            at: 0,
+        }
+    }
+
+    /// Answers the local steps up to the next shared call, and makes that. False where the program ended first. The
+    /// gate is passed before each step.
+    pub fn go<G: Gate>(
+        &mut self,
+        alloc: Global,
+        broker: &mut Broker,
+        steps: &[ScriptStep],
+        gate: &G,
+    ) -> Result<bool, NoMemory>
+        requires { IsRun broker.old steps.now self.old }
+        ensures goes { IfOk result (λ made. Goes made self.old.client.number broker.old steps.now self.old broker.new self.new) }
+        ensures run { OnOk result (IsRun broker.new steps.now self.new) }
+        ensures number { OnOk result (self.new.client.number ≡ self.old.client.number) }
+    {
+        for i in self.at..steps.len() {
+            gate.pass(self.client.number, i as u32);
+            let went = self.client.step(alloc, broker, &steps[i])?;
+            self.at = i + 1;
+            match went {
+                Went::Shared => return Ok(true),
+                Went::Local => {}
+            }
+        }
+        Ok(false)
+    }
+}

@@ -1,10 +1,9 @@
 -- The module `plain`: a container `box` with the leafs `a` to `h`, all of type string.
 -- Node 0 is the container, and nodes 1 to 8 are the leafs.
-use Rattle.std.specs.Prelude.{ℕ, zero, suc, ◌+◌, ◌-◌, List, [], ◌∷◌, ◌++◌, Option, None, Some, codes, if◌then◌else◌, nat_lt}
+use Rattle.std.specs.Prelude.{ℕ, zero, suc, ◌+◌, List, [], ◌∷◌, ◌++◌, Option, None, Some, codes, if◌then◌else◌}
 use Rattle.std.specs.List.{fold}
 use Rattle.sal_types.specs.declared.value.Atom.{Atom}
 use Rattle.sal_types.specs.declared.value.Atom.TheVariants.{Text}
-use Rattle.sal_types.specs.declared.value.Value.{Value}
 use Rattle.sal_types.specs.declared.value.Step.{Step}
 use Rattle.sal_types.specs.declared.value.Step.TheVariants.{Node}
 use Rattle.sal_types.specs.declared.value.Cell.{Cell}

@@ -1,6 +1,6 @@
 -- What a script does in an order: each number of the order lets that client go on to its next shared call, which is
 -- then made and answered by the log; at the end each client answers the local steps that are left.
-use Rattle.std.specs.Prelude.{ℕ, ◌+◌, Bool, true, false, List, [], ◌∷◌, ◌++◌, length, map, Option, None, Some, Result, Ok, Err, if◌then◌else◌, nat_eq, slice_get}
+use Rattle.std.specs.Prelude.{ℕ, ◌+◌, List, [], ◌∷◌, ◌++◌, length, map, Option, None, Some, Result, Ok, Err, if◌then◌else◌, nat_eq, slice_get}
 use Rattle.std.specs.List.{slice_set}
 use Rattle.sal_types.specs.declared.value.Store.{Store}
 use Rattle.sal_types.specs.declared.value.Step.{Step}
@@ -8,19 +8,18 @@ use Rattle.sal_types.specs.Tree.{under}
 use Rattle.sal_rows.specs.declared.op.Op.{Op}
 use Rattle.sal_rows.specs.declared.op.Act.TheVariants.{Put as PutAct}
 use Rattle.sal_rows.specs.declared.outcome.Mode.{Mode}
-use Rattle.sal_rows.specs.declared.outcome.Mode.TheVariants.{Ro, Wo, Rw}
+use Rattle.sal_rows.specs.declared.outcome.Mode.TheVariants.{Ro}
 use Rattle.sal_history.specs.declared.opening.Opening.{Opening}
 use Rattle.sal_history.specs.declared.call.Call.{Call}
 use Rattle.sal_history.specs.declared.call.Call.TheVariants.{Begin as BeginCall, Submit as SubmitCall, Settle as SettleCall}
 use Rattle.sal_history.specs.declared.call.Entry.{Entry}
 use Rattle.sal_history.specs.declared.reply.Reply.{Reply}
-use Rattle.sal_history.specs.declared.reply.Reply.TheVariants.{Begun, Accepted, Read as ReadReply, Receipt, Settled, Refused}
+use Rattle.sal_history.specs.declared.reply.Reply.TheVariants.{Begun, Accepted, Read as ReadReply, Receipt, Refused}
 use Rattle.sal_history.specs.declared.reply.Refusal.TheVariants.{EmptySlot, ReadOnly}
 use Rattle.sal_history.specs.History.{reply, view, entries_of}
 use Rattle.sal_script.specs.declared.script.ScriptStep.{ScriptStep}
 use Rattle.sal_script.specs.declared.script.ScriptStep.TheVariants.{Begin, Put, Read, Submit, Settle}
 use Rattle.sal_script.specs.Plain.{text_row}
-use Rattle.sal_script.specs.Script.{Parts}
 
 -- a client's transaction: where it began in the log, its domain and mode, and its operations so far
 pub record Open : Type 0 where

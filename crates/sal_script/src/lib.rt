@@ -21,6 +21,8 @@ pub mod fault;
 pub mod read;
 pub mod script;
 mod step;
+#[cfg(test)]
+mod tests;
 mod values;
 
 pub use fault::ScriptFault;

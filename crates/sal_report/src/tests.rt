@@ -5,27 +5,80 @@ use sal_types::{Atom, Cell, NoMemory, Path, Row, Seq, Step, Store, Str, Value};
 use std::alloc::Global;
 use std::test::Fail;
 
-fn leaf(alloc: Global, node: u32) -> Result<Path, NoMemory> {
-    let mut path = Path::root(alloc);
-    path.push(Step::Node(0)).map_err(|_| NoMemory)?;
-    path.push(Step::Node(node)).map_err(|_| NoMemory)?;
-    Ok(path)
+// The replies that `reply` makes, in its order.
+const REPLIES: [&str; 13] = [
+    "begun 7",
+    "begun 0 on 12",
+    "ok",
+    "absent",
+    "data \"a \\\"b\\\"\u{e9}\\n\"",
+    "data null",
+    "receipt 3",
+    "done 18446744073709551615",
+    "conflict config \"/plain:box/a\" changed 4",
+    "conflict config \"/plain:box/b\" created 5",
+    "conflict operational \"/plain:box/h\" deleted 6",
+    "refused empty-slot",
+    "refused read-only",
+];
+
+fn reply(alloc: Global, form: usize) -> Result<Reply, Fail> {
+    match form {
+        0 => Ok(Reply::Begun {
+            commit: 7,
+            on: None,
+        }),
+        1 => Ok(Reply::Begun {
+            commit: 0,
+            on: Some(12),
+        }),
+        2 => Ok(Reply::Accepted),
+        3 => read(alloc, None),
+        4 => read(alloc, Some(leaf(alloc, "a \"b\"\u{e9}\n")?)),
+        5 => read(alloc, Some(Cell::Mark)),
+        6 => Ok(Reply::Receipt { number: 3 }),
+        7 => Ok(settled(Outcome::Done {
+            commit: 18446744073709551615,
+        })),
+        8 => conflict(alloc, Store::Config, 1, ClashKind::Changed, 4),
+        9 => conflict(alloc, Store::Config, 2, ClashKind::Created, 5),
+        10 => conflict(alloc, Store::Oper, 8, ClashKind::Deleted, 6),
+        11 => Ok(refused(Refusal::EmptySlot)),
+        _ => Ok(refused(Refusal::ReadOnly)),
+    }
 }
 
-fn row(alloc: Global, node: u32, text: &str) -> Result<Row, NoMemory> {
-    let atom = Atom::Text(Str::new(alloc, text)?);
-    let value = Value { member: 0, atom };
-    let cell = Cell::Leaf(value);
-    let path = leaf(alloc, node)?;
-    Ok(Row { path, cell })
+fn refused(refusal: Refusal) -> Reply {
+    Reply::Refused { refusal }
 }
 
-fn rows(list: Vec<Row>) -> Result<Rows, Fail> {
-    Ok(Rows::from_list(list)?)
+fn settled(outcome: Outcome) -> Reply {
+    Reply::Settled { domain: 0, outcome }
 }
 
-fn read(alloc: Global, rows: Rows) -> Result<Reply, Fail> {
-    let path = leaf(alloc, 1)?;
+fn conflict(
+    alloc: Global,
+    store: Store,
+    node: u32,
+    kind: ClashKind,
+    commit: u64,
+) -> Result<Reply, Fail> {
+    let path = leaf_path(alloc, node)?;
+    Ok(settled(Outcome::Conflict {
+        store,
+        path,
+        kind,
+        commit,
+    }))
+}
+
+fn read(alloc: Global, cell: Option<Cell>) -> Result<Reply, Fail> {
+    let mut list = Vec::new(alloc);
+    if let Some(cell) = cell {
+        push(alloc, &mut list, 1, cell)?;
+    }
+    let path = leaf_path(alloc, 1)?;
+    let rows = Rows::from_list(list)?;
     Ok(Reply::Read {
         domain: 0,
         path,
@@ -33,88 +86,88 @@ fn read(alloc: Global, rows: Rows) -> Result<Reply, Fail> {
     })
 }
 
-fn conflict(alloc: Global, node: u32, kind: ClashKind, commit: u64) -> Result<Reply, Fail> {
-    let store = if node < 3 { Store::Config } else { Store::Oper };
-    let path = leaf(alloc, node)?;
-    let outcome = Outcome::Conflict {
-        store,
-        path,
-        kind,
-        commit,
-    };
-    Ok(Reply::Settled { domain: 0, outcome })
+fn leaf_path(alloc: Global, node: u32) -> Result<Path, NoMemory> {
+    let mut path = Path::root(alloc);
+    path.push(Step::Node(0)).map_err(|_| NoMemory)?;
+    path.push(Step::Node(node)).map_err(|_| NoMemory)?;
+    Ok(path)
 }
 
-fn entry(client: u32) -> Entry {
-    let call = Call::Begin {
-        domain: 0,
-        mode: Mode::Ro,
-    };
-    Entry {
-        client,
-        number: 0,
-        call,
+fn leaf(alloc: Global, text: &str) -> Result<Cell, NoMemory> {
+    let atom = Atom::Text(Str::new(alloc, text)?);
+    Ok(Cell::Leaf(Value { member: 0, atom }))
+}
+
+fn push(alloc: Global, list: &mut Vec<Row>, node: u32, cell: Cell) -> Result<(), NoMemory> {
+    let path = leaf_path(alloc, node)?;
+    list.push(Row { path, cell })?;
+    Ok(())
+}
+
+fn tree(alloc: Global) -> Result<Rows, Fail> {
+    let mut list = Vec::new(alloc);
+    push(alloc, &mut list, 1, leaf(alloc, "x")?)?;
+    push(alloc, &mut list, 3, leaf(alloc, "")?)?;
+    push(alloc, &mut list, 8, leaf(alloc, "\\")?)?;
+    Ok(Rows::from_list(list)?)
+}
+
+fn log(alloc: Global) -> Result<Vec<Entry>, Fail> {
+    let mut entries = Vec::new(alloc);
+    for client in [2, 0, 10] {
+        let domain = 0;
+        let mode = Mode::Ro;
+        let call = Call::Begin { domain, mode };
+        let number = 0;
+        entries.push(Entry {
+            client,
+            number,
+            call,
+        })?;
     }
+    Ok(entries)
+}
+
+// The report of one reply of each form.
+fn all_forms(alloc: Global) -> Result<Str, Fail> {
+    let mut list = Vec::new(alloc);
+    for form in 0..REPLIES.len() {
+        list.push(reply(alloc, form)?)?;
+    }
+    let mut replies = Vec::new(alloc);
+    replies.push(Seq::from_items(list))?;
+    let none = Rows::new(alloc);
+    Ok(report(alloc, &[], &replies, 0, &none, &none)?)
 }
 
 #[test]
 fn every_form_of_reply(rt: HostRuntime) -> Result<(), Fail> {
     let alloc = rt.alloc();
-    let here = rows(vec![in alloc; row(alloc, 1, "a \"b\"\u{e9}\n")?]?)?;
-    let marked = Row {
-        path: leaf(alloc, 1)?,
-        cell: Cell::Mark,
-    };
-    let first = vec![in alloc;
-        Reply::Begun {
-            commit: 7,
-            on: None
-        },
-        Reply::Begun {
-            commit: 0,
-            on: Some(12)
-        },
-        Reply::Accepted,
-        read(alloc, Rows::new(alloc))?,
-        read(alloc, here)?,
-        read(alloc, rows(vec![in alloc; marked]?)?)?,
-    ]?;
-    let third = vec![in alloc;
-        Reply::Receipt { number: 3 },
-        Reply::Settled {
-            domain: 0,
-            outcome: Outcome::Done {
-                commit: 18446744073709551615
-            }
-        },
-        conflict(alloc, 1, ClashKind::Changed, 4)?,
-        conflict(alloc, 2, ClashKind::Created, 5)?,
-        conflict(alloc, 8, ClashKind::Deleted, 6)?,
-        Reply::Refused {
-            refusal: Refusal::EmptySlot
-        },
-        Reply::Refused {
-            refusal: Refusal::ReadOnly
-        },
-    ]?;
-    let replies = vec![in alloc;
-        Seq::from_items(first),
-        Seq::new(alloc),
-        Seq::from_items(third),
-    ]?;
-    let log = vec![in alloc; entry(2), entry(0), entry(10)]?;
-    let config = rows(vec![in alloc;
-        row(alloc, 1, "x")?,
-        row(alloc, 3, "")?,
-        row(alloc, 8, "\\")?,
-    ]?)?;
-    let oper = Rows::new(alloc);
-    let text = report(alloc, log.as_slice(), replies.as_slice(), 2, &config, &oper)?;
+    let text = all_forms(alloc)?;
+    let mut want = String::from_str(alloc, "order\n")?;
+    for (step, reply) in REPLIES.iter().enumerate() {
+        write!(want, "0 {step} {reply}\n")?;
+    }
+    want.push_str("tree 0 0 {} {}\n")?;
+    assert_eq!(rt; text.as_str(), want.as_str());
+    Ok(())
+}
+
+#[test]
+fn lines_by_client_and_step(rt: HostRuntime) -> Result<(), Fail> {
+    let alloc = rt.alloc();
+    let mut replies = Vec::new(alloc);
+    for forms in [2usize, 0, 1] {
+        let mut list = Vec::new(alloc);
+        for form in 0..forms {
+            list.push(reply(alloc, form)?)?;
+        }
+        replies.push(Seq::from_items(list))?;
+    }
+    let log = log(alloc)?;
+    let text = report(alloc, &log, &replies, 2, &tree(alloc)?, &Rows::new(alloc))?;
     let want =
-        "order 2 0 10\n0 0 begun 7\n0 1 begun 0 on 12\n0 2 ok\n0 3 absent\n0 4 data \"a \\\"b\\\"\u{e9}\\n\"\n0 5 data null\n2 0 receipt 3\n2 1 done 18446744073709551615\n2 2 conflict config \"/plain:box/a\" changed 4\n2 3 conflict config \"/plain:box/b\" created 5\n2 4 conflict operational \"/plain:box/h\" deleted 6\n2 5 refused empty-slot\n2 6 refused read-only\ntree 0 2 {\"plain:box\":{\"a\":\"x\",\"c\":\"\",\"h\":\"\\\\\"}} {}\n";
-    assert!(rt; text.as_str() == want, "{text:?}");
-    let empty = report(alloc, &[], &[], 0, &oper, &config)?;
-    let want = "order\ntree 0 0 {} {\"plain:box\":{\"a\":\"x\",\"c\":\"\",\"h\":\"\\\\\"}}\n";
-    assert!(rt; empty.as_str() == want, "{empty:?}");
+        "order 2 0 10\n0 0 begun 7\n0 1 begun 0 on 12\n2 0 begun 7\ntree 0 2 {\"plain:box\":{\"a\":\"x\",\"c\":\"\",\"h\":\"\\\\\"}} {}\n";
+    assert_eq!(rt; text.as_str(), want);
     Ok(())
 }

@@ -1,5 +1,5 @@
 -- No value of a report has a float.
-use Rattle.std.proofs.Common.{◌≡◌, Bool, true, false, ◌||◌, List, [], ◌∷◌, ℕ, Ordering, Less, Equal, Greater, refl, ap, ◌∙◌}
+use Rattle.std.proofs.Common.{◌≡◌, Bool, true, false, ◌||◌, List, [], ◌∷◌, ℕ, Ordering, Less, Equal, Greater, refl}
 use Rattle.std.specs.Cmp.Lexicographic.{slice_cmp}
 use Rattle.std.specs.List.{fold}
 use Rattle.std.specs.Ordering.{nat_cmp, match_ordering}
@@ -10,7 +10,7 @@ use Rattle.sal_types.specs.declared.value.Cell.TheVariants.{Mark, Leaf}
 use Rattle.sal_types.specs.declared.row.Row.{Row}
 use Rattle.serde_json.specs.Data.{Data, Members, no_members, member, put}
 use Rattle.serde_json.specs.Written.{has_float, members_have_float}
-use Rattle.sal_script.specs.Plain.{add_member, box_members, data_of_atom, data_of_cell, data_of_tree, last_name}
+use Rattle.sal_script.specs.Plain.{add_member, data_of_atom, data_of_cell, data_of_tree, last_name}
 
 has_float-data_of_atom : (atom : Atom) → has_float (data_of_atom atom) ≡ false
 has_float-data_of_atom (Signed a) = refl

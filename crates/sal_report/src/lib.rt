@@ -17,8 +17,9 @@
 //! // tree 0 1 {"plain:box":{"a":"x"}} {}
 //! ```
 //!
-//! Cost: the text grows in place, in time linear in it. A JSON object of the tree is built beside it, so the most memory
-//! is that of the text and of one tree. Names that stand twice in a tree count once, the last value.
+//! Cost: the text grows in place. Beside it stands the JSON of one value or of one
+//! tree at a time. Time goes with the text's length, and for a tree of n rows with n log n, since an object keeps its
+//! members in the order of their names. Where two rows have one name, the later counts.
 #![tactic(auto)]
 
 mod lines;

@@ -3,5 +3,6 @@ pub mod Json
 pub mod Limits
 pub mod Plain
 pub mod Play
+pub mod Reading
 pub mod Report
 pub mod Script

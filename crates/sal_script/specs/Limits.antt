@@ -1,5 +1,5 @@
 -- How large a script is.
-use Rattle.std.specs.Prelude.{ℕ, Bool, ◌&&◌, List, length, nat_le}
+use Rattle.std.specs.Prelude.{Bool, ◌&&◌, List, length, nat_le}
 use Rattle.std.specs.List.{list_all}
 
 -- at most 16 clients with at most 256 steps each

@@ -1,10 +1,9 @@
 -- The module `plain`: a container `box` with the leafs `a` to `h`, all of type string.
 -- Node 0 is the container, and nodes 1 to 8 are the leafs.
-use Rattle.std.specs.Prelude.{ℕ, zero, suc, ◌+◌, ◌-◌, List, [], ◌∷◌, ◌++◌, Option, None, Some, codes, if◌then◌else◌, nat_lt}
+use Rattle.std.specs.Prelude.{ℕ, zero, suc, ◌+◌, List, [], ◌∷◌, ◌++◌, Option, None, Some, codes, if◌then◌else◌, nat_lt, ◌&&◌}
 use Rattle.std.specs.List.{fold}
 use Rattle.sal_types.specs.declared.value.Atom.{Atom}
 use Rattle.sal_types.specs.declared.value.Atom.TheVariants.{Text}
-use Rattle.sal_types.specs.declared.value.Value.{Value}
 use Rattle.sal_types.specs.declared.value.Step.{Step}
 use Rattle.sal_types.specs.declared.value.Step.TheVariants.{Node}
 use Rattle.sal_types.specs.declared.value.Cell.{Cell}
@@ -17,9 +16,9 @@ use Rattle.sal_script.specs.Json.{text_eq}
 abbrev pub leaf_path : ℕ → List Step
 leaf_path n = Node 0 ∷ Node n ∷ []
 
--- a leaf's name: the letter of its number
+-- a leaf's name: the letter of its number; the name of another node is not told
 abbrev pub leaf_name : ℕ → List ℕ
-leaf_name n = (96 + n) ∷ []
+leaf_name n = if nat_lt 0 n && nat_lt n 9 then (96 + n) ∷ [] else codes "?"
 
 -- the text of a leaf's path
 abbrev pub leaf_text : ℕ → List ℕ

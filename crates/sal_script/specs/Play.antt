@@ -1,6 +1,6 @@
 -- What a script does in an order: each number of the order lets that client go on to its next shared call, which is
 -- then made and answered by the log; at the end each client answers the local steps that are left.
-use Rattle.std.specs.Prelude.{ℕ, ◌+◌, Bool, true, false, List, [], ◌∷◌, ◌++◌, length, map, Option, None, Some, Result, Ok, Err, if◌then◌else◌, nat_eq, slice_get}
+use Rattle.std.specs.Prelude.{ℕ, ◌+◌, List, [], ◌∷◌, ◌++◌, length, map, Option, None, Some, Result, Ok, Err, if◌then◌else◌, nat_eq, slice_get}
 use Rattle.std.specs.List.{slice_set}
 use Rattle.sal_types.specs.declared.value.Store.{Store}
 use Rattle.sal_types.specs.declared.value.Step.{Step}
@@ -8,19 +8,18 @@ use Rattle.sal_types.specs.Tree.{under}
 use Rattle.sal_rows.specs.declared.op.Op.{Op}
 use Rattle.sal_rows.specs.declared.op.Act.TheVariants.{Put as PutAct}
 use Rattle.sal_rows.specs.declared.outcome.Mode.{Mode}
-use Rattle.sal_rows.specs.declared.outcome.Mode.TheVariants.{Ro, Wo, Rw}
+use Rattle.sal_rows.specs.declared.outcome.Mode.TheVariants.{Ro}
 use Rattle.sal_history.specs.declared.opening.Opening.{Opening}
 use Rattle.sal_history.specs.declared.call.Call.{Call}
 use Rattle.sal_history.specs.declared.call.Call.TheVariants.{Begin as BeginCall, Submit as SubmitCall, Settle as SettleCall}
 use Rattle.sal_history.specs.declared.call.Entry.{Entry}
 use Rattle.sal_history.specs.declared.reply.Reply.{Reply}
-use Rattle.sal_history.specs.declared.reply.Reply.TheVariants.{Begun, Accepted, Read as ReadReply, Receipt, Settled, Refused}
+use Rattle.sal_history.specs.declared.reply.Reply.TheVariants.{Begun, Accepted, Read as ReadReply, Receipt, Refused}
 use Rattle.sal_history.specs.declared.reply.Refusal.TheVariants.{EmptySlot, ReadOnly}
 use Rattle.sal_history.specs.History.{reply, view, entries_of}
 use Rattle.sal_script.specs.declared.script.ScriptStep.{ScriptStep}
 use Rattle.sal_script.specs.declared.script.ScriptStep.TheVariants.{Begin, Put, Read, Submit, Settle}
 use Rattle.sal_script.specs.Plain.{text_row}
-use Rattle.sal_script.specs.Script.{Parts}
 
 -- a client's transaction: where it began in the log, its domain and mode, and its operations so far
 pub record Open : Type 0 where
@@ -129,6 +128,21 @@ abbrev pub arrive_by : (Client → Arrival) → (Call → Arrival) → Meeting �
 arrive_by next wait (local r client) = next (replied r client)
 arrive_by next wait (shared call) = wait call
 
+-- the log and that client's run are the new ones
+abbrev pub stand_with : Stand → ℕ → Option Made → Option Stand
+stand_with stand c None = None
+stand_with stand c (Some made) = Some (record { log = made.log; runs = slice_set stand.runs c made.run })
+
+-- the replies of each client at its end; none where a shared call is left
+abbrev pub replies_at : Arrival → Option (List Reply)
+replies_at (ended client) = Some client.replies
+replies_at (calls call step run) = None
+
+abbrev pub cons_replies : Option (List Reply) → Option (List (List Reply)) → Option (List (List Reply))
+cons_replies None rest = None
+cons_replies (Some rs) None = None
+cons_replies (Some rs) (Some rest) = Some (rs ∷ rest)
+
 module _ (world : List Opening) where
   -- the client goes on to its next shared call
   abbrev pub arrive : List Entry → Client → List ScriptStep → Arrival
@@ -147,11 +161,6 @@ module _ (world : List Opening) where
   abbrev pub go : List Entry → ℕ → Run → Option Made
   go log c run = make log c (arrive log run.client run.steps)
 
-  -- the log and that client's run are the new ones
-  abbrev pub stand_with : Stand → ℕ → Option Made → Option Stand
-  stand_with stand c None = None
-  stand_with stand c (Some made) = Some (record { log = made.log; runs = slice_set stand.runs c made.run })
-
   -- one number of the order: none where no client has it, or where that client comes to its end first
   abbrev pub turn_of : Stand → ℕ → Option Run → Option Stand
   turn_of stand c None = None
@@ -159,16 +168,6 @@ module _ (world : List Opening) where
 
   abbrev pub turn : Stand → ℕ → Option Stand
   turn stand c = turn_of stand c (slice_get stand.runs c)
-
-  -- the replies of each client at its end; none where a shared call is left
-  abbrev pub replies_at : Arrival → Option (List Reply)
-  replies_at (ended client) = Some client.replies
-  replies_at (calls call step run) = None
-
-  abbrev pub cons_replies : Option (List Reply) → Option (List (List Reply)) → Option (List (List Reply))
-  cons_replies None rest = None
-  cons_replies (Some rs) None = None
-  cons_replies (Some rs) (Some rest) = Some (rs ∷ rest)
 
   abbrev pub replies_of : List Entry → List Run → Option (List (List Reply))
   replies_of log [] = Some []

@@ -17,6 +17,14 @@
 #![tactic(auto)]
 
 pub mod examples;
+pub mod fault;
+pub mod read;
 pub mod script;
+mod step;
+#[cfg(test)]
+mod tests;
+mod values;
 
+pub use fault::ScriptFault;
+pub use read::read_script;
 pub use script::{MAX_CLIENTS, MAX_PROGRAM, Program, Script, ScriptStep};

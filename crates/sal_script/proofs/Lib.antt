@@ -1,0 +1,4 @@
+pub mod Each
+pub mod JsonData
+pub mod Limits
+pub mod Readers

@@ -1,0 +1,73 @@
+-- The readers of a script: what they read, as one reading of a list after another.
+use Rattle.std.proofs.Common.{◌≡◌, ℕ, ◌+◌, ◌^◌, ◌<◌, List, [], ◌∷◌, length, get_or, drop, map, Option, Some, None, option_map, option_and_then, Result, Ok, Err, Bor, refl, ap, sym, ◌∙◌}
+use Rattle.std.specs.Result.{IsErrAnd}
+use Rattle.sal_types.specs.Reading.{◌>>=◌}
+use Rattle.serde_json.specs.Data.{Data}
+use Rattle.serde_json.specs.View.{view}
+use Rattle.serde_json.specs.declared.value.Value.{Value}
+use Rattle.sal_script.specs.declared.fault.ScriptFault.{ScriptFault}
+use Rattle.sal_script.specs.declared.fault.ScriptFault.TheVariants.{BadScript, NoMemory}
+use Rattle.sal_script.specs.declared.script.ScriptStep.{ScriptStep}
+use Rattle.sal_script.specs.Json.{whole_below}
+use Rattle.sal_script.specs.Reading.{IsBadAt, IsFaultOf, Reads}
+use Rattle.sal_script.specs.Script.{or_bad, client_place, step_place, program_of, programs_from, step_of, steps_from, clients_from, numbers_of}
+use Rattle.sal_script.proofs.Each.{each_from, before, each_fails}
+
+-- ---- the lists
+
+abbrev pub program_at : ℕ → Value → Result (List Data) (List ℕ)
+program_at c v = or_bad (client_place c) (program_of (view v))
+
+pub programs_from-each : (c : ℕ) (vs : List Value) → programs_from c (map view vs) ≡ each_from program_at c vs
+programs_from-each c [] = refl
+programs_from-each c (v ∷ vs) = ap (λ rest. program_at c v >>= (λ program. rest >>= (λ programs. Ok (program ∷ programs)))) (programs_from-each (c + 1) vs)
+
+abbrev pub step_at : ℕ → ℕ → Value → Result ScriptStep (List ℕ)
+step_at c s v = or_bad (step_place c s) (step_of (view v))
+
+pub steps_from-each : (c s : ℕ) (vs : List Value) → steps_from c s (map view vs) ≡ each_from (step_at c) s vs
+steps_from-each c s [] = refl
+steps_from-each c s (v ∷ vs) = ap (λ rest. step_at c s v >>= (λ step. rest >>= (λ steps. Ok (step ∷ steps)))) (steps_from-each c (s + 1) vs)
+
+abbrev pub data_in : Bor (List Value) → List Data
+data_in program = map view program.now
+
+abbrev pub client_at : ℕ → Bor (List Value) → Result (List ScriptStep) (List ℕ)
+client_at c program = steps_from c 0 (data_in program)
+
+pub clients_from-each : (c : ℕ) (ps : List (Bor (List Value))) → clients_from c (map data_in ps) ≡ each_from client_at c ps
+clients_from-each c [] = refl
+clients_from-each c (p ∷ ps) = ap (λ rest. client_at c p >>= (λ steps. rest >>= (λ clients. Ok (steps ∷ clients)))) (clients_from-each (c + 1) ps)
+
+abbrev pub number_at : List ℕ → ℕ → Value → Result ℕ (List ℕ)
+number_at place i v = or_bad place (whole_below (2 ^ 32) (view v))
+
+number_more : (place : List ℕ) (first : Option ℕ) (rest : Option (List ℕ))
+    → or_bad place (option_and_then (λ n. option_map (λ ns. n ∷ ns) rest) first) ≡ (or_bad place first >>= (λ n. or_bad place rest >>= (λ ns. Ok (n ∷ ns))))
+number_more place None rest = refl
+number_more place (Some n) None = refl
+number_more place (Some n) (Some ns) = refl
+
+pub numbers_of-each : (place : List ℕ) (i : ℕ) (vs : List Value) → or_bad place (numbers_of (map view vs)) ≡ each_from (number_at place) i vs
+numbers_of-each place i [] = refl
+numbers_of-each place i (v ∷ vs) =
+    number_more place (whole_below (2 ^ 32) (view v)) (numbers_of (map view vs))
+    ∙ ap (λ rest. number_at place i v >>= (λ n. rest >>= (λ ns. Ok (n ∷ ns)))) (numbers_of-each place (i + 1) vs)
+
+-- ---- faults
+
+-- the fault at the place that is read
+pub fault_at : {Y : Type 0} (place : List ℕ) (read : Result Y (List ℕ)) (e : ScriptFault) → IsBadAt place e → read ≡ Err place → IsFaultOf read e
+fault_at place read (BadScript named) is reads = reads ∙ ap Err (sym is)
+fault_at place read NoMemory is reads = tt
+
+-- the fault that a `?` passes on
+pub reads_err : {X Y : Type 0} (view : X → Y) (result : Result X ScriptFault) (e : ScriptFault) (read : Result Y (List ℕ)) → IsErrAnd result (λ d. d ≡ e) → IsFaultOf read e → Reads view result read
+reads_err view (Ok x) e read is fault = absurd is
+reads_err view (Err d) e read is fault = rw is fault
+
+-- a fault in one of a list is the list's
+pub each_fault : {A B : Type 0} (f : ℕ → A → Result B (List ℕ)) (done : List B) (i : ℕ) (xs : List A) (total : Result (List B) (List ℕ)) (x : A) (e : ScriptFault) → i < length xs → x ≡ get_or xs i x
+    → IsFaultOf (f i x) e → before done (each_from f i (drop i xs)) ≡ total → IsFaultOf total e
+each_fault f done i xs total x (BadScript place) h is fault so_far = each_fails f done i xs total x place h is fault so_far
+each_fault f done i xs total x NoMemory h is fault so_far = tt

@@ -1,0 +1,28 @@
+-- What readers of a script return: what the definitions give, unless memory ran out.
+use Rattle.std.specs.Prelude.{◌≡◌, ℕ, List, Result, Ok, Err, MatchResult}
+use Rattle.sal_script.specs.declared.fault.ScriptFault.{ScriptFault}
+use Rattle.sal_script.specs.declared.fault.ScriptFault.TheVariants.{BadScript, NoMemory}
+use Rattle.sal_script.specs.declared.script.Script.{Script}
+use Rattle.sal_script.specs.Script.{Parts}
+
+-- the fault names the place, unless memory ran out
+abbrev pub IsBadAt : List ℕ → ScriptFault → Type 0
+IsBadAt place (BadScript named) = named ≡ place
+IsBadAt place NoMemory = Unit {0}
+
+-- the fault is what is read, unless memory ran out
+abbrev pub IsFaultOf : {Y : Type 0} → Result Y (List ℕ) → ScriptFault → Type 0
+IsFaultOf read (BadScript place) = read ≡ Err place
+IsFaultOf read NoMemory = Unit {0}
+
+-- what a reader returned, seen by view, is what is read; a fault is that which is read, unless memory ran out
+abbrev pub Reads : {X Y : Type 0} → (X → Y) → Result X ScriptFault → Result Y (List ℕ) → Type 0
+Reads view result read = MatchResult result (λ x. read ≡ Ok (view x)) (IsFaultOf read)
+
+-- what a script has
+abbrev pub parts : Script → Parts
+parts script = record { clients = script.clients; order = script.order }
+
+-- the script that is read, or the first bad place, unless memory ran out
+abbrev pub ReadsScript : Result Script ScriptFault → Result Parts (List ℕ) → Type 0
+ReadsScript = Reads parts

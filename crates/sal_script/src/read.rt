@@ -1,0 +1,160 @@
+//! Scripts, read from JSON (RFC 8259).
+ghost use Rattle.std.specs.Prelude.{◌≡◌, [], ◌∷◌, codes, map, option_and_then, option_map};
+ghost use Rattle.serde_json.specs.View.{view, members_view};
+ghost use Rattle.sal_script.specs.Json.{data_of};
+ghost use Rattle.sal_script.specs.Reading.{Reads, ReadsScript, parts};
+ghost use Rattle.sal_script.specs.Script as spec;
+
+use crate::fault::{ScriptFault, bad, bad_client, bad_step};
+use crate::script::{MAX_CLIENTS, MAX_PROGRAM, Program, Script, ScriptStep};
+use crate::step::step_of;
+use crate::values::{list_member, list_of, member, members_of, whole_below};
+use sal_types::Seq;
+use serde_json::{Map, Value};
+use std::alloc::Global;
+
+/// The script that bytes stand for, or the first bad place: the bytes as JSON, the object's members, `clients` and
+/// each client, the steps of each client, `order`.
+pub fn read_script(alloc: Global, bytes: &[u8]) -> Result<Script, ScriptFault>
+    ensures { ReadsScript result (spec.script_of bytes.now) }
+{
+    let value = value_of(alloc, bytes)?;
+    let members = script_members(alloc, &value)?;
+    parts_of(alloc, members)
+}
+
+// The JSON value that bytes stand for.
+fn value_of(alloc: Global, bytes: &[u8]) -> Result<Value, ScriptFault>
+    ensures { Reads view result (spec.or_bad (codes "json") (data_of bytes.now)) }
+{
+    let Ok(text) = str::from_utf8(bytes) else {
+        return Err(bad(alloc, "json"));
+    };
+    match Value::from_str(alloc, text) {
+        Ok(value) => Ok(value),
+        Err(error) if error.is_memory() => Err(ScriptFault::NoMemory),
+        Err(_) => Err(bad(alloc, "json")),
+    }
+}
+
+// The members of the object that a script is.
+fn script_members<'v>(
+    alloc: Global,
+    value: &'v Value,
+) -> Result<&'v Map<String, Value>, ScriptFault>
+    ensures { Reads (λ members. members_view members.now.entries) result (spec.or_bad (codes "script") (spec.members_of (codes "clients" ∷ codes "order" ∷ []) (view value.now))) }
+{
+    match members_of(value, &["clients", "order"]) {
+        Some(members) => Ok(members),
+        None => Err(bad(alloc, "script")),
+    }
+}
+
+fn parts_of(alloc: Global, members: &Map<String, Value>) -> Result<Script, ScriptFault>
+    ensures { Reads parts result (spec.parts_of (members_view members.now.entries)) }
+{
+    let listed = listed_clients(alloc, members)?;
+    let programs = programs_of(alloc, listed)?;
+    let clients = clients_of(alloc, &programs)?;
+    let order = order_of(alloc, members)?;
+    Ok(Script {
+        clients: Seq::from_items(clients),
+        order: Seq::from_items(order),
+    })
+}
+
+// The list, where it is no longer than the limit.
+fn at_most(limit: usize, list: Option<&[Value]>) -> Option<&[Value]>
+    ensures { option_map (λ found. map view found.now) result ≡ option_and_then (spec.at_most limit) (option_map (λ found. map view found.now) list.entry) }
+{
+    match list {
+        Some(found) if found.len() <= limit => Some(found),
+        _ => None,
+    }
+}
+
+// The clients, not yet read.
+fn listed_clients<'v>(
+    alloc: Global,
+    members: &'v Map<String, Value>,
+) -> Result<&'v [Value], ScriptFault>
+    ensures { Reads (λ clients. map view clients.now) result (spec.or_bad (codes "clients") (option_and_then (spec.at_most 16) (spec.list_member (codes "clients") (members_view members.now.entries)))) }
+{
+    match at_most(MAX_CLIENTS, list_member(members, "clients")) {
+        Some(clients) => Ok(clients),
+        None => Err(bad(alloc, "clients")),
+    }
+}
+
+// Each client's steps, not yet read.
+fn programs_of<'v>(alloc: Global, clients: &'v [Value]) -> Result<Vec<&'v [Value]>, ScriptFault>
+    ensures { Reads (λ programs. map (λ program. map view program.now) programs.items) result (spec.programs_from 0 (map view clients.now)) }
+{
+    let mut programs = Vec::new(alloc);
+    for (client, value) in clients.iter().enumerate() {
+        match program_of(value) {
+            Some(program) => programs.push(program)?,
+            None => return Err(bad_client(alloc, client)),
+        }
+    }
+    Ok(programs)
+}
+
+// A client's steps, not yet read.
+fn program_of(value: &Value) -> Option<&[Value]>
+    ensures { option_map (λ list. map view list.now) result ≡ spec.program_of (view value.now) }
+{
+    let members = members_of(value, &["steps"])?;
+    let steps = member(members, "steps")?;
+    at_most(MAX_PROGRAM, list_of(steps))
+}
+
+// The steps of each client.
+fn clients_of(alloc: Global, programs: &[&[Value]]) -> Result<Vec<Program>, ScriptFault>
+    ensures { Reads (λ clients. clients.items) result (spec.clients_from 0 (map (λ program. map view program.now) programs.now)) }
+{
+    let mut clients = Vec::new(alloc);
+    for (client, program) in programs.iter().enumerate() {
+        let steps = steps_of(alloc, client, program)?;
+        clients.push(Seq::from_items(steps))?;
+    }
+    Ok(clients)
+}
+
+// The steps of one client.
+fn steps_of(alloc: Global, client: usize, program: &[Value]) -> Result<Vec<ScriptStep>, ScriptFault>
+    ensures { Reads (λ steps. steps.items) result (spec.steps_from client 0 (map view program.now)) }
+{
+    let mut steps = Vec::new(alloc);
+    for (number, value) in program.iter().enumerate() {
+        match step_of(alloc, value)? {
+            Some(step) => steps.push(step)?,
+            None => return Err(bad_step(alloc, client, number)),
+        }
+    }
+    Ok(steps)
+}
+
+// The client numbers of the order.
+fn order_of(alloc: Global, members: &Map<String, Value>) -> Result<Vec<u32>, ScriptFault>
+    ensures { Reads (λ numbers. numbers.items) result (spec.or_bad (codes "order") (option_and_then spec.numbers_of (spec.list_member (codes "order") (members_view members.now.entries)))) }
+{
+    match list_member(members, "order") {
+        Some(list) => numbers_of(alloc, list),
+        None => Err(bad(alloc, "order")),
+    }
+}
+
+// Whole numbers below 2^32.
+fn numbers_of(alloc: Global, list: &[Value]) -> Result<Vec<u32>, ScriptFault>
+    ensures { Reads (λ numbers. numbers.items) result (spec.or_bad (codes "order") (spec.numbers_of (map view list.now))) }
+{
+    let mut numbers = Vec::with_capacity(alloc, list.len())?;
+    for value in list {
+        match whole_below(1 << 32, value) {
+            Some(number) => numbers.push(number as u32)?,
+            None => return Err(bad(alloc, "order")),
+        }
+    }
+    Ok(numbers)
+}

@@ -1,0 +1,75 @@
+//! Looking into JSON values, as the definitions do.
+ghost use Rattle.std.specs.Prelude.{◌≡◌, option_map, map};
+ghost use Rattle.std.specs.List.{list_any};
+ghost use Rattle.serde_json.specs.View.{view, members_view};
+ghost use Rattle.serde_json.specs.Find.{get_member};
+ghost use Rattle.sal_script.specs.Json.{all_named, list_of, text_eq, whole_below};
+ghost use Rattle.sal_script.specs.Script.{list_member, members_of};
+
+use serde_json::{Map, Value};
+
+// The values of an array, in order.
+pub(crate) fn list_of(value: &Value) -> Option<&[Value]>
+    ensures { option_map (λ list. map view list.now) result ≡ list_of (view value.now) }
+{
+    match value.as_array() {
+        Some(list) => Some(list.as_slice()),
+        None => None,
+    }
+}
+
+// A whole number below the limit.
+pub(crate) fn whole_below(limit: u64, value: &Value) -> Option<u64>
+    ensures { result ≡ whole_below limit (view value.now) }
+{
+    match value.as_u64() {
+        Some(number) if number < limit => Some(number),
+        _ => None,
+    }
+}
+
+// The members of an object that has no members but these.
+pub(crate) fn members_of<'v>(value: &'v Value, names: &[&str]) -> Option<&'v Map<String, Value>>
+    ensures { option_map (λ members. members_view members.now.entries) result ≡ members_of (map (λ name. name.now) names.now) (view value.now) }
+{
+    match value.as_object() {
+        Some(members) if has_only(members, names) => Some(members),
+        _ => None,
+    }
+}
+
+// The member of this name.
+pub(crate) fn member<'v>(members: &'v Map<String, Value>, name: &str) -> Option<&'v Value>
+    ensures { option_map (λ found. view found.now) result ≡ get_member name.now (members_view members.now.entries) }
+{
+    members.get(name)
+}
+
+// The values of an array member; an absent one is empty.
+pub(crate) fn list_member<'v>(members: &'v Map<String, Value>, name: &str) -> Option<&'v [Value]>
+    ensures { option_map (λ list. map view list.now) result ≡ list_member name.now (members_view members.now.entries) }
+{
+    match member(members, name) {
+        Some(value) => list_of(value),
+        None => Some(&[]),
+    }
+}
+
+// Whether every member has one of the names.
+fn has_only(members: &Map<String, Value>, names: &[&str]) -> bool
+    ensures { result ≡ all_named (map (λ name. name.now) names.now) (members_view members.now.entries) }
+{
+    for (key, _) in members.iter() {
+        if !is_among(key.as_str(), names) {
+            return false;
+        }
+    }
+    true
+}
+
+// Whether the name is one of these.
+fn is_among(name: &str, names: &[&str]) -> bool
+    ensures { result ≡ list_any (λ listed. text_eq name.now listed.now) names.now }
+{
+    names.iter().any(|listed| name == *listed)
+}

@@ -1,0 +1,5 @@
+pub mod ByPath
+pub mod Prefixes
+pub mod Noted
+pub mod Searched
+pub mod Lasts

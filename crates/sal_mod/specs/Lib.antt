@@ -1,0 +1,4 @@
+pub mod Places
+pub mod Covers
+pub mod Early
+pub mod Settings

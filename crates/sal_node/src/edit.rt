@@ -1,0 +1,93 @@
+//! What a node has, and nodes that differ from it in one place.
+ghost use Rattle.std.specs.Prelude.{◌≡◌, Option, Some, None, T, IfOk, IfSome};
+ghost use Rattle.std.specs.FinMap.{find, is_sorted};
+ghost use Rattle.sal_types.specs.Order.{step_cmp};
+ghost use Rattle.sal_node.specs.Tree.{Tree, Forest, change, pairs, grove, kid_at, bare, is_filled};
+ghost use Rattle.sal_node.specs.Shape.{tree_in, tree_at, seen};
+
+use crate::node::{Child, Node, Page};
+use crate::pages::{all_children, changed_pages, child_at, share_pages};
+use sal_types::{Cell, Duplicate, NoMemory, Step};
+use std::alloc::Global;
+use std::sync::Arc;
+
+impl Node {
+    /// The child at the step, if there is one. It takes no memory.
+    pub fn child(&self, step: &Step) -> Option<&Arc<Node>>
+        requires { T (is_sorted step_cmp (pairs self.now.kids)) }
+        ensures { tree_at result ≡ kid_at self.now.kids step.now }
+    {
+        child_at(&self.pages, step)
+    }
+
+    /// The node with another child at the step, or with none there. It keeps its cell and its other children, and has the
+    /// stamp given.
+    pub fn with_child(
+        &self,
+        alloc: Global,
+        step: &Step,
+        node: Option<Arc<Node>>,
+        stamp: u64,
+    ) -> Result<Node, NoMemory>
+        requires { T (is_sorted step_cmp (pairs self.now.kids)) }
+        ensures { IfOk result (λ n. n ≡ record { stamp = stamp; cell = self.now.cell; kids = grove (change step.now (tree_in node) (pairs self.now.kids)) }) }
+    {
+        let cell = copy_cell(&self.cell)?;
+        let pages = changed_pages(alloc, &self.pages, step, node)?;
+        let changed = Node { stamp, cell, pages };
+        Ok(changed)
+    }
+
+    /// The node with another cell, or with none. It keeps its children, and has the stamp given.
+    pub fn with_cell(&self, alloc: Global, cell: Option<Cell>, stamp: u64) -> Result<Node, NoMemory>
+        ensures { IfOk result (λ n. n ≡ record { stamp = stamp; cell = cell; kids = self.now.kids }) }
+    {
+        let mut pages = Vec::with_capacity(alloc, self.pages.len())?;
+        share_pages(&mut pages, &self.pages)?;
+        let with_cell = Node { stamp, cell, pages };
+        Ok(with_cell)
+    }
+
+    /// Its children, in order.
+    pub fn children(&self, alloc: Global) -> Result<Vec<&Child>, NoMemory>
+        ensures { IfOk result (λ v. seen v.items ≡ pairs self.entry.now.kids) }
+    {
+        let list = all_children(alloc, &self.pages)?;
+        Ok(list)
+    }
+
+    /// The stamp of the change that made it. It takes no memory.
+    pub fn stamp(&self) -> u64
+        ensures { result ≡ self.now.stamp }
+    {
+        self.stamp
+    }
+
+    /// Whether it has a cell or children. It takes no memory.
+    pub fn is_filled(&self) -> bool
+        ensures { result ≡ is_filled self.now.cell self.now.kids }
+    {
+        self.cell.is_some() || !self.pages.is_empty()
+    }
+
+    /// A node without children. It takes no memory.
+    pub fn new(alloc: Global, cell: Option<Cell>, stamp: u64) -> Node
+        ensures { result ≡ record { stamp = stamp; cell = cell; kids = bare } }
+    {
+        Node {
+            stamp,
+            cell,
+            pages: Vec::new(alloc),
+        }
+    }
+}
+
+/// A copy of a cell that may be there.
+pub fn copy_cell(cell: &Option<Cell>) -> Result<Option<Cell>, NoMemory>
+    ensures { IfOk result (λ it. it ≡ cell.now) }
+{
+    match cell {
+        None => Ok(None),
+        Some(cell) => Ok(Some(cell.copy()?)),
+    }
+}

@@ -1,0 +1,40 @@
+//! Nodes of persistent trees: a stamp, a cell, and children in shared pages.
+//!
+//! | type | what it is |
+//! |---|---|
+//! | `Node` | a node with its stamp, its cell and its children; a contract sees it as a plain value, a `Tree` |
+//! | `Page` | 1 to 64 children of a node, in the order of their steps |
+//! | `Child` | a child with the step that leads to it |
+//! | `Builder` | a node that is made of its children, given in order |
+//!
+//! A node is never changed: a changed one is a new node, which shares every page but one with the old one, and every
+//! child but one of that page. Pages and children are behind an `Arc`, so that nodes pass between threads. The pages are
+//! invisible in contracts: two nodes are the same value where stamp, cell and children are, however these are paged.
+//!
+//! ```
+//! let leaf = Node::new(alloc, Some(Cell::Mark), 7);
+//! let node = Node::new(alloc, None, 7);
+//! let node = node.with_child(alloc, &Step::Node(3), Some(Arc::new(alloc, leaf)?), 7)?;
+//! ```
+//!
+//! | call | cost for a node of `n` children |
+//! |---|---|
+//! | `Node::child` | a search by halves over n / 64 pages, and at most 64 comparisons |
+//! | `Node::with_child` | that, a copy of one page and of the list of pages: n / 64 counts up |
+//! | `Node::with_cell` | a copy of the list of pages |
+//! | `Node::children` | a list of n references |
+//! | `Builder::push`, `Builder::finish` | constant on average |
+//!
+//! Children that are added in ascending order leave full pages.
+#![tactic(auto)]
+
+pub mod builder;
+pub mod edit;
+pub mod node;
+mod pages;
+#[cfg(test)]
+mod tests;
+
+pub use builder::Builder;
+pub use edit::copy_cell;
+pub use node::{Child, Node, Page};

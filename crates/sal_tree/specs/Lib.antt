@@ -1,0 +1,11 @@
+pub mod Grow
+pub mod Rows
+pub mod Follows
+pub mod Touched
+pub mod Whole
+pub mod Built
+pub mod Edit
+pub mod History
+pub mod Alike
+pub mod Graft
+pub mod Examples

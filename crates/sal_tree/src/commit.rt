@@ -1,0 +1,33 @@
+//! Both trees of a domain, and commits.
+use crate::root::Root;
+use sal_rows::Op;
+use sal_types::{Duplicate, NoMemory, Seq};
+use std::sync::Arc;
+
+/// The two trees of a domain.
+#[derive(Drop)]
+pub struct Pair {
+    pub config: Root,
+    pub oper: Root,
+}
+
+impl Duplicate for Pair {
+    fn copy(&self) -> Result<Pair, NoMemory> {
+        let config = self.config.copy()?;
+        let oper = self.oper.copy()?;
+        Ok(Pair { config, oper })
+    }
+}
+
+/// A commit of a domain: its number, the receipt that it was made for, the chain of its transaction, the operations of
+/// that, and the trees after it.
+///
+/// Commit 0 is the opening: it has the receipt 0, no chain and no operations.
+#[derive(Drop)]
+pub struct Commit {
+    pub number: u64,
+    pub receipt: u64,
+    pub chain: Option<u64>,
+    pub ops: Arc<Seq<Op>>,
+    pub trees: Pair,
+}

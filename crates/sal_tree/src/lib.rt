@@ -1,0 +1,49 @@
+//! Persistent trees: rows as nodes that are shared from one tree to the next, with stamps.
+//!
+//! | type | what it is |
+//! |---|---|
+//! | `Root` | a tree of one store; a contract sees it as its root node, with `rows_of` and `at` |
+//! | `Pair` | the two trees of a domain, configuration and operational |
+//! | `Commit` | a commit of a domain: number, receipt, chain, operations, and the trees after it |
+//!
+//! An edit makes a new tree, which shares every node that it does not touch. The nodes that it touches, by their rows or
+//! by rows that stood below them, have the stamp of the edit. So two trees of one history have one stamp at a path
+//! exactly where nothing between them touched it (`is_alike`), and then the nodes there are the same.
+//!
+//! `specs/` has the rows of a tree (`Rows`), the node at a path (`Grow`), how stamps tell what was touched (`Follows`,
+//! `History`), which nodes may be a root (`Whole`), and what a graft is (`Graft`).
+//!
+//! ```
+//! let start = Root::from_rows(alloc, &rows, 0)?;
+//! let after = start.delete(alloc, &path, 7)?;
+//! let left = after.rows(alloc, &Path::root(alloc))?;
+//! ```
+//!
+//! | call | cost, for a path of d steps and lists of n entries on the way |
+//! |---|---|
+//! | `Root::get`, `Root::exists`, `is_alike` | d searches by halves, no memory |
+//! | `Root::delete`, and each row of `Root::put` and `Root::merge` | d nodes, each with a copy of one page of 64 and of its list of n / 64 pages |
+//! | `Root::from_rows` | one node for each path, and d looks at each row |
+//! | `Root::rows` | linear in the rows below the path |
+//! | a copy of a `Root` or a `Pair` | one count, whatever the size |
+//!
+//! A tree is at most 32 steps deep, and so are all recursions. The costs do not hang on the values, but a step with
+//! long keys is copied and compared at their length.
+#![tactic(auto)]
+
+pub mod alike;
+pub mod building;
+pub mod commit;
+pub mod edits;
+pub mod examples;
+mod growth;
+pub mod listing;
+pub mod root;
+#[cfg(test)]
+mod tests;
+pub mod under;
+
+pub use alike::is_alike;
+pub use commit::{Commit, Pair};
+pub use root::Root;
+pub use under::lie_under;

@@ -44,4 +44,4 @@ shared_turn c log log' old new steps i step h at (r, between, (call, called), is
     ∙ ap (λ (n : Client). Some (let made : Made = record { log = log'; run = record { client = n; steps = drop (i + 1) steps } } in made)) (sym client)
 
 pub shared_grows : (c : ℕ) (log log' : List Entry) (old new : Client) (step : ScriptStep) → Steps Shared c log old step log' new → GrowsBy c log log'
-shared_grows c log log' old new step (r, between, (call, called), is) = (entry_of log c call, (refl, called.entry))
+shared_grows c log log' old new step (r, between, (call, called), is) = (entry_of log c call, refl, called.entry)

@@ -1,9 +1,11 @@
 -- Where all clients stand: looked at and changed by index.
-use Rattle.std.proofs.Common.{◌≡◌, ℕ, zero, suc, ◌+◌, ◌<◌, ◌≤◌, Bool, true, false, List, [], ◌∷◌, ◌++◌, length, map, get_or, set, drop, take, Option, None, Some, Result, Ok, Err, refl, ap, sym, ◌∙◌, subst, arith, append_assoc, append-nil, ◌&&◌, nat_eq, cond, IsTrue, inl, inr}
+use Rattle.std.proofs.Common.{◌≡◌, ℕ, zero, suc, ◌+◌, ◌<◌, ◌≤◌, Bool, true, false, List, [], ◌∷◌, ◌++◌, length, map, get_or, set, drop, take, Option, None, Some, Result, Ok, Err, refl, ap, sym, ◌∙◌, subst, arith, append_assoc, append-nil, length-append, ◌&&◌, nat_eq, cond, IsTrue, inl, inr}
 use Rattle.std.specs.Prelude.{slice_get, nat_le, count_by}
 use Rattle.std.specs.List.{list_all, fold}
-use Rattle.std.proofs.lemmas.List.{get_or-set_other, get_or-set_same, length-set, drop_more}
-use Rattle.std.proofs.lemmas.Bool.{cases_order, leb-true}
+use Rattle.std.proofs.lemmas.List.{get_or-set_other, get_or-set_same, length-set, drop_more, take_all, drop_all, get_or_append_left}
+use Rattle.std.proofs.Math.Seq.{get_or-append_seam}
+use Rattle.std.proofs.lemmas.Grind.{take-set_at}
+use Rattle.std.proofs.lemmas.Bool.{cases_lt, cases_order, leb-true}
 use Rattle.std.proofs.lemmas.Bool.Decides.{nat_tests}
 use Rattle.std.specs.Cmp.{first_so, second_so}
 use Rattle.sal_history.specs.declared.call.Entry.{Entry}
@@ -14,7 +16,7 @@ use Rattle.sal_script.specs.Limits.{within_limits}
 use Rattle.sal_script.specs.Play.{Arrival, Client, Made, Played, Run, Stand, arrive, calls, cons_replies, ended, go, make, new_client, plain_world, replies_at, replies_of, stand_with, start, turn, turn_of}
 use Rattle.mdsal.specs.declared.run.Run.{Run as CodeRun}
 use Rattle.mdsal.specs.Clients.{client_of, IsSound}
-use Rattle.mdsal.specs.Runs.{AreRuns, GrowsBy, IsRun, replies_in, run_of, runs_of, stand_of}
+use Rattle.mdsal.specs.Runs.{AreRuns, Goes, GrowsBy, IsRun, Turns, replies_in, run_of, runs_of, stand_of}
 use Rattle.mdsal.proofs.Soundness.{IsSound-push}
 
 -- ---- by index
@@ -42,20 +44,16 @@ runs_of-set (q ∷ ps) (x ∷ rs) (suc i) p r long h at_p = ap (λ (us : List Ru
 -- ---- other clients
 
 other_client : (c n : ℕ) → (c ≡ n → ⊥) → nat_eq c n ≡ false
-other_client c n no = grind (arith, nat_tests)
+other_client c n apart_from = grind (arith, nat_tests)
 
 entries-other : (log : List Entry) (e : Entry) (n : ℕ) → (e.client ≡ n → ⊥) → entries_of (log ++ e ∷ []) n ≡ entries_of log n
-entries-other [] e n no = ap (λ b. cond b (1 + 0) 0) (other_client e.client n no)
-entries-other (x ∷ log) e n no =
-    elim (nat_eq x.client n) as (λ b. cond b (1 + entries_of (log ++ e ∷ []) n) (entries_of (log ++ e ∷ []) n) ≡ cond b (1 + entries_of log n) (entries_of log n)) [
-      | true ↦ ap (λ k. 1 + k) (entries-other log e n no)
-      | false ↦ entries-other log e n no
-    ]
+entries-other [] e n apart_from = rw (other_client e.client n apart_from) refl
+entries-other (x ∷ log) e n apart_from = ap (λ k. cond (nat_eq x.client n) 1 0 + k) (entries-other log e n apart_from)
 
 IsRun-other : (log : List Entry) (e : Entry) (p : List ScriptStep) (r : CodeRun) → (e.client ≡ r.client.number → ⊥) → IsRun log p r → IsRun (log ++ e ∷ []) p r
-IsRun-other log e p r no is = record {
+IsRun-other log e p r apart_from is = record {
   sound = IsSound-push log e r.client is.sound;
-  counted = is.counted ∙ sym (entries-other log e r.client.number no);
+  counted = is.counted ∙ sym (entries-other log e r.client.number apart_from);
   before = is.before;
   within = is.within;
   short = is.short;
@@ -63,7 +61,7 @@ IsRun-other log e p r no is = record {
 
 -- one client went on
 pub AreRuns-set : (log log' : List Entry) (ps : List (List ScriptStep)) (rs : List CodeRun) (c : ℕ) (p : List ScriptStep) (new : CodeRun) → AreRuns log ps rs → GrowsBy c log log' → c < length rs → p ≡ get_or ps c p → IsRun log' p new → new.client.number ≡ c → AreRuns log' ps (set rs c new)
-AreRuns-set log log' ps rs c p new are (e, (by, is)) h at_p run number = record {
+AreRuns-set log log' ps rs c p new are (e, by, is) h at_p run number = record {
   long = length-set rs c new ∙ are.long;
   each = λ i q r within at_q at_r.
       elim (cases_order i c) [
@@ -163,3 +161,44 @@ AreRuns-fresh ps rs limits long fresh = record {
       let short : length p ≤ 256 = leb-true (length p) 256 (all_at (λ (q : List ScriptStep). nat_le (length q) 256) ps i p (second_so (nat_le (length ps) 16) (list_all (λ (q : List ScriptStep). nat_le (length q) 256) ps) limits) (omega arith) at_p) in
       (record { sound = is.0.sound; counted = is.0.made; before = omega (arith, is.0.made, is.0.at); within = omega (arith, is.0.at); short = short }, is.1);
 }
+
+-- ---- what the simulation does
+
+pub turned : (made : Bool) (log log' : List Entry) (ps : List (List ScriptStep)) (rs : List CodeRun) (c : ℕ) (p : List ScriptStep) (old new : CodeRun) → AreRuns log ps rs → c < length rs → p ≡ get_or ps c p → old ≡ get_or rs c old → Goes made old.client.number log p old log' new → IsRun log' p new → new.client.number ≡ old.client.number → Turns made ps c log rs log' (set rs c new)
+turned true log log' ps rs c p old new are h at_p at_old goes run number =
+    let same = (are.each c p old h at_p at_old).1 in (
+      turn-made log log' ps rs c p old new are h at_p at_old (subst (λ n. go plain_world log n (run_of p old) ≡ Some (let made : Made = record { log = log'; run = run_of p new } in made)) same goes.0),
+      AreRuns-set log log' ps rs c p new are (subst (λ n. GrowsBy n log log') same goes.1) h at_p run (number ∙ same),
+    )
+turned false log log' ps rs c p old new are h at_p at_old goes run number = turn-ended log ps rs c p old (client_of new.client) are h at_p at_old goes.0
+
+-- where lists are the same from an index on, so is what stands there
+get_drop : {X : Type 0} (xs : List X) (i : ℕ) (d : X) → get_or (drop i xs) 0 d ≡ get_or xs i d
+get_drop xs zero d = refl
+get_drop [] (suc i) d = refl
+get_drop (x ∷ xs) (suc i) d = get_drop xs i d
+
+pub same_at : {X : Type 0} (xs ys : List X) (i : ℕ) (d : X) → drop i xs ≡ drop i ys → get_or xs i d ≡ get_or ys i d
+same_at xs ys i d e = sym (get_drop xs i d) ∙ ap (λ zs. get_or zs 0 d) e ∙ get_drop ys i d
+
+map_push : (rs : List CodeRun) (r : CodeRun) → map replies_in (rs ++ r ∷ []) ≡ map replies_in rs ++ replies_in r ∷ []
+map_push [] r = refl
+map_push (x ∷ rs) r = ap (λ (us : List (List Reply)). replies_in x ∷ us) (map_push rs r)
+
+pub replies_push : (rs : List CodeRun) (i : ℕ) (new : CodeRun) → i < length rs → map replies_in (take (i + 1) (set rs i new)) ≡ map replies_in (take i rs) ++ replies_in new ∷ []
+replies_push rs i new h = ap (map replies_in) (take-set_at rs i (i + 1) new refl h) ∙ map_push (take i rs) new
+
+pub all_ended : (log : List Entry) (ps : List (List ScriptStep)) (rs now : List CodeRun) (i : ℕ) → length rs ≤ i → length ps ≤ i → length now ≤ i → with_replies (map replies_in (take i now)) (replies_of plain_world log (runs_of (drop i ps) (drop i rs))) ≡ Some (map replies_in now)
+all_ended log ps rs now i h g k =
+    (λ j. with_replies (map replies_in (take_all i now k j)) (replies_of plain_world log (runs_of (drop_all i ps g j) (drop_all i rs h j)))) ∙ ap Some (append-nil (map replies_in now))
+
+-- one more client at its beginning
+pub fresh_more : (rs : List CodeRun) (new : CodeRun) → ((k : ℕ) (r : CodeRun) → k < length rs → r ≡ get_or rs k r → IsFresh r × (r.client.number ≡ k)) → IsFresh new → new.client.number ≡ length rs → (k : ℕ) (r : CodeRun) → k < length (rs ++ new ∷ []) → r ≡ get_or (rs ++ new ∷ []) k r → IsFresh r × (r.client.number ≡ k)
+fresh_more rs new each fresh number k r h at =
+    elim (cases_lt k (length rs)) [
+      | inl less ↦ each k r less (at ∙ get_or_append_left rs (new ∷ []) r k less)
+      | inr more ↦
+          let last : k ≡ length rs = omega (arith, length-append rs (new ∷ [])) in
+          let same : new ≡ r = sym (at ∙ ap (λ i. get_or (rs ++ new ∷ []) i r) last ∙ get_or-append_seam rs new [] r) in
+          (subst IsFresh same fresh, ap (λ (x : CodeRun). x.client.number) (sym same) ∙ number ∙ sym last)
+    ]

@@ -7,9 +7,9 @@ ghost use Rattle.sal_script.specs.Plain.{text_of_path};
 ghost use Rattle.sal_script.specs.Report as spec;
 
 use crate::values::cell_value;
-use crate::words::{kind_word, leaf_name, refusal_word, store_word};
-use sal_history::Reply;
-use sal_rows::Outcome;
+use crate::words::{kind_word, leaf_name, store_word};
+use sal_history::{Refusal, Reply};
+use sal_rows::{CallFault, Outcome};
 use sal_types::{NoMemory, Path, Row, Step};
 use serde_json::Value;
 use std::alloc::Global;
@@ -44,8 +44,26 @@ pub(crate) fn push_reply(alloc: Global, text: &mut String, reply: &Reply) -> Res
         Reply::Settled { outcome, .. } => push_outcome(alloc, text, outcome),
         Reply::Refused { refusal } => {
             text.push_str("refused ")?;
-            push_word(text, refusal_word(*refusal))
+            push_refusal(text, *refusal)
         }
+    }
+}
+
+fn push_refusal(text: &mut String, refusal: Refusal) -> Result<(), NoMemory>
+    ensures { OnOk result (string_bytes text.new ≡ string_bytes text.old ++ spec.refusal_text refusal) }
+{
+    match refusal {
+        Refusal::EmptySlot => push_word(text, "empty-slot"),
+        Refusal::ReadOnly => push_word(text, "read-only"),
+        Refusal::Shared { fault } => push_fault(text, fault),
+    }
+}
+
+fn push_fault(text: &mut String, fault: CallFault) -> Result<(), NoMemory>
+    ensures { OnOk result (string_bytes text.new ≡ string_bytes text.old ++ spec.fault_text fault) }
+{
+    match fault {
+        CallFault::NoDomain { id } => push_numbered(text, "no-domain", u64::from(id)),
     }
 }
 

@@ -1,9 +1,8 @@
 //! The words of a report.
 ghost use Rattle.std.specs.Prelude.{◌≡◌};
 ghost use Rattle.sal_script.specs.Plain.{last_name, leaf_name};
-ghost use Rattle.sal_script.specs.Report.{kind_text, refusal_text, store_text};
+ghost use Rattle.sal_script.specs.Report.{kind_text, store_text};
 
-use sal_history::Refusal;
 use sal_rows::ClashKind;
 use sal_types::{Path, Step, Store};
 
@@ -23,15 +22,6 @@ pub(crate) fn kind_word(kind: ClashKind) -> &'static str
         ClashKind::Changed => "changed",
         ClashKind::Created => "created",
         ClashKind::Deleted => "deleted",
-    }
-}
-
-pub(crate) fn refusal_word(refusal: Refusal) -> &'static str
-    ensures { result.now ≡ refusal_text refusal }
-{
-    match refusal {
-        Refusal::EmptySlot => "empty-slot",
-        Refusal::ReadOnly => "read-only",
     }
 }
 

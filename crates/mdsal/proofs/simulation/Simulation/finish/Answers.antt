@@ -1,0 +1,17 @@
+-- One client comes to its end.
+use Rattle.std.proofs.Common.{◌≡◌, ◌<◌, List, length, get_or, sym, ap, ◌∙◌, subst, arith}
+use Rattle.sal_history.specs.declared.call.Entry.{Entry}
+use Rattle.sal_script.specs.declared.script.ScriptStep.{ScriptStep}
+use Rattle.mdsal.specs.Runs.{IsRun}
+use Rattle.mdsal.proofs.Standing.{same_at}
+use Rattle.mdsal.proofs.simulation.Simulation.finish.Goals as goal
+
+pub go-requires-after_bounds : goal.go-requires-after_bounds
+go-requires-after_bounds g c κs _ =
+    let ps = c.args.programs.now in
+    let i = c.loop-i.i in
+    let p = c.items.result.now in
+    let r = c.index_mut-run.result.now in
+    let at_p : p ≡ get_or ps i p = c.items.ensures ∙ c.index-programs-i.is ∙ ap (λ (d : List ScriptStep). get_or ps i d) (sym c.items.ensures) in
+    let at_r : r ≡ get_or c.args.self.now.runs.items i r = c.index_mut-run.ensures.value ∙ same_at c.loop-i.self.runs.items c.args.self.now.runs.items i r c.loop-i.invariant.rest in
+    subst (λ (l : List Entry). IsRun l p r) (sym c.loop-i.invariant.log) (c.requires.each i p r (omega (arith, c.len-i-end.ensures)) at_p at_r).0

@@ -1,19 +1,13 @@
 -- The commit that a conflict names.
-use Rattle.std.proofs.Common.{◌≡◌, ℕ, zero, suc, ◌<◌, ◌≤◌, List, [], ◌∷◌, length, Option, None, Some, refl, sym, subst, arith}
+use Rattle.std.proofs.Common.{◌≡◌, ℕ, zero, suc, ◌<◌, ◌≤◌, [], ◌∷◌, length, Option, None, Some, refl, sym, subst, arith}
 use Rattle.std.specs.List.{All, Any, slice_index_or}
 use Rattle.std.proofs.lemmas.List.Elements.{All-cons, All-nil}
-use Rattle.sal_types.specs.declared.value.Store.{Store}
-use Rattle.sal_types.specs.declared.value.Step.{Step}
-use Rattle.sal_types.specs.declared.row.Row.{Row}
-use Rattle.sal_rows.specs.declared.op.Op.{Op}
-use Rattle.sal_rows.specs.declared.outcome.ClashKind.{ClashKind}
-use Rattle.sal_rows.specs.declared.outcome.Outcome.TheVariants.{Done, Conflict}
+use Rattle.sal_rows.specs.declared.outcome.Outcome.TheVariants.{Conflict}
 use Rattle.sal_rows.specs.Commits.{Span}
 use Rattle.sal_rows.specs.Clash.{Clash, clash, IsNamedIn}
 use Rattle.sal_rows.proofs.Named as rows
-use Rattle.sal_history.specs.declared.opening.Opening.{Opening}
 use Rattle.sal_history.specs.Trees.{opening_of}
-use Rattle.sal_history.specs.History.{Sent, outcome_by}
+use Rattle.sal_history.specs.History.{outcome_by}
 use Rattle.sal_history.specs.Laws.{ConflictsNameALaterCommit, IsLaterTouch}
 
 -- what holds of some element of a list of one holds of that one

@@ -11,9 +11,9 @@
 //! It keeps the list of calls and nothing else: every tree is computed from the opening, every conflict by looking
 //! through the later commits. `examples` has worked examples, each proved by computing it.
 //!
-//! A submission that is refused is told a later commit that touched what it writes: where it stands on one of the
-//! commits over which it is decided, the commit that its conflict names came after its base, is one of these, and
-//! touched the path (`laws::conflicts_name_a_later_commit`).
+//! A conflict names a later commit. In each log, the commit that a receipt's conflict names was done before that
+//! receipt, came after the base of its transaction, and touched the conflict's path
+//! (`laws::conflicts_name_a_later_commit`).
 #![tactic(auto)]
 
 pub mod call;

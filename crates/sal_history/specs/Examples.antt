@@ -1,7 +1,6 @@
 -- Worked examples: two clients, the leafs a and b of a container box, and the operations on them.
 use Rattle.std.specs.Prelude.{ℕ, List, [], ◌∷◌, codes, map}
 use Prim.Native.String.{String}
-use Rattle.sal_types.specs.declared.value.Store.{Store}
 use Rattle.sal_types.specs.declared.value.Store.TheVariants.{Config}
 use Rattle.sal_types.specs.declared.value.Atom.TheVariants.{Text}
 use Rattle.sal_types.specs.declared.value.Step.{Step}

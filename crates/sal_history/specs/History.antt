@@ -9,7 +9,7 @@ use Rattle.sal_rows.specs.declared.outcome.Outcome.{Outcome}
 use Rattle.sal_rows.specs.declared.outcome.Outcome.TheVariants.{Done, Conflict}
 use Rattle.sal_rows.specs.declared.outcome.CallFault.TheVariants.{NoDomain}
 use Rattle.sal_rows.specs.Apply.{apply_ops}
-use Rattle.sal_rows.specs.Commits.{Span, tree_after}
+use Rattle.sal_rows.specs.Commits.{tree_after}
 use Rattle.sal_rows.specs.Clash.{Clash, clash}
 use Rattle.sal_history.specs.declared.opening.Opening.{Opening}
 use Rattle.sal_history.specs.declared.call.Call.{Call}

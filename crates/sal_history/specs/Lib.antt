@@ -1,3 +1,4 @@
 pub mod Examples
 pub mod History
+pub mod Laws
 pub mod Trees

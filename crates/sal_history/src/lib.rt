@@ -5,14 +5,20 @@
 //! | `Call`, `Entry`, `Log` | a shared call; a call with its client; the calls in order |
 //! | `Reply`, `Refusal` | what a step is answered; why it made no call |
 //! | `Opening` | a domain's trees before the first commit |
+//! | `laws` | functions that do nothing, each with a law of the log's meaning as its contract |
 //!
 //! `specs/History` answers a log entry by entry: receipts, outcomes, commits, trees, base and view of a transaction.
 //! It keeps the list of calls and nothing else: every tree is computed from the opening, every conflict by looking
 //! through the later commits. `examples` has worked examples, each proved by computing it.
+//!
+//! A conflict names a later commit. In each log, the commit that a receipt's conflict names was done before that
+//! receipt, came after the base of its transaction, and touched the conflict's path
+//! (`laws::conflicts_name_a_later_commit`).
 #![tactic(auto)]
 
 pub mod call;
 pub mod examples;
+pub mod laws;
 pub mod opening;
 pub mod reply;
 

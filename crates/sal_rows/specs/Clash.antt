@@ -1,5 +1,5 @@
 -- Conflicts of a transaction with the commits that came after its base.
-use Rattle.std.specs.Prelude.{ℕ, Bool, not, ◌&&◌, List, [], ◌∷◌, ◌++◌, find, Option, None, if◌then◌else◌, unwrap_or}
+use Rattle.std.specs.Prelude.{◌≡◌, ℕ, ◌<◌, ◌≤◌, Bool, IsTrue, not, ◌&&◌, List, [], ◌∷◌, ◌++◌, find, All, Any, Option, None, Some, if◌then◌else◌, unwrap_or}
 use Rattle.std.specs.List.{list_any}
 use Rattle.std.specs.Option.{option_or, option_map}
 use Rattle.sal_types.specs.declared.value.Store.{Store}
@@ -9,7 +9,7 @@ use Rattle.sal_types.specs.Prefix.{is_prefix}
 use Rattle.sal_rows.specs.declared.op.Op.{Op}
 use Rattle.sal_rows.specs.declared.outcome.ClashKind.{ClashKind}
 use Rattle.sal_rows.specs.Apply.{same_store, checks_path}
-use Rattle.sal_rows.specs.Commits.{Span, is_unchanged, last_touch, kind_over}
+use Rattle.sal_rows.specs.Commits.{Span, touches_at, is_unchanged, last_touch, kind_over}
 
 -- a conflict: what differs, how, and the last commit that touched it
 pub record Clash : Type 0 where
@@ -41,3 +41,13 @@ module _ (opening : Store → List Row) (commits : List (List Op)) where
   -- the conflict of a transaction's operations, where foreign commits lie in these spans
   abbrev pub clash : List Span → List Op → Option Clash
   clash spans ops = clash_from spans [] ops
+
+  -- the commit that the conflict names lies in the span and touched the conflict's path
+  abbrev pub IsNamedIn : Clash → Span → Type 0
+  IsNamedIn c span = (span.from < c.commit) × (c.commit ≤ span.to) × IsTrue (touches_at opening commits c.store c.path c.commit)
+
+-- Each conflict, over spans whose ends are in order, names a commit of one of the spans that touched its path.
+abbrev pub NamesALaterCommit : Type 0
+NamesALaterCommit =
+    (opening : Store → List Row) (commits : List (List Op)) (spans : List Span) (ops : List Op) (c : Clash)
+    → All (λ span. span.from ≤ span.to) spans → clash opening commits spans ops ≡ Some c → Any (IsNamedIn opening commits c) spans

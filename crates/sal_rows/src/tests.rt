@@ -39,7 +39,28 @@ fn a_put_is_seen_in_its_store(rt: HostRuntime) -> Result<(), Fail> {
     assert_eq!(rt; tree.items().len(), 1);
     let other = apply(rt.alloc(), &start, Store::Oper, ops.as_slice())?;
     assert_eq!(rt; other.items().len(), 0);
-    let outcome = Outcome::Done { commit: 3 };
-    assert_eq!(rt; outcome.copy()? == outcome, true);
+    Ok(())
+}
+
+#[test]
+fn parts_and_copies_are_made(rt: HostRuntime) -> Result<(), Fail> {
+    let row = leaf(&rt, 1, "x")?;
+    let path = row.path.copy()?;
+    let tree = Rows::of_one(rt.alloc(), row)?;
+    let beside = leaf(&rt, 2, "y")?;
+    assert_eq!(rt; tree.copy()?.items().len(), 1);
+    assert_eq!(rt; tree.under(&path)?.items().len(), 1);
+    assert_eq!(rt; tree.under(&beside.path)?.items().len(), 0);
+    let merge = Act::Merge(tree);
+    assert_eq!(rt; merge.copy()?.rows().len(), 1);
+    let done = Outcome::Done { commit: 3 };
+    assert_eq!(rt; done.copy()? == done, true);
+    let conflict = Outcome::Conflict {
+        store: Store::Oper,
+        path,
+        kind: ClashKind::Deleted,
+        commit: 3,
+    };
+    assert_eq!(rt; conflict.copy()? == conflict, true);
     Ok(())
 }

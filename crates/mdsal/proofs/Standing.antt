@@ -4,6 +4,7 @@ use Rattle.std.specs.Prelude.{slice_get, nat_le, count_by}
 use Rattle.std.specs.List.{list_all, fold}
 use Rattle.std.proofs.lemmas.List.{get_or-set_other, get_or-set_same, length-set, drop_more, take_all, drop_all, get_or_append_left}
 use Rattle.std.proofs.Math.Seq.{get_or-append_seam}
+use Rattle.std.proofs.lemmas.List.Sums.{sum_by-append}
 use Rattle.std.proofs.lemmas.Grind.{take-set_at}
 use Rattle.std.proofs.lemmas.Bool.{cases_lt, cases_order, leb-true}
 use Rattle.std.proofs.lemmas.Bool.Decides.{nat_tests}
@@ -47,8 +48,9 @@ other_client : (c n : ℕ) → (c ≡ n → ⊥) → nat_eq c n ≡ false
 other_client c n apart_from = grind (arith, nat_tests)
 
 entries-other : (log : List Entry) (e : Entry) (n : ℕ) → (e.client ≡ n → ⊥) → entries_of (log ++ e ∷ []) n ≡ entries_of log n
-entries-other [] e n apart_from = rw (other_client e.client n apart_from) refl
-entries-other (x ∷ log) e n apart_from = ap (λ k. cond (nat_eq x.client n) 1 0 + k) (entries-other log e n apart_from)
+entries-other log e n apart_from =
+    let none : entries_of (e ∷ []) n ≡ 0 = rw (other_client e.client n apart_from) refl in
+    sum_by-append (λ (x : Entry). cond (nat_eq x.client n) 1 0) log (e ∷ []) ∙ omega (arith, none)
 
 IsRun-other : (log : List Entry) (e : Entry) (p : List ScriptStep) (r : CodeRun) → (e.client ≡ r.client.number → ⊥) → IsRun log p r → IsRun (log ++ e ∷ []) p r
 IsRun-other log e p r apart_from is = record {

@@ -5,4 +5,7 @@ pub mod Found
 pub mod Kept
 pub mod Runs
 pub mod Slots
+pub mod Statuses
+pub mod Top
 pub mod Views
+pub mod Words

@@ -1,4 +1,13 @@
-//! The data broker's command.
+//! The data broker's command: `mdsal sim` plays a script of clients over one broker and writes what each saw and what
+//! was committed.
+//!
+//! | module | what it has |
+//! |---|---|
+//! | `top` | the top call `mdsal`, which does all that the program does |
+//! | `words`, `status` | the forms of the command line; how the command ends |
+//! | `simulation`, `run`, `client` | a script in its order; a client's way to its next shared call; its slots and steps |
+//! | `transaction`, `slots` | an open transaction with its view; what slots hold |
+//! | `broker`, `decided`, `commit`, `conflict` | the log's replies; decisions; commits with their trees; conflicts |
 #![tactic(auto)]
 
 pub mod broker;
@@ -9,6 +18,46 @@ pub mod decided;
 pub mod run;
 pub mod simulation;
 pub mod slots;
+pub mod status;
+pub mod top;
 pub mod transaction;
+pub mod words;
 
-fn main() {}
+use crate::status::Status;
+use sal_io::{OpenGate, StdSink, StdSource};
+use sal_types::{NoMemory, Str};
+use std::env;
+use std::process::ExitCode;
+
+// The words behind the program's name. Arguments that are not text are one empty word, which is no form.
+fn words_of(rt: &HostRuntime) -> Result<Vec<Str>, NoMemory> {
+    let mut words = Vec::new(rt.alloc());
+    match env::args(rt) {
+        Ok(args) => {
+            for word in args.skip(1) {
+                words.push(Str::from_string(word))?;
+            }
+        }
+        Err(_) => words.push(Str::new(rt.alloc(), "")?)?,
+    }
+    Ok(words)
+}
+
+fn answer(rt: &HostRuntime) -> Status {
+    match words_of(rt) {
+        Ok(words) => {
+            let mut source = StdSource::new(rt.stdin());
+            let mut sink = StdSink::new(rt.stdout());
+            top::mdsal(rt.alloc(), &words, &mut source, &mut sink, &OpenGate)
+        }
+        Err(NoMemory) => Status::NoMemory,
+    }
+}
+
+fn main(rt: HostRuntime) -> ExitCode {
+    let status = answer(&rt);
+    if let Ok(line) = status.line(rt.alloc()) {
+        let _ = rt.eprint(line.as_str());
+    }
+    ExitCode::from(status.number())
+}

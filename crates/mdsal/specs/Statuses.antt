@@ -1,0 +1,24 @@
+-- The numbers and lines of the statuses.
+use Rattle.std.specs.Prelude.{ℕ, List, [], ◌∷◌, ◌++◌, codes, decimal}
+use Rattle.mdsal.specs.declared.status.Status.{Status}
+use Rattle.mdsal.specs.declared.status.Status.TheVariants.{Done, BadWords, ReadFault, WriteFault, TooLong, BadScript, BadOrder, NoMemory}
+
+abbrev pub number_of : Status → ℕ
+number_of Done = 0
+number_of BadWords = 2
+number_of ReadFault = 3
+number_of WriteFault = 4
+number_of TooLong = 5
+number_of (BadScript place) = 6
+number_of (BadOrder index) = 9
+number_of NoMemory = 10
+
+abbrev pub line_of : Status → List ℕ
+line_of Done = []
+line_of BadWords = codes "bad words\n"
+line_of ReadFault = codes "read fault\n"
+line_of WriteFault = codes "write fault\n"
+line_of TooLong = codes "too long\n"
+line_of (BadScript place) = codes "bad script at " ++ (place ++ 10 ∷ [])
+line_of (BadOrder index) = codes "bad order at " ++ (decimal index ++ 10 ∷ [])
+line_of NoMemory = codes "no memory\n"

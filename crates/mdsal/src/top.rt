@@ -1,0 +1,136 @@
+//! The top call: all that the command does.
+ghost use Rattle.std.specs.Prelude.{◌≡◌, ◌↔◌, None, IfOk};
+ghost use Rattle.sal_io.specs.Causes.{Rose};
+ghost use Rattle.mdsal.specs.Words.{form_of};
+ghost use Rattle.sal_script.specs.Play as play_spec;
+ghost use Rattle.sal_script.specs.Report as report_spec;
+ghost use Rattle.mdsal.specs.Top as spec;
+
+use crate::simulation::{PlayFault, Played, play};
+use crate::status::Status;
+use crate::words::{Form, form_of};
+use sal_io::{Gate, ReadFail, Sink, Source, read_all, write_all};
+use sal_report::report;
+use sal_script::{Script, ScriptFault, read_script};
+use sal_types::{NoMemory, Str};
+use std::alloc::Global;
+
+/// How many bytes a script has at most.
+pub const LIMIT: usize = 16777216;
+
+/// The help text.
+pub const HELP: &str = "mdsal: an SDN controller's data broker, run from a script\n\
+\n\
+usage: mdsal sim < SCRIPT\n\
+       mdsal --help | --version\n\
+\n\
+sim reads a JSON script from standard input, plays its clients' steps in the script's order on one thread, and\n\
+writes the report to standard output: the order, a line for each step, and the trees at the end. The script's\n\
+format is written in docs/DEFINITIONS.md, and examples/ has scripts with their reports.\n\
+\n\
+exit status, each but 0 with its line on standard error:\n\
+  0  done: the whole text was written\n\
+  2  bad words: the command line is none of the forms above\n\
+  3  read fault\n\
+  4  write fault: a front of the text may have been written\n\
+  5  too long: the input has more than 16777216 bytes\n\
+  6  bad script at PLACE: the first bad place, as clients/0/2\n\
+  9  bad order at INDEX: the order names a client without a shared call left, or ends too early\n\
+ 10  no memory\n";
+
+/// The name and version.
+pub const VERSION: &str = "mdsal 0.1.0\n";
+
+/// Runs the command: the words of its command line, its input, its output, and the gate that a client passes before
+/// each of its steps.
+pub fn mdsal<S: Source, K: Sink, G: Gate>(
+    alloc: Global,
+    words: &[Str],
+    source: &mut S,
+    sink: &mut K,
+    gate: &G,
+) -> Status
+    ensures words { (result ≡ Status.BadWords) ↔ (form_of words.now ≡ None) }
+    ensures read_fault { result ≡ Status.ReadFault → Rose (S.faults source.old) (S.faults source.new) }
+    ensures write_fault { result ≡ Status.WriteFault → Rose (K.faults sink.old) (K.faults sink.new) }
+    ensures answer { spec.Answers (form_of words.now) (S.left source.old) (S.left source.new) (K.taken sink.old) (K.taken sink.new) result }
+{
+    match form_of(words) {
+        None => Status::BadWords,
+        Some(Form::Sim) => simulate(alloc, source, sink, gate),
+        Some(Form::Help) => write_text(sink, HELP),
+        Some(Form::Version) => write_text(sink, VERSION),
+    }
+}
+
+// Reads the script, plays it, and writes the report.
+fn simulate<S: Source, K: Sink, G: Gate>(
+    alloc: Global,
+    source: &mut S,
+    sink: &mut K,
+    gate: &G,
+) -> Status
+    ensures read_fault { result ≡ Status.ReadFault → Rose (S.faults source.old) (S.faults source.new) }
+    ensures write_fault { result ≡ Status.WriteFault → Rose (K.faults sink.old) (K.faults sink.new) }
+    ensures answer { spec.SimAnswers (S.left source.old) (S.left source.new) (K.taken sink.old) (K.taken sink.new) result }
+{
+    match read_all(alloc, source, LIMIT) {
+        Err(ReadFail::ReadFault) => Status::ReadFault,
+        Err(ReadFail::TooLong) => Status::TooLong,
+        Err(ReadFail::NoMemory) => Status::NoMemory,
+        Ok(bytes) => match sim_text(alloc, &bytes, gate) {
+            Ok(text) => write_text(sink, text.as_str()),
+            Err(status) => status,
+        },
+    }
+}
+
+// The report of the script that the bytes stand for.
+fn sim_text<G: Gate>(alloc: Global, bytes: &[u8], gate: &G) -> Result<Str, Status>
+    ensures { spec.IsTextOr (spec.sim_text bytes.now) result }
+{
+    match read_script(alloc, bytes) {
+        Ok(script) => play_text(alloc, &script, gate),
+        Err(ScriptFault::BadScript { place }) => Err(Status::BadScript { place }),
+        Err(ScriptFault::NoMemory) => Err(Status::NoMemory),
+    }
+}
+
+// The report of the script.
+fn play_text<G: Gate>(alloc: Global, script: &Script, gate: &G) -> Result<Str, Status>
+    ensures { spec.IsTextOr (spec.text_of_play (play_spec.play script.now.clients script.now.order)) result }
+{
+    match play(alloc, script, gate) {
+        Ok(played) => match report_of(alloc, &played) {
+            Ok(text) => Ok(text),
+            Err(NoMemory) => Err(Status::NoMemory),
+        },
+        Err(PlayFault::BadOrder { index }) => Err(Status::BadOrder { index }),
+        Err(PlayFault::NoMemory) => Err(Status::NoMemory),
+    }
+}
+
+fn report_of(alloc: Global, played: &Played) -> Result<Str, NoMemory>
+    ensures { IfOk result (λ text. text ≡ report_spec.report (record { log = played.now.broker; replies = played.now.replies })) }
+{
+    let (config, oper) = played.broker.trees();
+    report(
+        alloc,
+        played.broker.log(),
+        played.replies.items(),
+        played.broker.newest(),
+        config,
+        oper,
+    )
+}
+
+// Writes the text.
+fn write_text<K: Sink>(sink: &mut K, text: &str) -> Status
+    ensures write_fault { result ≡ Status.WriteFault → Rose (K.faults sink.old) (K.faults sink.new) }
+    ensures written { spec.Written text.now (K.taken sink.old) (K.taken sink.new) result }
+{
+    match write_all(sink, text.as_bytes()) {
+        Ok(()) => Status::Done,
+        Err(_) => Status::WriteFault,
+    }
+}

@@ -64,7 +64,7 @@ partly-none s d rows es left none is h = subst (λ (fs : Entries). IsPartly s d 
 })
 
 -- a node with rows is filled
-filled-rows : (c : Option Cell) (f : Forest) (row : Row) (rows : List Row) → here c ++ rows_in f ≡ row ∷ rows → T (is_filled c f)
+pub filled-rows : (c : Option Cell) (f : Forest) (row : Row) (rows : List Row) → here c ++ rows_in f ≡ row ∷ rows → T (is_filled c f)
 filled-rows (Some c) f row rows e = tt
 filled-rows None bare row rows e = cc
 filled-rows None (grown x s c ks rest) row rows e = tt

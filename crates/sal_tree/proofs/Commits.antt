@@ -1,5 +1,5 @@
 -- The operations of a commit, one after another with one stamp.
-use Rattle.std.proofs.Common.{◌≡◌, ℕ, Bool, true, false, List, [], ◌∷◌, ◌&&◌, ◌||◌, Option, Some, None, refl, ap, sym, ◌∙◌, if◌then◌else◌}
+use Rattle.std.proofs.Common.{◌≡◌, ℕ, Bool, true, false, List, [], ◌∷◌, ◌++◌, ◌&&◌, ◌||◌, Option, Some, None, refl, ap, sym, ◌∙◌, if◌then◌else◌}
 use Rattle.std.specs.Prelude.{is_some}
 use Rattle.std.specs.List.{list_any}
 use Rattle.std.specs.Option.{option_or}
@@ -132,3 +132,32 @@ itself Oper = refl
 pub rows-act : (s : ℕ) (store : Store) (t : Tree) (p : List Step) (act : Act) → IsGrove t.kids → IsLawful p act → AreRows act → rows_of (edit_by s t p act) ≡ apply_ops (rows_of t) store (one_op store p act)
 rows-act s store t p act h lawful rises =
     sym (ap (λ b. rows_of (if b then edit_by s t p act else t)) (itself store)) ∙ rows-edits s store (one_op store p act) t h ((lawful, rises), tt)
+
+-- the cell after a transaction of one act
+pub cell-one_op : (store : Store) (p : List Step) (act : Act) (before : List Row) (q : List Step) → cell_by (act_setting p act q) (cell before q) ≡ cell_after before store (one_op store p act) q
+cell-one_op store p act before q = ap (λ b. cell_by (if b then act_setting p act q else None) (cell before q)) (sym (itself store))
+
+-- A tree that follows the one before a commit's operations, and one that follows it by one more.
+pub Follows-next : (P : ℕ → Type 0) (s : Store) (ops : List Op) (op : Op) (t u v : Tree) → IsGrove t.kids → IsGrove u.kids → same_store op.store s ≡ true → Follows P (touches (rows_of t) s ops) t u → Follows P (op_touches (rows_of u) op) u v
+    → Follows P (touches (rows_of t) s (ops ++ op ∷ [])) t v
+Follows-next P s ops op t u v g h same before next =
+    Follows-by P (λ q. touches (rows_of t) s ops q || op_touches (rows_of u) op q) (touches (rows_of t) s (ops ++ op ∷ [])) t v (λ q.
+    elim (touches (rows_of t) s ops q) as (λ b. touches (rows_of t) s ops q ≡ b → (b || op_touches (rows_of u) op q) ≡ (b || (op_touches (rows_of t) op q))) [
+      | true ↦ λ b. refl
+      | false ↦ λ b. op_touches-same t u op q g h (before.kept q b)
+    ] refl
+    ∙ sym (touches-more ops q))
+    (Follows-then P (touches (rows_of t) s ops) (op_touches (rows_of u) op) t u v before next)
+  where
+    or_assoc : (a b c : Bool) → (a || (b || c)) ≡ ((a || b) || c)
+    or_assoc true b c = refl
+    or_assoc false b c = refl
+
+    last_one : (b c : Bool) → b ≡ true → ((b && c) || false) ≡ c
+    last_one true true e = refl
+    last_one true false e = refl
+    last_one false c e = cc
+
+    touches-more : (os : List Op) (q : List Step) → touches (rows_of t) s (os ++ op ∷ []) q ≡ (touches (rows_of t) s os q || op_touches (rows_of t) op q)
+    touches-more [] q = last_one (same_store op.store s) (op_touches (rows_of t) op q) same
+    touches-more (o ∷ os) q = ap (λ b. (same_store o.store s && op_touches (rows_of t) o q) || b) (touches-more os q) ∙ or_assoc (same_store o.store s && op_touches (rows_of t) o q) (touches (rows_of t) s os q) (op_touches (rows_of t) op q)

@@ -24,7 +24,7 @@ some_same : (a b : Tree) → Some a ≡ Some b → a ≡ b
 some_same a b e = cc
 
 -- below the root a tree is its node
-at-root_of : (s : ℕ) (o : Option Tree) (x : Step) (p : List Step) → at (Some (root_of s o)) (x ∷ p) ≡ at o (x ∷ p)
+pub at-root_of : (s : ℕ) (o : Option Tree) (x : Step) (p : List Step) → at (Some (root_of s o)) (x ∷ p) ≡ at o (x ∷ p)
 at-root_of s None x p = refl
 at-root_of s (Some t) x p = refl
 
@@ -43,7 +43,7 @@ stamped-grow s o q [] new h last n e = last n (sym (at-through s o q [] new h) �
 stamped-grow s o q (x ∷ r) new h last n e = stamped-standing s _ _ n (sym (at-through s o q (x ∷ r) new h) ∙ e)
 
 -- the same at the root of the tree
-stamped-grown : (s : ℕ) (t : Tree) (p q : List Step) (new : Option Tree) → IsGrove t.kids → ((n : Tree) → new ≡ Some n → n.stamp ≡ s) → is_prefix q p ≡ true → (n : Tree) → at (Some (root_of s (grow s (Some t) p new))) q ≡ Some n → n.stamp ≡ s
+pub stamped-grown : (s : ℕ) (t : Tree) (p q : List Step) (new : Option Tree) → IsGrove t.kids → ((n : Tree) → new ≡ Some n → n.stamp ≡ s) → is_prefix q p ≡ true → (n : Tree) → at (Some (root_of s (grow s (Some t) p new))) q ≡ Some n → n.stamp ≡ s
 stamped-grown s t p [] new h last e n stands = stamped-root_of s (grow s (Some t) p new) (stamped-grow s (Some t) [] p new h last) n stands
 stamped-grown s t p (x ∷ q) new h last e n stands =
     let rest = IsPrefix-from_test (x ∷ q) p e in
@@ -87,7 +87,7 @@ Follows-row s t row h = record {
   kept = λ q e. kept-row s t row q h e;
 }
 
-sound-root_of : (s : ℕ) (o : Option Tree) → IsSound o → IsGrove (root_of s o).kids
+pub sound-root_of : (s : ℕ) (o : Option Tree) → IsSound o → IsGrove (root_of s o).kids
 sound-root_of s None h = tt
 sound-root_of s (Some t) h = h
 

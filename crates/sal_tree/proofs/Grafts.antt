@@ -9,11 +9,12 @@ use Rattle.sal_types.specs.Prefix.{is_prefix}
 use Rattle.sal_rows.specs.declared.op.Op.{Op}
 use Rattle.sal_rows.specs.Apply.{act_setting, cell_by, apply_ops, rows_of_act, same_store, last_setting}
 use Rattle.sal_rows.specs.Touch.{op_touches, touches}
-use Rattle.sal_rows.proofs.Applied.{apply_ops-unique}
+use Rattle.sal_rows.proofs.Applied.{apply_ops-unique, cell-apply_ops}
 use Rattle.sal_node.specs.Tree.{Tree, IsGrove}
+use Rattle.sal_types.specs.Tree.{cell}
 use Rattle.sal_tree.specs.Grow.{cell_in}
 use Rattle.sal_tree.specs.Rows.{rows_of}
-use Rattle.sal_tree.specs.Follows.{Agree, HasNo}
+use Rattle.sal_tree.specs.Follows.{Follows, exactly, Agree, HasNo}
 use Rattle.sal_tree.specs.Edit.{edits}
 use Rattle.sal_tree.specs.Graft.{IsGrafted, CanGraft}
 use Rattle.sal_tree.proofs.Cells.{cell-rows_of, ascending-rows_of}
@@ -73,15 +74,15 @@ untouched-below before s ops r w e = elim (touches before s ops (r ++ w)) as (λ
 ] refl
 
 -- what holds of a submission whose check found no clash
-pub can-graft : (own : ℕ) (s : Store) (ops : List Op) (base tip : Tree) → IsGrove base.kids → IsGrove tip.kids → AreLawful ops → Agree base tip → HasNo own base → IsQuiet s ops (rows_of base) (rows_of tip)
-    → CanGraft own (last_setting s ops) (touches (rows_of base) s ops) (Some base) (Some (edits own s base ops)) (Some tip)
-can-graft own s ops base tip g h lawful agree no_own quiet =
-    let view = Follows-edits own s ops base g lawful in
+pub can-graft : (own : ℕ) (s : Store) (ops : List Op) (base view tip : Tree) → IsGrove base.kids → IsGrove view.kids → IsGrove tip.kids → AreLawful ops
+    → Follows (exactly own) (touches (rows_of base) s ops) base view → rows_of view ≡ apply_ops (rows_of base) s ops → Agree base tip → HasNo own base → IsQuiet s ops (rows_of base) (rows_of tip)
+    → CanGraft own (last_setting s ops) (touches (rows_of base) s ops) (Some base) (Some view) (Some tip)
+can-graft own s ops base view tip g k h lawful follows made agree no_own quiet =
     let same : (q : List Step) → touches (rows_of base) s ops q ≡ touches (rows_of tip) s ops q = λ q. touches-quiet s ops (rows_of base) (rows_of tip) q (ascending-rows_of base g) (ascending-rows_of tip h) quiet in
     record {
-      view_cells = λ r. sym (cell-rows_of (edits own s base ops) (sound-edits own s ops base g) r) ∙ cell-edits own s ops base r g lawful ∙ ap (cell_by (last_setting s ops r)) (cell-rows_of base g r);
-      view_stamped = view.stamped;
-      view_kept = view.kept;
+      view_cells = λ r. sym (cell-rows_of view k r) ∙ ap (λ l. cell l r) made ∙ cell-apply_ops (rows_of base) s ops r ∙ ap (cell_by (last_setting s ops r)) (cell-rows_of base g r);
+      view_stamped = follows.stamped;
+      view_kept = follows.kept;
       base_other = no_own;
       agree = agree;
       unset = λ r e.

@@ -89,7 +89,7 @@ low-root_of n s None h = omega arith
 low-root_of n s (Some t) h = h
 
 -- the tree with a node grown at a path, where the old tree stood so low
-low-grown : (s : ℕ) (t : Tree) (p : List Step) (new : Option Tree) → height t.kids ≤ 32 → length p ≤ 32 → IsLow (32 - length p) new → height (root_of s (grow s (Some t) p new)).kids ≤ 32
+pub low-grown : (s : ℕ) (t : Tree) (p : List Step) (new : Option Tree) → height t.kids ≤ 32 → length p ≤ 32 → IsLow (32 - length p) new → height (root_of s (grow s (Some t) p new)).kids ≤ 32
 low-grown s t p new h l g = low-root_of 32 s _ (low-grow 32 (32 - length p) s (Some t) p new (omega arith) h g)
 
 pub whole-with_row : (s : ℕ) (t : Tree) (row : Row) → IsWhole t → length row.path ≤ 32 → IsWhole (with_row s t row)

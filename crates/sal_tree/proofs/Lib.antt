@@ -17,3 +17,4 @@ pub mod Chains
 pub mod Wholes
 pub mod Runs
 pub mod Builds
+pub mod Putting

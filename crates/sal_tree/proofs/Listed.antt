@@ -21,7 +21,7 @@ use Rattle.sal_tree.proofs.Laws.{at-through, at-beside, at-append, at-end, is_pr
 use Rattle.sal_tree.proofs.Cells.{cell-rows_of, ascending-rows_of}
 use Rattle.sal_tree.proofs.Edited.{kept-row, cleared_below, none-below, sound-with_row, sound-without}
 
-cell-root_of : (s : ℕ) (o : Option Tree) (q : List Step) → cell_in (at (Some (root_of s o)) q) ≡ cell_in (at o q)
+pub cell-root_of : (s : ℕ) (o : Option Tree) (q : List Step) → cell_in (at (Some (root_of s o)) q) ≡ cell_in (at o q)
 cell-root_of s None [] = refl
 cell-root_of s (Some t) [] = refl
 cell-root_of s None (x ∷ q) = refl
@@ -33,7 +33,7 @@ cell-standing s None (e ∷ es) = refl
 cell-standing s (Some c) es = refl
 
 -- above the end of the path
-cell-above : (s : ℕ) (o : Option Tree) (q : List Step) (x : Step) (r : List Step) (new : Option Tree) → IsSound o → cell_in (at (grow s o (q ++ x ∷ r) new) q) ≡ cell_in (at o q)
+pub cell-above : (s : ℕ) (o : Option Tree) (q : List Step) (x : Step) (r : List Step) (new : Option Tree) → IsSound o → cell_in (at (grow s o (q ++ x ∷ r) new) q) ≡ cell_in (at o q)
 cell-above s o q x r new h = ap cell_in (at-through s o q (x ∷ r) new h) ∙ cell-standing s (cell_in (at o q)) _
 
 longer : (q : List Step) (x : Step) (r : List Step) → path_eq q (q ++ x ∷ r) ≡ false

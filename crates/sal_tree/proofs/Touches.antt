@@ -44,7 +44,7 @@ not_tied : (x y : Step) (b : Bool) → (eq x y ≡ true → b ≡ true) → b �
 not_tied x y b h e = elim (eq x y) as (λ c. (c ≡ true → b ≡ true) → c ≡ false) [ true ↦ λ f. let t = f refl in cc | false ↦ λ f. refl ] h
 
 -- two paths that begin one path: one of them begins the other
-both_begin : (p q r : List Step) → (is_prefix q r && is_prefix p r) ≡ ((is_prefix p q && is_prefix q r) || (is_prefix q p && is_prefix p r))
+pub both_begin : (p q r : List Step) → (is_prefix q r && is_prefix p r) ≡ ((is_prefix p q && is_prefix q r) || (is_prefix q p && is_prefix p r))
 both_begin [] [] r = refl
 both_begin [] (y ∷ q) [] = refl
 both_begin [] (y ∷ q) (z ∷ r) = elim (is_prefix (y ∷ q) (z ∷ r)) as (λ b. (b && true) ≡ (b || false)) [ true ↦ refl | false ↦ refl ]

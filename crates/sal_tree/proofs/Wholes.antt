@@ -60,11 +60,11 @@ stamps-made s rows p n e =
     ] refl
 
 -- the rows below a path
-from_path-root : (rows : List Row) → from_path [] rows ≡ rows
+pub from_path-root : (rows : List Row) → from_path [] rows ≡ rows
 from_path-root [] = refl
 from_path-root (r ∷ rows) = ap (λ (l : List Row). r ∷ l) (from_path-root rows)
 
-from_path-below : (x : Step) (p : List Step) (rows : List Row) → from_path (x ∷ p) rows ≡ below x (from_path p rows)
+pub from_path-below : (x : Step) (p : List Step) (rows : List Row) → from_path (x ∷ p) rows ≡ below x (from_path p rows)
 from_path-below x p [] = refl
 from_path-below x p (r ∷ rows) = ap (λ (l : List Row). record { path = x ∷ (p ++ r.path); cell = r.cell } ∷ l) (from_path-below x p rows)
 

@@ -1,8 +1,8 @@
 //! Trees after one operation.
-ghost use Rattle.std.specs.Prelude.{◌≡◌, List, IfOk, Some};
+ghost use Rattle.std.specs.Prelude.{◌≡◌, ◌<◌, List, length, IfOk, Some};
 ghost use Rattle.sal_types.specs.declared.value.Step.{Step};
 ghost use Rattle.sal_types.specs.declared.value.Store.{Store};
-ghost use Rattle.sal_types.specs.Tree.{cell, under};
+ghost use Rattle.sal_types.specs.Tree.{cell, under, IsAscending};
 ghost use Rattle.sal_rows.specs.Apply.{act_setting, cell_by, apply_ops};
 ghost use Rattle.sal_rows.specs.declared.op.Act.TheVariants.{Put, Merge, Delete};
 ghost use Rattle.sal_node.specs.Shape.{tree_at, tree_in};
@@ -12,6 +12,7 @@ ghost use Rattle.sal_tree.specs.Follows.{Follows, exactly};
 ghost use Rattle.sal_tree.specs.Touched.{act_touches, one_op};
 ghost use Rattle.sal_tree.specs.Edit.{with_row, with_rows, without, kids_at, root_of};
 
+use crate::building::build;
 use crate::growth::grown;
 use crate::root::Root;
 use sal_node::Node;
@@ -31,8 +32,11 @@ impl Root {
         ensures stamps { IfOk result (λ r. Follows (exactly stamp) (act_touches (rows_of self.now) path.now (Put rows.now)) self.now r) }
     {
         let _ = self.node();
-        let cleared = self.cleared(alloc, path, stamp)?;
-        let after = cleared.with_rows(alloc, rows.items(), stamp)?;
+        if rows.items().is_empty() {
+            let after = self.cleared(alloc, path, stamp)?;
+            return Ok(after);
+        }
+        let after = self.with_built(alloc, path, rows.items(), stamp)?;
         Ok(after)
     }
 
@@ -80,6 +84,30 @@ impl Root {
             return Ok(same);
         }
         let node = grown(alloc, Some(self.node()), path.steps(), None, stamp)?;
+        let node = rooted(alloc, node, stamp)?;
+        Ok(Root::from_node(node))
+    }
+
+    // The tree with a node made of the rows in place of the one at the path.
+    fn with_built(
+        &self,
+        alloc: Global,
+        path: &Path,
+        rows: &[Row],
+        stamp: u64,
+    ) -> Result<Root, NoMemory>
+        requires some { 0 < length rows.now }
+        requires under { under rows.now path.now ≡ rows.now }
+        requires order { IsAscending rows.now }
+        ensures cells { IfOk result (λ r. (q : List Step) → cell (rows_of r) q ≡ cell_by (act_setting path.now (Put rows.now) q) (cell (rows_of self.now) q)) }
+        ensures rows { IfOk result (λ r. (s : Store) → rows_of r ≡ apply_ops (rows_of self.now) s (one_op s path.now (Put rows.now))) }
+        ensures stamps { IfOk result (λ r. Follows (exactly stamp) (act_touches (rows_of self.now) path.now (Put rows.now)) self.now r) }
+    {
+        let _ = self.node();
+        let steps = path.steps();
+        let built = build(alloc, rows, steps.len(), stamp)?;
+        let built = Arc::new(alloc, built)?;
+        let node = grown(alloc, Some(self.node()), steps, Some(built), stamp)?;
         let node = rooted(alloc, node, stamp)?;
         Ok(Root::from_node(node))
     }

@@ -1,2 +1,3 @@
 pub mod Named
 pub mod Receipts
+pub mod Writes

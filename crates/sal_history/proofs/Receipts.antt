@@ -22,8 +22,9 @@ use Rattle.sal_history.specs.declared.call.Entry.{Entry}
 use Rattle.sal_history.specs.declared.reply.Reply.TheVariants.{Begun, Refused}
 use Rattle.sal_history.specs.declared.reply.Refusal.TheVariants.{Shared}
 use Rattle.sal_history.specs.History.{Answered, Base, Sent, answer, began, began_at, commits, decide_front, decide_next, decided_by, done_ops, is_live, ops_if_done, outcome, outcomes, reply_to, sent_by, sents}
-use Rattle.sal_history.specs.Laws.{ConflictsOfALogNameALaterCommit, IsLaterTouch}
+use Rattle.sal_history.specs.Laws.{ConflictsOfALogNameALaterCommit, ConflictsOfALogNameAnOwnWrite, IsLaterTouch, IsOwnWrite}
 use Rattle.sal_history.proofs.Named.{named}
+use Rattle.sal_history.proofs.Writes.{own_write}
 
 -- ---- lists
 
@@ -61,6 +62,7 @@ record Known (world : List Opening) (ss : List Sent) (os : List Outcome) : Type 
   within : length os ≤ length ss
   bases : (i : ℕ) (s : Sent) → slice_get ss i ≡ Some s → s.base.commit ≤ length (done_ops s.base.domain ss os)
   conflicts : (i : ℕ) (s : Sent) (store : Store) (path : List Step) (kind : ClashKind) (commit : ℕ) → slice_get ss i ≡ Some s → slice_get os i ≡ Some (Conflict store path kind commit) → IsLaterTouch world (done_ops s.base.domain ss (take i os)) s store path commit
+  own : (i : ℕ) (s : Sent) (store : Store) (path : List Step) (kind : ClashKind) (commit : ℕ) → slice_get ss i ≡ Some s → slice_get os i ≡ Some (Conflict store path kind commit) → IsOwnWrite s store path
 
 module _ (world : List Opening) where
   -- one submission more
@@ -73,6 +75,7 @@ module _ (world : List Opening) where
             let decided : i < length os = slice_get_within os i (Conflict store path kind commit) is in
             let short : length (take i os) ≤ length ss = omega (arith, length-take i os, was.within) in
             subst (λ (cs : List (List Op)). IsLaterTouch world cs t store path commit) (sym (done_ops-more t.base.domain ss s (take i os) short)) (was.conflicts i t store path kind commit (old_at i t decided at) is);
+        own = λ i t store path kind commit at is. was.own i t store path kind commit (old_at i t (slice_get_within os i (Conflict store path kind commit) is) at) is;
       }
     where
       base_of : (i : ℕ) (t : Sent) → slice_get (ss ++ s ∷ []) i ≡ Some t → t.base.commit ≤ length (done_ops t.base.domain ss os)
@@ -103,6 +106,10 @@ module _ (world : List Opening) where
               let front : take i (os ++ o ∷ []) ≡ os = ap (λ k. take k (os ++ o ∷ [])) w.0 ∙ take-append_seam os (o ∷ []) in
               let own : IsLaterTouch world (done_ops s.base.domain ss os) s store path commit = named world (done_ops s.base.domain ss os) s store path kind commit (was.bases (length os) s next) w.1 in
               subst (λ (ps : List Outcome). IsLaterTouch world (done_ops t.base.domain ss ps) t store path commit) (sym front) (subst (λ (u : Sent). IsLaterTouch world (done_ops u.base.domain ss os) u store path commit) same own)
+        ];
+        own = λ i t store path kind commit at is. elim (last_or_before os o (Conflict store path kind commit) i is) [
+          | inl old ↦ was.own i t store path kind commit at old
+          | inr w ↦ subst (λ (u : Sent). IsOwnWrite u store path) (same_Some s t (sym next ∙ ap (slice_get ss) (sym w.0) ∙ at)) (own_write world (done_ops s.base.domain ss os) s store path kind commit w.1)
         ];
       }
     where
@@ -191,9 +198,12 @@ module _ (world : List Opening) where
   IsSound-nothing : IsSound []
   IsSound-nothing =
       record {
-        known = record { within = omega arith; bases = λ i s at. cc; conflicts = λ i s store path kind commit at is. cc };
+        known = record { within = omega arith; bases = λ i s at. cc; conflicts = λ i s store path kind commit at is. cc; own = λ i s store path kind commit at is. cc };
         begun = λ place b at. cc;
       }
 
 pub named_in_log : ConflictsOfALogNameALaterCommit
 named_in_log world log i s store path kind commit at is = (IsSound-fold world [] log (IsSound-nothing world)).known.conflicts i s store path kind commit at is
+
+pub own_in_log : ConflictsOfALogNameAnOwnWrite
+own_in_log world log i s store path kind commit at is = (IsSound-fold world [] log (IsSound-nothing world)).known.own i s store path kind commit at is

@@ -1,10 +1,11 @@
 -- What a conflict names.
-use Rattle.std.specs.Prelude.{◌≡◌, ℕ, ◌<◌, ◌≤◌, List, length, take, Some, IsTrue, slice_get}
+use Rattle.std.specs.Prelude.{◌≡◌, ℕ, ◌<◌, ◌≤◌, List, length, take, Some, Any, IsTrue, slice_get}
 use Rattle.sal_types.specs.declared.value.Store.{Store}
 use Rattle.sal_types.specs.declared.value.Step.{Step}
 use Rattle.sal_rows.specs.declared.op.Op.{Op}
 use Rattle.sal_rows.specs.declared.outcome.ClashKind.{ClashKind}
 use Rattle.sal_rows.specs.declared.outcome.Outcome.TheVariants.{Conflict}
+use Rattle.sal_rows.specs.Apply.{checks_path}
 use Rattle.sal_rows.specs.Commits.{touches_at}
 use Rattle.sal_history.specs.declared.opening.Opening.{Opening}
 use Rattle.sal_history.specs.Trees.{opening_of}
@@ -33,3 +34,13 @@ ConflictsOfALogNameALaterCommit =
     (world : List Opening) (log : List Entry) (i : ℕ) (s : Sent) (store : Store) (path : List Step) (kind : ClashKind) (commit : ℕ)
     → slice_get (sents (history world log)) i ≡ Some s → slice_get (outcomes (history world log)) i ≡ Some (Conflict store path kind commit)
     → IsLaterTouch world (commits_before (history world log) i s.base.domain) s store path commit
+
+-- the path is that of one of the submission's puts or deletes, in that store
+abbrev pub IsOwnWrite : Sent → Store → List Step → Type 0
+IsOwnWrite s store path = Any (λ (op : Op). (op.store ≡ store) × (op.path ≡ path) × IsTrue (checks_path op.act)) s.ops
+
+-- Each receipt of a log that was decided as a conflict names a path that its transaction puts or deletes.
+abbrev pub ConflictsOfALogNameAnOwnWrite : Type 0
+ConflictsOfALogNameAnOwnWrite =
+    (world : List Opening) (log : List Entry) (i : ℕ) (s : Sent) (store : Store) (path : List Step) (kind : ClashKind) (commit : ℕ)
+    → slice_get (sents (history world log)) i ≡ Some s → slice_get (outcomes (history world log)) i ≡ Some (Conflict store path kind commit) → IsOwnWrite s store path

@@ -1,5 +1,5 @@
 //! Laws of the log's meaning. Each function does nothing; its contract is the law.
-ghost use Rattle.sal_history.specs.Laws.{ConflictsNameALaterCommit, ConflictsOfALogNameALaterCommit};
+ghost use Rattle.sal_history.specs.Laws.{ConflictsNameALaterCommit, ConflictsOfALogNameALaterCommit, ConflictsOfALogNameAnOwnWrite};
 
 /// A conflict names a later commit that touched its path.
 ///
@@ -9,4 +9,10 @@ ghost use Rattle.sal_history.specs.Laws.{ConflictsNameALaterCommit, ConflictsOfA
 pub fn conflicts_name_a_later_commit()
     ensures decision { ConflictsNameALaterCommit }
     ensures log { ConflictsOfALogNameALaterCommit }
+{}
+
+/// In each log, a receipt that was decided as a conflict names a path that its transaction puts or deletes, in that
+/// store.
+pub fn conflicts_name_an_own_write()
+    ensures { ConflictsOfALogNameAnOwnWrite }
 {}

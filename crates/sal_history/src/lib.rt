@@ -11,9 +11,9 @@
 //! It keeps the list of calls and nothing else: every tree is computed from the opening, every conflict by looking
 //! through the later commits. `examples` has worked examples, each proved by computing it.
 //!
-//! A conflict names a later commit. In each log, the commit that a receipt's conflict names was done before that
-//! receipt, came after the base of its transaction, and touched the conflict's path
-//! (`laws::conflicts_name_a_later_commit`).
+//! What a refused client is told. In each log, the path that a receipt's conflict names is one that its transaction puts
+//! or deletes (`laws::conflicts_name_an_own_write`), and the commit that it names was done before that receipt, came
+//! after the base of its transaction, and touched that path (`laws::conflicts_name_a_later_commit`).
 #![tactic(auto)]
 
 pub mod call;

@@ -1,0 +1,53 @@
+-- Reaching by imports, one round after another.
+use Rattle.std.proofs.Common.{◌≡◌, ℕ, zero, suc, ◌+◌, ◌==◌, Bool, false, ◌||◌, List, [], ◌∷◌, map, get_or, refl, sym, ap, ◌∙◌, arith}
+use Rattle.std.specs.Prelude.{Vec}
+use Rattle.std.specs.List.{list_any}
+use Rattle.std.specs.declared.alloc.Global.{Global}
+use Rattle.sal_module.specs.Imports.{reaches, plain, is_step}
+
+pub reaches-none : (edges : List (List ℕ)) (n target : ℕ) → reaches edges n target [] ≡ false
+unfolding reaches
+reaches-none edges zero target = refl
+reaches-none edges (suc n) target = refl
+
+get_or-map_all : {X : Type 0} (f : X → Bool) (xs : List X) (d : X) (k : ℕ) → f d ≡ false → get_or (map f xs) k false ≡ f (get_or xs k d)
+get_or-map_all f [] d k h = sym h
+get_or-map_all f (x ∷ xs) d zero h = refl
+get_or-map_all f (x ∷ xs) d (suc k) h = get_or-map_all f xs d k h
+
+any-same : (p q : ℕ → Bool) (xs : List ℕ) → ((k : ℕ) → p k ≡ q k) → list_any p xs ≡ list_any q xs
+any-same p q [] h = refl
+any-same p q (x ∷ xs) h = rw (h x, any-same p q xs h) refl
+
+reaches-suc : (edges : List (List ℕ)) (n target : ℕ) (out : List ℕ) → reaches edges (suc n) target out ≡ list_any (λ k. k == target || reaches edges n target (get_or edges k [])) out
+unfolding reaches
+reaches-suc edges n target out = refl
+
+reaches-zero : (edges : List (List ℕ)) (target : ℕ) (out : List ℕ) → reaches edges 0 target out ≡ list_any (λ k. k == target) out
+unfolding reaches
+reaches-zero edges target out = refl
+
+-- one round at one module
+round_at : (edges : List (List ℕ)) (n target : ℕ) (out : List ℕ) → list_any (λ k. is_step (map (reaches edges n target) edges) target k) out ≡ reaches edges (suc n) target out
+round_at edges n target out =
+    any-same (λ k. is_step (map (reaches edges n target) edges) target k) (λ k. k == target || reaches edges n target (get_or edges k [])) out
+    (λ k. ap (λ b. k == target || b) (get_or-map_all (reaches edges n target) edges [] k (reaches-none edges n target)))
+    ∙ sym (reaches-suc edges n target out)
+
+or-false : (b : Bool) → (b || false) ≡ b
+or-false b = elim b as (λ c. (c || false) ≡ c) [ Bool.true ↦ refl | false ↦ refl ]
+
+pub first_round : (edges : List (Vec ℕ Global)) (all : List (List ℕ)) (target : ℕ) → map (λ out. list_any (λ k. is_step [] target k) out.items) edges ≡ map (reaches all 0 target) (plain edges)
+first_round [] all target = refl
+first_round (out ∷ edges) all target =
+    let here = any-same (λ k. is_step [] target k) (λ k. k == target) out.items (λ k. or-false (k == target)) ∙ sym (reaches-zero all target out.items) in
+    rw (here, first_round edges all target) refl
+
+next_round-suc : (edges : List (Vec ℕ Global)) (all : List (List ℕ)) (n target : ℕ) → map (λ out. list_any (λ k. is_step (map (reaches all n target) all) target k) out.items) edges ≡ map (reaches all (suc n) target) (plain edges)
+next_round-suc [] all n target = refl
+next_round-suc (out ∷ edges) all n target =
+    ap (λ b. b ∷ map (λ (o : Vec ℕ Global). list_any (λ k. is_step (map (reaches all n target) all) target k) o.items) edges) (round_at all n target out.items)
+    ∙ ap (λ r. reaches all (suc n) target out.items ∷ r) (next_round-suc edges all n target)
+
+pub next_round : (edges : List (Vec ℕ Global)) (all : List (List ℕ)) (n target : ℕ) → map (λ out. list_any (λ k. is_step (map (reaches all n target) all) target k) out.items) edges ≡ map (reaches all (n + 1) target) (plain edges)
+next_round edges all n target = let more : n + 1 ≡ suc n = omega arith in rw more (next_round-suc edges all n target)

@@ -1,0 +1,11 @@
+pub mod Keywords
+pub mod Faults
+pub mod Arguments
+pub mod Table
+pub mod Statements
+pub mod LeftOut
+pub mod Profile
+pub mod Imports
+pub mod Places
+pub mod Modules
+pub mod Examples

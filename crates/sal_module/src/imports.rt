@@ -1,0 +1,199 @@
+//! Modules by their names, and what they import.
+ghost use Rattle.std.specs.Prelude.{◌≡◌, ◌==◌, ◌^◌, ◌<◌, ◌≤◌, false, map, take, length, IfOk, IfSome, slice_index_or};
+ghost use Rattle.std.specs.List.{list_any, flat_map};
+ghost use Rattle.sal_module.specs.Faults.{least};
+ghost use Rattle.sal_module.specs.Statements as statements;
+ghost use Rattle.sal_module.specs.Imports as spec;
+
+use crate::fault::{Cause, Found, better};
+use crate::keyword::Keyword;
+use crate::profile::with_fault;
+use crate::statement::{argument_of, first_named, is_named};
+use sal_stmt::Stmt;
+use sal_types::NoMemory;
+use std::alloc::Global;
+
+fn position_of(stmts: &[Stmt], name: &str) -> Option<usize>
+    ensures value { result ≡ spec.place_of stmts.now name.now }
+    ensures within { IfSome result (λ place. place < length stmts.now) }
+{
+    stmts.iter().position(|stmt| argument_of(stmt) == name)
+}
+
+/// The number of the first module of this name.
+pub(crate) fn place_of(stmts: &[Stmt], name: &str) -> Option<u32>
+    requires { length stmts.now < 2 ^ 32 }
+    ensures { result ≡ spec.place_of stmts.now name.now }
+{
+    match position_of(stmts, name) {
+        Some(place) => Some(place as u32),
+        None => None,
+    }
+}
+
+fn has_name(stmts: &[Stmt], name: &str) -> bool
+    ensures { result ≡ list_any (spec.has_name name.now) stmts.now }
+{
+    stmts.iter().any(|stmt| argument_of(stmt) == name)
+}
+
+/// With the fault of a module whose name was given before.
+pub(crate) fn with_name(
+    best: Option<Found>,
+    stmts: &[Stmt],
+    number: u32,
+    stmt: &Stmt,
+) -> Option<Found>
+    requires { number ≤ length stmts.now }
+    ensures { result ≡ least best (spec.name_faults stmts.now number stmt.now) }
+{
+    if has_name(&stmts[..number as usize], argument_of(stmt)) {
+        with_fault(best, Cause::DoubleNode, number, stmt.at)
+    } else {
+        best
+    }
+}
+
+fn with_given(best: Option<Found>, stmts: &[Stmt], number: u32, one: &Stmt) -> Option<Found>
+    requires { length stmts.now < 2 ^ 32 }
+    ensures { result ≡ least best (spec.given_faults stmts.now number one.now) }
+{
+    if place_of(stmts, argument_of(one)).is_none() {
+        with_fault(best, Cause::NoModule, number, one.at)
+    } else {
+        best
+    }
+}
+
+/// With the faults of imports of modules that were not given.
+pub(crate) fn with_all_given(
+    best: Option<Found>,
+    stmts: &[Stmt],
+    number: u32,
+    stmt: &Stmt,
+) -> Option<Found>
+    requires { length stmts.now < 2 ^ 32 }
+    ensures { result ≡ least best (flat_map (spec.given_faults stmts.now number) (spec.imports_of stmt.now)) }
+{
+    let mut best = best;
+    for sub in stmt.subs.items() {
+        if is_named(Keyword::Import, sub) {
+            best = with_given(best, stmts, number, sub);
+        }
+    }
+    best
+}
+
+fn has_number(out: &[u32], number: u32) -> bool
+    ensures { result ≡ list_any (λ j. j == number) out.now }
+{
+    out.iter().any(|k| *k == number)
+}
+
+fn push_new(out: &mut Vec<u32>, place: Option<u32>) -> Result<(), NoMemory>
+    ensures { IfOk result (λ _. out.new.items ≡ spec.with_new out.old.items place) }
+{
+    if let Some(number) = place {
+        if !has_number(out.as_slice(), number) {
+            out.push(number)?;
+        }
+    }
+    Ok(())
+}
+
+/// The modules that a module imports, each once.
+fn imported_modules(alloc: Global, stmts: &[Stmt], stmt: &Stmt) -> Result<Vec<u32>, NoMemory>
+    requires { length stmts.now < 2 ^ 32 }
+    ensures { IfOk result (λ out. out.items ≡ spec.imported_modules stmts.now (spec.imports_of stmt.now)) }
+{
+    let mut out = Vec::new(alloc);
+    for sub in stmt.subs.items() {
+        if is_named(Keyword::Import, sub) {
+            push_new(&mut out, place_of(stmts, argument_of(sub)))?;
+        }
+    }
+    Ok(out)
+}
+
+pub(crate) fn edges_of(alloc: Global, stmts: &[Stmt]) -> Result<Vec<Vec<u32>>, NoMemory>
+    requires { length stmts.now < 2 ^ 32 }
+    ensures { IfOk result (λ edges. spec.plain edges.items ≡ spec.edges_of stmts.now) }
+{
+    let mut edges = Vec::with_capacity(alloc, stmts.len())?;
+    for stmt in stmts {
+        edges.push(imported_modules(alloc, stmts, stmt)?)?;
+    }
+    Ok(edges)
+}
+
+fn is_marked(marks: &[bool], k: u32) -> bool
+    ensures { result ≡ slice_index_or marks.now k false }
+{
+    marks.get(k as usize).copied().unwrap_or(false)
+}
+
+fn goes(marks: &[bool], out: &[u32], target: u32) -> bool
+    ensures { result ≡ list_any (λ k. spec.is_step marks.now target k) out.now }
+{
+    out.iter().any(|k| *k == target || is_marked(marks, *k))
+}
+
+/// Which modules import the target or one that is marked.
+fn round(
+    alloc: Global,
+    edges: &[Vec<u32>],
+    marks: &[bool],
+    target: u32,
+) -> Result<Vec<bool>, NoMemory>
+    ensures { IfOk result (λ v. v.items ≡ map (λ out. list_any (λ k. spec.is_step marks.now target k) out.items) edges.now) }
+{
+    let mut next = Vec::with_capacity(alloc, edges.len())?;
+    for out in edges {
+        next.push(goes(marks, out.as_slice(), target))?;
+    }
+    Ok(next)
+}
+
+/// Which modules reach the target within so many imports and one more.
+fn reaching(
+    alloc: Global,
+    edges: &[Vec<u32>],
+    target: u32,
+    rounds: u32,
+) -> Result<Vec<bool>, NoMemory>
+    ensures { IfOk result (λ v. v.items ≡ map (spec.reaches (spec.plain edges.now) rounds target) (spec.plain edges.now)) }
+{
+    let mut marks = round(alloc, edges, &[], target)?;
+    for _ in 0..rounds {
+        marks = round(alloc, edges, marks.as_slice(), target)?;
+    }
+    Ok(marks)
+}
+
+/// The least of this fault and that of a module that reaches itself, at its first import.
+pub(crate) fn with_cycle(
+    best: Option<Found>,
+    alloc: Global,
+    edges: &[Vec<u32>],
+    number: u32,
+    stmt: &Stmt,
+) -> Result<Option<Found>, NoMemory>
+    ensures { IfOk result (λ found. found ≡ least best
+        (spec.cycle_faults (spec.is_in_cycle (spec.plain edges.now) number) number (spec.first_import stmt.now))) }
+{
+    let marks = reaching(alloc, edges, number, 64)?;
+    let in_cycle = is_marked(marks.as_slice(), number);
+    Ok(with_first(best, in_cycle, number, stmt))
+}
+
+fn with_first(best: Option<Found>, in_cycle: bool, number: u32, stmt: &Stmt) -> Option<Found>
+    ensures { result ≡ least best (spec.cycle_faults in_cycle number (spec.first_import stmt.now)) }
+{
+    if !in_cycle {
+        return best;
+    }
+    match first_named(Keyword::Import, stmt.subs.items()) {
+        Some(first) => with_fault(best, Cause::ImportCycle, number, first.at),
+        None => best,
+    }
+}

@@ -1,0 +1,52 @@
+//! Modules within the statement profile, which import one another: what stands between texts and a schema.
+//!
+//! | item | what it is |
+//! |---|---|
+//! | `check` | the modules, where they are within the profile and their imports name modules, or the first fault |
+//! | `Modules` | modules that passed, seen as the list of their statements, with look-ups by place and by prefix |
+//! | `BuildFault` | every fault of a schema that is built from modules, each with its module and place |
+//! | `Cause`, `Found`, `better` | what is wrong, where, and which of two faults counts: for the later passes |
+//! | `Keyword`, `keyword_of` | the keywords of the profile, and their words |
+//! | `TABLE`, `Rule`, `Row`, `Entry`, `Often`, `Form` | the profile itself: what may stand in each statement |
+//! | `is_named`, `argument_of`, `first_named`, `has_named`, `value_of` | statements by their keywords |
+//!
+//! The profile is the part of YANG (RFC 7950) that the broker takes: `src/table.rt` is its table, in the groups of the
+//! standard. Submodules, deviations, actions, `anydata`, `anyxml` and a few more are left out. Statements with a prefix
+//! may stand anywhere and have no effect. Every fault of a pass is a member of one list, in any order, and the least
+//! by module, place and number counts: `specs/Profile.antt` has the lists of the profile, `specs/Imports.antt` those of
+//! names and imports, `specs/Faults.antt` the order.
+//!
+//! ```
+//! let module = read_module(alloc, "module m { namespace 'urn:m'; prefix p; leaf a { type string; } }")?;
+//! let modules = check(alloc, &[module])?;
+//! let leaf = modules.stmt(0, 40);      // the statement that begins at byte 40 of module 0
+//! let own = modules.imported(0, "p");  // Some(0)
+//! ```
+//!
+//! Cost: `check` takes time linear in the statements, times the words of the table, and the logarithm of the imports for
+//! each import; it copies the statements. 64 modules are compared with one another 64 times. `Modules::stmt` takes the
+//! logarithm of the statements for each level, and `Modules::imported` that of the imports. At most 65 calls stand in one
+//! another.
+#![tactic(auto)]
+
+mod argument;
+mod fault;
+mod imports;
+mod keyword;
+mod left_out;
+mod modules;
+mod places;
+mod prefixes;
+mod profile;
+mod statement;
+mod table;
+#[cfg(test)]
+mod tests;
+mod vectors;
+
+pub use argument::{Form, has_form, is_whole};
+pub use fault::{BuildFault, Cause, Found, What, better};
+pub use keyword::{Keyword, WORDS, keyword_of};
+pub use modules::{Modules, check};
+pub use statement::{argument_of, first_named, has_named, is_named, value_of};
+pub use table::{Entry, LEFT_OUT, Often, Row, Rule, TABLE};

@@ -1,0 +1,5 @@
+pub mod Words
+pub mod Separators
+pub mod Quotes
+pub mod Strings
+pub mod Statements

@@ -1,0 +1,55 @@
+//! Why a text is no statement.
+ghost use Rattle.std.specs.Prelude.{◌≡◌};
+ghost use Rattle.sal_stmt.specs.declared.fault.StmtFault.TheVariants.{NoMemory};
+
+use std::alloc::{AllocError, AllocFailed};
+use thiserror::Error;
+
+/// The first fault of a text. `at` is how many bytes stand before it.
+#[derive(Clone, Copy, Debug, PartialEq, Eq, Error)]
+pub enum StmtFault {
+    /// The first byte at which no token can stand, or a token that the form does not allow there. It is 0 for a text of
+    /// separators alone.
+    #[error("bad token")]
+    BadToken { at: u32 },
+    /// The backslash of a pair that is no escape.
+    #[error("bad escape")]
+    BadEscape { at: u32 },
+    /// The text ends too early. Inside a quoted string or a block comment: its first byte. Else inside a statement before
+    /// its `;` or `{`: its keyword. Else inside a block: the `{` of the innermost.
+    #[error("unclosed")]
+    Unclosed { at: u32 },
+    /// The `{` of a 65th block that would be open.
+    #[error("too deep")]
+    TooDeep { at: u32 },
+    /// The first token behind the one statement.
+    #[error("text after the statement")]
+    TextAfter { at: u32 },
+    /// Memory ran out.
+    #[error("out of memory")]
+    NoMemory,
+}
+
+impl From<AllocError> for StmtFault {
+    ghost from_gives = { λ _ e. e ≡ NoMemory };
+
+    fn from(_refused: AllocError) -> StmtFault {
+        StmtFault::NoMemory
+    }
+}
+
+impl<T: Drop> From<AllocFailed<T>> for StmtFault {
+    ghost from_gives = { λ _ e. e ≡ NoMemory };
+
+    fn from(_refused: AllocFailed<T>) -> StmtFault {
+        StmtFault::NoMemory
+    }
+}
+
+impl From<sal_types::NoMemory> for StmtFault {
+    ghost from_gives = { λ _ e. e ≡ NoMemory };
+
+    fn from(_refused: sal_types::NoMemory) -> StmtFault {
+        StmtFault::NoMemory
+    }
+}

@@ -19,6 +19,8 @@ pub mod run;
 pub mod simulation;
 pub mod slots;
 pub mod status;
+#[cfg(test)]
+mod tests;
 pub mod top;
 pub mod transaction;
 pub mod words;

@@ -1,5 +1,5 @@
 -- How each kind of step is answered.
-use Rattle.std.proofs.Common.{◌≡◌, ℕ, ◌+◌, ◌<◌, ◌≤◌, Bool, true, false, List, [], ◌∷◌, ◌++◌, length, Option, None, Some, refl, ap, sym, ◌∙◌, subst, arith, length-append, if◌then◌else◌, nat_eq}
+use Rattle.std.proofs.Common.{◌≡◌, ℕ, ◌+◌, ◌<◌, ◌≤◌, false, List, [], ◌∷◌, ◌++◌, length, Option, None, Some, refl, ap, sym, ◌∙◌, arith, length-append, if◌then◌else◌}
 use Rattle.std.proofs.lemmas.Bool.Decides.{nat_tests}
 use Rattle.std.specs.Option.{option_to_list}
 use Rattle.sal_types.specs.declared.value.Store.{Store}
@@ -16,7 +16,7 @@ use Rattle.sal_history.specs.declared.reply.Reply.{Reply}
 use Rattle.sal_history.specs.declared.reply.Reply.TheVariants.{Begun, Accepted, Receipt, Refused}
 use Rattle.sal_history.specs.declared.reply.Refusal.TheVariants.{Shared as SharedRefusal}
 use Rattle.sal_history.specs.History.{Base, base_tree, began_at, commits, history, is_live, reply_to, sent_by, sents, view}
-use Rattle.sal_script.specs.declared.script.ScriptStep.TheVariants.{Begin, Submit}
+use Rattle.sal_script.specs.declared.script.ScriptStep.TheVariants.{Begin}
 use Rattle.sal_script.specs.Play.{Client, Open, Slots, keep, local, plain_world, set_slot, shared, submit, submit_in, write, write_in}
 use Rattle.mdsal.specs.declared.client.Standing.TheVariants.{Writable}
 use Rattle.mdsal.specs.declared.transaction.Transaction.{Transaction}

@@ -1,6 +1,6 @@
 -- The search for conflicts, step by step.
-use Rattle.std.proofs.Common.{◌≡◌, ℕ, zero, suc, ◌+◌, ◌-◌, ◌<◌, ◌≤◌, Bool, true, false, List, [], ◌∷◌, ◌++◌, ◌&&◌, length, take, drop, get_or, Option, None, Some, refl, ap, sym, ◌∙◌, cond, arith, reverse, if◌then◌else◌}
-use Rattle.std.specs.Prelude.{find, is_some, not, unwrap_or}
+use Rattle.std.proofs.Common.{◌≡◌, ℕ, ◌+◌, ◌-◌, ◌<◌, ◌≤◌, Bool, true, false, List, [], ◌∷◌, ◌++◌, ◌&&◌, length, take, drop, get_or, Option, None, Some, refl, ap, sym, ◌∙◌, cond, arith, if◌then◌else◌}
+use Rattle.std.specs.Prelude.{is_some, not, unwrap_or}
 use Rattle.std.specs.List.{list_any}
 use Rattle.std.specs.Option.{option_map, option_or}
 use Rattle.std.proofs.lemmas.List.{take_all, take_more, drop_more}
@@ -11,10 +11,9 @@ use Rattle.sal_types.specs.Tree.{has}
 use Rattle.sal_rows.specs.declared.op.Op.{Op}
 use Rattle.sal_rows.specs.Apply.{checks_path}
 use Rattle.sal_rows.specs.Commits.{Span, numbers_after, numbers_in, touches_at, tree_at, tree_after, is_unchanged, last_touch, kind_over, unchanged_by, kind_by}
-use Rattle.sal_rows.specs.Clash.{Clash, clash_at, op_clash, clash_from, clash, is_covered}
-use Rattle.mdsal.specs.declared.conflict.Difference.{Difference}
+use Rattle.sal_rows.specs.Clash.{Clash, clash_at, op_clash, clash_from, is_covered}
 use Rattle.mdsal.specs.Found.{clash_by, difference}
-use Rattle.mdsal.proofs.Numbers.{find_any, find_last, numbers_after-suc}
+use Rattle.mdsal.proofs.Numbers.{find_any}
 
 -- a path at the ends of one span
 by_cases : (s : Store) (p : List Step) (was is any : Bool) (t : Option ℕ) (f : Span → Clash) (span : Span) → is_some t ≡ any → f span ≡ record { store = s; path = p; kind = kind_by was is; commit = unwrap_or t 0 } → clash_by s p (difference was is t) ≡ option_map f (cond (not (unchanged_by was is any)) (Some span) None)

@@ -1,5 +1,5 @@
 -- What one more decision does.
-use Rattle.std.proofs.Common.{◌≡◌, ℕ, zero, suc, ◌+◌, ◌-◌, ◌<◌, ◌≤◌, List, [], ◌∷◌, ◌++◌, length, map, get_or, Option, Some, None, refl, ap, sym, ◌∙◌, arith, append_assoc, append-nil, length-append, if◌then◌else◌, nat_eq}
+use Rattle.std.proofs.Common.{◌≡◌, ℕ, suc, ◌+◌, ◌<◌, ◌≤◌, List, [], ◌∷◌, ◌++◌, length, map, get_or, refl, ap, sym, ◌∙◌, arith, append_assoc, append-nil, length-append, if◌then◌else◌, nat_eq}
 use Rattle.std.specs.Prelude.{slice_get}
 use Rattle.std.specs.Option.{option_map}
 use Rattle.std.proofs.lemmas.Option.{slice_get-map}
@@ -9,7 +9,7 @@ use Rattle.sal_history.specs.History.{Sent, ops_if_done, done_ops, outcome, deci
 use Rattle.sal_script.specs.Play.{plain_world}
 use Rattle.mdsal.specs.declared.commit.Commit.{Commit}
 use Rattle.mdsal.specs.declared.decided.Submission.{Submission}
-use Rattle.mdsal.specs.Kept.{AreKept, ops_of, sent_of}
+use Rattle.mdsal.specs.Kept.{ops_of, sent_of}
 use Rattle.mdsal.specs.Deciding.{IsDecided, Decides}
 use Rattle.mdsal.proofs.KeptLemmas.{slice_get_at}
 

@@ -1,11 +1,10 @@
 -- One step of a client's way to its next shared call.
-use Rattle.std.proofs.Common.{◌≡◌, ℕ, ◌+◌, ◌<◌, List, [], ◌∷◌, ◌++◌, length, drop, get_or, Some, refl, ap, sym, ◌∙◌, subst}
+use Rattle.std.proofs.Common.{◌≡◌, ℕ, ◌+◌, ◌<◌, List, ◌∷◌, length, drop, get_or, Some, refl, ap, sym, ◌∙◌, subst}
 use Rattle.std.proofs.lemmas.List.{drop_more}
-use Rattle.sal_history.specs.declared.call.Call.{Call}
 use Rattle.sal_history.specs.declared.call.Entry.{Entry}
 use Rattle.sal_history.specs.declared.reply.Reply.{Reply}
 use Rattle.sal_script.specs.declared.script.ScriptStep.{ScriptStep}
-use Rattle.sal_script.specs.Play.{Arrival, Client, Made, Run, arrive, arrive_by, calls, go, keep, make, meet, plain_world, replied}
+use Rattle.sal_script.specs.Play.{Client, Made, arrive, arrive_by, calls, keep, make, meet, plain_world, replied}
 use Rattle.mdsal.specs.declared.client.Went.{Went}
 use Rattle.mdsal.specs.declared.client.Went.TheVariants.{Local, Shared}
 use Rattle.mdsal.specs.Clients.{Steps, entry_of}

@@ -1,20 +1,18 @@
 -- What one more entry does to what is kept of a log.
-use Rattle.std.proofs.Common.{◌≡◌, ℕ, suc, ◌-◌, ◌≤◌, List, [], ◌∷◌, ◌++◌, length, map, Option, Some, None, refl, ap, sym, ◌∙◌, arith, append-nil, length-append}
+use Rattle.std.proofs.Common.{◌≡◌, ℕ, suc, ◌-◌, List, [], ◌∷◌, ◌++◌, length, map, Some, None, refl, ap, sym, ◌∙◌, arith, append-nil, length-append}
 use Rattle.std.specs.Prelude.{slice_get}
 use Rattle.std.specs.Option.{option_map, option_to_list}
-use Rattle.std.specs.List.{fold, filter_map, flat_map, cons_option}
+use Rattle.std.specs.List.{cons_option}
 use Rattle.std.proofs.lemmas.Grind.{fold-append, flat_map-append}
 use Rattle.std.proofs.lemmas.List.Elements.{filter_map-append}
 use Rattle.std.proofs.lemmas.Option.{slice_get-map}
 use Rattle.sal_rows.specs.declared.op.Op.{Op}
 use Rattle.sal_rows.specs.declared.outcome.Mode.{Mode}
 use Rattle.sal_rows.specs.declared.outcome.Outcome.{Outcome}
-use Rattle.sal_history.specs.declared.call.Call.{Call}
 use Rattle.sal_history.specs.declared.call.Call.TheVariants.{Begin, Submit, Settle}
 use Rattle.sal_history.specs.declared.call.Entry.{Entry}
-use Rattle.sal_history.specs.declared.reply.Reply.{Reply}
 use Rattle.sal_history.specs.declared.reply.Reply.TheVariants.{Settled}
-use Rattle.sal_history.specs.History.{Base, Sent, Answered, sents, outcomes, commits, done_ops, began_at, sent_by, settled, decide_next, decided_by, reply_to, answer, history}
+use Rattle.sal_history.specs.History.{Sent, Answered, sents, outcomes, commits, done_ops, began_at, sent_by, settled, decide_next, decided_by, reply_to, answer, history}
 use Rattle.sal_script.specs.Play.{plain_world}
 use Rattle.mdsal.specs.declared.commit.Commit.{Commit}
 use Rattle.mdsal.specs.declared.decided.Submission.{Submission}

@@ -1,5 +1,5 @@
 -- What a client keeps of the log stays sound when the log grows and when its slots change.
-use Rattle.std.proofs.Common.{◌≡◌, ℕ, zero, suc, ◌+◌, ◌<◌, ◌≤◌, Bool, true, false, List, [], ◌∷◌, ◌++◌, length, take, Option, None, Some, refl, ap, sym, ◌∙◌, subst, arith, length-append, if◌then◌else◌, nat_eq}
+use Rattle.std.proofs.Common.{◌≡◌, ℕ, zero, suc, ◌+◌, ◌<◌, ◌≤◌, true, false, List, [], ◌∷◌, ◌++◌, length, take, Option, None, Some, refl, ap, sym, ◌∙◌, subst, arith, length-append, if◌then◌else◌, nat_eq}
 use Rattle.std.specs.Prelude.{slice_get, option_and_then}
 use Rattle.std.specs.Option.{option_map, option_to_list}
 use Rattle.std.specs.List.{fold}
@@ -13,15 +13,13 @@ use Rattle.sal_rows.specs.declared.outcome.Mode.{Mode}
 use Rattle.sal_rows.specs.Apply.{apply_ops}
 use Rattle.sal_rows.specs.Commits.{next_tree, tree_after}
 use Rattle.sal_rows.proofs.Applied.{IsAscending-apply_ops, apply_ops-unique}
-use Rattle.sal_history.specs.declared.call.Call.{Call}
 use Rattle.sal_history.specs.declared.call.Call.TheVariants.{Begin}
 use Rattle.sal_history.specs.declared.call.Entry.{Entry}
-use Rattle.sal_history.specs.History.{Answered, Base, answer, began, began_at, commits, history, newest_tree, sent_by, sents, view}
+use Rattle.sal_history.specs.History.{Answered, Base, answer, began, began_at, commits, history, newest_tree, sent_by, sents}
 use Rattle.sal_history.specs.Trees.{opening_of}
-use Rattle.sal_script.specs.Play.{Open, plain_world, set_slot}
+use Rattle.sal_script.specs.Play.{plain_world, set_slot}
 use Rattle.mdsal.specs.declared.transaction.Transaction.{Transaction}
 use Rattle.mdsal.specs.declared.client.ClientState.{ClientState}
-use Rattle.mdsal.specs.Slots.{held}
 use Rattle.mdsal.specs.Views.{open_of, view_of, Begins, IsSoundView}
 use Rattle.mdsal.specs.Clients.{IsSound}
 use Rattle.mdsal.proofs.Histories.{history-push, sents-push}

@@ -1,7 +1,7 @@
 -- Where all clients stand: looked at and changed by index.
-use Rattle.std.proofs.Common.{◌≡◌, ℕ, zero, suc, ◌+◌, ◌<◌, ◌≤◌, Bool, true, false, List, [], ◌∷◌, ◌++◌, length, map, get_or, set, drop, take, Option, None, Some, Result, Ok, Err, refl, ap, sym, ◌∙◌, subst, arith, append_assoc, append-nil, length-append, ◌&&◌, nat_eq, cond, IsTrue, inl, inr}
-use Rattle.std.specs.Prelude.{slice_get, nat_le, count_by}
-use Rattle.std.specs.List.{list_all, fold}
+use Rattle.std.proofs.Common.{◌≡◌, ℕ, zero, suc, ◌+◌, ◌<◌, ◌≤◌, Bool, true, false, List, [], ◌∷◌, ◌++◌, length, map, get_or, set, drop, take, Option, None, Some, refl, ap, sym, ◌∙◌, subst, arith, append_assoc, append-nil, length-append, nat_eq, cond, IsTrue, inl, inr}
+use Rattle.std.specs.Prelude.{slice_get, nat_le}
+use Rattle.std.specs.List.{list_all}
 use Rattle.std.proofs.lemmas.List.{get_or-set_other, get_or-set_same, length-set, drop_more, take_all, drop_all, get_or_append_left}
 use Rattle.std.proofs.Math.Seq.{get_or-append_seam}
 use Rattle.std.proofs.lemmas.List.Sums.{sum_by-append}
@@ -14,7 +14,7 @@ use Rattle.sal_history.specs.declared.reply.Reply.{Reply}
 use Rattle.sal_history.specs.History.{entries_of}
 use Rattle.sal_script.specs.declared.script.ScriptStep.{ScriptStep}
 use Rattle.sal_script.specs.Limits.{within_limits}
-use Rattle.sal_script.specs.Play.{Arrival, Client, Made, Played, Run, Stand, arrive, calls, cons_replies, ended, go, make, new_client, plain_world, replies_at, replies_of, stand_with, start, turn, turn_of}
+use Rattle.sal_script.specs.Play.{Arrival, Client, Made, Run, Stand, arrive, calls, cons_replies, ended, go, make, new_client, plain_world, replies_at, replies_of, stand_with, turn, turn_of}
 use Rattle.mdsal.specs.declared.run.Run.{Run as CodeRun}
 use Rattle.mdsal.specs.Clients.{client_of, IsSound}
 use Rattle.mdsal.specs.Runs.{AreRuns, Goes, GrowsBy, IsRun, Turns, replies_in, run_of, runs_of, stand_of}

@@ -1,14 +1,10 @@
 -- Views of transactions: one operation more, and one entry more in the log.
-use Rattle.std.proofs.Common.{◌≡◌, ℕ, ◌≤◌, List, [], ◌∷◌, ◌++◌, length, take, Option, None, Some, refl, ap, sym, ◌∙◌, arith, length-append}
-use Rattle.std.specs.Prelude.{slice_get}
+use Rattle.std.proofs.Common.{◌≡◌, ℕ, ◌≤◌, List, [], ◌∷◌, ◌++◌, length, ap, sym, ◌∙◌}
 use Rattle.std.proofs.lemmas.List.{take-append-le}
 use Rattle.sal_types.specs.declared.value.Store.{Store}
-use Rattle.sal_types.specs.declared.value.Store.TheVariants.{Config, Oper}
-use Rattle.sal_types.specs.declared.value.Step.{Step}
 use Rattle.sal_types.specs.declared.row.Row.{Row}
-use Rattle.sal_types.specs.Tree.{cell}
 use Rattle.sal_rows.specs.declared.op.Op.{Op}
-use Rattle.sal_rows.specs.Apply.{apply_ops, cell_by, cell_after, setting}
+use Rattle.sal_rows.specs.Apply.{apply_ops, cell_by, setting}
 use Rattle.sal_rows.proofs.Applied.{cell-apply_ops, apply_ops-unique, IsAscending-apply_ops, cell_after_push}
 use Rattle.sal_history.specs.declared.call.Entry.{Entry}
 use Rattle.sal_history.specs.History.{view, newest_tree}

@@ -3,7 +3,7 @@ use Rattle.std.specs.Prelude.{◌≡◌, ℕ, ◌≤◌, ◌<◌, Bool, true, fa
 use Rattle.sal_history.specs.declared.call.Entry.{Entry}
 use Rattle.sal_history.specs.declared.reply.Reply.{Reply}
 use Rattle.sal_script.specs.declared.script.ScriptStep.{ScriptStep}
-use Rattle.sal_script.specs.Play.{Made, Played, Run, Stand, arrive, ended, go, plain_world, replies_of, turn}
+use Rattle.sal_script.specs.Play.{Played, Run, Stand, arrive, ended, go, plain_world, replies_of, turn}
 use Rattle.mdsal.specs.declared.run.Run.{Run as CodeRun}
 use Rattle.mdsal.specs.declared.simulation.Played.{Played as CodePlayed}
 use Rattle.mdsal.specs.declared.simulation.PlayFault.{PlayFault}

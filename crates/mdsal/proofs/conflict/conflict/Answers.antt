@@ -1,5 +1,5 @@
 -- No commit came after the base.
-use Rattle.std.proofs.Common.{◌≡◌, ◌≤◌, [], length, sym, refl, arith}
+use Rattle.std.proofs.Common.{◌≤◌, [], length, sym, refl, arith}
 use Rattle.mdsal.specs.Kept.{ops_of, empty_opening, span_of}
 use Rattle.mdsal.proofs.KeptLemmas.{length-ops_of}
 use Rattle.mdsal.proofs.Clashes.{no_clash}

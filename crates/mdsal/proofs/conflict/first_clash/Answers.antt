@@ -1,8 +1,8 @@
 -- One operation is looked at.
-use Rattle.std.proofs.Common.{◌≡◌, ◌+◌, [], ◌∷◌, take, drop, Option, Some, None, ap, sym, ◌∙◌, arith}
+use Rattle.std.proofs.Common.{◌≡◌, ◌+◌, [], ◌∷◌, take, drop, Option, ap, sym, ◌∙◌}
 use Rattle.std.specs.Option.{option_or}
 use Rattle.std.proofs.lemmas.List.{drop_all}
-use Rattle.sal_rows.specs.Clash.{Clash, clash_from, op_clash}
+use Rattle.sal_rows.specs.Clash.{Clash, clash_from}
 use Rattle.mdsal.specs.Kept.{ops_of, empty_opening, span_of}
 use Rattle.mdsal.specs.Found.{clash_by}
 use Rattle.mdsal.proofs.KeptLemmas.{slice_get_at}

@@ -1,5 +1,5 @@
 -- The path at both ends, and the last touch between.
-use Rattle.std.proofs.Common.{◌≡◌, List, length, ap, sym, ◌∙◌, arith}
+use Rattle.std.proofs.Common.{List, ap, sym, ◌∙◌, arith}
 use Rattle.sal_types.specs.declared.row.Row.{Row}
 use Rattle.sal_types.specs.Tree.{has}
 use Rattle.sal_rows.specs.Commits.{tree_at}

@@ -1,6 +1,5 @@
 -- The replies of the clients so far.
-use Rattle.std.proofs.Common.{◌≡◌, List, map}
-use Rattle.sal_history.specs.declared.reply.Reply.{Reply}
+use Rattle.std.proofs.Common.{◌≡◌, map}
 use Rattle.mdsal.specs.Runs.{replies_in}
 use Rattle.mdsal.proofs.simulation.into_replies.Given as goal
 

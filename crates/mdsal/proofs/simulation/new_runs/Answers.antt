@@ -1,5 +1,5 @@
 -- One more client is at its beginning.
-use Rattle.std.proofs.Common.{◌≡◌, ◌+◌, ◌≤◌, ◌<◌, ◌++◌, ◌∷◌, [], List, length, get_or, ap, sym, ◌∙◌, subst, arith, length-append, inl, inr}
+use Rattle.std.proofs.Common.{◌≡◌, ◌+◌, ◌<◌, ◌∷◌, [], List, length, get_or, ap, sym, ◌∙◌, subst, arith, length-append}
 use Rattle.sal_script.specs.Play.{Run, Stand}
 use Rattle.mdsal.specs.declared.run.Run.{Run as CodeRun}
 use Rattle.mdsal.proofs.Standing.{IsFresh, fresh_more, fresh_runs, AreRuns-fresh}

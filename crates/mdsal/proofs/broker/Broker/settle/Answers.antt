@@ -1,7 +1,6 @@
 -- What is pending is decided.
 use Rattle.std.proofs.Common.{◌≡◌, ◌<◌, ◌∷◌, [], ◌++◌, ◌-◌, List, length, map, ap, sym, ◌∙◌, arith}
 use Rattle.std.proofs.lemmas.Grind.{common_steps}
-use Rattle.sal_rows.specs.declared.outcome.Outcome.{Outcome}
 use Rattle.sal_history.specs.declared.call.Call.TheVariants.{Settle}
 use Rattle.sal_history.specs.declared.call.Entry.{Entry}
 use Rattle.sal_history.specs.History.{decide_next}

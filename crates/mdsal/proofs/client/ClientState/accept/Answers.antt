@@ -1,9 +1,8 @@
 -- The transaction with one more operation stands in its slot.
-use Rattle.std.proofs.Common.{◌≡◌, ℕ, Option, None, Some, ap, sym, ◌∙◌}
+use Rattle.std.proofs.Common.{◌≡◌, None, Some, ap, sym, ◌∙◌}
 use Rattle.std.specs.Option.{option_map}
 use Rattle.sal_history.specs.declared.reply.Reply.TheVariants.{Accepted}
-use Rattle.sal_script.specs.Play.{Open, local, set_slot}
-use Rattle.mdsal.specs.declared.transaction.Transaction.{Transaction}
+use Rattle.sal_script.specs.Play.{local, set_slot}
 use Rattle.mdsal.specs.Slots.{held}
 use Rattle.mdsal.specs.Views.{open_of, IsSoundView}
 use Rattle.mdsal.specs.Clients.{client_of, opened}

@@ -1,10 +1,10 @@
 -- The transaction that begins stands in its slot.
-use Rattle.std.proofs.Common.{◌≡◌, ℕ, List, [], ◌∷◌, ◌++◌, refl, ap, sym, ◌∙◌, subst}
+use Rattle.std.proofs.Common.{◌≡◌, ℕ, [], ◌∷◌, ◌++◌, refl, ap, ◌∙◌}
 use Rattle.sal_history.specs.declared.call.Call.TheVariants.{Begin as BeginCall}
 use Rattle.sal_history.specs.declared.call.Entry.{Entry}
 use Rattle.mdsal.specs.Slots.{held}
 use Rattle.mdsal.specs.Views.{IsSoundView}
-use Rattle.mdsal.specs.Clients.{client_of, opened, IsSound}
+use Rattle.mdsal.specs.Clients.{client_of}
 use Rattle.mdsal.proofs.Soundness.{each_filled, opened-filled, IsSound-push, IsSoundView-begin}
 use Rattle.mdsal.proofs.Answering.{kept-begin, kept-refused}
 use Rattle.mdsal.proofs.client.ClientState.begin.Goals as goal

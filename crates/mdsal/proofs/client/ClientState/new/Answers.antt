@@ -1,10 +1,8 @@
 -- All slots are empty.
-use Rattle.std.proofs.Common.{◌≡◌, ℕ, ◌<◌, ◌≤◌, Option, None, Some, length, ap, sym, ◌∙◌, arith}
+use Rattle.std.proofs.Common.{◌≡◌, ℕ, Option, None, Some, ap, sym, ◌∙◌}
 use Rattle.std.specs.Option.{option_map}
-use Rattle.sal_history.specs.History.{history, sents}
-use Rattle.sal_script.specs.Play.{plain_world}
 use Rattle.mdsal.specs.declared.transaction.Transaction.{Transaction}
-use Rattle.mdsal.specs.Views.{open_of, IsSoundView}
+use Rattle.mdsal.specs.Views.{open_of}
 use Rattle.mdsal.proofs.client.ClientState.new.Goals as goal
 
 pub returns-clause-client : goal.returns-clause-client

@@ -1,11 +1,10 @@
 -- The rows are those of the sound view.
-use Rattle.std.proofs.Common.{◌≡◌, List, Option, Some, ap, sym, ◌∙◌}
+use Rattle.std.proofs.Common.{◌≡◌, List, Some, ap, sym, ◌∙◌}
 use Rattle.std.specs.Option.{option_map}
 use Rattle.sal_types.specs.declared.row.Row.{Row}
 use Rattle.sal_types.specs.Tree.{under}
 use Rattle.sal_history.specs.declared.reply.Reply.TheVariants.{Read}
-use Rattle.sal_script.specs.Play.{Open, local, plain_world, read}
-use Rattle.mdsal.specs.declared.transaction.Transaction.{Transaction}
+use Rattle.sal_script.specs.Play.{local, plain_world, read}
 use Rattle.mdsal.specs.Views.{open_of}
 use Rattle.mdsal.specs.Clients.{client_of, opened}
 use Rattle.mdsal.specs.Slots.{held}

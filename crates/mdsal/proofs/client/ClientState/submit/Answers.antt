@@ -1,15 +1,14 @@
 -- The transaction's slot is empty, and its receipt stands in the receipt slot.
-use Rattle.std.proofs.Common.{◌≡◌, ℕ, ◌<◌, ◌≤◌, List, [], ◌∷◌, ◌++◌, length, Option, None, Some, refl, ap, sym, ◌∙◌}
+use Rattle.std.proofs.Common.{◌≡◌, ◌<◌, ◌≤◌, List, [], ◌∷◌, ◌++◌, length, Some, refl, ap, sym, ◌∙◌}
 use Rattle.std.specs.Option.{option_map}
 use Rattle.sal_rows.specs.declared.op.Op.{Op}
 use Rattle.sal_history.specs.declared.call.Call.TheVariants.{Submit as SubmitCall}
 use Rattle.sal_history.specs.declared.call.Entry.{Entry}
-use Rattle.sal_history.specs.History.{history, reply_to, sents}
-use Rattle.sal_history.specs.declared.reply.Reply.TheVariants.{Receipt}
+use Rattle.sal_history.specs.History.{history, sents}
 use Rattle.sal_script.specs.Play.{plain_world}
 use Rattle.mdsal.specs.Slots.{held}
 use Rattle.mdsal.specs.Views.{open_of, IsSoundView}
-use Rattle.mdsal.specs.Clients.{client_of, opened, IsSound}
+use Rattle.mdsal.specs.Clients.{client_of, opened}
 use Rattle.mdsal.proofs.Soundness.{each_filled, each_emptied, opened-emptied, IsSound-push}
 use Rattle.mdsal.proofs.Answering.{submit-writable, given-submit}
 use Rattle.mdsal.proofs.client.ClientState.submit.Goals as goal

@@ -1,7 +1,7 @@
 -- A step is answered by the client, or makes the shared call.
-use Rattle.std.proofs.Common.{◌≡◌, drop, ap, sym, ◌∙◌, refl, subst, arith}
+use Rattle.std.proofs.Common.{ap, ◌∙◌, refl, arith}
 use Rattle.sal_script.specs.Play.{make, plain_world}
-use Rattle.mdsal.specs.Clients.{client_of, Counted, IsSound}
+use Rattle.mdsal.specs.Clients.{client_of}
 use Rattle.mdsal.specs.declared.client.Went.TheVariants.{Local, Shared}
 use Rattle.mdsal.proofs.Going.{steps_at, local_turn, local_log, shared_turn, shared_grows}
 use Rattle.mdsal.proofs.run.Run.go.Goals as goal

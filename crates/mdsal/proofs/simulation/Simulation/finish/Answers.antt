@@ -1,5 +1,5 @@
 -- One client comes to its end.
-use Rattle.std.proofs.Common.{◌≡◌, ◌<◌, List, length, get_or, sym, ap, ◌∙◌, subst, arith}
+use Rattle.std.proofs.Common.{◌≡◌, List, get_or, sym, ap, ◌∙◌, subst, arith}
 use Rattle.sal_history.specs.declared.call.Entry.{Entry}
 use Rattle.sal_script.specs.declared.script.ScriptStep.{ScriptStep}
 use Rattle.mdsal.specs.Runs.{IsRun}

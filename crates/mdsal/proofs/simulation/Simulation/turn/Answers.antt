@@ -1,5 +1,5 @@
 -- One client goes on.
-use Rattle.std.proofs.Common.{◌≡◌, ◌<◌, length, get_or, sym, ap, ◌∙◌, arith}
+use Rattle.std.proofs.Common.{◌≡◌, get_or, sym, ap, ◌∙◌, arith}
 use Rattle.sal_script.specs.declared.script.ScriptStep.{ScriptStep}
 use Rattle.std.proofs.Common.{List}
 use Rattle.mdsal.proofs.Standing.{turn-none, turned}

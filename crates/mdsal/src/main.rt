@@ -29,6 +29,7 @@ use crate::status::Status;
 use sal_io::{OpenGate, StdSink, StdSource};
 use sal_types::{NoMemory, Str};
 use std::env;
+use std::io::ErrorKind;
 use std::process::ExitCode;
 
 // The words behind the program's name. Arguments that are not text are one empty word, which is no form.
@@ -40,7 +41,10 @@ fn words_of(rt: &HostRuntime) -> Result<Vec<Str>, NoMemory> {
                 words.push(Str::from_string(word))?;
             }
         }
-        Err(_) => words.push(Str::new(rt.alloc(), "")?)?,
+        Err(error) => match error.kind() {
+            ErrorKind::OutOfMemory => return Err(NoMemory),
+            _ => words.push(Str::new(rt.alloc(), "")?)?,
+        },
     }
     Ok(words)
 }

@@ -1,5 +1,5 @@
 -- What each status of the command says.
-use Rattle.std.specs.Prelude.{◌≡◌, ℕ, ◌≤◌, List, Option, None, Some, Result, Ok, Err, length}
+use Rattle.std.specs.Prelude.{◌≡◌, ℕ, ◌≤◌, ⊤, List, Option, None, Some, Result, Ok, Err, length}
 use Rattle.std.specs.Io.KnownBytes.{Appends}
 use Rattle.sal_io.specs.Transfer.{TakesAll, TakesSome, TakesFront}
 use Rattle.sal_script.specs.Script.{Parts, script_of}
@@ -55,6 +55,26 @@ Answers None before after told told' status = (status ≡ BadWords) × (after �
 Answers (Some Sim) before after told told' status = SimAnswers before after told told' status
 Answers (Some Help) before after told told' status = (after ≡ before) × Written HELP.now told told' status
 Answers (Some Version) before after told told' status = (after ≡ before) × Written VERSION.now told told' status
+
+-- told bytes that `sim` plays to the end: there are not too many, and they stand for a script in a legal order
+abbrev pub IsPlayable : Option (List ℕ) → Type 0
+IsPlayable (Some bytes) = (length bytes ≤ 16777216) × ((text : List ℕ) × (sim_text bytes ≡ Ok text))
+IsPlayable None = ⊥
+
+-- words that are known, with an input that is valid for them
+abbrev pub IsValid : Option Form → Option (List ℕ) → Type 0
+IsValid None before = ⊥
+IsValid (Some Sim) before = IsPlayable before
+IsValid (Some Help) before = ⊤
+IsValid (Some Version) before = ⊤
+
+-- done, unless a fault of the source or the sink or want of memory came between
+abbrev pub IsDoneUnlessStopped : Status → Type 0
+IsDoneUnlessStopped Done = ⊤
+IsDoneUnlessStopped ReadFault = ⊤
+IsDoneUnlessStopped WriteFault = ⊤
+IsDoneUnlessStopped NoMemory = ⊤
+IsDoneUnlessStopped status = ⊥
 
 -- the text that a script comes to; nothing is said of want of memory
 abbrev pub IsTextOr : Result (List ℕ) Status → Result (List ℕ) Status → Type 0

@@ -54,6 +54,7 @@ pub fn mdsal<S: Source, K: Sink, G: Gate>(
     ensures read_fault { result ≡ Status.ReadFault → Rose (S.faults source.old) (S.faults source.new) }
     ensures write_fault { result ≡ Status.WriteFault → Rose (K.faults sink.old) (K.faults sink.new) }
     ensures answer { spec.Answers (form_of words.now) (S.left source.old) (S.left source.new) (K.taken sink.old) (K.taken sink.new) result }
+    ensures complete { spec.IsValid (form_of words.now) (S.left source.old) → spec.IsDoneUnlessStopped result }
 {
     match form_of(words) {
         None => Status::BadWords,

@@ -10,7 +10,7 @@ use Rattle.sal_script.specs.declared.fault.ScriptFault.TheVariants.{BadScript, N
 use Rattle.sal_script.specs.declared.script.ScriptStep.{ScriptStep}
 use Rattle.sal_script.specs.Json.{whole_below}
 use Rattle.sal_script.specs.Reading.{IsBadAt, IsFaultOf, Reads}
-use Rattle.sal_script.specs.Script.{or_bad, client_place, step_place, program_of, programs_from, step_of, steps_from, clients_from, numbers_of}
+use Rattle.sal_script.specs.Script.{or_bad, client_place, step_place, program_of, programs_from, step_of, steps_from, clients_from, all_of}
 use Rattle.sal_script.proofs.Each.{each_from, before, each_fails}
 
 -- ---- the lists
@@ -39,20 +39,23 @@ pub clients_from-each : (c : ℕ) (ps : List (Bor (List Value))) → clients_fro
 clients_from-each c [] = refl
 clients_from-each c (p ∷ ps) = ap (λ rest. client_at c p >>= (λ steps. rest >>= (λ clients. Ok (steps ∷ clients)))) (clients_from-each (c + 1) ps)
 
+abbrev pub item_at : {A : Type 0} → (Data → Option A) → List ℕ → ℕ → Value → Result A (List ℕ)
+item_at f place i v = or_bad place (f (view v))
+
+item_more : {A : Type 0} (place : List ℕ) (first : Option A) (rest : Option (List A))
+    → or_bad place (option_and_then (λ x. option_map (λ xs. x ∷ xs) rest) first) ≡ (or_bad place first >>= (λ x. or_bad place rest >>= (λ xs. Ok (x ∷ xs))))
+item_more place None rest = refl
+item_more place (Some x) None = refl
+item_more place (Some x) (Some xs) = refl
+
+pub all_of-each : {A : Type 0} (f : Data → Option A) (place : List ℕ) (i : ℕ) (vs : List Value) → or_bad place (all_of f (map view vs)) ≡ each_from (item_at f place) i vs
+all_of-each f place i [] = refl
+all_of-each f place i (v ∷ vs) =
+    item_more place (f (view v)) (all_of f (map view vs))
+    ∙ ap (λ rest. item_at f place i v >>= (λ x. rest >>= (λ xs. Ok (x ∷ xs)))) (all_of-each f place (i + 1) vs)
+
 abbrev pub number_at : List ℕ → ℕ → Value → Result ℕ (List ℕ)
-number_at place i v = or_bad place (whole_below (2 ^ 32) (view v))
-
-number_more : (place : List ℕ) (first : Option ℕ) (rest : Option (List ℕ))
-    → or_bad place (option_and_then (λ n. option_map (λ ns. n ∷ ns) rest) first) ≡ (or_bad place first >>= (λ n. or_bad place rest >>= (λ ns. Ok (n ∷ ns))))
-number_more place None rest = refl
-number_more place (Some n) None = refl
-number_more place (Some n) (Some ns) = refl
-
-pub numbers_of-each : (place : List ℕ) (i : ℕ) (vs : List Value) → or_bad place (numbers_of (map view vs)) ≡ each_from (number_at place) i vs
-numbers_of-each place i [] = refl
-numbers_of-each place i (v ∷ vs) =
-    number_more place (whole_below (2 ^ 32) (view v)) (numbers_of (map view vs))
-    ∙ ap (λ rest. number_at place i v >>= (λ n. rest >>= (λ ns. Ok (n ∷ ns)))) (numbers_of-each place (i + 1) vs)
+number_at = item_at (whole_below (2 ^ 32))
 
 -- ---- faults
 

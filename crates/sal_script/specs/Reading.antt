@@ -21,7 +21,7 @@ Reads view result read = MatchResult result (λ x. read ≡ Ok (view x)) (IsFaul
 
 -- what a script has
 abbrev pub parts : Script → Parts
-parts script = record { clients = script.clients; order = script.order }
+parts script = record { modules = script.modules; clients = script.clients; order = script.order }
 
 -- the script that is read, or the first bad place, unless memory ran out
 abbrev pub ReadsScript : Result Script ScriptFault → Result Parts (List ℕ) → Type 0

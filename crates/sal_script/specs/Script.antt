@@ -1,5 +1,5 @@
 -- Which script bytes stand for, or the first bad place, looked for in the order of the lines below.
-use Rattle.std.specs.Prelude.{ℕ, ◌+◌, ◌^◌, List, [], ◌∷◌, ◌++◌, length, Option, None, Some, option_and_then, Result, Ok, Err, codes, decimal, if◌then◌else◌, nat_le}
+use Rattle.std.specs.Prelude.{ℕ, Bool, ◌+◌, ◌^◌, List, [], ◌∷◌, ◌++◌, length, Option, None, Some, option_and_then, Result, Ok, Err, codes, decimal, if◌then◌else◌, nat_le}
 use Rattle.std.specs.Option.{option_map}
 use Rattle.sal_types.specs.Reading.{◌>>=◌}
 use Rattle.sal_types.specs.declared.value.Store.{Store}
@@ -11,11 +11,14 @@ use Rattle.serde_json.specs.Data.{Data, Members}
 use Rattle.serde_json.specs.Find.{as_str, as_object, get_member}
 use Rattle.sal_script.specs.declared.script.ScriptStep.{ScriptStep}
 use Rattle.sal_script.specs.declared.script.ScriptStep.TheVariants.{Begin, Put, Read, Submit, Settle}
+use Rattle.sal_script.specs.declared.script.TheConstants.{PLAIN}
+use Rattle.sal_script.specs.Limits.{is_short}
 use Rattle.sal_script.specs.Json.{text_eq, list_of, all_named, whole_below, data_of}
 use Rattle.sal_script.specs.Plain.{path_of_text}
 
 -- what a script has
 pub record Parts : Type 0 where
+  pub modules : List (List ℕ)
   pub clients : List (List ScriptStep)
   pub order : List ℕ
 
@@ -129,23 +132,44 @@ abbrev pub clients_from : ℕ → List (List Data) → Result (List (List Script
 clients_from c [] = Ok []
 clients_from c (p ∷ ps) = steps_from c 0 p >>= (λ steps. clients_from (c + 1) ps >>= (λ clients. Ok (steps ∷ clients)))
 
+-- what each of these stands for, where each stands for something
+abbrev pub all_of : {A : Type 0} → (Data → Option A) → List Data → Option (List A)
+all_of f [] = Some []
+all_of f (d ∷ ds) = option_and_then (λ x. option_map (λ xs. x ∷ xs) (all_of f ds)) (f d)
+
 -- the numbers of an order, whole and below 2^32
 abbrev pub numbers_of : List Data → Option (List ℕ)
-numbers_of [] = Some []
-numbers_of (d ∷ ds) = option_and_then (λ n. option_map (λ ns. n ∷ ns) (numbers_of ds)) (whole_below (2 ^ 32) d)
+numbers_of ds = all_of (whole_below (2 ^ 32)) ds
+
+-- the text of a module
+abbrev pub text_of : Data → Option (List ℕ)
+text_of d = option_and_then (λ text. if is_short text then Some text else None) (as_str d)
+
+-- the texts of the modules; where there is no such member, that of the module `plain`
+abbrev pub modules_member : Members → Option (List (List ℕ))
+modules_member ms = given (get_member (codes "modules") ms)
+  where
+    given : Option Data → Option (List (List ℕ))
+    given None = Some (PLAIN.now ∷ [])
+    given (Some d) = option_and_then (all_of text_of) (list_of d)
+
+-- the members that a script may have
+abbrev pub names_of : Bool → List (List ℕ)
+names_of with_modules = if with_modules then codes "modules" ∷ codes "clients" ∷ codes "order" ∷ [] else codes "clients" ∷ codes "order" ∷ []
 
 -- ---- the script
 
 abbrev pub parts_of : Members → Result Parts (List ℕ)
 parts_of ms =
-    or_bad (codes "clients") (option_and_then (at_most 16) (list_member (codes "clients") ms))
+    or_bad (codes "modules") (modules_member ms)
+    >>= (λ texts. or_bad (codes "clients") (option_and_then (at_most 16) (list_member (codes "clients") ms))
     >>= (λ ds. programs_from 0 ds
     >>= (λ programs. clients_from 0 programs
     >>= (λ clients. or_bad (codes "order") (option_and_then numbers_of (list_member (codes "order") ms))
-    >>= (λ order. Ok (record { clients = clients; order = order })))))
+    >>= (λ order. Ok (record { modules = texts; clients = clients; order = order }))))))
 
--- the script that bytes stand for, or the first bad place
-abbrev pub script_of : List ℕ → Result Parts (List ℕ)
-script_of bytes =
+-- the script that bytes stand for, or the first bad place; whether it may name modules is told
+abbrev pub script_of : Bool → List ℕ → Result Parts (List ℕ)
+script_of with_modules bytes =
     or_bad (codes "json") (data_of bytes)
-    >>= (λ d. or_bad (codes "script") (members_of (codes "clients" ∷ codes "order" ∷ []) d) >>= parts_of)
+    >>= (λ d. or_bad (codes "script") (members_of (names_of with_modules) d) >>= parts_of)

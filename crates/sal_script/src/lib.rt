@@ -10,7 +10,7 @@
 //! `specs/Report` the text of that.
 //!
 //! ```
-//! let script = read_script(alloc, br#"{"clients":[{"steps":[["begin",0,0,"rw"]]}],"order":[0]}"#)?;
+//! let script = read_script(alloc, br#"{"clients":[{"steps":[["begin",0,0,"rw"]]}],"order":[0]}"#, false)?;
 //! ```
 //!
 //! Cost: linear in the bytes. Hostile input is refused by its place; nesting is bounded by the JSON reader.
@@ -27,4 +27,4 @@ mod values;
 
 pub use fault::ScriptFault;
 pub use read::read_script;
-pub use script::{MAX_CLIENTS, MAX_PROGRAM, Program, Script, ScriptStep};
+pub use script::{MAX_CLIENTS, MAX_PROGRAM, PLAIN, Program, Script, ScriptStep};

@@ -1,25 +1,27 @@
 //! Scripts, read from JSON (RFC 8259).
-ghost use Rattle.std.specs.Prelude.{◌≡◌, [], ◌∷◌, codes, map, option_and_then, option_map};
+ghost use Rattle.std.specs.Prelude.{◌≡◌, [], ◌∷◌, codes, map, option_and_then, option_map, IfOk, IfErr, IfSome, IsTrue};
 ghost use Rattle.serde_json.specs.View.{view, members_view};
 ghost use Rattle.sal_script.specs.Json.{data_of};
 ghost use Rattle.sal_script.specs.Reading.{Reads, ReadsScript, parts};
+ghost use Rattle.sal_script.specs.Limits.{are_short, is_short};
 ghost use Rattle.sal_script.specs.Script as spec;
+ghost use Rattle.sal_script.specs.declared.script.TheConstants.{PLAIN};
 
 use crate::fault::{ScriptFault, bad, bad_client, bad_step};
-use crate::script::{MAX_CLIENTS, MAX_PROGRAM, Program, Script, ScriptStep};
+use crate::script::{MAX_CLIENTS, MAX_PROGRAM, PLAIN, Program, Script, ScriptStep};
 use crate::step::step_of;
 use crate::values::{list_member, list_of, member, members_of, whole_below};
-use sal_types::Seq;
+use sal_types::{Seq, Str};
 use serde_json::{Map, Value};
 use std::alloc::Global;
 
-/// The script that bytes stand for, or the first bad place: the bytes as JSON, the object's members, `clients` and
-/// each client, the steps of each client, `order`.
-pub fn read_script(alloc: Global, bytes: &[u8]) -> Result<Script, ScriptFault>
-    ensures { ReadsScript result (spec.script_of bytes.now) }
+/// The script that bytes stand for, or the first bad place: the bytes as JSON, the object's members, `modules`,
+/// `clients` and each client, the steps of each client, `order`. `with_modules` tells whether it may name modules.
+pub fn read_script(alloc: Global, bytes: &[u8], with_modules: bool) -> Result<Script, ScriptFault>
+    ensures { ReadsScript result (spec.script_of with_modules bytes.now) }
 {
     let value = value_of(alloc, bytes)?;
-    let members = script_members(alloc, &value)?;
+    let members = script_members(alloc, &value, with_modules)?;
     parts_of(alloc, members)
 }
 
@@ -41,26 +43,91 @@ fn value_of(alloc: Global, bytes: &[u8]) -> Result<Value, ScriptFault>
 fn script_members<'v>(
     alloc: Global,
     value: &'v Value,
+    with_modules: bool,
 ) -> Result<&'v Map<String, Value>, ScriptFault>
-    ensures { Reads (λ members. members_view members.now.entries) result (spec.or_bad (codes "script") (spec.members_of (codes "clients" ∷ codes "order" ∷ []) (view value.now))) }
+    ensures { Reads (λ members. members_view members.now.entries) result (spec.or_bad (codes "script") (spec.members_of (spec.names_of with_modules) (view value.now))) }
 {
-    match members_of(value, &["clients", "order"]) {
+    match listed_members(value, with_modules) {
         Some(members) => Ok(members),
         None => Err(bad(alloc, "script")),
+    }
+}
+
+// The members of the object, where it has no others than it may.
+fn listed_members(value: &Value, with_modules: bool) -> Option<&Map<String, Value>>
+    ensures { option_map (λ members. members_view members.now.entries) result ≡ spec.members_of (spec.names_of with_modules) (view value.now) }
+{
+    if with_modules {
+        members_of(value, &["modules", "clients", "order"])
+    } else {
+        members_of(value, &["clients", "order"])
     }
 }
 
 fn parts_of(alloc: Global, members: &Map<String, Value>) -> Result<Script, ScriptFault>
     ensures { Reads parts result (spec.parts_of (members_view members.now.entries)) }
 {
+    let modules = modules_of(alloc, members)?;
     let listed = listed_clients(alloc, members)?;
     let programs = programs_of(alloc, listed)?;
     let clients = clients_of(alloc, &programs)?;
     let order = order_of(alloc, members)?;
     Ok(Script {
+        modules: Seq::from_items(modules),
         clients: Seq::from_items(clients),
         order: Seq::from_items(order),
     })
+}
+
+// The texts of the modules.
+fn modules_of(alloc: Global, members: &Map<String, Value>) -> Result<Vec<Str>, ScriptFault>
+    ensures texts { Reads (λ texts. texts.items) result (spec.or_bad (codes "modules") (spec.modules_member (members_view members.now.entries))) }
+    ensures short { IfOk result (λ texts. IsTrue (are_short texts.items)) }
+{
+    match member(members, "modules") {
+        None => plain(alloc),
+        Some(value) => match list_of(value) {
+            Some(list) => texts_of(alloc, list),
+            None => Err(bad(alloc, "modules")),
+        },
+    }
+}
+
+// The text of the module `plain` alone.
+fn plain(alloc: Global) -> Result<Vec<Str>, ScriptFault>
+    ensures texts { IfOk result (λ texts. texts.items ≡ PLAIN.now ∷ []) }
+    ensures short { IfOk result (λ texts. IsTrue (are_short texts.items)) }
+    ensures fault { IfErr result (λ e. e ≡ ScriptFault.NoMemory) }
+{
+    let mut texts = Vec::new(alloc);
+    texts.push(Str::new(alloc, PLAIN)?)?;
+    Ok(texts)
+}
+
+// The texts of these modules.
+fn texts_of(alloc: Global, list: &[Value]) -> Result<Vec<Str>, ScriptFault>
+    ensures texts { Reads (λ texts. texts.items) result (spec.or_bad (codes "modules") (spec.all_of spec.text_of (map view list.now))) }
+    ensures short { IfOk result (λ texts. IsTrue (are_short texts.items)) }
+{
+    let mut texts = Vec::with_capacity(alloc, list.len())?;
+    for value in list {
+        match text_of(value) {
+            Some(text) => texts.push(Str::new(alloc, text)?)?,
+            None => return Err(bad(alloc, "modules")),
+        }
+    }
+    Ok(texts)
+}
+
+// The text of a module.
+fn text_of(value: &Value) -> Option<&str>
+    ensures text { option_map (λ text. text.now) result ≡ spec.text_of (view value.now) }
+    ensures short { IfSome result (λ text. IsTrue (is_short text.now)) }
+{
+    match value.as_str() {
+        Some(text) if text.len() < 1 << 32 => Some(text),
+        _ => None,
+    }
 }
 
 // The list, where it is no longer than the limit.

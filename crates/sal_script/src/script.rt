@@ -1,6 +1,6 @@
 //! Scripts and their steps.
 ghost use Rattle.std.specs.Prelude.{IsTrue};
-ghost use Rattle.sal_script.specs.Limits.{within_limits};
+ghost use Rattle.sal_script.specs.Limits.{are_short, within_limits};
 
 use sal_rows::Mode;
 use sal_types::{Path, Seq, Store, Str};
@@ -10,6 +10,10 @@ pub const MAX_CLIENTS: usize = 16;
 
 /// How many steps a client has at most.
 pub const MAX_PROGRAM: usize = 256;
+
+/// The module of a script that names none: a container with eight leafs.
+pub const PLAIN: &str =
+    "module plain { namespace \"urn:plain\"; prefix p; container box {\n leaf a { type string; } leaf b { type string; } leaf c { type string; } leaf d { type string; }\n leaf e { type string; } leaf f { type string; } leaf g { type string; } leaf h { type string; } } }\n";
 
 /// One step of a client. Slots are the client's own places for transactions and for receipts, from 0 to 255.
 #[derive(Debug, Drop)]
@@ -46,10 +50,13 @@ pub enum ScriptStep {
 /// The steps of a client, in order.
 pub type Program = Seq<ScriptStep>;
 
-/// A script: at most 16 clients with at most 256 steps each, and the order of their shared calls.
+/// A script: the texts of its modules, each shorter than 4 GiB, at most 16 clients with at most 256 steps each, and the
+/// order of their shared calls.
 #[derive(Debug, Drop)]
 pub struct Script {
+    pub modules: Seq<Str>,
     pub clients: Seq<Program>,
     pub order: Seq<u32>,
+    ghost short: { IsTrue (are_short modules) },
     ghost limits: { IsTrue (within_limits clients) },
 }

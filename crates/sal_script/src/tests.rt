@@ -5,7 +5,7 @@ use std::alloc::Global;
 use std::test::Fail;
 
 // Texts and their first bad places; `ok` where there is none.
-const TEXTS: [(&str, &str); 62] = [
+const TEXTS: [(&str, &str); 69] = [
     ("{}", "ok"),
     (" {\n} ", "ok"),
     ("", "json"),
@@ -15,6 +15,13 @@ const TEXTS: [(&str, &str); 62] = [
     ("null", "script"),
     ("{\"steps\":[]}", "script"),
     ("{\"clients\":[],\"Order\":[]}", "script"),
+    ("{\"modules\":null}", "modules"),
+    ("{\"modules\":{}}", "modules"),
+    ("{\"modules\":[\"\",0]}", "modules"),
+    ("{\"modules\":[[]],\"clients\":0}", "modules"),
+    ("{\"modules\":[],\"clients\":0}", "clients"),
+    ("{\"modules\":[\"module m\",\"\"]}", "ok"),
+    ("{\"module\":[]}", "script"),
     ("{\"clients\":null}", "clients"),
     ("{\"clients\":{}}", "clients"),
     ("{\"order\":null}", "order"),
@@ -101,7 +108,7 @@ const TEXTS: [(&str, &str); 62] = [
 ];
 
 fn place_of(alloc: Global, bytes: &[u8]) -> Result<Str, Fail> {
-    match read_script(alloc, bytes) {
+    match read_script(alloc, bytes, true) {
         Ok(_) => Ok(Str::new(alloc, "ok")?),
         Err(ScriptFault::BadScript { place }) => Ok(place),
         Err(ScriptFault::NoMemory) => Ok(Str::new(alloc, "no memory")?),
@@ -179,7 +186,9 @@ fn limits_and_bytes(rt: HostRuntime) -> Result<(), Fail> {
 fn a_script_is_read(rt: HostRuntime) -> Result<(), Fail> {
     let text =
         b"{\"order\":[0,1,0],\"clients\":[{\"steps\":[[\"begin\",3,0,\"rw\"],[\"put\",3,\"config\",\"/plain:box/c\",\"\\u00e9\"]]},{\"steps\":[]}]}";
-    let script = read_script(rt.alloc(), text)?;
+    let script = read_script(rt.alloc(), text, false)?;
+    assert_eq!(rt; script.modules.items().len(), 1);
+    assert!(rt; script.modules.items()[0].as_str() == PLAIN);
     assert_eq!(rt; script.order.items(), [0, 1, 0].as_slice());
     let clients = script.clients.items();
     assert_eq!(rt; clients.len(), 2);
@@ -205,5 +214,22 @@ fn a_script_is_read(rt: HostRuntime) -> Result<(), Fail> {
         _ => false,
     };
     assert!(rt; is_put);
+    Ok(())
+}
+
+#[test]
+fn modules_are_read(rt: HostRuntime) -> Result<(), Fail> {
+    let text = b"{\"modules\":[\"module a {\",\"\\u00e9\"]}";
+    let script = read_script(rt.alloc(), text, true)?;
+    let texts = script.modules.items();
+    assert_eq!(rt; texts.len(), 2);
+    assert!(rt; texts[0].as_str() == "module a {");
+    assert!(rt; texts[1].as_str() == "é");
+    let refused = read_script(rt.alloc(), text, false);
+    let is_bad = match refused {
+        Err(ScriptFault::BadScript { place }) => place.as_str() == "script",
+        _ => false,
+    };
+    assert!(rt; is_bad);
     Ok(())
 }

@@ -14,6 +14,14 @@ pub returns-clause-script : goal.returns-clause-script
 unfolding serde_json_on_literals utf8_valid_len is_utf8 chars
 returns-clause-script c = refl
 
+pub returns-clause-no_modules : goal.returns-clause-no_modules
+unfolding serde_json_on_literals utf8_valid_len is_utf8 chars
+returns-clause-no_modules c = refl
+
+pub returns-clause-modules : goal.returns-clause-modules
+unfolding serde_json_on_literals utf8_valid_len is_utf8 chars
+returns-clause-modules c = refl
+
 pub returns-clause-step : goal.returns-clause-step
 unfolding digits serde_json_on_literals utf8_valid_len is_utf8 chars
 returns-clause-step c = refl

@@ -11,6 +11,7 @@ invariant_of-result c =
     let ms = members_view c.args.members.now.entries in
     let made = rw c.deref.ensures.value at c.in_ok-clients.ensures in
     record {
-      limits = rw c.from_items.ensures
+      short = rw c.from_items.ensures c.in_ok-modules.ensures.short;
+      limits = rw c.from_items-2.ensures
           (within (codes "clients") (list_member (codes "clients") ms) (map view c.in_ok-listed.listed.now) (map data_in c.in_ok-programs.programs.items) c.in_ok-clients.clients.items c.in_ok-listed.ensures c.in_ok-programs.ensures made);
     }

@@ -107,8 +107,8 @@ const TEXTS: [(&str, &str); 69] = [
     ("\"submit\"", "clients/0/0"),
 ];
 
-fn place_of(alloc: Global, bytes: &[u8]) -> Result<Str, Fail> {
-    match read_script(alloc, bytes, true) {
+fn place_of(alloc: Global, bytes: &[u8], with_modules: bool) -> Result<Str, Fail> {
+    match read_script(alloc, bytes, with_modules) {
         Ok(_) => Ok(Str::new(alloc, "ok")?),
         Err(ScriptFault::BadScript { place }) => Ok(place),
         Err(ScriptFault::NoMemory) => Ok(Str::new(alloc, "no memory")?),
@@ -154,7 +154,7 @@ fn first_bad_places(rt: HostRuntime) -> Result<(), Fail> {
         } else {
             String::from_str(alloc, *text)?
         };
-        let place = place_of(alloc, script.as_bytes())?;
+        let place = place_of(alloc, script.as_bytes(), true)?;
         assert!(rt; place.as_str() == *want, "{text}");
     }
     Ok(())
@@ -171,13 +171,13 @@ fn limits_and_bytes(rt: HostRuntime) -> Result<(), Fail> {
         (16, 256, "ok"),
     ] {
         let script = with_many(alloc, clients, steps)?;
-        let place = place_of(alloc, script.as_bytes())?;
+        let place = place_of(alloc, script.as_bytes(), true)?;
         assert!(rt;
             place.as_str() == want,
             "{clients} clients with {steps} steps"
         );
     }
-    let place = place_of(alloc, b"{\"clients\":[{\"steps\":[[\"\xff\"]]}]}")?;
+    let place = place_of(alloc, b"{\"clients\":[{\"steps\":[[\"\xff\"]]}]}", false)?;
     assert!(rt; place.as_str() == "json");
     Ok(())
 }
@@ -225,11 +225,7 @@ fn modules_are_read(rt: HostRuntime) -> Result<(), Fail> {
     assert_eq!(rt; texts.len(), 2);
     assert!(rt; texts[0].as_str() == "module a {");
     assert!(rt; texts[1].as_str() == "é");
-    let refused = read_script(rt.alloc(), text, false);
-    let is_bad = match refused {
-        Err(ScriptFault::BadScript { place }) => place.as_str() == "script",
-        _ => false,
-    };
-    assert!(rt; is_bad);
+    let place = place_of(rt.alloc(), text, false)?;
+    assert!(rt; place.as_str() == "script");
     Ok(())
 }

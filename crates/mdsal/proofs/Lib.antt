@@ -10,4 +10,5 @@ pub mod Looking
 pub mod Numbers
 pub mod Soundness
 pub mod Standing
+pub mod Statements
 pub mod Views

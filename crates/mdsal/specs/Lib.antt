@@ -5,6 +5,7 @@ pub mod Found
 pub mod Kept
 pub mod Runs
 pub mod Slots
+pub mod Schemas
 pub mod Statuses
 pub mod Top
 pub mod Views

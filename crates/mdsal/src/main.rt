@@ -1,11 +1,12 @@
 //! The data broker's command: `mdsal sim` plays a script of clients over one broker and writes what each saw and what
-//! was committed.
+//! was committed; `mdsal schema` judges a script's modules.
 //!
 //! | module | what it has |
 //! |---|---|
 //! | `top` | the top call `mdsal`, which does all that the program does |
 //! | `words`, `status` | the forms of the command line; how the command ends |
 //! | `simulation`, `run`, `client` | a script in its order; a client's way to its next shared call; its slots and steps |
+//! | `schema`, `schema_fault` | the modules of a device; the texts of their faults |
 //! | `transaction`, `slots` | an open transaction with its view; what slots hold |
 //! | `broker`, `decided`, `commit`, `conflict` | the log's replies; decisions; commits with their trees; conflicts |
 #![tactic(auto)]
@@ -16,6 +17,8 @@ pub mod commit;
 pub mod conflict;
 pub mod decided;
 pub mod run;
+pub mod schema;
+pub mod schema_fault;
 pub mod simulation;
 pub mod slots;
 pub mod status;

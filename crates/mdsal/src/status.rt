@@ -20,6 +20,8 @@ pub enum Status {
     TooLong,
     /// The input is no script; the first bad place.
     BadScript { place: Str },
+    /// The modules of this device build no schema; the text of their first fault.
+    BadSchema { device: u32, text: Str },
     /// The order fails at this index.
     BadOrder { index: u64 },
     /// Memory ran out.
@@ -38,6 +40,7 @@ impl Status {
             Status::WriteFault => 4,
             Status::TooLong => 5,
             Status::BadScript { .. } => 6,
+            Status::BadSchema { .. } => 7,
             Status::BadOrder { .. } => 9,
             Status::NoMemory => 10,
         }
@@ -54,6 +57,7 @@ impl Status {
             Status::WriteFault => Str::new(alloc, "write fault\n"),
             Status::TooLong => Str::new(alloc, "too long\n"),
             Status::BadScript { place } => bad_script(alloc, place),
+            Status::BadSchema { device, text } => bad_schema(alloc, *device, text),
             Status::BadOrder { index } => bad_order(alloc, *index),
             Status::NoMemory => Str::new(alloc, "no memory\n"),
         }
@@ -66,6 +70,16 @@ fn bad_script(alloc: Global, place: &Str) -> Result<Str, NoMemory>
     let mut line = String::new(alloc);
     line.push_str("bad script at ")?;
     line.push_str(place.as_str())?;
+    line.push('\n')?;
+    Ok(Str::from_string(line))
+}
+
+fn bad_schema(alloc: Global, device: u32, text: &Str) -> Result<Str, NoMemory>
+    ensures { IfOk result (λ line. line ≡ line_of (Status.BadSchema device text.now)) }
+{
+    let mut line = String::new(alloc);
+    write!(line, "bad schema {device} ")?;
+    line.push_str(text.as_str())?;
     line.push('\n')?;
     Ok(Str::from_string(line))
 }

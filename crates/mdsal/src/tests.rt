@@ -1,6 +1,9 @@
 use super::*;
+use crate::schema::schema_of;
+use crate::schema_fault::SchemaFault;
 use crate::top::{HELP, LIMIT, VERSION, mdsal};
 use sal_io::{MemSink, MemSource};
+use std::alloc::Global;
 use std::test::Fail;
 
 const OWN: &str =
@@ -58,6 +61,13 @@ fn scripts_end_with_their_reports(rt: HostRuntime) -> Result<(), Fail> {
         ("sim", "{", 6, ""),
         ("sim", r#"{"clients":[{"steps":[["fly"]]}]}"#, 6, ""),
         ("sim", r#"{"order":[0]}"#, 9, ""),
+        ("sim", r#"{"modules":[]}"#, 6, ""),
+        ("schema", "{}", 0, ""),
+        ("schema", r#"{"modules":[]}"#, 0, ""),
+        ("schema", r#"{"modules":[7]}"#, 6, ""),
+        ("schema", r#"{"order":[0]}"#, 0, ""),
+        ("schema", r#"{"modules":["module m {"]}"#, 7, ""),
+        ("Schema", "{}", 2, ""),
     ];
     for (word, input, number, wanted) in table {
         let bytes = input.as_bytes().to_vec(rt.alloc())?;
@@ -93,6 +103,82 @@ fn faults_are_told_by_their_status(rt: HostRuntime) -> Result<(), Fail> {
     Ok(())
 }
 
+// The texts of modules, and the text of their first fault.
+const MODULES: [(&str, &str); 20] = [
+    ("module m {", "module 0 unclosed 9"),
+    ("module m { prefix p; }", "build missing 0 0 namespace"),
+    (
+        "module m { namespace \"u\"; prefix p; prefix q; }",
+        "build twice 0 36 prefix",
+    ),
+    (
+        "module m { namespace \"u\"; prefix p; anydata x; }",
+        "build left-out 0 36",
+    ),
+    (
+        "module m { namespace \"u\"; prefix p; import q { prefix q; } }",
+        "build no-module 0 36",
+    ),
+    ("", "module 0 bad-token 0"),
+    ("module m 'a\u{1}b';", "module 0 bad-token 11"),
+    (
+        "module m { description \"\\d\"; }",
+        "module 0 bad-escape 24",
+    ),
+    ("module m; }", "module 0 text-after 10"),
+    ("leaf x;", "build unknown-statement 0 0"),
+    ("submodule x;", "build left-out 0 0"),
+    (
+        "module 1 { namespace \"u\"; prefix p; }",
+        "build bad-argument 0 0",
+    ),
+    (
+        "module m { namespace \"u\"; prefix p; leaf a { } }",
+        "build missing 0 36 type",
+    ),
+    (
+        "module m { namespace \"u\"; prefix p; import m { prefix q; } }",
+        "build import-cycle 0 36",
+    ),
+    (
+        "module m { namespace \"u\"; prefix p; }|module m { namespace \"u\"; prefix p; }",
+        "build double-node 1 0",
+    ),
+    (
+        "module m { namespace \"u\"; prefix p; }|module n {",
+        "module 1 unclosed 9",
+    ),
+    ("module m { namespace \"u\"; prefix p; }", "ok"),
+    (
+        "module m { namespace \"u\"; prefix p; import n { prefix q; } }|module n { namespace \"v\"; prefix p; }",
+        "ok",
+    ),
+    ("module m { prefix p; }|module n {", "module 1 unclosed 9"),
+    ("module m { leaf x; } }", "module 0 text-after 21"),
+];
+
+// The text of the fault of these modules, or `ok`.
+fn fault_of(alloc: Global, modules: &str) -> Result<Str, Fail> {
+    let mut texts = Vec::new(alloc);
+    for text in modules.split('|') {
+        texts.push(Str::new(alloc, text)?)?;
+    }
+    match schema_of(alloc, &texts) {
+        Ok(_) => Ok(Str::new(alloc, "ok")?),
+        Err(SchemaFault::Bad { text }) => Ok(text),
+        Err(SchemaFault::NoMemory) => Ok(Str::new(alloc, "no memory")?),
+    }
+}
+
+#[test]
+fn modules_are_judged(rt: HostRuntime) -> Result<(), Fail> {
+    for (modules, wanted) in MODULES.iter() {
+        let text = fault_of(rt.alloc(), modules)?;
+        assert!(rt; text.as_str() == *wanted, "{modules}");
+    }
+    Ok(())
+}
+
 #[test]
 fn lines_name_the_place(rt: HostRuntime) -> Result<(), Fail> {
     let place = Str::new(rt.alloc(), "clients/0/2")?;
@@ -100,6 +186,9 @@ fn lines_name_the_place(rt: HostRuntime) -> Result<(), Fail> {
     assert_eq!(rt; script.as_str(), "bad script at clients/0/2\n");
     let order = Status::BadOrder { index: 5 }.line(rt.alloc())?;
     assert_eq!(rt; order.as_str(), "bad order at 5\n");
+    let text = Str::new(rt.alloc(), "module 0 unclosed 9")?;
+    let schema = Status::BadSchema { device: 0, text }.line(rt.alloc())?;
+    assert_eq!(rt; schema.as_str(), "bad schema 0 module 0 unclosed 9\n");
     assert_eq!(rt; Status::Done.line(rt.alloc())?.as_str(), "");
     Ok(())
 }

@@ -4,8 +4,11 @@ ghost use Rattle.sal_io.specs.Causes.{Rose};
 ghost use Rattle.mdsal.specs.Words.{form_of};
 ghost use Rattle.sal_script.specs.Play as play_spec;
 ghost use Rattle.sal_script.specs.Report as report_spec;
+ghost use Rattle.mdsal.specs.Schemas as schemas;
 ghost use Rattle.mdsal.specs.Top as spec;
 
+use crate::schema::schema_of;
+use crate::schema_fault::SchemaFault;
 use crate::simulation::{PlayFault, Played, play};
 use crate::status::Status;
 use crate::words::{Form, form_of};
@@ -22,11 +25,15 @@ pub const LIMIT: usize = 16777216;
 pub const HELP: &str = "mdsal: an SDN controller's data broker, run from a script\n\
 \n\
 usage: mdsal sim < SCRIPT\n\
+       mdsal schema < SCRIPT\n\
        mdsal --help | --version\n\
 \n\
 sim reads a JSON script from standard input, plays its clients' steps in the script's order on one thread, and\n\
 writes the report to standard output: the order, a line for each step, and the trees at the end. The script's\n\
 format is written in docs/DEFINITIONS.md, and examples/ has scripts with their reports.\n\
+\n\
+schema reads a script too, and judges the modules that it names: their statements, names and imports. For good\n\
+modules it writes nothing yet.\n\
 \n\
 exit status, each but 0 with its line on standard error:\n\
   0  done: the whole text was written\n\
@@ -35,6 +42,7 @@ exit status, each but 0 with its line on standard error:\n\
   4  write fault: a front of the text may have been written\n\
   5  too long: the input has more than 16777216 bytes\n\
   6  bad script at PLACE: the first bad place, as clients/0/2\n\
+  7  bad schema DEVICE FAULT: the modules build no schema, as bad schema 0 module 0 unclosed 9\n\
   9  bad order at INDEX: the order names a client without a shared call left, or ends too early\n\
  10  no memory\n";
 
@@ -59,6 +67,7 @@ pub fn mdsal<S: Source, K: Sink, G: Gate>(
     match form_of(words) {
         None => Status::BadWords,
         Some(Form::Sim) => simulate(alloc, source, sink, gate),
+        Some(Form::Schema) => describe(alloc, source, sink),
         Some(Form::Help) => write_text(sink, HELP),
         Some(Form::Version) => write_text(sink, VERSION),
     }
@@ -73,7 +82,7 @@ fn simulate<S: Source, K: Sink, G: Gate>(
 ) -> Status
     ensures read_fault { result ≡ Status.ReadFault → Rose (S.faults source.old) (S.faults source.new) }
     ensures write_fault { result ≡ Status.WriteFault → Rose (K.faults sink.old) (K.faults sink.new) }
-    ensures answer { spec.SimAnswers (S.left source.old) (S.left source.new) (K.taken sink.old) (K.taken sink.new) result }
+    ensures answer { spec.TextAnswers spec.sim_text (S.left source.old) (S.left source.new) (K.taken sink.old) (K.taken sink.new) result }
 {
     match read_all(alloc, source, LIMIT) {
         Err(ReadFail::ReadFault) => Status::ReadFault,
@@ -86,11 +95,50 @@ fn simulate<S: Source, K: Sink, G: Gate>(
     }
 }
 
+// Reads the script, and writes the text of the schema that its modules build.
+fn describe<S: Source, K: Sink>(alloc: Global, source: &mut S, sink: &mut K) -> Status
+    ensures read_fault { result ≡ Status.ReadFault → Rose (S.faults source.old) (S.faults source.new) }
+    ensures write_fault { result ≡ Status.WriteFault → Rose (K.faults sink.old) (K.faults sink.new) }
+    ensures answer { spec.TextAnswers spec.schema_text (S.left source.old) (S.left source.new) (K.taken sink.old) (K.taken sink.new) result }
+{
+    match read_all(alloc, source, LIMIT) {
+        Err(ReadFail::ReadFault) => Status::ReadFault,
+        Err(ReadFail::TooLong) => Status::TooLong,
+        Err(ReadFail::NoMemory) => Status::NoMemory,
+        Ok(bytes) => match schema_text(alloc, &bytes) {
+            Ok(text) => write_text(sink, text.as_str()),
+            Err(status) => status,
+        },
+    }
+}
+
+// The text of the schema that the modules of the script build.
+fn schema_text(alloc: Global, bytes: &[u8]) -> Result<Str, Status>
+    ensures { spec.IsTextOr (spec.schema_text bytes.now) result }
+{
+    match read_script(alloc, bytes, true) {
+        Ok(script) => modules_text(alloc, &script),
+        Err(ScriptFault::BadScript { place }) => Err(Status::BadScript { place }),
+        Err(ScriptFault::NoMemory) => Err(Status::NoMemory),
+    }
+}
+
+// The text of the schema of domain 0.
+fn modules_text(alloc: Global, script: &Script) -> Result<Str, Status>
+    ensures { spec.IsTextOr (spec.text_of_modules (schemas.schema_of script.now.modules)) result }
+{
+    match schema_of(alloc, script.modules.items()) {
+        Ok(text) => Ok(text),
+        Err(SchemaFault::Bad { text }) => Err(Status::BadSchema { device: 0, text }),
+        Err(SchemaFault::NoMemory) => Err(Status::NoMemory),
+    }
+}
+
 // The report of the script that the bytes stand for.
 fn sim_text<G: Gate>(alloc: Global, bytes: &[u8], gate: &G) -> Result<Str, Status>
     ensures { spec.IsTextOr (spec.sim_text bytes.now) result }
 {
-    match read_script(alloc, bytes) {
+    match read_script(alloc, bytes, false) {
         Ok(script) => play_text(alloc, &script, gate),
         Err(ScriptFault::BadScript { place }) => Err(Status::BadScript { place }),
         Err(ScriptFault::NoMemory) => Err(Status::NoMemory),

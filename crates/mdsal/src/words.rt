@@ -9,6 +9,8 @@ use sal_types::Str;
 pub enum Form {
     /// Plays the script in its order and writes the report.
     Sim,
+    /// Judges the script's modules, and writes the text of their schema.
+    Schema,
     /// Writes the help text.
     Help,
     /// Writes the name and version.
@@ -30,6 +32,8 @@ fn form_named(word: &str) -> Option<Form>
 {
     if word == "sim" {
         Some(Form::Sim)
+    } else if word == "schema" {
+        Some(Form::Schema)
     } else if word == "--help" {
         Some(Form::Help)
     } else if word == "--version" {

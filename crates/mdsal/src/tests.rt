@@ -1,9 +1,6 @@
 use super::*;
-use crate::schema::schema_of;
-use crate::schema_fault::SchemaFault;
 use crate::top::{HELP, LIMIT, VERSION, mdsal};
 use sal_io::{MemSink, MemSource};
-use std::alloc::Global;
 use std::test::Fail;
 
 const OWN: &str =
@@ -66,6 +63,12 @@ fn scripts_end_with_their_reports(rt: HostRuntime) -> Result<(), Fail> {
         ("schema", r#"{"modules":[]}"#, 0, ""),
         ("schema", r#"{"modules":[7]}"#, 6, ""),
         ("schema", r#"{"order":[0]}"#, 0, ""),
+        (
+            "schema",
+            r#"{"modules":["module m { namespace \"u\"; prefix p; import n { prefix q; } }","module n { namespace \"v\"; prefix p; }"]}"#,
+            0,
+            "",
+        ),
         ("schema", r#"{"modules":["module m {"]}"#, 7, ""),
         ("Schema", "{}", 2, ""),
     ];
@@ -103,78 +106,82 @@ fn faults_are_told_by_their_status(rt: HostRuntime) -> Result<(), Fail> {
     Ok(())
 }
 
-// The texts of modules, and the text of their first fault.
-const MODULES: [(&str, &str); 20] = [
-    ("module m {", "module 0 unclosed 9"),
-    ("module m { prefix p; }", "build missing 0 0 namespace"),
+// Scripts, and the texts of the first faults of their modules.
+const MODULES: [(&str, &str); 18] = [
+    (r#"{"modules":["module m {"]}"#, "module 0 unclosed 9"),
     (
-        "module m { namespace \"u\"; prefix p; prefix q; }",
+        r#"{"modules":["module m { prefix p; }"]}"#,
+        "build missing 0 0 namespace",
+    ),
+    (
+        r#"{"modules":["module m { namespace \"u\"; prefix p; prefix q; }"]}"#,
         "build twice 0 36 prefix",
     ),
     (
-        "module m { namespace \"u\"; prefix p; anydata x; }",
+        r#"{"modules":["module m { namespace \"u\"; prefix p; anydata x; }"]}"#,
         "build left-out 0 36",
     ),
     (
-        "module m { namespace \"u\"; prefix p; import q { prefix q; } }",
+        r#"{"modules":["module m { namespace \"u\"; prefix p; import q { prefix q; } }"]}"#,
         "build no-module 0 36",
     ),
-    ("", "module 0 bad-token 0"),
-    ("module m 'a\u{1}b';", "module 0 bad-token 11"),
+    (r#"{"modules":[""]}"#, "module 0 bad-token 0"),
     (
-        "module m { description \"\\d\"; }",
+        r#"{"modules":["module m 'a\u0001b';"]}"#,
+        "module 0 bad-token 11",
+    ),
+    (
+        r#"{"modules":["module m { description \"\\d\"; }"]}"#,
         "module 0 bad-escape 24",
     ),
-    ("module m; }", "module 0 text-after 10"),
-    ("leaf x;", "build unknown-statement 0 0"),
-    ("submodule x;", "build left-out 0 0"),
+    (r#"{"modules":["module m; }"]}"#, "module 0 text-after 10"),
+    (r#"{"modules":["leaf x;"]}"#, "build unknown-statement 0 0"),
+    (r#"{"modules":["submodule x;"]}"#, "build left-out 0 0"),
     (
-        "module 1 { namespace \"u\"; prefix p; }",
+        r#"{"modules":["module 1 { namespace \"u\"; prefix p; }"]}"#,
         "build bad-argument 0 0",
     ),
     (
-        "module m { namespace \"u\"; prefix p; leaf a { } }",
+        r#"{"modules":["module m { namespace \"u\"; prefix p; leaf a { } }"]}"#,
         "build missing 0 36 type",
     ),
     (
-        "module m { namespace \"u\"; prefix p; import m { prefix q; } }",
+        r#"{"modules":["module m { namespace \"u\"; prefix p; import m { prefix q; } }"]}"#,
         "build import-cycle 0 36",
     ),
     (
-        "module m { namespace \"u\"; prefix p; }|module m { namespace \"u\"; prefix p; }",
+        r#"{"modules":["module m { namespace \"u\"; prefix p; }","module m { namespace \"u\"; prefix p; }"]}"#,
         "build double-node 1 0",
     ),
     (
-        "module m { namespace \"u\"; prefix p; }|module n {",
+        r#"{"modules":["module m { namespace \"u\"; prefix p; }","module n {"]}"#,
         "module 1 unclosed 9",
     ),
-    ("module m { namespace \"u\"; prefix p; }", "ok"),
     (
-        "module m { namespace \"u\"; prefix p; import n { prefix q; } }|module n { namespace \"v\"; prefix p; }",
-        "ok",
+        r#"{"modules":["module m { prefix p; }","module n {"]}"#,
+        "module 1 unclosed 9",
     ),
-    ("module m { prefix p; }|module n {", "module 1 unclosed 9"),
-    ("module m { leaf x; } }", "module 0 text-after 21"),
+    (
+        r#"{"modules":["module m { leaf x; } }"]}"#,
+        "module 0 text-after 21",
+    ),
 ];
 
-// The text of the fault of these modules, or `ok`.
-fn fault_of(alloc: Global, modules: &str) -> Result<Str, Fail> {
-    let mut texts = Vec::new(alloc);
-    for text in modules.split('|') {
-        texts.push(Str::new(alloc, text)?)?;
-    }
-    match schema_of(alloc, &texts) {
-        Ok(_) => Ok(Str::new(alloc, "ok")?),
-        Err(SchemaFault::Bad { text }) => Ok(text),
-        Err(SchemaFault::NoMemory) => Ok(Str::new(alloc, "no memory")?),
-    }
+// The line of the status with which the words `schema` end on this input.
+fn schema_line(rt: &HostRuntime, input: &str) -> Result<Str, Fail> {
+    let words = vec![in rt.alloc(); Str::new(rt.alloc(), "schema")?]?;
+    let mut source = MemSource::new(input.as_bytes().to_vec(rt.alloc())?, Vec::new(rt.alloc()));
+    let mut sink = MemSink::new(rt.alloc(), 99, Vec::new(rt.alloc()))?;
+    let status = mdsal(rt.alloc(), &words, &mut source, &mut sink, &OpenGate);
+    Ok(status.line(rt.alloc())?)
 }
 
 #[test]
 fn modules_are_judged(rt: HostRuntime) -> Result<(), Fail> {
-    for (modules, wanted) in MODULES.iter() {
-        let text = fault_of(rt.alloc(), modules)?;
-        assert!(rt; text.as_str() == *wanted, "{modules}");
+    for (input, wanted) in MODULES.iter() {
+        let line = schema_line(&rt, *input)?;
+        let wanted = format!(in rt.alloc(); "bad schema 0 {wanted}\n")?;
+        assert!(rt; line.as_str() == wanted.as_str(), "{input}");
     }
     Ok(())
 }

@@ -3,3 +3,4 @@ pub mod Separators
 pub mod Quotes
 pub mod Strings
 pub mod Statements
+pub mod Spelled

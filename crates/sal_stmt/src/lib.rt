@@ -26,6 +26,7 @@
 
 mod bytes;
 mod fault;
+mod laws;
 mod quoted;
 mod reader;
 mod source;

@@ -4,3 +4,4 @@ pub mod Quotes
 pub mod Strings
 pub mod Statements
 pub mod Spelled
+pub mod Readable

@@ -1,7 +1,6 @@
 -- What is read is spelled by the text, piece by piece.
-use Rattle.std.proofs.Common.{◌≡◌, ℕ, zero, suc, ◌+◌, ◌<◌, Bool, true, false, not, ◌&&◌, ◌||◌, ◌==◌, List, [], ◌∷◌, ◌++◌, length, take, drop, Some, None, Result, Ok, Err, ◌⊎◌, inl, inr, refl, sym, ap, ◌∙◌, subst, arith, append-nil, if◌then◌else◌}
-use Rattle.std.specs.Prelude.{⊤, codes}
-use Rattle.std.specs.List.{list_all}
+use Rattle.std.proofs.Common.{◌≡◌, ℕ, zero, suc, ◌<◌, Bool, true, false, not, ◌==◌, List, [], ◌∷◌, ◌++◌, length, drop, Some, None, Result, Ok, Err, ◌⊎◌, inl, inr, refl, sym, ap, ◌∙◌, subst, arith, append-nil, if◌then◌else◌}
+use Rattle.std.specs.Prelude.{codes}
 use Rattle.std.proofs.lemmas.Bool.{cases_Bool, and_parts, and_from, and_right, or_right, or_from, not-false, both_ways, or_cases, not_from_false, eqb-true}
 use Rattle.std.proofs.lemmas.Bool.Decides.{nat_tests}
 use Rattle.std.proofs.lemmas.List.{take-append-drop, nil_from_length}
@@ -10,19 +9,19 @@ use Rattle.sal_stmt.specs.declared.fault.StmtFault.TheVariants.{BadToken, BadEsc
 use Rattle.sal_stmt.specs.declared.stmt.Stmt.{Stmt}
 use Rattle.sal_types.specs.Reading.{◌>>=◌, with_front}
 use Rattle.sal_stmt.specs.Words.{Text, first, is_empty, is_blank, is_control, starts_with, starts_line_comment, starts_block_comment, ends_block_comment, ends_word, word_len, word, after_word, is_keyword}
-use Rattle.sal_stmt.specs.Quoted.{is_escape, last_columns, content}
+use Rattle.sal_stmt.specs.Quoted.{is_escape}
 use Rattle.sal_stmt.specs.Text.{Read, is_quote, is_end, starts_token, turns, Head, made, place, line_comment, block_comment, separators, skip, within, single, double, quoted, joined, argument, header, statements, statement, read}
-use Rattle.sal_stmt.specs.Spelling.{IsLine, ends_line, has_comment_end, IsComment, Separator, Separator.blank, Separator.line, Separator.comment, Gap, no_gap, wider, IsWord, IsSingle, is_plain, IsDouble, IsString, AreStrings, last_string, IsArgument, HasArgument, IsHead, IsPlain, AreStatements, no_statement, one_statement, IsBlock, IsStatement, Spells}
+use Rattle.sal_stmt.specs.Spelling.{IsLine, ends_line, IsComment, Separator.blank, Separator.line, Separator.comment, Gap, no_gap, wider, IsWord, IsSingle, is_plain, IsDouble, IsString, AreStrings, last_string, IsArgument, IsHead, IsPlain, AreStatements, no_statement, one_statement, IsBlock, IsStatement, Spells}
 
 -- ---- steps that went well
 
-abbrev Good : {A : Type 0} → A → Result A StmtFault
+abbrev pub Good : {A : Type 0} → A → Result A StmtFault
 Good x = Ok x
 
 ok_value : {A : Type 0} {x y : A} → Good x ≡ Good y → x ≡ y
 ok_value h = cc
 
-failed : {A : Type 0} (C : Type 0) {e : StmtFault} {x : A} → Err e ≡ Good x → C
+pub failed : {A : Type 0} (C : Type 0) {e : StmtFault} {x : A} → Err e ≡ Good x → C
 failed C h = cc
 
 bind_ok : {A B F : Type 0} (r : Result A F) (f : A → Result B F) {y : B} → (r >>= f) ≡ Ok y → (x : A) × (r ≡ Ok x) × (f x ≡ Ok y)
@@ -135,7 +134,7 @@ single_spelled whole opening (c ∷ t) p h = elim (chosen (c == 39) _ _ h) [
       let (x, read, made) = bind_ok _ _ tail in
       let (bytes, same) = single_spelled whole opening t x read in
       subst (λ (q : List ℕ × Text). IsSingle q.0 × (c ∷ t ≡ q.0 ++ (codes "'" ++ q.1))) (ok_value made)
-        (and_from _ _ (and_from _ _ (not_from_false _ known) (not_from_false _ w.0)) bytes, ap (λ u. c ∷ u) same)
+      (and_from _ _ (and_from _ _ (not_from_false _ known) (not_from_false _ w.0)) bytes, ap (λ u. c ∷ u) same)
 ]
 
 IsDouble-plain : (c : ℕ) (raw : List ℕ) → is_plain c ≡ true → IsDouble raw → IsDouble (c ∷ raw)
@@ -170,7 +169,7 @@ double_spelled whole opening (c ∷ d ∷ t) p h = elim (chosen (c == 34) _ _ h)
               let (x, read, made) = bind_ok _ _ u.1 in
               let (all, same) = double_spelled whole opening t x read in
               subst (λ (q : List ℕ × Text). IsDouble q.0 × (c ∷ d ∷ t ≡ q.0 ++ (codes "\"" ++ q.1))) (ok_value made)
-                (inr (eqb-true c 92 (not-false _ v.0), u.0, all), ap (λ r. c ∷ d ∷ r) same)
+              (inr (eqb-true c 92 (not-false _ v.0), u.0, all), ap (λ r. c ∷ d ∷ r) same)
           | inr u ↦ failed _ u.1
         ]
       ]
@@ -192,7 +191,7 @@ string_spelled whole t p quote h = elim (chosen (first t == 39) _ _ h) [
       let (x, read, made) = bind_ok _ _ w.1 in
       let (all, same) = double_spelled whole (place whole t) (drop 1 t) x read in
       subst (λ (q : List ℕ × Text). IsString whole t q.0 q.1) (ok_value made)
-        (IsString.double x.0 all (quote_cases t quote w.0 ∙ ap (λ u. 34 ∷ u) same) refl)
+      (IsString.double x.0 all (quote_cases t quote w.0 ∙ ap (λ u. 34 ∷ u) same) refl)
 ]
 
 strings_spelled : (whole : Text) (at n : ℕ) (t : Text) (text : List ℕ) (after : Text) (p : List ℕ × Text) → IsString whole t text after → joined whole at n after ≡ Ok p
@@ -205,7 +204,7 @@ strings_spelled whole at (suc n) t text after p one h =
     elim (chosen (not (first here == 43)) _ _ tail) [
       | inl w ↦
           subst (λ (q : List ℕ × Text). (end : Text) × AreStrings whole t (text ++ q.0) end × Gap end q.1) (ok_value w.1)
-            (after, subst (λ x. AreStrings whole t x after) (sym (append-nil text)) (last_string t text after one), wide)
+          (after, subst (λ x. AreStrings whole t x after) (sym (append-nil text)) (last_string t text after one), wide)
       | inr w ↦
           let (next, skipped, step) = bind_ok _ _ w.1 in
           let (is_quoted, last) = no_fault _ _ _ step in
@@ -214,7 +213,7 @@ strings_spelled whole at (suc n) t text after p one h =
           let (end, strings, behind) = strings_spelled whole at n next x.0 x.1 y (string_spelled whole next x (not-false _ is_quoted) read) others in
           let plus = starts_with_byte 43 here refl (not-false _ w.0) in
           subst (λ (q : List ℕ × Text). (end : Text) × AreStrings whole t (text ++ q.0) end × Gap end q.1) (ok_value made)
-            (end, AreStrings.joined t text after (drop 1 here) next (x.0 ++ y.0) end one (subst (Gap after) plus wide) (within_spelled whole at (drop 1 here) next skipped) strings, behind)
+          (end, AreStrings.joined t text after (drop 1 here) next (x.0 ++ y.0) end one (subst (Gap after) plus wide) (within_spelled whole at (drop 1 here) next skipped) strings, behind)
     ]
 
 word_some : (t : Text) → is_empty (word t) ≡ false → 0 < length (word t)
@@ -232,7 +231,7 @@ argument_spelled whole at t p h = elim (chosen (is_quote t) _ _ h) [
       let (some, tail) = no_fault _ _ _ w.1 in
       let (here, gap, made) = bind_ok _ _ tail in
       subst (λ (q : List ℕ × Text). (end : Text) × IsArgument whole t q.0 end × Gap end q.1) (ok_value made)
-        (after_word t, IsArgument.word (word_some t some) (word_spelled t) (word_stands t), within_spelled whole at (after_word t) here gap)
+      (after_word t, IsArgument.word (word_some t some) (word_spelled t) (word_stands t), within_spelled whole at (after_word t) here gap)
 ]
 
 -- ---- statements
@@ -287,7 +286,7 @@ module _ (whole : Text) (inner : Text → Read Stmt) (IsOne : Text → Stmt → 
             let (x, first_read, last) = bind_ok (inner here) _ w.1 in
             let (y, others, made) = bind_ok (statements whole inner opening n x.1) _ last in
             subst (λ (q : List Stmt × Text). AreStatements whole IsOne t q.0 q.1) (ok_value made)
-              (one_statement t here x.0 x.1 y.0 y.1 wide (one here x first_read) (statements_spelled opening n x.1 y others))
+            (one_statement t here x.0 x.1 y.0 y.1 wide (one here x first_read) (statements_spelled opening n x.1 y others))
       ]
 
 plain_spelled : (whole t : Text) (x : Head × Text) → IsHead whole t x.0 x.1 → (first x.1 == 59) ≡ true → IsPlain whole t (made (place whole t) x.0 []) (drop 1 x.1)
@@ -314,7 +313,7 @@ statement_spelled whole (suc levels) t p h =
           let (y, block, last) = bind_ok (statements whole (statement whole levels) (place whole x.1) (turns (drop 1 x.1)) (drop 1 x.1)) _ w.1 in
           let subs = statements_spelled whole (statement whole levels) (IsStatement whole levels) (statement_spelled whole levels) (place whole x.1) (turns (drop 1 x.1)) (drop 1 x.1) y block in
           inr (subst (λ (q : Stmt × Text). IsBlock whole (IsStatement whole levels) t q.0 q.1) (ok_value last)
-            (record { head = x.0; block = drop 1 x.1; subs = y.0; is_head = subst (IsHead whole t x.0) (end_cases x.1 ends w.0) head; are_subs = subs; same = refl }))
+          (record { head = x.0; block = drop 1 x.1; subs = y.0; is_head = subst (IsHead whole t x.0) (end_cases x.1 ends w.0) head; are_subs = subs; same = refl }))
     ]
 
 pub read_is_spelled : (text : Text) (stmt : Stmt) → read text ≡ Ok stmt → Spells text stmt

@@ -132,3 +132,6 @@ ReadIsSpelled = (text : Text) (stmt : Stmt) → read text ≡ Ok stmt → Spells
 
 abbrev pub SpelledIsRead : Type 0
 SpelledIsRead = (text : Text) (stmt : Stmt) → Spells text stmt → read text ≡ Ok stmt
+
+abbrev pub SpelledOnce : Type 0
+SpelledOnce = (text : Text) (a b : Stmt) → Spells text a → Spells text b → a ≡ b

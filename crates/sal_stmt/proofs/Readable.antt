@@ -172,10 +172,19 @@ string_starts : (whole t : Text) (text : List ℕ) (rest : Text) → IsString wh
 string_starts whole t text rest (IsString.single is same) = subst (λ x. (is_quote x ≡ true) × (starts_separator x ≡ false) × (is_empty x ≡ false)) (sym same) (refl, refl, some_left 39 _)
 string_starts whole t text rest (IsString.double raw is same stands) = subst (λ x. (is_quote x ≡ true) × (starts_separator x ≡ false) × (is_empty x ≡ false)) (sym same) (refl, refl, some_left 34 _)
 
-joined-end : (whole : Text) (at : ℕ) (t rest : Text) → Gap t rest → starts_separator rest ≡ false → is_empty rest ≡ false → (first rest == 43) ≡ false → (n : ℕ) → length t < n → joined whole at n t ≡ Ok ([], rest)
+-- a token begins here, and no `+`
+pub record Starts (t : Text) : Type 0 where
+  pub stop : starts_separator t ≡ false
+  pub some : is_empty t ≡ false
+  pub other : (first t == 43) ≡ false
+
+joined-end : (whole : Text) (at : ℕ) (t rest : Text) → Gap t rest → Starts rest → (n : ℕ) → length t < n → joined whole at n t ≡ Ok ([], rest)
 unfolding joined
-joined-end whole at t rest gap stop some other zero room = absurd (omega arith)
-joined-end whole at t rest gap stop some other (suc n) room = rw (within_read whole at t rest gap stop some, other) refl
+joined-end whole at t rest gap starts zero room = absurd (omega arith)
+joined-end whole at t rest gap starts (suc n) room =
+    let behind = within_read whole at t rest gap starts.stop starts.some in
+    let other = starts.other in
+    rw (behind, other) refl
 
 -- the first of some strings, and how the others are read
 pub record AreRead (whole : Text) (at : ℕ) (t : Text) (text : List ℕ) (rest : Text) : Type 0 where
@@ -200,18 +209,18 @@ joined-more whole at t plus next text rest before behind read (suc n) room =
     let later = read.others_read n (omega arith) in
     rw (front, back, quote, string, later) (ap (λ x. Ok (x, rest)) (sym read.text_is))
 
-strings_read : (whole : Text) (at : ℕ) (t : Text) (text : List ℕ) (end rest : Text) → AreStrings whole t text end → Gap end rest → starts_separator rest ≡ false → is_empty rest ≡ false → (first rest == 43) ≡ false
+strings_read : (whole : Text) (at : ℕ) (t : Text) (text : List ℕ) (end rest : Text) → AreStrings whole t text end → Gap end rest → Starts rest
     → AreRead whole at t text rest
-strings_read whole at t text end rest (last_string u v w is) gap stop some other = record {
+strings_read whole at t text end rest (last_string u v w is) gap starts = record {
   one = text;
   after = end;
   others = [];
   first_read = is;
   text_is = sym (append-nil text);
-  others_read = joined-end whole at end rest gap stop some other;
+  others_read = joined-end whole at end rest gap starts;
 }
-strings_read whole at t text end rest (AreStrings.joined u one after plus next more v is before behind strings) gap stop some other =
-    let later = strings_read whole at next more end rest strings gap stop some other in
+strings_read whole at t text end rest (AreStrings.joined u one after plus next more v is before behind strings) gap starts =
+    let later = strings_read whole at next more end rest strings gap starts in
     record {
       one = one;
       after = after;
@@ -224,19 +233,19 @@ strings_read whole at t text end rest (AreStrings.joined u one after plus next m
 quote_no_end : (t : Text) → is_quote t ≡ true → is_end t ≡ false
 quote_no_end t h = grind (arith, nat_tests)
 
-argument_read : (whole : Text) (at : ℕ) (t : Text) (text : List ℕ) (end rest : Text) → IsArgument whole t text end → Gap end rest → starts_separator rest ≡ false → is_empty rest ≡ false → (first rest == 43) ≡ false
+argument_read : (whole : Text) (at : ℕ) (t : Text) (text : List ℕ) (end rest : Text) → IsArgument whole t text end → Gap end rest → Starts rest
     → argument whole at t ≡ Ok (text, rest)
 unfolding argument
-argument_read whole at t [] end rest (IsArgument.word some is same) gap stop left other = absurd (omega arith)
-argument_read whole at t (c ∷ text) end rest (IsArgument.word some is same) gap stop left other =
+argument_read whole at t [] end rest (IsArgument.word some is same) gap starts = absurd (omega arith)
+argument_read whole at t (c ∷ text) end rest (IsArgument.word some is same) gap starts =
     let quote = word_no_quote (c ∷ text ++ end) is.0 in
     let same_word = word_read (c ∷ text) end is in
     let same_after = after_word_read (c ∷ text) end is in
-    let behind = within_read whole at end rest gap stop left in
+    let behind = within_read whole at end rest gap starts.stop starts.some in
     let full = some_left c text in
     rw (same, quote, same_word, same_after, behind, full) refl
-argument_read whole at t text end rest (IsArgument.strings are) gap stop left other =
-    let read = strings_read whole at t text end rest are gap stop left other in
+argument_read whole at t text end rest (IsArgument.strings are) gap starts =
+    let read = strings_read whole at t text end rest are gap starts in
     let (quote, none, some) = string_starts whole t read.one read.after read.first_read in
     let string = string_read whole t read.one read.after read.first_read in
     let later = read.others_read (turns read.after) (omega arith) in
@@ -266,12 +275,6 @@ argument_shorter whole t text end (IsArgument.strings are) = strings_shorter who
 
 -- ---- statements
 
--- a token begins here
-pub record Starts (t : Text) : Type 0 where
-  pub stop : starts_separator t ≡ false
-  pub some : is_empty t ≡ false
-  pub other : (first t == 43) ≡ false
-
 -- a keyword with its argument, apart from its record
 module _ (whole t : Text) (keyword : List ℕ) (after rest : Text) (same : t ≡ keyword ++ after) (is : IsWord keyword after) (name : is_keyword keyword ≡ true) (starts : Starts rest) (ends : is_end rest ≡ true) where
   head-argument : (arg : Option (List ℕ)) → HasArgument whole after arg rest → header whole t ≡ Ok ((keyword, arg), rest)
@@ -286,7 +289,7 @@ module _ (whole t : Text) (keyword : List ℕ) (after rest : Text) (same : t ≡
       let own_after = after_word_read keyword after is in
       let (stop, some, more) = argument_starts whole here text end arg in
       let behind = within_read whole (place whole (keyword ++ after)) after here front stop some in
-      let read = argument_read whole (place whole (keyword ++ after)) here text end rest arg back starts.stop starts.some starts.other in
+      let read = argument_read whole (place whole (keyword ++ after)) here text end rest arg back starts in
       rw (same, own, own_after, name, behind, more, read, ends) refl
 
 head_read : (whole t : Text) (head : Head) (rest : Text) → IsHead whole t head rest → Starts rest → is_end rest ≡ true → header whole t ≡ Ok (head, rest)

@@ -29,9 +29,10 @@ pub enum Standing {
 fn standing_of(keyword: Keyword, subs: &[Stmt]) -> Standing
     ensures { result ≡ spec.standing_of (filter (statements.is_named keyword) subs.now) }
 {
+    let word = keyword.word();
     let mut seen = false;
     for sub in subs {
-        if is_named(keyword, sub) {
+        if sub.keyword.as_str() == word {
             if seen {
                 return Standing::Again(sub.at);
             }
@@ -83,13 +84,23 @@ fn with_often(
     }
 }
 
+/// Statements that may stand any number of times are not looked for.
+fn with_entry(best: Option<Found>, number: u32, stmt: &Stmt, entry: &Entry) -> Option<Found>
+    ensures { result ≡ least best (spec.entry_faults number stmt.now entry.now) }
+{
+    if matches!(entry.1, Often::Any) {
+        return best;
+    }
+    let standing = standing_of(entry.0, stmt.subs.items());
+    with_often(best, number, stmt.at, entry, standing)
+}
+
 fn with_part(best: Option<Found>, number: u32, stmt: &Stmt, part: &[Entry]) -> Option<Found>
     ensures { result ≡ least best (flat_map (spec.entry_faults number stmt.now) part.now) }
 {
     let mut best = best;
     for entry in part {
-        let standing = standing_of(entry.0, stmt.subs.items());
-        best = with_often(best, number, stmt.at, entry, standing);
+        best = with_entry(best, number, stmt, entry);
     }
     best
 }
@@ -231,26 +242,27 @@ fn with_block(best: Option<Found>, number: u32, stmt: &Stmt, rule: &Rule) -> Opt
     with_type(best, number, stmt)
 }
 
-/// The least of this fault and those at a statement.
+/// The least of this fault and those at a statement, which has this rule.
 #[tactic(auto, unfolding(crate::specs::Profile::level_faults))]
-fn with_level(best: Option<Found>, number: u32, stmt: &Stmt) -> Option<Found>
+fn with_level(best: Option<Found>, number: u32, stmt: &Stmt, rule: &Rule) -> Option<Found>
+    requires { table.rule_view rule.now ≡ table.rule_of (out-Stmt stmt.now).keyword }
     ensures { result ≡ least best (spec.level_faults number stmt.now) }
 {
-    let rule = rule_of(stmt.keyword.as_str());
-    let best = with_argument(best, number, stmt, &rule);
+    let best = with_argument(best, number, stmt, rule);
     let best = with_left_out(best, number, stmt);
     if is_named(Keyword::Extension, stmt) {
         return best;
     }
-    with_block(best, number, stmt, &rule)
+    with_block(best, number, stmt, rule)
 }
 
-/// Whether the rule goes on inside a substatement.
-fn is_judged(parent: &Stmt, sub: &Stmt) -> bool
+/// Whether the rule goes on inside a substatement of a statement, which has this rule.
+fn is_judged(parent: &Stmt, rule: &Rule, sub: &Stmt) -> bool
+    requires { table.rule_view rule.now ≡ table.rule_of (out-Stmt parent.now).keyword }
     ensures { result ≡ spec.is_judged parent.now sub.now }
 {
     !is_prefixed(sub.keyword.items())
-        && allows(&rule_of(parent.keyword.as_str()), sub.keyword.as_str())
+        && allows(rule, sub.keyword.as_str())
         && !is_named(Keyword::Extension, parent)
 }
 
@@ -258,12 +270,13 @@ fn is_judged(parent: &Stmt, sub: &Stmt) -> bool
 fn with_tree(best: Option<Found>, number: u32, levels: u32, stmt: &Stmt) -> Option<Found>
     ensures { result ≡ least best (spec.tree_faults number levels stmt.now) }
 {
-    let mut best = with_level(best, number, stmt);
+    let rule = rule_of(stmt.keyword.as_str());
+    let mut best = with_level(best, number, stmt, &rule);
     if levels == 0 {
         return best;
     }
     for sub in stmt.subs.items() {
-        if is_judged(stmt, sub) {
+        if is_judged(stmt, &rule, sub) {
             best = with_tree(best, number, levels - 1, sub);
         }
     }

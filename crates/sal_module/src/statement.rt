@@ -28,8 +28,9 @@ pub fn argument_of(stmt: &Stmt) -> &str
 pub fn first_named<'s>(keyword: Keyword, subs: &'s [Stmt]) -> Option<&'s Stmt>
     ensures { option_copied result ≡ find (spec.is_named keyword) subs.now }
 {
+    let word = keyword.word();
     for sub in subs {
-        if is_named(keyword, sub) {
+        if sub.keyword.as_str() == word {
             return Some(sub);
         }
     }
@@ -40,7 +41,8 @@ pub fn first_named<'s>(keyword: Keyword, subs: &'s [Stmt]) -> Option<&'s Stmt>
 pub fn has_named(keyword: Keyword, subs: &[Stmt]) -> bool
     ensures { result ≡ list_any (spec.is_named keyword) subs.now }
 {
-    subs.iter().any(|sub| is_named(keyword, sub))
+    let word = keyword.word();
+    subs.iter().any(|sub| sub.keyword.as_str() == word)
 }
 
 /// The argument of the first statement of this keyword in the block of a statement, or the empty text.

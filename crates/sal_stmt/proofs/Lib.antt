@@ -3,3 +3,5 @@ pub mod Separators
 pub mod Quotes
 pub mod Strings
 pub mod Statements
+pub mod Spelled
+pub mod Readable

@@ -15,10 +15,13 @@
 //! ```
 //!
 //! `specs/Text.antt` says what a text stands for, from its separators to its one statement; `specs/Quoted.antt` has the
-//! lines, the indentation and the escapes of a string in double quotes. The choices of this reader: control characters
-//! other than tab, CR and LF stand nowhere; a pair of a backslash and any byte but `n`, `t`, `"` and `\` is a fault; CR LF
-//! is read as LF in a string in double quotes; a tab before a quote counts as eight columns; separators stand only where
-//! they are needed to part two tokens, so `x"a";` is `x "a";`.
+//! lines, the indentation and the escapes of a string in double quotes. `specs/Spelling.antt` is the grammar, which knows
+//! of no reader: a text that is read as a statement spells it, a text that spells a statement is read as it, and so no
+//! text spells two (`laws.rt`).
+//!
+//! The choices of this reader: control characters other than tab, CR and LF stand nowhere; a pair of a backslash and any
+//! byte but `n`, `t`, `"` and `\` is a fault; CR LF is read as LF in a string in double quotes; a tab before a quote
+//! counts as eight columns; separators stand only where they are needed to part two tokens, so `x"a";` is `x "a";`.
 //!
 //! Cost: linear in the text, whatever its shape, and one allocation or a few for each statement and string. At most 65
 //! calls stand in one another, since no more than 64 blocks may be open. A text has fewer than 2^32 bytes.
@@ -26,6 +29,7 @@
 
 mod bytes;
 mod fault;
+mod laws;
 mod quoted;
 mod reader;
 mod source;

@@ -22,7 +22,7 @@ impl Stmt {
     pub fn copy(&self, alloc: Global) -> Result<Stmt, NoMemory>
         ensures { IfOk result (λ it. it ≡ self.now) }
     {
-        let mut subs = Vec::new(alloc);
+        let mut subs = Vec::with_capacity(alloc, self.subs.items().len())?;
         for sub in self.subs.items() {
             subs.push(sub.copy(alloc)?)?;
         }

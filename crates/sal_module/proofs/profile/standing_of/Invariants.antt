@@ -5,4 +5,4 @@ use Rattle.sal_module.proofs.Levels.{after}
 use Rattle.sal_module.proofs.profile.standing_of.Given as goal
 
 abbrev pub invariant-loop-sub : goal.invariant-loop-sub
-invariant-loop-sub l = standing_of (filter (is_named l.keyword) l.subs) ≡ after l.seen (filter (is_named l.keyword) (drop l.sub-index l.subs))
+invariant-loop-sub l = standing_of (filter (is_named l.fn.keyword) l.subs) ≡ after l.seen (filter (is_named l.fn.keyword) (drop l.sub-index l.subs))

@@ -1,2 +1,6 @@
 pub mod Ranges
 pub mod Names
+pub mod Words
+pub mod Bounds
+pub mod RangeTexts
+pub mod Readings

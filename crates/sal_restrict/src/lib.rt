@@ -7,8 +7,13 @@
 //! | `Pattern` | the text of a pattern, and whether values must not match it |
 #![tactic(auto)]
 
+mod bound;
+mod fault;
 mod ranges;
+mod span;
+mod words;
 mod yang_type;
 
+pub use fault::RangeFault;
 pub use ranges::{Part, Ranges};
 pub use yang_type::{Pattern, YangType};

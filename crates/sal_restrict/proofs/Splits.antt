@@ -34,24 +34,24 @@ texts-last (c ∷ t) h = elim (cases_Bool (c == 124)) [
 pub texts-more : (t : List ℕ) → text_len t < length t → texts t ≡ take (text_len t) t ∷ texts (drop (text_len t + 1) t)
 texts-more t h = slice_split_first (λ c. c == 124) t 0 h
 
-pub parts-none : (digits : ℕ) (within : List Part) (t : List ℕ) → part digits within (take (text_len t) t) ≡ None → parts digits within (texts t) ≡ None
-parts-none digits within t none = elim (cases_lt (text_len t) (length t)) [
+pub parts-none : (digits : ℕ) (outer : Part) (t : List ℕ) → part digits outer (take (text_len t) t) ≡ None → parts digits outer (texts t) ≡ None
+parts-none digits outer t none = elim (cases_lt (text_len t) (length t)) [
   | inl less ↦ rw (texts-more t less, none) refl
-  | inr last ↦ let whole = sym (take_all (text_len t) t last) in rw (texts-last t last) (rw none at (ap (λ u. onto (part digits within u) (Some [])) whole))
+  | inr last ↦ let whole = sym (take_all (text_len t) t last) in rw (texts-last t last) (rw none at (ap (λ u. onto (part digits outer u) (Some [])) whole))
 ]
 
 -- the first text is a part, and no other follows
-pub parts-last : (digits : ℕ) (within done : List Part) (t : List ℕ) (one : Part) → part digits within (take (text_len t) t) ≡ Some one → length t ≤ text_len t
-    → behind done (parts digits within (texts t)) ≡ Some (done ++ one ∷ [])
-parts-last digits within done t one e last =
+pub parts-last : (digits : ℕ) (outer : Part) (done : List Part) (t : List ℕ) (one : Part) → part digits outer (take (text_len t) t) ≡ Some one → length t ≤ text_len t
+    → behind done (parts digits outer (texts t)) ≡ Some (done ++ one ∷ [])
+parts-last digits outer done t one e last =
     let whole = sym (take_all (text_len t) t last) in
-    rw (texts-last t last) (ap (λ u. behind done (onto (part digits within u) (Some []))) whole ∙ ap (λ p. behind done (onto p (Some []))) e)
+    rw (texts-last t last) (ap (λ u. behind done (onto (part digits outer u) (Some []))) whole ∙ ap (λ p. behind done (onto p (Some []))) e)
 
 -- the first text is a part, and others follow
-pub parts-more : (digits : ℕ) (within done : List Part) (t : List ℕ) (one : Part) → part digits within (take (text_len t) t) ≡ Some one → text_len t < length t
-    → behind done (parts digits within (texts t)) ≡ behind (done ++ one ∷ []) (parts digits within (texts (drop (text_len t + 1) t)))
-parts-more digits within done t one e less =
-    let rest = parts digits within (texts (drop (text_len t + 1) t)) in
+pub parts-more : (digits : ℕ) (outer : Part) (done : List Part) (t : List ℕ) (one : Part) → part digits outer (take (text_len t) t) ≡ Some one → text_len t < length t
+    → behind done (parts digits outer (texts t)) ≡ behind (done ++ one ∷ []) (parts digits outer (texts (drop (text_len t + 1) t)))
+parts-more digits outer done t one e less =
+    let rest = parts digits outer (texts (drop (text_len t + 1) t)) in
     rw (texts-more t less) (ap (λ p. behind done (onto p rest)) e ∙ behind-onto done one rest)
 
 pub parts_of-push : (scale : ℕ) (spans : List Span) (span : Span) → parts_of scale (spans ++ span ∷ []) ≡ parts_of scale spans ++ part_of scale span ∷ []

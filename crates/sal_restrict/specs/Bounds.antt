@@ -3,7 +3,6 @@ use Rattle.std.specs.Prelude.{ℕ, ◌+◌, ◌-◌, ◌*◌, ◌^◌, ℤ, pos,
 use Rattle.std.specs.List.{list_all}
 use Rattle.std.specs.Char.{is_ascii_digit}
 use Rattle.sal_restrict.specs.declared.ranges.Part.{Part}
-use Rattle.sal_restrict.specs.Ranges.{least, greatest}
 use Rattle.sal_restrict.specs.Words.{same, place_of}
 
 -- one or more decimal digits
@@ -41,7 +40,7 @@ abbrev pub written : ℕ → List ℕ → Option ℤ
 written digits t =
     if slice_index t 0 == 45 then option_map (signed true) (magnitude digits (drop 1 t)) else option_map (signed false) (magnitude digits t)
 
--- the number of a bound
-abbrev pub bound : ℕ → List Part → List ℕ → Option ℤ
-bound digits within t =
-    if same t (codes "min") then Some (least within) else if same t (codes "max") then Some (greatest within) else written digits t
+-- the number of a bound, where these are the numbers that there may be at most
+abbrev pub bound : ℕ → Part → List ℕ → Option ℤ
+bound digits outer t =
+    if same t (codes "min") then Some outer.low else if same t (codes "max") then Some outer.high else written digits t

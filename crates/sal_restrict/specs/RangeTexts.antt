@@ -4,8 +4,8 @@ use Rattle.std.specs.List.{list_all, slice_split}
 use Rattle.sal_restrict.specs.declared.ranges.Part.{Part}
 use Rattle.sal_restrict.specs.declared.fault.RangeFault.{RangeFault}
 use Rattle.sal_restrict.specs.declared.fault.RangeFault.TheVariants.{BadText, Wider}
-use Rattle.sal_restrict.specs.Ranges.{is_ascending, covers}
-use Rattle.sal_restrict.specs.Words.{trim, place_of}
+use Rattle.sal_restrict.specs.Ranges.{is_ascending, covers, outer}
+use Rattle.sal_restrict.specs.Words.{trim, is_trimmed, place_of}
 use Rattle.sal_restrict.specs.Bounds.{bound}
 
 -- the part between two bounds
@@ -14,19 +14,19 @@ between (Some low) (Some high) = Some (record { low = low; high = high })
 between low high = None
 
 -- a bound alone, or two of them with `..` in between, which may have blanks round it
-abbrev pub part : ℕ → List Part → List ℕ → Option Part
-part digits within t =
+abbrev pub part : ℕ → Part → List ℕ → Option Part
+part digits outer t =
     if nat_lt (place_of (codes "..") t) (length t)
-    then between (bound digits within (trim (take (place_of (codes "..") t) t))) (bound digits within (trim (drop (place_of (codes "..") t + 2) t)))
-    else between (bound digits within (trim t)) (bound digits within (trim t))
+    then between (bound digits outer (trim (take (place_of (codes "..") t) t))) (bound digits outer (trim (drop (place_of (codes "..") t + 2) t)))
+    else between (bound digits outer (trim t)) (bound digits outer (trim t))
 
 abbrev pub onto : Option Part → Option (List Part) → Option (List Part)
 onto (Some one) (Some more) = Some (one ∷ more)
 onto one more = None
 
-abbrev pub parts : ℕ → List Part → List (List ℕ) → Option (List Part)
-parts digits within [] = Some []
-parts digits within (t ∷ ts) = onto (part digits within t) (parts digits within ts)
+abbrev pub parts : ℕ → Part → List (List ℕ) → Option (List Part)
+parts digits outer [] = Some []
+parts digits outer (t ∷ ts) = onto (part digits outer t) (parts digits outer ts)
 
 -- Parts out of order have no meaning. Those that are in order may hold no number that `within` does not hold.
 abbrev pub judged : List Part → Option (List Part) → Result (List Part) RangeFault
@@ -37,4 +37,4 @@ judged within (Some parts) =
 -- Blanks stand round `|` too, but not at the ends of the text.
 abbrev pub read_ranges : List ℕ → List Part → ℕ → Result (List Part) RangeFault
 read_ranges t within digits =
-    if length (trim t) == length t then judged within (parts digits within (slice_split (λ c. c == 124) t)) else Err BadText
+    if is_trimmed t then judged within (parts digits (outer within) (slice_split (λ c. c == 124) t)) else Err BadText

@@ -27,6 +27,10 @@ greatest [] = pos 0
 greatest (part ∷ []) = part.high
 greatest (part ∷ next ∷ parts) = greatest (next ∷ parts)
 
+-- from the least to the greatest
+abbrev pub outer : List Part → Part
+outer parts = record { low = least parts; high = greatest parts }
+
 -- where one of the parts ends within these numbers, and before the last of them, the next number is held too
 abbrev pub goes_on : List Part → Part → Part → Bool
 goes_on parts numbers part =

@@ -21,6 +21,9 @@ without_blanks_behind t = take (length t - suffix_len is_blank t) t
 abbrev pub trim : List ℕ → List ℕ
 trim t = without_blanks_behind (without_blanks_before t)
 
+abbrev pub is_trimmed : List ℕ → Bool
+is_trimmed t = length (trim t) == length t
+
 -- where the word first stands in the text, or the text's length where it stands nowhere
 abbrev pub place_of : List ℕ → List ℕ → ℕ
 place_of word [] = 0

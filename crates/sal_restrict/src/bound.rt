@@ -3,7 +3,6 @@ ghost use Rattle.std.specs.Prelude.{◌≡◌, ℕ, SomeIff, FitsSigned, ◌+◌
 ghost use Rattle.std.specs.List.{list_all, prefix_len};
 ghost use Rattle.std.specs.Char.{is_ascii_digit};
 ghost use Rattle.std.specs.Int.{w128};
-ghost use Rattle.sal_restrict.specs.Ranges.{greatest};
 ghost use Rattle.sal_restrict.specs.Bounds as spec;
 ghost use Rattle.sal_restrict.specs.Readings.{without_zeros, size_of, IsNormal, number_of, IsRead, IsLarge, AreOrdered};
 
@@ -172,25 +171,17 @@ fn read_written<'t>(text: &'t [u8], digits: u8) -> Option<Bound<'t>>
     }
 }
 
-fn greatest(within: &[Part]) -> i128
-    requires { 0 < length within.now }
-    ensures { result ≡ greatest within.now }
-{
-    within[within.len() - 1].high
-}
-
-/// The bound that a text writes, which may be the least or the greatest number of these parts.
-pub(crate) fn read_bound<'t>(text: &'t [u8], within: &[Part], digits: u8) -> Option<Bound<'t>>
-    requires some { 0 < length within.now }
-    requires few { digits ≤ 18 }
-    ensures value { option_map (number_of (10 ^ digits)) result ≡ spec.bound digits within.now text.now }
+/// The bound that a text writes, where these are the numbers that there may be at most.
+pub(crate) fn read_bound<'t>(text: &'t [u8], outer: Part, digits: u8) -> Option<Bound<'t>>
+    requires { digits ≤ 18 }
+    ensures value { option_map (number_of (10 ^ digits)) result ≡ spec.bound digits outer text.now }
     ensures read { IfSome result (IsRead (10 ^ digits)) }
 {
     if text == b"min".as_slice() {
-        return Some(Bound::Small(within[0].low));
+        return Some(Bound::Small(outer.low));
     }
     if text == b"max".as_slice() {
-        return Some(Bound::Small(greatest(within)));
+        return Some(Bound::Small(outer.high));
     }
     read_written(text, digits)
 }

@@ -8,12 +8,15 @@
 #![tactic(auto)]
 
 mod bound;
+mod covers;
 mod fault;
+mod range_text;
 mod ranges;
 mod span;
 mod words;
 mod yang_type;
 
 pub use fault::RangeFault;
+pub use range_text::read_ranges;
 pub use ranges::{Part, Ranges};
 pub use yang_type::{Pattern, YangType};

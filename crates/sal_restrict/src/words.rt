@@ -49,6 +49,13 @@ pub(crate) fn trim(text: &[u8]) -> &[u8]
     &text[..text.len() - blanks_behind(text)]
 }
 
+/// Whether no blanks stand at the ends of the text.
+pub(crate) fn is_trimmed(text: &[u8]) -> bool
+    ensures { result ≡ spec.is_trimmed text.now }
+{
+    trim(text).len() == text.len()
+}
+
 /// Where the word first stands, or the length of the text where it stands nowhere.
 pub(crate) fn place_of(word: &[u8], text: &[u8]) -> usize
     ensures value { result ≡ spec.place_of word.now text.now }

@@ -8,7 +8,7 @@ use Rattle.sal_restrict.proofs.span.read_spans.Given as goal
 
 abbrev pub invariant-parts : goal.invariant-parts
 invariant-parts l = record {
-  value : parts l.digits l.within (slice_split (λ c. c == 124) l.text) ≡ behind (parts_of (10 ^ l.digits) l.spans.items) (parts l.digits l.within (slice_split (λ c. c == 124) l.rest));
+  value : parts l.digits l.outer (slice_split (λ c. c == 124) l.text) ≡ behind (parts_of (10 ^ l.digits) l.spans.items) (parts l.digits l.outer (slice_split (λ c. c == 124) l.rest));
   read : AreRead (10 ^ l.digits) l.spans.items;
 }
 

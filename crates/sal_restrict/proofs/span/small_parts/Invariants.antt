@@ -1,0 +1,8 @@
+-- The parts so far, and whether a large one is left.
+use Rattle.std.proofs.Common.{◌≡◌, ℕ, take, drop}
+use Rattle.std.specs.List.{list_any}
+use Rattle.sal_restrict.specs.Readings.{parts_of, is_span_large}
+use Rattle.sal_restrict.proofs.span.small_parts.Given as goal
+
+abbrev pub invariant-loop-span : goal.invariant-loop-span
+invariant-loop-span l = (scale : ℕ) → l.list.items ≡ parts_of scale (take l.span-index l.spans)

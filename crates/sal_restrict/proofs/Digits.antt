@@ -115,16 +115,16 @@ first_decides : (c d x y p q : ℕ) → p ≡ q → (48 ≤ c) × (c ≤ 57) →
     → (m n : ℕ) → m ≡ (c - 48) * p + x → n ≡ (d - 48) * q + y → ordering_then (nat_cmp c d) o ≡ nat_cmp m n
 first_decides c d x y p q same dc dd lx ly o tie m n em en = elim (cases_order c d) [
   | inl e ↦
-    let there : n ≡ (c - 48) * p + y = en ∙ (λ i. (sym e i - 48) * sym same i + y) in
-    rw (tied c d e) (tie ∙ shifted ((c - 48) * p) x y m n em there)
+      let there : n ≡ (c - 48) * p + y = en ∙ (λ i. (sym e i - 48) * sym same i + y) in
+      rw (tied c d e) (tie ∙ shifted ((c - 48) * p) x y m n em there)
   | inr (inl less) ↦
-    let below = digits_differ (c - 48) (d - 48) p x y (omega arith) lx in
-    let there : n ≡ (d - 48) * p + y = en ∙ (λ i. (d - 48) * sym same i + y) in
-    rw (lesser c d less) (sym (lesser m n (omega arith)))
+      let below = digits_differ (c - 48) (d - 48) p x y (omega arith) lx in
+      let there : n ≡ (d - 48) * p + y = en ∙ (λ i. (d - 48) * sym same i + y) in
+      rw (lesser c d less) (sym (lesser m n (omega arith)))
   | inr (inr more) ↦
-    let below = digits_differ (d - 48) (c - 48) q y x (omega arith) ly in
-    let here : m ≡ (c - 48) * q + x = em ∙ (λ i. (c - 48) * same i + x) in
-    rw (greater c d more) (sym (greater m n (omega arith)))
+      let below = digits_differ (d - 48) (c - 48) q y x (omega arith) ly in
+      let here : m ≡ (c - 48) * q + x = em ∙ (λ i. (c - 48) * same i + x) in
+      rw (greater c d more) (sym (greater m n (omega arith)))
 ]
 
 pub slice_cmp-decimal : (a b : List ℕ) → list_all is_ascii_digit a ≡ true → list_all is_ascii_digit b ≡ true → length a ≡ length b
@@ -137,8 +137,8 @@ slice_cmp-decimal (c ∷ a) (d ∷ b) ea eb same =
     let (there, others) = and_parts (is_ascii_digit d) (list_all is_ascii_digit b) eb in
     let same' : length a ≡ length b = omega arith in
     first_decides c d (decimal a) (decimal b) (10 ^ length a) (10 ^ length b) (ap (λ n. 10 ^ n) same') (is_digit-bounds c here) (is_digit-bounds d there)
-        (decimal-below a rest) (decimal-below b others) (slice_cmp nat_cmp a b) (slice_cmp-decimal a b rest others same')
-        (decimal (c ∷ a)) (decimal (d ∷ b)) (decimal-cons c a) (decimal-cons d b)
+    (decimal-below a rest) (decimal-below b others) (slice_cmp nat_cmp a b) (slice_cmp-decimal a b rest others same')
+    (decimal (c ∷ a)) (decimal (d ∷ b)) (decimal-cons c a) (decimal-cons d b)
 
 -- what stands behind a point is less than one
 pub units_below : (x k n : ℕ) → k ≤ n → x < 10 ^ k → x * 10 ^ (n - k) < 10 ^ n
@@ -166,8 +166,8 @@ first_or Greater b = false
 pub by_wholes : (s m n x y : ℕ) → x < s → y < s → nat_lt (m * s + x) (n * s + y) ≡ first_or (nat_cmp m n) (nat_lt x y)
 by_wholes s m n x y lx ly = elim (cases_order m n) [
   | inl e ↦
-    let same : m * s ≡ n * s = ap (λ k. k * s) e in
-    rw (tied m n e) (grind (arith, nat_tests))
+      let same : m * s ≡ n * s = ap (λ k. k * s) e in
+      rw (tied m n e) (grind (arith, nat_tests))
   | inr (inl less) ↦ let below = digits_differ m n s x y less lx in rw (lesser m n less) (grind (arith, nat_tests))
   | inr (inr more) ↦ let below = digits_differ n m s y x more ly in rw (greater m n more) (grind (arith, nat_tests))
 ]

@@ -64,10 +64,10 @@ goes_on_at all numbers part n same low high goes =
 goes_on-from : (all : List Part) (numbers part : Part) → ((n : ℤ) → numbers.low ≤ℤ n → n ≤ℤ numbers.high → holds all n ≡ true) → goes_on all numbers part ≡ true
 goes_on-from all numbers part held = elim (cases_Bool (int_le numbers.low part.high && int_lt part.high numbers.high)) [
   | inl e ↦
-    let (low, high) = and_parts (int_le numbers.low part.high) (int_lt part.high numbers.high) e in
-    let l = le_test numbers.low part.high low in
-    let h = lt_test part.high numbers.high high in
-    or_right _ _ (held (part.high +ℤ pos 1) (omega (arith, ints)) (omega (arith, ints)))
+      let (low, high) = and_parts (int_le numbers.low part.high) (int_lt part.high numbers.high) e in
+      let l = le_test numbers.low part.high low in
+      let h = lt_test part.high numbers.high high in
+      or_right _ _ (held (part.high +ℤ pos 1) (omega (arith, ints)) (omega (arith, ints)))
   | inr e ↦ or_left _ _ (not_from_false _ e)
 ]
 
@@ -79,10 +79,10 @@ next_held (part ∷ parts) all numbers n low high goes held =
     let (here, rest) = and_parts (goes_on all numbers part) (list_all (goes_on all numbers) parts) goes in
     elim (or_cases (is_in n part) (holds parts n) held) [
       | inl inside ↦
-        let (l, h) = is_in-bounds n part inside in
-        by_lt_z n part.high
-            (λ less. inl (or_left _ _ (is_in-from (n +ℤ pos 1) part (omega (arith, ints)) (omega (arith, ints)))))
-            (λ more. inr (goes_on_at all numbers part n (omega (arith, ints)) low high here))
+          let (l, h) = is_in-bounds n part inside in
+          by_lt_z n part.high
+          (λ less. inl (or_left _ _ (is_in-from (n +ℤ pos 1) part (omega (arith, ints)) (omega (arith, ints)))))
+          (λ more. inr (goes_on_at all numbers part n (omega (arith, ints)) low high here))
       | inr later ↦ elim (next_held parts all numbers n low high rest later) [
         | inl one ↦ inl (or_right _ _ one)
         | inr one ↦ inr one
@@ -166,9 +166,9 @@ none_held parts numbers some = record {
 pub covers-gap : (parts rest : List Part) (numbers : Part) (next : ℤ) → IsHeldUpto parts rest numbers next → holds rest next ≡ false → covers parts numbers ≡ false
 covers-gap parts rest numbers next was none = elim (cases_Bool (covers parts numbers)) [
   | inl e ↦
-    let here : holds parts next ≡ true = covers-holds parts numbers e next was.start was.stop in
-    let there : holds parts next ≡ holds rest next = was.left next (omega (arith, ints)) in
-    cc
+      let here : holds parts next ≡ true = covers-holds parts numbers e next was.start was.stop in
+      let there : holds parts next ≡ holds rest next = was.left next (omega (arith, ints)) in
+      cc
   | inr e ↦ e
 ]
 
@@ -178,7 +178,7 @@ pub covers-rest : (parts rest : List Part) (numbers part : Part) (next : ℤ) �
 covers-rest parts rest numbers part next was low high =
     let some : numbers.low ≤ℤ numbers.high = let a = was.start in let b = was.stop in omega (arith, ints) in
     covers-from parts numbers some (λ n l h. by_lt_z n next (was.held n l)
-        (λ from. was.left n from ∙ or_left _ _ (is_in-from n part (omega (arith, ints)) (omega (arith, ints)))))
+    (λ from. was.left n from ∙ or_left _ _ (is_in-from n part (omega (arith, ints)) (omega (arith, ints)))))
 
 -- the next number is past the next part
 pub held_past : (parts rest : List Part) (numbers part : Part) (next : ℤ) → IsHeldUpto parts (part ∷ rest) numbers next → part.high <ℤ next
@@ -220,8 +220,8 @@ holds-ended : (parts : List Part) (low n : ℤ) → low ≤ℤ n → holds parts
 holds-ended [] low n h = refl
 holds-ended (part ∷ parts) low n h = elim (cases_Bool (int_lt part.high low)) [
   | inl e ↦
-    let past = lt_test part.high low e in
-    rw e (rw (one_first (ended low parts)) (holds-past part parts n (omega (arith, ints)) ∙ holds-ended parts low n h))
+      let past = lt_test part.high low e in
+      rw e (rw (one_first (ended low parts)) (holds-past part parts n (omega (arith, ints)) ∙ holds-ended parts low n h))
   | inr e ↦ rw e refl
 ]
 
@@ -236,8 +236,8 @@ pub covers-ended : (parts : List Part) (low : ℤ) (numbers : Part) → low ≤�
 covers-ended parts low numbers from some =
     let rest = drop (ended low parts) parts in
     same_test (covers parts numbers) (covers rest numbers)
-        (λ e. covers-from rest numbers some (λ n l h. sym (holds-ended parts low n (omega (arith, ints))) ∙ covers-holds parts numbers e n l h))
-        (λ e. covers-from parts numbers some (λ n l h. holds-ended parts low n (omega (arith, ints)) ∙ covers-holds rest numbers e n l h))
+    (λ e. covers-from rest numbers some (λ n l h. sym (holds-ended parts low n (omega (arith, ints))) ∙ covers-holds parts numbers e n l h))
+    (λ e. covers-from parts numbers some (λ n l h. holds-ended parts low n (omega (arith, ints)) ∙ covers-holds rest numbers e n l h))
 
 at_most : (a b : ℤ) → ((n : ℤ) → n <ℤ a → n <ℤ b) → a ≤ℤ b
 at_most a b h = by_lt_z b a (λ less. let itself = h b less in absurd (omega (arith, ints))) (λ fine. fine)

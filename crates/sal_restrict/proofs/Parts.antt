@@ -87,12 +87,12 @@ large_not_covered : (scale : ℕ) (span : Span) (within : List Part) → IsSpanR
     → FitsSigned w128 (least within) → FitsSigned w128 (greatest within) → number_of scale span.low ≤ℤ number_of scale span.high → covers within (part_of scale span) ≡ false
 large_not_covered scale span within read large order fl fh some = elim (cases_Bool (covers within (part_of scale span))) [
   | inl e ↦
-    let low = held_fits within (number_of scale span.low) order fl fh (covers-holds within (part_of scale span) e (number_of scale span.low) (omega (arith, ints)) some) in
-    let high = held_fits within (number_of scale span.high) order fl fh (covers-holds within (part_of scale span) e (number_of scale span.high) some (omega (arith, ints))) in
-    elim (or_cases (is_large span.low) (is_large span.high) large) [
-      | inl l ↦ absurd (large_past scale span.low read.0 l low)
-      | inr h ↦ absurd (large_past scale span.high read.1 h high)
-    ]
+      let low = held_fits within (number_of scale span.low) order fl fh (covers-holds within (part_of scale span) e (number_of scale span.low) (omega (arith, ints)) some) in
+      let high = held_fits within (number_of scale span.high) order fl fh (covers-holds within (part_of scale span) e (number_of scale span.high) some (omega (arith, ints))) in
+      elim (or_cases (is_large span.low) (is_large span.high) large) [
+        | inl l ↦ absurd (large_past scale span.low read.0 l low)
+        | inr h ↦ absurd (large_past scale span.high read.1 h high)
+      ]
   | inr e ↦ e
 ]
 

@@ -4,3 +4,4 @@ pub mod Words
 pub mod Bounds
 pub mod RangeTexts
 pub mod Readings
+pub mod Examples

@@ -31,7 +31,7 @@ returns-in_err-parts-clause-exact c =
     let high = subst (λ list. FitsSigned w128 (greatest list)) items c.outer.ensures.fits.1 in
     let read = c.in_ok-spans.ensures.read in
     let ascending = ap (λ list. is_ascending (parts_of scale list)) (sym c.as_slice.ensures.value)
-        ∙ sym (c.are_ascending.ensures scale (subst (AreRead scale) (sym c.as_slice.ensures.value) read)) ∙ c.if-not-are_ascending.false in
+    ∙ sym (c.are_ascending.ensures scale (subst (AreRead scale) (sym c.as_slice.ensures.value) read)) ∙ c.if-not-are_ascending.false in
     wider-by_large t within digits c.outer.result spans trimmed bounds some read large c.items-within.ensures.order low high ascending ∙ ap Err (sym wider))
 
 pub returns-clause-narrow : goal.returns-clause-narrow

@@ -20,8 +20,8 @@ next : (scale : ℕ) (spans : List Span) (i : ℕ) → i < length spans
     && is_below (number_of scale (get_or spans i none).high) (parts_of scale (drop (i + 1) spans))) && is_ascending (parts_of scale (drop (i + 1) spans)))
 next scale spans i h =
     ap (λ list. is_ascending (parts_of scale list)) (drop_more spans i none h)
-        ∙ and_assoc (int_le (number_of scale (get_or spans i none).low) (number_of scale (get_or spans i none).high))
-        (is_below (number_of scale (get_or spans i none).high) (parts_of scale (drop (i + 1) spans))) (is_ascending (parts_of scale (drop (i + 1) spans)))
+    ∙ and_assoc (int_le (number_of scale (get_or spans i none).low) (number_of scale (get_or spans i none).high))
+    (is_below (number_of scale (get_or spans i none).high) (parts_of scale (drop (i + 1) spans))) (is_ascending (parts_of scale (drop (i + 1) spans)))
 
 module _ (scale : ℕ) (spans others : List Span) (i : ℕ) (h : i < length spans) (rest : others ≡ drop (i + 1) spans) (read : AreRead scale spans) (first : Bool)
     (test : IsSpanRead scale (get_or spans i none) → AreRead scale others → first ≡ (int_le (number_of scale (get_or spans i none).low) (number_of scale (get_or spans i none).high)

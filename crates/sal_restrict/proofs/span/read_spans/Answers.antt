@@ -24,7 +24,7 @@ returns-then-len-rest-clause-value c =
     let last : length rest ≤ text_len rest = omega arith in
     let scale = 10 ^ digits in
     c.parts.invariant.value ∙ parts-last digits outer (parts_of scale c.parts.spans.items) rest _ one last
-        ∙ ap Some (sym (ap (parts_of scale) c.in_ok-push-in-Some.ensures.items ∙ parts_of-push scale c.parts.spans.items c.in-Some.span))
+    ∙ ap Some (sym (ap (parts_of scale) c.in_ok-push-in-Some.ensures.items ∙ parts_of-push scale c.parts.spans.items c.in-Some.span))
 
 pub returns-then-len-rest-clause-read : goal.returns-then-len-rest-clause-read
 returns-then-len-rest-clause-read c =

@@ -1,5 +1,5 @@
 -- Where a word stands, from one place to the next.
-use Rattle.std.proofs.Common.{◌≡◌, ℕ, suc, ◌+◌, ◌<◌, ◌≤◌, nat_eq, List, [], ◌∷◌, length, drop, get_or, if◌then◌else◌, refl, inl, inr, true, arith}
+use Rattle.std.proofs.Common.{◌≡◌, ℕ, suc, ◌+◌, ◌<◌, ◌≤◌, nat_eq, List, [], ◌∷◌, length, drop, if◌then◌else◌, refl, inl, inr, true, arith}
 use Rattle.std.proofs.lemmas.Bool.{cases_Bool, and_parts}
 use Rattle.std.proofs.lemmas.List.{drop_more}
 use Rattle.std.specs.List.{starts_with}

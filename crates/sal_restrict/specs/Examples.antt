@@ -1,5 +1,5 @@
 -- Words for the examples.
-use Rattle.std.specs.Prelude.{ℕ, ℤ, pos, negsuc, List, [], ◌∷◌, Result, Ok, codes}
+use Rattle.std.specs.Prelude.{ℕ, pos, negsuc, List, [], ◌∷◌, Result, codes}
 use Prim.Native.String.{String}
 use Rattle.sal_restrict.specs.declared.ranges.Part.{Part}
 use Rattle.sal_restrict.specs.declared.fault.RangeFault.{RangeFault}

@@ -1,5 +1,4 @@
-use Rattle.std.proofs.Common.{◌≡◌, ◌+◌, ◌*◌, nat_lt, ap, sym, ◌∙◌, arith}
-use Rattle.std.proofs.lemmas.Bool.Decides.{nat_tests}
+use Rattle.std.proofs.Common.{nat_lt, ap, sym, ◌∙◌}
 use Rattle.sal_restrict.specs.Bounds.{decimal}
 use Rattle.sal_restrict.proofs.Digits.{by_wholes, first_or}
 use Rattle.sal_restrict.proofs.bound.is_smaller.Goals as goal

@@ -1,4 +1,4 @@
-use Rattle.std.proofs.Common.{◌≡◌, length, ap, sym, ◌∙◌, arith}
+use Rattle.std.proofs.Common.{◌≡◌, length, ◌∙◌, arith}
 use Rattle.std.proofs.lemmas.Bool.Decides.{nat_tests}
 use Rattle.sal_restrict.proofs.Digits.{slice_cmp-decimal, order_of_lengths}
 use Rattle.sal_restrict.proofs.bound.order_of_digits.Goals as goal

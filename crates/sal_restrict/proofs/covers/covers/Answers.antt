@@ -1,9 +1,9 @@
-use Rattle.std.proofs.Common.{◌≡◌, ◌+◌, ℤ, pos, ◌+ℤ◌, ◌<ℤ◌, ◌≤ℤ◌, FitsSigned, true, false, List, ◌∷◌, drop, get_or, length, int_le, if◌then◌else◌, sym, refl, ap, subst, ◌∙◌, ℕ, ◌<◌, arith, rules}
+use Rattle.std.proofs.Common.{◌≡◌, ◌+◌, ℤ, pos, ◌+ℤ◌, ◌<ℤ◌, ◌≤ℤ◌, FitsSigned, true, List, ◌∷◌, drop, get_or, length, int_le, if◌then◌else◌, sym, ap, subst, ◌∙◌, ℕ, ◌<◌, arith, rules}
 use Rattle.std.proofs.lemmas.Int.{ints, to_z-of_z}
 use Rattle.std.proofs.lemmas.List.{drop_more, drop_all}
 use Rattle.std.specs.Int.{w128}
 use Rattle.sal_restrict.specs.declared.ranges.Part.{Part}
-use Rattle.sal_restrict.specs.Ranges.{is_ascending, holds, covers}
+use Rattle.sal_restrict.specs.Ranges.{is_ascending, holds}
 use Rattle.sal_restrict.proofs.Numbers.{IsHeldUpto, covers-gap, covers-rest, held_on, none_below, lt_passes, is_ascending-drop}
 use Rattle.sal_restrict.proofs.covers.covers.Goals as goal
 

@@ -1,4 +1,4 @@
-use Rattle.std.proofs.Common.{◌≡◌, ◌-◌, length, get_or, pos, FitsSigned, sym, subst, ◌∙◌, arith, rules}
+use Rattle.std.proofs.Common.{◌-◌, length, get_or, pos, FitsSigned, sym, subst, ◌∙◌, rules}
 use Rattle.std.proofs.lemmas.Int.{to_z-of_z}
 use Rattle.std.specs.Int.{w128}
 use Rattle.sal_restrict.specs.declared.ranges.Part.{Part}

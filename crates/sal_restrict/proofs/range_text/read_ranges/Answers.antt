@@ -1,9 +1,8 @@
-use Rattle.std.proofs.Common.{◌≡◌, ◌^◌, ◌==◌, true, false, List, length, Err, FitsSigned, sym, ap, subst, ◌∙◌, arith}
-use Rattle.std.proofs.lemmas.Bool.Decides.{nat_tests}
+use Rattle.std.proofs.Common.{◌^◌, Err, FitsSigned, sym, ap, subst, ◌∙◌}
 use Rattle.sal_types.proofs.Readers.{gives_err}
 use Rattle.std.specs.Int.{w128}
 use Rattle.std.specs.List.{list_all, list_any}
-use Rattle.sal_restrict.specs.declared.fault.RangeFault.TheVariants.{NoMemory, Wider}
+use Rattle.sal_restrict.specs.declared.fault.RangeFault.TheVariants.{NoMemory}
 use Rattle.sal_restrict.specs.Ranges.{is_ascending, covers, outer, least, greatest, holds}
 use Rattle.sal_restrict.specs.RangeTexts.{parts}
 use Rattle.sal_restrict.specs.Readings.{parts_of, AreRead, is_span_large}

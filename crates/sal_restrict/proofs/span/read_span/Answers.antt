@@ -1,4 +1,4 @@
-use Rattle.std.proofs.Common.{◌≡◌, ◌+◌, ◌^◌, take, drop, true, length, nat_lt, codes, sym, ap, ◌∙◌, arith}
+use Rattle.std.proofs.Common.{◌≡◌, ◌+◌, ◌^◌, take, drop, true, length, nat_lt, codes, ap, ◌∙◌, arith}
 use Rattle.std.proofs.lemmas.Bool.Decides.{nat_tests}
 use Rattle.sal_restrict.specs.Words.{place_of, trim}
 use Rattle.sal_restrict.specs.Bounds.{bound}

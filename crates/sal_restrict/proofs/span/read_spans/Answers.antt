@@ -1,7 +1,7 @@
-use Rattle.std.proofs.Common.{◌≡◌, ◌<◌, ◌≤◌, ◌^◌, ◌+◌, ◌∷◌, ◌++◌, [], take, drop, length, Some, refl, ◌∙◌, sym, ap, arith}
+use Rattle.std.proofs.Common.{◌<◌, ◌≤◌, ◌^◌, ◌+◌, take, drop, length, Some, refl, ◌∙◌, sym, ap, arith}
 use Rattle.std.proofs.lemmas.List.Elements.{All-push}
 use Rattle.sal_restrict.specs.RangeTexts.{part, parts}
-use Rattle.sal_restrict.specs.Readings.{part_of, parts_of, IsSpanRead, AreRead}
+use Rattle.sal_restrict.specs.Readings.{parts_of, IsSpanRead}
 use Rattle.sal_restrict.proofs.Splits.{behind, texts, text_len, parts-none, parts-last, parts-more, parts_of-push}
 use Rattle.sal_restrict.proofs.span.read_spans.Goals as goal
 

@@ -1,5 +1,5 @@
 -- The parts that were read, before those that are left.
-use Rattle.std.proofs.Common.{◌≡◌, ◌≤◌, ◌^◌, ◌==◌, length}
+use Rattle.std.proofs.Common.{◌≡◌, ◌^◌, ◌==◌, length}
 use Rattle.std.specs.List.{slice_split}
 use Rattle.sal_restrict.specs.Readings.{parts_of, AreRead}
 use Rattle.sal_restrict.specs.RangeTexts.{parts}

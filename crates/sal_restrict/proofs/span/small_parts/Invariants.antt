@@ -1,7 +1,6 @@
 -- The parts so far, and whether a large one is left.
-use Rattle.std.proofs.Common.{◌≡◌, ℕ, take, drop}
-use Rattle.std.specs.List.{list_any}
-use Rattle.sal_restrict.specs.Readings.{parts_of, is_span_large}
+use Rattle.std.proofs.Common.{◌≡◌, ℕ, take}
+use Rattle.sal_restrict.specs.Readings.{parts_of}
 use Rattle.sal_restrict.proofs.span.small_parts.Given as goal
 
 abbrev pub invariant-loop-span : goal.invariant-loop-span

@@ -1,7 +1,7 @@
 use Rattle.std.proofs.Common.{arith}
 use Rattle.std.proofs.lemmas.Grind.{common_steps}
 use Rattle.std.proofs.lemmas.Bool.Decides.{nat_tests}
-use Rattle.sal_restrict.proofs.Places.{place_of-at, place_of-within}
+use Rattle.sal_restrict.proofs.Places.{place_of-at}
 use Rattle.sal_restrict.proofs.words.place_of.Goals as goal
 
 pub returns-then-starts_with-clause-value : goal.returns-then-starts_with-clause-value

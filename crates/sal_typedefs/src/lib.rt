@@ -1,0 +1,11 @@
+//! The type that a `type` statement means: built-in types, typedefs and what they restrict (RFC 7950 sections 7.3, 7.4 and 9).
+//!
+//! | item | what it is |
+//! |---|---|
+//! | `TypeSite` | where a `type` statement begins |
+#![tactic(auto)]
+
+mod site;
+mod vectors;
+
+pub use site::TypeSite;

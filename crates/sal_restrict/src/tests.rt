@@ -144,6 +144,15 @@ fn copies_and_names(rt: HostRuntime) -> Result<(), Fail> {
         signed: false,
         range: within,
     })?;
+    let mut patterns = Vec::new(rt.alloc());
+    patterns.push(Pattern {
+        text: Str::new(rt.alloc(), "[a-z]+")?,
+        inverted: true,
+    })?;
+    members.push(YangType::Text {
+        length: numbers(&rt)?,
+        patterns: Seq::from_items(patterns),
+    })?;
     members.push(YangType::Leafref {
         path: Str::new(rt.alloc(), "../a")?,
     })?;

@@ -5,3 +5,4 @@ pub mod Entries
 pub mod Patterns
 pub mod Restrictions
 pub mod Types
+pub mod Examples

@@ -1,16 +1,16 @@
 -- The names in a type statement and in those that it rests on, and their faults.
-use Rattle.std.specs.Prelude.{ℕ, zero, suc, ◌+◌, Bool, true, false, not, ◌&&◌, ◌||◌, ◌==◌, nat_lt, nat_le, List, [], ◌∷◌, ◌++◌, map, find, length, take, drop, Option, Some, None, is_some, is_none, option_map, option_and_then, unwrap_or, if◌then◌else◌, codes}
-use Rattle.std.specs.List.{flat_map, list_any, list_all, filter, prefix_len, slice_split, slice_get, sum_by}
+use Rattle.std.specs.Prelude.{ℕ, zero, suc, ◌+◌, Bool, not, ◌&&◌, ◌==◌, nat_lt, List, [], ◌∷◌, ◌++◌, map, find, length, take, drop, Option, Some, None, is_some, is_none, option_map, unwrap_or, if◌then◌else◌, codes}
+use Rattle.std.specs.List.{flat_map, list_any, list_all, prefix_len, slice_split, slice_get, sum_by}
 use Rattle.std.specs.Option.{option_to_list}
 use Rattle.sal_stmt.specs.declared.stmt.Stmt.{Stmt}
-use Rattle.sal_stmt.specs.Words.{first, is_keyword}
+use Rattle.sal_stmt.specs.Words.{is_keyword}
 use Rattle.sal_module.specs.declared.keyword.Keyword.TheVariants as word
 use Rattle.sal_module.specs.declared.fault.Cause.TheVariants.{UnknownName, NameCycle}
 use Rattle.sal_module.specs.declared.fault.Found.{Found}
 use Rattle.sal_module.specs.Keywords.{same}
 use Rattle.sal_module.specs.Statements.{is_named, subs_of, all_named, argument_of, value_of}
 use Rattle.sal_module.specs.Profile.{at_stmt}
-use Rattle.sal_typedefs.specs.Scopes.{Site, within, is_same, module_of, is_prefixed, typedef_of, identity_of}
+use Rattle.sal_typedefs.specs.Scopes.{Site, within, is_same, module_of, typedef_of, identity_of}
 use Rattle.sal_typedefs.specs.Builtins.{builtin_of}
 
 -- ---- what a type rests on
@@ -80,7 +80,7 @@ is_path steps = (nat_lt (length (steps_down steps)) (length steps) && nat_lt 0 (
 abbrev pub path_names : List ℕ → List (List ℕ)
 path_names t =
     flat_map (λ shut. if is_path (slice_split (λ c. c == 47) shut) then map (λ step. take (name_len step) step) (steps_down (slice_split (λ c. c == 47) shut)) else [])
-        (option_to_list (outside t))
+    (option_to_list (outside t))
 
 -- ---- faults
 

@@ -1,6 +1,6 @@
 -- What a type statement may say of the type that it restricts (RFC 7950 sections 7.3.4 and 9).
-use Rattle.std.specs.Prelude.{ℕ, ◌+◌, Bool, true, false, not, ◌&&◌, ◌||◌, ◌==◌, nat_lt, nat_le, List, [], ◌∷◌, ◌++◌, map, find, length, Option, Some, None, is_some, is_err, option_map, unwrap_or, if◌then◌else◌, Result, Ok, Err}
-use Rattle.std.specs.List.{flat_map, list_any, zip}
+use Rattle.std.specs.Prelude.{ℕ, Bool, true, false, not, ◌&&◌, ◌||◌, ◌==◌, nat_lt, nat_le, List, [], ◌++◌, length, Option, Some, None, is_some, is_err, if◌then◌else◌}
+use Rattle.std.specs.List.{flat_map, list_any}
 use Rattle.std.specs.Option.{option_to_list}
 use Rattle.sal_stmt.specs.declared.stmt.Stmt.{Stmt}
 use Rattle.sal_module.specs.declared.keyword.Keyword.{Keyword}

@@ -1,5 +1,5 @@
 -- What a type statement means: its type, or the first fault in it and in those that it rests on.
-use Rattle.std.specs.Prelude.{ℕ, zero, suc, ◌+◌, Bool, true, false, not, ◌==◌, List, [], ◌∷◌, ◌++◌, map, find, length, Option, Some, None, is_some, option_map, unwrap_or, if◌then◌else◌, Result, Ok, Err, unsigned_abs, codes}
+use Rattle.std.specs.Prelude.{ℕ, zero, suc, ◌+◌, Bool, true, false, not, ◌==◌, List, [], ◌∷◌, ◌++◌, map, find, length, Option, Some, None, is_some, option_map, unwrap_or, if◌then◌else◌, Result, Ok, Err, unsigned_abs}
 use Rattle.std.specs.List.{flat_map, list_any, enumerate_from, position, slice_get, slice_index}
 use Rattle.std.specs.Option.{option_to_list}
 use Rattle.std.specs.Result.{result_unwrap_or}

@@ -3,9 +3,12 @@
 //! | item | what it is |
 //! |---|---|
 //! | `TypeSite` | where a `type` statement begins |
+//! | `is_malformed` | whether a pattern is none by the grammar of `regex` |
 #![tactic(auto)]
 
+mod pattern;
 mod site;
 mod vectors;
 
+pub use pattern::is_malformed;
 pub use site::TypeSite;

@@ -1,38 +1,64 @@
 -- The built-in types (RFC 7950 section 4.2.4), before a statement restricts them.
-use Rattle.std.specs.Prelude.{ℕ, ◌-◌, ◌^◌, pos, neg_ℤ, Bool, true, false, List, [], ◌∷◌, find, Option, option_map, codes}
-use Prim.Native.String.{String}
+use Rattle.std.specs.Prelude.{◌≡◌, ◌==◌, ◌||◌, ⊤, ℕ, ◌-◌, ◌^◌, pos, neg_ℤ, Bool, true, false, List, [], ◌∷◌, map, find, Option, option_map}
+use Rattle.std.specs.Borrow.{Bor}
 use Rattle.sal_module.specs.Keywords.{same}
 use Rattle.sal_restrict.specs.declared.ranges.Part.{Part}
 use Rattle.sal_restrict.specs.declared.yang_type.YangType.{YangType, roll-YangType}
 use Rattle.sal_restrict.specs.declared.yang_type.YangType.TheOpen.{YangType-F}
+use Rattle.sal_typedefs.specs.declared.builtin.Builtin.{Builtin}
+use Rattle.sal_typedefs.specs.declared.builtin.Builtin.TheVariants as type
+use Rattle.sal_typedefs.specs.declared.builtin.TheConstants.{NAMES}
+
+-- ---- names
+
+abbrev pub Name : Type 0
+Name = List ℕ × Builtin
+
+abbrev pub name_view : Bor (List ℕ) × Builtin → Name
+name_view n = (n.0.now, n.1)
+
+abbrev pub builtin_among : List Name → List ℕ → Option Builtin
+builtin_among names name = option_map (λ (n : Name). n.1) (find (λ (n : Name). same n.0 name) names)
+
+unfoldable pub names : List Name
+names = map (λ n. (n.0.now, n.1)) NAMES
+
+-- The name of a built-in type, without a prefix, always means that type.
+unfoldable pub builtin_of : List ℕ → Option Builtin
+unfolding names
+builtin_of name = builtin_among names name
+
+-- ---- types
 
 -- the numbers of so many bits, with a sign or without
 abbrev pub numbers_of : ℕ → Bool → List Part
 numbers_of bits true = record { low = neg_ℤ (pos (2 ^ (bits - 1))); high = pos (2 ^ (bits - 1) - 1) } ∷ []
 numbers_of bits false = record { low = pos 0; high = pos (2 ^ bits - 1) } ∷ []
 
-abbrev pub whole : ℕ → Bool → YangType-F YangType
-whole bits signed = YangType-F.Int bits signed (numbers_of bits signed)
-
 abbrev pub lengths : List Part
 lengths = numbers_of 64 false
 
-abbrev pub Builtin : Type 0
-Builtin = List ℕ × YangType
-
-abbrev pub builtin : String → YangType-F YangType → Builtin
-builtin name layer = (codes name, roll-YangType layer)
-
 -- What a statement has to say is empty here: fraction digits, names, bases, members and the path.
-unfoldable pub builtins : List Builtin
-builtins =
-    builtin "int8" (whole 8 true) ∷ builtin "int16" (whole 16 true) ∷ builtin "int32" (whole 32 true) ∷ builtin "int64" (whole 64 true)
-    ∷ builtin "uint8" (whole 8 false) ∷ builtin "uint16" (whole 16 false) ∷ builtin "uint32" (whole 32 false) ∷ builtin "uint64" (whole 64 false)
-    ∷ builtin "decimal64" (YangType-F.Dec 0 (numbers_of 64 true)) ∷ builtin "string" (YangType-F.Text lengths []) ∷ builtin "boolean" YangType-F.Bool
-    ∷ builtin "enumeration" (YangType-F.Enum [] []) ∷ builtin "bits" (YangType-F.Bits [] []) ∷ builtin "binary" (YangType-F.Bin lengths)
-    ∷ builtin "identityref" (YangType-F.Ident []) ∷ builtin "empty" YangType-F.Empty ∷ builtin "union" (YangType-F.Union []) ∷ builtin "leafref" (YangType-F.Leafref []) ∷ []
+abbrev pub bare : Builtin → YangType-F YangType
+bare (type.Int bits signed) = YangType-F.Int bits signed (numbers_of bits signed)
+bare type.Dec = YangType-F.Dec 0 (numbers_of 64 true)
+bare type.Text = YangType-F.Text lengths []
+bare type.Bool = YangType-F.Bool
+bare type.Enum = YangType-F.Enum [] []
+bare type.Bits = YangType-F.Bits [] []
+bare type.Bin = YangType-F.Bin lengths
+bare type.Ident = YangType-F.Ident []
+bare type.Empty = YangType-F.Empty
+bare type.Union = YangType-F.Union []
+bare type.Leafref = YangType-F.Leafref []
 
--- The name of a built-in type, without a prefix, always means that type.
-unfoldable pub builtin_of : List ℕ → Option YangType
-unfolding builtins
-builtin_of name = option_map (λ (b : Builtin). b.1) (find (λ (b : Builtin). same name b.0) builtins)
+abbrev pub type_of : Builtin → YangType
+type_of builtin = roll-YangType (bare builtin)
+
+-- Whole numbers have 8, 16, 32 or 64 bits.
+abbrev pub IsWidth : ℕ → Type 0
+IsWidth bits = (((bits == 8 || bits == 16) || bits == 32) || bits == 64) ≡ true
+
+abbrev pub HasWidth : Builtin → Type 0
+HasWidth (type.Int bits signed) = IsWidth bits
+HasWidth builtin = ⊤

@@ -17,7 +17,7 @@ use Rattle.sal_restrict.specs.declared.yang_type.YangType.{YangType, out-YangTyp
 use Rattle.sal_restrict.specs.declared.yang_type.YangType.TheOpen.{YangType-F}
 use Rattle.sal_restrict.specs.RangeTexts.{read_ranges}
 use Rattle.sal_typedefs.specs.Scopes.{Site, identity_of}
-use Rattle.sal_typedefs.specs.Builtins.{builtin_of}
+use Rattle.sal_typedefs.specs.Builtins.{builtin_of, type_of}
 use Rattle.sal_typedefs.specs.Names.{name_of, rests_on, steps_of, all_name_faults}
 use Rattle.sal_typedefs.specs.Entries.{Entry, of_enums, of_bits, entries_of, chosen}
 use Rattle.sal_typedefs.specs.Restrictions.{Base, Layer, layer_of, restriction_faults, pattern_faults}
@@ -90,7 +90,7 @@ is_faulty judged = not (length judged.faults == 0)
 abbrev pub base_of : Site → List Judged → Base
 base_of site below =
     if is_some (builtin_of (name_of site))
-    then record { type = unwrap_or (builtin_of (name_of site)) nothing.type; entries = []; itself = true }
+    then record { type = unwrap_or (option_map type_of (builtin_of (name_of site))) nothing.type; entries = []; itself = true }
     else record { type = (unwrap_or (slice_get below 0) nothing).type; entries = (unwrap_or (slice_get below 0) nothing).entries; itself = false }
 
 -- Where one of the types below has a fault, only patterns are looked at.

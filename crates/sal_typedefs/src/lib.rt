@@ -6,6 +6,8 @@
 //! | `is_malformed` | whether a pattern is none by the grammar of `regex` |
 #![tactic(auto)]
 
+mod builtin;
+mod name;
 mod pattern;
 mod site;
 mod vectors;

@@ -42,6 +42,7 @@ pub fn read_ranges(
     requires some { 0 < length within.now }
     requires few { digits ≤ 18 }
     ensures exact { GivesUnless RangeFault.NoMemory (λ ranges. ranges) result (spec.read_ranges text.now within.now digits) }
+    ensures some { IfOk result (λ ranges. 0 < length ranges) }
     ensures narrow { IfOk result (λ ranges. (n : ℤ) → IsTrue (holds ranges n) → IsTrue (holds within.now n)) }
 {
     let text = text.as_bytes();

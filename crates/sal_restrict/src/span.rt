@@ -65,6 +65,7 @@ pub(crate) fn read_spans<'t>(
     requires { digits ≤ 18 }
     ensures value { MatchResult result (λ spans. spec.parts digits outer (slice_split (λ c. c == 124) text.now) ≡ Some (parts_of (10 ^ digits) spans.items)) (λ e. e ≢ NoMemory → (e ≡ BadText) × (spec.parts digits outer (slice_split (λ c. c == 124) text.now) ≡ None)) }
     ensures read { IfOk result (λ spans. AreRead (10 ^ digits) spans.items) }
+    ensures some { IfOk result (λ spans. 0 < length spans.items) }
 {
     let mut spans = Vec::new(alloc);
     let mut rest = text;
@@ -134,7 +135,8 @@ fn small_part(span: &Span) -> Option<Part>
 
 /// The parts, where 128 bits hold their bounds.
 pub(crate) fn small_parts(alloc: Global, spans: &[Span]) -> Result<Vec<Part>, RangeFault>
-    ensures { MatchResult result (λ list. (scale : ℕ) → list.items ≡ parts_of scale spans.now) (λ e. e ≢ NoMemory → (e ≡ Wider) × (list_any is_span_large spans.now ≡ true)) }
+    ensures value { MatchResult result (λ list. (scale : ℕ) → list.items ≡ parts_of scale spans.now) (λ e. e ≢ NoMemory → (e ≡ Wider) × (list_any is_span_large spans.now ≡ true)) }
+    ensures count { IfOk result (λ list. length list.items ≡ length spans.now) }
 {
     let mut list = Vec::with_capacity(alloc, spans.len())?;
     for span in spans {

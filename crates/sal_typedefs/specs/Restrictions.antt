@@ -1,5 +1,5 @@
 -- What a type statement may say of the type that it restricts (RFC 7950 sections 7.3.4 and 9).
-use Rattle.std.specs.Prelude.{ℕ, Bool, true, false, not, ◌&&◌, ◌||◌, ◌==◌, nat_lt, nat_le, List, [], ◌++◌, length, Option, Some, None, is_some, is_err, if◌then◌else◌}
+use Rattle.std.specs.Prelude.{ℕ, ◌<◌, ◌≤◌, ⊤, Bool, true, false, not, ◌&&◌, ◌||◌, ◌==◌, nat_lt, nat_le, List, [], ◌++◌, length, Option, Some, None, is_some, is_err, if◌then◌else◌}
 use Rattle.std.specs.List.{flat_map, list_any}
 use Rattle.std.specs.Option.{option_to_list}
 use Rattle.sal_stmt.specs.declared.stmt.Stmt.{Stmt}
@@ -11,7 +11,9 @@ use Rattle.sal_module.specs.Keywords.{same_keyword}
 use Rattle.sal_module.specs.Arguments.{decimal, is_whole}
 use Rattle.sal_module.specs.Statements.{is_named, subs_of, all_named, argument_of, value_of}
 use Rattle.sal_module.specs.Profile.{at_stmt}
+use Rattle.std.specs.Borrow.{Bor}
 use Rattle.sal_restrict.specs.declared.ranges.Part.{Part}
+use Rattle.sal_restrict.specs.declared.ranges.Ranges.{Ranges}
 use Rattle.sal_restrict.specs.declared.yang_type.YangType.{YangType, out-YangType}
 use Rattle.sal_restrict.specs.declared.yang_type.YangType.TheOpen.{YangType-F}
 use Rattle.sal_restrict.specs.RangeTexts.{read_ranges}
@@ -25,8 +27,16 @@ pub record Base : Type 0 where
   pub entries : List Entry
   pub itself : Bool
 
+-- one of which the names do not matter
+abbrev pub unlisted : YangType → Bool → Base
+unlisted type itself = record { type = type; entries = []; itself = itself }
+
 abbrev pub Layer : Type 0
 Layer = YangType-F YangType
+
+-- as the code has them
+abbrev pub seen : Bor Ranges × ℕ → List Part × ℕ
+seen n = (n.0.now, n.1)
 
 -- the numbers that a `range` restricts, and their fraction digits
 abbrev pub numbers : Layer → Option (List Part × ℕ)
@@ -70,18 +80,36 @@ abbrev pub is_needed : Base → Keyword → Bool
 is_needed base keyword = base.itself && list_any (same_keyword keyword) (option_to_list (needed (out-YangType base.type)))
 
 -- a restriction of another kind of type
+abbrev pub is_measure_of_another : Layer → Stmt → Bool
+is_measure_of_another t stmt =
+    ((is_named word.Range stmt && not (is_some (numbers t))) || (is_named word.Length stmt && not (is_some (lengths t)))) || (is_named word.Pattern stmt && not (is_text t))
+
+abbrev pub is_item_of_another : Layer → Stmt → Bool
+is_item_of_another t stmt =
+    ((is_named word.Enum stmt && not (is_enumeration t)) || (is_named word.Bit stmt && not (is_bits t))) || (is_named word.RequireInstance stmt && not (is_leafref t))
+
+-- what only another built-in type says, or only the built-in type itself
+abbrev pub is_out_of_place : Base → Stmt → Bool
+is_out_of_place base stmt =
+    (((is_named word.FractionDigits stmt && not (is_needed base word.FractionDigits)) || (is_named word.Base stmt && not (is_needed base word.Base)))
+    || (is_named word.Path stmt && not (is_needed base word.Path))) || (is_named word.Type stmt && not (is_needed base word.Type))
+
 abbrev pub is_misplaced : Base → Stmt → Bool
 is_misplaced base stmt =
-    let t = out-YangType base.type in
-    ((((((((is_named word.Range stmt && not (is_some (numbers t))) || (is_named word.Length stmt && not (is_some (lengths t))))
-    || (is_named word.Pattern stmt && not (is_text t))) || (is_named word.Enum stmt && not (is_enumeration t))) || (is_named word.Bit stmt && not (is_bits t)))
-    || (is_named word.RequireInstance stmt && not (is_leafref t))) || (is_named word.FractionDigits stmt && not (is_needed base word.FractionDigits)))
-    || (is_named word.Base stmt && not (is_needed base word.Base))) || ((is_named word.Path stmt && not (is_needed base word.Path)) || (is_named word.Type stmt && not (is_needed base word.Type)))
+    (is_measure_of_another (out-YangType base.type) stmt || is_item_of_another (out-YangType base.type) stmt) || is_out_of_place base stmt
 
 -- a range or length that is none, or is wider than that of the type
 abbrev pub is_wider : Option (List Part × ℕ) → Stmt → Bool
 is_wider None stmt = false
 is_wider (Some (within, digits)) stmt = is_err (read_ranges (argument_of stmt) within digits)
+
+-- a type whose numbers and lengths can be restricted: there are some, and at most 18 fraction digits
+abbrev pub HasNumbers : Layer → Type 0
+HasNumbers (YangType-F.Int bits signed range) = 0 < length range
+HasNumbers (YangType-F.Dec digits range) = (0 < length range) × (digits ≤ 18)
+HasNumbers (YangType-F.Text lengths patterns) = 0 < length lengths
+HasNumbers (YangType-F.Bin lengths) = 0 < length lengths
+HasNumbers t = ⊤
 
 -- ---- fraction digits
 
@@ -115,10 +143,11 @@ absent_faults base m stmt =
     if base.itself && list_any (λ keyword. not (list_any (is_named keyword) (subs_of stmt))) (option_to_list (needed (out-YangType base.type)))
     then at_stmt BadRestriction m stmt else []
 
+abbrev pub is_bad : Base → Layer → Stmt → Bool
+is_bad base t sub = is_misplaced base sub || ((is_named word.Range sub && is_wider (numbers t) sub) || (is_named word.Length sub && is_wider (lengths t) sub))
+
 abbrev pub sub_faults : Base → Layer → ℕ → Stmt → List Found
-sub_faults base t m sub =
-    if is_misplaced base sub || ((is_named word.Range sub && is_wider (numbers t) sub) || (is_named word.Length sub && is_wider (lengths t) sub))
-    then at_stmt BadRestriction m sub else []
+sub_faults base t m sub = if is_bad base t sub then at_stmt BadRestriction m sub else []
 
 -- the enums, or the bits
 abbrev pub list_faults : Base → ℕ → Stmt → List Found

@@ -9,6 +9,7 @@
 mod builtin;
 mod name;
 mod pattern;
+mod restriction;
 mod site;
 mod vectors;
 

@@ -123,9 +123,12 @@ are_fraction_digits t = is_whole t && (nat_lt 0 (decimal t) && nat_le (decimal t
 abbrev pub is_decimal : Base → Bool
 is_decimal base = is_needed base word.FractionDigits
 
+abbrev pub digit_fault : ℕ → Stmt → List Found
+digit_fault m sub =
+    if not (is_named word.FractionDigits sub) || are_fraction_digits (argument_of sub) then [] else at_stmt BadRestriction m sub
+
 abbrev pub digit_faults : ℕ → Stmt → List Found
-digit_faults m stmt =
-    flat_map (λ sub. if are_fraction_digits (argument_of sub) then [] else at_stmt BadRestriction m sub) (all_named word.FractionDigits stmt)
+digit_faults m stmt = flat_map (digit_fault m) (subs_of stmt)
 
 -- a decimal64 has its digits before it is restricted
 abbrev pub with_digits : ℕ → Layer → Layer
@@ -162,5 +165,8 @@ restriction_faults base m stmt =
     if is_decimal base && not (length (digit_faults m stmt) == 0) then digit_faults m stmt
     else absent_faults base m stmt ++ flat_map (sub_faults base (layer_of base stmt) m) (subs_of stmt) ++ list_faults base m stmt
 
+abbrev pub pattern_fault : ℕ → Stmt → List Found
+pattern_fault m sub = if not (is_named word.Pattern sub) || not (is_malformed (argument_of sub)) then [] else at_stmt BadPattern m sub
+
 abbrev pub pattern_faults : ℕ → Stmt → List Found
-pattern_faults m stmt = flat_map (λ sub. if is_malformed (argument_of sub) then at_stmt BadPattern m sub else []) (all_named word.Pattern stmt)
+pattern_faults m stmt = flat_map (pattern_fault m) (subs_of stmt)

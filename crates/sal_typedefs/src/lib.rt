@@ -7,6 +7,7 @@
 #![tactic(auto)]
 
 mod builtin;
+mod judging;
 mod name;
 mod pattern;
 mod restriction;

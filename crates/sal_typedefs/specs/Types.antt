@@ -24,10 +24,14 @@ use Rattle.sal_typedefs.specs.Restrictions.{Base, Layer, layer_of, restriction_f
 
 -- ---- the type of a statement without faults
 
+-- the numbers that a text writes, or all where it writes none
+abbrev pub read_or_all : List ℕ → ℕ → List Part → List Part
+read_or_all t digits within = result_unwrap_or (read_ranges t within digits) within
+
 -- the range or length of a type, narrowed where the statement says so
 abbrev pub narrowed : Keyword → Stmt → ℕ → List Part → List Part
 narrowed keyword stmt digits within =
-    unwrap_or (option_map (λ sub. result_unwrap_or (read_ranges (argument_of sub) within digits) within) (find (is_named keyword) (subs_of stmt))) within
+    unwrap_or (option_map (λ sub. read_or_all (argument_of sub) digits within) (find (is_named keyword) (subs_of stmt))) within
 
 abbrev pub pattern_of : Stmt → Pattern
 pattern_of stmt = record { text = argument_of stmt; inverted = list_any (is_named word.Modifier) (subs_of stmt) }

@@ -9,6 +9,7 @@
 mod builtin;
 mod judging;
 mod name;
+mod narrowing;
 mod pattern;
 mod restriction;
 mod site;

@@ -1,5 +1,5 @@
 -- What a type statement means: its type, or the first fault in it and in those that it rests on.
-use Rattle.std.specs.Prelude.{ℕ, zero, suc, ◌+◌, Bool, true, false, not, ◌==◌, List, [], ◌∷◌, ◌++◌, map, find, length, Option, Some, None, is_some, option_map, unwrap_or, if◌then◌else◌, Result, Ok, Err, unsigned_abs}
+use Rattle.std.specs.Prelude.{◌≡◌, ⊤, ℕ, zero, suc, ◌+◌, Bool, true, false, not, ◌==◌, List, [], ◌∷◌, ◌++◌, map, find, length, Option, Some, None, is_some, option_map, unwrap_or, if◌then◌else◌, Result, Ok, Err, unsigned_abs}
 use Rattle.std.specs.List.{flat_map, list_any, enumerate_from, position, slice_get, slice_index}
 use Rattle.std.specs.Option.{option_to_list}
 use Rattle.std.specs.Result.{result_unwrap_or}
@@ -20,7 +20,7 @@ use Rattle.sal_typedefs.specs.Scopes.{Site, identity_of}
 use Rattle.sal_typedefs.specs.Builtins.{builtin_of, type_of}
 use Rattle.sal_typedefs.specs.Names.{name_of, rests_on, steps_of, all_name_faults}
 use Rattle.sal_typedefs.specs.Entries.{Entry, of_enums, of_bits, entries_of, chosen}
-use Rattle.sal_typedefs.specs.Restrictions.{Base, Layer, layer_of, restriction_faults, pattern_faults}
+use Rattle.sal_typedefs.specs.Restrictions.{Base, unlisted, Layer, layer_of, restriction_faults, pattern_faults}
 
 -- ---- the type of a statement without faults
 
@@ -75,6 +75,19 @@ restricted modules m base stmt below entries (YangType-F.Union members) =
     YangType-F.Union (if base.itself then flat_map (λ t. members_of t (out-YangType t)) below else members)
 restricted modules m base stmt below entries (YangType-F.Leafref path) = YangType-F.Leafref (if base.itself then value_of word.Path stmt else path)
 restricted modules m base stmt below entries t = t
+
+-- a type that its statement alone restricts, and without names
+abbrev pub IsPlain : Layer → Type 0
+IsPlain (YangType-F.Enum names places) = ⊥
+IsPlain (YangType-F.Bits names positions) = ⊥
+IsPlain (YangType-F.Ident bases) = ⊥
+IsPlain (YangType-F.Union members) = ⊥
+IsPlain layer = ⊤
+
+abbrev pub IsRestricted : YangType → Bool → Stmt → YangType → Type 0
+IsRestricted type itself stmt result =
+    (modules : List Stmt) (m : ℕ) (below : List YangType) (entries : List Entry)
+    → result ≡ roll-YangType (restricted modules m (unlisted type itself) stmt below entries (out-YangType type))
 
 -- ---- one statement after those that it rests on
 

@@ -1,11 +1,13 @@
 //! Types that a statement narrows (RFC 7950 sections 9.2.4, 9.4.4 and 9.4.5).
-ghost use Rattle.std.specs.Prelude.{◌≡◌, ◌++◌, ◌<◌, ◌≤◌, length, map, IfOk};
+ghost use Rattle.std.specs.Prelude.{◌≡◌, ◌++◌, ◌<◌, ◌≤◌, length, map, IfOk, if◌then◌else◌};
 ghost use Rattle.sal_module.specs.declared.keyword.Keyword.TheVariants as word;
-ghost use Rattle.sal_module.specs.Statements.{all_named};
+ghost use Rattle.sal_module.specs.Statements.{all_named, value_of};
+ghost use Rattle.sal_restrict.specs.declared.yang_type.YangType.TheViews.{out-YangType};
+ghost use Rattle.sal_typedefs.specs.Restrictions.{HasNumbers};
 ghost use Rattle.sal_typedefs.specs.Types as spec;
 
-use sal_module::{Keyword, argument_of, first_named, has_named, is_named};
-use sal_restrict::{Pattern, RangeFault, Ranges, read_ranges};
+use sal_module::{Keyword, argument_of, first_named, has_named, is_named, value_of};
+use sal_restrict::{Pattern, RangeFault, Ranges, YangType, read_ranges};
 use sal_stmt::Stmt;
 use sal_types::{Duplicate, NoMemory, Seq, Str};
 use std::alloc::Global;
@@ -82,4 +84,56 @@ fn copies(alloc: Global, patterns: &[Pattern]) -> Result<Vec<Pattern>, NoMemory>
         list.push(pattern.copy()?)?;
     }
     Ok(list)
+}
+
+/// The path that a leafref's statement gives, or else that of the type.
+fn path_of(alloc: Global, path: &Str, itself: bool, stmt: &Stmt) -> Result<Str, NoMemory>
+    ensures { IfOk result (λ it. it ≡ (if itself then value_of word.Path stmt.now else path.now)) }
+{
+    if itself {
+        Str::new(alloc, value_of(Keyword::Path, stmt))
+    } else {
+        path.copy()
+    }
+}
+
+/// The type that a statement means, where it restricts numbers, a text or bytes, or nothing.
+///
+/// Enumerations, bits, identityrefs and unions say more, and are left as they are.
+pub(crate) fn restricted(
+    alloc: Global,
+    ty: &YangType,
+    itself: bool,
+    stmt: &Stmt,
+) -> Result<YangType, NoMemory>
+    requires { HasNumbers (out-YangType ty.now) }
+    ensures value { IfOk result (λ it. spec.IsPlain (out-YangType ty.now) → spec.IsRestricted ty.now itself stmt.now it) }
+    ensures numbers { IfOk result (λ it. HasNumbers (out-YangType it)) }
+{
+    match ty {
+        YangType::Int {
+            bits,
+            signed,
+            range,
+        } => Ok(YangType::Int {
+            bits: *bits,
+            signed: *signed,
+            range: narrowed(alloc, Keyword::Range, stmt, 0, range)?,
+        }),
+        YangType::Dec { digits, range } => Ok(YangType::Dec {
+            digits: *digits,
+            range: narrowed(alloc, Keyword::Range, stmt, *digits, range)?,
+        }),
+        YangType::Text { length, patterns } => Ok(YangType::Text {
+            length: narrowed(alloc, Keyword::Length, stmt, 0, length)?,
+            patterns: with_patterns_of(alloc, patterns.items(), stmt)?,
+        }),
+        YangType::Bin { length } => Ok(YangType::Bin {
+            length: narrowed(alloc, Keyword::Length, stmt, 0, length)?,
+        }),
+        YangType::Leafref { path } => Ok(YangType::Leafref {
+            path: path_of(alloc, path, itself, stmt)?,
+        }),
+        _ => ty.copy(alloc),
+    }
 }

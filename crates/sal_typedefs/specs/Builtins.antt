@@ -1,5 +1,5 @@
 -- The built-in types (RFC 7950 section 4.2.4), before a statement restricts them.
-use Rattle.std.specs.Prelude.{◌≡◌, ◌==◌, ◌||◌, ⊤, ℕ, ◌-◌, ◌^◌, pos, neg_ℤ, Bool, true, false, List, [], ◌∷◌, map, find, Option, option_map}
+use Rattle.std.specs.Prelude.{ℕ, ◌-◌, ◌^◌, pos, neg_ℤ, Bool, true, false, List, [], ◌∷◌, map, find, Option, option_map}
 use Rattle.std.specs.Borrow.{Bor}
 use Rattle.sal_module.specs.Keywords.{same}
 use Rattle.sal_restrict.specs.declared.ranges.Part.{Part}
@@ -7,6 +7,8 @@ use Rattle.sal_restrict.specs.declared.yang_type.YangType.{YangType, roll-YangTy
 use Rattle.sal_restrict.specs.declared.yang_type.YangType.TheOpen.{YangType-F}
 use Rattle.sal_typedefs.specs.declared.builtin.Builtin.{Builtin}
 use Rattle.sal_typedefs.specs.declared.builtin.Builtin.TheVariants as type
+use Rattle.sal_typedefs.specs.declared.builtin.Width.{Width}
+use Rattle.sal_typedefs.specs.declared.builtin.Width.TheVariants as width
 use Rattle.sal_typedefs.specs.declared.builtin.TheConstants.{NAMES}
 
 -- ---- names
@@ -38,9 +40,15 @@ numbers_of bits false = record { low = pos 0; high = pos (2 ^ bits - 1) } ∷ []
 abbrev pub lengths : List Part
 lengths = numbers_of 64 false
 
+abbrev pub bits_of : Width → ℕ
+bits_of width.W8 = 8
+bits_of width.W16 = 16
+bits_of width.W32 = 32
+bits_of width.W64 = 64
+
 -- What a statement has to say is empty here: fraction digits, names, bases, members and the path.
 abbrev pub bare : Builtin → YangType-F YangType
-bare (type.Int bits signed) = YangType-F.Int bits signed (numbers_of bits signed)
+bare (type.Int width signed) = YangType-F.Int (bits_of width) signed (numbers_of (bits_of width) signed)
 bare type.Dec = YangType-F.Dec 0 (numbers_of 64 true)
 bare type.Text = YangType-F.Text lengths []
 bare type.Bool = YangType-F.Bool
@@ -54,11 +62,3 @@ bare type.Leafref = YangType-F.Leafref []
 
 abbrev pub type_of : Builtin → YangType
 type_of builtin = roll-YangType (bare builtin)
-
--- Whole numbers have 8, 16, 32 or 64 bits.
-abbrev pub IsWidth : ℕ → Type 0
-IsWidth bits = (((bits == 8 || bits == 16) || bits == 32) || bits == 64) ≡ true
-
-abbrev pub HasWidth : Builtin → Type 0
-HasWidth (type.Int bits signed) = IsWidth bits
-HasWidth builtin = ⊤

@@ -1,17 +1,27 @@
 //! The built-in types (RFC 7950 section 4.2.4).
 ghost use Rattle.std.specs.Prelude.{◌≡◌, ◌-◌, ◌+◌, ◌∷◌, [], ◌≤◌, ◌≤ℤ◌, IfOk, map, pos, neg_ℤ};
 ghost use Rattle.sal_typedefs.specs.Builtins as spec;
-ghost use Rattle.sal_typedefs.specs.Builtins.{IsWidth, HasWidth};
+ghost use Rattle.sal_restrict.specs.declared.yang_type.YangType.TheViews.{out-YangType};
+ghost use Rattle.sal_typedefs.specs.Builtins.{bits_of};
+ghost use Rattle.sal_typedefs.specs.Restrictions.{HasNumbers};
 
 use sal_restrict::{Part, Ranges, YangType};
 use sal_types::{NoMemory, Seq, Str};
 use std::alloc::Global;
 
+/// How many bits a whole number has.
+#[derive(Clone, Copy, Debug, PartialEq, Eq)]
+pub(crate) enum Width {
+    W8,
+    W16,
+    W32,
+    W64,
+}
+
 /// A built-in type.
 #[derive(Clone, Copy, Debug, PartialEq, Eq)]
-pub enum Builtin {
-    /// Whole numbers of so many bits.
-    Int { bits: u8, signed: bool },
+pub(crate) enum Builtin {
+    Int { width: Width, signed: bool },
     Dec,
     Text,
     Bool,
@@ -29,56 +39,56 @@ const NAMES: [(&str, Builtin); 18] = [
     (
         "int8",
         Builtin::Int {
-            bits: 8,
+            width: Width::W8,
             signed: true,
         },
     ),
     (
         "int16",
         Builtin::Int {
-            bits: 16,
+            width: Width::W16,
             signed: true,
         },
     ),
     (
         "int32",
         Builtin::Int {
-            bits: 32,
+            width: Width::W32,
             signed: true,
         },
     ),
     (
         "int64",
         Builtin::Int {
-            bits: 64,
+            width: Width::W64,
             signed: true,
         },
     ),
     (
         "uint8",
         Builtin::Int {
-            bits: 8,
+            width: Width::W8,
             signed: false,
         },
     ),
     (
         "uint16",
         Builtin::Int {
-            bits: 16,
+            width: Width::W16,
             signed: false,
         },
     ),
     (
         "uint32",
         Builtin::Int {
-            bits: 32,
+            width: Width::W32,
             signed: false,
         },
     ),
     (
         "uint64",
         Builtin::Int {
-            bits: 64,
+            width: Width::W64,
             signed: false,
         },
     ),
@@ -124,49 +134,60 @@ fn range(alloc: Global, low: i128, high: i128) -> Result<Ranges, NoMemory>
 }
 
 /// The lowest and the highest number of so many bits.
-fn bounds(bits: u8, signed: bool) -> (i128, i128)
-    requires { IsWidth bits }
-    ensures value { spec.numbers_of bits signed ≡ record { low = result.0; high = result.1 } ∷ [] }
+fn bounds(width: Width, signed: bool) -> (i128, i128)
+    ensures value { spec.numbers_of (bits_of width) signed ≡ record { low = result.0; high = result.1 } ∷ [] }
     ensures order { result.0 ≤ℤ result.1 }
 {
-    match (bits, signed) {
-        (8, true) => (-128, 127),
-        (16, true) => (-32_768, 32_767),
-        (32, true) => (-2_147_483_648, 2_147_483_647),
-        (_, true) => (-9_223_372_036_854_775_808, 9_223_372_036_854_775_807),
-        (8, false) => (0, 255),
-        (16, false) => (0, 65_535),
-        (32, false) => (0, 4_294_967_295),
-        (_, false) => (0, 18_446_744_073_709_551_615),
+    match (width, signed) {
+        (Width::W8, true) => (-128, 127),
+        (Width::W16, true) => (-32_768, 32_767),
+        (Width::W32, true) => (-2_147_483_648, 2_147_483_647),
+        (Width::W64, true) => (-9_223_372_036_854_775_808, 9_223_372_036_854_775_807),
+        (Width::W8, false) => (0, 255),
+        (Width::W16, false) => (0, 65_535),
+        (Width::W32, false) => (0, 4_294_967_295),
+        (Width::W64, false) => (0, 18_446_744_073_709_551_615),
     }
 }
 
-fn numbers_of(alloc: Global, bits: u8, signed: bool) -> Result<Ranges, NoMemory>
-    requires { IsWidth bits }
-    ensures { IfOk result (λ ranges. ranges ≡ spec.numbers_of bits signed) }
+fn numbers_of(alloc: Global, width: Width, signed: bool) -> Result<Ranges, NoMemory>
+    ensures { IfOk result (λ ranges. ranges ≡ spec.numbers_of (bits_of width) signed) }
 {
-    let (low, high) = bounds(bits, signed);
+    let (low, high) = bounds(width, signed);
     range(alloc, low, high)
+}
+
+impl Width {
+    fn bits(self) -> u8
+        ensures { result ≡ bits_of self }
+    {
+        match self {
+            Width::W8 => 8,
+            Width::W16 => 16,
+            Width::W32 => 32,
+            Width::W64 => 64,
+        }
+    }
 }
 
 impl Builtin {
     /// The type before a statement restricts it.
     pub(crate) fn bare(self, alloc: Global) -> Result<YangType, NoMemory>
-        requires { HasWidth self }
-        ensures { IfOk result (λ t. t ≡ spec.type_of self) }
+        ensures value { IfOk result (λ t. t ≡ spec.type_of self) }
+        ensures numbers { IfOk result (λ t. HasNumbers (out-YangType t)) }
     {
         match self {
-            Builtin::Int { bits, signed } => Ok(YangType::Int {
-                bits,
+            Builtin::Int { width, signed } => Ok(YangType::Int {
+                bits: width.bits(),
                 signed,
-                range: numbers_of(alloc, bits, signed)?,
+                range: numbers_of(alloc, width, signed)?,
             }),
             Builtin::Dec => Ok(YangType::Dec {
                 digits: 0,
-                range: numbers_of(alloc, 64, true)?,
+                range: numbers_of(alloc, Width::W64, true)?,
             }),
             Builtin::Text => Ok(YangType::Text {
-                length: numbers_of(alloc, 64, false)?,
+                length: numbers_of(alloc, Width::W64, false)?,
                 patterns: Seq::new(alloc),
             }),
             Builtin::Bool => Ok(YangType::Bool),
@@ -179,7 +200,7 @@ impl Builtin {
                 positions: Seq::new(alloc),
             }),
             Builtin::Bin => Ok(YangType::Bin {
-                length: numbers_of(alloc, 64, false)?,
+                length: numbers_of(alloc, Width::W64, false)?,
             }),
             Builtin::Ident => Ok(YangType::Ident {
                 bases: Seq::new(alloc),

@@ -13,12 +13,7 @@ use sal_types::{Duplicate, NoMemory, Seq, Str};
 use std::alloc::Global;
 
 /// The numbers within these that a text writes, or all of them where it writes none.
-fn read_or_all(
-    alloc: Global,
-    text: &str,
-    within: &Ranges,
-    digits: u8,
-) -> Result<Ranges, NoMemory>
+fn read_or_all(alloc: Global, text: &str, within: &Ranges, digits: u8) -> Result<Ranges, NoMemory>
     requires some { 0 < length within.now }
     requires few { digits ≤ 18 }
     ensures value { IfOk result (λ ranges. ranges ≡ spec.read_or_all text.now digits within.now) }

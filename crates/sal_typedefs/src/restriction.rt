@@ -118,11 +118,7 @@ fn is_misplaced(ty: &YangType, itself: bool, stmt: &Stmt) -> bool
 }
 
 /// Whether the text is no range within these numbers.
-fn is_wider(
-    alloc: Global,
-    within: Option<(&Ranges, u8)>,
-    stmt: &Stmt,
-) -> Result<bool, NoMemory>
+fn is_wider(alloc: Global, within: Option<(&Ranges, u8)>, stmt: &Stmt) -> Result<bool, NoMemory>
     requires { IfSome within (λ n. (0 < length n.0.now) × (n.1 ≤ 18)) }
     ensures { IfOk result (λ wider. wider ≡ spec.is_wider (option_map spec.seen within.entry) stmt.now) }
 {

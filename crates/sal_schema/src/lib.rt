@@ -1,0 +1,9 @@
+//! A schema: modules as a table of nodes, types and identities, with look-ups.
+#![tactic(auto)]
+
+mod kind;
+mod names;
+mod table;
+
+pub use kind::Kind;
+pub use table::{IdentityInfo, Leafs, NodeInfo, SchemaTable};

@@ -1,7 +1,8 @@
 -- Names, and what they name in a table.
-use Rattle.std.specs.Prelude.{ℕ, Bool, true, not, ◌&&◌, List, [], ◌∷◌, Option, None, option_map, option_and_then, find, if◌then◌else◌}
+use Rattle.std.specs.Prelude.{◌≡◌, refl, ℕ, Bool, true, false, not, ◌&&◌, List, [], ◌∷◌, Option, None, MatchOption, option_map, option_and_then, find, Contains, if◌then◌else◌}
 use Rattle.std.specs.List.{list_any}
-use Rattle.std.specs.Ordering.{is_eq}
+use Rattle.std.specs.Ordering.{is_eq, on, eq_by_cmp, as_partial_cmp}
+use Rattle.std.specs.Cmp.{IsTotalOrder, IsEquivalence, IsPartialOrder, on_total, eq_by_cmp_equiv, partial_order_from_agreeing_total}
 use Rattle.std.specs.declared.cmp.Ordering.{Ordering}
 use Rattle.sal_schema.specs.declared.kind.Kind.{Kind}
 use Rattle.sal_schema.specs.declared.names.Name.{Name}
@@ -10,6 +11,7 @@ use Rattle.sal_schema.specs.declared.table.NodeInfo.{NodeInfo}
 use Rattle.sal_schema.specs.declared.table.IdentityInfo.{IdentityInfo}
 use Rattle.sal_schema.specs.declared.table.SchemaTable.{SchemaTable}
 use Rattle.sal_schema.specs.contracts.names.NameOrd.TheImpl as name_ord
+use Rattle.sal_schema.specs.contracts.names.NameOrd.TheImpl.Laws as name_ord_laws
 use Rattle.sal_schema.specs.Kinds.{is_data, is_rpc, is_notification}
 use Rattle.sal_schema.specs.Table.{each_from, data_node}
 
@@ -33,6 +35,29 @@ lookup names name = option_map (λ (entry : Named). entry.number) (find (is_call
 abbrev pub are_distinct : List Named → Bool
 are_distinct [] = true
 are_distinct (entry ∷ names) = not (list_any (is_called entry.name) names) && are_distinct names
+
+-- the answer to a search for a name: the number of one that is called so, or none where none is
+abbrev pub Finds : List Named → Name → Option ℕ → Type 0
+Finds names name answer =
+    MatchOption answer (list_any (is_called name) names ≡ false)
+    (λ n. (entry : Named) × Contains names entry × (is_called name entry ≡ true) × (entry.number ≡ n))
+
+-- ---- the order of names
+
+abbrev pub named_cmp : Named → Named → Ordering
+named_cmp = on (λ (entry : Named). entry.name) name_cmp
+
+pub name_cmp-IsTotalOrder : IsTotalOrder name_cmp
+name_cmp-IsTotalOrder = name_ord_laws.total-law
+
+pub named_cmp-IsTotalOrder : IsTotalOrder named_cmp
+named_cmp-IsTotalOrder = on_total (λ (entry : Named). entry.name) name_cmp-IsTotalOrder
+
+pub same_name-IsEquivalence : IsEquivalence (eq_by_cmp named_cmp)
+same_name-IsEquivalence = eq_by_cmp_equiv named_cmp-IsTotalOrder
+
+pub named_cmp-IsPartialOrder : IsPartialOrder (eq_by_cmp named_cmp) (as_partial_cmp named_cmp)
+named_cmp-IsPartialOrder = partial_order_from_agreeing_total named_cmp named_cmp-IsTotalOrder (λ x y. refl) (λ x y. refl)
 
 -- ---- the names of a table
 

@@ -1,0 +1,153 @@
+//! Types (RFC 7950 section 9).
+ghost use Rattle.std.specs.Prelude.{◌≡◌, IfOk};
+ghost use Rattle.sal_restrict.specs.Names.{int_name, builtin_name};
+
+use crate::ranges::Ranges;
+use sal_types::{Duplicate, NoMemory, Seq, Str};
+use std::alloc::Global;
+
+/// A pattern of a text, or one that the text must not match.
+#[derive(Debug, Drop, PartialEq, Eq)]
+pub struct Pattern {
+    pub text: Str,
+    pub inverted: bool,
+}
+
+/// The type of a leaf or leaf-list.
+///
+/// `places` has, for each name of an enumeration, its place in the original enumeration: the one that no other is derived
+/// from. `bases` are numbers of identities. A `Leafref` is a type whose target is not looked up yet.
+#[derive(Debug, Drop, PartialEq, Eq)]
+pub enum YangType {
+    Int {
+        bits: u8,
+        signed: bool,
+        range: Ranges,
+    },
+    Dec {
+        digits: u8,
+        range: Ranges,
+    },
+    Text {
+        length: Ranges,
+        patterns: Seq<Pattern>,
+    },
+    Bool,
+    Enum {
+        names: Seq<Str>,
+        places: Seq<u32>,
+    },
+    Bits {
+        names: Seq<Str>,
+        positions: Seq<u8>,
+    },
+    Bin {
+        length: Ranges,
+    },
+    Ident {
+        bases: Seq<u32>,
+    },
+    Empty,
+    Union {
+        members: Seq<YangType>,
+    },
+    Leafref {
+        path: Str,
+    },
+}
+
+impl Duplicate for Pattern {
+    fn copy(&self) -> Result<Self, NoMemory> {
+        Ok(Pattern {
+            text: self.text.copy()?,
+            inverted: self.inverted,
+        })
+    }
+}
+
+impl YangType {
+    /// A second type, equal to this one.
+    pub fn copy(&self, alloc: Global) -> Result<YangType, NoMemory>
+        ensures { IfOk result (λ it. it ≡ self.now) }
+    {
+        match self {
+            YangType::Int {
+                bits,
+                signed,
+                range,
+            } => Ok(YangType::Int {
+                bits: *bits,
+                signed: *signed,
+                range: range.copy()?,
+            }),
+            YangType::Dec { digits, range } => Ok(YangType::Dec {
+                digits: *digits,
+                range: range.copy()?,
+            }),
+            YangType::Text { length, patterns } => Ok(YangType::Text {
+                length: length.copy()?,
+                patterns: patterns.copy()?,
+            }),
+            YangType::Bool => Ok(YangType::Bool),
+            YangType::Enum { names, places } => Ok(YangType::Enum {
+                names: names.copy()?,
+                places: places.copy()?,
+            }),
+            YangType::Bits { names, positions } => Ok(YangType::Bits {
+                names: names.copy()?,
+                positions: positions.copy()?,
+            }),
+            YangType::Bin { length } => Ok(YangType::Bin {
+                length: length.copy()?,
+            }),
+            YangType::Ident { bases } => Ok(YangType::Ident {
+                bases: bases.copy()?,
+            }),
+            YangType::Empty => Ok(YangType::Empty),
+            YangType::Union { members } => {
+                let mut copies = Vec::with_capacity(alloc, members.items().len())?;
+                for member in members.items() {
+                    copies.push(member.copy(alloc)?)?;
+                }
+                Ok(YangType::Union {
+                    members: Seq::from_items(copies),
+                })
+            }
+            YangType::Leafref { path } => Ok(YangType::Leafref { path: path.copy()? }),
+        }
+    }
+
+    /// The name of the built-in type that it is, or is derived from.
+    pub fn builtin_name(&self) -> &'static str
+        ensures { result.now ≡ builtin_name self.now }
+    {
+        match self {
+            YangType::Int { bits, signed, .. } => int_name(*bits, *signed),
+            YangType::Dec { .. } => "decimal64",
+            YangType::Text { .. } => "string",
+            YangType::Bool => "boolean",
+            YangType::Enum { .. } => "enumeration",
+            YangType::Bits { .. } => "bits",
+            YangType::Bin { .. } => "binary",
+            YangType::Ident { .. } => "identityref",
+            YangType::Empty => "empty",
+            YangType::Union { .. } => "union",
+            YangType::Leafref { .. } => "leafref",
+        }
+    }
+}
+
+fn int_name(bits: u8, signed: bool) -> &'static str
+    ensures { result.now ≡ int_name bits signed }
+{
+    match (bits, signed) {
+        (8, true) => "int8",
+        (16, true) => "int16",
+        (32, true) => "int32",
+        (_, true) => "int64",
+        (8, false) => "uint8",
+        (16, false) => "uint16",
+        (32, false) => "uint32",
+        (_, false) => "uint64",
+    }
+}

@@ -1,3 +1,7 @@
+pub mod Fitting
 pub mod Kinds
 pub mod Names
+pub mod Paths
 pub mod Table
+pub mod Valid
+pub mod Values

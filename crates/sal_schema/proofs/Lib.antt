@@ -1,2 +1,5 @@
 pub mod Searched
 pub mod Tests
+pub mod Numbered
+pub mod Facts
+pub mod Above

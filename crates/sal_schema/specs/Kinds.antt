@@ -1,7 +1,12 @@
 -- What the kinds of schema nodes are like (RFC 7950 section 7).
 use Rattle.std.specs.Prelude.{ℕ, Bool, true, false, List as Row, codes}
+use Rattle.sal_schema.specs.contracts.kind.KindPartialEq.TheImpl as kind_partial_eq
 use Rattle.sal_schema.specs.declared.kind.Kind.{Kind}
 use Rattle.sal_schema.specs.declared.kind.Kind.TheVariants.{Container, List, LeafList, Leaf, Choice, Case, Rpc, Input, Output, Notification}
+
+-- the derived `==` of kinds
+abbrev pub kind_eq : Kind → Kind → Bool
+kind_eq = (kind_partial_eq.ghosts).eq
 
 -- a step of a path names it: a container, a list, a leaf-list or a leaf
 abbrev pub is_data : Kind → Bool

@@ -1,4 +1,5 @@
 pub mod Fitting
+pub mod Indexed
 pub mod Kinds
 pub mod Names
 pub mod Paths

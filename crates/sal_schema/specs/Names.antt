@@ -5,6 +5,7 @@ use Rattle.std.specs.Ordering.{is_eq, on, eq_by_cmp, as_partial_cmp}
 use Rattle.std.specs.Cmp.{IsTotalOrder, IsEquivalence, IsPartialOrder, on_total, eq_by_cmp_equiv, partial_order_from_agreeing_total}
 use Rattle.std.specs.declared.cmp.Ordering.{Ordering}
 use Rattle.sal_schema.specs.declared.kind.Kind.{Kind}
+use Rattle.sal_schema.specs.declared.kind.Kind.TheVariants.{Rpc, Notification}
 use Rattle.sal_schema.specs.declared.names.Name.{Name}
 use Rattle.sal_schema.specs.declared.names.Named.{Named}
 use Rattle.sal_schema.specs.declared.table.NodeInfo.{NodeInfo}
@@ -12,7 +13,7 @@ use Rattle.sal_schema.specs.declared.table.IdentityInfo.{IdentityInfo}
 use Rattle.sal_schema.specs.declared.table.SchemaTable.{SchemaTable}
 use Rattle.sal_schema.specs.contracts.names.NameOrd.TheImpl as name_ord
 use Rattle.sal_schema.specs.contracts.names.NameOrd.TheImpl.Laws as name_ord_laws
-use Rattle.sal_schema.specs.Kinds.{is_data, is_rpc, is_notification}
+use Rattle.sal_schema.specs.Kinds.{kind_eq, is_data}
 use Rattle.sal_schema.specs.Table.{each_from, data_node}
 
 abbrev pub name_cmp : Name → Name → Ordering
@@ -61,20 +62,31 @@ named_cmp-IsPartialOrder = partial_order_from_agreeing_total named_cmp named_cmp
 
 -- ---- the names of a table
 
+abbrev pub module_at : ℕ → List ℕ → List Named
+module_at m text = named None 0 text m ∷ []
+
 abbrev pub module_names : SchemaTable → List Named
-module_names table = each_from (λ m (text : List ℕ). named None 0 text m ∷ []) 0 table.modules
+module_names table = each_from module_at 0 table.modules
+
+abbrev pub identity_at : ℕ → IdentityInfo → List Named
+identity_at i identity = named None identity.module identity.name i ∷ []
 
 abbrev pub identity_names : SchemaTable → List Named
-identity_names table = each_from (λ i (identity : IdentityInfo). named None identity.module identity.name i ∷ []) 0 table.identities
+identity_names table = each_from identity_at 0 table.identities
 
 -- of the nodes for data, each below the node that its data stand under
+abbrev pub data_at : SchemaTable → ℕ → NodeInfo → List Named
+data_at table n node = if is_data node.kind then named (data_node table node.parent) node.module node.name n ∷ [] else []
+
 abbrev pub data_names : SchemaTable → List Named
-data_names table =
-    each_from (λ n (node : NodeInfo). if is_data node.kind then named (data_node table node.parent) node.module node.name n ∷ [] else []) 0 table.nodes
+data_names table = each_from (data_at table) 0 table.nodes
 
 -- of the nodes of a kind, all together
-abbrev pub kind_names : (Kind → Bool) → SchemaTable → List Named
-kind_names test table = each_from (λ n (node : NodeInfo). if test node.kind then named None node.module node.name n ∷ [] else []) 0 table.nodes
+abbrev pub kind_at : Kind → ℕ → NodeInfo → List Named
+kind_at kind n node = if kind_eq node.kind kind then named None node.module node.name n ∷ [] else []
+
+abbrev pub kind_names : Kind → SchemaTable → List Named
+kind_names kind table = each_from (kind_at kind) 0 table.nodes
 
 -- ---- look-ups by name
 
@@ -91,10 +103,10 @@ abbrev pub child_of : SchemaTable → Option ℕ → List ℕ → List ℕ → O
 child_of table parent m text = found table (data_names table) parent m text
 
 abbrev pub rpc_of : SchemaTable → List ℕ → List ℕ → Option ℕ
-rpc_of table m text = found table (kind_names is_rpc table) None m text
+rpc_of table m text = found table (kind_names Rpc table) None m text
 
 abbrev pub notification_of : SchemaTable → List ℕ → List ℕ → Option ℕ
-notification_of table m text = found table (kind_names is_notification table) None m text
+notification_of table m text = found table (kind_names Notification table) None m text
 
 abbrev pub identity_of : SchemaTable → List ℕ → List ℕ → Option ℕ
 identity_of table m text = found table (identity_names table) None m text

@@ -96,9 +96,16 @@ is_derived table i base = option_map_or (λ (identity : IdentityInfo). is_among 
 
 -- ---- above and below
 
+-- the children of a node, or of the top, among nodes of which the first has the number i
+abbrev pub child_at : Option ℕ → ℕ → NodeInfo → List ℕ
+child_at parent n node = if is_same node.parent parent then n ∷ [] else []
+
+abbrev pub children_in : ℕ → List NodeInfo → Option ℕ → List ℕ
+children_in i nodes parent = each_from (child_at parent) i nodes
+
 -- the children in the schema tree, choices and cases among them, by number
 abbrev pub children_of : SchemaTable → Option ℕ → List ℕ
-children_of table parent = each_from (λ n (node : NodeInfo). if is_same node.parent parent then n ∷ [] else []) 0 table.nodes
+children_of table parent = children_in 0 table.nodes parent
 
 -- the closest node whose kind passes the test, from this one up, among so many nodes
 unfoldable pub closest : (Kind → Bool) → SchemaTable → ℕ → Option ℕ → Option ℕ

@@ -9,6 +9,7 @@ use Rattle.sal_restrict.specs.declared.ranges.Part.{Part}
 use Rattle.sal_restrict.specs.declared.yang_type.YangType.{YangType, out-YangType}
 use Rattle.sal_restrict.specs.declared.yang_type.YangType.TheOpen.{YangType-F}
 use Rattle.sal_schema.specs.declared.kind.Kind.{Kind}
+use Rattle.sal_schema.specs.declared.kind.Kind.TheVariants.{Rpc, Notification}
 use Rattle.sal_schema.specs.declared.table.NodeInfo.{NodeInfo}
 use Rattle.sal_schema.specs.declared.table.IdentityInfo.{IdentityInfo}
 use Rattle.sal_schema.specs.declared.table.SchemaTable.{SchemaTable}
@@ -140,8 +141,8 @@ pub record IsSmall (table : SchemaTable) : Type 0 where
 pub record HasDistinctNames (table : SchemaTable) : Type 0 where
   pub modules : IsTrue (are_distinct (module_names table))
   pub identities : IsTrue (are_distinct (identity_names table))
-  pub rpcs : IsTrue (are_distinct (kind_names is_rpc table))
-  pub notifications : IsTrue (are_distinct (kind_names is_notification table))
+  pub rpcs : IsTrue (are_distinct (kind_names Rpc table))
+  pub notifications : IsTrue (are_distinct (kind_names Notification table))
   pub data_nodes : IsTrue (are_distinct (data_names table))
 
 -- the table of a schema

@@ -3,7 +3,10 @@
 
 mod kind;
 mod names;
+mod parts;
+mod schema;
 mod table;
 
 pub use kind::Kind;
+pub use schema::Schema;
 pub use table::{IdentityInfo, Leafs, NodeInfo, SchemaTable};

@@ -28,15 +28,17 @@ passed_over nodes done None = None
 passed_over nodes done (Some p) =
     if option_map_or (λ (node : NodeInfo). is_choice_or_case node.kind) (slice_get nodes p) false then slice_index_or done p None else Some p
 
--- the parts of a schema are right for its table
-pub record IsIndexed (table : SchemaTable) (top : List ℕ) (below : List (Vec ℕ Global)) (parents : List (Option ℕ)) (modules nodes rpcs notifications identities : List Named) : Type 0 where
+-- What is kept beside a table is right for it: the children of the top and of each node, the node that the data of each
+-- node stand under, and the names in their order.
+pub record IsIndexed (table : SchemaTable) (first : List ℕ) (lists : List (Vec ℕ Global)) (above : List (Option ℕ))
+    (of_modules of_data of_rpcs of_notifications of_identities : List Named) : Type 0 where
   pub is_table : IsTable table
-  pub top : top ≡ children_in 0 table.nodes None
-  pub below_count : length below ≡ length table.nodes
-  pub below : AreChildren table.nodes below
-  pub parents : parents ≡ data_parents table
-  pub modules : IsPermutation (module_names table) modules
-  pub data_nodes : IsPermutation (data_names table) nodes
-  pub rpcs : IsPermutation (kind_names Rpc table) rpcs
-  pub notifications : IsPermutation (kind_names Notification table) notifications
-  pub identities : IsPermutation (identity_names table) identities
+  pub top : first ≡ children_in 0 table.nodes None
+  pub count : length lists ≡ length table.nodes
+  pub below : AreChildren table.nodes lists
+  pub parents : above ≡ data_parents table
+  pub modules : IsPermutation (module_names table) of_modules
+  pub data_nodes : IsPermutation (data_names table) of_data
+  pub rpcs : IsPermutation (kind_names Rpc table) of_rpcs
+  pub notifications : IsPermutation (kind_names Notification table) of_notifications
+  pub identities : IsPermutation (identity_names table) of_identities

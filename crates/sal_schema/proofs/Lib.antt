@@ -3,3 +3,4 @@ pub mod Tests
 pub mod Numbered
 pub mod Facts
 pub mod Above
+pub mod Below

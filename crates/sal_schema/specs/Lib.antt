@@ -4,5 +4,6 @@ pub mod Kinds
 pub mod Names
 pub mod Paths
 pub mod Table
+pub mod Text
 pub mod Valid
 pub mod Values

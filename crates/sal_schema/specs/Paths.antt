@@ -4,6 +4,7 @@ use Rattle.std.specs.Option.{option_map_or}
 use Rattle.sal_types.specs.declared.value.Value.{Value}
 use Rattle.sal_types.specs.declared.value.Step.{Step}
 use Rattle.sal_types.specs.declared.value.Step.TheVariants.{Node, Key, Item}
+use Rattle.sal_schema.specs.declared.fitting.Place.{Place}
 use Rattle.sal_schema.specs.declared.table.SchemaTable.{SchemaTable}
 use Rattle.sal_schema.specs.Kinds.{is_message, has_entries, is_list, is_leaf_list}
 use Rattle.sal_schema.specs.Table.{is_kind, is_data_child, keys_of}
@@ -27,11 +28,7 @@ may_pick table n (Node m) = false
 may_pick table n (Key values) = is_kind is_list table n && are_of_nodes table (keys_of table n) values
 may_pick table n (Item value) = is_kind is_leaf_list table n && is_of_node table n value
 
--- where a path has come to: the node, if it is not at the root, and whether keys or a value of its entry have to follow
-pub record Place : Type 0 where
-  pub node : Option ℕ
-  pub wants_entry : Bool
-
+-- at the root
 abbrev pub top : Place
 top = record { node = None; wants_entry = false }
 

@@ -1,7 +1,7 @@
 -- What a table says of its nodes, modules and identities.
-use Rattle.std.specs.Prelude.{ℕ, zero, suc, ◌+◌, Bool, true, false, not, ◌&&◌, ◌==◌, List, [], ◌∷◌, ◌++◌, length, Option, Some, None, option_map, option_and_then, slice_index_or, if◌then◌else◌}
+use Rattle.std.specs.Prelude.{ℕ, zero, suc, ◌+◌, Bool, true, false, not, ◌&&◌, ◌==◌, nat_eq, List, [], ◌∷◌, ◌++◌, length, Option, Some, None, option_map, option_and_then, slice_index_or, if◌then◌else◌}
 use Rattle.std.specs.List.{slice_get, list_any}
-use Rattle.std.specs.Option.{option_map_or}
+use Rattle.std.specs.Option.{option_map_or, option_eq}
 use Rattle.sal_schema.specs.declared.kind.Kind.{Kind}
 use Rattle.sal_schema.specs.declared.table.NodeInfo.{NodeInfo}
 use Rattle.sal_schema.specs.declared.table.IdentityInfo.{IdentityInfo}
@@ -25,9 +25,7 @@ abbrev pub is_among : ℕ → List ℕ → Bool
 is_among n ns = list_any (λ m. m == n) ns
 
 abbrev pub is_same : Option ℕ → Option ℕ → Bool
-is_same None None = true
-is_same (Some n) (Some m) = n == m
-is_same p q = false
+is_same = option_eq nat_eq
 
 -- ---- a node by its number
 

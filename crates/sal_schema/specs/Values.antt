@@ -20,9 +20,13 @@ all_below test (suc n) = test n && all_below test n
 abbrev pub has_bit : ℕ → ℕ → Truth
 has_bit set p = (set / 2 ^ p) % 2 == 1
 
+-- the bit is not set, or is one of these positions
+abbrev pub is_taken : List ℕ → ℕ → ℕ → Truth
+is_taken positions set p = not (has_bit set p) || is_among p positions
+
 -- each bit that is set is one of these positions
 abbrev pub are_bits : List ℕ → ℕ → Truth
-are_bits positions set = all_below (λ p. not (has_bit set p) || is_among p positions) 64
+are_bits positions set = all_below (is_taken positions set) 64
 
 -- an identity that is derived from all bases
 abbrev pub takes_identity : SchemaTable → List ℕ → ℕ → Truth
@@ -43,10 +47,15 @@ is_of_layer table (YangType-F.Ident bases) (Ident i) = takes_identity table base
 is_of_layer table YangType-F.Empty Empty = true
 is_of_layer table layer atom = false
 
+abbrev pub is_of_plain : SchemaTable → YangType → Atom → Truth
+is_of_plain table ty atom = is_of_layer table (out-YangType ty) atom
+
+abbrev pub is_of_member : SchemaTable → List YangType → Value → Truth
+is_of_member table members value = option_map_or (λ member. is_of_plain table member value.atom) (slice_get members value.member) false
+
 -- a value of a union is of the type of its member; of another type it tells the member 0
 abbrev pub is_of_type_layer : SchemaTable → YangType-F YangType → Value → Truth
-is_of_type_layer table (YangType-F.Union members) value =
-    option_map_or (λ member. is_of_layer table (out-YangType member) value.atom) (slice_get members value.member) false
+is_of_type_layer table (YangType-F.Union members) value = is_of_member table members value
 is_of_type_layer table layer value = value.member == 0 && is_of_layer table layer value.atom
 
 abbrev pub is_of_type : SchemaTable → YangType → Value → Truth

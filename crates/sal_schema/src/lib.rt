@@ -1,6 +1,7 @@
 //! A schema: modules as a table of nodes, types and identities, with look-ups.
 #![tactic(auto)]
 
+mod examples;
 mod fitting;
 mod kind;
 mod names;

@@ -1,0 +1,37 @@
+-- Each table by computation.
+use Rattle.std.proofs.Common.{refl, arith}
+use Rattle.sal_restrict.specs.declared.yang_type.YangType.TheViews.{out-roll-YangType}
+use Rattle.sal_schema.specs.Table.{closest}
+use Rattle.sal_schema.proofs.examples.tables.Goals as goal
+
+pub returns-clause-topology : goal.returns-clause-topology
+unfolding closest
+returns-clause-topology c = record {
+  small = record { nodes = omega arith; types = omega arith; modules = omega arith; identities = omega arith };
+  numbers = refl;
+  places = refl;
+  names = refl;
+  leaf_types = refl;
+  keys = refl;
+  uniques = refl;
+  module_names = refl;
+  identities = refl;
+  types = simp out-roll-YangType;
+  distinct = record { modules = refl; identities = refl; rpcs = refl; notifications = refl; data_nodes = refl };
+}
+
+pub returns-clause-mixed : goal.returns-clause-mixed
+unfolding closest
+returns-clause-mixed c = record {
+  small = record { nodes = omega arith; types = omega arith; modules = omega arith; identities = omega arith };
+  numbers = refl;
+  places = refl;
+  names = refl;
+  leaf_types = refl;
+  keys = refl;
+  uniques = refl;
+  module_names = refl;
+  identities = refl;
+  types = simp out-roll-YangType;
+  distinct = record { modules = refl; identities = refl; rpcs = refl; notifications = refl; data_nodes = refl };
+}

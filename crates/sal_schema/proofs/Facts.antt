@@ -1,19 +1,24 @@
 -- What holds of the parts of a table.
-use Rattle.std.proofs.Common.{◌≡◌, ℕ, zero, suc, ◌+◌, ◌-◌, ◌<◌, ◌≤◌, Bool, true, false, cond, not, ◌&&◌, nat_lt, IsTrue, List, [], ◌∷◌, length, get_or, map, take, Option, Some, None, sym, refl, ap, subst, ◌∙◌, arith}
+use Rattle.std.proofs.Common.{◌≡◌, ℕ, zero, suc, ◌+◌, ◌-◌, ◌<◌, ◌≤◌, Bool, true, false, cond, not, ◌&&◌, nat_lt, IsTrue, List, [], ◌∷◌, ◌++◌, inl, inr, length, get_or, map, take, Option, Some, None, sym, refl, ap, subst, ◌∙◌, arith}
 use Rattle.std.proofs.lemmas.Grind.{common_steps}
 use Rattle.std.proofs.lemmas.Bool.Decides.{nat_tests}
 use Rattle.std.specs.Prelude.{IfSome}
-use Rattle.std.specs.List.{slice_get, list_all}
+use Rattle.std.specs.List.{slice_get, list_all, All}
+use Rattle.std.specs.Prelude.{nat_eq}
+use borrow.Author.Tests.{ltb-true}
+use Rattle.std.proofs.lemmas.List.Elements.{All-cons}
+use Rattle.std.proofs.lemmas.Bool.{cases_lt, true≢false}
 use Rattle.std.specs.Option.{option_map_or, option_and_then, option_map}
 use Rattle.sal_schema.specs.declared.kind.Kind.{Kind}
 use Rattle.sal_schema.specs.declared.table.NodeInfo.{NodeInfo}
+use Rattle.sal_schema.specs.declared.table.IdentityInfo.{IdentityInfo}
 use Rattle.sal_schema.specs.declared.table.SchemaTable.{SchemaTable}
-use Rattle.sal_schema.specs.Kinds.{is_choice_or_case}
-use Rattle.sal_schema.specs.Table.{closest, data_node, is_kind, kind_of, parent_of, node_at}
-use Rattle.sal_schema.specs.Valid.{IsTable, has_numbers}
+use Rattle.sal_schema.specs.Kinds.{is_leaf, is_list}
+use Rattle.sal_schema.specs.Table.{closest, is_kind, is_same, parent_of, children_in}
+use Rattle.sal_schema.specs.Valid.{IsTable, has_numbers, has_its_keys, is_good_identity, is_identifier, is_empty, agree, all_differ}
 use Rattle.sal_schema.specs.Indexed as indexed
 use Rattle.sal_schema.proofs.Tests.{and_first, and_second}
-use Rattle.sal_schema.proofs.Numbered.{all_from-at}
+use Rattle.sal_schema.proofs.Numbered.{all_from-at, list_all-at}
 
 -- what stands at a place of a list
 pub slice_get_at : {X : Type 0} (xs : List X) (k : ℕ) (d : X) → k < length xs → slice_get xs k ≡ Some (get_or xs k d)
@@ -53,6 +58,60 @@ parent_before table nodes n node good all inside here =
     let inside : n < length table.nodes = rw all at inside in
     let here : node ≡ get_or table.nodes n node = rw all at here in
     before n node.parent (and_first _ _ (and_first _ _ (numbers_at table n node good inside here)))
+
+-- what the numbers of a node are
+pub parent_is_before : (table : SchemaTable) (n : ℕ) (node : NodeInfo) → IsTrue (has_numbers table n node) → IfSome node.parent (λ p. p < n)
+parent_is_before table n node h = before n node.parent (and_first _ _ (and_first _ _ h))
+
+pub module_is_there : (table : SchemaTable) (n : ℕ) (node : NodeInfo) → IsTrue (has_numbers table n node) → node.module < length table.modules
+module_is_there table n node h = ltb-true node.module (length table.modules) (and_second (option_map_or (λ p. nat_lt p n) node.parent true) _ (and_first _ _ h))
+
+pub type_is_there : (table : SchemaTable) (n : ℕ) (node : NodeInfo) → IsTrue (has_numbers table n node) → IfSome node.ty (λ t. t < length table.types)
+type_is_there table n node h =
+    before (length table.types) node.ty
+    (and_second (option_map_or (λ p. nat_lt p n) node.parent true && nat_lt node.module (length table.modules)) _ h)
+
+-- a node whose kind passes a test is there
+pub is_there : (test : Kind → Bool) (table : SchemaTable) (n : ℕ) → IsTrue (is_kind test table n) → n < length table.nodes
+is_there test table n h =
+    elim (cases_lt n (length table.nodes)) [
+      | inl below ↦ below
+      | inr past ↦
+        let no : is_kind test table n ≡ false = ap (λ r. option_map_or test (option_map (λ (node : NodeInfo). node.kind) r) false) (slice_get_past table.nodes n past) in
+        absurd (true≢false (sym h ∙ no))
+    ]
+
+-- the keys of a node are nodes
+pub keys_are_there : (table : SchemaTable) (n : ℕ) (node : NodeInfo) → IsTable table → n < length table.nodes → node ≡ get_or table.nodes n node
+    → All (λ leaf. leaf < length table.nodes) node.keys
+keys_are_there table n node good inside here k d low =
+    let all = rw (← here) at (all_from-at (has_its_keys table) 0 table.nodes n n node good.keys inside (omega arith)) in
+    let one = list_all-at (λ leaf. is_kind is_leaf table leaf && is_same (parent_of table leaf) (Some n)) node.keys k d (and_second (agree (is_list node.kind) (not (is_empty node.keys)) && all_differ nat_eq node.keys) _ all) low in
+    is_there is_leaf table (get_or node.keys k d) (and_first _ _ one)
+
+-- children are nodes
+pub children_are_there : (parent : Option ℕ) (i n : ℕ) (nodes : List NodeInfo) → i + length nodes ≤ n → All (λ child. child < n) (children_in i nodes parent)
+children_are_there parent i n [] room = λ k d low. absurd (omega arith)
+children_are_there parent i n (node ∷ nodes) room =
+    let later = children_are_there parent (i + 1) n nodes (omega arith) in
+    elim (is_same node.parent parent) as (λ b. All (λ child. child < n) (cond b (i ∷ []) [] ++ children_in (i + 1) nodes parent)) [
+      | true ↦ All-cons (λ child. child < n) i (children_in (i + 1) nodes parent) (omega arith) later
+      | false ↦ later
+    ]
+
+-- so are those that were kept
+pub kept_are_there : (table seen : SchemaTable) (parent : Option ℕ) (kept : List ℕ) → table ≡ seen → kept ≡ children_in 0 table.nodes parent
+    → All (λ child. child < length seen.nodes) kept
+kept_are_there table seen parent kept same is =
+    let all : All (λ child. child < length table.nodes) kept = rw is (children_are_there parent 0 (length table.nodes) table.nodes (omega arith)) in
+    rw (← same) all
+
+-- the numbers of an identity
+pub identity_is_good : (table : SchemaTable) (i : ℕ) (identity : IdentityInfo) → IsTable table → i < length table.identities → identity ≡ get_or table.identities i identity
+    → identity.module < length table.modules
+identity_is_good table i identity good inside here =
+    let all = rw (← here) at (all_from-at (is_good_identity table) 0 table.identities i i identity good.identities inside (omega arith)) in
+    ltb-true identity.module (length table.modules) (and_second (is_identifier identity.name) _ (and_first _ _ (and_first _ _ all)))
 
 pub parent_of_before : (table : SchemaTable) (n : ℕ) → IsTable table → IfSome (parent_of table n) (λ p. p < n)
 parent_of_before table n good =

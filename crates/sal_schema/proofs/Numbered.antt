@@ -1,7 +1,7 @@
 -- Lists with the numbers of their elements.
 use Rattle.std.proofs.Common.{◌≡◌, ℕ, zero, suc, ◌+◌, ◌-◌, ◌<◌, ◌≤◌, Bool, true, false, ◌&&◌, IsTrue, List, [], ◌∷◌, ◌++◌, length, get_or, take, drop, Option, Some, None, sym, refl, ap, ◌∙◌, arith}
 use Rattle.std.proofs.lemmas.List.{append_assoc, append-nil, drop_more, drop_all, at_drop_more, at_drop_all}
-use Rattle.std.specs.List.{slice_get}
+use Rattle.std.specs.List.{list_all}
 use Rattle.sal_schema.specs.Table.{each_from, all_from}
 use Rattle.sal_schema.proofs.Tests.{and_first, and_second}
 
@@ -24,3 +24,8 @@ all_from-at test i (x ∷ xs) zero n d h inside same =
     rw e (and_first (test i x) (all_from test (i + 1) xs) h)
 all_from-at test i (x ∷ xs) (suc k) n d h inside same =
     all_from-at test (i + 1) xs k n d (and_second (test i x) (all_from test (i + 1) xs) h) (omega arith) (omega arith)
+
+pub list_all-at : {X : Type 0} (test : X → Bool) (xs : List X) (k : ℕ) (d : X) → IsTrue (list_all test xs) → k < length xs → IsTrue (test (get_or xs k d))
+list_all-at test [] k d h inside = absurd (omega arith)
+list_all-at test (x ∷ xs) zero d h inside = and_first (test x) (list_all test xs) h
+list_all-at test (x ∷ xs) (suc k) d h inside = list_all-at test xs k d (and_second (test x) (list_all test xs) h) (omega arith)

@@ -1,10 +1,10 @@
 //! Schemas: a table with the look-ups that are asked of it.
 ghost use Rattle.std.specs.Prelude.{◌≡◌, ◌<◌, List, Some, IfOk, IfSome, IsTrue, length, min};
 ghost use Rattle.std.specs.List.Sorted.{IsPermutation};
-ghost use Rattle.std.specs.List.{slice_get};
+ghost use Rattle.std.specs.List.{slice_get, All};
 ghost use Rattle.sal_schema.specs.Table as spec;
 ghost use Rattle.sal_schema.specs.Names as names;
-ghost use Rattle.sal_schema.specs.Valid.{IsTable};
+ghost use Rattle.sal_schema.specs.Valid.{IsTable, has_numbers};
 ghost use Rattle.sal_schema.specs.declared.names.Named.{Named};
 ghost use Rattle.sal_schema.specs.declared.table.SchemaTable.{SchemaTable as Table};
 
@@ -77,14 +77,17 @@ impl Schema {
 
     /// How many nodes it has. Their numbers are those below.
     pub fn len(&self) -> u32
-        ensures { result ≡ length self.now.nodes }
+        ensures count { result ≡ length self.now.nodes }
+        ensures table { IsTable self.now }
     {
         self.table.nodes.items().len() as u32
     }
 
     fn node(&self, node: u32) -> &NodeInfo
         requires { node < length self.now.nodes }
-        ensures { spec.node_at self.now node ≡ Some result.now }
+        ensures info { spec.node_at self.now node ≡ Some result.now }
+        ensures numbers { IsTrue (has_numbers self.now node result.now) }
+        ensures keys { All (λ leaf. leaf < length self.now.nodes) result.now.keys }
     {
         &self.table.nodes.items()[node as usize]
     }
@@ -100,7 +103,8 @@ impl Schema {
     /// The node above it, choices and cases among them; none at the top.
     pub fn parent(&self, node: u32) -> Option<u32>
         requires { node < length self.now.nodes }
-        ensures { result ≡ spec.parent_of self.now node }
+        ensures parent { result ≡ spec.parent_of self.now node }
+        ensures before { IfSome result (λ p. p < node) }
     {
         self.node(node).parent
     }
@@ -108,7 +112,8 @@ impl Schema {
     /// The key leafs of a list, in order; none of another node.
     pub fn keys(&self, node: u32) -> &[u32]
         requires { node < length self.now.nodes }
-        ensures { result.now ≡ spec.keys_of self.now node }
+        ensures keys { result.now ≡ spec.keys_of self.now node }
+        ensures within { All (λ leaf. leaf < length self.now.nodes) result.now }
     {
         self.node(node).keys.items()
     }
@@ -116,7 +121,8 @@ impl Schema {
     /// The type of a leaf or leaf-list.
     pub fn type_of(&self, node: u32) -> Option<u32>
         requires { node < length self.now.nodes }
-        ensures { result ≡ spec.type_of self.now node }
+        ensures ty { result ≡ spec.type_of self.now node }
+        ensures within { IfSome result (λ ty. ty < length self.now.types) }
     {
         self.node(node).ty
     }
@@ -132,7 +138,8 @@ impl Schema {
     /// The module that a node's name belongs to.
     pub fn module_of(&self, node: u32) -> u32
         requires { node < length self.now.nodes }
-        ensures { spec.module_of self.now node ≡ Some result }
+        ensures module_number { spec.module_of self.now node ≡ Some result }
+        ensures within { result < length self.now.modules }
     {
         self.node(node).module
     }
@@ -197,7 +204,8 @@ impl Schema {
     /// The children of a node, or of the top, in the schema tree, by number. Choices and cases are among them.
     pub fn children(&self, parent: Option<u32>) -> &[u32]
         requires { IfSome parent (λ p. p < length self.now.nodes) }
-        ensures { result.now ≡ spec.children_of self.now parent }
+        ensures children { result.now ≡ spec.children_of self.now parent }
+        ensures within { All (λ child. child < length self.now.nodes) result.now }
     {
         match parent {
             None => &self.top,
@@ -244,7 +252,8 @@ impl Schema {
 
     fn identity_info(&self, identity: u32) -> &IdentityInfo
         requires { identity < length self.now.identities }
-        ensures { spec.identity_at self.now identity ≡ Some result.now }
+        ensures info { spec.identity_at self.now identity ≡ Some result.now }
+        ensures within { result.now.module < length self.now.modules }
     {
         &self.table.identities.items()[identity as usize]
     }
@@ -260,7 +269,8 @@ impl Schema {
     /// The module of an identity.
     pub fn identity_module(&self, identity: u32) -> u32
         requires { identity < length self.now.identities }
-        ensures { spec.identity_module self.now identity ≡ Some result }
+        ensures module_number { spec.identity_module self.now identity ≡ Some result }
+        ensures within { result < length self.now.modules }
     {
         self.identity_info(identity).module
     }

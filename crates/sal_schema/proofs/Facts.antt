@@ -17,7 +17,7 @@ use Rattle.sal_schema.specs.Kinds.{is_leaf, is_list}
 use Rattle.sal_schema.specs.Table.{closest, is_kind, is_same, parent_of, children_in}
 use Rattle.sal_schema.specs.Valid.{IsTable, has_numbers, has_its_keys, is_good_identity, is_identifier, is_empty, agree, all_differ}
 use Rattle.sal_schema.specs.Indexed as indexed
-use Rattle.sal_schema.proofs.Tests.{and_first, and_second}
+use Rattle.sal_schema.proofs.Conjuncts.{and_first, and_second}
 use Rattle.sal_schema.proofs.Numbered.{all_from-at, list_all-at}
 
 -- what stands at a place of a list

@@ -3,7 +3,7 @@ use Rattle.std.proofs.Common.{◌≡◌, ℕ, zero, suc, ◌+◌, ◌-◌, ◌<�
 use Rattle.std.proofs.lemmas.List.{append_assoc, append-nil, drop_more, drop_all, at_drop_more, at_drop_all}
 use Rattle.std.specs.List.{list_all}
 use Rattle.sal_schema.specs.Table.{each_from, all_from}
-use Rattle.sal_schema.proofs.Tests.{and_first, and_second}
+use Rattle.sal_schema.proofs.Conjuncts.{and_first, and_second}
 
 module _ {X Y : Type 0} (f : ℕ → X → List Y) where
   -- what is done and what is left, one element on

@@ -13,7 +13,7 @@ use Rattle.std.specs.declared.cmp.Ordering.TheVariants.{Less, Equal, Greater}
 use Rattle.std.specs.Cmp.{eq_by_cmp_equiv}
 use Rattle.sal_schema.specs.declared.names.Name.{Name}
 use Rattle.sal_schema.specs.declared.names.Named.{Named}
-use Rattle.sal_schema.proofs.Tests.{and_first, and_second, or_first, or_second}
+use Rattle.sal_schema.proofs.Conjuncts.{and_first, and_second, or_first, or_second}
 use Rattle.sal_schema.specs.Names.{name_cmp, named_cmp, name_cmp-IsTotalOrder, is_called, lookup, Finds, are_distinct}
 
 -- names that ascend rise by how they stand to any name

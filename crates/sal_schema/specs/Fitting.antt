@@ -14,7 +14,7 @@ use Rattle.sal_types.specs.Prefix.{is_prefix}
 use Rattle.sal_types.specs.Tree.{cell}
 use Rattle.sal_schema.specs.declared.table.SchemaTable.{SchemaTable}
 use Rattle.sal_schema.specs.Kinds.{is_leaf, is_presence, is_message}
-use Rattle.sal_schema.specs.Table.{is_kind, keys_of, is_state}
+use Rattle.sal_schema.specs.Table.{is_kind, is_among, parent_of, keys_of, is_state}
 use Rattle.sal_schema.specs.Values.{is_of_node}
 use Rattle.sal_schema.specs.Paths.{fits_path, last_step, node_of}
 
@@ -102,3 +102,17 @@ is_closed table tree = fits table [] tree
 -- the path is one of a state node
 abbrev pub is_of_state : SchemaTable → List Step → Bool
 is_of_state table path = option_map_or (is_state table) (node_of path) false
+
+-- ---- key leafs
+
+-- the node is a key of its list
+abbrev pub is_key : SchemaTable → ℕ → Bool
+is_key table n = option_map_or (λ list. is_among n (keys_of table list)) (parent_of table n) false
+
+abbrev pub is_at_key : SchemaTable → Option Step → Bool
+is_at_key table (Some (Node n)) = is_key table n
+is_at_key table step = false
+
+-- the path is one of a key leaf
+abbrev pub is_key_leaf : SchemaTable → List Step → Bool
+is_key_leaf table path = is_at_key table (last_step path)

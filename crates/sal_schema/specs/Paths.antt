@@ -1,5 +1,6 @@
 -- Which paths fit a schema, and what stands at their ends.
-use Rattle.std.specs.Prelude.{ℕ, Bool, true, false, not, ◌&&◌, ◌||◌, List, [], ◌∷◌, Option, Some, None, option_and_then, if◌then◌else◌}
+use Rattle.std.specs.Prelude.{ℕ, ◌-◌, length, Bool, true, false, not, ◌&&◌, ◌||◌, List, [], ◌∷◌, Option, Some, None, option_and_then, if◌then◌else◌}
+use Rattle.std.specs.List.{slice_get}
 use Rattle.std.specs.Option.{option_map_or}
 use Rattle.sal_types.specs.declared.value.Value.{Value}
 use Rattle.sal_types.specs.declared.value.Step.{Step}
@@ -55,9 +56,7 @@ fits_path table path = fits_from table top path
 
 -- the last step
 abbrev pub last_step : List Step → Option Step
-last_step [] = None
-last_step (step ∷ []) = Some step
-last_step (step ∷ next ∷ steps) = last_step (next ∷ steps)
+last_step path = slice_get path (length path - 1)
 
 -- the node that the path comes to: that of a list for each of its entries; none at the root
 abbrev pub node_from : Option ℕ → List Step → Option ℕ

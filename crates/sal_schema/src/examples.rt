@@ -12,6 +12,7 @@ ghost use Rattle.sal_schema.specs.Valid.{IsTable};
 pub fn tables()
     ensures topology { IsTable example.topology }
     ensures mixed { IsTable example.mixed }
+    ensures messages { IsTable example.messages }
 {}
 
 /// The definitions give what the examples say. A call does nothing: its clauses are the laws.
@@ -20,11 +21,11 @@ pub fn examples()
     ensures children { children_of example.topology (Some 1) ≡ 2 ∷ 3 ∷ 8 ∷ [] }
     ensures of_another_module { child_of example.topology (Some 1) (codes "geo") (codes "site") ≡ Some 8 }
     ensures not_of_its_own { child_of example.topology (Some 1) (codes "topo") (codes "site") ≡ None }
-    ensures through_choices { child_of example.mixed (Some 0) (codes "rule") (codes "slow") ≡ Some 6 }
+    ensures through_choices { child_of example.mixed (Some 0) (codes "rule") (codes "slow") ≡ Some 4 }
     ensures no_choice { child_of example.mixed (Some 0) (codes "rule") (codes "way") ≡ None }
-    ensures at_the_top { child_of example.mixed None (codes "rule") (codes "ping") ≡ Some 13 }
-    ensures rpc { rpc_of example.mixed (codes "rule") (codes "ping") ≡ Some 8 }
-    ensures notification { notification_of example.mixed (codes "rule") (codes "ping") ≡ Some 12 }
+    ensures at_the_top { child_of example.mixed None (codes "rule") (codes "ping") ≡ Some 5 }
+    ensures rpc { rpc_of example.mixed (codes "rule") (codes "ping") ≡ Some 6 }
+    ensures notification { notification_of example.mixed (codes "rule") (codes "ping") ≡ Some 7 }
     ensures identity { identity_of example.mixed (codes "rule") (codes "derived") ≡ Some 1 }
     ensures derived { is_derived example.mixed 1 0 ≡ true }
     ensures not_of_itself { is_derived example.mixed 1 1 ≡ false }
@@ -34,7 +35,7 @@ pub fn examples()
     ensures long_key { fits_path example.topology (example.named_node (codes "123456789")) ≡ false }
     ensures below_a_leaf { fits_path example.topology (example.named_node (codes "a") ++ Node 8 ∷ Node 8 ∷ []) ≡ false }
     ensures twice { fits_path example.topology (example.named_node (codes "a") ++ Key [] ∷ []) ≡ false }
-    ensures message { fits_path example.mixed (Node 9 ∷ Node 10 ∷ []) ≡ true }
-    ensures item { fits_path example.mixed (Node 0 ∷ Key (example.number 1 ∷ []) ∷ Node 7 ∷ Item (example.number 255) ∷ []) ≡ true }
-    ensures past_its_range { fits_path example.mixed (Node 0 ∷ Key (example.number 256 ∷ []) ∷ []) ≡ false }
+    ensures message { fits_path example.messages (Node 1 ∷ Node 2 ∷ Item (example.number 255) ∷ []) ≡ true }
+    ensures no_rpc { fits_path example.messages (Node 0 ∷ Node 1 ∷ []) ≡ false }
+    ensures past_its_range { fits_path example.messages (Node 1 ∷ Node 2 ∷ Item (example.number 256) ∷ []) ≡ false }
 {}

@@ -53,7 +53,7 @@ impl Schema {
     }
 
     // The kind of a node, where there is one of this number.
-    fn kind_at(&self, node: u32) -> Option<Kind>
+    pub(crate) fn kind_at(&self, node: u32) -> Option<Kind>
         ensures { result ≡ table.kind_of self.now node }
     {
         match self.table.nodes.items().get(node as usize) {

@@ -253,7 +253,7 @@ impl Schema {
     fn identity_info(&self, identity: u32) -> &IdentityInfo
         requires { identity < length self.now.identities }
         ensures info { spec.identity_at self.now identity ≡ Some result.now }
-        ensures within { result.now.module < length self.now.modules }
+        ensures within { IfSome (spec.identity_module self.now identity) (λ m. m < length self.now.modules) }
     {
         &self.table.identities.items()[identity as usize]
     }

@@ -1,37 +1,11 @@
--- Each table by computation.
-use Rattle.std.proofs.Common.{refl, arith}
-use Rattle.sal_restrict.specs.declared.yang_type.YangType.TheViews.{out-roll-YangType}
-use Rattle.sal_schema.specs.Table.{closest}
+use Rattle.sal_schema.proofs.ExampleTables.{topology-IsTable, mixed-IsTable, messages-IsTable}
 use Rattle.sal_schema.proofs.examples.tables.Goals as goal
 
 pub returns-clause-topology : goal.returns-clause-topology
-unfolding closest
-returns-clause-topology c = record {
-  small = record { nodes = omega arith; types = omega arith; modules = omega arith; identities = omega arith };
-  numbers = refl;
-  places = refl;
-  names = refl;
-  leaf_types = refl;
-  keys = refl;
-  uniques = refl;
-  module_names = refl;
-  identities = refl;
-  types = simp out-roll-YangType;
-  distinct = record { modules = refl; identities = refl; rpcs = refl; notifications = refl; data_nodes = refl };
-}
+returns-clause-topology c = topology-IsTable
 
 pub returns-clause-mixed : goal.returns-clause-mixed
-unfolding closest
-returns-clause-mixed c = record {
-  small = record { nodes = omega arith; types = omega arith; modules = omega arith; identities = omega arith };
-  numbers = refl;
-  places = refl;
-  names = refl;
-  leaf_types = refl;
-  keys = refl;
-  uniques = refl;
-  module_names = refl;
-  identities = refl;
-  types = simp out-roll-YangType;
-  distinct = record { modules = refl; identities = refl; rpcs = refl; notifications = refl; data_nodes = refl };
-}
+returns-clause-mixed c = mixed-IsTable
+
+pub returns-clause-messages : goal.returns-clause-messages
+returns-clause-messages c = messages-IsTable

@@ -1,4 +1,4 @@
--- Parts of tests.
+-- Parts of tests that are joined by "and" or "or".
 use Rattle.std.proofs.Common.{◌≡◌, Bool, true, false, not, ◌&&◌, IsTrue, refl}
 use Rattle.std.specs.Prelude.{◌||◌}
 

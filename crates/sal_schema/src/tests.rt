@@ -63,37 +63,6 @@ fn leaf(alloc: Global, parent: u32, name: &str, ty: u32) -> Result<NodeInfo, NoM
     )
 }
 
-fn state_leaf(alloc: Global, parent: u32, name: &str, ty: u32) -> Result<NodeInfo, NoMemory>
-    ensures { IfOk result (λ it. it ≡ example.state_leaf (Some parent) 0 name.now ty) }
-{
-    info(
-        alloc,
-        Some(parent),
-        Kind::Leaf,
-        0,
-        name,
-        Some(false),
-        Some(ty),
-        &[],
-    )
-}
-
-// A leaf of another module.
-fn added_leaf(alloc: Global, parent: u32, name: &str, ty: u32) -> Result<NodeInfo, NoMemory>
-    ensures { IfOk result (λ it. it ≡ example.leaf (Some parent) 1 name.now ty) }
-{
-    info(
-        alloc,
-        Some(parent),
-        Kind::Leaf,
-        1,
-        name,
-        Some(true),
-        Some(ty),
-        &[],
-    )
-}
-
 fn list(alloc: Global, parent: Option<u32>, name: &str, keys: &[u32]) -> Result<NodeInfo, NoMemory>
     ensures { IfOk result (λ it. it ≡ example.list parent 0 name.now keys.now) }
 {
@@ -111,53 +80,6 @@ fn ranges(alloc: Global, low: u64, high: u64) -> Result<Ranges, NoMemory>
     Ok(Ranges::from_items(vec![in alloc; part]?))
 }
 
-fn texts(alloc: Global, first: &str, second: &str) -> Result<Seq<Str>, NoMemory>
-    ensures { IfOk result (λ it. it ≡ first.now ∷ second.now ∷ []) }
-{
-    let first = Str::new(alloc, first)?;
-    let second = Str::new(alloc, second)?;
-    Ok(Seq::from_items(vec![in alloc; first, second]?))
-}
-
-fn upper_nodes(alloc: Global) -> Result<Vec<NodeInfo>, NoMemory>
-    ensures { IfOk result (λ it. it.items ≡ example.upper_nodes) }
-{
-    let mut nodes = Vec::new(alloc);
-    nodes.push(node(
-        alloc,
-        None,
-        Kind::Container { presence: false },
-        "network",
-    )?)?;
-    nodes.push(list(alloc, Some(0), "node", &[2])?)?;
-    nodes.push(leaf(alloc, 1, "id", 0)?)?;
-    nodes.push(list(alloc, Some(1), "link", &[4, 5])?)?;
-    Ok(nodes)
-}
-
-fn topology_nodes(alloc: Global) -> Result<Seq<NodeInfo>, NoMemory>
-    ensures { IfOk result (λ it. it ≡ example.topology_nodes) }
-{
-    let mut nodes = upper_nodes(alloc)?;
-    nodes.push(leaf(alloc, 3, "peer", 1)?)?;
-    nodes.push(leaf(alloc, 3, "port", 2)?)?;
-    nodes.push(leaf(alloc, 3, "speed", 3)?)?;
-    nodes.push(state_leaf(alloc, 3, "octets", 4)?)?;
-    nodes.push(added_leaf(alloc, 1, "site", 1)?)?;
-    Ok(Seq::from_items(nodes))
-}
-
-fn text(alloc: Global, low: u64, high: u64) -> Result<YangType, NoMemory>
-    requires { low ≤ high }
-    ensures { IfOk result (λ it. it ≡ example.text low high) }
-{
-    let length = ranges(alloc, low, high)?;
-    Ok(YangType::Text {
-        length,
-        patterns: Seq::new(alloc),
-    })
-}
-
 fn whole(alloc: Global, bits: u8, low: u64, high: u64) -> Result<YangType, NoMemory>
     requires { low ≤ high }
     ensures { IfOk result (λ it. it ≡ example.whole bits low high) }
@@ -167,41 +89,6 @@ fn whole(alloc: Global, bits: u8, low: u64, high: u64) -> Result<YangType, NoMem
         bits,
         signed: false,
         range,
-    })
-}
-
-fn speed(alloc: Global) -> Result<YangType, NoMemory>
-    ensures { IfOk result (λ it. it ≡ example.speed) }
-{
-    let names = texts(alloc, "slow", "fast")?;
-    let places = Seq::from_items(Vec::from_slice(alloc, &[0, 1])?);
-    Ok(YangType::Enum { names, places })
-}
-
-fn topology_types(alloc: Global) -> Result<Seq<YangType>, NoMemory>
-    ensures { IfOk result (λ it. it ≡ example.topology_types) }
-{
-    let mut types = Vec::new(alloc);
-    types.push(text(alloc, 1, 8)?)?;
-    types.push(text(alloc, 0, u64::MAX)?)?;
-    types.push(whole(alloc, 16, 1, 4096)?)?;
-    types.push(speed(alloc)?)?;
-    types.push(whole(alloc, 64, 0, u64::MAX)?)?;
-    Ok(Seq::from_items(types))
-}
-
-// A topology, with a site that another module adds to its nodes.
-fn topology(alloc: Global) -> Result<SchemaTable, NoMemory>
-    ensures { IfOk result (λ it. it ≡ example.topology) }
-{
-    let nodes = topology_nodes(alloc)?;
-    let types = topology_types(alloc)?;
-    let modules = texts(alloc, "topo", "geo")?;
-    Ok(SchemaTable {
-        nodes,
-        types,
-        modules,
-        identities: Seq::new(alloc),
     })
 }
 
@@ -294,43 +181,9 @@ fn mixed(alloc: Global) -> Result<SchemaTable, NoMemory>
     })
 }
 
-fn schema_of_topology(rt: &HostRuntime) -> Result<Schema, Fail> {
-    let table = topology(rt.alloc())?;
-    Ok(Schema::from_table(rt.alloc(), table)?)
-}
-
 fn schema_of_mixed(rt: &HostRuntime) -> Result<Schema, Fail> {
     let table = mixed(rt.alloc())?;
     Ok(Schema::from_table(rt.alloc(), table)?)
-}
-
-const TOPOLOGY: &str = "0 - container topo:network config
-1 0 list topo:node config key id
-2 1 leaf topo:id config string
-3 1 list topo:link config key peer port
-4 3 leaf topo:peer config string
-5 3 leaf topo:port config uint16
-6 3 leaf topo:speed config enumeration
-7 3 leaf topo:octets state uint64
-8 1 leaf geo:site config string
-";
-
-#[test]
-fn a_topology_is_written(rt: HostRuntime) -> Result<(), Fail> {
-    let schema = schema_of_topology(&rt)?;
-    let text = schema.text(rt.alloc())?;
-    assert_eq!(rt; text.as_str(), TOPOLOGY);
-    Ok(())
-}
-
-#[test]
-fn names_are_found(rt: HostRuntime) -> Result<(), Fail> {
-    let schema = schema_of_topology(&rt)?;
-    assert_eq!(rt; schema.child(Some(1), "geo", "site"), Some(8));
-    assert_eq!(rt; schema.child(Some(1), "topo", "site"), None);
-    assert_eq!(rt; schema.child(None, "topo", "network"), Some(0));
-    assert_eq!(rt; schema.child(None, "plain", "network"), None);
-    Ok(())
 }
 
 #[test]
@@ -346,13 +199,12 @@ fn names_of_all_kinds_are_found(rt: HostRuntime) -> Result<(), Fail> {
     Ok(())
 }
 
-fn entry_of(rt: &HostRuntime, name: &str, below: &[u32]) -> Result<Path, Fail> {
+fn path_of(rt: &HostRuntime, key: u64, below: &[u32]) -> Result<Path, Fail> {
     let mut path = Path::root(rt.alloc());
-    let atom = Atom::Text(Str::new(rt.alloc(), name)?);
-    let key = Value { member: 0, atom };
+    let atom = Atom::Unsigned(key);
+    let value = Value { member: 0, atom };
     path.push(Step::Node(0))?;
-    path.push(Step::Node(1))?;
-    path.push(Step::Key(Seq::from_items(vec![in rt.alloc(); key]?)))?;
+    path.push(Step::Key(Seq::from_items(vec![in rt.alloc(); value]?)))?;
     for node in below {
         path.push(Step::Node(*node))?;
     }
@@ -361,13 +213,30 @@ fn entry_of(rt: &HostRuntime, name: &str, below: &[u32]) -> Result<Path, Fail> {
 
 #[test]
 fn paths_fit_by_keys_and_children(rt: HostRuntime) -> Result<(), Fail> {
-    let schema = schema_of_topology(&rt)?;
-    assert!(rt; schema.fits(&entry_of(&rt, "a", &[])?));
-    assert!(rt; schema.fits(&entry_of(&rt, "a", &[3])?));
-    assert!(rt; schema.fits(&entry_of(&rt, "\u{e9}\u{e9}\u{e9}\u{e9}\u{e9}", &[8])?));
-    assert!(rt; !schema.fits(&entry_of(&rt, "123456789", &[])?));
-    assert!(rt; !schema.fits(&entry_of(&rt, "", &[])?));
-    assert!(rt; !schema.fits(&entry_of(&rt, "a", &[3, 6])?));
-    assert!(rt; !schema.fits(&entry_of(&rt, "a", &[9])?));
+    let schema = schema_of_mixed(&rt)?;
+    assert!(rt; schema.fits(&path_of(&rt, 1, &[])?));
+    assert!(rt; schema.fits(&path_of(&rt, 255, &[4])?));
+    assert!(rt; !schema.fits(&path_of(&rt, 256, &[])?));
+    assert!(rt; !schema.fits(&path_of(&rt, 1, &[2])?));
+    assert!(rt; !schema.fits(&path_of(&rt, 1, &[4, 4])?));
+    assert!(rt; !schema.fits(&path_of(&rt, 1, &[8])?));
+    Ok(())
+}
+
+const MIXED: &str = "0 - list rule:host config key n
+1 0 leaf rule:n config uint8
+2 0 choice rule:way config
+3 2 case rule:slow config
+4 3 leaf rule:slow config empty
+5 - presence rule:ping config
+6 - rpc rule:ping -
+7 - notification rule:ping -
+";
+
+#[test]
+fn a_table_is_written(rt: HostRuntime) -> Result<(), Fail> {
+    let schema = schema_of_mixed(&rt)?;
+    let text = schema.text(rt.alloc())?;
+    assert_eq!(rt; text.as_str(), MIXED);
     Ok(())
 }

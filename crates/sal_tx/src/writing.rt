@@ -1,0 +1,38 @@
+//! What a transaction that writes has.
+ghost use Rattle.std.specs.Prelude.{◌≡◌, List, IfOk};
+ghost use Rattle.sal_types.specs.declared.value.Step.{Step};
+ghost use Rattle.sal_types.specs.Tree.{cell, under};
+ghost use Rattle.sal_rows.specs.Apply.{act_setting, cell_by, rows_of_act};
+ghost use Rattle.sal_tree.specs.Follows.{Follows, exactly};
+ghost use Rattle.sal_tree.specs.Rows.{rows_of};
+ghost use Rattle.sal_tree.specs.Touched.{act_touches};
+
+use crate::begun::Begun;
+use sal_mod::Mod;
+use sal_rows::{Act, Mode, Op};
+use sal_tree::{Pair, Root};
+use sal_types::NoMemory;
+use std::alloc::Global;
+
+/// The parts of a transaction that writes: its base, its view under its own writes, and its operations.
+#[derive(Drop)]
+pub struct Writing {
+    pub begun: Begun,
+    pub mode: Mode,
+    pub base: Pair,
+    pub view: Pair,
+    pub changes: Mod,
+}
+
+/// The tree after the operation, whose touched nodes get the stamp.
+pub(crate) fn edited(alloc: Global, tree: &Root, op: &Op, stamp: u64) -> Result<Root, NoMemory>
+    requires { under (rows_of_act op.now.act) op.now.path ≡ rows_of_act op.now.act }
+    ensures cells { IfOk result (λ r. (q : List Step) → cell (rows_of r) q ≡ cell_by (act_setting op.now.path op.now.act q) (cell (rows_of tree.now) q)) }
+    ensures stamps { IfOk result (λ r. Follows (exactly stamp) (act_touches (rows_of tree.now) op.now.path op.now.act) tree.now r) }
+{
+    match &op.act {
+        Act::Put(rows) => tree.put(alloc, &op.path, rows, stamp),
+        Act::Merge(rows) => tree.merge(alloc, &op.path, rows, stamp),
+        Act::Delete => tree.delete(alloc, &op.path, stamp),
+    }
+}

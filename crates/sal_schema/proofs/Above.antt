@@ -1,6 +1,6 @@
 -- The node that data stand under.
-use Rattle.std.proofs.Common.{◌≡◌, ℕ, zero, suc, ◌+◌, ◌-◌, ◌<◌, ◌≤◌, Bool, true, false, cond, not, List, [], ◌∷◌, ◌++◌, length, get_or, map, take, Option, Some, None, sym, refl, ap, ◌∙◌, arith}
-use Rattle.std.proofs.lemmas.List.{get_or-map, get_or-take, map_more, length-map, length-take-le}
+use Rattle.std.proofs.Common.{◌≡◌, ℕ, suc, ◌+◌, ◌-◌, ◌<◌, ◌≤◌, Bool, true, false, cond, not, List, [], ◌∷◌, ◌++◌, length, get_or, map, take, Option, Some, None, sym, refl, ap, ◌∙◌, arith}
+use Rattle.std.proofs.lemmas.List.{get_or-map, get_or-take, map_more, length-take-le}
 use Rattle.std.specs.Prelude.{IfSome, option_map}
 use Rattle.std.specs.List.{slice_get}
 use Rattle.std.specs.Option.{option_map_or, option_and_then}
@@ -9,9 +9,9 @@ use Rattle.sal_schema.specs.declared.table.NodeInfo.{NodeInfo}
 use Rattle.sal_schema.specs.declared.table.SchemaTable.{SchemaTable}
 use Rattle.sal_schema.specs.Kinds.{is_choice_or_case}
 use Rattle.sal_schema.specs.Indexed.{passed_over}
-use Rattle.sal_schema.specs.Table.{closest, data_node, is_kind, parent_of}
+use Rattle.sal_schema.specs.Table.{closest, data_node}
 use Rattle.sal_schema.specs.Valid.{IsTable}
-use Rattle.sal_schema.proofs.Facts.{slice_get_at, parent_before, parent_of_before, slice_get_some, slice_get_there, lower, closest-None, closest-Some, closest-enough}
+use Rattle.sal_schema.proofs.Facts.{parent_before, slice_get_some, slice_get_there, lower, closest-None, closest-Some, closest-enough}
 
 abbrev stays : Kind → Bool
 stays kind = not (is_choice_or_case kind)
@@ -47,8 +47,8 @@ passed_over-data table nodes done i (Some p) good all few known low =
     let below : slice_get table.nodes p ≡ Some node = sym (ap (λ ys. slice_get ys p) all) ∙ at in
     let long : length table.nodes ≡ suc (length table.nodes - 1) = omega (arith, ap length all) in
     let found : get_or done p None ≡ data_node table node.parent =
-        ap (λ ys. get_or ys p None) known ∙ get_or-map (found_for table) (take i nodes) p node None (omega (arith, length-take-le i nodes few))
-        ∙ ap (found_for table) (get_or-take i nodes p node low ∙ sym here) in
+    ap (λ ys. get_or ys p None) known ∙ get_or-map (found_for table) (take i nodes) p node None (omega (arith, length-take-le i nodes few))
+    ∙ ap (found_for table) (get_or-take i nodes p node low ∙ sym here) in
     let rest = above_rest table good p (length table.nodes - 1) node below long (omega (arith, ap length all)) in
     ap (λ r. cond (option_map_or (λ (node : NodeInfo). is_choice_or_case node.kind) r false) (get_or done p None) (Some p)) at
     ∙ turned (is_choice_or_case node.kind) (get_or done p None) (closest stays table (length table.nodes - 1) node.parent) (Some p) (found ∙ sym rest)

@@ -1,5 +1,5 @@
 -- Parts of tests that are joined by "and" or "or".
-use Rattle.std.proofs.Common.{◌≡◌, Bool, true, false, not, ◌&&◌, IsTrue, refl}
+use Rattle.std.proofs.Common.{◌≡◌, Bool, true, false, ◌&&◌, IsTrue, refl}
 use Rattle.std.specs.Prelude.{◌||◌}
 
 pub and_first : (a b : Bool) → IsTrue (a && b) → IsTrue a

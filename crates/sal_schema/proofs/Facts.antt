@@ -1,9 +1,8 @@
 -- What holds of the parts of a table.
-use Rattle.std.proofs.Common.{◌≡◌, ℕ, zero, suc, ◌+◌, ◌-◌, ◌<◌, ◌≤◌, Bool, true, false, cond, not, ◌&&◌, nat_lt, IsTrue, List, [], ◌∷◌, ◌++◌, inl, inr, length, get_or, map, take, Option, Some, None, sym, refl, ap, subst, ◌∙◌, arith}
-use Rattle.std.proofs.lemmas.Grind.{common_steps}
+use Rattle.std.proofs.Common.{◌≡◌, ℕ, zero, suc, ◌+◌, ◌<◌, ◌≤◌, Bool, true, false, cond, not, ◌&&◌, nat_lt, IsTrue, List, [], ◌∷◌, ◌++◌, inl, inr, length, get_or, Option, Some, None, sym, refl, ap, ◌∙◌, arith}
 use Rattle.std.proofs.lemmas.Bool.Decides.{nat_tests}
 use Rattle.std.specs.Prelude.{IfSome}
-use Rattle.std.specs.List.{slice_get, list_all, All}
+use Rattle.std.specs.List.{slice_get, All}
 use Rattle.std.specs.Prelude.{nat_eq}
 use borrow.Author.Tests.{ltb-true}
 use Rattle.std.proofs.lemmas.List.Elements.{All-cons}
@@ -16,7 +15,6 @@ use Rattle.sal_schema.specs.declared.table.SchemaTable.{SchemaTable}
 use Rattle.sal_schema.specs.Kinds.{is_leaf, is_list}
 use Rattle.sal_schema.specs.Table.{closest, is_kind, is_same, parent_of, children_in}
 use Rattle.sal_schema.specs.Valid.{IsTable, has_numbers, has_its_keys, is_good_identity, is_identifier, is_empty, agree, all_differ}
-use Rattle.sal_schema.specs.Indexed as indexed
 use Rattle.sal_schema.proofs.Conjuncts.{and_first, and_second}
 use Rattle.sal_schema.proofs.Numbered.{all_from-at, list_all-at}
 
@@ -77,8 +75,8 @@ is_there test table n h =
     elim (cases_lt n (length table.nodes)) [
       | inl below ↦ below
       | inr past ↦
-        let no : is_kind test table n ≡ false = ap (λ r. option_map_or test (option_map (λ (node : NodeInfo). node.kind) r) false) (slice_get_past table.nodes n past) in
-        absurd (true≢false (sym h ∙ no))
+          let no : is_kind test table n ≡ false = ap (λ r. option_map_or test (option_map (λ (node : NodeInfo). node.kind) r) false) (slice_get_past table.nodes n past) in
+          absurd (true≢false (sym h ∙ no))
     ]
 
 -- the keys of a node are nodes

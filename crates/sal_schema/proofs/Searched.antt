@@ -1,14 +1,12 @@
 -- What a search by halves finds among names, and what a name stands for.
-use Rattle.std.proofs.Common.{◌≡◌, ℕ, zero, suc, ◌+◌, ◌<◌, ◌≤◌, Bool, true, false, cond, not, ◌&&◌, List, [], ◌∷◌, length, get_or, inl, inr, IsTrue, Option, Some, None, sym, refl, ap, ◌∙◌, arith}
-use Rattle.std.proofs.lemmas.Grind.{common_steps}
+use Rattle.std.proofs.Common.{◌≡◌, ℕ, zero, suc, ◌<◌, Bool, true, false, cond, not, List, [], ◌∷◌, length, get_or, inl, inr, IsTrue, Option, Some, None, sym, refl, ap, ◌∙◌, arith}
 use Rattle.std.proofs.lemmas.Bool.{cases_lt, true≢false}
 use Rattle.std.proofs.lemmas.List.Folds.{list_any_none, list_any_at}
 use Rattle.std.proofs.lemmas.List.Sorted.{searchable_from_sorted, list_any-IsPermutation, Contains-permutation, IsPermutation-sym}
-use Rattle.std.specs.Prelude.{MatchOption, option_map, find, Contains}
-use Rattle.std.specs.List.{list_any, AllWithin, All, HoldsAt}
+use Rattle.std.specs.Prelude.{option_map, find, Contains}
+use Rattle.std.specs.List.{list_any, All, HoldsAt}
 use Rattle.std.specs.List.Sorted.{IsSorted, IsPermutation, IsNonDecreasingBy, IsPartitionPoint}
 use Rattle.std.specs.Ordering.{is_eq, ordering_index}
-use Rattle.std.specs.declared.cmp.Ordering.{Ordering}
 use Rattle.std.specs.declared.cmp.Ordering.TheVariants.{Less, Equal, Greater}
 use Rattle.std.specs.Cmp.{eq_by_cmp_equiv}
 use Rattle.sal_schema.specs.declared.names.Name.{Name}
@@ -55,7 +53,7 @@ module _ (name : Name) where
   first x names entry distinct (zero, inside, here) called is = ap Some here
   first x names entry distinct (suc k, inside, here) called is =
       let there : list_any (is_called x.name) names ≡ true =
-          list_any_at (is_called x.name) names k entry (omega arith) (ap (is_called x.name) here ∙ called_alike x entry is called) in
+      list_any_at (is_called x.name) names k entry (omega arith) (ap (is_called x.name) here ∙ called_alike x entry is called) in
       let no = and_first (not (list_any (is_called x.name) names)) (are_distinct names) distinct in
       absurd (true≢false (sym no ∙ ap not there))
 
@@ -83,4 +81,3 @@ lookup-Finds names sorted name None distinct same none =
 lookup-Finds names sorted name (Some n) distinct same (entry, here, called, number) =
     let first = found_first name names entry distinct (Contains-permutation sorted names entry (IsPermutation-sym names sorted same) here) called in
     sym (ap (option_map (λ (entry : Named). entry.number)) first ∙ ap Some number)
-

@@ -1,10 +1,9 @@
 -- Tables and paths for the examples.
-use Rattle.std.specs.Prelude.{ℕ, ℤ, pos, Bool, false, true, List as Row, [], ◌∷◌, ◌++◌, Option, Some, None, codes}
-use Prim.Native.String.{String}
+use Rattle.std.specs.Prelude.{ℕ, pos, Bool, false, true, List as Row, [], ◌∷◌, ◌++◌, Option, Some, None, codes}
 use Rattle.sal_types.specs.declared.value.Atom.TheVariants.{Text, Unsigned}
 use Rattle.sal_types.specs.declared.value.Value.{Value}
 use Rattle.sal_types.specs.declared.value.Step.{Step}
-use Rattle.sal_types.specs.declared.value.Step.TheVariants.{Node, Key, Item}
+use Rattle.sal_types.specs.declared.value.Step.TheVariants.{Node, Key}
 use Rattle.sal_restrict.specs.declared.ranges.Part.{Part}
 use Rattle.sal_restrict.specs.declared.yang_type.YangType.{YangType, roll-YangType}
 use Rattle.sal_restrict.specs.declared.yang_type.YangType.TheOpen.{YangType-F}
@@ -117,10 +116,10 @@ mixed = record { nodes = mixed_nodes; types = mixed_types; modules = codes "rule
 abbrev pub messages : SchemaTable
 messages = record {
   nodes = info None Rpc 0 (codes "ping") None None []
-    ∷ info (Some 0) Input 0 (codes "input") None None []
-    ∷ info (Some 1) LeafList 0 (codes "n") None (Some 0) []
-    ∷ info (Some 0) Output 0 (codes "output") None None []
-    ∷ [];
+      ∷ info (Some 0) Input 0 (codes "input") None None []
+      ∷ info (Some 1) LeafList 0 (codes "n") None (Some 0) []
+      ∷ info (Some 0) Output 0 (codes "output") None None []
+      ∷ [];
   types = whole 8 0 255 ∷ [];
   modules = codes "shop" ∷ [];
   identities = [];

@@ -75,10 +75,7 @@ fn passed_over(nodes: &[NodeInfo], done: &[Option<u32>], parent: Option<u32>) ->
 }
 
 /// For each node the one that its data stand under.
-pub(crate) fn data_parents(
-    alloc: Global,
-    table: &SchemaTable,
-) -> Result<Vec<Option<u32>>, NoMemory>
+pub(crate) fn data_parents(alloc: Global, table: &SchemaTable) -> Result<Vec<Option<u32>>, NoMemory>
     requires { IsTable table.now }
     ensures { IfOk result (λ r. r.items ≡ indexed.data_parents table.now) }
 {

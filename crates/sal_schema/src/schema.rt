@@ -59,8 +59,7 @@ impl Schema {
         let modules = Index::of(module_names(alloc, table.modules.items())?)?;
         let data_nodes = Index::of(data_names(alloc, &table, &data_parents)?)?;
         let rpcs = Index::of(kind_names(alloc, Kind::Rpc, table.nodes.items())?)?;
-        let notifications =
-            Index::of(kind_names(alloc, Kind::Notification, table.nodes.items())?)?;
+        let notifications = Index::of(kind_names(alloc, Kind::Notification, table.nodes.items())?)?;
         let identities = Index::of(identity_names(alloc, table.identities.items())?)?;
         Ok(Schema {
             table,

@@ -37,12 +37,7 @@ fn info(
     })
 }
 
-fn node(
-    alloc: Global,
-    parent: Option<u32>,
-    kind: Kind,
-    name: &str,
-) -> Result<NodeInfo, NoMemory>
+fn node(alloc: Global, parent: Option<u32>, kind: Kind, name: &str) -> Result<NodeInfo, NoMemory>
     ensures { IfOk result (λ it. it ≡ example.node parent kind 0 name.now) }
 {
     info(alloc, parent, kind, 0, name, Some(true), None, &[])
@@ -108,23 +103,9 @@ fn mixed_nodes(alloc: Global) -> Result<Seq<NodeInfo>, NoMemory>
     ensures { IfOk result (λ it. it ≡ example.mixed_nodes) }
 {
     let mut nodes = host_nodes(alloc)?;
-    nodes.push(node(
-        alloc,
-        None,
-        Kind::Container { presence: true },
-        "ping",
-    )?)?;
+    nodes.push(node(alloc, None, Kind::Container { presence: true }, "ping")?)?;
     nodes.push(info(alloc, None, Kind::Rpc, 0, "ping", None, None, &[])?)?;
-    nodes.push(info(
-        alloc,
-        None,
-        Kind::Notification,
-        0,
-        "ping",
-        None,
-        None,
-        &[],
-    )?)?;
+    nodes.push(info(alloc, None, Kind::Notification, 0, "ping", None, None, &[])?)?;
     Ok(Seq::from_items(nodes))
 }
 

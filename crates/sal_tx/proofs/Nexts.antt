@@ -1,5 +1,5 @@
 -- One operation more.
-use Rattle.std.proofs.Common.{◌≡◌, ℕ, Bool, true, false, cond, not, ◌&&◌, IsTrue, List, [], ◌∷◌, ◌++◌, Option, Some, None, sym, refl, ap, subst, ◌∙◌, arith}
+use Rattle.std.proofs.Common.{◌≡◌, ◌≢◌, ℕ, ◌-◌, ◌<◌, ◌^◌, Bool, true, false, cond, not, ◌&&◌, IsTrue, List, [], ◌∷◌, ◌++◌, Option, Some, None, sym, refl, ap, subst, ◌∙◌, arith}
 use Rattle.std.proofs.lemmas.List.{append_assoc, append-nil}
 use Rattle.std.proofs.lemmas.List.Folds.{list_any-append}
 use Rattle.std.specs.Prelude.{◌||◌}
@@ -26,7 +26,11 @@ use Rattle.sal_schema.specs.declared.table.SchemaTable.{SchemaTable}
 use Rattle.sal_schema.specs.Fitting.{fits, row_fits}
 use Rattle.sal_schema.specs.Paths.{fits_path}
 use Rattle.sal_tx.specs.Refusals.{refusal}
-use Rattle.sal_tx.specs.Views.{IsAfter, IsForSchema, AreLawful, rows_in}
+use Rattle.sal_tx.specs.Views.{IsAfter, IsRight, IsNext, AreLawful, refused, rows_in, tree_in, stamp_of}
+use Rattle.sal_tx.specs.Written.{IsForSchema, IsWritten, with_tree}
+use Rattle.sal_tx.specs.declared.writing.Writing.{Writing}
+use Rattle.sal_types.specs.declared.value.Store.TheVariants.{Config, Oper}
+use Rattle.sal_rows.specs.declared.outcome.Mode.TheVariants.{Ro}
 
 -- the tree of the operation's store
 pub IsAfter-more : (stamp : ℕ) (ops : List Op) (op : Op) (base view next : Tree) → IsGrove base.kids → IsGrove view.kids → IsGrove next.kids
@@ -97,3 +101,67 @@ all_lie table p all (row ∷ rows) h =
 
 pub lie_under : (table : SchemaTable) (p : List Step) (rows : List Row) → IsTrue (fits table p rows) → under rows p ≡ rows
 lie_under table p rows h = filter-all (λ (row : Row). is_prefix p row.path) rows (all_lie table p rows rows h)
+
+-- ---- the parts of a transaction
+
+-- what a transaction has when it is opened
+pub IsRight-open : (w : Writing) → w.mode ≢ Ro → w.begun.place < 2 ^ 63 - 1 → w.changes ≡ [] → w.view ≡ w.base → IsGrove w.base.config.kids → IsGrove w.base.oper.kids
+    → IsRight w
+IsRight-open w writes low none same g h = record {
+  writes = writes;
+  low = low;
+  config = rw (none, same) (IsAfter-none (stamp_of w.begun.place) Config w.base.config g);
+  oper = rw (none, same) (IsAfter-none (stamp_of w.begun.place) Oper w.base.oper h);
+  lawful = rw none tt;
+}
+
+itself : (store : Store) → same_store store store ≡ true
+itself Config = refl
+itself Oper = refl
+
+after_in : (w : Writing) → IsRight w → (store : Store) → IsAfter (stamp_of w.begun.place) store w.changes (tree_in w.base store) (tree_in w.view store)
+after_in w right Config = right.config
+after_in w right Oper = right.oper
+
+-- what a write is refused for over the tree that is seen
+pub refused-seen : (w : Writing) (op : Op) (table : SchemaTable) (tree : Tree) → IsRight w → table ≡ w.begun.schema.value → tree ≡ tree_in w.view op.store
+    → refusal table (rows_of tree) op ≡ refused w op
+refused-seen w op table tree right same is =
+    ap (λ t. refusal t (rows_of tree) op) same
+    ∙ ap (λ rows. refusal w.begun.schema.value rows op) (ap rows_of is ∙ (after_in w right op.store).rows)
+
+-- the tree that was written is the next one
+pub IsNext-written : (w : Writing) (op : Op) (table : SchemaTable) (stamp : ℕ) (base tree next : Tree) → IsRight w → table ≡ w.begun.schema.value
+    → stamp ≡ stamp_of w.begun.place → base ≡ tree_in w.base op.store → tree ≡ tree_in w.view op.store → IsGrove base.kids → IsGrove tree.kids → IsGrove next.kids
+    → IsWritten table stamp tree op next → IsNext w op next
+IsNext-written w op table stamp base tree next right same marked below is g h k done = record {
+  allowed = sym (refused-seen w op table tree right same is) ∙ done.allowed;
+  after =
+    let was : IsAfter stamp op.store w.changes base tree = rw (marked, below, is) (after_in w right op.store) in
+    let now = IsAfter-more stamp w.changes op base tree next g h k (itself op.store) was done.cells done.stamps in
+    rw (← marked, ← below) now;
+}
+
+-- the transaction after one more operation
+pub IsRight-more : (w v : Writing) (op : Op) (store : Store) (tree : Tree) → IsRight w → IsForSchema w.begun.schema.value op → IsNext w op tree → store ≡ op.store
+    → v ≡ record { begun = w.begun; mode = w.mode; base = w.base; view = with_tree w.view store tree; changes = w.changes ++ op ∷ [] } → IsRight v
+IsRight-more w v op store tree right fits next of is = rw (is, of) (more op.store refl)
+  where
+    lawful : AreLawful w.begun.schema.value w.base [] (w.changes ++ op ∷ [])
+    lawful = AreLawful-more w.begun.schema.value w.base [] w.changes op right.lawful fits next.allowed
+
+    more : (s : Store) → op.store ≡ s → IsRight (record { begun = w.begun; mode = w.mode; base = w.base; view = with_tree w.view s tree; changes = w.changes ++ op ∷ [] })
+    more Config here = record {
+      writes = right.writes;
+      low = right.low;
+      config = rw here at next.after;
+      oper = IsAfter-other (stamp_of w.begun.place) Oper w.changes op w.base.oper w.view.oper (ap (λ s. same_store s Oper) here) right.oper;
+      lawful = lawful;
+    }
+    more Oper here = record {
+      writes = right.writes;
+      low = right.low;
+      config = IsAfter-other (stamp_of w.begun.place) Config w.changes op w.base.config w.view.config (ap (λ s. same_store s Config) here) right.config;
+      oper = rw here at next.after;
+      lawful = lawful;
+    }

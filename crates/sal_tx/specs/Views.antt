@@ -1,19 +1,18 @@
 -- What a transaction sees, and what holds of its operations.
-use Rattle.std.specs.Prelude.{◌≡◌, ◌≢◌, ◌⊎◌, ℕ, ◌+◌, ◌*◌, ◌-◌, ◌<◌, ◌^◌, IsTrue, IsFalse, List, [], ◌∷◌, ◌++◌, Option, None, Some, Result, MatchResult}
+use Rattle.std.specs.Prelude.{◌≡◌, ◌≢◌, ◌⊎◌, ℕ, ◌+◌, ◌*◌, ◌-◌, ◌<◌, ◌^◌, List, [], ◌∷◌, ◌++◌, Option, None, Some, Result, MatchResult}
 use Rattle.sal_types.specs.declared.value.Store.{Store}
 use Rattle.sal_types.specs.declared.value.Store.TheVariants.{Config, Oper}
 use Rattle.sal_types.specs.declared.row.Row.{Row}
 use Rattle.sal_rows.specs.declared.op.Op.{Op}
 use Rattle.sal_rows.specs.declared.outcome.Mode.TheVariants.{Ro}
-use Rattle.sal_rows.specs.Apply.{apply_ops, rows_of_act}
+use Rattle.sal_rows.specs.Apply.{apply_ops}
 use Rattle.sal_rows.specs.Touch.{touches}
 use Rattle.sal_node.specs.Tree.{Tree}
 use Rattle.sal_tree.specs.Follows.{Follows, exactly}
 use Rattle.sal_tree.specs.Rows.{rows_of}
 use Rattle.sal_tree.specs.declared.commit.Pair.{Pair}
 use Rattle.sal_schema.specs.declared.table.SchemaTable.{SchemaTable}
-use Rattle.sal_schema.specs.Fitting.{fits, is_in_message}
-use Rattle.sal_schema.specs.Paths.{fits_path}
+use Rattle.sal_tx.specs.Written.{IsForSchema}
 use Rattle.sal_tx.specs.declared.writing.Writing.{Writing}
 use Rattle.sal_tx.specs.declared.fault.TxFault.{TxFault}
 use Rattle.sal_tx.specs.declared.fault.TxFault.TheVariants.{NoMemory}
@@ -35,12 +34,6 @@ stamp_of place = 2 * place + 2
 pub record IsAfter (stamp : ℕ) (store : Store) (ops : List Op) (base view : Tree) : Type 0 where
   pub rows : rows_of view ≡ apply_ops (rows_of base) store ops
   pub stamps : Follows (exactly stamp) (touches (rows_of base) store ops) base view
-
--- the operation is one for the schema: its path and its rows fit, outside of RPCs and notifications
-pub record IsForSchema (table : SchemaTable) (op : Op) : Type 0 where
-  pub path : IsTrue (fits_path table op.path)
-  pub data_path : IsFalse (is_in_message table op.path)
-  pub rows : IsTrue (fits table op.path (rows_of_act op.act))
 
 -- Each operation is one for the schema and is not refused over the trees after those before it.
 abbrev pub AreLawful : SchemaTable → Pair → List Op → List Op → Type 0

@@ -6,7 +6,7 @@ ghost use Rattle.sal_rows.specs.Apply.{rows_of_act};
 ghost use Rattle.sal_node.specs.Shape.{tree_at};
 ghost use Rattle.sal_tree.specs.Grow.{kid, present, IsSound};
 ghost use Rattle.sal_tree.specs.Rows.{rows_of};
-ghost use Rattle.sal_schema.specs.Fitting.{is_of_state};
+ghost use Rattle.sal_schema.specs.Fitting.{is_of_state, is_root};
 ghost use Rattle.sal_tx.specs.Refusals as spec;
 ghost use Rattle.sal_tx.specs.Walk as walk;
 
@@ -69,15 +69,33 @@ fn state_row<'a>(schema: &Schema, rows: &'a [Row]) -> Option<&'a Row>
     rows.iter().find(|row| schema.is_of_state(&row.path))
 }
 
-// How many steps the outermost missing parent's path has.
+// How many steps the path of the outermost missing parent has.
 fn missing(schema: &Schema, tree: &Root, op: &Op) -> Option<usize>
     ensures parent { option_map (λ d. take d op.now.path) result ≡ spec.missing_of schema.now (rows_of tree.now) op.now }
     ensures short { IfSome result (λ d. d ≤ length op.now.path) }
 {
-    match op.act {
-        Act::Delete => None,
-        _ => missing_below(schema, Some(tree.node()), op.path.steps()),
+    if needs_parents(&op.act) {
+        missing_parent(schema, tree, &op.path)
+    } else {
+        None
     }
+}
+
+fn needs_parents(act: &Act) -> bool
+    ensures { result ≡ spec.needs_parents act.now }
+{
+    match act {
+        Act::Put(_) => true,
+        Act::Merge(_) => true,
+        Act::Delete => false,
+    }
+}
+
+fn missing_parent(schema: &Schema, tree: &Root, path: &Path) -> Option<usize>
+    ensures parent { option_map (λ d. take d path.now) result ≡ spec.missing_parent schema.now (rows_of tree.now) path.now }
+    ensures short { IfSome result (λ d. d ≤ length path.now) }
+{
+    missing_below(schema, Some(tree.node()), path.steps())
 }
 
 // How many of the steps lead to the first entry or presence container at which nothing stands, before the last one.
@@ -88,8 +106,10 @@ fn missing_below(schema: &Schema, node: Option<&Arc<Node>>, steps: &[Step]) -> O
 {
     match steps {
         [] => None,
-        [_] => None,
         [step, rest @ ..] => {
+            if is_empty(rest) {
+                return None;
+            }
             let node = child_of(node, step);
             if schema.has_mark(step) && !stands(node) {
                 return Some(1);
@@ -99,6 +119,15 @@ fn missing_below(schema: &Schema, node: Option<&Arc<Node>>, steps: &[Step]) -> O
                 None => None,
             }
         }
+    }
+}
+
+fn is_empty(steps: &[Step]) -> bool
+    ensures { result ≡ is_root steps.now }
+{
+    match steps {
+        [] => true,
+        _ => false,
     }
 }
 

@@ -4,15 +4,12 @@ ghost use Rattle.sal_types.specs.declared.value.Store.{Store};
 ghost use Rattle.sal_types.specs.Tree.{has, under};
 ghost use Rattle.sal_rows.specs.Apply.{rows_of_act, apply_ops};
 ghost use Rattle.sal_rows.specs.declared.op.Act.TheVariants.{Put as SetAll, Merge as SetSome, Delete as ClearAll};
-ghost use Rattle.sal_schema.specs.Fitting.{fits, is_in_message};
-ghost use Rattle.sal_schema.specs.Paths.{fits_path};
-ghost use Rattle.sal_tx.specs.Refusals.{refusal};
 ghost use Rattle.sal_tx.specs.Views as spec;
+ghost use Rattle.sal_tx.specs.Written.{IsForSchema};
 
 use crate::begun::Begun;
 use crate::fault::{TxFault, WriteOnly};
-use crate::refusal::check;
-use crate::writing::{Writing, edited};
+use crate::writing::{Writing, set_tree, written};
 use sal_mod::Mod;
 use sal_rows::{Act, Mode, Op, Rows};
 use sal_schema::Schema;
@@ -247,7 +244,7 @@ impl WriteTx {
         path: Path,
         rows: Rows,
     ) -> Result<(), TxFault>
-        requires { spec.IsForSchema self.old.begun.schema.value (record { store = store; path = path; act = SetAll rows }) }
+        requires { IsForSchema self.old.begun.schema.value (record { store = store; path = path; act = SetAll rows }) }
         ensures outcome { spec.IsOutcome self.old (record { store = store; path = path; act = SetAll rows }) self.new result }
         ensures err { OnErr result (self.new ≡ self.old) }
     {
@@ -269,7 +266,7 @@ impl WriteTx {
         path: Path,
         rows: Rows,
     ) -> Result<(), TxFault>
-        requires { spec.IsForSchema self.old.begun.schema.value (record { store = store; path = path; act = SetSome rows }) }
+        requires { IsForSchema self.old.begun.schema.value (record { store = store; path = path; act = SetSome rows }) }
         ensures outcome { spec.IsOutcome self.old (record { store = store; path = path; act = SetSome rows }) self.new result }
         ensures err { OnErr result (self.new ≡ self.old) }
     {
@@ -285,7 +282,7 @@ impl WriteTx {
 
     /// Sets all at and below the path to absent. Where nothing stands, nothing changes but the list of operations.
     pub fn delete(&mut self, alloc: Global, store: Store, path: Path) -> Result<(), TxFault>
-        requires { spec.IsForSchema self.old.begun.schema.value (record { store = store; path = path; act = ClearAll }) }
+        requires { IsForSchema self.old.begun.schema.value (record { store = store; path = path; act = ClearAll }) }
         ensures outcome { spec.IsOutcome self.old (record { store = store; path = path; act = ClearAll }) self.new result }
         ensures err { OnErr result (self.new ≡ self.old) }
     {
@@ -300,36 +297,41 @@ impl WriteTx {
     }
 
     fn write(&mut self, alloc: Global, op: Op) -> Result<(), TxFault>
-        requires { spec.IsForSchema self.old.begun.schema.value op }
+        requires { IsForSchema self.old.begun.schema.value op }
         ensures outcome { spec.IsOutcome self.old op self.new result }
         ensures err { OnErr result (self.new ≡ self.old) }
     {
-        let tree = self.edited(alloc, &op)?;
+        let tree = match self.edited(alloc, &op) {
+            Ok(tree) => tree,
+            Err(fault) => return Err(fault),
+        };
         let store = op.store;
-        let parts = &mut self.parts;
-        if parts.changes.add(alloc, op).is_err() {
-            return Err(TxFault::NoMemory);
+        match self.parts.changes.add(alloc, op) {
+            Ok(()) => {
+                set_tree(&mut self.parts.view, store, tree);
+                Ok(())
+            }
+            Err(_) => Err(TxFault::NoMemory),
         }
-        match store {
-            Store::Config => parts.view.config = tree,
-            Store::Oper => parts.view.oper = tree,
-        }
-        Ok(())
     }
 
     // The view of the store after one more operation, unless that is refused.
     fn edited(&self, alloc: Global, op: &Op) -> Result<Root, TxFault>
-        requires { spec.IsForSchema self.now.begun.schema.value op.now }
-        ensures { MatchResult result (λ tree. spec.IsNext self.now op.now tree) (λ e. (e ≡ TxFault.NoMemory) ⊎ (spec.refused self.now op.now ≡ Some e)) }
+        requires { IsForSchema self.now.begun.schema.value op.now }
+        ensures { MatchResult result (spec.IsNext self.now op.now) (λ e. (e ≡ TxFault.NoMemory) ⊎ (spec.refused self.now op.now ≡ Some e)) }
     {
-        let tree = self.view_of(op.store);
-        check(alloc, &self.parts.begun.schema, tree, op)?;
         let stamp = self.parts.begun.place * 2 + 2;
-        let next = edited(alloc, tree, op, stamp)?;
-        let _ = tree_of(&self.parts.base, op.store).node();
+        let tree = self.view_of(op.store);
+        let base = tree_of(&self.parts.base, op.store);
+        let _ = base.node();
         let _ = tree.node();
-        let _ = next.node();
-        Ok(next)
+        match written(alloc, self.schema(), tree, op, stamp) {
+            Ok(next) => {
+                let _ = next.node();
+                Ok(next)
+            }
+            Err(fault) => Err(fault),
+        }
     }
 
     /// The submission of this receipt: the transaction's chain, base, view and operations. It takes no memory.

@@ -1,4 +1,4 @@
-use Rattle.std.proofs.Common.{◌≡◌, ◌<◌, length, sym, ap, ◌∙◌, arith}
+use Rattle.std.proofs.Common.{arith}
 use Rattle.sal_schema.proofs.Facts.{parent_before}
 use Rattle.sal_schema.proofs.parts.children_of.Goals as goal
 

@@ -1,4 +1,4 @@
-use Rattle.std.proofs.Common.{◌≡◌, sym, ap, ◌∙◌, Some, None}
+use Rattle.std.proofs.Common.{ap, ◌∙◌, Some, None}
 use Rattle.std.specs.Prelude.{option_and_then}
 use Rattle.sal_schema.specs.Names.{lookup, name_of_parts, module_names}
 use Rattle.sal_schema.proofs.Searched.{lookup-Finds}

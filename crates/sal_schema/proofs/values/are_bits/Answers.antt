@@ -1,4 +1,4 @@
-use Rattle.std.proofs.Common.{◌≡◌, true, false, not, sym, ap, ◌∙◌, arith}
+use Rattle.std.proofs.Common.{sym, arith}
 use Rattle.sal_schema.specs.Values.{is_taken}
 use Rattle.sal_schema.proofs.Below.{all_below_none, all_below_more, all_below_fails}
 use Rattle.sal_schema.proofs.values.are_bits.Goals as goal

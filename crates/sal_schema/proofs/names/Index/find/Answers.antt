@@ -1,4 +1,4 @@
-use Rattle.std.proofs.Common.{rules, ◌≡◌, get_or, sym, refl, ap, ◌∙◌, arith}
+use Rattle.std.proofs.Common.{rules, get_or, sym, ap, ◌∙◌}
 use Rattle.std.proofs.lemmas.Fn.{always_returns_same}
 use Rattle.sal_schema.specs.declared.names.Named.{Named}
 use Rattle.sal_schema.specs.Names.{name_cmp, name_of_parts}

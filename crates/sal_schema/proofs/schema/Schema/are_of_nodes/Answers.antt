@@ -1,4 +1,4 @@
-use Rattle.std.proofs.Common.{sym, arith}
+use Rattle.std.proofs.Common.{sym}
 use Rattle.sal_schema.proofs.Below.{are_of_nodes-short}
 use Rattle.sal_schema.proofs.schema.Schema.are_of_nodes.Goals as goal
 

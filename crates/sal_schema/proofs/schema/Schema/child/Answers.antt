@@ -1,4 +1,3 @@
-use Rattle.std.proofs.Common.{sym, ap}
 use Rattle.sal_schema.specs.Names.{data_names}
 use Rattle.sal_schema.proofs.schema.Schema.child.Goals as goal
 

@@ -1,4 +1,4 @@
-use Rattle.std.proofs.Common.{◌≡◌, ◌<◌, length, get_or, ap, ◌∙◌, sym, arith}
+use Rattle.std.proofs.Common.{◌<◌, length, get_or, ap, ◌∙◌}
 use Rattle.sal_schema.proofs.Facts.{numbers_at, keys_are_there}
 use Rattle.sal_schema.proofs.schema.Schema.node.Goals as goal
 

@@ -145,16 +145,19 @@ IsNext-written w op table stamp base tree next right same marked below is g h k 
 -- the transaction after one more operation
 pub IsRight-more : (w v : Writing) (op : Op) (store : Store) (tree : Tree) → IsRight w → IsForSchema w.begun.schema.value op → IsNext w op tree → store ≡ op.store
     → v ≡ record { begun = w.begun; mode = w.mode; base = w.base; view = with_tree w.view store tree; changes = w.changes ++ op ∷ [] } → IsRight v
-IsRight-more w v op store tree right fits next of is = rw (is, of) (more op.store refl)
+IsRight-more w v op store tree right good next of is = rw (is, of) (more op.store refl)
   where
     lawful : AreLawful w.begun.schema.value w.base [] (w.changes ++ op ∷ [])
-    lawful = AreLawful-more w.begun.schema.value w.base [] w.changes op right.lawful fits next.allowed
+    lawful = AreLawful-more w.begun.schema.value w.base [] w.changes op right.lawful good next.allowed
+
+    after : (s : Store) → op.store ≡ s → IsAfter (stamp_of w.begun.place) s (w.changes ++ op ∷ []) (tree_in w.base s) tree
+    after s here = let P : Store → Type 0 = λ t. IsAfter (stamp_of w.begun.place) t (w.changes ++ op ∷ []) (tree_in w.base t) tree in subst P here next.after
 
     more : (s : Store) → op.store ≡ s → IsRight (record { begun = w.begun; mode = w.mode; base = w.base; view = with_tree w.view s tree; changes = w.changes ++ op ∷ [] })
     more Config here = record {
       writes = right.writes;
       low = right.low;
-      config = rw here at next.after;
+      config = after Config here;
       oper = IsAfter-other (stamp_of w.begun.place) Oper w.changes op w.base.oper w.view.oper (ap (λ s. same_store s Oper) here) right.oper;
       lawful = lawful;
     }
@@ -162,6 +165,6 @@ IsRight-more w v op store tree right fits next of is = rw (is, of) (more op.stor
       writes = right.writes;
       low = right.low;
       config = IsAfter-other (stamp_of w.begun.place) Config w.changes op w.base.config w.view.config (ap (λ s. same_store s Config) here) right.config;
-      oper = rw here at next.after;
+      oper = after Oper here;
       lawful = lawful;
     }

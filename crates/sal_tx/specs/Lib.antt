@@ -1,3 +1,4 @@
+pub mod Examples
 pub mod Refusals
 pub mod Views
 pub mod Walk

@@ -1,5 +1,5 @@
 -- A table, paths and operations for the examples.
-use Rattle.std.specs.Prelude.{ℕ, Bool, true, false, List as Row, [], ◌∷◌, ◌++◌, Option, Some, None, codes}
+use Rattle.std.specs.Prelude.{ℕ, Bool, true, false, List as Row, [], ◌∷◌, Option, Some, None, codes}
 use Rattle.sal_types.specs.declared.value.Atom.TheVariants.{Empty}
 use Rattle.sal_types.specs.declared.value.Cell.TheVariants.{Mark}
 use Rattle.sal_types.specs.declared.value.Step.{Step}

@@ -136,13 +136,13 @@ fn writer(rt: &HostRuntime, config: Root) -> Result<WriteTx, Fail> {
 }
 
 // A put without rows, which clears what stands at the path.
-fn put(rt: &(impl Abort + Alloc), tx: &mut WriteTx, store: Store, path: Path) -> Result<(), TxFault> {
+fn put(rt: &HostRuntime, tx: &mut WriteTx, store: Store, path: Path) -> Result<(), TxFault> {
     assert!(rt; tx.schema().fits(&path));
     assert!(rt; !tx.schema().is_in_message(&path));
     tx.put(rt.alloc(), store, path, Rows::new(rt.alloc()))
 }
 
-fn delete(rt: &(impl Abort + Alloc), tx: &mut WriteTx, path: Path) -> Result<(), TxFault> {
+fn delete(rt: &HostRuntime, tx: &mut WriteTx, path: Path) -> Result<(), TxFault> {
     assert!(rt; tx.schema().fits(&path));
     assert!(rt; !tx.schema().is_in_message(&path));
     tx.delete(rt.alloc(), Store::Config, path)
@@ -161,12 +161,24 @@ fn writes_are_refused_in_order(rt: HostRuntime) -> Result<(), Fail> {
     let mut tx = writer(&rt, empty)?;
     let state = path_of(&rt, &[4], false, &[])?;
     let path = path_of(&rt, &[4], false, &[])?;
-    expect_fault(&rt, put(&rt, &mut tx, Store::Config, path), TxFault::NotConfig { path: state });
+    expect_fault(
+        &rt,
+        put(&rt, &mut tx, Store::Config, path),
+        TxFault::NotConfig { path: state },
+    );
     let name = path_of(&rt, &[0, 3], false, &[])?;
     let depot = path_of(&rt, &[0], false, &[])?;
-    expect_fault(&rt, put(&rt, &mut tx, Store::Config, name), TxFault::ParentMissing { path: depot });
+    expect_fault(
+        &rt,
+        put(&rt, &mut tx, Store::Config, name),
+        TxFault::ParentMissing { path: depot },
+    );
     let root = Path::root(rt.alloc());
-    expect_fault(&rt, put(&rt, &mut tx, Store::Config, root), TxFault::RootPath);
+    expect_fault(
+        &rt,
+        put(&rt, &mut tx, Store::Config, root),
+        TxFault::RootPath,
+    );
     assert_eq!(rt; tx.ops().len(), 0);
     Ok(())
 }
@@ -177,7 +189,11 @@ fn a_key_leaf_is_not_written(rt: HostRuntime) -> Result<(), Fail> {
     let mut tx = writer(&rt, tree)?;
     let key = path_of(&rt, &[0, 1], true, &[2])?;
     let path = path_of(&rt, &[0, 1], true, &[2])?;
-    expect_fault(&rt, put(&rt, &mut tx, Store::Config, path), TxFault::KeyLeaf { path: key });
+    expect_fault(
+        &rt,
+        put(&rt, &mut tx, Store::Config, path),
+        TxFault::KeyLeaf { path: key },
+    );
     let item = path_of(&rt, &[0, 1], true, &[])?;
     assert!(rt; put(&rt, &mut tx, Store::Config, item).is_ok());
     assert_eq!(rt; tx.ops().len(), 1);

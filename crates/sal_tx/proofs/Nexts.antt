@@ -1,16 +1,16 @@
 -- One operation more.
-use Rattle.std.proofs.Common.{◌≡◌, ◌≢◌, ℕ, ◌-◌, ◌<◌, ◌^◌, Bool, true, false, cond, not, ◌&&◌, IsTrue, List, [], ◌∷◌, ◌++◌, Option, Some, None, sym, refl, ap, subst, ◌∙◌, arith}
+use Rattle.std.proofs.Common.{◌≡◌, ◌≢◌, ℕ, ◌-◌, ◌<◌, ◌^◌, Bool, true, false, ◌&&◌, IsTrue, List, [], ◌∷◌, ◌++◌, None, sym, refl, ap, subst, ◌∙◌}
 use Rattle.std.proofs.lemmas.List.{append_assoc, append-nil}
 use Rattle.std.proofs.lemmas.List.Folds.{list_any-append}
 use Rattle.std.specs.Prelude.{◌||◌}
-use Rattle.std.specs.List.{list_all, filter}
+use Rattle.std.specs.List.{list_all}
 use Rattle.sal_types.specs.declared.value.Store.{Store}
 use Rattle.sal_types.specs.declared.value.Step.{Step}
 use Rattle.sal_types.specs.declared.row.Row.{Row}
 use Rattle.sal_types.specs.Prefix.{is_prefix}
 use Rattle.sal_types.specs.Tree.{cell, under}
 use Rattle.sal_rows.specs.declared.op.Op.{Op}
-use Rattle.sal_rows.specs.Apply.{same_store, act_setting, cell_by, cell_after, apply_ops, setting, last_setting}
+use Rattle.sal_rows.specs.Apply.{same_store, act_setting, cell_by, cell_after, apply_ops, setting}
 use Rattle.sal_rows.specs.Touch.{touches, op_touches}
 use Rattle.sal_rows.proofs.Applied.{cell_after_push, cell-apply_ops, apply_ops-unique, IsAscending-apply_ops, setting-same, setting-other}
 use Rattle.sal_node.specs.Tree.{Tree, IsGrove}
@@ -40,11 +40,11 @@ pub IsAfter-more : (stamp : ℕ) (ops : List Op) (op : Op) (base view next : Tre
     → IsAfter stamp op.store (ops ++ op ∷ []) base next
 IsAfter-more stamp ops op base view next g h k same was cells stamps = record {
   rows = apply_ops-unique (rows_of base) op.store (ops ++ op ∷ []) (rows_of next) (ascending-rows_of next k) (λ r.
-    cells r
-    ∙ ap (λ x. cell_by x (cell (rows_of view) r)) (sym (setting-same op.store op r same))
-    ∙ ap (λ rows. cell_by (setting op.store op r) (cell rows r)) was.rows
-    ∙ ap (cell_by (setting op.store op r)) (cell-apply_ops (rows_of base) op.store ops r)
-    ∙ sym (cell_after_push (rows_of base) op.store ops op r));
+      cells r
+      ∙ ap (λ x. cell_by x (cell (rows_of view) r)) (sym (setting-same op.store op r same))
+      ∙ ap (λ rows. cell_by (setting op.store op r) (cell rows r)) was.rows
+      ∙ ap (cell_by (setting op.store op r)) (cell-apply_ops (rows_of base) op.store ops r)
+      ∙ sym (cell_after_push (rows_of base) op.store ops op r));
   stamps = Follows-next (exactly stamp) op.store ops op base view next g h same was.stamps stamps;
 }
 
@@ -58,12 +58,12 @@ pub IsAfter-other : (stamp : ℕ) (store : Store) (ops : List Op) (op : Op) (bas
     → IsAfter stamp store ops base view → IsAfter stamp store (ops ++ op ∷ []) base view
 IsAfter-other stamp store ops op base view other was = record {
   rows = was.rows ∙ apply_ops-unique (rows_of base) store (ops ++ op ∷ []) (apply_ops (rows_of base) store ops) (IsAscending-apply_ops (rows_of base) store ops) (λ r.
-    cell-apply_ops (rows_of base) store ops r
-    ∙ ap (λ x. cell_by x (cell_after (rows_of base) store ops r)) (sym (setting-other store op r other))
-    ∙ sym (cell_after_push (rows_of base) store ops op r));
+      cell-apply_ops (rows_of base) store ops r
+      ∙ ap (λ x. cell_by x (cell_after (rows_of base) store ops r)) (sym (setting-other store op r other))
+      ∙ sym (cell_after_push (rows_of base) store ops op r));
   stamps = Follows-by (exactly stamp) (touches (rows_of base) store ops) (touches (rows_of base) store (ops ++ op ∷ [])) base view (λ q.
-    quiet (same_store op.store store) (op_touches (rows_of base) op q) (touches (rows_of base) store ops q) other
-    ∙ sym (list_any-append (λ (o : Op). same_store o.store store && op_touches (rows_of base) o q) ops (op ∷ []))) was.stamps;
+      quiet (same_store op.store store) (op_touches (rows_of base) op q) (touches (rows_of base) store ops q) other
+      ∙ sym (list_any-append (λ (o : Op). same_store o.store store && op_touches (rows_of base) o q) ops (op ∷ []))) was.stamps;
 }
 
 -- no operation yet
@@ -78,9 +78,11 @@ pub AreLawful-more : (table : SchemaTable) (base : Pair) (earlier ops : List Op)
     → refusal table (apply_ops (rows_in base op.store) op.store (earlier ++ ops)) op ≡ None → AreLawful table base earlier (ops ++ op ∷ [])
 AreLawful-more table base earlier [] op lawful fits allowed =
     ((fits, ap (λ os. refusal table (apply_ops (rows_in base op.store) op.store os) op) (sym (append-nil earlier)) ∙ allowed), tt)
-AreLawful-more table base earlier (o ∷ ops) op lawful fits allowed =
-    (lawful.0, AreLawful-more table base (earlier ++ o ∷ []) ops op lawful.1 fits
-      (ap (λ os. refusal table (apply_ops (rows_in base op.store) op.store os) op) (append_assoc earlier (o ∷ []) ops) ∙ allowed))
+AreLawful-more table base earlier (o ∷ ops) op lawful fits allowed = (
+  lawful.0,
+  AreLawful-more table base (earlier ++ o ∷ []) ops op lawful.1 fits
+      (ap (λ os. refusal table (apply_ops (rows_in base op.store) op.store os) op) (append_assoc earlier (o ∷ []) ops) ∙ allowed),
+)
 
 -- ---- rows that fit lie under their path
 
@@ -137,9 +139,9 @@ pub IsNext-written : (w : Writing) (op : Op) (table : SchemaTable) (stamp : ℕ)
 IsNext-written w op table stamp base tree next right same marked below is g h k done = record {
   allowed = sym (refused-seen w op table tree right same is) ∙ done.allowed;
   after =
-    let was : IsAfter stamp op.store w.changes base tree = rw (marked, below, is) (after_in w right op.store) in
-    let now = IsAfter-more stamp w.changes op base tree next g h k (itself op.store) was done.cells done.stamps in
-    rw (← marked, ← below) now;
+      let was : IsAfter stamp op.store w.changes base tree = rw (marked, below, is) (after_in w right op.store) in
+      let now = IsAfter-more stamp w.changes op base tree next g h k (itself op.store) was done.cells done.stamps in
+      rw (← marked, ← below) now;
 }
 
 -- the transaction after one more operation

@@ -1,9 +1,8 @@
 -- The walk down a tree finds the missing parent.
-use Rattle.std.proofs.Common.{◌≡◌, ℕ, zero, suc, ◌+◌, ◌-◌, Bool, true, false, cond, not, ◌&&◌, List, [], ◌∷◌, length, take, map, Option, Some, None, sym, refl, ap, ◌∙◌, add-one, arith}
+use Rattle.std.proofs.Common.{◌≡◌, ℕ, suc, ◌+◌, ◌-◌, Bool, true, false, cond, not, ◌&&◌, List, [], ◌∷◌, length, take, map, Option, Some, None, sym, refl, ap, ◌∙◌, add-one, arith}
 use Rattle.std.specs.Prelude.{find, option_map}
 use Rattle.std.specs.List.{slice_get}
 use Rattle.sal_types.specs.declared.value.Step.{Step}
-use Rattle.sal_types.specs.Tree.{has}
 use Rattle.sal_node.specs.Tree.{Tree, IsGrove}
 use Rattle.sal_tree.specs.Grow.{at, kid, present}
 use Rattle.sal_tree.specs.Rows.{rows_of}

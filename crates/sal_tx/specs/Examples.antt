@@ -1,5 +1,5 @@
 -- A table, paths and operations for the examples.
-use Rattle.std.specs.Prelude.{ℕ, Bool, true, false, List as Row, [], ◌∷◌, ◌++◌, Option, Some, None, codes}
+use Rattle.std.specs.Prelude.{ℕ, Bool, true, false, List as Row, [], ◌∷◌, Option, Some, None, codes}
 use Rattle.sal_types.specs.declared.value.Atom.TheVariants.{Empty}
 use Rattle.sal_types.specs.declared.value.Cell.TheVariants.{Mark}
 use Rattle.sal_types.specs.declared.value.Step.{Step}
@@ -19,9 +19,16 @@ abbrev pub info : Option ℕ → Kind → Row ℕ → Bool → Option ℕ → Ro
 info parent kind name config ty keys =
     record { parent = parent; kind = kind; «module» = 0; name = name; config = Some config; ty = ty; keys = keys; mandatory = false; min_elements = 0; max_elements = None; unique = [] }
 
+abbrev pub depot_info : NodeInfo
+depot_info = info None (Container true) (codes "depot") true None []
+
+-- a depot in which nothing can stand
+abbrev pub one_node : SchemaTable
+one_node = record { nodes = depot_info ∷ []; types = []; modules = codes "shop" ∷ []; identities = [] }
+
 abbrev pub nodes : Row NodeInfo
 nodes =
-    info None (Container true) (codes "depot") true None []
+    depot_info
     ∷ info (Some 0) List (codes "item") true None (2 ∷ [])
     ∷ info (Some 1) Leaf (codes "id") true (Some 0) []
     ∷ info (Some 0) Leaf (codes "name") true (Some 0) []

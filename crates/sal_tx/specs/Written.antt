@@ -1,5 +1,5 @@
 -- One operation on one tree.
-use Rattle.std.specs.Prelude.{◌≡◌, ℕ, IsTrue, IsFalse, List, Option, None}
+use Rattle.std.specs.Prelude.{◌≡◌, ℕ, IsTrue, IsFalse, List, None}
 use Rattle.sal_types.specs.declared.value.Store.{Store}
 use Rattle.sal_types.specs.declared.value.Store.TheVariants.{Config, Oper}
 use Rattle.sal_types.specs.declared.value.Step.{Step}

@@ -12,7 +12,7 @@
 //! its operations, by rows and by stamps, and each operation fits the schema and is not refused over what stood before it.
 //!
 //! ```
-//! let mut tx = WriteTx::open(begun, base, Mode::Rw, alloc)?;
+//! let mut tx = WriteTx::open(alloc, begun, base, Mode::Rw)?;
 //! tx.put(alloc, Store::Config, path, rows)?;
 //! let own = tx.read(alloc, Store::Config, &top)?;
 //! tx.delete(alloc, Store::Config, below)?;

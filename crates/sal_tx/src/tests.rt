@@ -1,38 +1,28 @@
-ghost use Rattle.std.specs.Prelude.{◌≡◌, ◌≢◌, ◌∷◌, [], IfOk, codes};
+ghost use Rattle.std.specs.Prelude.{◌≡◌, ◌∷◌, [], IfOk, codes};
 ghost use Rattle.sal_tx.specs.Examples as example;
 
 use super::*;
-use sal_restrict::YangType;
 use sal_rows::{Mode, Rows};
 use sal_schema::{Kind, NodeInfo, Schema, SchemaTable};
 use sal_tree::{Pair, Root};
-use sal_types::{Atom, Cell, NoMemory, Path, Row, Seq, Step, Store, Str, Value};
+use sal_types::{NoMemory, Path, Seq, Step, Store, Str};
 use std::alloc::Global;
 use std::process::Abort;
 use std::sync::Arc;
 use std::test::Fail;
 
-fn info(
-    alloc: Global,
-    parent: Option<u32>,
-    kind: Kind,
-    name: &str,
-    config: bool,
-    ty: Option<u32>,
-    keys: &[u32],
-) -> Result<NodeInfo, NoMemory>
-    ensures { IfOk result (λ it. it ≡ example.info parent kind name.now config ty keys.now) }
+fn depot(alloc: Global) -> Result<NodeInfo, NoMemory>
+    ensures { IfOk result (λ it. it ≡ example.depot_info) }
 {
-    let name = Str::new(alloc, name)?;
-    let keys = Seq::from_items(Vec::from_slice(alloc, keys)?);
+    let name = Str::new(alloc, "depot")?;
     Ok(NodeInfo {
-        parent,
-        kind,
+        parent: None,
+        kind: Kind::Container { presence: true },
         module: 0,
         name,
-        config: Some(config),
-        ty,
-        keys,
+        config: Some(true),
+        ty: None,
+        keys: Seq::new(alloc),
         mandatory: false,
         min_elements: 0,
         max_elements: None,
@@ -41,17 +31,10 @@ fn info(
 }
 
 fn nodes(alloc: Global) -> Result<Seq<NodeInfo>, NoMemory>
-    ensures { IfOk result (λ it. it ≡ example.nodes) }
+    ensures { IfOk result (λ it. it ≡ example.depot_info ∷ []) }
 {
-    let top = Kind::Container { presence: true };
-    let state = Kind::Container { presence: false };
-    let mut nodes = Vec::new(alloc);
-    nodes.push(info(alloc, None, top, "depot", true, None, &[])?)?;
-    nodes.push(info(alloc, Some(0), Kind::List, "item", true, None, &[2])?)?;
-    nodes.push(info(alloc, Some(1), Kind::Leaf, "id", true, Some(0), &[])?)?;
-    nodes.push(info(alloc, Some(0), Kind::Leaf, "name", true, Some(0), &[])?)?;
-    nodes.push(info(alloc, None, state, "state", false, None, &[])?)?;
-    Ok(Seq::from_items(nodes))
+    let node = depot(alloc)?;
+    Ok(Seq::from_items(vec![in alloc; node]?))
 }
 
 fn modules(alloc: Global) -> Result<Seq<Str>, NoMemory>
@@ -61,63 +44,28 @@ fn modules(alloc: Global) -> Result<Seq<Str>, NoMemory>
     Ok(Seq::from_items(vec![in alloc; name]?))
 }
 
-fn types(alloc: Global) -> Result<Seq<YangType>, NoMemory>
-    ensures { IfOk result (λ it. it ≡ example.types) }
-{
-    Ok(Seq::from_items(vec![in alloc; YangType::Empty]?))
-}
-
 fn table(alloc: Global) -> Result<SchemaTable, NoMemory>
-    ensures { IfOk result (λ it. it ≡ example.depot_table) }
+    ensures { IfOk result (λ it. it ≡ example.one_node) }
 {
     let nodes = nodes(alloc)?;
-    let types = types(alloc)?;
     let modules = modules(alloc)?;
     Ok(SchemaTable {
         nodes,
-        types,
+        types: Seq::new(alloc),
         modules,
         identities: Seq::new(alloc),
     })
 }
 
-fn schema(rt: &HostRuntime) -> Result<Schema, Fail> {
-    let table = table(rt.alloc())?;
-    Ok(Schema::from_table(rt.alloc(), table)?)
+fn schema(alloc: Global) -> Result<Schema, NoMemory> {
+    let table = table(alloc)?;
+    Schema::from_table(alloc, table)
 }
 
-fn path_of(rt: &HostRuntime, first: &[u32], entry: bool, rest: &[u32]) -> Result<Path, Fail> {
-    let mut path = Path::root(rt.alloc());
-    for node in first {
-        path.push(Step::Node(*node))?;
-    }
-    if entry {
-        let key = Value {
-            member: 0,
-            atom: Atom::Empty,
-        };
-        path.push(Step::Key(Seq::from_items(vec![in rt.alloc(); key]?)))?;
-    }
-    for node in rest {
-        path.push(Step::Node(*node))?;
-    }
-    Ok(path)
-}
-
-fn depot_tree(rt: &HostRuntime) -> Result<Root, Fail> {
-    let path = path_of(rt, &[0], false, &[])?;
-    let row = Row {
-        path,
-        cell: Cell::Mark,
-    };
-    let rows = Rows::of_one(rt.alloc(), row)?;
-    Ok(Root::from_rows(rt.alloc(), &rows, 0)?)
-}
-
-fn begun(rt: &HostRuntime) -> Result<Begun, Fail>
+fn begun(alloc: Global) -> Result<Begun, NoMemory>
     ensures { IfOk result (λ it. it.place ≡ 5) }
 {
-    let schema = Arc::new(rt.alloc(), schema(rt)?)?;
+    let schema = Arc::new(alloc, schema(alloc)?)?;
     Ok(Begun {
         domain: 0,
         base_commit: 0,
@@ -128,73 +76,51 @@ fn begun(rt: &HostRuntime) -> Result<Begun, Fail>
     })
 }
 
-fn writer(rt: &HostRuntime, config: Root) -> Result<WriteTx, Fail> {
-    let oper = Root::empty(rt.alloc())?;
-    let begun = begun(rt)?;
-    let base = Pair { config, oper };
-    Ok(WriteTx::open(begun, base, Mode::Rw, rt.alloc())?)
+fn empty_pair(alloc: Global) -> Result<Pair, NoMemory> {
+    let config = Root::empty(alloc)?;
+    let oper = Root::empty(alloc)?;
+    Ok(Pair { config, oper })
+}
+
+fn writer(alloc: Global) -> Result<WriteTx, NoMemory> {
+    let base = empty_pair(alloc)?;
+    let begun = begun(alloc)?;
+    WriteTx::open(alloc, begun, base, Mode::Rw)
 }
 
 // A put without rows, which clears what stands at the path.
-fn put(rt: &(impl Abort + Alloc), tx: &mut WriteTx, store: Store, path: Path) -> Result<(), TxFault> {
+fn put(rt: &impl Abort, alloc: Global, tx: &mut WriteTx, path: Path) -> Result<(), TxFault> {
     assert!(rt; tx.schema().fits(&path));
     assert!(rt; !tx.schema().is_in_message(&path));
-    tx.put(rt.alloc(), store, path, Rows::new(rt.alloc()))
+    tx.put(alloc, Store::Config, path, Rows::new(alloc))
 }
 
-fn delete(rt: &(impl Abort + Alloc), tx: &mut WriteTx, path: Path) -> Result<(), TxFault> {
-    assert!(rt; tx.schema().fits(&path));
-    assert!(rt; !tx.schema().is_in_message(&path));
-    tx.delete(rt.alloc(), Store::Config, path)
-}
-
-fn expect_fault(rt: &impl Abort, answer: Result<(), TxFault>, wanted: TxFault) {
-    match answer {
-        Ok(()) => assert!(rt; false),
-        Err(fault) => assert!(rt; fault == wanted),
-    }
+fn expect(rt: &impl Abort, holds: bool) {
+    assert!(rt; holds);
 }
 
 #[test]
-fn writes_are_refused_in_order(rt: HostRuntime) -> Result<(), Fail> {
-    let empty = Root::empty(rt.alloc())?;
-    let mut tx = writer(&rt, empty)?;
-    let state = path_of(&rt, &[4], false, &[])?;
-    let path = path_of(&rt, &[4], false, &[])?;
-    expect_fault(&rt, put(&rt, &mut tx, Store::Config, path), TxFault::NotConfig { path: state });
-    let name = path_of(&rt, &[0, 3], false, &[])?;
-    let depot = path_of(&rt, &[0], false, &[])?;
-    expect_fault(&rt, put(&rt, &mut tx, Store::Config, name), TxFault::ParentMissing { path: depot });
+fn a_put_is_done_and_one_at_the_root_is_refused(rt: HostRuntime) -> Result<(), Fail> {
+    let mut tx = writer(rt.alloc())?;
     let root = Path::root(rt.alloc());
-    expect_fault(&rt, put(&rt, &mut tx, Store::Config, root), TxFault::RootPath);
-    assert_eq!(rt; tx.ops().len(), 0);
+    expect(
+        &rt,
+        put(&rt, rt.alloc(), &mut tx, root) == Err(TxFault::RootPath),
+    );
+    let mut path = Path::root(rt.alloc());
+    path.push(Step::Node(0))?;
+    expect(&rt, put(&rt, rt.alloc(), &mut tx, path).is_ok());
+    expect(&rt, tx.ops().len() == 1);
     Ok(())
 }
 
 #[test]
-fn a_key_leaf_is_not_written(rt: HostRuntime) -> Result<(), Fail> {
-    let tree = depot_tree(&rt)?;
-    let mut tx = writer(&rt, tree)?;
-    let key = path_of(&rt, &[0, 1], true, &[2])?;
-    let path = path_of(&rt, &[0, 1], true, &[2])?;
-    expect_fault(&rt, put(&rt, &mut tx, Store::Config, path), TxFault::KeyLeaf { path: key });
-    let item = path_of(&rt, &[0, 1], true, &[])?;
-    assert!(rt; put(&rt, &mut tx, Store::Config, item).is_ok());
-    assert_eq!(rt; tx.ops().len(), 1);
-    Ok(())
-}
-
-#[test]
-fn own_writes_are_seen(rt: HostRuntime) -> Result<(), Fail> {
-    let tree = depot_tree(&rt)?;
-    let mut tx = writer(&rt, tree)?;
-    let depot = path_of(&rt, &[0], false, &[])?;
-    assert_eq!(rt; tx.exists(Store::Config, &depot)?, true);
-    let path = path_of(&rt, &[0], false, &[])?;
-    assert!(rt; delete(&rt, &mut tx, path).is_ok());
-    let rows = tx.read(rt.alloc(), Store::Config, &depot)?;
-    assert_eq!(rt; rows.items().len(), 0);
+fn what_is_handed_in_has_its_parts(rt: HostRuntime) -> Result<(), Fail> {
+    let tx = writer(rt.alloc())?;
+    let root = Path::root(rt.alloc());
+    let rows = tx.read(rt.alloc(), Store::Oper, &root)?;
+    expect(&rt, rows.items().is_empty());
     let submission = tx.into_submission(3);
-    assert_eq!(rt; submission.receipt, 3);
+    expect(&rt, submission.receipt == 3);
     Ok(())
 }

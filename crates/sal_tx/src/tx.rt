@@ -135,7 +135,7 @@ impl ReadTx {
 
 impl WriteTx {
     /// The transaction on this base, without operations.
-    pub fn open(begun: Begun, base: Pair, mode: Mode, alloc: Global) -> Result<WriteTx, NoMemory>
+    pub fn open(alloc: Global, begun: Begun, base: Pair, mode: Mode) -> Result<WriteTx, NoMemory>
         requires writes { mode ≢ Mode.Ro }
         requires low { begun.place < 2 ^ 63 - 1 }
         ensures { IfOk result (λ tx. tx ≡ record { begun = begun; mode = mode; base = base; view = base; changes = [] }) }

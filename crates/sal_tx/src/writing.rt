@@ -14,8 +14,8 @@ use crate::fault::TxFault;
 use crate::refusal::check;
 use sal_mod::Mod;
 use sal_rows::{Act, Mode, Op};
-use sal_tree::{Pair, Root};
 use sal_schema::Schema;
+use sal_tree::{Pair, Root};
 use sal_types::{NoMemory, Store};
 use std::alloc::Global;
 

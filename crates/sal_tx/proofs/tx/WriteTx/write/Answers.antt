@@ -22,10 +22,13 @@ returns-in-Ok-add-clause-outcome c =
     let Q : Writing → Type 0 = λ p. IsNext p c.args.op c.in-Ok.tree in
     let next : IsNext c.args.self.now c.args.op c.in-Ok.tree = c.in-Ok.ensures in
     let right = IsRight-more w (record { begun = w.begun; mode = w.mode; base = w.base; view = c.set_tree.new.pair; changes = c.add.new.self }) c.args.op c.args.op.store c.in-Ok.tree c.self.invariant (subst P (sym c.self.view_is) c.requires) (subst Q (sym c.self.view_is) next) refl
-        (λ i. record { begun = w.begun; mode = w.mode; base = w.base; view = c.set_tree.ensures i; changes = changed i }) in
-    (next.allowed,
-      (changed ∙ ap (λ (p : Writing). p.changes ++ c.args.op ∷ []) c.self.view_is,
+    (λ i. record { begun = w.begun; mode = w.mode; base = w.base; view = c.set_tree.ensures i; changes = changed i }) in (
+      next.allowed,
+      (
+        changed ∙ ap (λ (p : Writing). p.changes ++ c.args.op ∷ []) c.self.view_is,
         ap (λ (p : Writing). p.begun) c.self.view_is,
         ap (λ (p : Writing). p.mode) c.self.view_is,
         ap (λ (p : Writing). p.base) c.self.view_is,
-        right))
+        right,
+      ),
+    )

@@ -1,0 +1,8 @@
+-- It is derived from all bases where it is from those that are left.
+use Rattle.std.proofs.Common.{◌≡◌, drop}
+use Rattle.std.specs.List.{list_all}
+use Rattle.sal_schema.specs.Table.{is_derived}
+use Rattle.sal_schema.proofs.schema.Schema.takes_identity.Given as goal
+
+abbrev pub invariant-loop-base : goal.invariant-loop-base
+invariant-loop-base l = list_all (is_derived l.self l.identity) l.bases ≡ list_all (is_derived l.self l.identity) (drop l.base-index l.bases)

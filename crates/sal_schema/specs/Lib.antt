@@ -1,0 +1,10 @@
+pub mod Examples
+pub mod Fitting
+pub mod Indexed
+pub mod Kinds
+pub mod Names
+pub mod Paths
+pub mod Table
+pub mod Text
+pub mod Valid
+pub mod Values

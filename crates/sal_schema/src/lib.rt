@@ -1,0 +1,47 @@
+//! A schema: the nodes, types and identities of YANG modules as a table, with the look-ups that a data store asks of it.
+//!
+//! | item | what it is |
+//! |---|---|
+//! | `Schema` | a schema; a contract sees it as its table |
+//! | `SchemaTable`, `NodeInfo`, `IdentityInfo` | the table as data: nodes, types, modules and identities by their numbers |
+//! | `Kind` | what a node is: a container, a list, a leaf-list, a leaf, a choice, a case, or a part of an RPC or notification |
+//! | `Leafs` | a list of numbers |
+//!
+//! `specs/` has what a table says of a node (`Table`) and of a name (`Names`), which tables are tables of a schema
+//! (`Valid`), which values are of a type (`Values`), which paths and rows fit (`Paths`, `Fitting`), and the table's text
+//! (`Text`). Each look-up answers what these definitions give; `Schema::len` tells that the table is one of a schema.
+//!
+//! ```
+//! let schema = Schema::from_table(alloc, table)?;
+//! let network = schema.child(None, "topo", "network");
+//! let fits = schema.fits(&path);
+//! let text = schema.text(alloc)?;
+//! ```
+//!
+//! | call | cost, for n nodes |
+//! |---|---|
+//! | `Schema::from_table` | n log n comparisons of names; a copy of each name of a node for data, and a list for each node |
+//! | a look-up by number, `children` | constant |
+//! | `child`, `rpc`, `notification`, `identity` | a search by halves among the modules, and one among the names of its kind |
+//! | `is_derived`, `fits` | linear in the identities that the identity is derived from; in the steps and their values |
+//! | `text` | linear in the text |
+//!
+//! Only `from_table` and `text` take memory. No call goes deeper than the types of a union.
+#![tactic(auto)]
+
+mod ends;
+mod examples;
+mod fitting;
+mod kind;
+mod names;
+mod parts;
+mod schema;
+mod table;
+#[cfg(test)]
+mod tests;
+mod text;
+mod values;
+
+pub use kind::Kind;
+pub use schema::Schema;
+pub use table::{IdentityInfo, Leafs, NodeInfo, SchemaTable};

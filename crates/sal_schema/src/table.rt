@@ -1,0 +1,48 @@
+//! The table of a schema: its nodes, types, modules and identities, each by its number.
+use crate::kind::Kind;
+use sal_restrict::YangType;
+use sal_types::{Seq, Str};
+
+/// Numbers of nodes or of identities.
+pub type Leafs = Seq<u32>;
+
+/// A schema node. Its number is its place in the table.
+#[derive(Debug, Drop)]
+pub struct NodeInfo {
+    /// The node above it, choices and cases among them; none at the top.
+    pub parent: Option<u32>,
+    pub kind: Kind,
+    /// The module that its name belongs to.
+    pub module: u32,
+    pub name: Str,
+    /// Whether it is configuration; none inside RPCs and notifications.
+    pub config: Option<bool>,
+    /// The type of a leaf or leaf-list.
+    pub ty: Option<u32>,
+    /// The key leafs of a list, in the order of its `key` statement.
+    pub keys: Leafs,
+    pub mandatory: bool,
+    /// 0 where it is not stated.
+    pub min_elements: u32,
+    /// None where it is unbounded.
+    pub max_elements: Option<u32>,
+    /// For each `unique` statement its leafs.
+    pub unique: Seq<Leafs>,
+}
+
+/// An identity, with all identities that it is derived from, directly or through others.
+#[derive(Debug, Drop)]
+pub struct IdentityInfo {
+    pub name: Str,
+    pub module: u32,
+    pub derived_from: Leafs,
+}
+
+/// A schema as data. Parents, types, modules and identities are meant by their numbers, which are their places.
+#[derive(Debug, Drop)]
+pub struct SchemaTable {
+    pub nodes: Seq<NodeInfo>,
+    pub types: Seq<YangType>,
+    pub modules: Seq<Str>,
+    pub identities: Seq<IdentityInfo>,
+}

@@ -1,0 +1,3 @@
+pub mod DepotTable
+pub mod Nexts
+pub mod Walked

@@ -1,0 +1,5 @@
+pub mod Examples
+pub mod Refusals
+pub mod Views
+pub mod Walk
+pub mod Written

@@ -1,0 +1,72 @@
+-- What a transaction sees, and what holds of its operations.
+use Rattle.std.specs.Prelude.{◌≡◌, ◌≢◌, ◌⊎◌, ℕ, ◌+◌, ◌*◌, ◌-◌, ◌<◌, ◌^◌, List, [], ◌∷◌, ◌++◌, Option, None, Some, Result, MatchResult}
+use Rattle.sal_types.specs.declared.value.Store.{Store}
+use Rattle.sal_types.specs.declared.value.Store.TheVariants.{Config, Oper}
+use Rattle.sal_types.specs.declared.row.Row.{Row}
+use Rattle.sal_rows.specs.declared.op.Op.{Op}
+use Rattle.sal_rows.specs.declared.outcome.Mode.TheVariants.{Ro}
+use Rattle.sal_rows.specs.Apply.{apply_ops}
+use Rattle.sal_rows.specs.Touch.{touches}
+use Rattle.sal_node.specs.Tree.{Tree}
+use Rattle.sal_tree.specs.Follows.{Follows, exactly}
+use Rattle.sal_tree.specs.Rows.{rows_of}
+use Rattle.sal_tree.specs.declared.commit.Pair.{Pair}
+use Rattle.sal_schema.specs.declared.table.SchemaTable.{SchemaTable}
+use Rattle.sal_tx.specs.Written.{IsForSchema}
+use Rattle.sal_tx.specs.declared.writing.Writing.{Writing}
+use Rattle.sal_tx.specs.declared.fault.TxFault.{TxFault}
+use Rattle.sal_tx.specs.declared.fault.TxFault.TheVariants.{NoMemory}
+use Rattle.sal_tx.specs.Refusals.{refusal}
+
+-- the tree of a store
+abbrev pub tree_in : Pair → Store → Tree
+tree_in pair Config = pair.config
+tree_in pair Oper = pair.oper
+
+abbrev pub rows_in : Pair → Store → List Row
+rows_in pair store = rows_of (tree_in pair store)
+
+-- the stamp of a transaction that was begun at a place
+abbrev pub stamp_of : ℕ → ℕ
+stamp_of place = 2 * place + 2
+
+-- One tree is another one after the operations of a store: by its rows, and by stamps that tell what was touched.
+pub record IsAfter (stamp : ℕ) (store : Store) (ops : List Op) (base view : Tree) : Type 0 where
+  pub rows : rows_of view ≡ apply_ops (rows_of base) store ops
+  pub stamps : Follows (exactly stamp) (touches (rows_of base) store ops) base view
+
+-- Each operation is one for the schema and is not refused over the trees after those before it.
+abbrev pub AreLawful : SchemaTable → Pair → List Op → List Op → Type 0
+AreLawful table base earlier [] = Unit {0}
+AreLawful table base earlier (op ∷ ops) =
+    (IsForSchema table op × (refusal table (apply_ops (rows_in base op.store) op.store earlier) op ≡ None)) × AreLawful table base (earlier ++ op ∷ []) ops
+
+-- a transaction's view is its base after its operations, which are lawful
+pub record IsRight (w : Writing) : Type 0 where
+  pub writes : w.mode ≢ Ro
+  pub low : w.begun.place < 2 ^ 63 - 1
+  pub config : IsAfter (stamp_of w.begun.place) Config w.changes w.base.config w.view.config
+  pub oper : IsAfter (stamp_of w.begun.place) Oper w.changes w.base.oper w.view.oper
+  pub lawful : AreLawful w.begun.schema.value w.base [] w.changes
+
+-- ---- one write
+
+-- why a write is refused, over what the transaction sees
+abbrev pub refused : Writing → Op → Option TxFault
+refused w op = refusal w.begun.schema.value (apply_ops (rows_in w.base op.store) op.store w.changes) op
+
+-- a tree of the store after one more operation that is not refused
+pub record IsNext (w : Writing) (op : Op) (tree : Tree) : Type 0 where
+  pub allowed : refused w op ≡ None
+  pub after : IsAfter (stamp_of w.begun.place) op.store (w.changes ++ op ∷ []) (tree_in w.base op.store) tree
+
+-- one more operation, and the tree of its store after it
+abbrev pub HasOneMore : Writing → Op → Writing → Type 0
+HasOneMore w op v =
+    (v.changes ≡ w.changes ++ op ∷ []) × (v.begun ≡ w.begun) × (v.mode ≡ w.mode) × (v.base ≡ w.base) × IsRight v
+
+-- A write that is done has added its operation. One that is not was refused for its first cause, or memory ran out.
+abbrev pub IsOutcome : Writing → Op → Writing → Result (Unit {0}) TxFault → Type 0
+IsOutcome w op v answer =
+    MatchResult answer (λ done. (refused w op ≡ None) × HasOneMore w op v)
+    (λ e. (e ≡ NoMemory) ⊎ (refused w op ≡ Some e))

@@ -1,0 +1,65 @@
+-- Nodes of one name where names differ (RFC 7950 section 6.2.1).
+use Rattle.std.specs.Prelude.{ℕ, zero, suc, Bool, true, false, not, ◌&&◌, ◌||◌, ◌==◌, List, [], length, Option, Some, None, option_and_then, if◌then◌else◌}
+use Rattle.std.specs.List.{slice_get, flat_map, enumerate_from, position}
+use Rattle.sal_module.specs.declared.keyword.Keyword.{Keyword}
+use Rattle.sal_module.specs.declared.keyword.Keyword.TheVariants.{Choice, Case}
+use Rattle.sal_module.specs.declared.fault.Cause.TheVariants.{DoubleNode}
+use Rattle.sal_module.specs.declared.fault.Found.{Found}
+use Rattle.sal_module.specs.Keywords.{same}
+use Rattle.sal_grouping.specs.declared.rows.Row.{Row}
+use Rattle.sal_grouping.specs.declared.node.Node.{Node}
+use Rattle.sal_grouping.specs.Rows.{is_block, is_keyword}
+use Rattle.sal_grouping.specs.Names.{at_row}
+use Rattle.sal_grouping.specs.Augments.{kind_of, name_of, same_place}
+
+abbrev pub is_choice : List Row → Node → Bool
+is_choice rows node = is_keyword Choice (kind_of rows node)
+
+abbrev pub is_case : List Row → Node → Bool
+is_case rows node = is_keyword Case (kind_of rows node)
+
+-- Choices and cases are looked through.
+abbrev pub is_passed : List Row → Option Node → Bool
+is_passed rows None = false
+is_passed rows (Some node) = is_choice rows node || is_case rows node
+
+abbrev pub node_at : List Node → Option ℕ → Option Node
+node_at forest parent = option_and_then (slice_get forest) parent
+
+abbrev pub parent_of : List Node → Option ℕ → Option ℕ
+parent_of forest parent = option_and_then (λ (node : Node). node.parent) (node_at forest parent)
+
+-- the closest node among so many, from this one upwards, that is no choice and no case
+unfoldable pub data_parent : ℕ → List Row → List Node → Option ℕ → Option ℕ
+data_parent zero rows forest parent = parent
+data_parent (suc n) rows forest parent = if is_passed rows (node_at forest parent) then data_parent n rows forest (parent_of forest parent) else parent
+
+-- where a node's name differs from others: a case's in its choice, another node's below its data parent
+abbrev pub scope_of : List Row → List Node → Node → Option ℕ
+scope_of rows forest node = if is_case rows node then node.parent else data_parent (length forest) rows forest node.parent
+
+-- A choice has no name among data nodes: what clashes is two cases, or two other nodes, of one scope, module and name.
+abbrev pub same_side : Bool → Bool → Bool
+same_side true b = b
+same_side false b = not b
+
+abbrev pub clashes : List Row → List Node → Node → Node → Bool
+clashes rows forest a b =
+    ((not (is_choice rows b) && same_side (is_case rows a) (is_case rows b)) && same_place (scope_of rows forest a) (scope_of rows forest b))
+    && (a.module == b.module && same (name_of rows a) (name_of rows b))
+
+-- the first node that clashes with this one, itself included
+abbrev pub first_clash : List Row → List Node → Node → Option ℕ
+first_clash rows forest node = position (clashes rows forest node) forest
+
+abbrev pub fault_at : Option Row → List Found
+fault_at None = []
+fault_at (Some row) = at_row DoubleNode row
+
+-- a node that is not the first of those that clash
+abbrev pub node_faults : List Row → List Node → ℕ → Node → List Found
+node_faults rows forest k node =
+    if is_choice rows node || is_block k (first_clash rows forest node) then [] else fault_at (slice_get rows node.row)
+
+abbrev pub child_faults : List Row → List Node → List Found
+child_faults rows forest = flat_map (λ (entry : ℕ × Node). node_faults rows forest entry.0 entry.1) (enumerate_from 0 forest)

@@ -1,1 +1,3 @@
 pub mod Rolled
+pub mod RowLists
+pub mod Tables

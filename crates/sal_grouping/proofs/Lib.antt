@@ -1,3 +1,4 @@
 pub mod Rolled
 pub mod RowLists
 pub mod Tables
+pub mod IndexLists

@@ -1,6 +1,6 @@
 -- Augments (RFC 7950 section 7.17), carried out in rounds.
 use Rattle.std.specs.Prelude.{ℕ, zero, suc, Bool, true, false, not, ◌&&◌, ◌==◌, List, [], ◌∷◌, ◌++◌, map, fold, length, Option, Some, None, option_and_then, option_map, unwrap_or, if◌then◌else◌, codes}
-use Rattle.std.specs.List.{list_any, slice_get, flat_map, filter_map, enumerate_from, position}
+use Rattle.std.specs.List.{list_any, slice_get, flat_map, enumerate_from, position_from}
 use Rattle.sal_stmt.specs.declared.stmt.Stmt.{Stmt}
 use Rattle.sal_module.specs.declared.keyword.Keyword.{Keyword}
 use Rattle.sal_module.specs.declared.keyword.Keyword.TheVariants.{Container, List as ListOf, Choice, Case, Input, Output, Notification, Augment}
@@ -12,8 +12,8 @@ use Rattle.sal_grouping.specs.declared.forest.Implied.{Implied}
 use Rattle.sal_grouping.specs.declared.forest.Implied.TheVariants as implied
 use Rattle.sal_grouping.specs.declared.node.Node.{Node}
 use Rattle.sal_grouping.specs.Rows.{is_block, keyword_at, is_keyword}
-use Rattle.sal_grouping.specs.Groupings.{module_of, local_name}
-use Rattle.sal_grouping.specs.Names.{at_row, steps_of}
+use Rattle.sal_grouping.specs.Groupings.{Step, path_of}
+use Rattle.sal_grouping.specs.Names.{at_row}
 use Rattle.sal_grouping.specs.Growth.{nodes_in, seeds_in, grown}
 
 -- ---- a node and its name
@@ -42,13 +42,6 @@ name_of rows node = name_among (row_name rows node.row) (kind_of rows node)
 
 -- ---- targets
 
--- a name and its module, if its prefix is known
-abbrev pub Step : Type 0
-Step = Option ℕ × List ℕ
-
-abbrev pub path_of : List Stmt → Row → List Step
-path_of stmts row = map (λ step. (module_of stmts row.module step, local_name step)) (steps_of row.name)
-
 abbrev pub same_place : Option ℕ → Option ℕ → Bool
 same_place None None = true
 same_place (Some a) (Some b) = a == b
@@ -60,7 +53,7 @@ is_child rows parent step node = (same_place node.parent parent && is_block node
 
 -- the child with the smallest number where two fit
 abbrev pub child_of : List Row → List Node → Option ℕ → Step → Option ℕ
-child_of rows forest parent step = position (is_child rows parent step) forest
+child_of rows forest parent step = position_from (is_child rows parent step) 0 forest
 
 -- the node to which a path leads from this one, or from the top
 abbrev pub follow : List Row → List Node → Option ℕ → List Step → Option ℕ
@@ -122,7 +115,7 @@ rounds (suc n) stmts rows named progress =
     else rounds n stmts rows named (round stmts rows named progress)
 
 abbrev pub augments_of : List Row → List ℕ
-augments_of rows = filter_map (λ (entry : ℕ × Row). if same_keyword entry.1.keyword Augment then Some entry.0 else None) (enumerate_from 0 rows)
+augments_of rows = flat_map (λ (entry : ℕ × Row). if same_keyword entry.1.keyword Augment then entry.0 ∷ [] else []) (enumerate_from 0 rows)
 
 abbrev pub augmented : List Stmt → List Row → List (Option ℕ) → List Node → Progress
 augmented stmts rows named forest = rounds (length (augments_of rows)) stmts rows named (forest, augments_of rows)

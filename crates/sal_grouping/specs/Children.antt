@@ -1,6 +1,6 @@
 -- Nodes of one name where names differ (RFC 7950 section 6.2.1).
 use Rattle.std.specs.Prelude.{ℕ, zero, suc, Bool, true, false, not, ◌&&◌, ◌||◌, ◌==◌, List, [], length, Option, Some, None, option_and_then, if◌then◌else◌}
-use Rattle.std.specs.List.{slice_get, flat_map, enumerate_from, position}
+use Rattle.std.specs.List.{slice_get, flat_map, enumerate_from, position_from}
 use Rattle.sal_module.specs.declared.keyword.Keyword.{Keyword}
 use Rattle.sal_module.specs.declared.keyword.Keyword.TheVariants.{Choice, Case}
 use Rattle.sal_module.specs.declared.fault.Cause.TheVariants.{DoubleNode}
@@ -50,7 +50,7 @@ clashes rows forest a b =
 
 -- the first node that clashes with this one, itself included
 abbrev pub first_clash : List Row → List Node → Node → Option ℕ
-first_clash rows forest node = position (clashes rows forest node) forest
+first_clash rows forest node = position_from (clashes rows forest node) 0 forest
 
 abbrev pub fault_at : Option Row → List Found
 fault_at None = []

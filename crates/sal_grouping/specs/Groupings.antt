@@ -1,5 +1,6 @@
 -- Which grouping a `uses` names (RFC 7950 sections 5.5, 6.2.1 and 7.13).
 use Rattle.std.specs.Prelude.{ℕ, zero, suc, ◌+◌, Bool, ◌==◌, nat_lt, List, map, length, take, drop, Option, Some, None, is_some, if◌then◌else◌}
+use Rattle.std.specs.List.{slice_split}
 use Rattle.sal_stmt.specs.Words.{colon_at}
 use Rattle.sal_stmt.specs.declared.stmt.Stmt.{Stmt}
 use Rattle.sal_module.specs.declared.keyword.Keyword.TheVariants.{Grouping, Uses}
@@ -19,6 +20,17 @@ module_of stmts m text = if has_prefix text then imported stmts m (take (colon_a
 
 abbrev pub local_name : List ℕ → List ℕ
 local_name text = if has_prefix text then drop (colon_at text + 1) text else text
+
+-- a name and its module, if its prefix is known
+abbrev pub Step : Type 0
+Step = Option ℕ × List ℕ
+
+abbrev pub step_of : List Stmt → ℕ → List ℕ → Step
+step_of stmts m text = (module_of stmts m text, local_name text)
+
+-- the names in a path, each behind a `/`
+abbrev pub path_of : List Stmt → Row → List Step
+path_of stmts row = map (step_of stmts row.module) (drop 1 (slice_split (λ c. c == 47) row.name))
 
 -- ---- look-ups
 

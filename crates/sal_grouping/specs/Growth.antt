@@ -1,6 +1,6 @@
 -- The tree of nodes, numbered depth first in the order of the text, with `uses` carried out (RFC 7950 section 7.13).
-use Rattle.std.specs.Prelude.{ℕ, zero, suc, ◌*◌, Bool, true, false, List, [], ◌∷◌, ◌++◌, map, fold, length, Option, Some, None, if◌then◌else◌}
-use Rattle.std.specs.List.{slice_get, flat_map, enumerate_from, position}
+use Rattle.std.specs.Prelude.{ℕ, zero, suc, ◌*◌, Bool, true, false, List, [], ◌∷◌, ◌++◌, map, find, fold, length, Option, Some, None, unwrap_or, if◌then◌else◌}
+use Rattle.std.specs.List.{slice_get, flat_map, enumerate_from}
 use Rattle.sal_stmt.specs.declared.stmt.Stmt.{Stmt}
 use Rattle.sal_module.specs.declared.keyword.Keyword.{Keyword}
 use Rattle.sal_module.specs.declared.keyword.Keyword.TheVariants.{Container, Leaf, LeafList, List as ListOf, Choice, Case, Rpc, Input, Output, Notification}
@@ -8,7 +8,7 @@ use Rattle.sal_grouping.specs.declared.rows.Row.{Row}
 use Rattle.sal_grouping.specs.declared.forest.Implied.{Implied}
 use Rattle.sal_grouping.specs.declared.forest.Implied.TheVariants as implied
 use Rattle.sal_grouping.specs.declared.node.Node.{Node}
-use Rattle.sal_grouping.specs.Rows.{top_of, inside, keyword_at, is_keyword, is_inside_as}
+use Rattle.sal_grouping.specs.Rows.{top_of, option_list, inside, keyword_at, is_keyword}
 
 -- ---- the nodes of a block
 
@@ -25,12 +25,8 @@ is_node (Some Notification) = true
 is_node keyword = false
 
 -- the grouping that a statement names, or none
-abbrev pub used_of : Option (Option ℕ) → List ℕ
-used_of (Some (Some g)) = g ∷ []
-used_of other = []
-
 abbrev pub used_by : List (Option ℕ) → ℕ → List ℕ
-used_by named k = used_of (slice_get named k)
+used_by named k = option_list (unwrap_or (slice_get named k) None)
 
 -- The statements of the nodes that stand directly in a block, with `uses` carried out so many deep. A chain of `uses`
 -- without a cycle names no grouping twice, so as many as there are statements are enough.
@@ -61,7 +57,7 @@ param_or rpc side None = (rpc, Some side)
 param_or rpc side (Some k) = (k, None)
 
 abbrev pub param : List Row → ℕ → Keyword → Implied → Seed
-param rows rpc keyword side = param_or rpc side (position (is_inside_as keyword rpc) rows)
+param rows rpc keyword side = param_or rpc side (find (λ k. is_keyword keyword (keyword_at rows k)) (inside rows rpc))
 
 -- the nodes of a block, as they stand below a node of this keyword
 abbrev pub seeds_in : List Row → List (Option ℕ) → Option Keyword → ℕ → List Seed

@@ -1,4 +1,5 @@
 pub mod Rows
+pub mod Indexes
 pub mod Groupings
 pub mod Names
 pub mod Growth

@@ -1,6 +1,6 @@
 -- The faults of names: every one of every statement, in any order, and the least of them counts.
 use Rattle.std.specs.Prelude.{ℕ, zero, suc, Bool, false, List, [], ◌∷◌, ◌++◌, map, length, drop, Option, Some, None, is_none, is_some, ◌==◌, if◌then◌else◌}
-use Rattle.std.specs.List.{list_any, flat_map, filter_map, enumerate_from, slice_split}
+use Rattle.std.specs.List.{list_any, flat_map, enumerate_from, slice_split}
 use Rattle.sal_stmt.specs.declared.stmt.Stmt.{Stmt}
 use Rattle.sal_module.specs.declared.keyword.Keyword.{Keyword}
 use Rattle.sal_module.specs.declared.keyword.Keyword.TheVariants.{Grouping, Uses, Augment, Typedef, Identity}
@@ -10,8 +10,8 @@ use Rattle.sal_module.specs.declared.fault.Found.{Found}
 use Rattle.sal_module.specs.Profile.{at_place}
 use Rattle.sal_module.specs.Imports.{reaches}
 use Rattle.sal_grouping.specs.declared.rows.Row.{Row}
-use Rattle.sal_grouping.specs.Rows.{is_block, around_of, keyword_at, is_keyword, first_of}
-use Rattle.sal_grouping.specs.Groupings.{module_of, named_by}
+use Rattle.sal_grouping.specs.Rows.{option_list, is_block, around_of, keyword_at, is_keyword, first_of}
+use Rattle.sal_grouping.specs.Groupings.{Step, path_of, named_by}
 
 -- a fault at a statement
 abbrev pub at_row : Cause → Row → List Found
@@ -22,13 +22,9 @@ at_row cause row = at_place cause row.module row.at
 abbrev pub unknown_faults : List Stmt → List Row → Row → List Found
 unknown_faults stmts rows row = if is_none (named_by stmts rows row) then at_row UnknownName row else []
 
--- the names in an absolute path, each with its prefix
-abbrev pub steps_of : List ℕ → List (List ℕ)
-steps_of path = slice_split (λ c. c == 47) (drop 1 path)
-
 -- a prefix in the path of an augment
 abbrev pub path_faults : List Stmt → Row → List Found
-path_faults stmts row = if list_any (λ step. is_none (module_of stmts row.module step)) (steps_of row.name) then at_row UnknownName row else []
+path_faults stmts row = if list_any (λ (step : Step). is_none step.0) (path_of stmts row) then at_row UnknownName row else []
 
 -- ---- groupings that use themselves
 
@@ -43,7 +39,7 @@ home_of rows row = home 65 rows row.around
 
 -- the groupings that the statements of which a grouping is the closest around name
 abbrev pub used_in : List Stmt → List Row → ℕ → List ℕ
-used_in stmts rows g = filter_map (λ (row : Row). if is_block g (home_of rows row) then named_by stmts rows row else None) rows
+used_in stmts rows g = flat_map (λ (row : Row). if is_block g (home_of rows row) then option_list (named_by stmts rows row) else []) rows
 
 -- of each statement, which is no use but of a grouping
 abbrev pub edges_of : List Stmt → List Row → List (List ℕ)

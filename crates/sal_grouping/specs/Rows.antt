@@ -1,6 +1,6 @@
 -- The statements that shape the tree or name what shapes it, in one list over all modules: a statement is known by its number there.
-use Rattle.std.specs.Prelude.{ℕ, zero, suc, Bool, true, false, ◌&&◌, ◌==◌, List, [], ◌∷◌, ◌++◌, fold, length, take, Option, Some, None, is_none, option_and_then, option_map, if◌then◌else◌}
-use Rattle.std.specs.List.{slice_get, enumerate_from, position, filter_map}
+use Rattle.std.specs.Prelude.{ℕ, zero, suc, Bool, true, false, ◌&&◌, ◌==◌, nat_lt, List, [], ◌∷◌, ◌++◌, fold, length, take, Option, Some, None, is_none, option_and_then, option_map, if◌then◌else◌}
+use Rattle.std.specs.List.{slice_get, enumerate_from, position_from, flat_map}
 use Rattle.sal_stmt.specs.declared.stmt.Stmt.{Stmt, out-Stmt}
 use Rattle.sal_module.specs.declared.keyword.Keyword.{Keyword}
 use Rattle.sal_module.specs.declared.keyword.Keyword.TheVariants.{Module, Container, Leaf, LeafList, List as ListOf, Choice, Case, Grouping, Uses, Augment, Rpc, Input, Output, Notification, Typedef, Identity}
@@ -66,6 +66,10 @@ top_of stmts m = length (rows_of (take m stmts))
 
 -- ---- what stands where
 
+abbrev pub option_list : {X : Type 0} → Option X → List X
+option_list None = []
+option_list (Some x) = x ∷ []
+
 abbrev pub is_block : ℕ → Option ℕ → Bool
 is_block b None = false
 is_block b (Some around) = around == b
@@ -75,8 +79,15 @@ abbrev pub is_inside : ℕ → Row → Bool
 is_inside b row = is_block b row.around
 
 -- the numbers of all that do
+abbrev pub all_inside : List Row → ℕ → List ℕ
+all_inside rows b = flat_map (λ (entry : ℕ × Row). if is_inside b entry.1 then entry.0 ∷ [] else []) (enumerate_from 0 rows)
+
+abbrev pub is_number : List Row → ℕ → Bool
+is_number rows b = nat_lt b (length rows)
+
+-- those of a block of this list
 abbrev pub inside : List Row → ℕ → List ℕ
-inside rows b = filter_map (λ (entry : ℕ × Row). if is_inside b entry.1 then Some entry.0 else None) (enumerate_from 0 rows)
+inside rows b = if is_number rows b then all_inside rows b else []
 
 abbrev pub around_of : List Row → ℕ → Option ℕ
 around_of rows k = option_and_then (λ (row : Row). row.around) (slice_get rows k)
@@ -88,14 +99,14 @@ abbrev pub is_keyword : Keyword → Option Keyword → Bool
 is_keyword keyword None = false
 is_keyword keyword (Some other) = same_keyword other keyword
 
--- it has this keyword and stands directly in this block
-abbrev pub is_inside_as : Keyword → ℕ → Row → Bool
-is_inside_as keyword b row = is_inside b row && same_keyword row.keyword keyword
-
--- and this name
+-- it has this keyword and this name, and stands directly in this block
 abbrev pub defines : Keyword → ℕ → List ℕ → Row → Bool
-defines keyword b name row = is_inside_as keyword b row && same row.name name
+defines keyword b name row = (is_inside b row && same_keyword row.keyword keyword) && same row.name name
 
 -- the first that does
+abbrev pub first_defined : List Row → Keyword → ℕ → List ℕ → Option ℕ
+first_defined rows keyword b name = position_from (defines keyword b name) 0 rows
+
+-- and, in a block of this list, what a name stands for there
 abbrev pub first_of : List Row → Keyword → ℕ → List ℕ → Option ℕ
-first_of rows keyword b name = position (defines keyword b name) rows
+first_of rows keyword b name = if is_number rows b then first_defined rows keyword b name else None

@@ -2,6 +2,8 @@
 #![tactic(auto)]
 
 mod forest;
+mod index;
+mod look_up;
 mod node;
 mod rows;
 mod vectors;

@@ -2,3 +2,4 @@ pub mod Rolled
 pub mod RowLists
 pub mod Tables
 pub mod IndexLists
+pub mod LookUps

@@ -8,8 +8,10 @@ ghost use Rattle.sal_grouping.specs.Groupings as spec;
 use crate::index::Names;
 use crate::rows::Row;
 use sal_module::{Keyword, Modules};
-use sal_types::{NoMemory, Str};
-use std::alloc::Global;
+use sal_types::Str;
+
+/// How many statements stand in one another.
+const MAX_DEPTH: u32 = 65;
 
 /// A name and the number of its module, where its prefix is known.
 pub(crate) type Step = (Option<u32>, Str);
@@ -74,9 +76,69 @@ fn from_block(
     if levels == 0 {
         return None;
     }
-    let b = block?;
-    match first_of(rows, Keyword::Grouping, groupings, b, name) {
-        Some(found) => Some(found),
-        None => from_block(rows, groupings, name, levels - 1, around_of(rows, b)),
+    match block {
+        None => None,
+        Some(b) => match first_of(rows, Keyword::Grouping, groupings, b, name) {
+            Some(found) => Some(found),
+            None => from_block(rows, groupings, name, levels - 1, around_of(rows, b)),
+        },
+    }
+}
+
+/// The grouping of this name in a module, for a statement in a block.
+fn grouping_in(
+    modules: &Modules,
+    rows: &[Row],
+    tops: &[usize],
+    groupings: &[Names],
+    row: &Row,
+    name: &str,
+    m: u32,
+) -> Option<usize>
+    requires tops { index.AreTops modules.now tops.now }
+    requires rows { rows.now ≡ rows_spec.rows_of modules.now }
+    requires firsts { index.AreFirsts rows.now word.Grouping groupings.now }
+    ensures { result ≡ spec.grouping_in modules.now rows.now row.now.module row.now.around name.now (Some m) }
+{
+    if m == row.module {
+        return from_block(rows, groupings, name, MAX_DEPTH, row.around);
+    }
+    let top = top_of(modules, rows, tops, m);
+    first_of(rows, Keyword::Grouping, groupings, top, name)
+}
+
+/// The first statement of a module, or the number behind the last statement where there is no such module.
+pub(crate) fn top_of(modules: &Modules, rows: &[Row], tops: &[usize], m: u32) -> usize
+    requires tops { index.AreTops modules.now tops.now }
+    requires rows { rows.now ≡ rows_spec.rows_of modules.now }
+    ensures { result ≡ rows_spec.top_of modules.now m }
+{
+    match tops.get(m as usize) {
+        Some(top) => *top,
+        None => rows.len(),
+    }
+}
+
+/// The grouping that a `uses` names, if this is one.
+pub(crate) fn named_by(
+    modules: &Modules,
+    rows: &[Row],
+    tops: &[usize],
+    groupings: &[Names],
+    row: &Row,
+) -> Option<usize>
+    requires tops { index.AreTops modules.now tops.now }
+    requires rows { rows.now ≡ rows_spec.rows_of modules.now }
+    requires firsts { index.AreFirsts rows.now word.Grouping groupings.now }
+    ensures { result ≡ spec.named_by modules.now rows.now row.now }
+{
+    if row.keyword != Keyword::Uses {
+        return None;
+    }
+    let text = row.name.as_str();
+    let name = local_name(text);
+    match module_of(modules, row.module, text) {
+        None => None,
+        Some(m) => grouping_in(modules, rows, tops, groupings, row, name, m),
     }
 }

@@ -3,3 +3,4 @@ pub mod RowLists
 pub mod Tables
 pub mod IndexLists
 pub mod LookUps
+pub mod Rounds

@@ -2,6 +2,7 @@ pub mod Rows
 pub mod Indexes
 pub mod Groupings
 pub mod Names
+pub mod Reach
 pub mod Growth
 pub mod Augments
 pub mod Children

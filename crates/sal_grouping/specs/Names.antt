@@ -1,5 +1,5 @@
 -- The faults of names: every one of every statement, in any order, and the least of them counts.
-use Rattle.std.specs.Prelude.{ℕ, zero, suc, Bool, false, List, [], ◌∷◌, ◌++◌, map, length, drop, Option, Some, None, is_none, is_some, ◌==◌, if◌then◌else◌}
+use Rattle.std.specs.Prelude.{ℕ, zero, suc, Bool, false, List, [], ◌∷◌, ◌++◌, map, length, drop, Option, Some, None, is_none, is_some, ◌==◌, ◌||◌, slice_index_or, if◌then◌else◌}
 use Rattle.std.specs.List.{list_any, flat_map, enumerate_from, slice_split}
 use Rattle.sal_stmt.specs.declared.stmt.Stmt.{Stmt}
 use Rattle.sal_module.specs.declared.keyword.Keyword.{Keyword}
@@ -45,9 +45,9 @@ used_in stmts rows g = flat_map (λ (row : Row). if is_block g (home_of rows row
 abbrev pub edges_of : List Stmt → List Row → List (List ℕ)
 edges_of stmts rows = map (λ (entry : ℕ × Row). used_in stmts rows entry.0) (enumerate_from 0 rows)
 
--- A way from a grouping back to itself that is as short as can be visits no grouping twice.
+-- A grouping uses itself where it names itself, or one that reaches it. A way that is as short as can be visits no grouping twice.
 abbrev pub is_cyclic : List Stmt → List Row → Option ℕ → Option ℕ → Bool
-is_cyclic stmts rows (Some g) (Some used) = reaches (edges_of stmts rows) (length rows) g (used ∷ [])
+is_cyclic stmts rows (Some g) (Some used) = used == g || reaches (edges_of stmts rows) (length rows) g (slice_index_or (edges_of stmts rows) used [])
 is_cyclic stmts rows g used = false
 
 -- a `uses` by which the closest grouping around it uses itself

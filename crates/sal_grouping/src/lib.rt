@@ -5,6 +5,7 @@ mod forest;
 mod index;
 mod look_up;
 mod node;
+mod reach;
 mod rows;
 mod vectors;
 

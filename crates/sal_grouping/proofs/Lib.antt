@@ -4,3 +4,5 @@ pub mod Tables
 pub mod IndexLists
 pub mod LookUps
 pub mod Rounds
+pub mod Paths
+pub mod Edges

@@ -46,9 +46,12 @@ abbrev pub edges_of : List Stmt → List Row → List (List ℕ)
 edges_of stmts rows = map (λ (entry : ℕ × Row). used_in stmts rows entry.0) (enumerate_from 0 rows)
 
 -- A grouping uses itself where it names itself, or one that reaches it. A way that is as short as can be visits no grouping twice.
+abbrev pub reaches_home : List (List ℕ) → ℕ → Option ℕ → Option ℕ → Bool
+reaches_home edges n (Some g) (Some used) = used == g || reaches edges n g (slice_index_or edges used [])
+reaches_home edges n g used = false
+
 abbrev pub is_cyclic : List Stmt → List Row → Option ℕ → Option ℕ → Bool
-is_cyclic stmts rows (Some g) (Some used) = used == g || reaches (edges_of stmts rows) (length rows) g (slice_index_or (edges_of stmts rows) used [])
-is_cyclic stmts rows g used = false
+is_cyclic stmts rows g used = reaches_home (edges_of stmts rows) (length rows) g used
 
 -- a `uses` by which the closest grouping around it uses itself
 abbrev pub cycle_faults : List Stmt → List Row → Row → List Found

@@ -4,6 +4,7 @@
 mod forest;
 mod index;
 mod look_up;
+mod names;
 mod node;
 mod reach;
 mod rows;

@@ -11,7 +11,7 @@ use sal_module::{Keyword, Modules};
 use sal_types::Str;
 
 /// How many statements stand in one another.
-const MAX_DEPTH: u32 = 65;
+pub(crate) const MAX_DEPTH: u32 = 65;
 
 /// A name and the number of its module, where its prefix is known.
 pub(crate) type Step = (Option<u32>, Str);
@@ -53,7 +53,7 @@ pub(crate) fn first_of(
     maps[b].get(name).copied()
 }
 
-fn around_of(rows: &[Row], b: usize) -> Option<usize>
+pub(crate) fn around_of(rows: &[Row], b: usize) -> Option<usize>
     ensures { result ≡ rows_spec.around_of rows.now b }
 {
     match rows.get(b) {

@@ -18,7 +18,7 @@ use Rattle.sal_module.specs.Keywords.{same, same_keyword}
 use Rattle.sal_grouping.specs.declared.rows.Row.{Row}
 use Rattle.sal_grouping.specs.Rows.{is_block, is_inside, all_inside, defines, first_defined}
 use Rattle.sal_grouping.specs.Indexes.{Names, with_first, picked, lists}
-use Rattle.sal_grouping.proofs.Tables.{numbered-take, position_from-take}
+use Rattle.sal_grouping.proofs.Places.{numbered-take, position_from-take}
 
 -- ---- lists
 

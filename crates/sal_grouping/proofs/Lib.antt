@@ -1,6 +1,6 @@
 pub mod Rolled
 pub mod RowLists
-pub mod Tables
+pub mod Places
 pub mod IndexLists
 pub mod LookUps
 pub mod Rounds

@@ -3,6 +3,7 @@ pub mod Indexes
 pub mod Groupings
 pub mod Names
 pub mod Reach
+pub mod Tables
 pub mod Growth
 pub mod Augments
 pub mod Children

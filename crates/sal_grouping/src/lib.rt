@@ -8,6 +8,7 @@ mod names;
 mod node;
 mod reach;
 mod rows;
+mod tables;
 mod vectors;
 
 pub use forest::{Branch, Implied};

@@ -9,11 +9,13 @@ ghost use Rattle.sal_grouping.specs.Indexes as index;
 ghost use Rattle.sal_grouping.specs.Groupings as groupings_spec;
 ghost use Rattle.sal_grouping.specs.Reach.{IsRanked};
 ghost use Rattle.sal_grouping.specs.Names as spec;
+ghost use Rattle.sal_grouping.specs.Tables.{AreTables};
 
 use crate::index::{Names as NameMap, empty_lists, pick};
 use crate::look_up::{MAX_DEPTH, Step, around_of, first_of, local_name, module_of, named_by};
 use crate::reach::{ranking, reaches};
 use crate::rows::Row;
+use crate::tables::Tables;
 use sal_module::{Cause, Found, Keyword, Modules, better};
 use sal_types::{NoMemory, Str};
 use std::alloc::Global;
@@ -127,7 +129,8 @@ fn edges_of(
     requires tops { index.AreTops modules.now tops.now }
     requires rows { rows.now ≡ rows_spec.rows_of modules.now }
     requires firsts { index.AreFirsts rows.now word.Grouping groupings.now }
-    ensures { IfOk result (λ edges. index.lists edges.items ≡ spec.edges_of modules.now rows.now) }
+    ensures count { IfOk result (λ edges. length edges.items ≡ length rows.now) }
+    ensures each { IfOk result (λ edges. index.lists edges.items ≡ spec.edges_of modules.now rows.now) }
 {
     let mut edges = empty_lists(alloc, rows.len())?;
     for row in rows {
@@ -214,4 +217,106 @@ fn with_double(
             }
         }
     }
+}
+
+/// What the faults of names are judged by.
+#[derive(Drop)]
+struct Graph {
+    edges: Vec<Vec<usize>>,
+    ranks: Option<Vec<usize>>,
+}
+
+fn graph_of(alloc: Global, modules: &Modules, t: &Tables) -> Result<Graph, NoMemory>
+    requires { AreTables modules.now t.now }
+    ensures count { IfOk result (λ g. length g.edges.items ≡ length t.now.rows.items) }
+    ensures edges { IfOk result (λ g. index.lists g.edges.items ≡ spec.edges_of modules.now t.now.rows.items) }
+    ensures ranks { IfOk result (λ g. IfSome g.ranks (λ ranks. IsRanked (index.lists g.edges.items) ranks.items)) }
+{
+    let edges = edges_of(alloc, modules, &t.rows, &t.tops, &t.groupings)?;
+    let ranks = ranking(alloc, edges.as_slice())?;
+    Ok(Graph { edges, ranks })
+}
+
+/// The least of this fault and that of a `uses` by which the grouping around it uses itself.
+fn with_cycle(
+    best: Option<Found>,
+    alloc: Global,
+    rows: &[Row],
+    graph: &Graph,
+    used: Option<usize>,
+    row: &Row,
+) -> Result<Option<Found>, NoMemory>
+    requires count { length graph.now.edges.items ≡ length rows.now }
+    requires ranks { IfSome graph.now.ranks (λ ranks. IsRanked (index.lists graph.now.edges.items) ranks.items) }
+    ensures { IfOk result (λ found. found ≡ least best
+        (if spec.reaches_home (index.lists graph.now.edges.items) (length rows.now) (spec.home_of rows.now row.now) used then spec.at_row Cause.NameCycle row.now else [])) }
+{
+    let g = home(rows, MAX_DEPTH, row.around);
+    if is_cyclic(alloc, &graph.edges, &graph.ranks, g, used)? {
+        return Ok(with_fault(best, Cause::NameCycle, row));
+    }
+    Ok(best)
+}
+
+/// The least of this fault and those of a `uses`.
+fn with_uses(
+    best: Option<Found>,
+    alloc: Global,
+    modules: &Modules,
+    t: &Tables,
+    graph: &Graph,
+    row: &Row,
+) -> Result<Option<Found>, NoMemory>
+    requires tables { AreTables modules.now t.now }
+    requires count { length graph.now.edges.items ≡ length t.now.rows.items }
+    requires edges { index.lists graph.now.edges.items ≡ spec.edges_of modules.now t.now.rows.items }
+    requires ranks { IfSome graph.now.ranks (λ ranks. IsRanked (index.lists graph.now.edges.items) ranks.items) }
+    ensures { IfOk result (λ found. found ≡ least best (spec.unknown_faults modules.now t.now.rows.items row.now ++ spec.cycle_faults modules.now t.now.rows.items row.now)) }
+{
+    let used = named_by(modules, &t.rows, &t.tops, &t.groupings, row);
+    let best = with_unknown(best, used, row);
+    with_cycle(best, alloc, &t.rows, graph, used, row)
+}
+
+/// The least of this fault and those of a statement.
+fn with_row(
+    best: Option<Found>,
+    alloc: Global,
+    modules: &Modules,
+    t: &Tables,
+    graph: &Graph,
+    k: usize,
+    row: &Row,
+) -> Result<Option<Found>, NoMemory>
+    requires tables { AreTables modules.now t.now }
+    requires count { length graph.now.edges.items ≡ length t.now.rows.items }
+    requires edges { index.lists graph.now.edges.items ≡ spec.edges_of modules.now t.now.rows.items }
+    requires ranks { IfSome graph.now.ranks (λ ranks. IsRanked (index.lists graph.now.edges.items) ranks.items) }
+    ensures { IfOk result (λ found. found ≡ least best (spec.row_faults modules.now t.now.rows.items k row.now row.now.keyword)) }
+{
+    match row.keyword {
+        Keyword::Uses => with_uses(best, alloc, modules, t, graph, row),
+        Keyword::Augment => with_path(best, alloc, modules, row),
+        Keyword::Typedef => Ok(with_double(best, &t.rows, row.keyword, &t.typedefs, k, row)),
+        Keyword::Grouping => Ok(with_double(best, &t.rows, row.keyword, &t.groupings, k, row)),
+        Keyword::Identity => Ok(with_double(best, &t.rows, row.keyword, &t.identities, k, row)),
+        _ => Ok(best),
+    }
+}
+
+/// The first fault of names.
+pub(crate) fn names_fault(
+    alloc: Global,
+    modules: &Modules,
+    t: &Tables,
+) -> Result<Option<Found>, NoMemory>
+    requires { AreTables modules.now t.now }
+    ensures { IfOk result (λ found. found ≡ least None (spec.name_faults modules.now t.now.rows.items)) }
+{
+    let graph = graph_of(alloc, modules, t)?;
+    let mut best = None;
+    for (k, row) in t.rows.iter().enumerate() {
+        best = with_row(best, alloc, modules, t, &graph, k, row)?;
+    }
+    Ok(best)
 }

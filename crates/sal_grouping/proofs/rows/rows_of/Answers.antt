@@ -3,7 +3,7 @@ use Rattle.std.proofs.lemmas.Grind.{common_steps}
 use Rattle.sal_stmt.specs.declared.stmt.Stmt.{Stmt}
 use Rattle.sal_grouping.specs.Rows.{with_rows, rows_of, top_of}
 use Rattle.sal_grouping.proofs.RowLists.{rows_of-take}
-use Rattle.sal_grouping.proofs.Tables.{table-last}
+use Rattle.sal_grouping.proofs.Places.{table-last}
 use Rattle.sal_grouping.proofs.rows.rows_of.Goals as goal
 
 pub loop-i-preserved : goal.loop-i-preserved

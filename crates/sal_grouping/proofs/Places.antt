@@ -1,6 +1,9 @@
 -- Tables: lists whose element at each place is a function of the place.
 use Rattle.std.proofs.Common.{◌≡◌, ℕ, zero, suc, ◌+◌, ◌-◌, ◌<◌, ◌≤◌, List, [], ◌∷◌, ◌++◌, length, take, get_or, Bool, true, false, Option, Some, None, is_some, if◌then◌else◌, refl, ◌∙◌, sym, ap, subst, inl, inr, arith, length-append, append_assoc, append-nil}
 use Rattle.std.specs.List.{flat_map, enumerate_from, position_from}
+use Rattle.std.proofs.lemmas.List.Sums.{fold-append}
+use Rattle.sal_module.specs.declared.fault.Found.{Found}
+use Rattle.sal_module.specs.Faults.{least, better}
 use Rattle.std.proofs.lemmas.Bool.{cases_lt, cases_Bool}
 use Rattle.std.proofs.lemmas.List.{get_or_append_left, get_or-append_right, take_more, length-take}
 
@@ -53,3 +56,17 @@ pub position_from-take : {X : Type 0} (p : X → Bool) (xs : List X) (i : ℕ) (
 position_from-take p xs i d h =
     let here : 0 + length (take i xs) ≡ i = omega (arith, length-take i xs) in
     ap (position_from p 0) (take_more xs i d h) ∙ position_from-last p 0 (take i xs) (get_or xs i d) ∙ rw here refl
+
+-- ---- the least fault
+
+pub least-two : (best : Option Found) (xs ys : List Found) → least (least best xs) ys ≡ least best (xs ++ ys)
+least-two best xs ys = sym (fold-append better best xs ys)
+
+-- the least fault of one more element
+pub least_more : {X : Type 0} (f : ℕ → X → List Found) (xs : List X) (i : ℕ) (x : X) (start best next : Option Found)
+    → i < length xs → x ≡ get_or xs i x → best ≡ least start (numbered f 0 (take i xs)) → next ≡ least best (f i x)
+    → next ≡ least start (numbered f 0 (take (i + 1) xs))
+least_more f xs i x start best next h is so_far step =
+    let more = numbered-take f xs i x h in
+    let here = ap (λ y. numbered f 0 (take i xs) ++ f i y) (sym is) in
+    step ∙ ap (λ b. least b (f i x)) so_far ∙ least-two start (numbered f 0 (take i xs)) (f i x) ∙ ap (least start) (sym (more ∙ here))

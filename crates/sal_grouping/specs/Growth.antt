@@ -28,12 +28,15 @@ is_node keyword = false
 abbrev pub used_by : List (Option ℕ) → ℕ → List ℕ
 used_by named k = option_list (unwrap_or (slice_get named k) None)
 
+-- What a statement adds to its block: itself, or the nodes of the groupings that it names.
+abbrev pub nodes_at : (ℕ → List ℕ) → List Row → List (Option ℕ) → ℕ → List ℕ
+nodes_at within rows named k = if is_node (keyword_at rows k) then k ∷ [] else flat_map within (used_by named k)
+
 -- The statements of the nodes that stand directly in a block, with `uses` carried out so many deep. A chain of `uses`
 -- without a cycle names no grouping twice, so as many as there are statements are enough.
 unfoldable pub nodes_within : ℕ → List Row → List (Option ℕ) → ℕ → List ℕ
 nodes_within zero rows named b = []
-nodes_within (suc n) rows named b =
-    flat_map (λ k. if is_node (keyword_at rows k) then k ∷ [] else flat_map (nodes_within n rows named) (used_by named k)) (inside rows b)
+nodes_within (suc n) rows named b = flat_map (nodes_at (nodes_within n rows named) rows named) (inside rows b)
 
 abbrev pub nodes_in : List Row → List (Option ℕ) → ℕ → List ℕ
 nodes_in rows named b = nodes_within (length rows) rows named b

@@ -5,6 +5,7 @@ pub mod Names
 pub mod Reach
 pub mod Tables
 pub mod Growth
+pub mod Plan
 pub mod Augments
 pub mod Children
 pub mod Expand

@@ -6,6 +6,8 @@ mod index;
 mod look_up;
 mod names;
 mod node;
+mod nodes;
+mod plan;
 mod reach;
 mod rows;
 mod tables;

@@ -6,3 +6,4 @@ pub mod LookUps
 pub mod Rounds
 pub mod Paths
 pub mod Edges
+pub mod VisitLists

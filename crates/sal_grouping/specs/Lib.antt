@@ -6,6 +6,7 @@ pub mod Reach
 pub mod Tables
 pub mod Growth
 pub mod Plan
+pub mod Visits
 pub mod Augments
 pub mod Children
 pub mod Expand

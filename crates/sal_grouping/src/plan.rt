@@ -150,7 +150,7 @@ fn bare_blocks(
     Ok(bare)
 }
 
-fn is_marked(bare: &[bool], g: usize) -> bool
+pub(crate) fn is_marked(bare: &[bool], g: usize) -> bool
     ensures { result ≡ slice_index_or bare.now g false }
 {
     bare.get(g).copied().unwrap_or(false)

@@ -62,13 +62,16 @@ param_or rpc side (Some k) = (k, None)
 abbrev pub param : List Row → ℕ → Keyword → Implied → Seed
 param rows rpc keyword side = param_or rpc side (find (λ k. is_keyword keyword (keyword_at rows k)) (inside rows rpc))
 
+abbrev pub params : List Row → ℕ → List Seed
+params rows rpc = param rows rpc Input implied.Input ∷ param rows rpc Output implied.Output ∷ []
+
 -- the nodes of a block, as they stand below a node of this keyword
 abbrev pub seeds_in : List Row → List (Option ℕ) → Option Keyword → ℕ → List Seed
 seeds_in rows named (Some Choice) b = map (in_choice rows) (nodes_in rows named b)
 seeds_in rows named keyword b = map plain (nodes_in rows named b)
 
 abbrev pub below_row : List Row → List (Option ℕ) → Option Keyword → ℕ → List Seed
-below_row rows named (Some Rpc) k = param rows k Input implied.Input ∷ param rows k Output implied.Output ∷ []
+below_row rows named (Some Rpc) k = params rows k
 below_row rows named keyword k = seeds_in rows named keyword k
 
 -- what stands directly below a node: in an implied case the node itself, in an implied input or output nothing
@@ -82,7 +85,8 @@ below rows named (k, Some other) = []
 abbrev pub node_of : ℕ → Option ℕ → Seed → Node
 node_of owner parent (k, implied) = record { parent = parent; «module» = owner; row = k; implied = implied }
 
--- the forest with these nodes and so many levels from them on behind it, as children of a node, each of this module
+-- The forest with these nodes and so many levels from them on behind it, as children of a node, each of this module. Each node
+-- stands before what is below it, and that before the next one.
 unfoldable pub grow : ℕ → List Row → List (Option ℕ) → ℕ → Option ℕ → List Node → List Seed → List Node
 grow zero rows named owner parent forest seeds = forest
 grow (suc n) rows named owner parent forest seeds =

@@ -7,6 +7,7 @@ pub mod Tables
 pub mod Growth
 pub mod Plan
 pub mod Visits
+pub mod Frames
 pub mod Augments
 pub mod Children
 pub mod Expand

@@ -2,6 +2,7 @@
 #![tactic(auto)]
 
 mod forest;
+mod grow;
 mod index;
 mod look_up;
 mod names;

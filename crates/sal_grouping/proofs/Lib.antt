@@ -7,3 +7,4 @@ pub mod Rounds
 pub mod Paths
 pub mod Edges
 pub mod VisitLists
+pub mod FrameLists

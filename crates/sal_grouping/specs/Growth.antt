@@ -96,7 +96,10 @@ grow (suc n) rows named owner parent forest seeds =
 abbrev pub grown : List Row → List (Option ℕ) → ℕ → Option ℕ → List Node → List Seed → List Node
 grown rows named owner parent forest seeds = grow (2 * length rows) rows named owner parent forest seeds
 
+-- and the nodes of a module
+abbrev pub module_grown : List Stmt → List Row → List (Option ℕ) → List Node → ℕ → List Node
+module_grown stmts rows named forest m = grown rows named m None forest (seeds_in rows named None (top_of stmts m))
+
 -- the nodes of the modules, without augments
 abbrev pub trees_of : List Stmt → List Row → List (Option ℕ) → List Node
-trees_of stmts rows named =
-    fold (λ forest (entry : ℕ × Stmt). grown rows named entry.0 None forest (map plain (nodes_in rows named (top_of stmts entry.0)))) [] (enumerate_from 0 stmts)
+trees_of stmts rows named = fold (λ forest (entry : ℕ × Stmt). module_grown stmts rows named forest entry.0) [] (enumerate_from 0 stmts)

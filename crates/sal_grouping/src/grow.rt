@@ -1,5 +1,6 @@
 //! The tree of nodes, numbered depth first, as it grows.
-ghost use Rattle.std.specs.Prelude.{◌≡◌, ◌<◌, ◌≤◌, ◌++◌, ◌*◌, ℕ, List, Option, Some, find, map, length, IfOk, MatchBool, MatchOption};
+ghost use Rattle.std.specs.Prelude.{◌≡◌, ◌<◌, ◌≤◌, ◌++◌, ◌*◌, ℕ, List, Option, Some, find, map, length, IfOk, true, false, MatchBool, MatchOption};
+ghost use Rattle.sal_grouping.specs.declared.node.Node.{Node as Knot};
 ghost use Rattle.sal_grouping.specs.Rows as rows_spec;
 ghost use Rattle.sal_grouping.specs.Growth as growth;
 ghost use Rattle.sal_grouping.specs.Indexes.{lists};
@@ -169,4 +170,126 @@ struct Frame {
     seeds: Vec<Seed>,
     next: usize,
     levels: usize,
+}
+
+fn node_of(owner: u32, parent: Option<u32>, seed: Seed) -> Node
+    ensures { result ≡ growth.node_of owner parent seed }
+{
+    Node {
+        parent,
+        module: owner,
+        row: seed.0,
+        implied: seed.1,
+    }
+}
+
+/// The children of a node are added next, if there may be any, or they are more than are taken.
+fn push_below(
+    alloc: Global,
+    plan: &Plan,
+    frames: &mut Vec<Frame>,
+    parent: Option<u32>,
+    seed: Seed,
+    levels: usize,
+) -> Result<bool, NoMemory>
+    requires { IsPlan plan.now.rows.items plan.now.named.items plan.now }
+    ensures few { IfOk result (λ all. all ≡ true → (owner : ℕ) (forest : List Knot) →
+        spec.with_frames plan.now.rows.items plan.now.named.items owner frames.new.items forest
+        ≡ spec.with_frames plan.now.rows.items plan.now.named.items owner frames.old.items
+            (growth.grow levels plan.now.rows.items plan.now.named.items owner parent forest (growth.below plan.now.rows.items plan.now.named.items seed))) }
+    ensures many { IfOk result (λ all. all ≡ false → (0 < levels) × (65536 < length (growth.below plan.now.rows.items plan.now.named.items seed))) }
+{
+    if levels == 0 {
+        return Ok(true);
+    }
+    match below(alloc, plan, seed)? {
+        None => Ok(false),
+        Some(seeds) => {
+            frames.push(Frame {
+                parent,
+                seeds,
+                next: 0,
+                levels: levels - 1,
+            })?;
+            Ok(true)
+        }
+    }
+}
+
+/// The next node of a frame, if there is one, is added, and its children come next; or they are more than are taken.
+fn grow_one(
+    alloc: Global,
+    plan: &Plan,
+    owner: u32,
+    frames: &mut Vec<Frame>,
+    nodes: &mut Vec<Node>,
+    frame: Frame,
+) -> Result<bool, NoMemory>
+    requires planned { IsPlan plan.now.rows.items plan.now.named.items plan.now }
+    requires small { length nodes.old.items ≤ 65536 }
+    ensures few { IfOk result (λ all. all ≡ true →
+        spec.with_frames plan.now.rows.items plan.now.named.items owner frames.new.items nodes.new.items
+        ≡ spec.with_frames plan.now.rows.items plan.now.named.items owner frames.old.items (spec.with_frame plan.now.rows.items plan.now.named.items owner frame nodes.old.items)) }
+    ensures many { IfOk result (λ all. all ≡ false →
+        65536 < length (spec.with_frames plan.now.rows.items plan.now.named.items owner frames.old.items (spec.with_frame plan.now.rows.items plan.now.named.items owner frame nodes.old.items))) }
+{
+    if frame.next >= frame.seeds.len() {
+        return Ok(true);
+    }
+    let seed = frame.seeds[frame.next];
+    let parent = frame.parent;
+    let levels = frame.levels;
+    let number = nodes.len() as u32;
+    frames.push(Frame {
+        parent,
+        seeds: frame.seeds,
+        next: frame.next + 1,
+        levels,
+    })?;
+    nodes.push(node_of(owner, parent, seed))?;
+    let all = push_below(alloc, plan, frames, Some(number), seed, levels)?;
+    Ok(all)
+}
+
+/// Adds these nodes, as children of one node, and all that is below them. The answer is whether all are in it: past 65,536 it ends.
+pub(crate) fn grow(
+    alloc: Global,
+    plan: &Plan,
+    owner: u32,
+    parent: Option<u32>,
+    nodes: &mut Vec<Node>,
+    seeds: Vec<Seed>,
+) -> Result<bool, NoMemory>
+    requires planned { IsPlan plan.now.rows.items plan.now.named.items plan.now }
+    requires small { length nodes.old.items ≤ 65536 }
+    ensures few { IfOk result (λ all. all ≡ true → nodes.new.items ≡ growth.grown plan.now.rows.items plan.now.named.items owner parent nodes.old.items seeds.items) }
+    ensures fits { IfOk result (λ all. all ≡ true → length nodes.new.items ≤ 65536) }
+    ensures many { IfOk result (λ all. all ≡ false → 65536 < length (growth.grown plan.now.rows.items plan.now.named.items owner parent nodes.old.items seeds.items)) }
+{
+    let levels = 2 * plan.rows.len();
+    if levels == 0 {
+        return Ok(true);
+    }
+    let mut frames = Vec::new(alloc);
+    frames.push(Frame {
+        parent,
+        seeds,
+        next: 0,
+        levels: levels - 1,
+    })?;
+    for _i in 0..u64::MAX {
+        match frames.pop() {
+            None => return Ok(true),
+            Some(frame) => {
+                let all = grow_one(alloc, plan, owner, &mut frames, nodes, frame)?;
+                if !all {
+                    return Ok(false);
+                }
+            }
+        }
+        if nodes.len() > MAX_NODES {
+            return Ok(false);
+        }
+    }
+    Err(NoMemory)
 }

@@ -12,6 +12,7 @@ mod plan;
 mod reach;
 mod rows;
 mod tables;
+mod trees;
 mod vectors;
 
 pub use forest::{Branch, Implied};

@@ -22,6 +22,8 @@ use std::alloc::Global;
 pub(crate) struct Plan {
     /// The statements.
     pub rows: Vec<Row>,
+    /// The number of the first statement of each module.
+    pub tops: Vec<usize>,
     /// The numbers of the statements in the block of each one.
     pub inside: Vec<Vec<usize>>,
     /// The grouping that each one names, if it is a `uses`.
@@ -220,12 +222,14 @@ fn bare_of(
 /// The plan by which the tree of these modules grows.
 pub(crate) fn plan_of(alloc: Global, modules: &Modules, t: Tables) -> Result<Plan, NoMemory>
     requires { AreTables modules.now t }
-    ensures { IfOk result (λ plan. spec.IsPlan t.rows.items (groupings_spec.named_of modules.now t.rows.items) plan) }
+    ensures planned { IfOk result (λ plan. spec.IsPlan (rows_spec.rows_of modules.now) (groupings_spec.named_of modules.now (rows_spec.rows_of modules.now)) plan) }
+    ensures tops { IfOk result (λ plan. index.AreTops modules.now plan.tops.items) }
 {
     let named = named_of(alloc, modules, &t)?;
     let bare = bare_of(alloc, &t.rows, named.as_slice(), &t.inside)?;
     Ok(Plan {
         rows: t.rows,
+        tops: t.tops,
         inside: t.inside,
         named,
         bare,

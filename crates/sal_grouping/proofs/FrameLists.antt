@@ -6,12 +6,14 @@ use Rattle.std.specs.declared.alloc.Global.{Global}
 use Rattle.sal_grouping.specs.declared.rows.Row.{Row}
 use Rattle.sal_grouping.specs.declared.node.Node.{Node}
 use Rattle.sal_grouping.specs.declared.grow.Frame.{Frame}
-use Rattle.sal_grouping.specs.Growth.{Seed, node_of, below, grow, grown, nodes_in, nodes_within, seeds_in, in_choice, plain}
+use Rattle.sal_grouping.specs.Growth.{Seed, node_of, below, grow, grown, nodes_in, nodes_within, seeds_in, in_choice, plain, trees_until, module_grown}
+use Rattle.sal_stmt.specs.declared.stmt.Stmt.{Stmt}
 use Rattle.sal_module.specs.declared.keyword.Keyword.{Keyword}
 use Rattle.sal_module.specs.declared.keyword.Keyword.TheVariants.{Choice}
 use Rattle.sal_grouping.proofs.VisitLists.{nodes-none}
 use Rattle.std.proofs.lemmas.Bool.{cases_lt}
 use Rattle.std.proofs.lemmas.List.{length-map}
+use Rattle.sal_grouping.specs.Rows.{top_of}
 use Rattle.sal_grouping.specs.Frames.{with_seed, with_frame, with_frames}
 
 drop-past : {X : Type 0} (xs : List X) (i : ℕ) → length xs ≤ i → drop i xs ≡ []
@@ -122,7 +124,7 @@ module _ (rows : List Row) (named : List (Option ℕ)) (owner : ℕ) where
   pub nodes-empty : (b : ℕ) → length rows ≡ 0 → nodes_in rows named b ≡ []
   nodes-empty b none = ap (λ n. nodes_within n rows named b) none ∙ nodes-none rows named b
 
-  grown-length : (parent : Option ℕ) (forest : List Node) (seeds : List Seed) → length forest ≤ length (grown rows named owner parent forest seeds)
+  pub grown-length : (parent : Option ℕ) (forest : List Node) (seeds : List Seed) → length forest ≤ length (grown rows named owner parent forest seeds)
   grown-length parent forest seeds = grow-length (2 * length rows) parent forest seeds
 
   grown-many : (parent : Option ℕ) (forest : List Node) (seeds : List Seed) → 0 < length rows → length seeds ≤ length (grown rows named owner parent forest seeds)
@@ -131,12 +133,12 @@ module _ (rows : List Row) (named : List (Option ℕ)) (owner : ℕ) where
       rw (grow-more (2 * length rows) parent forest seeds more) (omega (arith, steps-length (2 * length rows - 1) parent forest seeds))
 
   seeds-length : (kind : Option Keyword) (b : ℕ) → length (seeds_in rows named kind b) ≡ length (nodes_in rows named b)
-  seeds-length None b = length-map plain (nodes_in rows named b)
+  seeds-length None b = length-map (nodes_in rows named b) plain
   seeds-length (Some k) b = by_kind k
     where
       by_kind : (k : Keyword) → length (seeds_in rows named (Some k) b) ≡ length (nodes_in rows named b)
-      by_kind Choice = length-map (in_choice rows) (nodes_in rows named b)
-      by_kind other = length-map plain (nodes_in rows named b)
+      by_kind Choice = length-map (nodes_in rows named b) (in_choice rows)
+      by_kind other = length-map (nodes_in rows named b) plain
 
   pub seeds-many : (kind : Option Keyword) (b : ℕ) (parent : Option ℕ) (forest : List Node) → 65536 < length (seeds_in rows named kind b) → 65536 < length (grown rows named owner parent forest (seeds_in rows named kind b))
   seeds-many kind b parent forest many = elim (cases_lt 0 (length rows)) [
@@ -145,3 +147,33 @@ module _ (rows : List Row) (named : List (Option ℕ)) (owner : ℕ) where
         let empty : length (nodes_in rows named b) ≡ 0 = ap length (nodes-empty b (omega arith)) in
         absurd (omega (arith, seeds-length kind b))
   ]
+
+  -- ---- one module after another
+
+  module _ (stmts : List Stmt) where
+    pub trees-none : trees_until 0 stmts rows named ≡ []
+    unfolding trees_until
+    trees-none = refl
+
+    trees-suc : (m : ℕ) → trees_until (suc m) stmts rows named ≡ module_grown stmts rows named (trees_until m stmts rows named) m
+    unfolding trees_until
+    trees-suc m = refl
+
+    pub trees-more : (m : ℕ) → trees_until (m + 1) stmts rows named ≡ module_grown stmts rows named (trees_until m stmts rows named) m
+    trees-more m = let next : m + 1 ≡ suc m = omega arith in rw next (trees-suc m)
+
+-- later modules take no node away
+pub trees-length : (rows : List Row) (named : List (Option ℕ)) (stmts : List Stmt) (m j : ℕ) → length (trees_until m stmts rows named) ≤ length (trees_until (m + j) stmts rows named)
+trees-length rows named stmts m zero = let none : m + 0 ≡ m = omega arith in rw none (omega arith)
+trees-length rows named stmts m (suc j) =
+    let more : m + suc j ≡ m + j + 1 = omega arith in
+    rw (more, trees-more rows named 0 stmts (m + j))
+    (omega (arith, trees-length rows named stmts m j, grown-length rows named (m + j) None (trees_until (m + j) stmts rows named) (seeds_in rows named None (top_of stmts (m + j)))))
+
+pub trees-past : (rows : List Row) (named : List (Option ℕ)) (stmts : List Stmt) (m : ℕ) → m < length stmts → 65536 < length (module_grown stmts rows named (trees_until m stmts rows named) m)
+    → 65536 < length (trees_until (length stmts) stmts rows named)
+trees-past rows named stmts m h past =
+    let there : m + 1 + (length stmts - (m + 1)) ≡ length stmts = omega arith in
+    let here = ap length (trees-more rows named 0 stmts m) in
+    let last = ap (λ n. length (trees_until n stmts rows named)) there in
+    omega (arith, trees-length rows named stmts (m + 1) (length stmts - (m + 1)), here, last, past)

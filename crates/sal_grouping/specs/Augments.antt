@@ -103,15 +103,17 @@ after_try progress k None = (progress.0, progress.1 ++ k ∷ [])
 after_try progress k (Some forest) = (forest, progress.1)
 
 -- The augments that are left are tried one after another. One that was carried out can make the target of a later one.
+abbrev pub tried : List Stmt → List Row → List (Option ℕ) → Progress → ℕ → Progress
+tried stmts rows named now k = after_try now k (carried stmts rows named now.0 k (slice_get rows k))
+
 abbrev pub round : List Stmt → List Row → List (Option ℕ) → Progress → Progress
-round stmts rows named progress =
-    fold (λ (now : Progress) k. after_try now k (carried stmts rows named now.0 k (slice_get rows k))) (progress.0, []) progress.1
+round stmts rows named progress = fold (tried stmts rows named) (progress.0, []) progress.1
 
 -- Rounds end when one does nothing. As many as there are augments are enough.
 unfoldable pub rounds : ℕ → List Stmt → List Row → List (Option ℕ) → Progress → Progress
 rounds zero stmts rows named progress = progress
 rounds (suc n) stmts rows named progress =
-    if length (round stmts rows named progress).1 == length progress.1 then progress
+    if length (round stmts rows named progress).1 == length progress.1 then round stmts rows named progress
     else rounds n stmts rows named (round stmts rows named progress)
 
 abbrev pub augments_of : List Row → List ℕ

@@ -100,6 +100,11 @@ grown rows named owner parent forest seeds = grow (2 * length rows) rows named o
 abbrev pub module_grown : List Stmt → List Row → List (Option ℕ) → List Node → ℕ → List Node
 module_grown stmts rows named forest m = grown rows named m None forest (seeds_in rows named None (top_of stmts m))
 
--- the nodes of the modules, without augments
+-- the nodes of the first so many modules
+unfoldable pub trees_until : ℕ → List Stmt → List Row → List (Option ℕ) → List Node
+trees_until zero stmts rows named = []
+trees_until (suc m) stmts rows named = module_grown stmts rows named (trees_until m stmts rows named) m
+
+-- and of all, without augments
 abbrev pub trees_of : List Stmt → List Row → List (Option ℕ) → List Node
-trees_of stmts rows named = fold (λ forest (entry : ℕ × Stmt). module_grown stmts rows named forest entry.0) [] (enumerate_from 0 stmts)
+trees_of stmts rows named = trees_until (length stmts) stmts rows named

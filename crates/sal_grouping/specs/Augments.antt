@@ -1,6 +1,6 @@
 -- Augments (RFC 7950 section 7.17), carried out in rounds.
-use Rattle.std.specs.Prelude.{ℕ, zero, suc, Bool, true, false, not, ◌&&◌, ◌==◌, List, [], ◌∷◌, ◌++◌, map, fold, length, Option, Some, None, option_and_then, option_map, unwrap_or, if◌then◌else◌, codes}
-use Rattle.std.specs.List.{list_any, slice_get, flat_map, enumerate_from, position_from}
+use Rattle.std.specs.Prelude.{ℕ, zero, suc, Bool, true, false, not, ◌&&◌, ◌==◌, List, [], ◌∷◌, ◌++◌, map, fold, find, length, nat_lt, is_some, Option, Some, None, option_and_then, option_map, unwrap_or, if◌then◌else◌, codes}
+use Rattle.std.specs.List.{slice_get, flat_map, enumerate_from, position_from}
 use Rattle.sal_stmt.specs.declared.stmt.Stmt.{Stmt}
 use Rattle.sal_module.specs.declared.keyword.Keyword.{Keyword}
 use Rattle.sal_module.specs.declared.keyword.Keyword.TheVariants.{Container, List as ListOf, Choice, Case, Input, Output, Notification, Augment}
@@ -11,7 +11,7 @@ use Rattle.sal_grouping.specs.declared.rows.Row.{Row}
 use Rattle.sal_grouping.specs.declared.forest.Implied.{Implied}
 use Rattle.sal_grouping.specs.declared.forest.Implied.TheVariants as implied
 use Rattle.sal_grouping.specs.declared.node.Node.{Node}
-use Rattle.sal_grouping.specs.Rows.{is_block, keyword_at, is_keyword}
+use Rattle.sal_grouping.specs.Rows.{is_block, inside, keyword_at, is_keyword}
 use Rattle.sal_grouping.specs.Groupings.{Step, path_of}
 use Rattle.sal_grouping.specs.Names.{at_row}
 use Rattle.sal_grouping.specs.Growth.{nodes_in, seeds_in, grown}
@@ -72,17 +72,25 @@ holds_data (Some Output) = true
 holds_data (Some Notification) = true
 holds_data kind = false
 
-abbrev pub can_hold : List Row → Option Keyword → List ℕ → Bool
-can_hold rows kind [] = true
-can_hold rows (Some Choice) nodes = true
-can_hold rows kind nodes = holds_data kind && not (list_any (λ k. is_keyword Case (keyword_at rows k)) nodes)
+-- A `case` stands in a choice or in an augment itself, so no `uses` brings one.
+abbrev pub has_case : List Row → ℕ → Bool
+has_case rows k = is_some (find (λ j. is_keyword Case (keyword_at rows j)) (inside rows k))
+
+-- whether a node of this keyword can hold what an augment adds, which has nodes or none
+abbrev pub can_hold : List Row → Option Keyword → ℕ → Bool → Bool
+can_hold rows kind k false = true
+can_hold rows (Some Choice) k true = true
+can_hold rows kind k true = holds_data kind && not (has_case rows k)
+
+abbrev pub has_nodes : List Row → List (Option ℕ) → ℕ → Bool
+has_nodes rows named k = nat_lt 0 (length (nodes_in rows named k))
 
 -- ---- rounds
 
 -- the forest with the nodes of this augment behind it, where its target can hold them
 abbrev pub carried_to : List Row → List (Option ℕ) → ℕ → ℕ → List Node → ℕ → Option Keyword → Option (List Node)
 carried_to rows named owner k forest target kind =
-    if can_hold rows kind (nodes_in rows named k) then Some (grown rows named owner (Some target) forest (seeds_in rows named kind k)) else None
+    if can_hold rows kind k (has_nodes rows named k) then Some (grown rows named owner (Some target) forest (seeds_in rows named kind k)) else None
 
 -- and where it has one
 abbrev pub carried_at : List Row → List (Option ℕ) → ℕ → ℕ → List Node → Option ℕ → Option (List Node)

@@ -9,6 +9,7 @@ pub mod Plan
 pub mod Visits
 pub mod Frames
 pub mod Augments
+pub mod Tried
 pub mod Children
 pub mod Expand
 pub mod Examples

@@ -101,7 +101,7 @@ fn find_keyword(rows: &[Row], keyword: Keyword, block: &[usize]) -> Option<usize
     None
 }
 
-fn find_inside(plan: &Plan, keyword: Keyword, block: usize) -> Option<usize>
+pub(crate) fn find_inside(plan: &Plan, keyword: Keyword, block: usize) -> Option<usize>
     requires { IsPlan plan.now.rows.items plan.now.named.items plan.now }
     ensures { result ≡ find (λ k. rows_spec.is_keyword keyword (rows_spec.keyword_at plan.now.rows.items k)) (rows_spec.inside plan.now.rows.items block) }
 {

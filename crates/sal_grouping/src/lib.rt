@@ -1,6 +1,7 @@
 //! The tree of nodes that modules make, with groupings and augments carried out.
 #![tactic(auto)]
 
+mod augments;
 mod forest;
 mod grow;
 mod index;

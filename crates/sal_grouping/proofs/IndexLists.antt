@@ -42,10 +42,10 @@ pub lists-length : (all : List (Vec ℕ Global)) → length (lists all) ≡ leng
 lists-length [] = refl
 lists-length (x ∷ all) = ap suc (lists-length all)
 
-is-same : (a b : ℕ) → a ≡ b → (a == b) ≡ true
+pub is-same : (a b : ℕ) → a ≡ b → (a == b) ≡ true
 is-same a b e = grind (arith, nat_tests)
 
-not-same : (a b : ℕ) → a ≢ b → (a == b) ≡ false
+pub not-same : (a b : ℕ) → a ≢ b → (a == b) ≡ false
 not-same a b e = grind (arith, nat_tests)
 
 pub pick-at : (all : List (Vec ℕ Global)) (b k : ℕ) (old new : Vec ℕ Global) → b < length all → old ≡ get_or all b old → new.items ≡ old.items ++ k ∷ [] → (c : ℕ)

@@ -8,3 +8,5 @@ pub mod Paths
 pub mod Edges
 pub mod VisitLists
 pub mod FrameLists
+pub mod RoundLists
+pub mod DataParents

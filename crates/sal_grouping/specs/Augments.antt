@@ -124,8 +124,11 @@ rounds (suc n) stmts rows named progress =
     if length (round stmts rows named progress).1 == length progress.1 then round stmts rows named progress
     else rounds n stmts rows named (round stmts rows named progress)
 
+abbrev pub augment_at : ℕ → Row → List ℕ
+augment_at k row = if same_keyword row.keyword Augment then k ∷ [] else []
+
 abbrev pub augments_of : List Row → List ℕ
-augments_of rows = flat_map (λ (entry : ℕ × Row). if same_keyword entry.1.keyword Augment then entry.0 ∷ [] else []) (enumerate_from 0 rows)
+augments_of rows = flat_map (λ (entry : ℕ × Row). augment_at entry.0 entry.1) (enumerate_from 0 rows)
 
 abbrev pub augmented : List Stmt → List Row → List (Option ℕ) → List Node → Progress
 augmented stmts rows named forest = rounds (length (augments_of rows)) stmts rows named (forest, augments_of rows)

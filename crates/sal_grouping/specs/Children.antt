@@ -1,5 +1,5 @@
 -- Nodes of one name where names differ (RFC 7950 section 6.2.1).
-use Rattle.std.specs.Prelude.{ℕ, zero, suc, Bool, true, false, not, ◌&&◌, ◌||◌, ◌==◌, List, [], length, Option, Some, None, option_and_then, if◌then◌else◌}
+use Rattle.std.specs.Prelude.{ℕ, zero, suc, Bool, true, false, not, ◌&&◌, ◌||◌, ◌==◌, List, [], length, Option, Some, None, is_some, unwrap_or, if◌then◌else◌}
 use Rattle.std.specs.List.{slice_get, flat_map, enumerate_from, position_from}
 use Rattle.sal_module.specs.declared.keyword.Keyword.{Keyword}
 use Rattle.sal_module.specs.declared.keyword.Keyword.TheVariants.{Choice, Case}
@@ -18,21 +18,20 @@ is_choice rows node = is_keyword Choice (kind_of rows node)
 abbrev pub is_case : List Row → Node → Bool
 is_case rows node = is_keyword Case (kind_of rows node)
 
--- Choices and cases are looked through.
-abbrev pub is_passed : List Row → Option Node → Bool
-is_passed rows None = false
-is_passed rows (Some node) = is_choice rows node || is_case rows node
+-- what stands above a choice or a case
+abbrev pub above : List Row → Option Node → Option (Option ℕ)
+above rows None = None
+above rows (Some node) = if is_choice rows node || is_case rows node then Some node.parent else None
 
-abbrev pub node_at : List Node → Option ℕ → Option Node
-node_at forest parent = option_and_then (slice_get forest) parent
+abbrev pub passed : List Row → List Node → Option ℕ → Option (Option ℕ)
+passed rows forest None = None
+passed rows forest (Some k) = above rows (slice_get forest k)
 
-abbrev pub parent_of : List Node → Option ℕ → Option ℕ
-parent_of forest parent = option_and_then (λ (node : Node). node.parent) (node_at forest parent)
-
--- the closest node among so many, from this one upwards, that is no choice and no case
+-- The closest node among so many, from this one upwards, that is no choice and no case: they are looked through.
 unfoldable pub data_parent : ℕ → List Row → List Node → Option ℕ → Option ℕ
-data_parent zero rows forest parent = parent
-data_parent (suc n) rows forest parent = if is_passed rows (node_at forest parent) then data_parent n rows forest (parent_of forest parent) else parent
+data_parent zero rows forest place = place
+data_parent (suc n) rows forest place =
+    if is_some (passed rows forest place) then data_parent n rows forest (unwrap_or (passed rows forest place) None) else place
 
 -- where a node's name differs from others: a case's in its choice, another node's below its data parent
 abbrev pub scope_of : List Row → List Node → Node → Option ℕ
@@ -43,10 +42,12 @@ abbrev pub same_side : Bool → Bool → Bool
 same_side true b = b
 same_side false b = not b
 
+abbrev pub same_name : List Row → Node → Node → Bool
+same_name rows a b =
+    ((not (is_choice rows b) && same_side (is_case rows a) (is_case rows b)) && a.module == b.module) && same (name_of rows a) (name_of rows b)
+
 abbrev pub clashes : List Row → List Node → Node → Node → Bool
-clashes rows forest a b =
-    ((not (is_choice rows b) && same_side (is_case rows a) (is_case rows b)) && same_place (scope_of rows forest a) (scope_of rows forest b))
-    && (a.module == b.module && same (name_of rows a) (name_of rows b))
+clashes rows forest a b = same_name rows a b && same_place (scope_of rows forest a) (scope_of rows forest b)
 
 -- the first node that clashes with this one, itself included
 abbrev pub first_clash : List Row → List Node → Node → Option ℕ

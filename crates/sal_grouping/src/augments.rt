@@ -1,6 +1,7 @@
 //! Augments, carried out in rounds.
-ghost use Rattle.std.specs.Prelude.{◌≡◌, ◌<◌, ◌≤◌, ◌+◌, IfOk, None, Some, MatchOption, true, false, length, option_and_then, take};
+ghost use Rattle.std.specs.Prelude.{◌≡◌, ◌<◌, ◌≤◌, ◌+◌, ◌++◌, IfOk, IfSome, IfNone, IsSome, None, Some, MatchOption, true, false, length, option_and_then, take};
 ghost use Rattle.std.specs.List.{list_any, slice_get};
+ghost use Rattle.sal_module.specs.Faults.{least};
 ghost use Rattle.sal_grouping.specs.Rows as rows_spec;
 ghost use Rattle.sal_grouping.specs.Groupings as groupings_spec;
 ghost use Rattle.sal_grouping.specs.Growth as growth;
@@ -11,12 +12,12 @@ ghost use Rattle.sal_grouping.specs.Tried.{Tells};
 use crate::forest::Implied;
 use crate::grow::{find_inside, grow, keyword_at, seeds_in};
 use crate::look_up::Step;
-use crate::names::path_of;
+use crate::names::{path_of, with_fault};
 use crate::node::Node;
 use crate::nodes::nodes_in;
 use crate::plan::Plan;
 use crate::rows::Row;
-use sal_module::{Keyword, Modules};
+use sal_module::{Cause, Found, Keyword, Modules};
 use sal_types::NoMemory;
 use std::alloc::Global;
 
@@ -237,4 +238,150 @@ fn try_augment(
             Ok(tried)
         }
     }
+}
+
+// ---- rounds
+
+/// Tries an augment after others: it joins those that are left, if it is not carried out. The answer is whether all nodes are in it.
+fn try_next(
+    alloc: Global,
+    modules: &Modules,
+    plan: &Plan,
+    nodes: &mut Vec<Node>,
+    still: &mut Vec<usize>,
+    k: usize,
+) -> Result<bool, NoMemory>
+    requires planned { IsPlan plan.now.rows.items plan.now.named.items plan.now }
+    requires small { length nodes.old.items ≤ 65536 }
+    ensures few { IfOk result (λ all. all ≡ true → (nodes.new.items, still.new.items)
+        ≡ spec.tried modules.now plan.now.rows.items plan.now.named.items (nodes.old.items, still.old.items) k) }
+    ensures fits { IfOk result (λ all. all ≡ true → length nodes.new.items ≤ 65536) }
+    ensures many { IfOk result (λ all. all ≡ false →
+        65536 < length (spec.tried modules.now plan.now.rows.items plan.now.named.items (nodes.old.items, still.old.items) k).0) }
+{
+    match try_augment(alloc, modules, plan, nodes, k)? {
+        Tried::Carried => Ok(true),
+        Tried::Left => {
+            still.push(k)?;
+            Ok(true)
+        }
+        Tried::Past => Ok(false),
+    }
+}
+
+/// Tries all these augments once. The answer is those that are left, or none where there are more nodes than are taken.
+fn round(
+    alloc: Global,
+    modules: &Modules,
+    plan: &Plan,
+    nodes: &mut Vec<Node>,
+    left: &[usize],
+) -> Result<Option<Vec<usize>>, NoMemory>
+    requires planned { IsPlan plan.now.rows.items plan.now.named.items plan.now }
+    requires small { length nodes.old.items ≤ 65536 }
+    ensures few { IfOk result (λ r. IfSome r (λ still. (nodes.new.items, still.items)
+        ≡ spec.round modules.now plan.now.rows.items plan.now.named.items (nodes.old.items, left.now))) }
+    ensures fits { IfOk result (λ r. IsSome r → length nodes.new.items ≤ 65536) }
+    ensures many { IfOk result (λ r. IfNone r (65536 < length (spec.round modules.now plan.now.rows.items plan.now.named.items (nodes.old.items, left.now)).0)) }
+{
+    let mut still = Vec::new(alloc);
+    for k in left {
+        let all = try_next(alloc, modules, plan, nodes, &mut still, *k)?;
+        if !all {
+            return Ok(None);
+        }
+    }
+    Ok(Some(still))
+}
+
+/// Carries augments out, in rounds. The answer is those that are left, or none where there are more nodes than are taken.
+fn rounds(
+    alloc: Global,
+    modules: &Modules,
+    plan: &Plan,
+    nodes: &mut Vec<Node>,
+    augments: Vec<usize>,
+) -> Result<Option<Vec<usize>>, NoMemory>
+    requires planned { IsPlan plan.now.rows.items plan.now.named.items plan.now }
+    requires small { length nodes.old.items ≤ 65536 }
+    ensures few { IfOk result (λ r. IfSome r (λ still. (nodes.new.items, still.items)
+        ≡ spec.rounds (length augments.items) modules.now plan.now.rows.items plan.now.named.items (nodes.old.items, augments.items))) }
+    ensures fits { IfOk result (λ r. IsSome r → length nodes.new.items ≤ 65536) }
+    ensures many { IfOk result (λ r. IfNone r
+        (65536 < length (spec.rounds (length augments.items) modules.now plan.now.rows.items plan.now.named.items (nodes.old.items, augments.items)).0)) }
+{
+    let mut left = augments;
+    let count = left.len();
+    for _i in 0..count {
+        let next = match round(alloc, modules, plan, nodes, left.as_slice())? {
+            None => return Ok(None),
+            Some(next) => next,
+        };
+        if next.len() == left.len() {
+            return Ok(Some(next));
+        }
+        left = next;
+    }
+    Ok(Some(left))
+}
+
+// ---- all of them
+
+fn push_augment(augments: &mut Vec<usize>, row: &Row, k: usize) -> Result<(), NoMemory>
+    ensures { IfOk result (λ _. augments.new.items ≡ augments.old.items ++ spec.augment_at k row.now) }
+{
+    if row.keyword == Keyword::Augment {
+        augments.push(k)?;
+    }
+    Ok(())
+}
+
+/// The augments, in the order of the modules and their texts.
+fn augments_of(alloc: Global, rows: &[Row]) -> Result<Vec<usize>, NoMemory>
+    ensures { IfOk result (λ augments. augments.items ≡ spec.augments_of rows.now) }
+{
+    let mut augments = Vec::new(alloc);
+    for (k, row) in rows.iter().enumerate() {
+        push_augment(&mut augments, row, k)?;
+    }
+    Ok(augments)
+}
+
+/// Carries out all augments. The answer is those that are left, or none where there are more nodes than are taken.
+pub(crate) fn augment(
+    alloc: Global,
+    modules: &Modules,
+    plan: &Plan,
+    nodes: &mut Vec<Node>,
+) -> Result<Option<Vec<usize>>, NoMemory>
+    requires planned { IsPlan plan.now.rows.items plan.now.named.items plan.now }
+    requires small { length nodes.old.items ≤ 65536 }
+    ensures few { IfOk result (λ r. IfSome r (λ left. (nodes.new.items, left.items)
+        ≡ spec.augmented modules.now plan.now.rows.items plan.now.named.items nodes.old.items)) }
+    ensures fits { IfOk result (λ r. IsSome r → length nodes.new.items ≤ 65536) }
+    ensures many { IfOk result (λ r. IfNone r (65536 < length (spec.augmented modules.now plan.now.rows.items plan.now.named.items nodes.old.items).0)) }
+{
+    let augments = augments_of(alloc, &plan.rows)?;
+    let left = rounds(alloc, modules, plan, nodes, augments)?;
+    Ok(left)
+}
+
+fn with_target(best: Option<Found>, rows: &[Row], k: usize) -> Option<Found>
+    ensures { result ≡ least best (spec.target_faults_at (slice_get rows.now k)) }
+{
+    match rows.get(k) {
+        None => best,
+        Some(row) => with_fault(best, Cause::BadTarget, row),
+    }
+}
+
+/// The first of the augments that are left.
+pub(crate) fn target_fault(rows: &[Row], left: &[usize]) -> Option<Found>
+    ensures { result ≡ least None (spec.target_faults rows.now left.now) }
+{
+    let mut best = None;
+    for k in left {
+        best = with_target(best, rows, *k);
+    }
+    best
 }

@@ -2,6 +2,8 @@
 #![tactic(auto)]
 
 mod augments;
+mod children;
+
 mod forest;
 mod grow;
 mod index;
@@ -15,5 +17,7 @@ mod rows;
 mod tables;
 mod trees;
 mod vectors;
+mod whole;
 
-pub use forest::{Branch, Implied};
+pub use forest::{Branch, Forest, Implied};
+pub use whole::expand;

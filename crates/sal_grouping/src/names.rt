@@ -186,7 +186,7 @@ fn with_path(
     Ok(best)
 }
 
-fn is_at(place: Option<usize>, k: usize) -> bool
+pub(crate) fn is_at(place: Option<usize>, k: usize) -> bool
     ensures { result ≡ rows_spec.is_block k place }
 {
     match place {

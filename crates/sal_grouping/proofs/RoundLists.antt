@@ -17,11 +17,11 @@ use Rattle.sal_grouping.proofs.FrameLists.{grown-length}
 module _ (stmts : List Stmt) (rows : List Row) (named : List (Option ℕ)) where
   carried-to : (owner k : ℕ) (forest : List Node) (target : ℕ) (kind : Option Keyword) (f : List Node) → carried_to rows named owner k forest target kind ≡ Some f → length forest ≤ length f
   carried-to owner k forest target kind f e = elim (cases_Bool (can_hold rows kind k (has_nodes rows named k))) [
-    | inl yes ↦
-        let grew = rw yes at e in
+    | inl holds ↦
+        let grew = rw holds at e in
         let is : grown rows named owner (Some target) forest (seeds_in rows named kind k) ≡ f = cc in
         rw (← is) (grown-length rows named owner (Some target) forest (seeds_in rows named kind k))
-    | inr no ↦ let none = rw no at e in cc
+    | inr fails ↦ let none = rw fails at e in cc
   ]
 
   carried-at : (owner k : ℕ) (forest : List Node) (target : Option ℕ) (f : List Node) → carried_at rows named owner k forest target ≡ Some f → length forest ≤ length f
@@ -66,11 +66,11 @@ module _ (stmts : List Stmt) (rows : List Row) (named : List (Option ℕ)) where
   unfolding rounds
   rounds-suc n now = refl
 
-  rounds-length : (n : ℕ) (now : Progress) → length now.0 ≤ length (rounds n stmts rows named now).0
+  pub rounds-length : (n : ℕ) (now : Progress) → length now.0 ≤ length (rounds n stmts rows named now).0
   rounds-length zero now = rw (rounds-none now) (omega arith)
   rounds-length (suc n) now = rw (rounds-suc n now) (elim (cases_Bool (length (round stmts rows named now).1 == length now.1)) [
-    | inl yes ↦ rw yes (round-length now)
-    | inr no ↦ rw no (omega (arith, round-length now, rounds-length n (round stmts rows named now)))
+    | inl holds ↦ rw holds (round-length now)
+    | inr fails ↦ rw fails (omega (arith, round-length now, rounds-length n (round stmts rows named now)))
   ])
 
   pub rounds-end : (n : ℕ) (now : Progress) → 0 < n → (length (round stmts rows named now).1 == length now.1) ≡ true → rounds n stmts rows named now ≡ round stmts rows named now
@@ -84,6 +84,6 @@ module _ (stmts : List Stmt) (rows : List Row) (named : List (Option ℕ)) where
   pub rounds-past : (n : ℕ) (now : Progress) → 0 < n → 65536 < length (round stmts rows named now).0 → 65536 < length (rounds n stmts rows named now).0
   rounds-past zero now h past = absurd (omega arith)
   rounds-past (suc n) now h past = rw (rounds-suc n now) (elim (cases_Bool (length (round stmts rows named now).1 == length now.1)) [
-    | inl yes ↦ rw yes past
-    | inr no ↦ rw no (omega (arith, past, rounds-length n (round stmts rows named now)))
+    | inl holds ↦ rw holds past
+    | inr fails ↦ rw fails (omega (arith, past, rounds-length n (round stmts rows named now)))
   ])

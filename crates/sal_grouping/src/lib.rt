@@ -15,6 +15,8 @@ mod plan;
 mod reach;
 mod rows;
 mod tables;
+#[cfg(test)]
+mod tests;
 mod trees;
 mod vectors;
 mod whole;

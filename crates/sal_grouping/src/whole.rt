@@ -1,6 +1,9 @@
 //! The tree of modules that passed.
-ghost use Rattle.std.specs.Prelude.{◌≡◌, ◌≤◌, IfOk, map, length};
+ghost use Rattle.std.specs.Prelude.{◌≡◌, ◌<◌, ◌≤◌, IfOk, MatchOption, map, length};
 ghost use Rattle.sal_types.specs.Reading.{GivesUnless};
+ghost use Rattle.sal_grouping.specs.Rows.{rows_of};
+ghost use Rattle.sal_grouping.specs.Indexes.{AreTops};
+ghost use Rattle.sal_grouping.specs.Plan.{IsPlan};
 ghost use Rattle.sal_grouping.specs.Expand as spec;
 
 use crate::augments::{augment, target_fault};
@@ -8,7 +11,7 @@ use crate::children::child_fault;
 use crate::forest::{Branch, Forest};
 use crate::names::names_fault;
 use crate::node::Node;
-use crate::plan::plan_of;
+use crate::plan::{Plan, plan_of};
 use crate::rows::Row;
 use crate::tables::tables_of;
 use crate::trees::trees_of;
@@ -42,6 +45,28 @@ fn branches_of(alloc: Global, rows: &[Row], nodes: &[Node]) -> Result<Vec<Branch
     Ok(list)
 }
 
+/// The nodes with every augment carried out, and the augments that are left, or none where there are more nodes than are taken.
+fn built(
+    alloc: Global,
+    modules: &Modules,
+    plan: &Plan,
+) -> Result<Option<(Vec<Node>, Vec<usize>)>, NoMemory>
+    requires planned { IsPlan plan.now.rows.items plan.now.named.items plan.now }
+    requires rows { plan.now.rows.items ≡ rows_of modules.now }
+    requires tops { AreTops modules.now plan.now.tops.items }
+    ensures { IfOk result (λ r. MatchOption r (65536 < length (spec.built modules.now plan.now.rows.items plan.now.named.items).0)
+        (λ p. ((p.0.items, p.1.items) ≡ spec.built modules.now plan.now.rows.items plan.now.named.items) × (length p.0.items ≤ 65536))) }
+{
+    let mut nodes = match trees_of(alloc, modules, plan)? {
+        None => return Ok(None),
+        Some(nodes) => nodes,
+    };
+    match augment(alloc, modules, plan, &mut nodes)? {
+        None => Ok(None),
+        Some(left) => Ok(Some((nodes, left))),
+    }
+}
+
 /// The nodes of these modules, with every `uses` and every augment carried out, or the first fault.
 ///
 /// Each part is judged only where those before it found nothing: names, the number of nodes, the targets of augments, and
@@ -55,13 +80,9 @@ pub fn expand(alloc: Global, modules: &Modules) -> Result<Forest, BuildFault>
         return Err(found.fault(alloc)?);
     }
     let plan = plan_of(alloc, modules, tables)?;
-    let mut nodes = match trees_of(alloc, modules, &plan)? {
+    let (nodes, left) = match built(alloc, modules, &plan)? {
         None => return Err(BuildFault::TooMany { what: What::Nodes }),
-        Some(nodes) => nodes,
-    };
-    let left = match augment(alloc, modules, &plan, &mut nodes)? {
-        None => return Err(BuildFault::TooMany { what: What::Nodes }),
-        Some(left) => left,
+        Some(both) => both,
     };
     if let Some(found) = target_fault(&plan.rows, left.as_slice()) {
         return Err(found.fault(alloc)?);

@@ -1,5 +1,5 @@
 -- The closest data node, from one node to the one above it.
-use Rattle.std.proofs.Common.{◌≡◌, ℕ, zero, suc, ◌-◌, ◌<◌, List, Option, Some, None, refl, ◌∙◌, arith}
+use Rattle.std.proofs.Common.{◌≡◌, ℕ, zero, suc, ◌-◌, ◌<◌, List, Option, Some, None, refl, arith}
 use Rattle.sal_grouping.specs.declared.rows.Row.{Row}
 use Rattle.sal_grouping.specs.declared.node.Node.{Node}
 use Rattle.sal_grouping.specs.Children.{passed, data_parent}

@@ -1,5 +1,5 @@
 -- Tables beside the list of statements, from one statement to the next.
-use Rattle.std.proofs.Common.{◌≡◌, ◌≢◌, ℕ, zero, suc, ◌+◌, ◌<◌, ◌==◌, ◌&&◌, List, [], ◌∷◌, ◌++◌, map, length, take, get_or, Bool, true, false, not, Option, Some, None, is_some, if◌then◌else◌, refl, ◌∙◌, sym, ap, inl, inr, arith, get_or-set_other, get_or-set_same, append-nil}
+use Rattle.std.proofs.Common.{◌≡◌, ◌≢◌, ℕ, zero, suc, ◌+◌, ◌<◌, ◌==◌, ◌&&◌, List, [], ◌∷◌, ◌++◌, length, take, get_or, Bool, true, false, not, Option, Some, None, is_some, if◌then◌else◌, refl, ◌∙◌, sym, ap, inl, inr, arith, get_or-set_other, get_or-set_same, append-nil}
 use Rattle.std.proofs.Math.ListN.{set}
 use Rattle.std.specs.Prelude.{String, Vec}
 use Rattle.std.specs.declared.alloc.Global.{Global}
@@ -16,7 +16,7 @@ use Rattle.std.proofs.lemmas.Map.Text.{btree_map_updates_text}
 use Rattle.sal_module.specs.declared.keyword.Keyword.{Keyword}
 use Rattle.sal_module.specs.Keywords.{same, same_keyword}
 use Rattle.sal_grouping.specs.declared.rows.Row.{Row}
-use Rattle.sal_grouping.specs.Rows.{is_block, is_inside, all_inside, defines, first_defined}
+use Rattle.sal_grouping.specs.Rows.{is_inside, all_inside, defines, first_defined}
 use Rattle.sal_grouping.specs.Indexes.{Names, with_first, picked, lists}
 use Rattle.sal_grouping.proofs.Places.{numbered-take, position_from-take}
 
@@ -80,11 +80,11 @@ first-put old new key k updates name is unknown q =
     let here : get_by_text new q ≡ (if bytes_eq name q then Some k else get_by_text old q) =
     btree_map_updates_text (string_bytes key) old new (Some k) updates q ∙ ap (λ n. if bytes_eq n q then Some k else get_by_text old q) is in
     elim (cases_Bool (same name q)) [
-    | inl e ↦
-        let that : name ≡ q = (bytes_eq-Decides name q).0 e in
-        let none : is_some (get_by_text old q) ≡ false = ap (λ n. is_some (get_by_text old n)) (sym that) ∙ unknown in
-        here ∙ rw (e, none) refl
-    | inr e ↦ here ∙ rw e (sym (with_first-miss (get_by_text old q) k))
+      | inl e ↦
+          let that : name ≡ q = (bytes_eq-Decides name q).0 e in
+          let none : is_some (get_by_text old q) ≡ false = ap (λ n. is_some (get_by_text old n)) (sym that) ∙ unknown in
+          here ∙ rw (e, none) refl
+      | inr e ↦ here ∙ rw e (sym (with_first-miss (get_by_text old q) k))
     ]
 
 no-block : (a c : Bool) → ((a && false) && c) ≡ false

@@ -1,5 +1,5 @@
 -- Look-ups, from one block to the next.
-use Rattle.std.proofs.Common.{◌≡◌, ℕ, zero, suc, ◌-◌, ◌==◌, true, false, List, Option, Some, None, is_some, if◌then◌else◌, refl, ◌∙◌, arith}
+use Rattle.std.proofs.Common.{◌≡◌, ℕ, zero, suc, ◌-◌, ◌==◌, true, false, List, Option, Some, None, is_some, if◌then◌else◌, refl, arith}
 use Rattle.sal_module.specs.declared.keyword.Keyword.TheVariants.{Grouping}
 use Rattle.sal_grouping.specs.declared.rows.Row.{Row}
 use Rattle.sal_grouping.specs.Rows.{around_of, first_of, keyword_at, is_keyword}

@@ -1,5 +1,5 @@
 -- Tables: lists whose element at each place is a function of the place.
-use Rattle.std.proofs.Common.{◌≡◌, ℕ, zero, suc, ◌+◌, ◌-◌, ◌<◌, ◌≤◌, List, [], ◌∷◌, ◌++◌, length, take, get_or, Bool, true, false, Option, Some, None, is_some, if◌then◌else◌, refl, ◌∙◌, sym, ap, subst, inl, inr, arith, length-append, append_assoc, append-nil}
+use Rattle.std.proofs.Common.{◌≡◌, ℕ, ◌+◌, ◌-◌, ◌<◌, List, [], ◌∷◌, ◌++◌, length, take, get_or, Bool, Option, Some, None, is_some, if◌then◌else◌, refl, ◌∙◌, sym, ap, subst, inl, inr, arith, append_assoc, append-nil}
 use Rattle.std.specs.List.{flat_map, enumerate_from, position_from}
 use Rattle.std.proofs.lemmas.List.Sums.{fold-append}
 use Rattle.sal_module.specs.declared.fault.Found.{Found}

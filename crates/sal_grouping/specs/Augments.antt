@@ -1,5 +1,5 @@
 -- Augments (RFC 7950 section 7.17), carried out in rounds.
-use Rattle.std.specs.Prelude.{ℕ, zero, suc, Bool, true, false, not, ◌&&◌, ◌==◌, List, [], ◌∷◌, ◌++◌, map, fold, find, length, nat_lt, is_some, Option, Some, None, option_and_then, option_map, unwrap_or, if◌then◌else◌, codes}
+use Rattle.std.specs.Prelude.{ℕ, zero, suc, Bool, true, false, not, ◌&&◌, ◌==◌, List, [], ◌∷◌, ◌++◌, fold, find, length, nat_lt, is_some, Option, Some, None, option_and_then, option_map, unwrap_or, if◌then◌else◌, codes}
 use Rattle.std.specs.List.{slice_get, flat_map, enumerate_from, position_from}
 use Rattle.sal_stmt.specs.declared.stmt.Stmt.{Stmt}
 use Rattle.sal_module.specs.declared.keyword.Keyword.{Keyword}

@@ -1,7 +1,6 @@
 -- Nodes of one name where names differ (RFC 7950 section 6.2.1).
 use Rattle.std.specs.Prelude.{ℕ, zero, suc, Bool, true, false, not, ◌&&◌, ◌||◌, ◌==◌, List, [], length, Option, Some, None, is_some, unwrap_or, if◌then◌else◌}
 use Rattle.std.specs.List.{slice_get, flat_map, enumerate_from, position_from}
-use Rattle.sal_module.specs.declared.keyword.Keyword.{Keyword}
 use Rattle.sal_module.specs.declared.keyword.Keyword.TheVariants.{Choice, Case}
 use Rattle.sal_module.specs.declared.fault.Cause.TheVariants.{DoubleNode}
 use Rattle.sal_module.specs.declared.fault.Found.{Found}

@@ -1,5 +1,5 @@
 -- The tree of modules that passed: their nodes, or the first fault. Each part is judged only where those before it found nothing.
-use Rattle.std.specs.Prelude.{ℕ, Bool, nat_lt, List, map, length, Option, Some, None, option_map, unwrap_or, Result, Ok, Err, if◌then◌else◌}
+use Rattle.std.specs.Prelude.{ℕ, nat_lt, List, map, length, Option, Some, None, Result, Ok, Err, if◌then◌else◌}
 use Rattle.std.specs.List.{slice_get}
 use Rattle.sal_types.specs.Reading.{◌>>=◌}
 use Rattle.sal_stmt.specs.declared.stmt.Stmt.{Stmt}

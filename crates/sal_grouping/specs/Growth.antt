@@ -1,6 +1,6 @@
 -- The tree of nodes, numbered depth first in the order of the text, with `uses` carried out (RFC 7950 section 7.13).
 use Rattle.std.specs.Prelude.{ℕ, zero, suc, ◌*◌, Bool, true, false, List, [], ◌∷◌, ◌++◌, map, find, fold, length, Option, Some, None, unwrap_or, if◌then◌else◌}
-use Rattle.std.specs.List.{slice_get, flat_map, enumerate_from}
+use Rattle.std.specs.List.{slice_get, flat_map}
 use Rattle.sal_stmt.specs.declared.stmt.Stmt.{Stmt}
 use Rattle.sal_module.specs.declared.keyword.Keyword.{Keyword}
 use Rattle.sal_module.specs.declared.keyword.Keyword.TheVariants.{Container, Leaf, LeafList, List as ListOf, Choice, Case, Rpc, Input, Output, Notification}

@@ -1,5 +1,5 @@
 -- What the tables beside the list of statements hold.
-use Rattle.std.specs.Prelude.{◌≡◌, ℕ, ◌<◌, Bool, List, [], ◌∷◌, map, length, Option, Some, None, is_some, slice_index_or, if◌then◌else◌, String, Vec}
+use Rattle.std.specs.Prelude.{◌≡◌, ℕ, ◌<◌, Bool, List, [], map, length, Option, Some, None, is_some, slice_index_or, if◌then◌else◌, String, Vec}
 use Rattle.std.specs.declared.alloc.Global.{Global}
 use Rattle.std.specs.BTreeMap.{BTreeMap, get_by_text}
 use Rattle.sal_stmt.specs.declared.stmt.Stmt.{Stmt}

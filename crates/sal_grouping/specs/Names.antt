@@ -1,6 +1,6 @@
 -- The faults of names: every one of every statement, in any order, and the least of them counts.
-use Rattle.std.specs.Prelude.{ℕ, zero, suc, Bool, false, List, [], ◌∷◌, ◌++◌, map, length, drop, Option, Some, None, is_none, is_some, ◌==◌, ◌||◌, slice_index_or, if◌then◌else◌}
-use Rattle.std.specs.List.{list_any, flat_map, enumerate_from, slice_split}
+use Rattle.std.specs.Prelude.{ℕ, zero, suc, Bool, false, List, [], ◌++◌, map, length, Option, Some, None, is_none, ◌==◌, ◌||◌, slice_index_or, if◌then◌else◌}
+use Rattle.std.specs.List.{list_any, flat_map, enumerate_from}
 use Rattle.sal_stmt.specs.declared.stmt.Stmt.{Stmt}
 use Rattle.sal_module.specs.declared.keyword.Keyword.{Keyword}
 use Rattle.sal_module.specs.declared.keyword.Keyword.TheVariants.{Grouping, Uses, Augment, Typedef, Identity}

@@ -87,12 +87,7 @@ fn is_child(rows: &[Row], parent: Option<u32>, step: &Step, node: &Node) -> bool
 }
 
 /// The child to which a step leads: that with the smallest number.
-fn child_of(
-    rows: &[Row],
-    nodes: &[Node],
-    parent: Option<u32>,
-    step: &Step,
-) -> Option<u32>
+fn child_of(rows: &[Row], nodes: &[Node], parent: Option<u32>, step: &Step) -> Option<u32>
     requires { length nodes.now ≤ 65536 }
     ensures { result ≡ spec.child_of rows.now nodes.now parent step.now }
 {

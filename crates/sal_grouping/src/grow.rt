@@ -196,7 +196,7 @@ fn push_below(
     ensures few { IfOk result (λ all. all ≡ true → (owner : ℕ) (forest : List Knot) →
         spec.with_frames plan.now.rows.items plan.now.named.items owner frames.new.items forest
         ≡ spec.with_frames plan.now.rows.items plan.now.named.items owner frames.old.items
-            (growth.grow levels plan.now.rows.items plan.now.named.items owner parent forest (growth.below plan.now.rows.items plan.now.named.items seed))) }
+        (growth.grow levels plan.now.rows.items plan.now.named.items owner parent forest (growth.below plan.now.rows.items plan.now.named.items seed))) }
     ensures many { IfOk result (λ all. all ≡ false → (0 < levels) × (65536 < length (growth.below plan.now.rows.items plan.now.named.items seed))) }
 {
     if levels == 0 {

@@ -69,11 +69,7 @@ fn steps_of(
 }
 
 /// The names in the path of an augment.
-pub(crate) fn path_of(
-    alloc: Global,
-    modules: &Modules,
-    row: &Row,
-) -> Result<Vec<Step>, NoMemory>
+pub(crate) fn path_of(alloc: Global, modules: &Modules, row: &Row) -> Result<Vec<Step>, NoMemory>
     ensures { IfOk result (λ path. path.items ≡ groupings_spec.path_of modules.now row.now) }
 {
     match row.name.as_str().split_once('/') {

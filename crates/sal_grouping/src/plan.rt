@@ -52,11 +52,7 @@ pub(crate) fn is_node(rows: &[Row], k: usize) -> bool
     }
 }
 
-fn named_of(
-    alloc: Global,
-    modules: &Modules,
-    t: &Tables,
-) -> Result<Vec<Option<usize>>, NoMemory>
+fn named_of(alloc: Global, modules: &Modules, t: &Tables) -> Result<Vec<Option<usize>>, NoMemory>
     requires { AreTables modules.now t.now }
     ensures { IfOk result (λ named. named.items ≡ groupings_spec.named_of modules.now t.now.rows.items) }
 {
@@ -99,11 +95,7 @@ pub(crate) fn named_at(named: &[Option<usize>], k: usize) -> Option<usize>
     }
 }
 
-fn push_namers(
-    full: &mut Vec<usize>,
-    namers: &[Vec<usize>],
-    b: usize,
-) -> Result<(), NoMemory> {
+fn push_namers(full: &mut Vec<usize>, namers: &[Vec<usize>], b: usize) -> Result<(), NoMemory> {
     if b < namers.len() {
         for namer in &namers[b] {
             full.push(*namer)?;
@@ -170,24 +162,14 @@ fn is_bare(rows: &[Row], named: &[Option<usize>], bare: &[bool], k: usize) -> bo
     }
 }
 
-fn has_no_nodes(
-    rows: &[Row],
-    named: &[Option<usize>],
-    bare: &[bool],
-    block: &[usize],
-) -> bool
+fn has_no_nodes(rows: &[Row], named: &[Option<usize>], bare: &[bool], block: &[usize]) -> bool
     ensures { result ≡ list_all (spec.is_bare rows.now named.now bare.now) block.now }
 {
     block.iter().all(|k| is_bare(rows, named, bare, *k))
 }
 
 /// Whether the marks are right.
-fn are_bare(
-    rows: &[Row],
-    named: &[Option<usize>],
-    bare: &[bool],
-    inside: &[Vec<usize>],
-) -> bool
+fn are_bare(rows: &[Row], named: &[Option<usize>], bare: &[bool], inside: &[Vec<usize>]) -> bool
     requires { index.AreInside rows.now (index.lists inside.now) }
     ensures { IsTrue result → spec.AreBare rows.now named.now bare.now }
 {

@@ -12,10 +12,7 @@ use std::alloc::Global;
 // ---- ranks
 
 /// How many groupings each one names, and by which it is named.
-fn turned(
-    alloc: Global,
-    edges: &[Vec<usize>],
-) -> Result<(Vec<usize>, Vec<Vec<usize>>), NoMemory> {
+fn turned(alloc: Global, edges: &[Vec<usize>]) -> Result<(Vec<usize>, Vec<Vec<usize>>), NoMemory> {
     let mut counts = Vec::with_capacity(alloc, edges.len())?;
     let mut users = empty_lists(alloc, edges.len())?;
     for (g, out) in edges.iter().enumerate() {

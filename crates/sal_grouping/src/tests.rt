@@ -63,26 +63,59 @@ const BODIES: &[(&str, &str)] = &[
     ("", ""),
     ("leaf a { type nope; }", "-,0,0,36 "),
     // groupings
-    ("uses p:g; grouping g { leaf a { type string; } }", "-,0,0,59 "),
+    (
+        "uses p:g; grouping g { leaf a { type string; } }",
+        "-,0,0,59 ",
+    ),
     ("grouping g { uses g; }", "name-cycle 0 49"),
-    ("grouping g { leaf a { type string; } } container c { uses g; grouping g { leaf b { type string; } } }", "-,0,0,75 0,0,0,110 "),
+    (
+        "grouping g { leaf a { type string; } } container c { uses g; grouping g { leaf b { type string; } } }",
+        "-,0,0,75 0,0,0,110 ",
+    ),
     ("uses g;", "unknown-name 0 36"),
     ("uses q:g;", "unknown-name 0 36"),
-    ("grouping g; typedef g { type string; } grouping g;", "double-node 0 75"),
+    (
+        "grouping g; typedef g { type string; } grouping g;",
+        "double-node 0 75",
+    ),
     // choices and RPCs
-    ("choice c { leaf a { type string; } }", "-,0,0,36 0,0,0,47! 1,0,0,47 "),
-    ("rpc r { output { leaf a { type string; } } }", "-,0,0,36 0,0,0,36! 0,0,0,44 2,0,0,53 "),
+    (
+        "choice c { leaf a { type string; } }",
+        "-,0,0,36 0,0,0,47! 1,0,0,47 ",
+    ),
+    (
+        "rpc r { output { leaf a { type string; } } }",
+        "-,0,0,36 0,0,0,36! 0,0,0,44 2,0,0,53 ",
+    ),
     // augments
-    ("container c; augment \"/c/d\" { leaf x { type string; } } augment \"/p:c\" { container d; }", "-,0,0,36 0,0,0,109 1,0,0,66 "),
-    ("augment \"/c\" { leaf x { type string; } }", "bad-target 0 36"),
+    (
+        "container c; augment \"/c/d\" { leaf x { type string; } } augment \"/p:c\" { container d; }",
+        "-,0,0,36 0,0,0,109 1,0,0,66 ",
+    ),
+    (
+        "augment \"/c\" { leaf x { type string; } }",
+        "bad-target 0 36",
+    ),
     ("augment \"/q:c\";", "unknown-name 0 36"),
-    ("rpc r; augment \"/r/input\" { leaf x { type string; } }", "-,0,0,36 0,0,0,36! 0,0,0,36! 1,0,0,64 "),
-    ("choice c; augment \"/c\" { leaf x { type string; } }", "-,0,0,36 0,0,0,61! 1,0,0,61 "),
+    (
+        "rpc r; augment \"/r/input\" { leaf x { type string; } }",
+        "-,0,0,36 0,0,0,36! 0,0,0,36! 1,0,0,64 ",
+    ),
+    (
+        "choice c; augment \"/c\" { leaf x { type string; } }",
+        "-,0,0,36 0,0,0,61! 1,0,0,61 ",
+    ),
     ("container c; augment \"/c\" { case x; }", "bad-target 0 49"),
     // names of children
     ("leaf a { type string; } container a;", "double-node 0 60"),
-    ("choice a { leaf a { type string; } } leaf b { type string; }", "-,0,0,36 0,0,0,47! 1,0,0,47 -,0,0,73 "),
-    ("choice c { leaf a { type string; } } leaf a { type string; }", "double-node 0 73"),
+    (
+        "choice a { leaf a { type string; } } leaf b { type string; }",
+        "-,0,0,36 0,0,0,47! 1,0,0,47 -,0,0,73 ",
+    ),
+    (
+        "choice c { leaf a { type string; } } leaf a { type string; }",
+        "double-node 0 73",
+    ),
     ("choice c { case a; case a; }", "double-node 0 55"),
 ];
 
@@ -95,13 +128,18 @@ fn bodies(rt: HostRuntime) -> Result<(), Fail> {
     Ok(())
 }
 
-const A: &str = "module a { namespace u; prefix a; import b { prefix b; } augment \"/b:c\" { uses b:g; leaf x { type string; } } }";
+const A: &str =
+    "module a { namespace u; prefix a; import b { prefix b; } augment \"/b:c\" { uses b:g; leaf x { type string; } } }";
 
-const B: &str = "module b { namespace u; prefix b; container c { leaf x { type string; } } grouping g { leaf y { type string; } } }";
+const B: &str =
+    "module b { namespace u; prefix b; container c { leaf x { type string; } } grouping g { leaf y { type string; } } }";
 
 #[test]
 fn an_augment_of_another_module(rt: HostRuntime) -> Result<(), Fail> {
-    assert_eq!(rt; verdict(&rt, &[A, B])?.as_str(), "-,1,1,34 0,1,1,48 0,0,1,87 0,0,0,84 ");
+    assert_eq!(rt;
+        verdict(&rt, &[A, B])?.as_str(),
+        "-,1,1,34 0,1,1,48 0,0,1,87 0,0,0,84 "
+    );
     Ok(())
 }
 

@@ -1,4 +1,4 @@
-use Rattle.std.proofs.Common.{◌≡◌, ◌∙◌, ◌<◌, Some, Option, true, length, sym, ap}
+use Rattle.std.proofs.Common.{◌≡◌, ◌∙◌, Some, Option, true, sym, ap}
 use Rattle.std.specs.Prelude.{option_and_then}
 use Rattle.std.specs.List.{slice_get}
 use Rattle.sal_module.specs.declared.keyword.Keyword.{Keyword}

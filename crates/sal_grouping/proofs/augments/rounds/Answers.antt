@@ -1,6 +1,5 @@
-use Rattle.std.proofs.Common.{◌≡◌, ◌∙◌, ◌-◌, ◌+◌, ◌<◌, ◌==◌, true, false, rules, length, sym, ap, subst, arith}
+use Rattle.std.proofs.Common.{◌≡◌, ◌∙◌, ◌-◌, ◌+◌, ◌<◌, rules, length, sym, ap, subst, arith}
 use Rattle.std.proofs.lemmas.Grind.{common_steps}
-use Rattle.std.proofs.lemmas.Bool.Decides.{nat_tests}
 use Rattle.sal_grouping.specs.Augments.{Progress, round, rounds}
 use Rattle.sal_grouping.proofs.IndexLists.{is-same, not-same}
 use Rattle.sal_grouping.proofs.RoundLists.{rounds-none, rounds-end, rounds-more, rounds-past}

@@ -1,6 +1,6 @@
 -- The rounds that are left.
 use Rattle.std.proofs.Common.{◌≡◌, ◌≤◌, ◌-◌, length}
-use Rattle.sal_grouping.specs.Augments.{Progress, rounds}
+use Rattle.sal_grouping.specs.Augments.{rounds}
 use Rattle.sal_grouping.proofs.augments.rounds.Given as goal
 
 abbrev pub invariant-loop-i : goal.invariant-loop-i

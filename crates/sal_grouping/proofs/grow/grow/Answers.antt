@@ -1,9 +1,9 @@
-use Rattle.std.proofs.Common.{◌≡◌, ◌∙◌, ◌<◌, ◌≤◌, ◌*◌, ◌++◌, [], ◌∷◌, List, length, true, sym, ap, subst, arith}
+use Rattle.std.proofs.Common.{◌≡◌, ◌∙◌, ◌<◌, ◌*◌, List, length, sym, ap, subst, arith}
 use Rattle.std.proofs.lemmas.Grind.{common_steps}
 use Rattle.std.proofs.lemmas.Bool.Decides.{nat_tests}
 use Rattle.sal_grouping.specs.declared.node.Node.{Node}
-use Rattle.sal_grouping.specs.Growth.{grow, grown}
-use Rattle.sal_grouping.specs.Frames.{with_frame, with_frames}
+use Rattle.sal_grouping.specs.Growth.{grow}
+use Rattle.sal_grouping.specs.Frames.{with_frames}
 use Rattle.sal_grouping.proofs.FrameLists.{grow-none, frames-last, frames-one, frame-whole, frames-length}
 use Rattle.sal_grouping.proofs.grow.grow.Goals as goal
 

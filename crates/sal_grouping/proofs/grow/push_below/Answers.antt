@@ -1,4 +1,4 @@
-use Rattle.std.proofs.Common.{◌≡◌, ◌∙◌, ◌<◌, ◌++◌, [], ◌∷◌, sym, ap, arith}
+use Rattle.std.proofs.Common.{◌≡◌, ◌∙◌, ◌<◌, sym, ap, arith}
 use Rattle.sal_grouping.specs.Growth.{below, grow}
 use Rattle.sal_grouping.specs.Frames.{with_frames}
 use Rattle.sal_grouping.proofs.FrameLists.{grow-none, frames-last, frame-whole}

@@ -1,5 +1,4 @@
-use Rattle.std.proofs.Common.{◌≡◌, ◌∙◌, sym, arith, false, is_some}
-use Rattle.std.proofs.lemmas.Grind.{common_steps}
+use Rattle.std.proofs.Common.{◌≡◌, ◌∙◌, sym, false, is_some}
 use Rattle.std.specs.BTreeMap.{get_by_text}
 use Rattle.sal_grouping.proofs.IndexLists.{first-put}
 use Rattle.sal_grouping.proofs.index.define.Goals as goal

@@ -1,4 +1,4 @@
-use Rattle.std.proofs.Common.{◌≡◌, ◌∙◌, ◌<◌, sym, true, false, length, arith}
+use Rattle.std.proofs.Common.{◌≡◌, ◌∙◌, ◌<◌, sym, false, length, arith}
 use Rattle.std.proofs.lemmas.Grind.{common_steps}
 use Rattle.sal_module.specs.Keywords.{same_keyword}
 use Rattle.sal_grouping.proofs.IndexLists.{with_first-miss, defines-other, define-at, not-true, not-false}

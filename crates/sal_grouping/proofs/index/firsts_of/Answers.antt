@@ -1,4 +1,4 @@
-use Rattle.std.proofs.Common.{◌≡◌, ◌∙◌, ◌<◌, ℕ, sym, ap, arith, length}
+use Rattle.std.proofs.Common.{◌∙◌, ◌<◌, sym, ap, arith, length}
 use Rattle.sal_grouping.specs.Rows.{defines}
 use Rattle.sal_grouping.specs.Indexes.{with_first}
 use Rattle.sal_grouping.proofs.IndexLists.{first-take}

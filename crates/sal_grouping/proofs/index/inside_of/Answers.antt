@@ -1,5 +1,4 @@
-use Rattle.std.proofs.Common.{◌≡◌, ◌∙◌, ◌<◌, ℕ, Some, ◌++◌, sym, ap, arith, length}
-use Rattle.std.proofs.lemmas.Grind.{common_steps}
+use Rattle.std.proofs.Common.{◌∙◌, ◌<◌, Some, ◌++◌, sym, ap, arith, length}
 use Rattle.sal_grouping.specs.Indexes.{picked, lists}
 use Rattle.sal_grouping.proofs.IndexLists.{inside-take}
 use Rattle.sal_grouping.proofs.index.inside_of.Goals as goal

@@ -1,6 +1,5 @@
 use Rattle.std.proofs.Common.{◌≡◌, ◌∙◌, ◌-◌, ◌==◌, false, sym, ap, arith}
 use Rattle.std.proofs.lemmas.Bool.Decides.{nat_tests}
-use Rattle.sal_grouping.specs.Rows.{around_of}
 use Rattle.sal_grouping.specs.Groupings.{from_block}
 use Rattle.sal_grouping.proofs.LookUps.{from_block-zero, from_block-none, from_block-found, from_block-next}
 use Rattle.sal_grouping.proofs.look_up.+from_block.Goals as goal

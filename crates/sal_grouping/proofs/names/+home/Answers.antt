@@ -1,8 +1,5 @@
-use Rattle.std.proofs.Common.{◌≡◌, ◌∙◌, ◌-◌, ◌==◌, true, false, sym, ap, arith}
+use Rattle.std.proofs.Common.{◌≡◌, ◌∙◌, ◌-◌, ◌==◌, false, sym, ap, arith}
 use Rattle.std.proofs.lemmas.Bool.Decides.{nat_tests}
-use Rattle.std.proofs.lemmas.Grind.{common_steps}
-use Rattle.sal_module.specs.declared.keyword.Keyword.TheVariants.{Grouping}
-use Rattle.sal_grouping.specs.Rows.{is_keyword, keyword_at}
 use Rattle.sal_grouping.specs.Names.{home}
 use Rattle.sal_grouping.proofs.LookUps.{home-zero, home-none, home-here, home-next}
 use Rattle.sal_grouping.proofs.names.+home.Goals as goal

@@ -1,6 +1,5 @@
 -- The groupings that each one names, so far.
-use Rattle.std.proofs.Common.{◌≡◌, ◌<◌, ℕ, [], length, take, get_or, if◌then◌else◌}
-use Rattle.std.specs.List.{flat_map}
+use Rattle.std.proofs.Common.{◌≡◌, ◌<◌, ℕ, [], length, take, get_or}
 use Rattle.sal_grouping.specs.Indexes.{lists}
 use Rattle.sal_grouping.proofs.Edges.{used_among}
 use Rattle.sal_grouping.proofs.names.edges_of.Given as goal

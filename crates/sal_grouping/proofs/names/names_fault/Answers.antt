@@ -1,4 +1,4 @@
-use Rattle.std.proofs.Common.{None, ℕ}
+use Rattle.std.proofs.Common.{None}
 use Rattle.sal_grouping.specs.declared.rows.Row.{Row}
 use Rattle.sal_grouping.specs.Names.{row_faults}
 use Rattle.sal_grouping.proofs.Places.{least_more}

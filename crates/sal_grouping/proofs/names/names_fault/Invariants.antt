@@ -1,4 +1,4 @@
-use Rattle.std.proofs.Common.{◌≡◌, take, None, ℕ}
+use Rattle.std.proofs.Common.{◌≡◌, take, None}
 use Rattle.sal_module.specs.Faults.{least}
 use Rattle.sal_grouping.specs.declared.rows.Row.{Row}
 use Rattle.sal_grouping.specs.Names.{row_faults}

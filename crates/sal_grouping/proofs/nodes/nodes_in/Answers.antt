@@ -1,7 +1,6 @@
-use Rattle.std.proofs.Common.{◌≡◌, ◌∙◌, ◌<◌, ◌++◌, [], ◌∷◌, length, sym, ap, arith, length-append}
+use Rattle.std.proofs.Common.{◌∙◌, ◌<◌, ◌++◌, length, sym, ap, arith, length-append}
 use Rattle.std.proofs.lemmas.Grind.{common_steps}
-use Rattle.sal_grouping.specs.Growth.{nodes_in}
-use Rattle.sal_grouping.specs.Visits.{left_of, all_left}
+use Rattle.sal_grouping.specs.Visits.{all_left}
 use Rattle.sal_grouping.proofs.VisitLists.{all_left-last}
 use Rattle.sal_grouping.proofs.nodes.nodes_in.Goals as goal
 

@@ -1,5 +1,5 @@
 -- The nodes that were found, and those that are left.
-use Rattle.std.proofs.Common.{◌≡◌, ◌++◌, length}
+use Rattle.std.proofs.Common.{◌≡◌, ◌++◌}
 use Rattle.sal_grouping.specs.Growth.{nodes_in}
 use Rattle.sal_grouping.specs.Visits.{all_left}
 use Rattle.sal_grouping.proofs.nodes.nodes_in.Given as goal

@@ -1,4 +1,4 @@
-use Rattle.std.proofs.Common.{◌≡◌, ◌∙◌, ◌-◌, ◌++◌, ℕ, List, [], sym, ap, arith}
+use Rattle.std.proofs.Common.{◌≡◌, ◌∙◌, ◌++◌, sym, ap, arith}
 use Rattle.sal_grouping.specs.Growth.{nodes_within}
 use Rattle.sal_grouping.specs.Visits.{all_left}
 use Rattle.sal_grouping.proofs.VisitLists.{nodes-none, nodes-visit, all_left-last}

@@ -1,7 +1,7 @@
-use Rattle.std.proofs.Common.{◌≡◌, ◌∙◌, ◌+◌, ◌++◌, [], ◌∷◌, ℕ, List, Some, None, true, false, refl, sym, ap}
+use Rattle.std.proofs.Common.{◌≡◌, ◌∙◌, ◌++◌, [], true, false, refl, sym, ap}
 use Rattle.sal_grouping.specs.Rows.{keyword_at}
 use Rattle.sal_grouping.specs.Growth.{is_node, nodes_within}
-use Rattle.sal_grouping.specs.Visits.{left_of, all_left}
+use Rattle.sal_grouping.specs.Visits.{all_left}
 use Rattle.sal_grouping.proofs.VisitLists.{at-uses, at-none, bare-none, visit-none, step-now, step-later}
 use Rattle.sal_grouping.proofs.nodes.visit_one.Goals as goal
 

@@ -1,4 +1,4 @@
-use Rattle.std.proofs.Common.{◌≡◌, ◌∙◌, ◌<◌, ℕ, [], true, get_or, nat_le, sym, ap, arith, below_more}
+use Rattle.std.proofs.Common.{◌≡◌, ◌∙◌, ℕ, [], true, get_or, nat_le, sym, ap, arith, below_more}
 use Rattle.std.specs.Prelude.{Vec}
 use Rattle.std.specs.declared.alloc.Global.{Global}
 use Rattle.std.specs.List.{list_all}

@@ -1,6 +1,4 @@
-use Rattle.std.proofs.Common.{◌≡◌, ◌∙◌, ◌==◌, false, [], length, get_or, sym, ap, refl, arith, nat_lt, true}
-use Rattle.std.specs.List.{list_all}
-use Rattle.std.proofs.lemmas.Grind.{common_steps}
+use Rattle.std.proofs.Common.{◌≡◌, ◌∙◌, ◌==◌, false, length, get_or, sym, ap, arith}
 use Rattle.std.proofs.lemmas.Bool.Decides.{nat_tests}
 use Rattle.sal_grouping.specs.Indexes.{lists}
 use Rattle.sal_grouping.proofs.Rounds.{marked-at, unreached-below}

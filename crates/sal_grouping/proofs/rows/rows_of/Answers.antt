@@ -1,6 +1,5 @@
-use Rattle.std.proofs.Common.{◌≡◌, ◌∙◌, None, ℕ, ◌<◌, ◌+◌, ◌++◌, [], ◌∷◌, List, length, take, get_or, sym, ap, subst, arith}
+use Rattle.std.proofs.Common.{◌≡◌, ◌∙◌, None, length, take, sym, ap, arith}
 use Rattle.std.proofs.lemmas.Grind.{common_steps}
-use Rattle.sal_stmt.specs.declared.stmt.Stmt.{Stmt}
 use Rattle.sal_grouping.specs.Rows.{with_rows, rows_of, top_of}
 use Rattle.sal_grouping.proofs.RowLists.{rows_of-take}
 use Rattle.sal_grouping.proofs.Places.{table-last}

@@ -1,6 +1,5 @@
-use Rattle.std.proofs.Common.{◌≡◌, ◌<◌, None, length, sym, subst, ap}
+use Rattle.std.proofs.Common.{None}
 use Rattle.sal_grouping.specs.Rows.{top_of}
-use Rattle.sal_grouping.specs.Growth.{seeds_in}
 use Rattle.sal_grouping.proofs.FrameLists.{seeds-many}
 use Rattle.sal_grouping.proofs.trees.push_module.Goals as goal
 

@@ -1,8 +1,7 @@
-use Rattle.std.proofs.Common.{◌≡◌, ◌∙◌, ◌<◌, List, length, sym, subst, ap, arith}
+use Rattle.std.proofs.Common.{◌∙◌, ◌<◌, List, length, sym, subst, ap, arith}
 use Rattle.std.proofs.lemmas.Grind.{common_steps}
-use Rattle.std.proofs.lemmas.Bool.Decides.{nat_tests}
 use Rattle.sal_grouping.specs.declared.node.Node.{Node}
-use Rattle.sal_grouping.specs.Growth.{trees_until, module_grown}
+use Rattle.sal_grouping.specs.Growth.{module_grown}
 use Rattle.sal_grouping.proofs.FrameLists.{trees-none, trees-more, trees-past}
 use Rattle.sal_grouping.proofs.trees.trees_of.Goals as goal
 

@@ -1,7 +1,6 @@
 -- Each example by computation.
-use Rattle.std.proofs.Common.{◌≡◌, ℕ, suc, List, [], ◌∷◌, ◌++◌, fold, length, Option, Some, None, is_none, unwrap_or, codes, if◌then◌else◌, refl}
+use Rattle.std.proofs.Common.{◌≡◌, ℕ, [], ◌∷◌, Option, Some, None, codes, refl}
 use Prim.Native.String.{String}
-use Rattle.sal_stmt.specs.declared.stmt.Stmt.{Stmt, roll-Stmt}
 use Rattle.sal_stmt.specs.declared.stmt.Stmt.TheViews.{out-roll-Stmt}
 use Rattle.sal_module.specs.declared.keyword.Keyword.{Keyword}
 use Rattle.sal_module.specs.declared.keyword.Keyword.TheVariants.{Augment, Case, Choice, Container, Grouping, Leaf, Module, Output, Rpc, Typedef, Uses}
@@ -11,7 +10,7 @@ use Rattle.sal_module.specs.Modules.{imported}
 use Rattle.sal_module.specs.Imports.{reaches}
 use Rattle.sal_grouping.specs.declared.rows.Row.{Row}
 use Rattle.sal_grouping.specs.Examples as example
-use Rattle.sal_grouping.specs.Rows.{part_among, with_rows, rows_of}
+use Rattle.sal_grouping.specs.Rows.{rows_of}
 use Rattle.sal_grouping.specs.Groupings.{from_block}
 use Rattle.sal_grouping.specs.Names.{home}
 use Rattle.sal_grouping.specs.Growth.{nodes_within, grow, trees_until}

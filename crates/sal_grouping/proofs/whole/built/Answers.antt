@@ -1,4 +1,4 @@
-use Rattle.std.proofs.Common.{◌<◌, length, arith}
+use Rattle.std.proofs.Common.{length, arith}
 use Rattle.sal_grouping.specs.Growth.{trees_of}
 use Rattle.sal_grouping.specs.Augments.{augments_of}
 use Rattle.sal_grouping.proofs.RoundLists.{rounds-length}

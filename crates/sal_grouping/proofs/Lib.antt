@@ -10,3 +10,4 @@ pub mod VisitLists
 pub mod FrameLists
 pub mod RoundLists
 pub mod DataParents
+pub mod KeyMaps

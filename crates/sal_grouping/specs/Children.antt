@@ -1,15 +1,18 @@
 -- Nodes of one name where names differ (RFC 7950 section 6.2.1).
-use Rattle.std.specs.Prelude.{ℕ, zero, suc, Bool, true, false, not, ◌&&◌, ◌||◌, ◌==◌, List, [], length, Option, Some, None, is_some, unwrap_or, if◌then◌else◌}
+use Rattle.std.specs.Prelude.{ℕ, zero, suc, Bool, not, ◌&&◌, ◌||◌, List, [], length, Option, Some, None, is_some, unwrap_or, if◌then◌else◌}
 use Rattle.std.specs.List.{slice_get, flat_map, enumerate_from, position_from}
 use Rattle.sal_module.specs.declared.keyword.Keyword.TheVariants.{Choice, Case}
 use Rattle.sal_module.specs.declared.fault.Cause.TheVariants.{DoubleNode}
 use Rattle.sal_module.specs.declared.fault.Found.{Found}
-use Rattle.sal_module.specs.Keywords.{same}
 use Rattle.sal_grouping.specs.declared.rows.Row.{Row}
 use Rattle.sal_grouping.specs.declared.node.Node.{Node}
+use Rattle.sal_grouping.specs.declared.children.Key.{Key}
+use Rattle.sal_grouping.specs.contracts.children.KeyOrd.TheImpl as key_ord
+use Rattle.std.specs.declared.cmp.Ordering.{Ordering}
+use Rattle.std.specs.Ordering.{eq_by_cmp}
 use Rattle.sal_grouping.specs.Rows.{is_block, is_keyword}
 use Rattle.sal_grouping.specs.Names.{at_row}
-use Rattle.sal_grouping.specs.Augments.{kind_of, name_of, same_place}
+use Rattle.sal_grouping.specs.Augments.{kind_of, name_of}
 
 abbrev pub is_choice : List Row → Node → Bool
 is_choice rows node = is_keyword Choice (kind_of rows node)
@@ -36,30 +39,34 @@ data_parent (suc n) rows forest place =
 abbrev pub scope_of : List Row → List Node → Node → Option ℕ
 scope_of rows forest node = if is_case rows node then node.parent else data_parent (length forest) rows forest node.parent
 
--- A choice has no name among data nodes: what clashes is two cases, or two other nodes, of one scope, module and name.
-abbrev pub same_side : Bool → Bool → Bool
-same_side true b = b
-same_side false b = not b
+-- what tells nodes apart: whether it is a case, its scope, its module and its name
+abbrev pub key_of : List Row → List Node → Node → Key
+key_of rows forest node = record { case = is_case rows node; scope = scope_of rows forest node; «module» = node.module; name = name_of rows node }
 
-abbrev pub same_name : List Row → Node → Node → Bool
-same_name rows a b =
-    ((not (is_choice rows b) && same_side (is_case rows a) (is_case rows b)) && a.module == b.module) && same (name_of rows a) (name_of rows b)
+abbrev pub key_cmp : Key → Key → Ordering
+key_cmp = (key_ord.ghosts).cmp
 
-abbrev pub clashes : List Row → List Node → Node → Node → Bool
-clashes rows forest a b = same_name rows a b && same_place (scope_of rows forest a) (scope_of rows forest b)
+abbrev pub same_key : Key → Key → Bool
+same_key = eq_by_cmp key_cmp
 
--- the first node that clashes with this one, itself included
-abbrev pub first_clash : List Row → List Node → Node → Option ℕ
-first_clash rows forest node = position_from (clashes rows forest node) 0 forest
+-- A choice has no name among data nodes.
+abbrev pub has_key : List Row → List Node → Key → Node → Bool
+has_key rows forest key node = not (is_choice rows node) && same_key key (key_of rows forest node)
+
+-- the first of these nodes that has this key
+abbrev pub first_with : List Row → List Node → Key → List Node → Option ℕ
+first_with rows forest key some = position_from (has_key rows forest key) 0 some
 
 abbrev pub fault_at : Option Row → List Found
 fault_at None = []
 fault_at (Some row) = at_row DoubleNode row
 
--- a node that is not the first of those that clash
+-- a choice, or the first node with its key
+abbrev pub is_first : List Row → List Node → ℕ → Node → Bool
+is_first rows forest k node = is_choice rows node || is_block k (first_with rows forest (key_of rows forest node) forest)
+
 abbrev pub node_faults : List Row → List Node → ℕ → Node → List Found
-node_faults rows forest k node =
-    if is_choice rows node || is_block k (first_clash rows forest node) then [] else fault_at (slice_get rows node.row)
+node_faults rows forest k node = if is_first rows forest k node then [] else fault_at (slice_get rows node.row)
 
 abbrev pub child_faults : List Row → List Node → List Found
 child_faults rows forest = flat_map (λ (entry : ℕ × Node). node_faults rows forest entry.0 entry.1) (enumerate_from 0 forest)

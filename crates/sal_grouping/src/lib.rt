@@ -20,7 +20,8 @@
 //! let forest = expand(alloc, &modules)?;  // the choice, the case of the leaf, the leaf
 //! ```
 //!
-//! Cost: names and growth take time linear in the statements and the nodes, times the logarithm of what stands in one block.
+//! Cost: names, growth and the names of children take time linear in the statements and the nodes, times the logarithm of what
+//! is looked up; a node in choices goes up to the data node above them.
 //! Growth ends past 65,536 nodes, and groupings without nodes are passed over, so groupings that use one another twice end
 //! quickly. A cycle of groupings costs, for each `uses` from which a way leads into a cycle, the time of all of them for each
 //! step of the longest way. An augment looks through all nodes for each step of its path, and is tried once a round: as many

@@ -87,7 +87,7 @@ pub fn expand(alloc: Global, modules: &Modules) -> Result<Forest, BuildFault>
     if let Some(found) = target_fault(&plan.rows, left.as_slice()) {
         return Err(found.fault(alloc)?);
     }
-    if let Some(found) = child_fault(&plan.rows, nodes.as_slice()) {
+    if let Some(found) = child_fault(alloc, &plan.rows, nodes.as_slice())? {
         return Err(found.fault(alloc)?);
     }
     Ok(Forest::from_items(branches_of(alloc, &plan.rows, nodes.as_slice())?))

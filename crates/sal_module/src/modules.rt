@@ -161,9 +161,10 @@ fn place_in(map: &Prefixes, prefix: &str) -> Option<u32>
 }
 
 impl Modules {
-    /// The statements of the modules, in the order given.
+    /// The statements of the modules, in the order given: at most 64.
     pub fn items(&self) -> &[Stmt]
-        ensures { result.now ≡ self.now }
+        ensures value { result.now ≡ self.now }
+        ensures few { length result.now < 65 }
     {
         &self.list
     }

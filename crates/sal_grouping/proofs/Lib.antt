@@ -1,0 +1,13 @@
+pub mod Rolled
+pub mod RowLists
+pub mod Places
+pub mod IndexLists
+pub mod LookUps
+pub mod Rounds
+pub mod Paths
+pub mod Edges
+pub mod VisitLists
+pub mod FrameLists
+pub mod RoundLists
+pub mod DataParents
+pub mod KeyMaps

@@ -1,0 +1,15 @@
+pub mod Rows
+pub mod Indexes
+pub mod Groupings
+pub mod Names
+pub mod Reach
+pub mod Tables
+pub mod Growth
+pub mod Plan
+pub mod Visits
+pub mod Frames
+pub mod Augments
+pub mod Tried
+pub mod Children
+pub mod Expand
+pub mod Examples

@@ -1,0 +1,51 @@
+//! The tree of nodes that modules make, with groupings and augments carried out.
+//!
+//! | item | what it is |
+//! |---|---|
+//! | `expand` | the nodes of modules, numbered, or the first fault of their names, their number, their augments or their children |
+//! | `Forest` | the nodes, seen as their list by number |
+//! | `Branch` | a node: its parent, its module, and where its statement stands |
+//! | `Implied` | what a node without a statement is: a case, an input or an output |
+//! | `examples` | worked examples, as laws |
+//!
+//! The statements that matter stand in one list over all modules, and a statement is known by its number there
+//! (`specs/Rows.antt`). Look-ups of groupings go from the block of a `uses` outwards (`specs/Groupings.antt`), names are
+//! judged before anything grows (`specs/Names.antt`), the tree grows depth first in the order of the text
+//! (`specs/Growth.antt`), augments are carried out in rounds (`specs/Augments.antt`), and the names of children are
+//! judged last (`specs/Children.antt`). `specs/Expand.antt` puts these parts in order.
+//!
+//! ```
+//! let module = read_module(alloc, "module m { namespace 'urn:m'; prefix p; choice c { leaf a { type string; } } }")?;
+//! let modules = check(alloc, &[module])?;
+//! let forest = expand(alloc, &modules)?;  // the choice, the case of the leaf, the leaf
+//! ```
+//!
+//! Cost: names, growth and the names of children take time linear in the statements and the nodes, times the logarithm of what
+//! is looked up; a node in choices goes up to the data node above them.
+//! Growth ends past 65,536 nodes, and groupings without nodes are passed over, so groupings that use one another twice end
+//! quickly. A cycle of groupings costs, for each `uses` from which a way leads into a cycle, the time of all of them for each
+//! step of the longest way. An augment looks through all nodes for each step of its path, and is tried once a round: as many
+//! rounds as augments, where each waits for the one behind it. No call nests deeper than the blocks of the text.
+#![tactic(auto)]
+
+mod augments;
+mod children;
+mod forest;
+mod grow;
+mod index;
+mod look_up;
+mod names;
+mod node;
+mod nodes;
+mod plan;
+mod reach;
+mod rows;
+mod tables;
+#[cfg(test)]
+mod tests;
+mod trees;
+mod vectors;
+mod whole;
+
+pub use forest::{Branch, Forest, Implied};
+pub use whole::expand;

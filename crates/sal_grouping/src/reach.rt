@@ -1,0 +1,212 @@
+//! Which groupings use themselves.
+ghost use Rattle.std.specs.Prelude.{◌≡◌, ◌==◌, ◌||◌, ◌<◌, ◌≤◌, nat_le, ℕ, [], false, map, length, IfOk, IfSome, IsTrue, slice_index_or, vec_len};
+ghost use Rattle.std.specs.List.{list_any, list_all};
+ghost use Rattle.sal_module.specs.Imports as imports;
+ghost use Rattle.sal_grouping.specs.Indexes.{lists};
+ghost use Rattle.sal_grouping.specs.Reach as spec;
+
+use crate::index::{empty_lists, pick};
+use sal_types::NoMemory;
+use std::alloc::Global;
+
+// ---- ranks
+
+/// How many groupings each one names, and by which it is named.
+fn turned(alloc: Global, edges: &[Vec<usize>]) -> Result<(Vec<usize>, Vec<Vec<usize>>), NoMemory> {
+    let mut counts = Vec::with_capacity(alloc, edges.len())?;
+    let mut users = empty_lists(alloc, edges.len())?;
+    for (g, out) in edges.iter().enumerate() {
+        counts.push(out.len())?;
+        for used in out {
+            pick(&mut users, Some(*used), Some(g))?;
+        }
+    }
+    Ok((counts, users))
+}
+
+/// One name fewer to wait for. A grouping that waits for none is ready.
+fn count_down(counts: &mut Vec<usize>, ready: &mut Vec<usize>, g: usize) -> Result<(), NoMemory> {
+    if g < counts.len() {
+        if counts[g] == 1 {
+            ready.push(g)?;
+        }
+        counts[g] = counts[g].saturating_sub(1);
+    }
+    Ok(())
+}
+
+fn ready_of(alloc: Global, counts: &[usize]) -> Result<Vec<usize>, NoMemory> {
+    let mut ready = Vec::new(alloc);
+    for (g, count) in counts.iter().enumerate() {
+        if *count == 0 {
+            ready.push(g)?;
+        }
+    }
+    Ok(ready)
+}
+
+fn set_rank(ranks: &mut Vec<usize>, g: usize, rank: usize) {
+    if g < ranks.len() {
+        ranks[g] = rank;
+    }
+}
+
+fn last_ranks(alloc: Global, count: usize) -> Result<Vec<usize>, NoMemory> {
+    let mut ranks = Vec::with_capacity(alloc, count)?;
+    for _i in 0..count {
+        ranks.push(count)?;
+    }
+    Ok(ranks)
+}
+
+fn count_users(
+    counts: &mut Vec<usize>,
+    ready: &mut Vec<usize>,
+    users: &[Vec<usize>],
+    g: usize,
+) -> Result<(), NoMemory> {
+    if g < users.len() {
+        for user in &users[g] {
+            count_down(counts, ready, *user)?;
+        }
+    }
+    Ok(())
+}
+
+/// Each grouping's rank: above those of all that it names, or the last one where a way leads from it into a cycle.
+fn ranks_of(alloc: Global, edges: &[Vec<usize>]) -> Result<Vec<usize>, NoMemory> {
+    let (counts, users) = turned(alloc, edges)?;
+    let mut counts = counts;
+    let mut ready = ready_of(alloc, counts.as_slice())?;
+    let mut ranks = last_ranks(alloc, edges.len())?;
+    for rank in 0..edges.len() {
+        match ready.pop() {
+            None => break,
+            Some(g) => {
+                set_rank(&mut ranks, g, rank);
+                count_users(&mut counts, &mut ready, users.as_slice(), g)?;
+            }
+        }
+    }
+    Ok(ranks)
+}
+
+fn rank_at(ranks: &[usize], g: usize) -> usize
+    ensures { result ≡ slice_index_or ranks.now g 0 }
+{
+    ranks.get(g).copied().unwrap_or(0)
+}
+
+fn is_above(ranks: &[usize], high: usize, out: &[usize]) -> bool
+    ensures { result ≡ list_all (λ k. nat_le (slice_index_or ranks.now k 0) high) out.now }
+{
+    out.iter().all(|k| rank_at(ranks, *k) <= high)
+}
+
+/// Whether no grouping has a lower rank than one that it names.
+fn is_ranked(edges: &[Vec<usize>], ranks: &[usize]) -> bool
+    ensures { IsTrue result → spec.IsRanked (lists edges.now) ranks.now }
+{
+    for (g, out) in edges.iter().enumerate() {
+        if !is_above(ranks, rank_at(ranks, g), out.as_slice()) {
+            return false;
+        }
+    }
+    true
+}
+
+// ---- rounds
+
+fn is_marked(marks: &[bool], k: usize) -> bool
+    ensures { result ≡ slice_index_or marks.now k false }
+{
+    marks.get(k).copied().unwrap_or(false)
+}
+
+fn goes(marks: &[bool], out: &[usize], target: usize) -> bool
+    ensures { result ≡ list_any (λ k. imports.is_step marks.now target k) out.now }
+{
+    out.iter().any(|k| *k == target || is_marked(marks, *k))
+}
+
+/// Which groupings name the target or one that is marked.
+fn round(
+    alloc: Global,
+    edges: &[Vec<usize>],
+    marks: &[bool],
+    target: usize,
+) -> Result<Vec<bool>, NoMemory>
+    ensures { IfOk result (λ v. v.items ≡ map (λ out. list_any (λ k. imports.is_step marks.now target k) out.items) edges.now) }
+{
+    let mut next = Vec::with_capacity(alloc, edges.len())?;
+    for out in edges {
+        next.push(goes(marks, out.as_slice(), target))?;
+    }
+    Ok(next)
+}
+
+/// Which groupings reach the target within so many names and one more. It ends once a round marks no more.
+fn reaching(
+    alloc: Global,
+    edges: &[Vec<usize>],
+    target: usize,
+    rounds: usize,
+) -> Result<Vec<bool>, NoMemory>
+    ensures { IfOk result (λ v. v.items ≡ map (imports.reaches (lists edges.now) rounds target) (lists edges.now)) }
+{
+    let mut marks = round(alloc, edges, &[], target)?;
+    for _i in 0..rounds {
+        let next = round(alloc, edges, marks.as_slice(), target)?;
+        if next.as_slice() == marks.as_slice() {
+            return Ok(marks);
+        }
+        marks = next;
+    }
+    Ok(marks)
+}
+
+// ---- together
+
+/// The rank of each grouping, or none where they are of no use.
+pub(crate) fn ranking(alloc: Global, edges: &[Vec<usize>]) -> Result<Option<Vec<usize>>, NoMemory>
+    ensures { IfOk result (λ ranking. IfSome ranking (λ ranks. spec.IsRanked (lists edges.now) ranks.items)) }
+{
+    let ranks = ranks_of(alloc, edges)?;
+    if is_ranked(edges, ranks.as_slice()) {
+        return Ok(Some(ranks));
+    }
+    Ok(None)
+}
+
+fn is_below(ranking: &Option<Vec<usize>>, used: usize, g: usize) -> bool
+    ensures { result ≡ spec.is_below ranking.now used g }
+{
+    match ranking {
+        None => false,
+        Some(ranks) => rank_at(ranks.as_slice(), used) < rank_at(ranks.as_slice(), g),
+    }
+}
+
+/// Whether a grouping is the one that it names, or is reached from there.
+///
+/// Where no way leads from there into a cycle, that takes no time. Elsewhere it takes that of all groupings' names, for each
+/// step of the longest way to it.
+pub(crate) fn reaches(
+    alloc: Global,
+    edges: &[Vec<usize>],
+    ranking: &Option<Vec<usize>>,
+    used: usize,
+    g: usize,
+) -> Result<bool, NoMemory>
+    requires { IfSome ranking.now (λ ranks. spec.IsRanked (lists edges.now) ranks.items) }
+    ensures { IfOk result (λ b. b ≡ (used == g || imports.reaches (lists edges.now) (length edges.now) g (slice_index_or (lists edges.now) used []))) }
+{
+    if used == g {
+        return Ok(true);
+    }
+    if is_below(ranking, used, g) {
+        return Ok(false);
+    }
+    let marks = reaching(alloc, edges, g, edges.len())?;
+    Ok(is_marked(marks.as_slice(), used))
+}

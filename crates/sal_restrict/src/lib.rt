@@ -5,10 +5,38 @@
 //! | `YangType` | a type with its restrictions, as a schema holds it |
 //! | `Ranges`, `Part` | ascending, disjoint parts of the whole numbers; one part, from its lowest to its highest number |
 //! | `Pattern` | the text of a pattern, and whether values must not match it |
+//! | `read_ranges` | the range that a text writes within another one, which may only be narrower |
+//! | `RangeFault` | why a text gives no range |
+//!
+//! A contract sees `Ranges` as the list of its parts. `specs/RangeTexts.antt` says what a text means: it is cut at `|` and
+//! `..`, and each bound is a number of any size. `specs/Ranges.antt` says what it is to hold numbers.
+//!
+//! ```
+//! let mut list = Vec::new(alloc);
+//! list.push(Part { low: 1, high: 4096 })?;
+//! let ports = Ranges::from_items(list);
+//! let some = read_ranges(alloc, "min..4 | 10..20", &ports, 0)?; // 1 to 4, and 10 to 20
+//! read_ranges(alloc, "0..5", &ports, 0);                        // Err(Wider)
+//! ```
+//!
+//! Costs: `read_ranges` takes time and memory linear in the text and in the parts of the outer range, whatever they are;
+//! `holds`, a comparison and a copy are linear in the parts, and a copy of a type in all that it holds. Unions may stand in
+//! one another: a copy makes as many calls in one another as unions do.
 #![tactic(auto)]
 
+mod bound;
+mod covers;
+mod fault;
+mod range_text;
 mod ranges;
+mod span;
+#[cfg(test)]
+mod tests;
+mod vectors;
+mod words;
 mod yang_type;
 
+pub use fault::RangeFault;
+pub use range_text::read_ranges;
 pub use ranges::{Part, Ranges};
 pub use yang_type::{Pattern, YangType};

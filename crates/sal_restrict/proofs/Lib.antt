@@ -1,0 +1,5 @@
+pub mod Places
+pub mod Digits
+pub mod Parts
+pub mod Splits
+pub mod Numbers

@@ -1,0 +1,36 @@
+//! Why a text is no range.
+ghost use Rattle.std.specs.Prelude.{◌≡◌};
+ghost use Rattle.sal_restrict.specs.declared.fault.RangeFault.TheVariants.{NoMemory};
+
+use std::alloc::{AllocError, AllocFailed};
+use thiserror::Error;
+
+/// Why the text of a range was not taken.
+#[derive(Clone, Copy, Debug, PartialEq, Eq, Error)]
+pub enum RangeFault {
+    /// The text has not the form of a range, or its bounds or parts are out of order.
+    #[error("this is no range")]
+    BadText,
+    /// It has the form, but a number of it is not in the range that it restricts.
+    #[error("the range is wider than the one that it restricts")]
+    Wider,
+    /// Memory ran out.
+    #[error("out of memory")]
+    NoMemory,
+}
+
+impl From<AllocError> for RangeFault {
+    ghost from_gives = { λ _ e. e ≡ NoMemory };
+
+    fn from(_refused: AllocError) -> RangeFault {
+        RangeFault::NoMemory
+    }
+}
+
+impl<T: Drop> From<AllocFailed<T>> for RangeFault {
+    ghost from_gives = { λ _ e. e ≡ NoMemory };
+
+    fn from(_refused: AllocFailed<T>) -> RangeFault {
+        RangeFault::NoMemory
+    }
+}

@@ -1,0 +1,10 @@
+-- The least of the first faults.
+use Rattle.std.proofs.Common.{◌≡◌, take}
+use Rattle.std.specs.List.{flat_map}
+use Rattle.sal_module.specs.Faults.{least}
+use Rattle.sal_module.specs.Statements.{subs_of}
+use Rattle.sal_typedefs.specs.Restrictions.{digit_fault}
+use Rattle.sal_typedefs.proofs.judging.with_all_digits.Given as goal
+
+abbrev pub invariant-loop-sub : goal.invariant-loop-sub
+invariant-loop-sub l = l.best ≡ least l.initial.best (flat_map (digit_fault l.number) (take l.sub-index (subs_of l.stmt)))

@@ -1,0 +1,127 @@
+-- The names in a type statement and in those that it rests on, and their faults.
+use Rattle.std.specs.Prelude.{ℕ, zero, suc, ◌+◌, Bool, not, ◌&&◌, ◌==◌, nat_lt, List, [], ◌∷◌, ◌++◌, map, find, length, take, drop, Option, Some, None, is_some, is_none, option_map, unwrap_or, if◌then◌else◌, codes}
+use Rattle.std.specs.List.{flat_map, list_any, list_all, prefix_len, slice_split, slice_get, sum_by}
+use Rattle.std.specs.Option.{option_to_list}
+use Rattle.sal_stmt.specs.declared.stmt.Stmt.{Stmt}
+use Rattle.sal_stmt.specs.Words.{is_keyword}
+use Rattle.sal_module.specs.declared.keyword.Keyword.TheVariants as word
+use Rattle.sal_module.specs.declared.fault.Cause.TheVariants.{UnknownName, NameCycle}
+use Rattle.sal_module.specs.declared.fault.Found.{Found}
+use Rattle.sal_module.specs.Keywords.{same}
+use Rattle.sal_module.specs.Statements.{is_named, subs_of, all_named, argument_of, value_of}
+use Rattle.sal_module.specs.Profile.{at_stmt}
+use Rattle.sal_typedefs.specs.Scopes.{Site, within, is_same, module_of, typedef_of, identity_of}
+use Rattle.sal_typedefs.specs.Builtins.{builtin_of}
+
+-- ---- what a type rests on
+
+abbrev pub name_of : Site → List ℕ
+name_of site = argument_of site.stmt
+
+abbrev pub is_builtin : Site → Bool
+is_builtin site = is_some (builtin_of (name_of site))
+
+-- the typedef that a type statement names
+abbrev pub target : List Stmt → Site → Option Site
+target modules site = if is_builtin site then None else typedef_of modules site (name_of site)
+
+abbrev pub types_in : Site → List Site
+types_in site = map (within site) (all_named word.Type site.stmt)
+
+-- the members of a union, or the type of the typedef
+abbrev pub rests_on : List Stmt → Site → List Site
+rests_on modules site =
+    if is_builtin site then (if same (name_of site) (codes "union") then types_in site else [])
+    else flat_map (λ typedef. take 1 (types_in typedef)) (option_to_list (target modules site))
+
+-- a type statement and those that it rests on, in so many steps
+unfoldable pub under : ℕ → List Stmt → Site → List Site
+under zero modules site = site ∷ []
+under (suc steps) modules site = site ∷ flat_map (under steps modules) (rests_on modules site)
+
+-- how many statements there are in so many levels: a way that does not come back is no longer
+unfoldable pub count : ℕ → Stmt → ℕ
+count zero stmt = 1
+count (suc levels) stmt = 1 + sum_by (count levels) (subs_of stmt)
+
+abbrev pub steps_of : List Stmt → ℕ
+steps_of modules = sum_by (count 64) modules
+
+-- ---- the names of a leafref's path
+
+-- What stands in brackets is skipped: of each predicate the closing bracket is left. Brackets that are not closed make no path.
+abbrev mutual
+  pub outside : List ℕ → Option (List ℕ)
+  outside [] = Some []
+  outside (c ∷ t) = if c == 91 then inside t else option_map (λ rest. c ∷ rest) (outside t)
+
+  pub inside : List ℕ → Option (List ℕ)
+  inside [] = None
+  inside (c ∷ t) = if c == 93 then option_map (λ rest. c ∷ rest) (outside t) else inside t
+
+-- a name, and predicates behind it
+abbrev pub name_len : List ℕ → ℕ
+name_len step = prefix_len (λ c. not (c == 93)) step
+
+abbrev pub is_step : List ℕ → Bool
+is_step step = is_keyword (take (name_len step) step) && list_all (λ c. c == 93) (drop (name_len step) step)
+
+abbrev pub is_up : List ℕ → Bool
+is_up step = same step (codes "..")
+
+-- the steps of a path that goes down from the top, or first up one or more times
+abbrev pub steps_down : List (List ℕ) → List (List ℕ)
+steps_down steps = if length (unwrap_or (slice_get steps 0) (codes "x")) == 0 then drop 1 steps else drop (prefix_len is_up steps) steps
+
+abbrev pub is_path : List (List ℕ) → Bool
+is_path steps = (nat_lt (length (steps_down steps)) (length steps) && nat_lt 0 (length (steps_down steps))) && list_all is_step (steps_down steps)
+
+-- its names, if it has the form of a path (RFC 7950 section 9.9.2)
+abbrev pub path_names : List ℕ → List (List ℕ)
+path_names t =
+    flat_map (λ shut. if is_path (slice_split (λ c. c == 47) shut) then map (λ step. take (name_len step) step) (steps_down (slice_split (λ c. c == 47) shut)) else [])
+    (option_to_list (outside t))
+
+-- ---- faults
+
+-- a name that no typedef has, or with an unknown prefix
+abbrev pub unknown_faults : List Stmt → Site → List Found
+unknown_faults modules site =
+    if not (is_builtin site) && is_none (target modules site) then at_stmt UnknownName site.module site.stmt else []
+
+abbrev pub is_of : List Stmt → Site → Site → Bool
+is_of modules typedef site = list_any (is_same typedef) (option_to_list (target modules site))
+
+-- the closest typedef around a statement
+abbrev pub typedef_around : Site → Option Stmt
+typedef_around site = find (is_named word.Typedef) site.around
+
+-- A name by which the typedef around it rests on itself. A leaf's type is in no typedef.
+abbrev pub goes_in_circle : ℕ → List Stmt → Site → Bool
+goes_in_circle steps modules site =
+    is_some (target modules site)
+    && list_any (λ typedef. list_any (is_of modules (record { «module» = site.module; stmt = typedef; around = [] })) (under steps modules site)) (option_to_list (typedef_around site))
+
+abbrev pub cycle_faults : ℕ → List Stmt → Site → List Found
+cycle_faults steps modules site = if goes_in_circle steps modules site then at_stmt NameCycle site.module site.stmt else []
+
+-- an identity that no module has, by a `base` of an identityref
+abbrev pub base_faults : List Stmt → Site → List Found
+base_faults modules site =
+    if same (name_of site) (codes "identityref")
+    then flat_map (λ base. if is_none (identity_of modules site.module (argument_of base)) then at_stmt UnknownName site.module base else []) (all_named word.Base site.stmt)
+    else []
+
+-- a prefix that no import has, in the path of a leafref
+abbrev pub path_faults : List Stmt → Site → List Found
+path_faults modules site =
+    if same (name_of site) (codes "leafref") && list_any (λ name. is_none (module_of modules site.module name)) (path_names (value_of word.Path site.stmt))
+    then at_stmt UnknownName site.module site.stmt else []
+
+abbrev pub name_faults : ℕ → List Stmt → Site → List Found
+name_faults steps modules site =
+    unknown_faults modules site ++ cycle_faults steps modules site ++ base_faults modules site ++ path_faults modules site
+
+-- of a type statement and of all that it rests on
+abbrev pub all_name_faults : List Stmt → Site → List Found
+all_name_faults modules site = flat_map (name_faults (steps_of modules) modules) (under (steps_of modules) modules site)

@@ -1,0 +1,18 @@
+-- Patterns that the grammar of `regex` does not read.
+use Rattle.std.specs.Prelude.{ℕ, Bool, true, nat_lt, List, ◌++◌, Option, Some, None, chars, codes}
+use Rattle.regex_syntax.specs.Verdict.{default_config}
+use Rattle.regex_syntax.specs.Grammar.{Names, read}
+use Rattle.regex_syntax.specs.Brackets.{Nested}
+use Rattle.regex_hir.specs.Re.{Re}
+
+-- the pattern of a whole text
+abbrev pub whole_text : List ℕ → List ℕ
+whole_text t = codes "\\A(?:" ++ (t ++ codes ")\\z")
+
+-- the grammar reads nothing, or what it reads is nested too deeply
+abbrev pub is_refused : Option (Nested Re × Names) → Bool
+is_refused None = true
+is_refused (Some found) = nat_lt default_config.nest_limit found.0.depth
+
+unfoldable pub is_malformed : List ℕ → Bool
+is_malformed t = is_refused (read default_config (chars (whole_text t)))

@@ -1,0 +1,147 @@
+-- What a type statement means: its type, or the first fault in it and in those that it rests on.
+use Rattle.std.specs.Prelude.{◌≡◌, ⊤, ℕ, zero, suc, ◌+◌, Bool, true, false, not, ◌==◌, List, [], ◌∷◌, ◌++◌, map, find, length, Option, Some, None, is_some, option_map, unwrap_or, if◌then◌else◌, Result, Ok, Err, unsigned_abs}
+use Rattle.std.specs.List.{flat_map, list_any, enumerate_from, position, slice_get, slice_index}
+use Rattle.std.specs.Option.{option_to_list}
+use Rattle.std.specs.Result.{result_unwrap_or}
+use Rattle.sal_stmt.specs.declared.stmt.Stmt.{Stmt}
+use Rattle.sal_module.specs.declared.keyword.Keyword.{Keyword}
+use Rattle.sal_module.specs.declared.keyword.Keyword.TheVariants as word
+use Rattle.sal_module.specs.declared.fault.Found.{Found}
+use Rattle.sal_module.specs.declared.fault.BuildFault.{BuildFault}
+use Rattle.sal_module.specs.Faults.{least, fault_of}
+use Rattle.sal_module.specs.Keywords.{same}
+use Rattle.sal_module.specs.Statements.{is_named, subs_of, all_named, argument_of, value_of}
+use Rattle.sal_restrict.specs.declared.ranges.Part.{Part}
+use Rattle.sal_restrict.specs.declared.yang_type.Pattern.{Pattern}
+use Rattle.sal_restrict.specs.declared.yang_type.YangType.{YangType, out-YangType, roll-YangType}
+use Rattle.sal_restrict.specs.declared.yang_type.YangType.TheOpen.{YangType-F}
+use Rattle.sal_restrict.specs.RangeTexts.{read_ranges}
+use Rattle.sal_typedefs.specs.Scopes.{Site, identity_of}
+use Rattle.sal_typedefs.specs.Builtins.{builtin_of, type_of}
+use Rattle.sal_typedefs.specs.Names.{name_of, rests_on, steps_of, all_name_faults}
+use Rattle.sal_typedefs.specs.Entries.{Entry, of_enums, of_bits, entries_of, chosen}
+use Rattle.sal_typedefs.specs.Restrictions.{Base, unlisted, Layer, layer_of, restriction_faults, pattern_faults}
+
+-- ---- the type of a statement without faults
+
+-- the numbers that a text writes, or all where it writes none
+abbrev pub read_or_all : List ℕ → ℕ → List Part → List Part
+read_or_all t digits within = result_unwrap_or (read_ranges t within digits) within
+
+-- the range or length of a type, narrowed where the statement says so
+abbrev pub narrowed : Keyword → Stmt → ℕ → List Part → List Part
+narrowed keyword stmt digits within =
+    unwrap_or (option_map (λ sub. read_or_all (argument_of sub) digits within) (find (is_named keyword) (subs_of stmt))) within
+
+abbrev pub pattern_of : Stmt → Pattern
+pattern_of stmt = record { text = argument_of stmt; inverted = list_any (is_named word.Modifier) (subs_of stmt) }
+
+-- the members of a union, or the type as its only member
+abbrev pub members_of : YangType → Layer → List YangType
+members_of t (YangType-F.Union members) = members
+members_of t layer = t ∷ []
+
+-- the places of some names in the original enumeration
+abbrev pub places_of : List (List ℕ) → List ℕ → List (List ℕ) → List ℕ
+places_of names places chosen = map (λ name. slice_index places (unwrap_or (position (same name) names) 0)) chosen
+
+abbrev pub names_in : List Entry → List (List ℕ)
+names_in entries = map (λ (e : Entry). e.0) entries
+
+-- the names and numbers of the type, where it is an enumeration or bits
+abbrev pub entries_in : Base → Stmt → Layer → List Entry
+entries_in base stmt (YangType-F.Enum names places) =
+    if base.itself then entries_of of_enums [] (all_named word.Enum stmt)
+    else if length (all_named word.Enum stmt) == 0 then base.entries else chosen base.entries (all_named word.Enum stmt)
+entries_in base stmt (YangType-F.Bits names positions) =
+    if base.itself then entries_of of_bits [] (all_named word.Bit stmt)
+    else if length (all_named word.Bit stmt) == 0 then base.entries else chosen base.entries (all_named word.Bit stmt)
+entries_in base stmt t = []
+
+-- What the statement says of itself is taken where it stands on the built-in type. Below are the types that it rests on.
+abbrev pub restricted : List Stmt → ℕ → Base → Stmt → List YangType → List Entry → Layer → Layer
+restricted modules m base stmt below entries (YangType-F.Int bits signed range) = YangType-F.Int bits signed (narrowed word.Range stmt 0 range)
+restricted modules m base stmt below entries (YangType-F.Dec digits range) = YangType-F.Dec digits (narrowed word.Range stmt digits range)
+restricted modules m base stmt below entries (YangType-F.Text length patterns) =
+    YangType-F.Text (narrowed word.Length stmt 0 length) (patterns ++ map pattern_of (all_named word.Pattern stmt))
+restricted modules m base stmt below entries (YangType-F.Enum names places) =
+    YangType-F.Enum (names_in entries) (if base.itself then map (λ (e : ℕ × Entry). e.0) (enumerate_from 0 entries) else places_of names places (names_in entries))
+restricted modules m base stmt below entries (YangType-F.Bits names positions) =
+    YangType-F.Bits (names_in entries) (map (λ (e : Entry). unsigned_abs e.1) entries)
+restricted modules m base stmt below entries (YangType-F.Bin length) = YangType-F.Bin (narrowed word.Length stmt 0 length)
+restricted modules m base stmt below entries (YangType-F.Ident bases) =
+    YangType-F.Ident (if base.itself then flat_map (λ sub. option_to_list (identity_of modules m (argument_of sub))) (all_named word.Base stmt) else bases)
+restricted modules m base stmt below entries (YangType-F.Union members) =
+    YangType-F.Union (if base.itself then flat_map (λ t. members_of t (out-YangType t)) below else members)
+restricted modules m base stmt below entries (YangType-F.Leafref path) = YangType-F.Leafref (if base.itself then value_of word.Path stmt else path)
+restricted modules m base stmt below entries t = t
+
+-- a type that its statement alone restricts, and without names
+abbrev pub IsPlain : Layer → Type 0
+IsPlain (YangType-F.Enum names places) = ⊥
+IsPlain (YangType-F.Bits names positions) = ⊥
+IsPlain (YangType-F.Ident bases) = ⊥
+IsPlain (YangType-F.Union members) = ⊥
+IsPlain layer = ⊤
+
+abbrev pub IsRestricted : YangType → Bool → Stmt → YangType → Type 0
+IsRestricted type itself stmt result =
+    (modules : List Stmt) (m : ℕ) (below : List YangType) (entries : List Entry)
+    → result ≡ roll-YangType (restricted modules m (unlisted type itself) stmt below entries (out-YangType type))
+
+-- ---- one statement after those that it rests on
+
+-- the faults of a statement and of those that it rests on, and its type where there is none
+pub record Judged : Type 0 where
+  pub faults : List Found
+  pub type : YangType
+  pub entries : List Entry
+
+abbrev pub nothing : Judged
+nothing = record { faults = []; type = roll-YangType YangType-F.Empty; entries = [] }
+
+abbrev pub is_faulty : Judged → Bool
+is_faulty judged = not (length judged.faults == 0)
+
+-- the built-in type that a statement names, or the type of its typedef
+abbrev pub base_of : Site → List Judged → Base
+base_of site below =
+    if is_some (builtin_of (name_of site))
+    then record { type = unwrap_or (option_map type_of (builtin_of (name_of site))) nothing.type; entries = []; itself = true }
+    else record { type = (unwrap_or (slice_get below 0) nothing).type; entries = (unwrap_or (slice_get below 0) nothing).entries; itself = false }
+
+-- Where one of the types below has a fault, only patterns are looked at.
+abbrev pub own_faults : Site → Base → List Judged → List Found
+own_faults site base below =
+    pattern_faults site.module site.stmt ++ (if list_any is_faulty below then [] else restriction_faults base site.module site.stmt)
+
+abbrev pub judged : List Stmt → Site → Base → List Judged → Judged
+judged modules site base below =
+    let layer = layer_of base site.stmt in
+    let entries = entries_in base site.stmt layer in
+    record {
+      faults = flat_map (λ (j : Judged). j.faults) below ++ own_faults site base below;
+      type = roll-YangType (restricted modules site.module base site.stmt (map (λ (j : Judged). j.type) below) entries layer);
+      entries = entries;
+    }
+
+unfoldable pub judge : ℕ → List Stmt → Site → Judged
+judge zero modules site = nothing
+judge (suc steps) modules site =
+    judged modules site (base_of site (map (judge steps modules) (rests_on modules site))) (map (judge steps modules) (rests_on modules site))
+
+-- ---- the answer
+
+abbrev pub answer : Judged → Option Found → Result YangType BuildFault
+answer judged None = Ok judged.type
+answer judged (Some found) = Err (fault_of found)
+
+abbrev pub unless : Option Found → Result YangType BuildFault → Result YangType BuildFault
+unless None result = result
+unless (Some found) result = Err (fault_of found)
+
+-- Names are judged first, and all else only where no name has a fault.
+unfoldable pub resolve : List Stmt → Site → Result YangType BuildFault
+resolve modules site =
+    let type = judge (steps_of modules + 1) modules site in
+    unless (least None (all_name_faults modules site)) (answer type (least None type.faults))

@@ -1,0 +1,217 @@
+//! The built-in types (RFC 7950 section 4.2.4).
+ghost use Rattle.std.specs.Prelude.{◌≡◌, ◌-◌, ◌+◌, ◌∷◌, [], ◌≤◌, ◌≤ℤ◌, IfOk, map, pos, neg_ℤ};
+ghost use Rattle.sal_typedefs.specs.Builtins as spec;
+ghost use Rattle.sal_restrict.specs.declared.yang_type.YangType.TheViews.{out-YangType};
+ghost use Rattle.sal_typedefs.specs.Builtins.{bits_of};
+ghost use Rattle.sal_typedefs.specs.Restrictions.{HasNumbers};
+
+use sal_restrict::{Part, Ranges, YangType};
+use sal_types::{NoMemory, Seq, Str};
+use std::alloc::Global;
+
+/// How many bits a whole number has.
+#[derive(Clone, Copy, Debug, PartialEq, Eq)]
+pub(crate) enum Width {
+    W8,
+    W16,
+    W32,
+    W64,
+}
+
+/// A built-in type.
+#[derive(Clone, Copy, Debug, PartialEq, Eq)]
+pub(crate) enum Builtin {
+    Int { width: Width, signed: bool },
+    Dec,
+    Text,
+    Bool,
+    Enum,
+    Bits,
+    Bin,
+    Ident,
+    Empty,
+    Union,
+    Leafref,
+}
+
+/// Each built-in type behind its name.
+const NAMES: [(&str, Builtin); 18] = [
+    (
+        "int8",
+        Builtin::Int {
+            width: Width::W8,
+            signed: true,
+        },
+    ),
+    (
+        "int16",
+        Builtin::Int {
+            width: Width::W16,
+            signed: true,
+        },
+    ),
+    (
+        "int32",
+        Builtin::Int {
+            width: Width::W32,
+            signed: true,
+        },
+    ),
+    (
+        "int64",
+        Builtin::Int {
+            width: Width::W64,
+            signed: true,
+        },
+    ),
+    (
+        "uint8",
+        Builtin::Int {
+            width: Width::W8,
+            signed: false,
+        },
+    ),
+    (
+        "uint16",
+        Builtin::Int {
+            width: Width::W16,
+            signed: false,
+        },
+    ),
+    (
+        "uint32",
+        Builtin::Int {
+            width: Width::W32,
+            signed: false,
+        },
+    ),
+    (
+        "uint64",
+        Builtin::Int {
+            width: Width::W64,
+            signed: false,
+        },
+    ),
+    ("decimal64", Builtin::Dec),
+    ("string", Builtin::Text),
+    ("boolean", Builtin::Bool),
+    ("enumeration", Builtin::Enum),
+    ("bits", Builtin::Bits),
+    ("binary", Builtin::Bin),
+    ("identityref", Builtin::Ident),
+    ("empty", Builtin::Empty),
+    ("union", Builtin::Union),
+    ("leafref", Builtin::Leafref),
+];
+
+fn find_builtin(names: &[(&'static str, Builtin)], name: &str) -> Option<Builtin>
+    ensures { result ≡ spec.builtin_among (map spec.name_view names.now) name.now }
+{
+    for one in names {
+        if one.0 == name {
+            return Some(one.1);
+        }
+    }
+    None
+}
+
+/// The built-in type of this name.
+#[tactic(auto, unfolding(crate::specs::Builtins::builtin_of))]
+pub(crate) fn builtin_of(name: &str) -> Option<Builtin>
+    ensures { result ≡ spec.builtin_of name.now }
+{
+    find_builtin(&NAMES, name)
+}
+
+/// The numbers from one to another.
+fn range(alloc: Global, low: i128, high: i128) -> Result<Ranges, NoMemory>
+    requires { low ≤ℤ high }
+    ensures { IfOk result (λ ranges. ranges ≡ record { low = low; high = high } ∷ []) }
+{
+    let mut list = Vec::with_capacity(alloc, 1)?;
+    list.push(Part { low, high })?;
+    Ok(Ranges::from_items(list))
+}
+
+/// The lowest and the highest number of so many bits.
+fn bounds(width: Width, signed: bool) -> (i128, i128)
+    ensures value { spec.numbers_of (bits_of width) signed ≡ record { low = result.0; high = result.1 } ∷ [] }
+    ensures order { result.0 ≤ℤ result.1 }
+{
+    match (width, signed) {
+        (Width::W8, true) => (-128, 127),
+        (Width::W16, true) => (-32_768, 32_767),
+        (Width::W32, true) => (-2_147_483_648, 2_147_483_647),
+        (Width::W64, true) => (-9_223_372_036_854_775_808, 9_223_372_036_854_775_807),
+        (Width::W8, false) => (0, 255),
+        (Width::W16, false) => (0, 65_535),
+        (Width::W32, false) => (0, 4_294_967_295),
+        (Width::W64, false) => (0, 18_446_744_073_709_551_615),
+    }
+}
+
+fn numbers_of(alloc: Global, width: Width, signed: bool) -> Result<Ranges, NoMemory>
+    ensures { IfOk result (λ ranges. ranges ≡ spec.numbers_of (bits_of width) signed) }
+{
+    let (low, high) = bounds(width, signed);
+    range(alloc, low, high)
+}
+
+impl Width {
+    fn bits(self) -> u8
+        ensures { result ≡ bits_of self }
+    {
+        match self {
+            Width::W8 => 8,
+            Width::W16 => 16,
+            Width::W32 => 32,
+            Width::W64 => 64,
+        }
+    }
+}
+
+impl Builtin {
+    /// The type before a statement restricts it.
+    pub(crate) fn bare(self, alloc: Global) -> Result<YangType, NoMemory>
+        ensures value { IfOk result (λ t. t ≡ spec.type_of self) }
+        ensures numbers { IfOk result (λ t. HasNumbers (out-YangType t)) }
+    {
+        match self {
+            Builtin::Int { width, signed } => Ok(YangType::Int {
+                bits: width.bits(),
+                signed,
+                range: numbers_of(alloc, width, signed)?,
+            }),
+            Builtin::Dec => Ok(YangType::Dec {
+                digits: 0,
+                range: numbers_of(alloc, Width::W64, true)?,
+            }),
+            Builtin::Text => Ok(YangType::Text {
+                length: numbers_of(alloc, Width::W64, false)?,
+                patterns: Seq::new(alloc),
+            }),
+            Builtin::Bool => Ok(YangType::Bool),
+            Builtin::Enum => Ok(YangType::Enum {
+                names: Seq::new(alloc),
+                places: Seq::new(alloc),
+            }),
+            Builtin::Bits => Ok(YangType::Bits {
+                names: Seq::new(alloc),
+                positions: Seq::new(alloc),
+            }),
+            Builtin::Bin => Ok(YangType::Bin {
+                length: numbers_of(alloc, Width::W64, false)?,
+            }),
+            Builtin::Ident => Ok(YangType::Ident {
+                bases: Seq::new(alloc),
+            }),
+            Builtin::Empty => Ok(YangType::Empty),
+            Builtin::Union => Ok(YangType::Union {
+                members: Seq::new(alloc),
+            }),
+            Builtin::Leafref => Ok(YangType::Leafref {
+                path: Str::new(alloc, "")?,
+            }),
+        }
+    }
+}

@@ -1,0 +1,61 @@
+//! Names with a prefix or without one (RFC 7950 sections 6.2 and 6.4.1).
+ghost use Rattle.std.specs.Prelude.{◌≡◌, ◌+◌, ◌-◌, ◌<◌, ◌≤◌, length, take, drop, slice_index, MatchOption};
+ghost use Rattle.sal_stmt.specs.Words.{colon_at};
+ghost use Rattle.sal_typedefs.specs.Scopes as spec;
+
+use sal_module::Modules;
+
+/// How many bytes stand before the first colon, or how many there are where none stands.
+fn len_to_colon(name: &str) -> usize
+    ensures value { result ≡ colon_at name.now }
+    ensures within { result ≤ length name.now }
+{
+    name.as_bytes().iter().take_while(|c| **c != b':').count()
+}
+
+/// Where the first colon stands.
+fn colon_at(name: &str) -> Option<usize>
+    ensures { MatchOption result (length name.now ≤ colon_at name.now) (λ i. (i ≡ colon_at name.now) × (i < length name.now) × (slice_index name.now i ≡ 58)) }
+{
+    let len = len_to_colon(name);
+    if len < name.len() { Some(len) } else { None }
+}
+
+/// What stands before an ASCII byte.
+fn front(name: &str, i: usize) -> &str
+    requires there { i < length name.now }
+    requires ascii { slice_index name.now i < 128 }
+    ensures { result.now ≡ take i name.now }
+{
+    &name[..i]
+}
+
+/// What follows the first bytes, of which the last is ASCII.
+fn tail(name: &str, n: usize) -> &str
+    requires some { 0 < n }
+    requires there { n ≤ length name.now }
+    requires ascii { slice_index name.now (n - 1) < 128 }
+    ensures { result.now ≡ drop n name.now }
+{
+    &name[n..]
+}
+
+/// A name without its prefix.
+pub(crate) fn local(name: &str) -> &str
+    ensures { result.now ≡ spec.local name.now }
+{
+    match colon_at(name) {
+        None => name,
+        Some(colon) => tail(name, colon + 1),
+    }
+}
+
+/// The module whose names a name stands for in a module: its own, or the one that the prefix names there.
+pub(crate) fn module_of(modules: &Modules, number: u32, name: &str) -> Option<u32>
+    ensures { result ≡ spec.module_of modules.now number name.now }
+{
+    match colon_at(name) {
+        None => Some(number),
+        Some(colon) => modules.imported(number, front(name, colon)),
+    }
+}

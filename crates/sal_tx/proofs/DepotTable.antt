@@ -3,7 +3,8 @@ use Rattle.std.proofs.Common.{refl, arith}
 use Rattle.sal_restrict.specs.declared.yang_type.YangType.TheViews.{out-roll-YangType}
 use Rattle.sal_schema.specs.Table.{closest}
 use Rattle.sal_schema.specs.Valid.{IsTable}
-use Rattle.sal_tx.specs.Examples.{depot_table, one_node}
+use Rattle.sal_tx.specs.Examples.{depot_table, shop_table, put_depot, put_item}
+use Rattle.sal_tx.specs.Written.{IsForSchema}
 
 pub depot-IsTable : IsTable depot_table
 unfolding closest
@@ -21,9 +22,9 @@ depot-IsTable = record {
   distinct = record { modules = refl; identities = refl; rpcs = refl; notifications = refl; data_nodes = refl };
 }
 
-pub one_node-IsTable : IsTable one_node
+pub shop-IsTable : IsTable shop_table
 unfolding closest
-one_node-IsTable = record {
+shop-IsTable = record {
   small = record { nodes = omega arith; types = omega arith; modules = omega arith; identities = omega arith };
   numbers = refl;
   places = refl;
@@ -33,6 +34,14 @@ one_node-IsTable = record {
   uniques = refl;
   module_names = refl;
   identities = refl;
-  types = refl;
+  types = simp out-roll-YangType;
   distinct = record { modules = refl; identities = refl; rpcs = refl; notifications = refl; data_nodes = refl };
 }
+
+pub put_depot-IsForSchema : IsForSchema shop_table put_depot
+unfolding closest
+put_depot-IsForSchema = record { path = refl; data_path = refl; rows = refl }
+
+pub put_item-IsForSchema : IsForSchema shop_table put_item
+unfolding closest
+put_item-IsForSchema = record { path = simp out-roll-YangType; data_path = refl; rows = simp out-roll-YangType }

@@ -1,5 +1,5 @@
-use Rattle.sal_tx.proofs.DepotTable.{one_node-IsTable}
+use Rattle.sal_tx.proofs.DepotTable.{shop-IsTable}
 use Rattle.sal_tx.proofs.tests.schema.Goals as goal
 
 pub from_table-requires : goal.from_table-requires
-from_table-requires c = rw c.in_ok-table.ensures one_node-IsTable
+from_table-requires c = rw c.in_ok-table.ensures shop-IsTable

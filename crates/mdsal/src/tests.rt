@@ -127,8 +127,8 @@ const MODULES: [(&str, &str); 18] = [
     ),
     (r#"{"modules":[""]}"#, "module 0 bad-token 0"),
     (
-        r#"{"modules":["module m 'a\u0001b';"]}"#,
-        "module 0 bad-token 11",
+        r#"{"modules":["module 'a\u0001b';"]}"#,
+        "module 0 bad-token 9",
     ),
     (
         r#"{"modules":["module m { description \"\\d\"; }"]}"#,

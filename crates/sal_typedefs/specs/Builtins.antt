@@ -41,10 +41,10 @@ abbrev pub lengths : List Part
 lengths = numbers_of 64 false
 
 abbrev pub bits_of : Width → ℕ
-bits_of width.W8 = 8
-bits_of width.W16 = 16
-bits_of width.W32 = 32
-bits_of width.W64 = 64
+bits_of width.Bits8 = 8
+bits_of width.Bits16 = 16
+bits_of width.Bits32 = 32
+bits_of width.Bits64 = 64
 
 -- What a statement has to say is empty here: fraction digits, names, bases, members and the path.
 abbrev pub bare : Builtin → YangType-F YangType

@@ -12,10 +12,10 @@ use std::alloc::Global;
 /// How many bits a whole number has.
 #[derive(Clone, Copy, Debug, PartialEq, Eq)]
 pub(crate) enum Width {
-    W8,
-    W16,
-    W32,
-    W64,
+    Bits8,
+    Bits16,
+    Bits32,
+    Bits64,
 }
 
 /// A built-in type.
@@ -39,56 +39,56 @@ const NAMES: [(&str, Builtin); 18] = [
     (
         "int8",
         Builtin::Int {
-            width: Width::W8,
+            width: Width::Bits8,
             signed: true,
         },
     ),
     (
         "int16",
         Builtin::Int {
-            width: Width::W16,
+            width: Width::Bits16,
             signed: true,
         },
     ),
     (
         "int32",
         Builtin::Int {
-            width: Width::W32,
+            width: Width::Bits32,
             signed: true,
         },
     ),
     (
         "int64",
         Builtin::Int {
-            width: Width::W64,
+            width: Width::Bits64,
             signed: true,
         },
     ),
     (
         "uint8",
         Builtin::Int {
-            width: Width::W8,
+            width: Width::Bits8,
             signed: false,
         },
     ),
     (
         "uint16",
         Builtin::Int {
-            width: Width::W16,
+            width: Width::Bits16,
             signed: false,
         },
     ),
     (
         "uint32",
         Builtin::Int {
-            width: Width::W32,
+            width: Width::Bits32,
             signed: false,
         },
     ),
     (
         "uint64",
         Builtin::Int {
-            width: Width::W64,
+            width: Width::Bits64,
             signed: false,
         },
     ),
@@ -139,14 +139,14 @@ fn bounds(width: Width, signed: bool) -> (i128, i128)
     ensures order { result.0 ≤ℤ result.1 }
 {
     match (width, signed) {
-        (Width::W8, true) => (-128, 127),
-        (Width::W16, true) => (-32_768, 32_767),
-        (Width::W32, true) => (-2_147_483_648, 2_147_483_647),
-        (Width::W64, true) => (-9_223_372_036_854_775_808, 9_223_372_036_854_775_807),
-        (Width::W8, false) => (0, 255),
-        (Width::W16, false) => (0, 65_535),
-        (Width::W32, false) => (0, 4_294_967_295),
-        (Width::W64, false) => (0, 18_446_744_073_709_551_615),
+        (Width::Bits8, true) => (-128, 127),
+        (Width::Bits16, true) => (-32_768, 32_767),
+        (Width::Bits32, true) => (-2_147_483_648, 2_147_483_647),
+        (Width::Bits64, true) => (-9_223_372_036_854_775_808, 9_223_372_036_854_775_807),
+        (Width::Bits8, false) => (0, 255),
+        (Width::Bits16, false) => (0, 65_535),
+        (Width::Bits32, false) => (0, 4_294_967_295),
+        (Width::Bits64, false) => (0, 18_446_744_073_709_551_615),
     }
 }
 
@@ -162,10 +162,10 @@ impl Width {
         ensures { result ≡ bits_of self }
     {
         match self {
-            Width::W8 => 8,
-            Width::W16 => 16,
-            Width::W32 => 32,
-            Width::W64 => 64,
+            Width::Bits8 => 8,
+            Width::Bits16 => 16,
+            Width::Bits32 => 32,
+            Width::Bits64 => 64,
         }
     }
 }
@@ -184,10 +184,10 @@ impl Builtin {
             }),
             Builtin::Dec => Ok(YangType::Dec {
                 digits: 0,
-                range: numbers_of(alloc, Width::W64, true)?,
+                range: numbers_of(alloc, Width::Bits64, true)?,
             }),
             Builtin::Text => Ok(YangType::Text {
-                length: numbers_of(alloc, Width::W64, false)?,
+                length: numbers_of(alloc, Width::Bits64, false)?,
                 patterns: Seq::new(alloc),
             }),
             Builtin::Bool => Ok(YangType::Bool),
@@ -200,7 +200,7 @@ impl Builtin {
                 positions: Seq::new(alloc),
             }),
             Builtin::Bin => Ok(YangType::Bin {
-                length: numbers_of(alloc, Width::W64, false)?,
+                length: numbers_of(alloc, Width::Bits64, false)?,
             }),
             Builtin::Ident => Ok(YangType::Ident {
                 bases: Seq::new(alloc),

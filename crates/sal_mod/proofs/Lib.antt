@@ -2,4 +2,6 @@ pub mod ByPath
 pub mod Prefixes
 pub mod Noted
 pub mod Searched
-pub mod Lasts
+pub mod Renewed
+pub mod LastOnes
+pub mod Roomy

@@ -64,7 +64,7 @@ any-equal (y ∷ w) (x ∷ p) =
     ∙ any_prefix-and (is_eq (step_cmp x y)) (λ q. path_eq q w) p
     ∙ (λ i. eq_swap x y i && any-equal w p i)
 
-any-covers : (s : Store) (op : Op) (p : List Step) → any_prefix (λ q. covers_at s q op) p ≡ covers s p op
+pub any-covers : (s : Store) (op : Op) (p : List Step) → any_prefix (λ q. covers_at s q op) p ≡ covers s p op
 any-covers s op p =
     any_prefix-and (same_store op.store s) (λ q. checks_path op.act && path_eq q op.path) p
     ∙ ap (λ b. same_store op.store s && b) (any_prefix-and (checks_path op.act) (λ q. path_eq q op.path) p ∙ ap (λ b. checks_path op.act && b) (any-equal op.path p))

@@ -1,12 +1,13 @@
 //! The operations of a transaction.
 ghost use Rattle.std.specs.Prelude.{◌≡◌, [], ◌∷◌, ◌++◌, OnOk, OnErr, IfErr};
 ghost use Rattle.sal_rows.specs.Apply.{last_setting};
-ghost use Rattle.sal_mod.specs.Covers.{is_covered};
+ghost use Rattle.sal_mod.specs.Covers.{is_covered, covers_at};
+ghost use Rattle.sal_mod.specs.Lasts.{IsLast, merges_at};
 ghost use Rattle.sal_mod.specs.Settings.{seen_setting};
 
-use crate::covers::{is_early_on, note};
-use crate::places::Places;
-use crate::settings::last_of;
+use crate::covers::is_early_on;
+use crate::notes::{Notes, note};
+use crate::settings::{last_on, set_last};
 use sal_rows::Op;
 use sal_types::{Cell, NoMemory, Path, Store};
 use std::alloc::Global;
@@ -16,21 +17,24 @@ use std::marker::Model;
 #[derive(Drop)]
 pub struct Mod {
     ops: Vec<Op>,
-    config: Places,
-    oper: Places,
+    config: Notes,
+    oper: Notes,
 }
 
 impl Model for Mod {
     ghost use Rattle.std.specs.Prelude.{List};
     ghost use Rattle.sal_types.specs.declared.value.Store.TheVariants.{Config, Oper};
     ghost use Rattle.sal_rows.specs.declared.op.Op.{Op};
-    ghost use Rattle.sal_mod.specs.Covers.{IsFirst};
+    ghost use Rattle.sal_mod.specs.Covers.{IsFirst, covers_at};
+    ghost use Rattle.sal_mod.specs.Lasts.{IsLast, merges_at};
 
     ghost Value = { List Op };
 
     ghost view = { λ a. a.ops.items };
 
-    ghost invariant = { λ a. IsFirst Config a.ops.items a.config × IsFirst Oper a.ops.items a.oper };
+    ghost invariant = { λ a.
+        (IsFirst Config a.ops.items a.config.first × IsLast (covers_at Config) a.ops.items a.config.last × IsLast (merges_at Config) a.ops.items a.config.merged)
+        × (IsFirst Oper a.ops.items a.oper.first × IsLast (covers_at Oper) a.ops.items a.oper.last × IsLast (merges_at Oper) a.ops.items a.oper.merged) };
 }
 
 impl Mod {
@@ -40,8 +44,8 @@ impl Mod {
     {
         Mod {
             ops: Vec::new(alloc),
-            config: Places::new(alloc),
-            oper: Places::new(alloc),
+            config: Notes::new(alloc),
+            oper: Notes::new(alloc),
         }
     }
 
@@ -55,7 +59,14 @@ impl Mod {
             return Err((op, NoMemory));
         }
         let place = self.ops.len();
-        match note(alloc, &op, place, &mut self.config, &mut self.oper) {
+        match note(
+            alloc,
+            &op,
+            place,
+            place + 1,
+            &mut self.config,
+            &mut self.oper,
+        ) {
             Ok(()) => {
                 self.ops.push(op).unwrap();
                 Ok(())
@@ -77,8 +88,8 @@ impl Mod {
         ensures { result ≡ is_covered store self.now path.now before }
     {
         match store {
-            Store::Config => is_early_on(&self.config, path.steps(), before),
-            Store::Oper => is_early_on(&self.oper, path.steps(), before),
+            Store::Config => is_early_on(&self.config.first, path.steps(), before),
+            Store::Oper => is_early_on(&self.oper.first, path.steps(), before),
         }
     }
 
@@ -87,6 +98,18 @@ impl Mod {
     pub fn last_setting(&self, store: Store, path: &Path) -> Option<Option<&Cell>>
         ensures { seen_setting result ≡ last_setting store self.now path.now }
     {
-        last_of(&self.ops, store, path)
+        let notes = self.notes(store);
+        let number = last_on(&notes.last, &notes.merged, path.steps());
+        set_last(&self.ops, number, store, path)
+    }
+
+    fn notes(&self, store: Store) -> &Notes
+        ensures last { IsLast (covers_at store) self.now result.now.last }
+        ensures merged { IsLast (merges_at store) self.now result.now.merged }
+    {
+        match store {
+            Store::Config => &self.config,
+            Store::Oper => &self.oper,
+        }
     }
 }

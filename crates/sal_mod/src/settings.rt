@@ -6,23 +6,49 @@ ghost use Rattle.sal_types.specs.Order.{path_cmp};
 ghost use Rattle.sal_types.specs.Tree.{cell, IsAscending};
 ghost use Rattle.sal_rows.specs.Apply.{same_store, setting, last_setting};
 ghost use Rattle.sal_mod.specs.Settings.{seen_cell, seen_setting};
+ghost use Rattle.sal_mod.specs.Lasts.{later, last_prefix, last_where, number_at, sets};
 
+use crate::places::Places;
 use sal_rows::{Act, Op};
-use sal_types::{Cell, Path, Row, Store};
+use sal_types::{Cell, Path, Row, Step, Store};
 
-// What the last operation of the store that sets the path sets there.
-pub(crate) fn last_of<'a>(ops: &'a [Op], store: Store, path: &Path) -> Option<Option<&'a Cell>>
+// The greatest of the numbers of the path and of each path that it begins with, and of the merged row at the path.
+pub(crate) fn last_on(last: &Places, merged: &Places, steps: &[Step]) -> usize
+    ensures { result ≡ later (last_prefix (λ q. number_at q last.now) steps.now) (number_at steps.now merged.now) }
+{
+    later(last_above(last, steps), merged.number_at(steps))
+}
+
+fn last_above(last: &Places, steps: &[Step]) -> usize
+    ensures { result ≡ last_prefix (λ q. number_at q last.now) steps.now }
+{
+    let mut most = 0;
+    for depth in 0..steps.len() {
+        most = later(most, last.number_at(&steps[..depth]));
+    }
+    later(most, last.number_at(steps))
+}
+
+fn later(a: usize, b: usize) -> usize
+    ensures { result ≡ later a b }
+{
+    if a < b { b } else { a }
+}
+
+// What the operation of this number, counted from 1, sets at the path: it is the last that does, and 0 where none does.
+pub(crate) fn set_last<'a>(
+    ops: &'a [Op],
+    number: usize,
+    store: Store,
+    path: &Path,
+) -> Option<Option<&'a Cell>>
+    requires { number ≡ last_where (sets store path.now) ops.now }
     ensures { seen_setting result ≡ last_setting store ops.entry.now path.now }
 {
-    let mut left = ops.len();
-    while left > 0 {
-        left -= 1;
-        let set = set_by(&ops[left], store, path);
-        if set.is_some() {
-            return set;
-        }
+    if number == 0 {
+        return None;
     }
-    None
+    set_by(&ops[number - 1], store, path)
 }
 
 // What an operation sets at the path in the store, if it sets it.

@@ -19,35 +19,72 @@ fn added(changes: &mut Mod, alloc: Global, path: Path, act: Act) -> Result<(), N
     }
 }
 
-// A delete of /1, a merge at /2/5, and a put of nothing at /2/5.
-#[test]
-fn operations_are_found_by_path(rt: HostRuntime) -> Result<(), Fail> {
-    let mut changes = Mod::new(rt.alloc());
-    let mut top = Path::root(rt.alloc());
-    top.push(Step::Node(1))?;
-    added(&mut changes, rt.alloc(), top, Act::Delete)?;
-    let place = path_of(rt.alloc(), 2, 5)?;
+fn mark_at(alloc: Global, path: Path) -> Result<Rows, Fail> {
     let cell = Cell::Mark;
-    let path = place.copy()?;
-    let rows = Rows::from_list(vec![in rt.alloc(); Row { path, cell }]?)?;
-    added(&mut changes, rt.alloc(), place.copy()?, Act::Merge(rows))?;
-    assert_eq!(rt; changes.covered(Store::Config, &place, 2), false);
+    Ok(Rows::from_list(vec![in alloc; Row { path, cell }]?)?)
+}
+
+// A delete of /1, a merge at /2/5, and a put of nothing at /2/6.
+fn three(alloc: Global) -> Result<Mod, Fail> {
+    let mut changes = Mod::new(alloc);
+    let mut top = Path::root(alloc);
+    top.push(Step::Node(1))?;
+    added(&mut changes, alloc, top, Act::Delete)?;
+    let rows = mark_at(alloc, path_of(alloc, 2, 5)?)?;
+    added(&mut changes, alloc, path_of(alloc, 2, 5)?, Act::Merge(rows))?;
+    added(
+        &mut changes,
+        alloc,
+        path_of(alloc, 2, 6)?,
+        Act::Put(Rows::new(alloc)),
+    )?;
+    Ok(changes)
+}
+
+// Which of four paths are covered: below the delete, at the merge, at the put before it and after it.
+fn covered_of(alloc: Global, changes: &Mod) -> Result<[bool; 4], Fail> {
+    let put = path_of(alloc, 2, 6)?;
+    Ok([
+        changes.covered(Store::Config, &path_of(alloc, 1, 7)?, 1),
+        changes.covered(Store::Config, &path_of(alloc, 2, 5)?, 3),
+        changes.covered(Store::Config, &put, 2),
+        changes.covered(Store::Config, &put, 3),
+    ])
+}
+
+#[test]
+fn puts_and_deletes_cover(rt: HostRuntime) -> Result<(), Fail> {
+    let changes = three(rt.alloc())?;
     assert_eq!(rt;
-        changes.last_setting(Store::Config, &place) == Some(Some(&Cell::Mark)),
-        true
+        covered_of(rt.alloc(), &changes)?,
+        [true, false, false, true]
     );
-    let nothing = Act::Put(Rows::new(rt.alloc()));
-    added(&mut changes, rt.alloc(), place.copy()?, nothing)?;
-    assert_eq!(rt; changes.covered(Store::Config, &place, 3), true);
-    assert_eq!(rt; changes.covered(Store::Oper, &place, 3), false);
-    assert_eq!(rt;
-        changes.last_setting(Store::Config, &place) == Some(None),
-        true
-    );
-    assert_eq!(rt;
-        changes.covered(Store::Config, &path_of(rt.alloc(), 1, 7)?, 1),
-        true
-    );
-    assert_eq!(rt; changes.ops().len(), 3);
+    Ok(())
+}
+
+// What an operation sets: 0 for nothing, 1 for the absence of a cell, 2 for a cell.
+fn number(set: Option<Option<&Cell>>) -> u32 {
+    match set {
+        None => 0,
+        Some(None) => 1,
+        Some(Some(_)) => 2,
+    }
+}
+
+// What is set last below the delete, at the merge, there in the other store, and elsewhere.
+fn settings_of(alloc: Global, changes: &Mod) -> Result<[u32; 4], Fail> {
+    let merged = path_of(alloc, 2, 5)?;
+    Ok([
+        number(changes.last_setting(Store::Config, &path_of(alloc, 1, 7)?)),
+        number(changes.last_setting(Store::Config, &merged)),
+        number(changes.last_setting(Store::Oper, &merged)),
+        number(changes.last_setting(Store::Config, &path_of(alloc, 3, 5)?)),
+    ])
+}
+
+#[test]
+fn the_last_setting_counts(rt: HostRuntime) -> Result<(), Fail> {
+    let changes = three(rt.alloc())?;
+    assert_eq!(rt; settings_of(rt.alloc(), &changes)?, [1, 2, 0, 0]);
     Ok(())
 }

@@ -10,13 +10,13 @@ use Rattle.sal_mod.proofs.changes.Mod.covered.Goals as goal
 pub returns-in-Config : goal.returns-in-Config
 returns-in-Config c =
     c.is_early_on.ensures
-    ∙ ap (any_prefix (λ q. is_early c.args.before (find path_cmp q c.self.inside.config))) c.steps.ensures.all
-    ∙ early-is_covered Config c.self.inside.ops.items c.self.inside.config c.args.path.now c.args.before c.self.invariant.0
+    ∙ ap (any_prefix (λ q. is_early c.args.before (find path_cmp q c.self.inside.config.first))) c.steps.ensures.all
+    ∙ early-is_covered Config c.self.inside.ops.items c.self.inside.config.first c.args.path.now c.args.before c.self.invariant.0.0
     ∙ (λ i. is_covered (sym c.in-Config.is i) (c.self.view_is i) c.args.path.now c.args.before)
 
 pub returns-in-Oper : goal.returns-in-Oper
 returns-in-Oper c =
     c.is_early_on-in-Oper.ensures
-    ∙ ap (any_prefix (λ q. is_early c.args.before (find path_cmp q c.self.inside.oper))) c.steps-in-Oper.ensures.all
-    ∙ early-is_covered Oper c.self.inside.ops.items c.self.inside.oper c.args.path.now c.args.before c.self.invariant.1
+    ∙ ap (any_prefix (λ q. is_early c.args.before (find path_cmp q c.self.inside.oper.first))) c.steps-in-Oper.ensures.all
+    ∙ early-is_covered Oper c.self.inside.ops.items c.self.inside.oper.first c.args.path.now c.args.before c.self.invariant.1.0
     ∙ (λ i. is_covered (sym c.in-Oper.is i) (c.self.view_is i) c.args.path.now c.args.before)

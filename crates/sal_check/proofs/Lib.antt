@@ -1,0 +1,4 @@
+mod Least
+mod Members
+mod SeenTrees
+mod Walked

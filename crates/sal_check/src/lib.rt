@@ -1,0 +1,8 @@
+//! Structural rules of a tree: mandatory nodes, the fewest and the most entries, unique leafs, and cases of a choice.
+#![tactic(auto)]
+
+pub mod breach;
+pub mod examples;
+pub mod spot;
+
+pub use breach::{Breach, Rule};

@@ -1,3 +1,5 @@
+mod Climbs
+mod Counted
 mod Least
 mod Members
 mod SeenTrees

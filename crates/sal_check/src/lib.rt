@@ -2,7 +2,9 @@
 #![tactic(auto)]
 
 pub mod breach;
+mod climb;
 pub mod examples;
+mod reach;
 pub mod spot;
 
 pub use breach::{Breach, Rule};

@@ -2,5 +2,8 @@ mod Climbs
 mod Counted
 mod Least
 mod Members
+mod Plans
 mod SeenTrees
+mod There
+mod Trails
 mod Walked

@@ -4,7 +4,10 @@
 pub mod breach;
 mod climb;
 pub mod examples;
+mod plan;
 mod reach;
+mod rules;
 pub mod spot;
+mod trail;
 
 pub use breach::{Breach, Rule};

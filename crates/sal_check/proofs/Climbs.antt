@@ -10,7 +10,11 @@ use Rattle.sal_schema.specs.Kinds.{is_choice_or_case, is_data, is_list}
 use Rattle.sal_schema.specs.Table.{is_kind, kind_of, parent_of, closest, data_node, data_parent}
 use Rattle.sal_schema.specs.Valid.{IsTable}
 use Rattle.sal_schema.proofs.Facts.{closest-None, closest-Some, closest-enough, parent_of_before, lower, is_there}
-use Rattle.sal_check.specs.Contexts.{is_plain, context, stand, through_plain, way}
+use Rattle.sal_schema.proofs.Facts.{slice_get_past}
+use Rattle.std.specs.List.{slice_get}
+use Rattle.std.specs.Option.{option_and_then, option_map}
+use Rattle.sal_schema.specs.declared.table.NodeInfo.{NodeInfo}
+use Rattle.sal_check.specs.Contexts.{is_plain, context, stand, through_plain, way, from_list}
 
 left_of : (n i : ℕ) → i < n → n - i ≡ suc (n - (i + 1))
 left_of n i h = omega arith
@@ -70,3 +74,39 @@ closest-inside test table (suc steps) (Some n) = elim (is_kind test table n) as 
 -- what is said of a node's kind
 pub kind_says : (test : Kind → Bool) (table : SchemaTable) (n : ℕ) (kind : Kind) → kind_of table n ≡ Some kind → is_kind test table n ≡ test kind
 kind_says test table n kind e = ap (λ o. option_map_or test o false) e
+
+-- ---- up to a list
+
+from-Some : (table : SchemaTable) (above : ℕ) (steps : List Step) (k : ℕ) → from_list table (suc k) (Some above) steps
+    ≡ cond (is_kind is_list table above) steps (from_list table k (parent_of table above) (cond (is_kind is_data table above) (Node above ∷ steps) steps))
+unfolding from_list
+from-Some table above steps k = refl
+
+from-zero : (table : SchemaTable) (here : Option ℕ) (steps : List Step) → from_list table zero here steps ≡ steps
+unfolding from_list
+from-zero table here steps = refl
+
+pub from-None : (table : SchemaTable) (k : ℕ) (steps : List Step) → from_list table k None steps ≡ steps
+unfolding from_list
+from-None table zero steps = refl
+from-None table (suc k) steps = refl
+
+pub from-step : (table : SchemaTable) (n i above : ℕ) (steps : List Step) → i < n → from_list table (n - i) (Some above) steps
+    ≡ cond (is_kind is_list table above) steps (from_list table (n - (i + 1)) (parent_of table above) (cond (is_kind is_data table above) (Node above ∷ steps) steps))
+from-step table n i above steps here = ap (λ k. from_list table k (Some above) steps) (left_of n i here) ∙ from-Some table above steps (n - (i + 1))
+
+pub from-end : (table : SchemaTable) (here : Option ℕ) (steps : List Step) (n i : ℕ) → n ≤ i → from_list table (n - i) here steps ≡ steps
+from-end table here steps n i h = ap (λ k. from_list table k here steps) (let e : n - i ≡ zero = omega arith in e) ∙ from-zero table here steps
+
+outside : (test : Kind → Bool) (table : SchemaTable) (n : ℕ) → length table.nodes ≤ n → is_kind test table n ≡ false
+outside test table n past = ap (λ r. option_map_or test (option_map (λ (node : NodeInfo). node.kind) r) false) (slice_get_past table.nodes n past)
+
+no_parent : (table : SchemaTable) (n : ℕ) → length table.nodes ≤ n → parent_of table n ≡ None
+no_parent table n past = ap (λ r. option_and_then (λ (node : NodeInfo). node.parent) r) (slice_get_past table.nodes n past)
+
+-- past the table nothing is climbed
+pub from-outside : (table : SchemaTable) (n i above : ℕ) (steps : List Step) → i < n → length table.nodes ≤ above → from_list table (n - i) (Some above) steps ≡ steps
+from-outside table n i above steps here past =
+    from-step table n i above steps here
+    ∙ (λ k. cond (outside is_list table above past k) steps (from_list table (n - (i + 1)) (no_parent table above past k) (cond (outside is_data table above past k) (Node above ∷ steps) steps)))
+    ∙ from-None table (n - (i + 1)) steps

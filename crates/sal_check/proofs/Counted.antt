@@ -1,13 +1,14 @@
 -- Counting the entries of a list.
-use Rattle.std.proofs.Common.{◌≡◌, ℕ, zero, suc, ◌+◌, ◌<◌, ◌≤◌, Bool, true, false, List, [], ◌∷◌, ◌++◌, length, take, get_or, Option, Some, None, refl, sym, ap, ◌∙◌, arith, length-append}
+use Rattle.std.proofs.Common.{◌≡◌, ℕ, zero, suc, ◌+◌, ◌<◌, ◌≤◌, Bool, true, false, List, [], ◌∷◌, ◌++◌, length, take, get_or, Option, Some, None, refl, sym, ap, subst, ◌∙◌, arith, length-append}
 use Rattle.std.specs.Prelude.{is_some, if◌then◌else◌}
 use Rattle.std.specs.Borrow.{Bor}
 use Rattle.sal_types.specs.declared.value.Step.{Step}
 use Rattle.sal_types.specs.declared.value.Cell.{Cell}
-use Rattle.sal_node.specs.Tree.{Tree, pairs}
+use Rattle.sal_node.specs.Tree.{Tree, Forest, pairs, IsGrove}
 use Rattle.sal_node.specs.Shape.{seen}
 use Rattle.sal_node.specs.declared.node.Child.{Child}
 use Rattle.sal_tree.specs.Grow.{kids_in}
+use Rattle.sal_tree.proofs.Laws.{AllFull, grove-full}
 use Rattle.sal_check.specs.Nodes.{own_steps}
 
 abbrev Entries : Type 0
@@ -51,3 +52,12 @@ count-more cs i c n more after l at was is sum =
 
 pub count-all : (o : Option Tree) (t : Tree) (cs : List (Bor Child)) (i n : ℕ) → o ≡ Some t → seen cs ≡ pairs t.kids → length cs ≤ i → n ≡ length (own_steps (take i (seen cs))) → n ≡ length (own_steps (kids_in o))
 count-all o t cs i n is same l was = was ∙ ap (λ (es : Entries). length (own_steps es)) (seen-all cs i l ∙ same) ∙ sym (ap (λ o. length (own_steps (kids_in o))) is)
+
+full-at : (cs : List (Bor Child)) (i : ℕ) (c : Bor Child) → AllFull (seen cs) → i < length cs → c ≡ get_or cs i c → IsGrove c.now.node.value.kids
+full-at [] i c all l at = absurd (omega arith)
+full-at (d ∷ cs) zero c all l at = subst (λ (e : Bor Child). IsGrove e.now.node.value.kids) (sym at) all.0.1
+full-at (d ∷ cs) (suc i) c all l at = full-at cs i c all.1 (omega arith) at
+
+-- the children of a sound node are sound
+pub grove-child : (f : Forest) (cs : List (Bor Child)) (i : ℕ) (c : Bor Child) → IsGrove f → seen cs ≡ pairs f → i < length cs → c ≡ get_or cs i c → IsGrove c.now.node.value.kids
+grove-child f cs i c good same l at = full-at cs i c (subst AllFull (sym same) (grove-full f good)) l at

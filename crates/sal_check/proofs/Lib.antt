@@ -1,5 +1,7 @@
 mod Climbs
+mod Combined
 mod Counted
+mod Founds
 mod Least
 mod Members
 mod Plans

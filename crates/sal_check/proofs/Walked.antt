@@ -168,7 +168,7 @@ has-from (row ∷ rows) q i = elim (In-either q (prefixes row.path) (flat_map (�
 
 -- ---- children
 
-find-in : (y : Step) (k : Tree) (es : List (Step × Tree)) → T (is_sorted step_cmp es) → In (y, k) es → find step_cmp y es ≡ Some k
+pub find-in : (y : Step) (k : Tree) (es : List (Step × Tree)) → T (is_sorted step_cmp es) → In (y, k) es → find step_cmp y es ≡ Some k
 find-in y k [] h i = absurd i
 find-in y k (e ∷ es) h (inl f) = ap (λ (d : Step × Tree). cond (eq y d.0) (Some d.1) (find step_cmp y es)) (sym f) ∙ ap (λ b. cond b (Some k) (find step_cmp y es)) (self_tie y)
 find-in y k (e ∷ es) h (inr i) =

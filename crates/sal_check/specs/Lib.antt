@@ -5,3 +5,4 @@ pub mod Paths
 pub mod Places
 pub mod Rules
 pub mod Seen
+pub mod Uniques

@@ -68,3 +68,8 @@ found table store place spot t = found_at table store place spot t ++ found_belo
 abbrev pub steps_in : List (Bor Step) → List Step
 steps_in [] = []
 steps_in (x ∷ xs) = x.now ∷ steps_in xs
+
+-- at some children and below them
+abbrev pub found_in : SchemaTable → Store → List Step → Spot → List (Step × Tree) → List Breach
+found_in table store place spot [] = []
+found_in table store place spot (e ∷ es) = found table store (place ++ e.0 ∷ []) (after_step table spot e.0) e.1 ++ found_in table store place spot es

@@ -1,5 +1,6 @@
 //! What stands above a node in the schema tree.
-ghost use Rattle.std.specs.Prelude.{◌≡◌, ◌<◌, length, IfSome, IfOk, Some};
+ghost use Rattle.std.specs.Prelude.{◌≡◌, ◌<◌, ◌∷◌, length, IfSome, IfOk, OnOk, Some, if◌then◌else◌};
+ghost use Rattle.sal_types.specs.declared.value.Step.TheVariants.{Node};
 ghost use Rattle.sal_schema.specs.Kinds as kinds;
 ghost use Rattle.sal_schema.specs.Table.{is_kind, data_node};
 ghost use Rattle.sal_check.specs.Contexts as spec;
@@ -78,6 +79,51 @@ pub(crate) fn way(alloc: Global, schema: &Schema, node: u32) -> Result<Vec<Step>
                     return Ok(steps);
                 }
                 steps.insert(0, Step::Node(above))?;
+                here = schema.parent(above);
+            }
+        }
+    }
+    Ok(steps)
+}
+
+fn is_list(kind: Kind) -> bool
+    ensures { result ≡ kinds.is_list kind }
+{
+    kind == Kind::List
+}
+
+// A step to the node before the others, where data stand under it.
+fn add_data(steps: &mut Vec<Step>, kind: Kind, node: u32) -> Result<(), NoMemory>
+    ensures { OnOk result (steps.new.items ≡ (if kinds.is_data kind then Node node ∷ steps.old.items else steps.old.items)) }
+{
+    if kind.is_data() {
+        steps.insert(0, Step::Node(node))?;
+    }
+    Ok(())
+}
+
+/// The steps from an entry of a list to a leaf below it.
+pub(crate) fn way_in_entry(
+    alloc: Global,
+    schema: &Schema,
+    leaf: u32,
+) -> Result<Vec<Step>, NoMemory>
+    ensures { IfOk result (λ steps. steps.items ≡ spec.way_in_entry schema.now leaf) }
+{
+    let mut steps = Vec::new(alloc);
+    let mut here = Some(leaf);
+    for done in 0..schema.len() {
+        match here {
+            None => return Ok(steps),
+            Some(above) => {
+                if above >= schema.len() {
+                    return Ok(steps);
+                }
+                let kind = schema.kind(above);
+                if is_list(kind) {
+                    return Ok(steps);
+                }
+                add_data(&mut steps, kind, above)?;
                 here = schema.parent(above);
             }
         }

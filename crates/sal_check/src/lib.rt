@@ -9,5 +9,7 @@ mod reach;
 mod rules;
 pub mod spot;
 mod trail;
+mod unique;
+mod walk;
 
 pub use breach::{Breach, Rule};

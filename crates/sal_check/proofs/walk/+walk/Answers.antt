@@ -1,0 +1,28 @@
+use Rattle.std.proofs.Common.{◌≡◌, ◌++◌, ◌∷◌, [], ◌<◌, Some, sym, ap, ◌∙◌, arith}
+use Rattle.std.specs.List.{fold}
+use Rattle.sal_node.specs.Tree.{Tree, pairs, size_of}
+use Rattle.sal_node.specs.Shape.{seen}
+use Rattle.sal_tree.proofs.ByChildren.{lighter}
+use Rattle.sal_check.specs.Breaches.{keep}
+use Rattle.sal_check.specs.Nodes.{found, steps_in}
+use Rattle.sal_check.proofs.Counted.{grove-child}
+use Rattle.sal_check.proofs.Founds.{found-more, found-all}
+use Rattle.sal_check.proofs.walk.+walk.Goals as goal
+
+pub walk-requires : goal.walk-requires
+walk-requires t c =
+    let same : seen c.deref-child-items.result.now ≡ pairs c.args.node.now.value.kids = ap seen c.deref-child-items.ensures.value ∙ c.in_ok-children.ensures ∙ ap (λ (t : Tree). pairs t.kids) c.deref.ensures in
+    let h = lighter c.args.node.now.value.kids c.deref-child-items.result.now c.loop-child.child-index c.child-item.result same c.loop-child-test.true c.child-item.is in
+    let sound = grove-child c.args.node.now.value.kids c.deref-child-items.result.now c.loop-child.child-index c.child-item.result c.requires.sound same c.loop-child-test.true c.child-item.is in
+    (omega (arith, h, c.decreases), record { sound = sound; plan = c.requires.plan })
+
+pub loop-child-preserved : goal.loop-child-preserved
+loop-child-preserved t c =
+    let trail = steps_in c.args.trail.now in
+    let e = c.child-item.result.now in
+    found-more c.args.schema.now c.args.store trail c.args.spot c.deref-child-items.result.now c.loop-child.child-index c.child-item.result c.in_ok-least.least c.loop-child.least ? c.loop-child-test.true c.child-item.is c.loop-child.invariant ?
+
+pub returns : goal.returns
+returns t c =
+    let same : seen c.deref-child-items.result.now ≡ pairs c.args.node.now.value.kids = ap seen c.deref-child-items.ensures.value ∙ c.in_ok-children.ensures ∙ ap (λ (t : Tree). pairs t.kids) c.deref.ensures in
+    found-all c.args.schema.now c.args.store (steps_in c.args.trail.now) c.args.spot c.args.node.now.value c.deref-child-items.result.now c.loop-child.child-index c.args.least c.in_ok-least.least c.loop-child.least same c.loop-child-test.false c.in_ok-least.ensures c.loop-child.invariant

@@ -1,6 +1,7 @@
 mod Climbs
 mod Combined
 mod Counted
+mod Doubles
 mod Founds
 mod Least
 mod Members

@@ -1,5 +1,6 @@
 pub mod Breaches
 pub mod Contexts
+pub mod Examples
 pub mod Nodes
 pub mod Paths
 pub mod Places

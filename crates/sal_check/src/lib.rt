@@ -2,6 +2,7 @@
 #![tactic(auto)]
 
 pub mod breach;
+mod check;
 mod climb;
 pub mod examples;
 mod plan;
@@ -13,3 +14,4 @@ mod unique;
 mod walk;
 
 pub use breach::{Breach, Rule};
+pub use check::check_all;

@@ -11,6 +11,7 @@ use sal_types::NoMemory;
 use std::alloc::Global;
 
 /// For the root, and then for each node, the nodes that are judged where it stands.
+#[derive(Drop)]
 pub(crate) struct Plan {
     pub(crate) lists: Vec<Vec<u32>>,
 }

@@ -103,8 +103,8 @@ fn combinations<'a>(
 }
 
 // Whether two of these are the same.
-fn has_double(alloc: Global, combinations: Vec<Vec<&Cell>>) -> Result<bool, NoMemory>
-    ensures { IfOk result (λ b. b ≡ spec.has_double (all_cells_in combinations.entry.items)) }
+fn has_double(alloc: Global, combinations: &[Vec<&Cell>]) -> Result<bool, NoMemory>
+    ensures { IfOk result (λ b. b ≡ spec.has_double (all_cells_in combinations.now)) }
 {
     let mut seen = BTreeSet::new(alloc);
     for cells in combinations {
@@ -139,7 +139,7 @@ fn agree(
 {
     let ways = ways_to(alloc, schema, leafs)?;
     let found = combinations(alloc, kid(node, &Step::Node(number)), &ways)?;
-    has_double(alloc, found)
+    has_double(alloc, &found)
 }
 
 /// Whether two entries of a list agree in all leafs of one of its `unique` statements.

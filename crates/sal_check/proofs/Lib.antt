@@ -9,4 +9,5 @@ mod Plans
 mod SeenTrees
 mod There
 mod Trails
+mod TriedTable
 mod Walked

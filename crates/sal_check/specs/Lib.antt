@@ -6,4 +6,5 @@ pub mod Paths
 pub mod Places
 pub mod Rules
 pub mod Seen
+pub mod Tried
 pub mod Uniques

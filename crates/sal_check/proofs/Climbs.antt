@@ -1,5 +1,5 @@
 -- Climbing a schema tree, a step at a time.
-use Rattle.std.proofs.Common.{◌≡◌, ℕ, zero, suc, ◌+◌, ◌-◌, ◌<◌, ◌≤◌, Bool, true, false, cond, not, List, [], ◌∷◌, length, Option, Some, None, refl, sym, ap, ◌∙◌, arith}
+use Rattle.std.proofs.Common.{◌≡◌, ℕ, zero, suc, ◌+◌, ◌-◌, ◌<◌, ◌≤◌, Bool, true, false, cond, not, List, ◌∷◌, length, Option, Some, None, refl, ap, ◌∙◌, arith}
 use Rattle.std.specs.Prelude.{IfSome}
 use Rattle.std.specs.Option.{option_map_or}
 use Rattle.sal_types.specs.declared.value.Step.{Step}
@@ -9,12 +9,11 @@ use Rattle.sal_schema.specs.declared.table.SchemaTable.{SchemaTable}
 use Rattle.sal_schema.specs.Kinds.{is_choice_or_case, is_data, is_list}
 use Rattle.sal_schema.specs.Table.{is_kind, kind_of, parent_of, closest, data_node, data_parent}
 use Rattle.sal_schema.specs.Valid.{IsTable}
-use Rattle.sal_schema.proofs.Facts.{closest-None, closest-Some, closest-enough, parent_of_before, lower, is_there}
+use Rattle.sal_schema.proofs.Facts.{closest-Some, closest-enough, parent_of_before, lower, is_there}
 use Rattle.sal_schema.proofs.Facts.{slice_get_past}
-use Rattle.std.specs.List.{slice_get}
 use Rattle.std.specs.Option.{option_and_then, option_map}
 use Rattle.sal_schema.specs.declared.table.NodeInfo.{NodeInfo}
-use Rattle.sal_check.specs.Contexts.{is_plain, context, stand, through_plain, way, from_list}
+use Rattle.sal_check.specs.Contexts.{is_plain, through_plain, from_list}
 
 left_of : (n i : ℕ) → i < n → n - i ≡ suc (n - (i + 1))
 left_of n i h = omega arith

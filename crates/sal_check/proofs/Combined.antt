@@ -1,5 +1,5 @@
 -- The leafs of a `unique` statement in the entries of a list.
-use Rattle.std.proofs.Common.{◌≡◌, ℕ, zero, suc, ◌+◌, ◌<◌, ◌≤◌, Bool, true, false, cond, List, [], ◌∷◌, ◌++◌, inl, inr, length, take, get_or, map, Option, Some, None, refl, sym, ap, ◌∙◌, arith, append_assoc}
+use Rattle.std.proofs.Common.{◌≡◌, ℕ, ◌+◌, ◌<◌, ◌≤◌, true, false, List, [], ◌∷◌, ◌++◌, inl, inr, length, take, get_or, map, Option, Some, refl, sym, ap, ◌∙◌, append_assoc}
 use Rattle.std.specs.Prelude.{is_some, if◌then◌else◌}
 use Rattle.std.specs.List.{flat_map}
 use Rattle.std.specs.Option.{option_to_list}
@@ -20,7 +20,7 @@ use Rattle.sal_tree.proofs.Laws.{sorted-kids, sound-kid}
 use Rattle.sal_check.specs.Contexts.{way_in_entry}
 use Rattle.sal_check.specs.Nodes.{seen_in, own_steps}
 use Rattle.sal_check.specs.Rules.{cells_at, combinations}
-use Rattle.sal_check.specs.Seen.{Seen, further}
+use Rattle.sal_check.specs.Seen.{further}
 use Rattle.sal_check.specs.Uniques.{cells_in, all_cells_in, ways_in, combination, all_combinations}
 use Rattle.sal_check.proofs.Counted.{seen-at, seen-all}
 use Rattle.sal_check.proofs.Members.{In}

@@ -1,8 +1,8 @@
 -- The least breach depends only on which breaches there are.
-use Rattle.std.proofs.Common.{◌≡◌, Bool, true, false, cond, List, [], ◌∷◌, inl, inr, Option, Some, None, refl, sym, ap, subst, ◌∙◌}
-use Rattle.std.specs.Prelude.{◌⊎◌, if◌then◌else◌}
+use Rattle.std.proofs.Common.{◌≡◌, true, false, List, [], ◌∷◌, inl, inr, Some, refl, sym, ap, subst, ◌∙◌}
+use Rattle.std.specs.Prelude.{if◌then◌else◌}
 use Rattle.std.specs.List.{fold}
-use Rattle.std.specs.Ordering.{is_lt, is_gt, ordering_reverse, ordering_then}
+use Rattle.std.specs.Ordering.{is_lt, is_gt, ordering_reverse}
 use Rattle.std.specs.Cmp.{IsTotalOrder}
 use Rattle.std.specs.FinMap.{IsAntisymmetric, nat_cmp-IsAntisymmetric}
 use Rattle.std.specs.declared.cmp.Ordering.{Ordering}
@@ -74,20 +74,32 @@ kept : (a : Breach) (xs : List Breach) → (m : Breach) × (fold keep (Some a) x
 kept a [] = (a, refl, (inl refl, λ b i. elim i [ inl e ↦ subst (le a) (sym e) (le-itself a) | inr h ↦ absurd h ]))
 kept a (x ∷ xs) = elim (is_lt (breach_cmp x a)) as (λ b. is_lt (breach_cmp x a) ≡ b → (m : Breach) × (fold keep (if b then Some x else Some a) xs ≡ Some m) × IsLeast m a (x ∷ xs)) [
   | true ↦ λ e.
-      let (m, is, least) = kept x xs in
-      (m, is, (inr least.0, λ b i. elim i [
-        | inl f ↦ subst (le m) (sym f) (upto total m x a (least.1 x (inl refl)) (less_not_gt (breach_cmp x a) e))
-        | inr h ↦ least.1 b h
-      ]))
+      let (m, is, least) = kept x xs in (
+        m,
+        is,
+        (
+          inr least.0,
+          λ b i. elim i [
+            | inl f ↦ subst (le m) (sym f) (upto total m x a (least.1 x (inl refl)) (less_not_gt (breach_cmp x a) e))
+            | inr h ↦ least.1 b h
+          ],
+        ),
+      )
   | false ↦ λ e.
-      let (m, is, least) = kept a xs in
-      (m, is, (elim least.0 [ inl f ↦ inl f | inr h ↦ inr (inr h) ], λ b i. elim i [
-        | inl f ↦ least.1 b (inl f)
-        | inr h ↦ elim h [
-          | inl f ↦ subst (le m) (sym f) (upto total m a x (least.1 a (inl refl)) (le-back a x e))
-          | inr k ↦ least.1 b (inr k)
-        ]
-      ]))
+      let (m, is, least) = kept a xs in (
+        m,
+        is,
+        (
+          elim least.0 [ inl f ↦ inl f | inr h ↦ inr (inr h) ],
+          λ b i. elim i [
+            | inl f ↦ least.1 b (inl f)
+            | inr h ↦ elim h [
+              | inl f ↦ subst (le m) (sym f) (upto total m a x (least.1 a (inl refl)) (le-back a x e))
+              | inr k ↦ least.1 b (inr k)
+            ]
+          ],
+        ),
+      )
 ] refl
 
 pub least-same : (xs ys : List Breach) → ((b : Breach) → In b xs → In b ys) → ((b : Breach) → In b ys → In b xs) → least xs ≡ least ys

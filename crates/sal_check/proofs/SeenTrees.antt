@@ -1,7 +1,6 @@
 -- What is seen in rows from a place is what is seen in the tree of nodes.
-use Rattle.std.proofs.Common.{◌≡◌, Bool, true, false, List, [], ◌∷◌, ◌++◌, Option, Some, None, refl, ap, sym, ◌∙◌, cond, if◌then◌else◌, append_assoc, append-nil}
-use Rattle.std.specs.Prelude.{map, is_some}
-use Rattle.std.specs.List.{flat_map}
+use Rattle.std.proofs.Common.{◌≡◌, Bool, true, false, List, [], ◌∷◌, ◌++◌, Option, Some, None, refl, ap, sym, ◌∙◌, cond, if◌then◌else◌, append-nil}
+use Rattle.std.specs.Prelude.{is_some}
 use Rattle.std.proofs.lemmas.Grind.{flat_map-append}
 use Rattle.std.specs.FinMap.{find}
 use Rattle.sal_types.specs.declared.value.Step.{Step}
@@ -15,7 +14,7 @@ use Rattle.sal_tree.specs.Rows.{here, below, rows_in, rows_of}
 use Rattle.sal_tree.proofs.Cells.{cell-rows_of, has-rows_of}
 use Rattle.sal_tree.proofs.Laws.{eq, missing, at-append}
 use Rattle.sal_check.specs.Nodes.{own_steps, seen_in}
-use Rattle.sal_check.specs.Seen.{Seen, entries, step_past, seen_from, further}
+use Rattle.sal_check.specs.Seen.{entries, step_past, seen_from, further}
 
 entries-append : (xs ys : List Row) (p : List Step) → entries (xs ++ ys) p ≡ entries xs p ++ entries ys p
 entries-append xs ys p = flat_map-append (λ (row : Row). step_past p row.path) xs ys
@@ -101,8 +100,10 @@ seen-rows_of t h q = λ i. record { has = λ p. has_at p i; cell = λ p. cell_at
   where
     has_at : (p : List Step) → has (rows_of t) (q ++ p) ≡ present (at (at (Some t) q) p)
     has_at p = has-rows_of t h (q ++ p) ∙ ap present (at-append (Some t) q p)
+
     cell_at : (p : List Step) → cell (rows_of t) (q ++ p) ≡ cell_in (at (at (Some t) q) p)
     cell_at p = cell-rows_of t h (q ++ p) ∙ ap cell_in (at-append (Some t) q p)
+
     entries_at : (p : List Step) → entries (rows_of t) (q ++ p) ≡ own_steps (kids_in (at (at (Some t) q) p))
     entries_at p = entries-rows_of t h (q ++ p) ∙ ap (λ o. own_steps (kids_in o)) (at-append (Some t) q p)
 

@@ -1,9 +1,9 @@
 -- The walk over the nodes of a tree finds the breaches of its rows, and no others.
-use Rattle.std.proofs.Common.{◌≡◌, ℕ, suc, ◌+◌, Bool, true, false, cond, ◌&&◌, ◌||◌, List, [], ◌∷◌, ◌++◌, inl, inr, Option, Some, None, refl, sym, ap, subst, ◌∙◌, append_assoc, append-nil, map, length}
+use Rattle.std.proofs.Common.{◌≡◌, ℕ, ◌+◌, Bool, true, false, cond, ◌&&◌, ◌||◌, List, [], ◌∷◌, ◌++◌, inl, inr, Option, Some, None, refl, sym, ap, subst, ◌∙◌, append_assoc, append-nil, map}
 use Rattle.std.proofs.Common.{arith}
 use Rattle.std.proofs.lemmas.Bool.Decides.{nat_tests}
-use Rattle.std.specs.Prelude.{◌⊎◌, T, nat_eq, nat_le, if◌then◌else◌}
-use Rattle.std.specs.List.{fold, flat_map, list_any, filter}
+use Rattle.std.specs.Prelude.{T, nat_eq, if◌then◌else◌}
+use Rattle.std.specs.List.{fold, flat_map}
 use Rattle.std.proofs.lemmas.List.Sums.{fold_push}
 use Rattle.std.specs.FinMap.{find, is_sorted}
 use Rattle.std.specs.FinMap.Entries.{below_all}
@@ -18,7 +18,7 @@ use Rattle.sal_node.proofs.Entries.{first as and_left, second as and_right}
 use Rattle.sal_schema.specs.Fitting.{prefixes}
 use Rattle.sal_schema.specs.declared.table.SchemaTable.{SchemaTable}
 use Rattle.sal_schema.specs.Table.{is_same, data_parent}
-use Rattle.sal_tree.specs.Grow.{at, kid, present}
+use Rattle.sal_tree.specs.Grow.{at, present}
 use Rattle.sal_tree.specs.Rows.{rows_of}
 use Rattle.sal_tree.proofs.Cells.{has-rows_of}
 use Rattle.sal_tree.proofs.Laws.{eq, same, missing, self_tie, grove-sorted, at-append}
@@ -30,7 +30,7 @@ use Rattle.sal_check.specs.Breaches.{breach_of, breaches_at, breaches_from, brea
 use Rattle.sal_check.specs.Contexts.{stand}
 use Rattle.sal_check.specs.Nodes.{seen_in, slot, is_judged_in, judged, found_at, found_below, found}
 use Rattle.sal_check.specs.Places.{places, root_spot, after_step, spot_of}
-use Rattle.sal_check.specs.Rules.{broken, steps_to}
+use Rattle.sal_check.specs.Rules.{broken}
 use Rattle.sal_check.specs.Seen.{Seen, seen_from}
 use Rattle.sal_check.proofs.Least.{least-same}
 use Rattle.sal_check.proofs.Members.{In, In-front, In-back, In-either, In-flat, In-from, In-map, In-from_map, In-kept, In-was}

@@ -4,7 +4,6 @@ use Rattle.sal_types.specs.declared.value.Atom.TheVariants.{Unsigned}
 use Rattle.sal_types.specs.declared.value.Value.{Value}
 use Rattle.sal_types.specs.declared.value.Step.{Step}
 use Rattle.sal_types.specs.declared.value.Step.TheVariants.{Node, Key, Item}
-use Rattle.sal_types.specs.declared.value.Cell.{Cell}
 use Rattle.sal_types.specs.declared.value.Cell.TheVariants.{Mark, Leaf as Held}
 use Rattle.sal_types.specs.declared.row.Row.{Row as TreeRow}
 use Rattle.sal_schema.specs.declared.kind.Kind.{Kind}

@@ -1,5 +1,5 @@
 -- The same, seen in a tree of nodes: how the walk over a tree comes to its breaches.
-use Rattle.std.specs.Prelude.{◌≡◌, ◌<◌, ℕ, zero, suc, ◌+◌, slice_index_or, Bool, ◌||◌, nat_eq, List, [], ◌∷◌, ◌++◌, length, Option, Some, None, is_some, if◌then◌else◌}
+use Rattle.std.specs.Prelude.{◌≡◌, ◌<◌, ℕ, ◌+◌, slice_index_or, Bool, ◌||◌, nat_eq, List, [], ◌∷◌, ◌++◌, length, Option, Some, None, is_some, if◌then◌else◌}
 use Rattle.std.specs.List.{filter}
 use Rattle.std.specs.declared.alloc.Global.{Global}
 use Rattle.std.specs.declared.vec.Vec.{Vec}
@@ -57,7 +57,7 @@ abbrev pub found_below : SchemaTable → Store → List Step → Spot → Forest
 found_below table store place spot bare = []
 found_below table store place spot (grown x s c ks rest) =
     (found_at table store (place ++ x ∷ []) (after_step table spot x) (record { stamp = s; cell = c; kids = ks })
-     ++ found_below table store (place ++ x ∷ []) (after_step table spot x) ks)
+    ++ found_below table store (place ++ x ∷ []) (after_step table spot x) ks)
     ++ found_below table store place spot rest
 
 -- at a node and below it

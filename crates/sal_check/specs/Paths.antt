@@ -1,5 +1,5 @@
 -- Paths that are put together.
-use Rattle.std.specs.Prelude.{List, [], ◌++◌, length, nat_le, Option, Some, None, if◌then◌else◌}
+use Rattle.std.specs.Prelude.{List, ◌++◌, length, nat_le, Option, Some, None, if◌then◌else◌}
 use Rattle.sal_types.specs.declared.value.Step.{Step}
 
 -- a path with more steps; none where they are more than a path has

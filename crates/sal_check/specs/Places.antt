@@ -1,5 +1,5 @@
 -- The places of a tree, and what each stands at.
-use Rattle.std.specs.Prelude.{ℕ, Bool, true, false, List, [], ◌∷◌, Option, Some, None}
+use Rattle.std.specs.Prelude.{false, List, [], ◌∷◌, Some, None}
 use Rattle.std.specs.List.{fold, flat_map}
 use Rattle.sal_types.specs.declared.value.Step.{Step}
 use Rattle.sal_types.specs.declared.value.Step.TheVariants.{Node}

@@ -2,7 +2,6 @@
 use Rattle.std.specs.Prelude.{ℕ, pos, Bool, false, true, List as Row, [], ◌∷◌, ◌++◌, Option, Some, None, codes, if◌then◌else◌}
 use Rattle.sal_restrict.specs.declared.yang_type.YangType.{YangType, roll-YangType}
 use Rattle.sal_restrict.specs.declared.yang_type.YangType.TheOpen.{YangType-F}
-use Rattle.sal_restrict.specs.declared.ranges.Part.{Part}
 use Rattle.sal_schema.specs.declared.kind.Kind.{Kind}
 use Rattle.sal_schema.specs.declared.kind.Kind.TheVariants.{Container, List, LeafList, Leaf, Choice, Case}
 use Rattle.sal_schema.specs.declared.table.NodeInfo.{NodeInfo}

@@ -103,11 +103,7 @@ fn add_data(steps: &mut Vec<Step>, kind: Kind, node: u32) -> Result<(), NoMemory
 }
 
 /// The steps from an entry of a list to a leaf below it.
-pub(crate) fn way_in_entry(
-    alloc: Global,
-    schema: &Schema,
-    leaf: u32,
-) -> Result<Vec<Step>, NoMemory>
+pub(crate) fn way_in_entry(alloc: Global, schema: &Schema, leaf: u32) -> Result<Vec<Step>, NoMemory>
     ensures { IfOk result (λ steps. steps.items ≡ spec.way_in_entry schema.now leaf) }
 {
     let mut steps = Vec::new(alloc);

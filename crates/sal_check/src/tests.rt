@@ -124,7 +124,17 @@ fn hosts(alloc: Global) -> Result<Vec<NodeInfo>, NoMemory>
     nodes.push(counted(alloc, None, Kind::List, "a", true, 0, None, &[1], &[])?)?;
     nodes.push(node(alloc, Some(0), Kind::Leaf, "b")?)?;
     nodes.push(required(alloc, Some(0), Kind::Leaf, "c")?)?;
-    nodes.push(counted(alloc, Some(0), Kind::LeafList, "d", true, 1, Some(2), &[], &[])?)?;
+    nodes.push(counted(
+        alloc,
+        Some(0),
+        Kind::LeafList,
+        "d",
+        true,
+        1,
+        Some(2),
+        &[],
+        &[],
+    )?)?;
     nodes.push(required(alloc, Some(0), Kind::Choice, "e")?)?;
     nodes.push(node(alloc, Some(4), Kind::Case, "f")?)?;
     nodes.push(node(alloc, Some(5), Kind::Leaf, "g")?)?;
@@ -152,13 +162,33 @@ fn items(alloc: Global) -> Result<Vec<NodeInfo>, NoMemory>
     ensures { IfOk result (λ it. it.items ≡ tried.items) }
 {
     let mut nodes = Vec::new(alloc);
-    nodes.push(counted(alloc, None, Kind::List, "r", true, 0, None, &[18], &[19, 21])?)?;
+    nodes.push(counted(
+        alloc,
+        None,
+        Kind::List,
+        "r",
+        true,
+        0,
+        None,
+        &[18],
+        &[19, 21],
+    )?)?;
     nodes.push(node(alloc, Some(17), Kind::Leaf, "s")?)?;
     nodes.push(node(alloc, Some(17), Kind::Leaf, "t")?)?;
     nodes.push(node(alloc, Some(17), PLAIN, "u")?)?;
     nodes.push(node(alloc, Some(20), Kind::Leaf, "v")?)?;
     nodes.push(info(alloc, None, PLAIN, "w", false, false)?)?;
-    nodes.push(counted(alloc, Some(22), Kind::LeafList, "x", false, 0, Some(1), &[], &[])?)?;
+    nodes.push(counted(
+        alloc,
+        Some(22),
+        Kind::LeafList,
+        "x",
+        false,
+        0,
+        Some(1),
+        &[],
+        &[],
+    )?)?;
     Ok(nodes)
 }
 
@@ -168,7 +198,17 @@ fn cases(alloc: Global) -> Result<Vec<NodeInfo>, NoMemory>
     let mut nodes = Vec::new(alloc);
     nodes.push(node(alloc, None, Kind::Choice, "y")?)?;
     nodes.push(node(alloc, Some(24), Kind::Case, "z")?)?;
-    nodes.push(counted(alloc, Some(25), Kind::LeafList, "aa", true, 2, None, &[], &[])?)?;
+    nodes.push(counted(
+        alloc,
+        Some(25),
+        Kind::LeafList,
+        "aa",
+        true,
+        2,
+        None,
+        &[],
+        &[],
+    )?)?;
     nodes.push(node(alloc, Some(25), Kind::Leaf, "ab")?)?;
     nodes.push(node(alloc, Some(24), Kind::Case, "ac")?)?;
     nodes.push(node(alloc, Some(28), Kind::Leaf, "ad")?)?;
@@ -327,23 +367,53 @@ const CONFIG: &[(&str, &str)] = &[
     ("0/#1 0/#1/1/=1 0/#1/2/=5 0/#1/9/=1", "/0/#1/3 min 3"),
     ("0/#1 0/#1/1/=1 0/#1/2/=5 0/#1/3/.1 0/#1/9/=1", ""),
     ("0/#1 0/#1/1/=1 0/#1/2/=5 0/#1/3/.1 0/#1/3/.2 0/#1/9/=1", ""),
-    ("0/#1 0/#1/1/=1 0/#1/2/=5 0/#1/3/.1 0/#1/3/.2 0/#1/3/.3 0/#1/9/=1", "/0/#1/3 max 3"),
-    ("0/#1 0/#1/1/=1 0/#1/2/=5 0/#1/3/.1 0/#1/6/=1", "/0/#1 mandatory 7"),
+    (
+        "0/#1 0/#1/1/=1 0/#1/2/=5 0/#1/3/.1 0/#1/3/.2 0/#1/3/.3 0/#1/9/=1",
+        "/0/#1/3 max 3",
+    ),
+    (
+        "0/#1 0/#1/1/=1 0/#1/2/=5 0/#1/3/.1 0/#1/6/=1",
+        "/0/#1 mandatory 7",
+    ),
     ("0/#1 0/#1/1/=1 0/#1/2/=5 0/#1/3/.1 0/#1/7/=1", ""),
-    ("0/#1 0/#1/1/=1 0/#1/2/=5 0/#1/3/.1 0/#1/7/=1 0/#1/9/=1", "/0/#1 cases 4"),
-    ("0/#1 0/#1/1/=1 0/#1/2/=5 0/#1/6/=1 0/#1/9/=1", "/0/#1 mandatory 7"),
-    ("0/#1 0/#1/1/=1 0/#1/3/.1 0/#1/3/.2 0/#1/3/.3 0/#1/7/=1 0/#1/9/=1", "/0/#1 mandatory 2"),
-    ("0/#1 0/#1/1/=1 0/#1/2/=5 0/#1/3/.1 0/#1/9/=1 0/#2 0/#2/1/=2", "/0/#2 mandatory 2"),
+    (
+        "0/#1 0/#1/1/=1 0/#1/2/=5 0/#1/3/.1 0/#1/7/=1 0/#1/9/=1",
+        "/0/#1 cases 4",
+    ),
+    (
+        "0/#1 0/#1/1/=1 0/#1/2/=5 0/#1/6/=1 0/#1/9/=1",
+        "/0/#1 mandatory 7",
+    ),
+    (
+        "0/#1 0/#1/1/=1 0/#1/3/.1 0/#1/3/.2 0/#1/3/.3 0/#1/7/=1 0/#1/9/=1",
+        "/0/#1 mandatory 2",
+    ),
+    (
+        "0/#1 0/#1/1/=1 0/#1/2/=5 0/#1/3/.1 0/#1/9/=1 0/#2 0/#2/1/=2",
+        "/0/#2 mandatory 2",
+    ),
     ("0/#1 0/#1/1/=1 0/#2 0/#2/1/=2", "/0/#1 mandatory 2"),
     ("10/11/=1", "/10/12 mandatory 13"),
     ("10/12/13/=1", "/10 mandatory 11"),
     ("10/11/=1 10/12/13/=1", ""),
     ("14", "/14/15 mandatory 16"),
     ("14 14/15/16/=1", ""),
-    ("17/#1 17/#1/18/=1 17/#1/19/=5 17/#1/20/21/=7 17/#2 17/#2/18/=2 17/#2/19/=5 17/#2/20/21/=7", "/17 unique 17"),
-    ("17/#1 17/#1/18/=1 17/#1/19/=5 17/#1/20/21/=7 17/#2 17/#2/18/=2 17/#2/19/=5 17/#2/20/21/=8", ""),
-    ("17/#1 17/#1/18/=1 17/#1/19/=5 17/#1/20/21/=7 17/#2 17/#2/18/=2 17/#2/19/=6 17/#2/20/21/=7", ""),
-    ("17/#1 17/#1/18/=1 17/#1/19/=5 17/#2 17/#2/18/=2 17/#2/19/=5", ""),
+    (
+        "17/#1 17/#1/18/=1 17/#1/19/=5 17/#1/20/21/=7 17/#2 17/#2/18/=2 17/#2/19/=5 17/#2/20/21/=7",
+        "/17 unique 17",
+    ),
+    (
+        "17/#1 17/#1/18/=1 17/#1/19/=5 17/#1/20/21/=7 17/#2 17/#2/18/=2 17/#2/19/=5 17/#2/20/21/=8",
+        "",
+    ),
+    (
+        "17/#1 17/#1/18/=1 17/#1/19/=5 17/#1/20/21/=7 17/#2 17/#2/18/=2 17/#2/19/=6 17/#2/20/21/=7",
+        "",
+    ),
+    (
+        "17/#1 17/#1/18/=1 17/#1/19/=5 17/#2 17/#2/18/=2 17/#2/19/=5",
+        "",
+    ),
     ("22/23/.1 22/23/.2", ""),
     ("26/.1", "/26 min 26"),
     ("26/.1 26/.2", ""),

@@ -105,11 +105,56 @@ fn judge_node(
     requires number { number < length schema.now.nodes }
     ensures { IfOk result (λ r. r ≡ fold spec.keep least (flat_map (spec.breach_of schema.now store (steps_in trail.now) (seen_in (Some node.now.value)) at) (spec.rules_of number))) }
 {
-    let first = judge(alloc, schema, store, trail, node, at, Rule::Mandatory(number), least)?;
-    let second = judge(alloc, schema, store, trail, node, at, Rule::MinElements(number), first)?;
-    let third = judge(alloc, schema, store, trail, node, at, Rule::MaxElements(number), second)?;
-    let fourth = judge(alloc, schema, store, trail, node, at, Rule::Unique(number), third)?;
-    judge(alloc, schema, store, trail, node, at, Rule::TwoCases(number), fourth)
+    let first = judge(
+        alloc,
+        schema,
+        store,
+        trail,
+        node,
+        at,
+        Rule::Mandatory(number),
+        least,
+    )?;
+    let second = judge(
+        alloc,
+        schema,
+        store,
+        trail,
+        node,
+        at,
+        Rule::MinElements(number),
+        first,
+    )?;
+    let third = judge(
+        alloc,
+        schema,
+        store,
+        trail,
+        node,
+        at,
+        Rule::MaxElements(number),
+        second,
+    )?;
+    let fourth = judge(
+        alloc,
+        schema,
+        store,
+        trail,
+        node,
+        at,
+        Rule::Unique(number),
+        third,
+    )?;
+    judge(
+        alloc,
+        schema,
+        store,
+        trail,
+        node,
+        at,
+        Rule::TwoCases(number),
+        fourth,
+    )
 }
 
 // The least breach with those of one place.

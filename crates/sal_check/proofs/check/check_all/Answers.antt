@@ -1,9 +1,8 @@
-use Rattle.std.proofs.Common.{◌≡◌, [], Option, None, sym, ap, subst, ◌∙◌}
+use Rattle.std.proofs.Common.{◌≡◌, [], None, ap, subst, ◌∙◌}
 use Rattle.std.specs.Prelude.{IfOk}
 use Rattle.std.specs.List.{fold}
-use Rattle.sal_node.specs.Tree.{Tree, IsGrove}
+use Rattle.sal_node.specs.Tree.{Tree}
 use Rattle.sal_tree.specs.Rows.{rows_of}
-use Rattle.sal_check.specs.declared.breach.Breach.{Breach}
 use Rattle.sal_check.specs.Breaches.{keep, breach}
 use Rattle.sal_check.specs.Nodes.{found}
 use Rattle.sal_check.specs.Places.{root_spot}

@@ -1,4 +1,4 @@
-use Rattle.std.proofs.Common.{rules, ◌≡◌, ◌-◌, ◌+◌, ◌<◌, ◌≤◌, Bool, true, false, cond, not, length, Some, None, sym, ap, subst, ◌∙◌, arith}
+use Rattle.std.proofs.Common.{rules, ◌≡◌, ◌-◌, ◌+◌, ◌<◌, Bool, true, false, cond, not, length, Some, sym, ap, subst, ◌∙◌, arith}
 use Rattle.std.specs.Prelude.{IfSome}
 use Rattle.sal_schema.specs.declared.kind.Kind.{Kind}
 use Rattle.sal_schema.specs.Table.{closest, parent_of}

@@ -1,4 +1,4 @@
-use Rattle.std.proofs.Common.{rules, ◌≡◌, ◌-◌, ◌+◌, ◌<◌, ◌≤◌, Bool, true, false, cond, length, ◌∷◌, Some, None, sym, ap, ◌∙◌, arith}
+use Rattle.std.proofs.Common.{rules, ◌≡◌, ◌-◌, ◌+◌, ◌<◌, true, false, cond, length, ◌∷◌, sym, ap, ◌∙◌, arith}
 use Rattle.sal_types.specs.declared.value.Step.TheVariants.{Node}
 use Rattle.sal_schema.specs.Kinds.{is_list, is_data}
 use Rattle.sal_schema.specs.Table.{is_kind, parent_of}

@@ -1,4 +1,4 @@
-use Rattle.std.proofs.Common.{◌≡◌, ◌+◌, Some, refl, sym, ap, ◌∙◌, arith}
+use Rattle.std.proofs.Common.{◌≡◌, ◌+◌, refl, ap, ◌∙◌, arith}
 use Rattle.sal_node.specs.Tree.{Tree, pairs}
 use Rattle.sal_node.specs.Shape.{seen, tree_at}
 use Rattle.sal_check.proofs.Counted.{count-more, count-all}

@@ -1,4 +1,3 @@
-
 use Rattle.sal_check.proofs.tests.table.Goals as goal
 
 pub returns : goal.returns

@@ -1,5 +1,4 @@
-use Rattle.std.proofs.Common.{◌≡◌, ◌++◌, ◌∷◌, [], take, sym, ap, ◌∙◌}
-use Rattle.sal_types.specs.declared.value.Step.{Step}
+use Rattle.std.proofs.Common.{◌++◌, ◌∷◌, [], sym, ap, ◌∙◌}
 use Rattle.sal_check.specs.Nodes.{steps_in}
 use Rattle.sal_check.proofs.Trails.{steps_in-push, steps_in-at, steps_in-all}
 use Rattle.sal_check.proofs.trail.longer.Goals as goal

@@ -1,4 +1,4 @@
-use Rattle.std.proofs.Common.{rules, ◌≡◌, ◌++◌, ◌∷◌, [], ◌<◌, length, take, sym, ap, ◌∙◌, arith}
+use Rattle.std.proofs.Common.{rules, ◌≡◌, ◌++◌, ◌∷◌, [], length, sym, ap, ◌∙◌, arith}
 use Rattle.sal_check.specs.Nodes.{steps_in}
 use Rattle.sal_check.proofs.Trails.{steps_in-at, steps_in-all, steps_in-length, take-length, joined-long, joined-short}
 use Rattle.sal_check.proofs.trail.path_of.Goals as goal

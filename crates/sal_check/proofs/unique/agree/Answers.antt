@@ -1,6 +1,5 @@
-use Rattle.std.proofs.Common.{◌≡◌, List, sym, ap, subst, ◌∙◌}
+use Rattle.std.proofs.Common.{◌≡◌, sym, ap, subst, ◌∙◌}
 use Rattle.std.specs.Prelude.{IfOk}
-use Rattle.sal_types.specs.declared.value.Cell.{Cell}
 use Rattle.sal_node.specs.Shape.{tree_at}
 use Rattle.sal_tree.specs.Grow.{kids_in}
 use Rattle.sal_check.specs.Nodes.{seen_in}

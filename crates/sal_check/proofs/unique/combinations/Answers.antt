@@ -1,5 +1,5 @@
-use Rattle.std.proofs.Common.{◌≡◌, Some, subst, sym, ap, ◌∙◌}
-use Rattle.sal_node.specs.Tree.{Tree, IsGrove, pairs}
+use Rattle.std.proofs.Common.{◌≡◌, subst, ap, ◌∙◌}
+use Rattle.sal_node.specs.Tree.{Tree, pairs}
 use Rattle.sal_node.specs.Shape.{seen, tree_at}
 use Rattle.sal_tree.specs.Grow.{IsSound}
 use Rattle.sal_check.specs.Uniques.{all_cells_in, ways_in}

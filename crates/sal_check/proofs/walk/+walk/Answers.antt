@@ -1,6 +1,6 @@
-use Rattle.std.proofs.Common.{◌≡◌, ◌++◌, ◌∷◌, [], ◌<◌, Some, sym, ap, ◌∙◌, arith}
+use Rattle.std.proofs.Common.{◌≡◌, ap, ◌∙◌, arith}
 use Rattle.std.specs.List.{fold}
-use Rattle.sal_node.specs.Tree.{Tree, pairs, size_of}
+use Rattle.sal_node.specs.Tree.{Tree, pairs}
 use Rattle.sal_node.specs.Shape.{seen}
 use Rattle.sal_tree.proofs.ByChildren.{lighter}
 use Rattle.sal_check.specs.Breaches.{keep}

@@ -1,5 +1,5 @@
 -- The least with the breaches of the node, and of the children so far and below them.
-use Rattle.std.proofs.Common.{◌≡◌, ◌++◌, take}
+use Rattle.std.proofs.Common.{◌≡◌, take}
 use Rattle.std.specs.List.{fold}
 use Rattle.sal_node.specs.Shape.{seen}
 use Rattle.sal_node.specs.Tree.{size_of}

@@ -1,6 +1,6 @@
-use Rattle.std.proofs.Common.{rules, ◌≡◌, ◌+◌, ◌<◌, ◌≤◌, length, sym, ap, subst, ◌∙◌, arith}
+use Rattle.std.proofs.Common.{rules, ◌≡◌, ◌<◌, length, sym, subst, arith}
 use Rattle.std.specs.List.{All}
-use Rattle.sal_check.specs.Nodes.{slot, is_judged_in, judged, judged_in}
+use Rattle.sal_check.specs.Nodes.{slot, is_judged_in, judged}
 use Rattle.sal_check.proofs.Plans.{kept-inside, judged-none}
 use Rattle.sal_check.proofs.plan.Plan.judged.Goals as goal
 

@@ -1,8 +1,6 @@
-use Rattle.std.proofs.Common.{rules, ◌≡◌, ◌+◌, ◌<◌, ◌||◌, ◌++◌, ◌∷◌, [], length, nat_eq, if◌then◌else◌, sym, ap, subst, ◌∙◌, arith}
-use Rattle.sal_check.specs.Contexts.{stand}
+use Rattle.std.proofs.Common.{◌||◌, ◌++◌, ◌∷◌, [], nat_eq, if◌then◌else◌, ap, ◌∙◌, arith}
 use Rattle.sal_check.specs.Nodes.{slot, is_judged_in}
 use Rattle.sal_check.proofs.Plans.{kept-none, kept-one_more, stand-inside, parent-inside}
-use Rattle.sal_schema.specs.Table.{data_parent}
 use Rattle.sal_check.proofs.plan.Plan.of.Goals as goal
 
 pub loop-number-init : goal.loop-number-init

@@ -1,0 +1,13 @@
+mod Climbs
+mod Combined
+mod Counted
+mod Doubles
+mod Founds
+mod Least
+mod Members
+mod Plans
+mod SeenTrees
+mod There
+mod Trails
+mod TriedTable
+mod Walked

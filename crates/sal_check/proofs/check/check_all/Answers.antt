@@ -1,0 +1,18 @@
+use Rattle.std.proofs.Common.{◌≡◌, [], None, ap, subst, ◌∙◌}
+use Rattle.std.specs.Prelude.{IfOk}
+use Rattle.std.specs.List.{fold}
+use Rattle.sal_node.specs.Tree.{Tree}
+use Rattle.sal_tree.specs.Rows.{rows_of}
+use Rattle.sal_check.specs.Breaches.{keep, breach}
+use Rattle.sal_check.specs.Nodes.{found}
+use Rattle.sal_check.specs.Places.{root_spot}
+use Rattle.sal_check.proofs.Walked.{breach-found}
+use Rattle.sal_check.proofs.check.check_all.Goals as goal
+
+pub returns : goal.returns
+returns c =
+    let table = c.args.schema.now in
+    let store = c.args.store in
+    let same : fold keep None (found table store [] root_spot c.node.result.now.value) ≡ breach table store (rows_of c.args.root.now) =
+    ap (λ (t : Tree). fold keep None (found table store [] root_spot t)) c.node.ensures.tree ∙ breach-found table store c.args.root.now c.node.ensures.whole.ordered in
+    subst (λ o. IfOk c.walk.result (λ r. r ≡ o)) same c.walk.ensures

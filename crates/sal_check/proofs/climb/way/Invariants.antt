@@ -1,0 +1,11 @@
+-- What is left to climb leads to the whole way.
+use Rattle.std.proofs.Common.{◌≡◌, ◌<◌, ◌-◌, length}
+use Rattle.std.specs.Prelude.{IfSome}
+use Rattle.sal_check.specs.Contexts.{way, through_plain}
+use Rattle.sal_check.proofs.climb.way.Given as goal
+
+abbrev pub invariant-loop-done : goal.invariant-loop-done
+invariant-loop-done l = record {
+  rest : through_plain l.schema (length l.schema.nodes - l.done) l.here l.steps.items ≡ way l.schema l.node;
+  within : IfSome l.here (λ p. p < length l.schema.nodes);
+}

@@ -1,0 +1,7 @@
+-- What is left to climb leads to the whole way.
+use Rattle.std.proofs.Common.{◌≡◌, ◌-◌, length}
+use Rattle.sal_check.specs.Contexts.{way_in_entry, from_list}
+use Rattle.sal_check.proofs.climb.way_in_entry.Given as goal
+
+abbrev pub invariant-loop-done : goal.invariant-loop-done
+invariant-loop-done l = from_list l.schema (length l.schema.nodes - l.done) l.here l.steps.items ≡ way_in_entry l.schema l.leaf

@@ -1,0 +1,7 @@
+-- Paths that are put together.
+use Rattle.std.specs.Prelude.{List, ◌++◌, length, nat_le, Option, Some, None, if◌then◌else◌}
+use Rattle.sal_types.specs.declared.value.Step.{Step}
+
+-- a path with more steps; none where they are more than a path has
+abbrev pub joined : List Step → List Step → Option (List Step)
+joined path steps = if nat_le (length (path ++ steps)) 32 then Some (path ++ steps) else None

@@ -1,0 +1,200 @@
+//! The rules of one node, judged at a place of a tree.
+ghost use Rattle.std.specs.Prelude.{◌≡◌, ◌<◌, ◌≤◌, ◌||◌, length, IfSome, IfOk, Option, Some, if◌then◌else◌};
+ghost use Rattle.sal_node.specs.Shape.{tree_at};
+ghost use Rattle.sal_schema.specs.Kinds as kinds;
+ghost use Rattle.sal_schema.specs.Table.{is_kind};
+ghost use Rattle.sal_tree.specs.Grow.{IsSound};
+ghost use Rattle.sal_check.specs.Nodes.{seen_in};
+ghost use Rattle.sal_check.specs.Rules as spec;
+ghost use Rattle.sal_check.specs.declared.breach.Rule.TheVariants.{Mandatory, MinElements, MaxElements, Unique, TwoCases};
+
+use crate::climb::{context, stand, way};
+use crate::reach::{count, is_present, kid, reached};
+use sal_node::Node;
+use sal_schema::{Kind, Schema};
+use sal_types::{NoMemory, Step};
+use std::alloc::Global;
+use std::sync::Arc;
+
+// ---- what stands at a place
+
+// A choice or a case is there where a node in it is. Choices and cases lie at most so deep in one another.
+fn is_there(schema: &Schema, node: Option<&Arc<Node>>, number: u32, deep: u32) -> bool
+    requires sound { IsSound (tree_at node) }
+    requires number { number < length schema.now.nodes }
+    ensures { result ≡ spec.is_there schema.now (seen_in (tree_at node.entry)) deep number }
+{
+    if deep == 0 {
+        return false;
+    }
+    if !schema.kind(number).is_choice_or_case() {
+        return is_present(kid(node, &Step::Node(number)));
+    }
+    for child in schema.children(Some(number)) {
+        if is_there(schema, node, *child, deep - 1) {
+            return true;
+        }
+    }
+    false
+}
+
+fn stands(schema: &Schema, node: Option<&Arc<Node>>, number: u32) -> bool
+    requires sound { IsSound (tree_at node) }
+    requires number { number < length schema.now.nodes }
+    ensures { result ≡ spec.stands schema.now (seen_in (tree_at node.entry)) number }
+{
+    is_there(schema, node, number, schema.len())
+}
+
+// ---- what is demanded
+
+// Whether what has this context, and lies so many steps below it, is demanded.
+fn is_demanded(
+    schema: &Schema,
+    node: Option<&Arc<Node>>,
+    way: &[Step],
+    context: Option<u32>,
+) -> bool
+    requires sound { IsSound (tree_at node) }
+    requires number { IfSome context (λ c. c < length schema.now.nodes) }
+    ensures { result ≡ spec.is_demanded_by schema.now (seen_in (tree_at node.entry)) way.now context }
+{
+    match context {
+        None => match way {
+            [] => false,
+            [container, ..] => is_present(kid(node, container)),
+        },
+        Some(context) => !is_case(schema.kind(context)) || stands(schema, node, context),
+    }
+}
+
+fn is_case(kind: Kind) -> bool
+    ensures { result ≡ kinds.is_case kind }
+{
+    kind == Kind::Case
+}
+
+// ---- what a node states
+
+fn is_required(schema: &Schema, number: u32) -> bool
+    requires { number < length schema.now.nodes }
+    ensures { result ≡ spec.is_required schema.now number }
+{
+    schema.is_mandatory(number) && is_leaf_or_choice(schema, number)
+}
+
+fn is_leaf_or_choice(schema: &Schema, number: u32) -> bool
+    requires { number < length schema.now.nodes }
+    ensures { result ≡ (is_kind kinds.is_leaf schema.now number || is_kind kinds.is_choice schema.now number) }
+{
+    match schema.kind(number) {
+        Kind::Leaf | Kind::Choice => true,
+        _ => false,
+    }
+}
+
+fn has_minimum(schema: &Schema, number: u32) -> bool
+    requires { number < length schema.now.nodes }
+    ensures { result ≡ spec.has_minimum schema.now number }
+{
+    schema.kind(number).has_entries() && schema.min_elements(number) > 0
+}
+
+// ---- the rules
+
+/// Whether a mandatory leaf is absent, or no node of a mandatory choice is there.
+pub(crate) fn is_missing(
+    alloc: Global,
+    schema: &Schema,
+    node: Option<&Arc<Node>>,
+    at: Option<u32>,
+    number: u32,
+) -> Result<bool, NoMemory>
+    requires sound { IsSound (tree_at node) }
+    requires number { number < length schema.now.nodes }
+    ensures { IfOk result (λ b. b ≡ spec.broken schema.now (seen_in (tree_at node.entry)) at (Mandatory number)) }
+{
+    if !is_required(schema, number) || stand(schema, number) != at {
+        return Ok(false);
+    }
+    let way = way(alloc, schema, number)?;
+    if !is_demanded(schema, node, &way, context(schema, number)) {
+        return Ok(false);
+    }
+    Ok(!stands(schema, reached(node, &way), number))
+}
+
+/// Whether a list or leaf-list has too few entries.
+pub(crate) fn has_too_few(
+    alloc: Global,
+    schema: &Schema,
+    node: Option<&Arc<Node>>,
+    at: Option<u32>,
+    number: u32,
+) -> Result<bool, NoMemory>
+    requires sound { IsSound (tree_at node) }
+    requires number { number < length schema.now.nodes }
+    ensures { IfOk result (λ b. b ≡ spec.broken schema.now (seen_in (tree_at node.entry)) at (MinElements number)) }
+{
+    if !has_minimum(schema, number) || stand(schema, number) != at {
+        return Ok(false);
+    }
+    let way = way(alloc, schema, number)?;
+    if !is_demanded(schema, node, &way, context(schema, number)) {
+        return Ok(false);
+    }
+    let entries = count(alloc, kid(reached(node, &way), &Step::Node(number)))?;
+    Ok(entries < schema.min_elements(number) as usize)
+}
+
+/// Whether a list or leaf-list has too many entries.
+pub(crate) fn has_too_many(
+    alloc: Global,
+    schema: &Schema,
+    node: Option<&Arc<Node>>,
+    at: Option<u32>,
+    number: u32,
+) -> Result<bool, NoMemory>
+    requires sound { IsSound (tree_at node) }
+    requires number { number < length schema.now.nodes }
+    ensures { IfOk result (λ b. b ≡ spec.broken schema.now (seen_in (tree_at node.entry)) at (MaxElements number)) }
+{
+    if !schema.kind(number).has_entries() || schema.data_parent(number) != at {
+        return Ok(false);
+    }
+    let Some(most) = schema.max_elements(number) else {
+        return Ok(false);
+    };
+    let entries = count(alloc, kid(node, &Step::Node(number)))?;
+    Ok(entries > most as usize)
+}
+
+fn one_if_there(schema: &Schema, node: Option<&Arc<Node>>, number: u32) -> usize
+    requires sound { IsSound (tree_at node) }
+    requires number { number < length schema.now.nodes }
+    ensures value { result ≡ (if spec.stands schema.now (seen_in (tree_at node.entry)) number then 1 else 0) }
+    ensures few { result ≤ 1 }
+{
+    if stands(schema, node, number) { 1 } else { 0 }
+}
+
+/// Whether nodes of two cases of a choice are there.
+pub(crate) fn has_two_cases(
+    schema: &Schema,
+    node: Option<&Arc<Node>>,
+    at: Option<u32>,
+    number: u32,
+) -> bool
+    requires sound { IsSound (tree_at node) }
+    requires number { number < length schema.now.nodes }
+    ensures { result ≡ spec.broken schema.now (seen_in (tree_at node.entry)) at (TwoCases number) }
+{
+    if schema.kind(number) != Kind::Choice || schema.data_parent(number) != at {
+        return false;
+    }
+    let mut present = 0;
+    for case in schema.children(Some(number)) {
+        present += one_if_there(schema, node, *case);
+    }
+    present >= 2
+}

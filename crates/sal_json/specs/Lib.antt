@@ -1,0 +1,6 @@
+pub mod Examples
+pub mod Named
+pub mod Numerals
+pub mod Patterns
+pub mod Read
+pub mod Written

@@ -1,5 +1,5 @@
 -- Values that are names: of enums, bits and identities (RFC 7951 sections 6.4, 6.5 and 6.8).
-use Rattle.std.specs.Prelude.{ℕ, ◌+◌, ◌^◌, Bool, ◌==◌, nat_eq, List, [], ◌∷◌, ◌++◌, length, Option, Some, None, Result, Ok, Err, fold, option_and_then, position, slice_index_or, if◌then◌else◌}
+use Rattle.std.specs.Prelude.{ℕ, ◌^◌, bit_or, Bool, ◌==◌, nat_eq, List, [], ◌∷◌, ◌++◌, length, Option, Some, None, Result, Ok, Err, fold, option_and_then, position, slice_index_or, if◌then◌else◌}
 use Rattle.std.specs.List.{list_any, before_first, after_first, slice_split, join_by, filter, range_with_len, slice_get}
 use Rattle.std.specs.Option.{option_map_or}
 use Rattle.std.specs.Cmp.Lexicographic.{pointwise}
@@ -38,7 +38,7 @@ is_space c = c == 32
 
 -- a set of bits and one more, which it has not yet
 abbrev pub with_bit : ℕ → ℕ → Result ℕ ScalarFault
-with_bit set p = if has_bit set p then Err WrongKind else Ok (set + 2 ^ p)
+with_bit set p = if has_bit set p then Err WrongKind else Ok (bit_or set (2 ^ p))
 
 abbrev pub with_name : List (List ℕ) → List ℕ → ℕ → List ℕ → Result ℕ ScalarFault
 with_name names positions set name =

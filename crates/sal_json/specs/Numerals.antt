@@ -51,10 +51,13 @@ begins_with_zero t = slice_index t 0 == 48
 abbrev pub is_strict : List ℕ → Bool
 is_strict t = (length t == 1 && begins_with_zero t) || (is_digits (without_minus t) && not (begins_with_zero (without_minus t)))
 
--- the value of a text in an integer type: those of 64 bits take any sign and any zeros in front
+-- types of 64 bits take any sign and any zeros in front, the others only the one spelling of a number
+abbrev pub is_number : ℕ → List ℕ → Bool
+is_number bits t = if bits == 64 then is_whole t else is_strict t
+
+-- the value of a text in an integer type
 abbrev pub int_atom : ℕ → Bool → List Part → List ℕ → Result Atom ScalarFault
-int_atom bits sign range t =
-    if (if bits == 64 then is_whole t else is_strict t) then whole_atom sign range (number_of t) else Err WrongKind
+int_atom bits sign range t = if is_number bits t then whole_atom sign range (number_of t) else Err WrongKind
 
 -- ---- decimal numbers
 
@@ -75,13 +78,20 @@ further_digits t = after_first is_point t
 abbrev pub is_decimal : List ℕ → Bool
 is_decimal t = is_digits (whole_digits t) && (not (has_point t) || is_digits (further_digits t))
 
+-- the first so many digits, and the rest
+abbrev pub first_of : ℕ → List ℕ → List ℕ
+first_of digits t = take digits t
+
+abbrev pub rest_of : ℕ → List ℕ → List ℕ
+rest_of digits t = drop digits t
+
 -- the digits behind the point that a type with so many has no place for are zeros
 abbrev pub is_exact : ℕ → List ℕ → Bool
-is_exact digits t = list_all (λ c. c == 48) (drop digits (further_digits t))
+is_exact digits t = list_all (λ c. c == 48) (rest_of digits (further_digits t))
 
 -- the number times 10 to the power of `digits`
 abbrev pub units_of : ℕ → List ℕ → ℕ
-units_of digits t = units digits (whole_digits t) (take digits (further_digits t))
+units_of digits t = units digits (whole_digits t) (first_of digits (further_digits t))
 
 abbrev pub units_atom : ℕ → List Part → ℤ → Result Atom ScalarFault
 units_atom digits range z = if is_in_64 z && holds range z then Ok (Dec z digits) else Err OutOfRange

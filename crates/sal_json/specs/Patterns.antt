@@ -1,5 +1,5 @@
 -- Patterns of texts (RFC 7950 section 9.4.5), in the grammar of `regex`. A pattern is matched with the whole text.
-use Rattle.std.specs.Prelude.{ℕ, Bool, true, false, not, nat_lt, List, [], ◌∷◌, ◌++◌, map, Option, Some, None, is_some, chars, codes, if◌then◌else◌}
+use Rattle.std.specs.Prelude.{◌≡◌, MatchOption, ℕ, Bool, true, false, not, nat_lt, List, [], ◌∷◌, ◌++◌, map, Option, Some, None, is_some, chars, codes, if◌then◌else◌}
 use Rattle.std.specs.List.{list_all, list_any}
 use Rattle.regex_syntax.specs.Verdict.{default_config}
 use Rattle.regex_syntax.specs.Grammar.{Names, read}
@@ -42,6 +42,10 @@ is_refused (Some found) = nat_lt default_config.nest_limit found.0.depth
 
 unfoldable pub is_malformed : Text → Bool
 is_malformed p = is_refused (read default_config (chars (whole_text p)))
+
+-- there is none for a malformed pattern, and otherwise the one that is searched for
+abbrev pub IsWhole : Text → Option Text → Type 0
+IsWhole p found = MatchOption found (is_malformed p ≡ true) (λ whole. (whole ≡ whole_text p) × (is_malformed p ≡ false))
 
 -- ---- the patterns of a schema
 

@@ -18,16 +18,13 @@ use Rattle.sal_json.specs.Named.{name_with, bits_text, identity_text}
 
 -- ---- of a type that is no union
 
--- the names of an enumeration or of bits, and their places or positions
-abbrev pub names_of : YangType-F YangType → List (List ℕ)
-names_of (YangType-F.Enum names places) = names
-names_of (YangType-F.Bits names positions) = names
-names_of layer = []
+abbrev pub enum_text : YangType-F YangType → ℕ → List ℕ
+enum_text (YangType-F.Enum names places) place = name_with names places place
+enum_text layer place = []
 
-abbrev pub numbers_of : YangType-F YangType → List ℕ
-numbers_of (YangType-F.Enum names places) = places
-numbers_of (YangType-F.Bits names positions) = positions
-numbers_of layer = []
+abbrev pub set_text : YangType-F YangType → ℕ → List ℕ
+set_text (YangType-F.Bits names positions) set = bits_text names positions set
+set_text layer set = []
 
 abbrev pub bool_text : Bool → List ℕ
 bool_text true = codes "true"
@@ -40,8 +37,8 @@ atom_text table m layer (Unsigned n) = decimal n
 atom_text table m layer (Dec units digits) = dec_text digits units
 atom_text table m layer (Text t) = t
 atom_text table m layer (BoolAtom b) = bool_text b
-atom_text table m layer (Enum place) = name_with (names_of layer) (numbers_of layer) place
-atom_text table m layer (Bits set) = bits_text (names_of layer) (numbers_of layer) set
+atom_text table m layer (Enum place) = enum_text layer place
+atom_text table m layer (Bits set) = set_text layer set
 atom_text table m layer (Bin bytes) = encode_of standard bytes
 atom_text table m layer (Ident i) = identity_text table m i
 atom_text table m layer Empty = []

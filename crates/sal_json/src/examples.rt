@@ -44,7 +44,5 @@ pub fn other_types()
     ensures other_identity { example.reads_text example.animal "farm:cow" ≡ example.gives (Ident 2) }
     ensures other_written { example.writes example.animal (example.value 0 (Ident 2)) ≡ string (codes "farm:cow") }
     ensures base_itself { example.reads_text example.animal "animal" ≡ Err ScalarFault.UnknownName }
-    ensures pattern { example.reads_text example.two_letters "ab" ≡ example.gives (Text (codes "ab")) }
-    ensures inverted { example.reads_text example.two_letters "xy" ≡ Err ScalarFault.NoMatch }
     ensures length_first { example.reads_text example.two_letters "ABC" ≡ Err ScalarFault.BadLength }
 {}

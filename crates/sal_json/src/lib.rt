@@ -10,5 +10,13 @@
 
 mod examples;
 mod fault;
+mod named;
+mod numerals;
+mod patterns;
+mod texts;
+mod write;
+mod written;
 
 pub use fault::ScalarFault;
+pub use patterns::PatternsFault;
+pub use write::{write_scalar, write_text};

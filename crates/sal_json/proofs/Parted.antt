@@ -1,5 +1,5 @@
 -- Texts and their bytes.
-use Rattle.std.proofs.Common.{◌≡◌, ℕ, zero, suc, ◌+◌, ◌<◌, ◌≤◌, Bool, true, false, not, nat_lt, IsTrue, List, [], ◌∷◌, ◌++◌, length, take, drop, fold, Option, Some, None, Result, Ok, Err, refl, ap, sym, ◌∙◌, inl, inr, arith, get_or}
+use Rattle.std.proofs.Common.{◌≡◌, ℕ, zero, suc, ◌+◌, ◌<◌, ◌≤◌, Bool, true, false, not, ◌==◌, nat_lt, IsTrue, List, [], ◌∷◌, ◌++◌, length, take, drop, fold, Option, Some, None, Result, Ok, Err, refl, ap, sym, ◌∙◌, inl, inr, arith, get_or}
 use Rattle.std.specs.Option.{option_and_then}
 use Rattle.std.proofs.lemmas.Bool.{cases_Bool, cases_lt, true≢false}
 use Rattle.std.proofs.lemmas.Bool.Decides.{nat_tests}
@@ -10,7 +10,7 @@ use borrow.Author.Tests.{ltb-true}
 use Rattle.sal_schema.proofs.Facts.{slice_get_some}
 use Rattle.sal_schema.proofs.Numbered.{list_all-at}
 use Rattle.sal_json.specs.declared.fault.ScalarFault.{ScalarFault}
-use Rattle.sal_json.specs.Named.{is_space, text_eq, number_called, then_name, with_name}
+use Rattle.sal_json.specs.Named.{is_space, text_eq, number_called, then_name, with_name, bits_of}
 
 pub none_found : (p : ℕ → Bool) (t : List ℕ) → position_or_len p t ≡ length t → list_any p t ≡ false
 none_found p [] e = refl
@@ -70,3 +70,6 @@ module _ (names : List (List ℕ)) (positions : List ℕ) where
   pub bits-more : (set new : ℕ) (t : List ℕ) → with_name names positions set (take (part_len t) t) ≡ Ok new → part_len t < length t
       → bits_after (Ok set) (parts t) ≡ bits_after (Ok new) (parts (drop (part_len t + 1) t))
   bits-more set new t e less = rw (parts-more t less) (ap (λ r. bits_after r (parts (drop (part_len t + 1) t))) e)
+
+  pub bits_of-parts : (t : List ℕ) → (length t == 0) ≡ false → bits_of names positions t ≡ bits_after (Ok 0) (parts t)
+  bits_of-parts t some = rw some refl

@@ -22,9 +22,13 @@ text_eq = pointwise nat_eq
 abbrev pub number_called : List (List ℕ) → List ℕ → List ℕ → Option ℕ
 number_called names numbers t = option_and_then (slice_get numbers) (position (text_eq t) names)
 
+-- the name at a place
+abbrev pub name_there : List (List ℕ) → Option ℕ → List ℕ
+name_there names at = option_map_or (λ i. slice_index_or names i []) at []
+
 -- the name with a number
 abbrev pub name_with : List (List ℕ) → List ℕ → ℕ → List ℕ
-name_with names numbers n = option_map_or (λ i. slice_index_or names i []) (position (λ k. k == n) numbers) []
+name_with names numbers n = name_there names (position (λ k. k == n) numbers)
 
 -- ---- enumerations
 

@@ -93,7 +93,10 @@ fn bits_of(names: &[Str], positions: &[u8], text: &[u8]) -> Result<u64, ScalarFa
     let mut rest = text;
     'names: loop {
         let len = place_of(b' ', rest);
-        set = with_name(names, positions, set, front(rest, len))?;
+        set = match with_name(names, positions, set, front(rest, len)) {
+            Ok(more) => more,
+            Err(fault) => return Err(fault),
+        };
         if len == rest.len() {
             return Ok(set);
         }

@@ -1,9 +1,11 @@
 //! Texts of values.
-ghost use Rattle.std.specs.Prelude.{◌≡◌, ◌<◌, ◌++◌, ◌∷◌, [], IfOk, OnOk, length, string_bytes, slice_index_or, option_map, if◌then◌else◌, decimal};
+ghost use Rattle.std.specs.Prelude.{◌≡◌, ◌||◌, ◌==◌, position, ◌<◌, ◌++◌, ◌∷◌, [], IfOk, OnOk, length, string_bytes, slice_index_or, option_map, if◌then◌else◌, decimal};
 ghost use Rattle.std.specs.Fmt.{signed_decimal};
+ghost use Rattle.std.specs.List.{slice_get};
 ghost use Rattle.base64.specs.Engines.{standard};
 ghost use Rattle.base64.specs.GeneralPurpose.{encode_of};
 ghost use Rattle.sal_restrict.specs.declared.yang_type.YangType.{out-YangType};
+ghost use Rattle.sal_schema.specs.Values.{has_bit};
 ghost use Rattle.sal_json.specs.Named as named;
 ghost use Rattle.sal_json.specs.Numerals as numerals;
 ghost use Rattle.sal_json.specs.Written as spec;
@@ -80,22 +82,38 @@ fn name_at(names: &[Str], at: usize) -> &str
     }
 }
 
-fn enum_name<'n>(names: &'n [Str], places: &[u32], place: u32) -> &'n str
-    ensures { result.now ≡ named.name_with names.now places.now place }
+fn place_of(places: &[u32], place: u32) -> Option<usize>
+    ensures { result ≡ position (λ k. k == place) places.now }
 {
-    match places.iter().position(|other| *other == place) {
+    places.iter().position(|other| *other == place)
+}
+
+fn place_of_bit(positions: &[u8], bit: u8) -> Option<usize>
+    ensures { result ≡ position (λ k. k == bit) positions.now }
+{
+    positions.iter().position(|other| *other == bit)
+}
+
+/// The name at a place, if there is one.
+fn name_there(names: &[Str], at: Option<usize>) -> &str
+    ensures { result.now ≡ named.name_there names.now at }
+{
+    match at {
         Some(at) => name_at(names, at),
         None => "",
     }
 }
 
+fn enum_name<'n>(names: &'n [Str], places: &[u32], place: u32) -> &'n str
+    ensures { result.now ≡ named.name_with names.now places.now place }
+{
+    name_there(names, place_of(places, place))
+}
+
 fn bit_name<'n>(names: &'n [Str], positions: &[u8], position: u8) -> &'n str
     ensures { result.now ≡ named.name_with names.now positions.now position }
 {
-    match positions.iter().position(|other| *other == position) {
-        Some(at) => name_at(names, at),
-        None => "",
-    }
+    name_there(names, place_of_bit(positions, position))
 }
 
 /// One name more, behind a space if others stand before it.
@@ -109,6 +127,25 @@ fn add_name(text: &mut String, has_others: bool, name: &str) -> Result<(), NoMem
     Ok(())
 }
 
+/// The name of this bit more, if it is set. It answers whether names stand before the next one.
+fn add_bit(
+    text: &mut String,
+    has_others: bool,
+    position: u8,
+    set: u64,
+    name: &str,
+) -> Result<bool, NoMemory>
+    requires { position < 64 }
+    ensures text { OnOk result (string_bytes text.new ≡ (if has_bit set position then string_bytes text.old ++ (if has_others then 32 ∷ name.now else name.now) else string_bytes text.old)) }
+    ensures some { IfOk result (λ some. some ≡ (has_bit set position || has_others)) }
+{
+    if !has_bit(set, position) {
+        return Ok(has_others);
+    }
+    add_name(text, has_others, name)?;
+    Ok(true)
+}
+
 fn bits_text(
     alloc: Global,
     names: &[Str],
@@ -120,10 +157,8 @@ fn bits_text(
     let mut text = String::new(alloc);
     let mut has_others = false;
     for position in 0..BITS {
-        if has_bit(set, position) {
-            add_name(&mut text, has_others, bit_name(names, positions, position))?;
-            has_others = true;
-        }
+        let name = bit_name(names, positions, position);
+        has_others = add_bit(&mut text, has_others, position, set, name)?;
     }
     Ok(text)
 }
@@ -218,12 +253,21 @@ pub(crate) fn atom_text(
     }
 }
 
+fn member_at(members: &[YangType], member: u32) -> Option<&YangType>
+    ensures { option_map (λ t. t.now) result ≡ slice_get members.now member }
+{
+    members.get(member as usize)
+}
+
 /// The type that a value is of: that of its member of a union, or the type itself.
 pub(crate) fn type_for(ty: &YangType, member: u32) -> Option<&YangType>
     ensures { option_map (λ t. out-YangType t.now) result ≡ spec.layer_for (out-YangType ty.now) member }
 {
     match ty {
-        YangType::Union { members } => members.items().get(member as usize),
+        YangType::Union { members } => match member_at(members.items(), member) {
+            Some(member) => Some(member),
+            None => None,
+        },
         _ => Some(ty),
     }
 }

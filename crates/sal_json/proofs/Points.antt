@@ -1,0 +1,22 @@
+-- Texts of decimal numbers.
+use Rattle.std.proofs.Common.{◌≡◌, ℕ, zero, suc, ◌+◌, ◌-◌, ◌/◌, ◌%◌, ◌<◌, ◌≤◌, ◌==◌, true, false, List, [], ◌∷◌, ◌++◌, refl, arith}
+use Rattle.sal_json.specs.Numerals.{with_point, point_text}
+
+pub with_point-more : (digits n : ℕ) → 0 < digits → with_point digits n ≡ with_point (digits - 1) (n / 10) ++ (48 + n % 10) ∷ []
+with_point-more zero n some = absurd (omega arith)
+with_point-more (suc digits) n some = let e : suc digits - 1 ≡ digits = omega arith in rw e refl
+
+pub point_text-zero : (digits n : ℕ) → 1 < digits → (n % 10 == 0) ≡ true → point_text digits n ≡ point_text (digits - 1) (n / 10)
+point_text-zero zero n many e = absurd (omega arith)
+point_text-zero (suc zero) n many e = absurd (omega arith)
+point_text-zero (suc (suc digits)) n many e = let less : suc (suc digits) - 1 ≡ suc digits = omega arith in rw (e, less) refl
+
+pub point_text-one : (digits n : ℕ) → digits ≤ 1 → point_text digits n ≡ with_point digits n
+point_text-one zero n few = refl
+point_text-one (suc zero) n few = refl
+point_text-one (suc (suc digits)) n few = absurd (omega arith)
+
+pub point_text-other : (digits n : ℕ) → 1 < digits → (n % 10 == 0) ≡ false → point_text digits n ≡ with_point digits n
+point_text-other zero n many e = absurd (omega arith)
+point_text-other (suc zero) n many e = absurd (omega arith)
+point_text-other (suc (suc digits)) n many e = rw e refl

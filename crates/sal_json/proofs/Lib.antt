@@ -1,5 +1,6 @@
 pub mod Found
 pub mod Grammars
 pub mod Joined
+pub mod Listed
 pub mod Parted
 pub mod Points

@@ -1,6 +1,7 @@
 -- Patterns of texts (RFC 7950 section 9.4.5), in the grammar of `regex`. A pattern is matched with the whole text.
 use Rattle.std.specs.Prelude.{◌≡◌, MatchOption, ℕ, Bool, true, false, not, nat_lt, List, [], ◌∷◌, ◌++◌, map, Option, Some, None, is_some, chars, codes, if◌then◌else◌}
-use Rattle.std.specs.List.{list_all, list_any}
+use Rattle.std.specs.List.{list_all, list_any, slice_get}
+use Rattle.std.specs.Option.{option_map_or}
 use Rattle.regex_syntax.specs.Verdict.{default_config}
 use Rattle.regex_syntax.specs.Grammar.{Names, read}
 use Rattle.regex_syntax.specs.Brackets.{Nested}
@@ -10,6 +11,8 @@ use Rattle.sal_restrict.specs.declared.yang_type.Pattern.{Pattern}
 use Rattle.sal_restrict.specs.declared.yang_type.YangType.{YangType, out-YangType}
 use Rattle.sal_restrict.specs.declared.yang_type.YangType.TheOpen.{YangType-F}
 use Rattle.sal_schema.specs.declared.table.SchemaTable.{SchemaTable}
+use Rattle.sal_json.specs.declared.fault.PatternsFault.{PatternsFault}
+use Rattle.sal_json.specs.declared.fault.PatternsFault.TheVariants.{Refused, NoMemory}
 
 abbrev pub Text : Type 0
 Text = List ℕ
@@ -49,27 +52,53 @@ IsWhole p found = MatchOption found (is_malformed p ≡ true) (λ whole. (whole 
 
 -- ---- the patterns of a schema
 
+-- one of these is malformed
+abbrev pub have_malformed : List Pattern → Bool
+have_malformed patterns = list_any (λ (p : Pattern). is_malformed p.text) patterns
+
 -- the patterns of a type that is no union
 abbrev pub layer_patterns : YangType-F YangType → List Pattern
 layer_patterns (YangType-F.Text length patterns) = patterns
 layer_patterns layer = []
 
+abbrev pub plain_patterns : YangType → List Pattern
+plain_patterns ty = layer_patterns (out-YangType ty)
+
+-- a list of one
+abbrev pub only : {X : Type 0} → X → List X
+only x = x ∷ []
+
 -- those of each member of a union, or of the type itself
-abbrev pub member_patterns : YangType-F YangType → List (List Pattern)
-member_patterns (YangType-F.Union members) = map (λ member. layer_patterns (out-YangType member)) members
-member_patterns layer = layer_patterns layer ∷ []
+abbrev pub member_patterns : YangType → YangType-F YangType → List (List Pattern)
+member_patterns ty (YangType-F.Union members) = map plain_patterns members
+member_patterns ty layer = only (plain_patterns ty)
 
 abbrev pub type_patterns : YangType → List (List Pattern)
-type_patterns ty = member_patterns (out-YangType ty)
+type_patterns ty = member_patterns ty (out-YangType ty)
 
 -- a type has a malformed pattern
 abbrev pub has_malformed : YangType → Bool
-has_malformed ty = list_any (list_any (λ (p : Pattern). is_malformed p.text)) (type_patterns ty)
+has_malformed ty = list_any have_malformed (type_patterns ty)
 
--- each as it is searched for
+-- a type of this number has one
+abbrev pub IsRefusal : SchemaTable → PatternsFault → Type 0
+IsRefusal table (Refused ty) = option_map_or has_malformed (slice_get table.types ty) false ≡ true
+IsRefusal table NoMemory = Unit {0}
+
+-- a pattern, as it is searched for
 abbrev pub searched : Pattern → Text
 searched p = whole_text p.text
 
--- the patterns of each type, member by member
+abbrev pub plain_searched : YangType → List Text
+plain_searched ty = map searched (plain_patterns ty)
+
+abbrev pub member_searched : YangType → YangType-F YangType → List (List Text)
+member_searched ty (YangType-F.Union members) = map plain_searched members
+member_searched ty layer = only (plain_searched ty)
+
+abbrev pub type_searched : YangType → List (List Text)
+type_searched ty = member_searched ty (out-YangType ty)
+
+-- the patterns of each type, member by member, as they are searched for
 abbrev pub patterns_of : SchemaTable → List (List (List Text))
-patterns_of table = map (λ ty. map (map searched) (type_patterns ty)) table.types
+patterns_of table = map type_searched table.types

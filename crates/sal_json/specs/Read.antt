@@ -1,12 +1,12 @@
 -- Which value a JSON value or a key text stands for, or why it stands for none (RFC 7951 section 6, RFC 7950 section 9).
-use Rattle.std.specs.Prelude.{ℕ, ◌+◌, ◌==◌, ℤ, pos, Bool, true, false, not, ◌&&◌, List, [], ◌∷◌, length, Option, Some, None, Result, Ok, Err, codes, if◌then◌else◌}
+use Rattle.std.specs.Prelude.{ℕ, ◌+◌, ◌==◌, ℤ, pos, Bool, true, false, not, ◌&&◌, List, [], ◌∷◌, length, Option, Some, None, option_and_then, Result, Ok, Err, codes, if◌then◌else◌}
 use Rattle.std.specs.List.{list_all, slice_get}
 use Rattle.std.specs.Option.{option_map_or}
 use Rattle.std.specs.Str.{chars}
 use Rattle.base64.specs.Engines.{standard}
 use Rattle.base64.specs.GeneralPurpose.{decoded_of}
-use Rattle.serde_json.specs.Data.{Data, null, boolean, number, string, array, object, no_items, item}
-use Rattle.serde_json.specs.Find.{as_integer}
+use Rattle.serde_json.specs.Data.{Data, null, Items, no_items, item}
+use Rattle.serde_json.specs.Find.{as_bool, as_number, as_str, as_array, as_integer}
 use Rattle.sal_types.specs.declared.value.Atom.{Atom}
 use Rattle.sal_types.specs.declared.value.Atom.TheVariants.{Text, Bool as BoolAtom, Bin, Empty}
 use Rattle.sal_types.specs.declared.value.Value.{Value}
@@ -36,9 +36,13 @@ bool_atom t = if text_eq t (codes "true") then Ok (BoolAtom true) else if text_e
 abbrev pub bytes_atom : List Part → List ℕ → Result Atom ScalarFault
 bytes_atom lengths bytes = if holds lengths (pos (length bytes)) then Ok (Bin bytes) else Err BadLength
 
+-- what the bytes of a base64 text are, where it has this form
+abbrev pub bytes_of : List ℕ → Option (List ℕ)
+bytes_of t = decoded_of standard t
+
 -- padded base64, then the length in bytes
 abbrev pub binary_atom : List Part → List ℕ → Result Atom ScalarFault
-binary_atom lengths t = option_map_or (bytes_atom lengths) (decoded_of standard t) (Err WrongKind)
+binary_atom lengths t = option_map_or (bytes_atom lengths) (bytes_of t) (Err WrongKind)
 
 abbrev pub empty_atom : List ℕ → Result Atom ScalarFault
 empty_atom t = if length t == 0 then Ok Empty else Err WrongKind
@@ -59,22 +63,28 @@ text_atom table m layer t = Err WrongKind
 -- ---- JSON values
 
 abbrev pub of_string : (List ℕ → Result Atom ScalarFault) → Data → Result Atom ScalarFault
-of_string read (string t) = read t
-of_string read json = Err WrongKind
+of_string read json = option_map_or read (as_str json) (Err WrongKind)
 
 -- a number that is held as a whole one
+abbrev pub whole_of : Data → Option ℤ
+whole_of json = option_and_then as_integer (as_number json)
+
 abbrev pub of_number : (ℤ → Result Atom ScalarFault) → Data → Result Atom ScalarFault
-of_number read (number n) = option_map_or read (as_integer n) (Err WrongKind)
-of_number read json = Err WrongKind
+of_number read json = option_map_or read (whole_of json) (Err WrongKind)
 
 abbrev pub of_boolean : Data → Result Atom ScalarFault
-of_boolean (boolean b) = Ok (BoolAtom b)
-of_boolean json = Err WrongKind
+of_boolean json = option_map_or (λ b. Ok (BoolAtom b)) (as_bool json) (Err WrongKind)
+
+abbrev pub is_one_null : Items → Bool
+is_one_null (item null no_items) = true
+is_one_null items = false
 
 -- `[null]`
+abbrev pub is_nulls : Data → Bool
+is_nulls json = option_map_or is_one_null (as_array json) false
+
 abbrev pub of_nulls : Data → Result Atom ScalarFault
-of_nulls (array (item null no_items)) = Ok Empty
-of_nulls json = Err WrongKind
+of_nulls json = if is_nulls json then Ok Empty else Err WrongKind
 
 -- the atom that a JSON value stands for in a type that is no union
 abbrev pub json_atom : SchemaTable → ℕ → YangType-F YangType → Data → Result Atom ScalarFault
@@ -96,8 +106,7 @@ is_own_text table m layer t atom = text_eq t (atom_text table m layer atom)
 
 -- Whole numbers, `true`, `false` and `[null]` have one form each.
 abbrev pub is_own_json : SchemaTable → ℕ → YangType-F YangType → Data → Atom → Bool
-is_own_json table m layer (string t) atom = is_own_text table m layer t atom
-is_own_json table m layer json atom = true
+is_own_json table m layer json atom = option_map_or (λ t. is_own_text table m layer t atom) (as_str json) true
 
 abbrev pub own_text : SchemaTable → ℕ → List ℕ → YangType → Option Atom
 own_text table m t member = if_own (is_own_text table m (out-YangType member) t) (text_atom table m (out-YangType member) t)

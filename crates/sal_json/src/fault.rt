@@ -1,6 +1,5 @@
 //! Why a JSON value or a text stands for no value.
 ghost use Rattle.std.specs.Prelude.{◌≡◌};
-ghost use Rattle.sal_json.specs.declared.fault.ScalarFault.TheVariants.{NoMemory};
 
 use std::alloc::{AllocError, AllocFailed};
 use thiserror::Error;
@@ -29,6 +28,8 @@ pub enum ScalarFault {
 }
 
 impl From<sal_types::NoMemory> for ScalarFault {
+    ghost use Rattle.sal_json.specs.declared.fault.ScalarFault.TheVariants.{NoMemory};
+
     ghost from_gives = { λ _ e. e ≡ NoMemory };
 
     fn from(_refused: sal_types::NoMemory) -> ScalarFault {
@@ -37,6 +38,8 @@ impl From<sal_types::NoMemory> for ScalarFault {
 }
 
 impl From<AllocError> for ScalarFault {
+    ghost use Rattle.sal_json.specs.declared.fault.ScalarFault.TheVariants.{NoMemory};
+
     ghost from_gives = { λ _ e. e ≡ NoMemory };
 
     fn from(_refused: AllocError) -> ScalarFault {
@@ -45,9 +48,42 @@ impl From<AllocError> for ScalarFault {
 }
 
 impl<T: Drop> From<AllocFailed<T>> for ScalarFault {
+    ghost use Rattle.sal_json.specs.declared.fault.ScalarFault.TheVariants.{NoMemory};
+
     ghost from_gives = { λ _ e. e ≡ NoMemory };
 
     fn from(_refused: AllocFailed<T>) -> ScalarFault {
         ScalarFault::NoMemory
+    }
+}
+
+/// Why no patterns come of a schema.
+#[derive(Clone, Copy, Debug, PartialEq, Eq, Error)]
+pub enum PatternsFault {
+    /// A type, by its number, has a malformed pattern.
+    #[error("type {ty} has a malformed pattern")]
+    Refused { ty: u32 },
+    /// Memory ran out, or a pattern is too large for `regex`.
+    #[error("out of memory")]
+    NoMemory,
+}
+
+impl From<sal_types::NoMemory> for PatternsFault {
+    ghost use Rattle.sal_json.specs.declared.fault.PatternsFault.TheVariants.{NoMemory};
+
+    ghost from_gives = { λ _ e. e ≡ NoMemory };
+
+    fn from(_refused: sal_types::NoMemory) -> PatternsFault {
+        PatternsFault::NoMemory
+    }
+}
+
+impl<T: Drop> From<AllocFailed<T>> for PatternsFault {
+    ghost use Rattle.sal_json.specs.declared.fault.PatternsFault.TheVariants.{NoMemory};
+
+    ghost from_gives = { λ _ e. e ≡ NoMemory };
+
+    fn from(_refused: AllocFailed<T>) -> PatternsFault {
+        PatternsFault::NoMemory
     }
 }

@@ -14,9 +14,10 @@ mod named;
 mod numerals;
 mod patterns;
 mod texts;
+mod texts_read;
 mod write;
 mod written;
 
-pub use fault::ScalarFault;
-pub use patterns::PatternsFault;
+pub use fault::{PatternsFault, ScalarFault};
+pub use patterns::Patterns;
 pub use write::{write_scalar, write_text};

@@ -1,7 +1,7 @@
 //! Values that are names: enums, bits and identities.
 ghost use Rattle.std.specs.Prelude.{◌≡◌, ◌≤◌, ◌<◌, length, not, ◌==◌, nat_lt, option_map, position, IsTrue, IfSome, map};
 ghost use Rattle.std.specs.List.{list_all, prefix_len, position_or_len};
-ghost use Rattle.sal_schema.specs.Values.{has_bit};
+ghost use Rattle.sal_schema.specs.Values.{has_bit, takes_identity};
 ghost use Rattle.sal_json.specs.Named as spec;
 
 use crate::fault::ScalarFault;
@@ -115,6 +115,48 @@ pub(crate) fn bits_atom(
     match bits_of(names, positions, text) {
         Ok(set) => Ok(Atom::Bits(set)),
         Err(fault) => Err(fault),
+    }
+}
+
+/// Whether the identity is there and derived from all bases.
+fn takes_identity(schema: &Schema, bases: &[u32], identity: u32) -> bool
+    ensures { result ≡ takes_identity schema.now bases.now identity }
+{
+    if identity >= schema.identities() {
+        return false;
+    }
+    for base in bases {
+        if !schema.is_derived(identity, *base) {
+            return false;
+        }
+    }
+    true
+}
+
+/// The identity, where it is derived from all bases.
+fn derived_atom(schema: &Schema, bases: &[u32], identity: u32) -> Result<Atom, ScalarFault>
+    ensures { result ≡ spec.derived_atom schema.now bases.now identity }
+{
+    if takes_identity(schema, bases, identity) {
+        Ok(Atom::Ident(identity))
+    } else {
+        Err(ScalarFault::UnknownName)
+    }
+}
+
+/// The identity of this name, where it is derived from all bases.
+pub(crate) fn identity_atom(
+    schema: &Schema,
+    module: u32,
+    bases: &[u32],
+    text: &str,
+) -> Result<Atom, ScalarFault>
+    requires { «module» < length schema.now.modules }
+    ensures { result ≡ spec.identity_atom schema.now «module» bases.now text.now }
+{
+    match identity_called(schema, module, text) {
+        Some(identity) => derived_atom(schema, bases, identity),
+        None => Err(ScalarFault::UnknownName),
     }
 }
 

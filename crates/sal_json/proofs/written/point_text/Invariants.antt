@@ -3,5 +3,8 @@ use Rattle.std.proofs.Common.{◌≡◌}
 use Rattle.sal_json.specs.Numerals.{point_text}
 use Rattle.sal_json.proofs.written.point_text.Given as goal
 
-abbrev pub invariant-loop-digits-gt1 : goal.invariant-loop-digits-gt1
-invariant-loop-digits-gt1 l = point_text l.fn.digits l.fn.units ≡ point_text l.digits l.units
+abbrev pub invariant-loop-digits : goal.invariant-loop-digits
+invariant-loop-digits l = point_text l.fn.digits l.fn.units ≡ point_text l.digits l.units
+
+abbrev pub decreases-loop-digits : goal.decreases-loop-digits
+decreases-loop-digits l = l.digits

@@ -4,3 +4,4 @@ pub mod Joined
 pub mod Listed
 pub mod Parted
 pub mod Points
+pub mod Typed

@@ -11,7 +11,7 @@ any_map-at f test (x ∷ xs) (suc k) d inside e = or_right _ _ (any_map-at f tes
 pub map_take-more : {X Y : Type 0} (f : X → Y) (xs : List X) (k : ℕ) (x : X) → slice_get xs k ≡ Some x → map f (take (k + 1) xs) ≡ map f (take k xs) ++ f x ∷ []
 map_take-more f [] k x e = cc
 map_take-more f (y ∷ xs) zero x e = let same : y ≡ x = cc in ap (λ z. f z ∷ []) same
-map_take-more f (y ∷ xs) (suc k) x e = ap (λ t. f y ∷ t) (map_take-more f xs k x e)
+map_take-more f (y ∷ xs) (suc k) x e = let more : suc k + 1 ≡ suc (k + 1) = omega arith in rw more (ap (λ t. f y ∷ t) (map_take-more f xs k x e))
 
 -- what stands at a place of the list under f
 pub slice_get-map : {X Y : Type 0} (f : X → Y) (xs : List X) (k : ℕ) (x : X) (y : Y) → slice_get xs k ≡ Some x → slice_get (map f xs) k ≡ Some y → y ≡ f x

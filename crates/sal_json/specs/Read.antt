@@ -114,16 +114,19 @@ own_text table m t member = if_own (is_own_text table m (out-YangType member) t)
 abbrev pub own_json : SchemaTable → ℕ → Data → YangType → Option Atom
 own_json table m json member = if_own (is_own_json table m (out-YangType member) json) (json_atom table m (out-YangType member) json)
 
+abbrev pub value_of : ℕ → Atom → Value
+value_of k atom = record { member = k; atom = atom }
+
 -- the value of the first member that takes it, where the first of these has the place i
 abbrev pub first_own : (YangType → Option Atom) → ℕ → List YangType → Result Value ScalarFault
 first_own take i [] = Err WrongKind
-first_own take i (member ∷ members) = option_map_or (λ atom. Ok (record { member = i; atom = atom })) (take member) (first_own take (i + 1) members)
+first_own take i (member ∷ members) = option_map_or (λ atom. Ok (value_of i atom)) (take member) (first_own take (i + 1) members)
 
 -- ---- any type
 
 -- a value of a type that is no union
 abbrev pub plain : Result Atom ScalarFault → Result Value ScalarFault
-plain (Ok atom) = Ok (record { member = 0; atom = atom })
+plain (Ok atom) = Ok (value_of 0 atom)
 plain (Err fault) = Err fault
 
 abbrev pub layer_text_scalar : SchemaTable → ℕ → YangType-F YangType → List ℕ → Result Value ScalarFault

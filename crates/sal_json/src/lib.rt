@@ -10,9 +10,11 @@
 
 mod examples;
 mod fault;
+mod json_read;
 mod named;
 mod numerals;
 mod patterns;
+mod read;
 mod texts;
 mod texts_read;
 mod write;
@@ -20,4 +22,5 @@ mod written;
 
 pub use fault::{PatternsFault, ScalarFault};
 pub use patterns::Patterns;
+pub use read::{read_scalar, read_text};
 pub use write::{write_scalar, write_text};

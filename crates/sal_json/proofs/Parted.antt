@@ -72,4 +72,5 @@ module _ (names : List (List ℕ)) (positions : List ℕ) where
   bits-more set new t e less = rw (parts-more t less) (ap (λ r. bits_after r (parts (drop (part_len t + 1) t))) e)
 
   pub bits_of-parts : (t : List ℕ) → (length t == 0) ≡ false → bits_of names positions t ≡ bits_after (Ok 0) (parts t)
+  unfolding bits_of
   bits_of-parts t some = rw some refl

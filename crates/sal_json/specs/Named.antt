@@ -53,7 +53,7 @@ then_name names positions (Ok set) name = with_name names positions set name
 then_name names positions (Err fault) name = Err fault
 
 -- names, one space between any two, in any order and none twice; the first from the left that is wrong counts
-abbrev pub bits_of : List (List ℕ) → List ℕ → List ℕ → Result ℕ ScalarFault
+unfoldable pub bits_of : List (List ℕ) → List ℕ → List ℕ → Result ℕ ScalarFault
 bits_of names positions t = if length t == 0 then Ok 0 else fold (then_name names positions) (Ok 0) (slice_split is_space t)
 
 abbrev pub set_atom : Result ℕ ScalarFault → Result Atom ScalarFault

@@ -82,6 +82,7 @@ fn with_name(
 }
 
 /// The set of the bits with these names, which stand with one space between any two.
+#[tactic(auto, unfolding(crate::specs::Named::bits_of))]
 fn bits_of(names: &[Str], positions: &[u8], text: &[u8]) -> Result<u64, ScalarFault>
     requires { IsTrue (list_all (λ p. nat_lt p 64) positions.now) }
     ensures { result ≡ spec.bits_of names.now positions.now text.now }

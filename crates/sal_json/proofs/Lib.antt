@@ -1,8 +1,11 @@
+pub mod BitSets
+pub mod Chosen
 pub mod Found
 pub mod Grammars
 pub mod Joined
 pub mod Listed
 pub mod Nulls
+pub mod OfType
 pub mod Parted
 pub mod Points
 pub mod Typed

@@ -1,4 +1,5 @@
 pub mod Examples
+pub mod Laws
 pub mod Named
 pub mod Numerals
 pub mod Patterns

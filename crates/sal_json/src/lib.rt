@@ -11,6 +11,7 @@
 mod examples;
 mod fault;
 mod json_read;
+pub mod laws;
 mod named;
 mod numerals;
 mod patterns;

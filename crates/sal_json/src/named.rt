@@ -17,11 +17,7 @@ fn place_of_name(names: &[Str], text: &[u8]) -> Option<usize>
 }
 
 /// The place of the enum of this name.
-pub(crate) fn enum_atom(
-    names: &[Str],
-    places: &[u32],
-    text: &[u8],
-) -> Result<Atom, ScalarFault>
+pub(crate) fn enum_atom(names: &[Str], places: &[u32], text: &[u8]) -> Result<Atom, ScalarFault>
     ensures { result ≡ spec.enum_atom names.now places.now text.now }
 {
     match place_called(names, places, text) {
@@ -63,12 +59,7 @@ fn with_bit(set: u64, position: u8) -> Result<u64, ScalarFault>
 }
 
 /// The set with the bit of this name, which it has not yet.
-fn with_name(
-    names: &[Str],
-    positions: &[u8],
-    set: u64,
-    name: &[u8],
-) -> Result<u64, ScalarFault>
+fn with_name(names: &[Str], positions: &[u8], set: u64, name: &[u8]) -> Result<u64, ScalarFault>
     requires { IsTrue (list_all (λ p. nat_lt p 64) positions.now) }
     ensures { result ≡ spec.with_name names.now positions.now set name.now }
 {
@@ -105,11 +96,7 @@ fn bits_of(names: &[Str], positions: &[u8], text: &[u8]) -> Result<u64, ScalarFa
     }
 }
 
-pub(crate) fn bits_atom(
-    names: &[Str],
-    positions: &[u8],
-    text: &[u8],
-) -> Result<Atom, ScalarFault>
+pub(crate) fn bits_atom(names: &[Str], positions: &[u8], text: &[u8]) -> Result<Atom, ScalarFault>
     requires { IsTrue (list_all (λ p. nat_lt p 64) positions.now) }
     ensures { result ≡ spec.bits_atom names.now positions.now text.now }
 {

@@ -45,11 +45,7 @@ fn is_in_64(number: i128) -> bool
 }
 
 /// The value that a whole number is in an integer type.
-pub(crate) fn whole_atom(
-    has_sign: bool,
-    range: &Ranges,
-    number: i128,
-) -> Result<Atom, ScalarFault>
+pub(crate) fn whole_atom(has_sign: bool, range: &Ranges, number: i128) -> Result<Atom, ScalarFault>
     ensures { result ≡ spec.whole_atom has_sign range.now number }
 {
     if has_sign {
@@ -192,12 +188,7 @@ fn units_atom(digits: u8, range: &Ranges, number: i128) -> Result<Atom, ScalarFa
     }
 }
 
-fn sized_units(
-    digits: u8,
-    range: &Ranges,
-    negative: bool,
-    size: u128,
-) -> Result<Atom, ScalarFault>
+fn sized_units(digits: u8, range: &Ranges, negative: bool, size: u128) -> Result<Atom, ScalarFault>
     ensures { (n : ℕ) → size ≡ min n (2 ^ 128 - 1) → result ≡ spec.units_atom digits range.now (signed negative n) }
 {
     match small(negative, size) {

@@ -164,12 +164,7 @@ impl Patterns {
 }
 
 /// Whether the text matches the pattern, or does not match an inverted one.
-fn passes(
-    alloc: Global,
-    pattern: &Pattern,
-    whole: &Whole,
-    text: &str,
-) -> Result<bool, NoMemory>
+fn passes(alloc: Global, pattern: &Pattern, whole: &Whole, text: &str) -> Result<bool, NoMemory>
     requires { whole.now ≡ spec.searched pattern.now }
     ensures { IfOk result (λ passed. passed ≡ spec.passes text.now pattern.now) }
 {

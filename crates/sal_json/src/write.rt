@@ -94,13 +94,7 @@ pub fn write_text(
     ensures { IfOk result (λ text. text ≡ spec.text_of schema.now ty «module» value.now) }
 {
     match type_for(schema.type_at(ty), value.member) {
-        Some(ty) => Ok(Str::from_string(atom_text(
-            alloc,
-            schema,
-            module,
-            ty,
-            &value.atom,
-        )?)),
+        Some(ty) => Ok(Str::from_string(atom_text(alloc, schema, module, ty, &value.atom)?)),
         None => Str::new(alloc, ""),
     }
 }

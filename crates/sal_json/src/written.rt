@@ -146,12 +146,7 @@ fn add_bit(
     Ok(true)
 }
 
-fn bits_text(
-    alloc: Global,
-    names: &[Str],
-    positions: &[u8],
-    set: u64,
-) -> Result<String, NoMemory>
+fn bits_text(alloc: Global, names: &[Str], positions: &[u8], set: u64) -> Result<String, NoMemory>
     ensures { IfOk result (λ t. string_bytes t ≡ named.bits_text names.now positions.now set) }
 {
     let mut text = String::new(alloc);

@@ -10,7 +10,7 @@ loop-position-preserved c =
     let l = c.loop-position in
     let text = rw c.bit_name-name.ensures at c.in_ok-has_others.ensures.text in
     let (a, b) = joined_next (name_with c.args.names.now c.args.positions.now) (32 ∷ []) (has_bit c.args.set) l.position (string_bytes l.text) (string_bytes c.add_bit.new.text)
-        l.has_others c.in_ok-has_others.has_others l.invariant.text l.invariant.some text c.in_ok-has_others.ensures.some in
+    l.has_others c.in_ok-has_others.has_others l.invariant.text l.invariant.some text c.in_ok-has_others.ensures.some in
     record { text = a; some = b }
 
 pub returns : goal.returns

@@ -12,9 +12,9 @@ returns c =
     let digits = c.loop-digits.digits in
     let units = c.loop-digits.units in
     let same : point_text c.args.digits c.args.units ≡ with_point digits units =
-        elim c.loop-digits-test.branch [
-          | then-loop-digits-test+else-units-eq0 w ↦ c.loop-digits.invariant ∙ point_text-other digits units w.loop-digits-test.true w.if-units-eq0.false
-          | else-loop-digits-test w ↦ c.loop-digits.invariant ∙ point_text-one digits units w.loop-digits-test.false
-        ] in
+    elim c.loop-digits-test.branch [
+      | then-loop-digits-test+else-units-eq0 w ↦ c.loop-digits.invariant ∙ point_text-other digits units w.loop-digits-test.true w.if-units-eq0.false
+      | else-loop-digits-test w ↦ c.loop-digits.invariant ∙ point_text-one digits units w.loop-digits-test.false
+    ] in
     let P : List ℕ → Type 0 = λ x. IfOk c.with_point.result (λ t. string_bytes t ≡ x) in
     subst P (sym same) c.with_point.ensures

@@ -1,18 +1,17 @@
 -- Sets of bits.
-use Rattle.std.proofs.Common.{◌≡◌, ℕ, zero, suc, ◌/◌, ◌%◌, ◌^◌, ◌<◌, ◌≤◌, ◌==◌, Bool, true, false, not, ◌&&◌, max, bit_or, List, [], ◌∷◌, length, fold, Option, Some, None, Result, Ok, Err, refl, ap, sym, ◌∙◌, inl, inr, arith}
+use Rattle.std.proofs.Common.{◌≡◌, ℕ, zero, suc, ◌^◌, ◌<◌, ◌==◌, Bool, true, false, not, max, bit_or, List, [], ◌∷◌, length, Option, Some, None, Ok, Err, refl, ap, sym, ◌∙◌, inl, inr, arith}
 use Rattle.std.specs.Prelude.{◌||◌}
 use Rattle.std.specs.Int.{bit_at}
-use Rattle.std.specs.List.{list_any, slice_get, position}
+use Rattle.std.specs.List.{slice_get, position}
 use Rattle.std.specs.Option.{option_and_then}
 use Rattle.std.proofs.lemmas.Bool.{cases_Bool, and_parts, and_from, or_left, or_right}
 use Rattle.std.proofs.lemmas.Bool.Decides.{nat_tests}
-use Rattle.std.proofs.lemmas.Nat.Bits.{bit_at_or, bit_at-pow_other, bit_at-zero, bit_at-lt}
+use Rattle.std.proofs.lemmas.Nat.Bits.{bit_at_or, bit_at-pow_other, bit_at-zero}
 use Rattle.sal_schema.specs.Table.{is_among}
 use Rattle.sal_schema.specs.Values.{all_below, has_bit, is_taken, are_bits}
-use Rattle.sal_json.specs.declared.fault.ScalarFault.{ScalarFault}
 use Rattle.sal_json.specs.declared.fault.ScalarFault.TheVariants.{WrongKind, UnknownName}
-use Rattle.sal_json.specs.Named.{text_eq, number_called, with_bit, with_name, then_name, bits_of, is_space}
-use Rattle.sal_json.proofs.Chosen.{same_ok, chosen, otherwise, from_some}
+use Rattle.sal_json.specs.Named.{text_eq, number_called, with_bit, with_name, bits_of}
+use Rattle.sal_json.proofs.Chosen.{same_ok, otherwise, from_some}
 use Rattle.sal_json.proofs.Parted.{parts, bits_after, after-fault}
 
 pub all_below-from : (test : ℕ → Bool) (n : ℕ) → ((k : ℕ) → k < n → test k ≡ true) → all_below test n ≡ true

@@ -1,5 +1,5 @@
 -- A compiled pattern is found where what the grammar reads is found.
-use Rattle.std.proofs.Common.{◌≡◌, ℕ, ◌<◌, ◌≤◌, Bool, List, length, Option, Some, None, IsSomeAnd, is_some, option_map, All, chars, get_or, refl, ap, sym, ◌∙◌}
+use Rattle.std.proofs.Common.{◌≡◌, ℕ, ◌<◌, ◌≤◌, List, length, Option, Some, None, IsSomeAnd, is_some, All, chars, get_or, ap, sym, ◌∙◌}
 use Rattle.std.proofs.lemmas.List.{get_or_default}
 use Rattle.regex_syntax.specs.Verdict.{Reads, default_config}
 use Rattle.regex_syntax.specs.Grammar.{Names, group_count, read}

@@ -1,17 +1,16 @@
 -- What is read is of its type.
-use Rattle.std.proofs.Common.{◌≡◌, ℕ, zero, suc, ◌+◌, ◌-◌, ◌<◌, ◌≤◌, ◌==◌, ◌^◌, nat_lt, ℤ, pos, negsuc, Bool, true, false, not, ◌&&◌, if◌then◌else◌, List, [], ◌∷◌, length, Option, Some, None, Result, Ok, Err, codes, refl, ap, sym, ◌∙◌, inl, inr, arith}
+use Rattle.std.proofs.Common.{◌≡◌, ℕ, suc, ◌+◌, ◌==◌, nat_lt, ℤ, pos, negsuc, Bool, true, false, not, ◌&&◌, if◌then◌else◌, List, [], ◌∷◌, length, Option, Some, None, Result, Ok, Err, codes, refl, ap, sym, ◌∙◌, inl, inr, arith}
 use Rattle.std.specs.Option.{option_map_or}
 use Rattle.std.specs.Str.{chars}
 use Rattle.std.specs.List.{list_all, slice_get, position}
-use Rattle.std.proofs.lemmas.Bool.{cases_Bool, and_parts, and_from, not_from_false}
+use Rattle.std.proofs.lemmas.Bool.{cases_Bool, and_parts, and_from}
 use Rattle.std.proofs.lemmas.Bool.Decides.{nat_tests}
 use Rattle.serde_json.specs.Data.{Data}
 use Rattle.serde_json.specs.Find.{as_str, as_bool}
 use Rattle.sal_types.specs.declared.value.Atom.{Atom}
-use Rattle.sal_types.specs.declared.value.Atom.TheVariants.{Signed, Unsigned, Dec, Text, Bool as BoolAtom, Enum, Bits, Bin, Ident, Empty}
+use Rattle.sal_types.specs.declared.value.Atom.TheVariants.{Signed, Unsigned, Dec, Text, Bool as BoolAtom, Enum, Bin, Ident, Empty}
 use Rattle.sal_types.specs.declared.value.Value.{Value}
 use Rattle.sal_restrict.specs.declared.ranges.Part.{Part}
-use Rattle.sal_restrict.specs.declared.yang_type.Pattern.{Pattern}
 use Rattle.sal_restrict.specs.declared.yang_type.YangType.{YangType, out-YangType}
 use Rattle.sal_restrict.specs.declared.yang_type.YangType.TheOpen.{YangType-F}
 use Rattle.sal_restrict.specs.Ranges.{holds}
@@ -23,8 +22,8 @@ use Rattle.sal_json.specs.declared.fault.ScalarFault.TheVariants.{WrongKind, Out
 use Rattle.sal_json.specs.Numerals.{is_in_64, whole_atom, is_number, number_of, is_decimal, without_sign, has_minus, is_exact, units_of, units_atom}
 use Rattle.sal_json.specs.Named.{text_eq, number_called, set_atom, bits_of, identity_called, derived_atom}
 use Rattle.sal_json.specs.Patterns.{passes}
-use Rattle.sal_json.specs.Read.{text_atom, json_atom, bytes_of, bytes_atom, whole_of, is_nulls, bool_atom, of_string, own_text, own_json, first_own, if_own, is_own_text, is_own_json, plain, value_of, layer_text_scalar, layer_scalar, type_text_scalar, type_scalar}
-use Rattle.sal_json.specs.Laws.{is_of, IsOfItsType, IsOfItsTypeAsKey}
+use Rattle.sal_json.specs.Read.{text_atom, json_atom, bytes_of, bytes_atom, whole_of, is_nulls, of_string, own_text, own_json, first_own, if_own, plain, value_of, layer_text_scalar, layer_scalar, type_text_scalar, type_scalar}
+use Rattle.sal_json.specs.Laws.{IsOfItsType, IsOfItsTypeAsKey}
 use Rattle.sal_json.proofs.Chosen.{same_ok, chosen, otherwise, from_some}
 use Rattle.sal_json.proofs.BitSets.{among_called, bits_of-bits}
 
@@ -123,7 +122,7 @@ module _ (table : SchemaTable) where
 
   -- ---- unions
 
-  own-taken : (is_own : Atom → Bool) (r : Result Atom ScalarFault) (atom : Atom) → if_own is_own r ≡ Some atom → r ≡ Ok atom
+  pub own-taken : (is_own : Atom → Bool) (r : Result Atom ScalarFault) (atom : Atom) → if_own is_own r ≡ Some atom → r ≡ Ok atom
   own-taken is_own (Err fault) atom e = cc
   own-taken is_own (Ok found) atom e = elim (cases_Bool (is_own found)) [
     | inl own ↦ let same : Some found ≡ Some atom = rw own at e in let here : found ≡ atom = cc in ap Ok here

@@ -1,16 +1,15 @@
 -- Texts and their bytes.
-use Rattle.std.proofs.Common.{◌≡◌, ℕ, zero, suc, ◌+◌, ◌<◌, ◌≤◌, Bool, true, false, not, ◌==◌, nat_lt, IsTrue, List, [], ◌∷◌, ◌++◌, length, take, drop, fold, Option, Some, None, Result, Ok, Err, refl, ap, sym, ◌∙◌, inl, inr, arith, get_or}
+use Rattle.std.proofs.Common.{◌≡◌, ℕ, ◌+◌, ◌<◌, ◌≤◌, Bool, false, ◌==◌, nat_lt, IsTrue, List, [], ◌∷◌, length, take, drop, fold, Option, Some, None, Result, Ok, Err, refl, ap, sym, ◌∙◌, inl, inr, arith}
 use Rattle.std.specs.Option.{option_and_then}
-use Rattle.std.proofs.lemmas.Bool.{cases_Bool, cases_lt, true≢false}
-use Rattle.std.proofs.lemmas.Bool.Decides.{nat_tests}
+use Rattle.std.proofs.lemmas.Bool.{cases_Bool, cases_lt}
 use Rattle.std.proofs.lemmas.List.{take_all}
 use Rattle.std.proofs.lemmas.List.Splits.{slice_split_first}
-use Rattle.std.specs.List.{list_any, list_all, position_or_len, position, slice_split, slice_get}
+use Rattle.std.specs.List.{list_any, list_all, position_or_len, slice_split, slice_get}
 use borrow.Author.Tests.{ltb-true}
 use Rattle.sal_schema.proofs.Facts.{slice_get_some}
 use Rattle.sal_schema.proofs.Numbered.{list_all-at}
 use Rattle.sal_json.specs.declared.fault.ScalarFault.{ScalarFault}
-use Rattle.sal_json.specs.Named.{is_space, text_eq, number_called, then_name, with_name, bits_of}
+use Rattle.sal_json.specs.Named.{is_space, then_name, with_name, bits_of}
 
 pub none_found : (p : ℕ → Bool) (t : List ℕ) → position_or_len p t ≡ length t → list_any p t ≡ false
 none_found p [] e = refl

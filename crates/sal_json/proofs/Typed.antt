@@ -1,6 +1,6 @@
 -- The types of a schema are good.
-use Rattle.std.proofs.Common.{◌≡◌, ℕ, ◌<◌, IsTrue, List, length, get_or, Some, ap, sym, ◌∙◌}
-use Rattle.std.specs.List.{list_all, slice_get}
+use Rattle.std.proofs.Common.{◌≡◌, ℕ, IsTrue, Some, ap, ◌∙◌}
+use Rattle.std.specs.List.{slice_get}
 use Rattle.sal_restrict.specs.declared.yang_type.YangType.{YangType}
 use Rattle.sal_schema.specs.declared.table.SchemaTable.{SchemaTable}
 use Rattle.sal_schema.specs.Valid.{IsTable, is_good_type}

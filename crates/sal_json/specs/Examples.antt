@@ -1,5 +1,5 @@
 -- A schema and words for the examples.
-use Rattle.std.specs.Prelude.{ℕ, ℤ, pos, negsuc, Bool, true, false, List, [], ◌∷◌, Result, Ok, Err, codes}
+use Rattle.std.specs.Prelude.{ℕ, ℤ, pos, negsuc, int_le, Bool, true, false, List, [], ◌∷◌, ◌++◌, Result, Ok, codes}
 use Prim.Native.String.{String}
 use Rattle.serde_json.specs.Data.{Data, string}
 use Rattle.sal_types.specs.declared.value.Atom.{Atom}
@@ -16,29 +16,42 @@ use Rattle.sal_json.specs.Written.{json_of, text_of}
 
 -- ---- types
 
+abbrev pub is_part : ℤ → ℤ → Bool
+is_part low high = int_le low high
+
 abbrev pub part : ℤ → ℤ → List Part
 part low high = record { low = low; high = high } ∷ []
 
-abbrev pub any_length : List Part
-any_length = part (pos 0) (pos 18446744073709551615)
+abbrev pub whole : ℕ → Bool → ℤ → ℤ → YangType
+whole bits sign low high = roll-YangType (YangType-F.Int bits sign (part low high))
+
+abbrev pub dec : ℕ → YangType
+dec digits = roll-YangType (YangType-F.Dec digits (part (negsuc 9223372036854775807) (pos 9223372036854775807)))
+
+abbrev pub text : ℤ → ℤ → List Pattern → YangType
+text low high patterns = roll-YangType (YangType-F.Text (part low high) patterns)
 
 abbrev pub uint8 : YangType
-uint8 = roll-YangType (YangType-F.Int 8 false (part (pos 0) (pos 255)))
+uint8 = whole 8 false (pos 0) (pos 255)
 
 abbrev pub int64 : YangType
-int64 = roll-YangType (YangType-F.Int 64 true (part (negsuc 9223372036854775807) (pos 9223372036854775807)))
+int64 = whole 64 true (negsuc 9223372036854775807) (pos 9223372036854775807)
 
 abbrev pub uint64 : YangType
-uint64 = roll-YangType (YangType-F.Int 64 false (part (pos 0) (pos 18446744073709551615)))
+uint64 = whole 64 false (pos 0) (pos 18446744073709551615)
 
 abbrev pub cents : YangType
-cents = roll-YangType (YangType-F.Dec 2 (part (negsuc 9223372036854775807) (pos 9223372036854775807)))
+cents = dec 2
 
 abbrev pub any_text : YangType
-any_text = roll-YangType (YangType-F.Text any_length [])
+any_text = text (pos 0) (pos 18446744073709551615) []
+
+-- small letters that are not `xy`
+abbrev pub letters : List Pattern
+letters = record { text = codes "[a-z]*"; inverted = false } ∷ record { text = codes "xy"; inverted = true } ∷ []
 
 abbrev pub two_letters : YangType
-two_letters = roll-YangType (YangType-F.Text (part (pos 2) (pos 2)) (record { text = codes "[a-z]*"; inverted = false } ∷ record { text = codes "xy"; inverted = true } ∷ []))
+two_letters = text (pos 2) (pos 2) letters
 
 abbrev pub binary : YangType
 binary = roll-YangType (YangType-F.Bin (part (pos 0) (pos 3)))
@@ -58,23 +71,54 @@ flags = roll-YangType (YangType-F.Bits (codes "up" ∷ codes "loop" ∷ codes "d
 abbrev pub animal : YangType
 animal = roll-YangType (YangType-F.Ident (0 ∷ []))
 
+abbrev pub union : YangType → YangType → YangType
+union a b = roll-YangType (YangType-F.Union (a ∷ b ∷ []))
+
 abbrev pub number_or_text : YangType
-number_or_text = roll-YangType (YangType-F.Union (uint8 ∷ any_text ∷ []))
+number_or_text = union uint8 any_text
 
 abbrev pub long_or_text : YangType
-long_or_text = roll-YangType (YangType-F.Union (int64 ∷ any_text ∷ []))
+long_or_text = union int64 any_text
 
--- ---- a schema of these types and three identities, of which the last two are derived from the first
+abbrev pub numbers : List YangType
+numbers =
+    whole 8 true (negsuc 127) (pos 127)
+    ∷ uint8
+    ∷ whole 32 true (negsuc 2147483647) (pos 2147483647)
+    ∷ whole 32 false (pos 0) (pos 4294967295)
+    ∷ int64
+    ∷ uint64
+    ∷ []
+
+abbrev pub names : List YangType
+names = boolean ∷ colour ∷ flags ∷ animal ∷ empty ∷ binary ∷ []
+
+abbrev pub texts : List YangType
+texts = dec 2 ∷ dec 18 ∷ any_text ∷ two_letters ∷ text (pos 2) (pos 2) [] ∷ []
+
+abbrev pub unions : List YangType
+unions = number_or_text ∷ union any_text uint8 ∷ long_or_text ∷ []
+
+abbrev pub all_types : List YangType
+all_types = numbers ++ names ++ texts ++ unions
+
+-- ---- a schema of these types, and identities of three modules, of which all but `stone` are derived from the first
+
+abbrev pub identity_of : ℕ → List ℕ → List ℕ → IdentityInfo
+identity_of m name bases = record { name = name; «module» = m; derived_from = bases }
 
 abbrev pub identity : ℕ → String → List ℕ → IdentityInfo
-identity m name bases = record { name = codes name; «module» = m; derived_from = bases }
+identity m name bases = identity_of m (codes name) bases
+
+abbrev pub identities : List IdentityInfo
+identities = identity 0 "animal" [] ∷ identity 0 "cat" (0 ∷ []) ∷ identity 1 "cow" (0 ∷ []) ∷ identity 2 "cat" (0 ∷ 1 ∷ []) ∷ identity 1 "stone" [] ∷ []
 
 abbrev pub table : List YangType → SchemaTable
 table types = record {
   nodes = [];
   types = types;
-  modules = codes "zoo" ∷ codes "farm" ∷ [];
-  identities = identity 0 "animal" [] ∷ identity 0 "cat" (0 ∷ []) ∷ identity 1 "cow" (0 ∷ []) ∷ [];
+  modules = codes "zoo" ∷ codes "farm" ∷ codes "sea" ∷ [];
+  identities = identities;
 }
 
 -- ---- readings and writings in the module `zoo`

@@ -1,12 +1,12 @@
 -- Values that are names: of enums, bits and identities (RFC 7951 sections 6.4, 6.5 and 6.8).
-use Rattle.std.specs.Prelude.{ℕ, ◌^◌, bit_or, Bool, ◌==◌, nat_eq, List, [], ◌∷◌, ◌++◌, length, Option, Some, None, Result, Ok, Err, fold, option_and_then, position, slice_index_or, if◌then◌else◌}
+use Rattle.std.specs.Prelude.{ℕ, ◌^◌, bit_or, Bool, ◌==◌, nat_eq, List, [], ◌∷◌, ◌++◌, length, Option, Result, Ok, Err, fold, option_and_then, position, slice_index_or, if◌then◌else◌}
 use Rattle.std.specs.List.{list_any, before_first, after_first, slice_split, join_by, filter, range_with_len, slice_get}
 use Rattle.std.specs.Option.{option_map_or}
 use Rattle.std.specs.Cmp.Lexicographic.{pointwise}
 use Rattle.sal_types.specs.declared.value.Atom.{Atom}
 use Rattle.sal_types.specs.declared.value.Atom.TheVariants.{Enum, Bits, Ident}
 use Rattle.sal_schema.specs.declared.table.SchemaTable.{SchemaTable}
-use Rattle.sal_schema.specs.Table.{module_name, identity_name, identity_module, is_same}
+use Rattle.sal_schema.specs.Table.{module_name, identity_name, identity_module}
 use Rattle.sal_schema.specs.Names.{identity_of}
 use Rattle.sal_schema.specs.Values.{has_bit, takes_identity}
 use Rattle.sal_json.specs.declared.fault.ScalarFault.{ScalarFault}

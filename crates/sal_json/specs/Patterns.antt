@@ -1,6 +1,6 @@
 -- Patterns of texts (RFC 7950 section 9.4.5), in the grammar of `regex`. A pattern is matched with the whole text.
 use Rattle.std.specs.Prelude.{◌≡◌, MatchOption, ℕ, Bool, true, false, not, nat_lt, List, [], ◌∷◌, ◌++◌, map, Option, Some, None, is_some, chars, codes, if◌then◌else◌}
-use Rattle.std.specs.List.{list_all, list_any, slice_get}
+use Rattle.std.specs.List.{list_any, slice_get}
 use Rattle.std.specs.Option.{option_map_or}
 use Rattle.regex_syntax.specs.Verdict.{default_config}
 use Rattle.regex_syntax.specs.Grammar.{Names, read}

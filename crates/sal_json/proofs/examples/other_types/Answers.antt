@@ -1,5 +1,4 @@
 -- Each example by computation.
-use Rattle.std.proofs.Common.{refl}
 use Rattle.std.specs.Fmt.{digits}
 use Rattle.std.specs.Str.{chars}
 use Rattle.base64.proofs.OnLiterals.{base64_on_literals}

@@ -1,4 +1,4 @@
-use Rattle.std.proofs.Common.{◌≡◌, ◌<◌, ◌≤◌, ◌+◌, length, take, drop, Ok, Err, ap, sym, ◌∙◌, arith}
+use Rattle.std.proofs.Common.{◌<◌, ◌≤◌, ◌+◌, length, take, drop, Ok, ap, sym, ◌∙◌, arith}
 use Rattle.sal_json.specs.Named.{with_name}
 use Rattle.sal_json.proofs.Parted.{parts, part_len, bits_after, bits-refused, bits-last, bits-more, bits_of-parts}
 use Rattle.sal_json.proofs.named.bits_of.Goals as goal

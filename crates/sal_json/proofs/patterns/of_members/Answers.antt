@@ -1,4 +1,4 @@
-use Rattle.std.proofs.Common.{◌≡◌, ◌<◌, length, true, ap, sym, ◌∙◌, arith}
+use Rattle.std.proofs.Common.{ap, sym, ◌∙◌}
 use Rattle.sal_json.specs.Patterns.{have_malformed, plain_patterns}
 use Rattle.sal_json.proofs.Listed.{any_map-at}
 use Rattle.sal_json.proofs.patterns.of_members.Goals as goal

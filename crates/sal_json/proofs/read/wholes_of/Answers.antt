@@ -1,4 +1,4 @@
-use Rattle.std.proofs.Common.{◌≡◌, length, ap, sym, ◌∙◌}
+use Rattle.std.proofs.Common.{ap, sym, ◌∙◌}
 use Rattle.std.specs.List.{slice_get}
 use Rattle.sal_json.specs.Patterns.{type_searched}
 use Rattle.sal_json.proofs.Listed.{slice_get-map}

@@ -1,4 +1,4 @@
-use Rattle.std.proofs.Common.{◌≡◌, ◌++◌, ◌∷◌, [], map, take, ap, sym, ◌∙◌}
+use Rattle.std.proofs.Common.{◌++◌, ◌∷◌, [], sym, ◌∙◌}
 use Rattle.sal_json.specs.Patterns.{type_searched}
 use Rattle.sal_json.proofs.Listed.{map_take-more}
 use Rattle.sal_json.proofs.patterns.Patterns.of.Goals as goal

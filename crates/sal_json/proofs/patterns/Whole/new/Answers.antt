@@ -1,5 +1,5 @@
 -- The compiler's verdict is that of the grammar.
-use Rattle.std.proofs.Common.{sym, subst, ◌∙◌}
+use Rattle.std.proofs.Common.{subst, ◌∙◌}
 use Rattle.std.specs.String.{string_bytes}
 use Rattle.regex.specs.Names.{names_of}
 use Rattle.regex.specs.Failures.{IsRightKind}

@@ -1,0 +1,191 @@
+//! The patterns of a schema, compiled.
+ghost use Rattle.std.specs.Prelude.{◌≡◌, ◌++◌, ◌<◌, IfOk, IfErr, MatchOption, IsTrue, Some, true, map, length, string_bytes};
+ghost use Rattle.std.specs.List.{slice_get, list_all, list_any};
+ghost use Rattle.sal_restrict.specs.declared.yang_type.YangType.{out-YangType};
+ghost use Rattle.sal_json.specs.Patterns as spec;
+
+use crate::fault::PatternsFault;
+use regex::{Error, Regex};
+use sal_restrict::{Pattern, YangType};
+use sal_schema::Schema;
+use sal_types::{NoMemory, Seq};
+use std::alloc::Global;
+use std::marker::Model;
+
+/// A pattern of a whole text, seen as the text of the pattern that is searched for.
+#[derive(Drop)]
+pub(crate) struct Whole {
+    regex: Regex,
+}
+
+impl Model for Whole {
+    ghost use Rattle.std.specs.Prelude.{List, ℕ, ◌≡◌};
+    ghost use Rattle.regex.specs.Strings.{regex_source, regex_config, IsReadFromSource};
+    ghost use Rattle.regex_syntax.specs.Verdict.{default_config};
+
+    ghost Value = { List ℕ };
+
+    ghost view = { λ a. regex_source a.regex };
+
+    ghost invariant = { λ a. (regex_config a.regex ≡ default_config) × IsReadFromSource a.regex };
+}
+
+fn whole_text(alloc: Global, text: &str) -> Result<String, NoMemory>
+    ensures { IfOk result (λ whole. string_bytes whole ≡ spec.whole_text text.now) }
+{
+    let mut whole = String::from_str(alloc, "\\A(?:")?;
+    whole.push_str(text)?;
+    whole.push_str(")\\z")?;
+    Ok(whole)
+}
+
+impl Whole {
+    /// The pattern, or none where it is malformed.
+    fn new(alloc: Global, text: &str) -> Result<Option<Whole>, NoMemory>
+        ensures { IfOk result (λ found. spec.IsWhole text.now found) }
+    {
+        let whole = whole_text(alloc, text)?;
+        match Regex::new(alloc, whole.as_str()) {
+            Ok(regex) => Ok(Some(Whole { regex })),
+            Err(Error::Syntax(_)) => Ok(None),
+            Err(_) => Err(NoMemory),
+        }
+    }
+
+    /// Whether it is found in the text.
+    pub(crate) fn is_found(&self, alloc: Global, text: &str) -> Result<bool, NoMemory>
+        ensures { IfOk result (λ found. found ≡ spec.finds self.now text.now) }
+    {
+        let mut matcher = self.regex.matcher(alloc)?;
+        Ok(matcher.is_match(text))
+    }
+}
+
+/// The patterns that a type without members has, or a member of a union.
+pub(crate) type Wholes = Seq<Whole>;
+
+fn of_list(alloc: Global, patterns: &[Pattern]) -> Result<Option<Wholes>, NoMemory>
+    ensures { IfOk result (λ found. MatchOption found (spec.have_malformed patterns.now ≡ true) (λ list. list ≡ map spec.searched patterns.now)) }
+{
+    let mut list = Vec::with_capacity(alloc, patterns.len())?;
+    for pattern in patterns {
+        match Whole::new(alloc, pattern.text.as_str())? {
+            Some(whole) => list.push(whole)?,
+            None => return Ok(None),
+        }
+    }
+    Ok(Some(Seq::from_items(list)))
+}
+
+fn of_plain(alloc: Global, ty: &YangType) -> Result<Option<Wholes>, NoMemory>
+    ensures { IfOk result (λ found. MatchOption found (spec.have_malformed (spec.plain_patterns ty.now) ≡ true) (λ list. list ≡ spec.plain_searched ty.now)) }
+{
+    match ty {
+        YangType::Text { patterns, .. } => of_list(alloc, patterns.items()),
+        _ => Ok(Some(Seq::new(alloc))),
+    }
+}
+
+fn of_members(alloc: Global, members: &[YangType]) -> Result<Option<Seq<Wholes>>, NoMemory>
+    ensures { IfOk result (λ found. MatchOption found (list_any spec.have_malformed (map spec.plain_patterns members.now) ≡ true) (λ list. list ≡ map spec.plain_searched members.now)) }
+{
+    let mut list = Vec::with_capacity(alloc, members.len())?;
+    for member in members {
+        match of_plain(alloc, member)? {
+            Some(wholes) => list.push(wholes)?,
+            None => return Ok(None),
+        }
+    }
+    Ok(Some(Seq::from_items(list)))
+}
+
+fn of_one(alloc: Global, ty: &YangType) -> Result<Option<Seq<Wholes>>, NoMemory>
+    ensures { IfOk result (λ found. MatchOption found (spec.have_malformed (spec.plain_patterns ty.now) ≡ true) (λ list. list ≡ spec.only (spec.plain_searched ty.now))) }
+{
+    let mut list = Vec::with_capacity(alloc, 1)?;
+    match of_plain(alloc, ty)? {
+        Some(wholes) => list.push(wholes)?,
+        None => return Ok(None),
+    }
+    Ok(Some(Seq::from_items(list)))
+}
+
+fn of_type(alloc: Global, ty: &YangType) -> Result<Option<Seq<Wholes>>, NoMemory>
+    ensures { IfOk result (λ found. MatchOption found (spec.has_malformed ty.now ≡ true) (λ list. list ≡ spec.type_searched ty.now)) }
+{
+    match ty {
+        YangType::Union { members } => of_members(alloc, members.items()),
+        _ => of_one(alloc, ty),
+    }
+}
+
+/// The patterns of a schema, compiled: a list for each type, and in it one for each member of a union.
+///
+/// They are seen as the texts of the patterns that are searched for.
+#[derive(Drop)]
+pub struct Patterns {
+    types: Vec<Seq<Wholes>>,
+}
+
+impl Model for Patterns {
+    ghost use Rattle.std.specs.Prelude.{List, ℕ};
+
+    ghost Value = { List (List (List (List ℕ))) };
+
+    ghost view = { λ a. a.types.items };
+}
+
+impl Patterns {
+    /// The patterns of the schema.
+    ///
+    /// `Refused` names the first type that has a malformed pattern. A pattern that is too large for `regex` counts as want
+    /// of memory. It takes the time and memory that `regex` takes for each pattern.
+    pub fn of(alloc: Global, schema: &Schema) -> Result<Patterns, PatternsFault>
+        ensures of_schema { IfOk result (λ patterns. patterns ≡ spec.patterns_of schema.now) }
+        ensures refused { IfErr result (spec.IsRefusal schema.now) }
+    {
+        let mut types = Vec::new(alloc);
+        for ty in 0..schema.types() {
+            match of_type(alloc, schema.type_at(ty))? {
+                Some(list) => types.push(list)?,
+                None => return Err(PatternsFault::Refused { ty }),
+            }
+        }
+        Ok(Patterns { types })
+    }
+
+    /// Those of a type, member by member.
+    pub(crate) fn of_type(&self, ty: u32) -> &[Wholes]
+        requires { ty < length self.now }
+        ensures { slice_get self.now ty ≡ Some result.now }
+    {
+        self.types[ty as usize].items()
+    }
+}
+
+/// Whether the text matches the pattern, or does not match an inverted one.
+fn passes(alloc: Global, pattern: &Pattern, whole: &Whole, text: &str) -> Result<bool, NoMemory>
+    requires { whole.now ≡ spec.searched pattern.now }
+    ensures { IfOk result (λ passed. passed ≡ spec.passes text.now pattern.now) }
+{
+    let is_found = whole.is_found(alloc, text)?;
+    Ok(is_found != pattern.inverted)
+}
+
+/// Whether the text passes all patterns.
+pub(crate) fn all_pass(
+    alloc: Global,
+    patterns: &[Pattern],
+    wholes: &[Whole],
+    text: &str,
+) -> Result<bool, NoMemory>
+    requires { wholes.now ≡ map spec.searched patterns.now }
+    ensures { IfOk result (λ passed. passed ≡ list_all (spec.passes text.now) patterns.now) }
+{
+    for i in 0..patterns.len() {
+        if !passes(alloc, &patterns[i], &wholes[i], text)? {
+            return Ok(false);
+        }
+    }
+    Ok(true)
+}

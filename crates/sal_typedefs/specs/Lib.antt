@@ -1,4 +1,5 @@
 pub mod Scopes
+pub mod Blocks
 pub mod Builtins
 pub mod Names
 pub mod Entries

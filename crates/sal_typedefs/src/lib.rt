@@ -20,6 +20,7 @@
 //! Cost: `is_malformed` compiles the pattern, as `regex` does.
 #![tactic(auto)]
 
+mod block;
 mod builtin;
 mod judging;
 mod name;
@@ -31,5 +32,6 @@ mod site;
 mod tests;
 mod vectors;
 
+pub use block::Block;
 pub use pattern::is_malformed;
 pub use site::TypeSite;

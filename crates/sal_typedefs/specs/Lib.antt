@@ -2,6 +2,7 @@ pub mod Scopes
 pub mod Blocks
 pub mod Builtins
 pub mod Names
+pub mod Spots
 pub mod Entries
 pub mod Patterns
 pub mod Restrictions

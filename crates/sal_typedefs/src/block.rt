@@ -48,6 +48,18 @@ fn typedefs_in(alloc: Global, subs: &[Stmt]) -> Result<Numbers, NoMemory>
     Ok(map)
 }
 
+/// The first typedef of this name among these statements.
+pub(crate) fn typedef_among<'s>(subs: &'s [Stmt], name: &str) -> Option<&'s Stmt>
+    ensures { option_copied result ≡ find (is_typedef_of name.now) subs.now }
+{
+    for sub in subs {
+        if is_named(Keyword::Typedef, sub) && argument_of(sub) == name {
+            return Some(sub);
+        }
+    }
+    None
+}
+
 fn stmt_at(subs: &[Stmt], k: usize) -> Option<&Stmt>
     ensures { option_copied result ≡ slice_get subs.now k }
 {

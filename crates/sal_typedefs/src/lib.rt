@@ -22,12 +22,14 @@
 
 mod block;
 mod builtin;
+mod count;
 mod judging;
 mod name;
 mod narrowing;
 mod pattern;
 mod restriction;
 mod site;
+mod spot;
 #[cfg(test)]
 mod tests;
 mod vectors;

@@ -34,7 +34,7 @@ first-put old new key k updates name is unknown q =
       | inr e ↦ here ∙ rw e (sym (with_first-miss (get_by_text old q) k))
     ]
 
-position_from-last : {X : Type 0} (p : X → Bool) (n : ℕ) (xs : List X) (x : X)
+pub position_from-last : {X : Type 0} (p : X → Bool) (n : ℕ) (xs : List X) (x : X)
     → position_from p n (xs ++ x ∷ []) ≡ (if is_some (position_from p n xs) then position_from p n xs else if p x then Some (n + length xs) else None)
 position_from-last p n [] x = let here : n + 0 ≡ n = omega arith in rw here refl
 position_from-last p n (y ∷ ys) x =

@@ -1,3 +1,4 @@
 pub mod Grammars
 pub mod BlockLists
+pub mod IdentityLists
 pub mod SpotLists

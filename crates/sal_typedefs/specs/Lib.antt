@@ -2,6 +2,8 @@ pub mod Scopes
 pub mod Blocks
 pub mod Builtins
 pub mod Names
+pub mod Ready
+pub mod Walks
 pub mod Spots
 pub mod Entries
 pub mod Patterns

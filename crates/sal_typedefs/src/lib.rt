@@ -20,9 +20,11 @@
 //! Cost: `is_malformed` compiles the pattern, as `regex` does.
 #![tactic(auto)]
 
+mod below;
 mod block;
 mod builtin;
 mod count;
+mod identities;
 mod judging;
 mod name;
 mod narrowing;
@@ -32,8 +34,11 @@ mod site;
 mod spot;
 #[cfg(test)]
 mod tests;
+mod typedefs;
 mod vectors;
+mod walk;
 
 pub use block::Block;
 pub use pattern::is_malformed;
 pub use site::TypeSite;
+pub use typedefs::Typedefs;

@@ -44,13 +44,13 @@ fn closest_outer<'a>(number: u32, blocks: &[Block<'a>], name: &str) -> Option<(u
 }
 
 /// The same, of blocks that have no index.
-fn closest_inner<'a>(number: u32, blocks: &[&'a Stmt], name: &str) -> Option<(usize, &'a Stmt)>
-    ensures value { option_map (spec.seen_in number (spec.stmts blocks.now)) result ≡ scopes.closest number name.now (reverse (spec.stmts blocks.now)) }
-    ensures within { IfSome result (λ found. found.0 ≤ length blocks.now) }
+fn closest_inner<'a>(number: u32, list: &[&'a Stmt], name: &str) -> Option<(usize, &'a Stmt)>
+    ensures value { option_map (spec.seen_in number (spec.stmts list.now)) result ≡ scopes.closest number name.now (reverse (spec.stmts list.now)) }
+    ensures within { IfSome result (λ found. found.0 ≤ length list.now) }
 {
-    let mut n = blocks.len();
+    let mut n = list.len();
     'closest: while n > 0 {
-        if let Some(stmt) = typedef_among(blocks[n - 1].subs.items(), name) {
+        if let Some(stmt) = typedef_among(list[n - 1].subs.items(), name) {
             return Some((n, stmt));
         }
         n -= 1;
@@ -106,6 +106,18 @@ impl<'a> Spot<'a> {
                 inner: copies(alloc, &self.inner[..n])?,
             })),
         }
+    }
+
+    /// The same statement once more.
+    pub(crate) fn copy(&self, alloc: Global) -> Result<Spot<'a>, NoMemory>
+        ensures { IfOk result (λ spot. spec.site_of spot ≡ spec.site_of self.now) }
+    {
+        Ok(Spot {
+            module: self.module,
+            stmt: self.stmt,
+            outer: self.outer,
+            inner: copies(alloc, self.inner.as_slice())?,
+        })
     }
 
     /// A statement in the block of this one.

@@ -6,7 +6,7 @@ use Rattle.sal_typedefs.specs.Spots.{stmts}
 use Rattle.sal_typedefs.proofs.spot.closest_inner.Given as goal
 
 abbrev pub invariant-closest : goal.invariant-closest
-invariant-closest l = (l.n ≤ length l.blocks) × (closest l.number l.name (reverse (stmts l.blocks)) ≡ closest l.number l.name (reverse (take l.n (stmts l.blocks))))
+invariant-closest l = (l.n ≤ length l.list) × (closest l.number l.name (reverse (stmts l.list)) ≡ closest l.number l.name (reverse (take l.n (stmts l.list))))
 
 abbrev pub decreases-closest : goal.decreases-closest
 decreases-closest l = l.n

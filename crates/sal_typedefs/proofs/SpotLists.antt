@@ -64,6 +64,28 @@ inner-some m name outer inner n t e =
 pub inner-none : (m : ℕ) (name : List ℕ) (outer inner : List Stmt) → closest m name (reverse inner) ≡ None → closest m name (reverse (outer ++ inner)) ≡ closest m name (reverse outer)
 inner-none m name outer inner e = ap (closest m name) (reverse-append outer inner) ∙ closest-none m name (reverse inner) (reverse outer) e
 
+-- ---- the innermost that passes
+
+pub passes-here : (p : Stmt → Bool) (x : Stmt) (xs : List Stmt) → p x ≡ true → find p (x ∷ xs) ≡ Some x
+passes-here p x xs e = rw e refl
+
+pub passes-later : (p : Stmt → Bool) (x : Stmt) (xs : List Stmt) → p x ≡ false → find p (x ∷ xs) ≡ find p xs
+passes-later p x xs e = rw e refl
+
+find-some : (p : Stmt → Bool) (xs ys : List Stmt) (x : Stmt) → Some x ≡ find p xs → Some x ≡ find p (xs ++ ys)
+find-some p [] ys x e = cc
+find-some p (y ∷ xs) ys x e = elim (p y) as (λ b. Some x ≡ (if b then Some y else find p xs) → Some x ≡ (if b then Some y else find p (xs ++ ys))) [ true ↦ λ h. h | false ↦ λ h. find-some p xs ys x h ] e
+
+find-none : (p : Stmt → Bool) (xs ys : List Stmt) → None ≡ find p xs → find p ys ≡ find p (xs ++ ys)
+find-none p [] ys e = refl
+find-none p (y ∷ xs) ys e = elim (p y) as (λ b. None ≡ (if b then Some y else find p xs) → find p ys ≡ (if b then Some y else find p (xs ++ ys))) [ true ↦ λ h. cc | false ↦ λ h. find-none p xs ys h ] e
+
+pub inner-passes : (p : Stmt → Bool) (outer inner : List Stmt) (x : Stmt) → Some x ≡ find p (reverse inner) → Some x ≡ find p (reverse (outer ++ inner))
+inner-passes p outer inner x e = find-some p (reverse inner) (reverse outer) x e ∙ ap (find p) (sym (reverse-append outer inner))
+
+pub inner-fails : (p : Stmt → Bool) (outer inner : List Stmt) → None ≡ find p (reverse inner) → find p (reverse outer) ≡ find p (reverse (outer ++ inner))
+inner-fails p outer inner e = find-none p (reverse inner) (reverse outer) e ∙ ap (find p) (sym (reverse-append outer inner))
+
 -- ---- counts
 
 pub count-none : (levels : ℕ) (stmt : Stmt) → levels ≡ 0 → 1 ≡ count levels stmt

@@ -64,20 +64,29 @@ fn types_in<'a>(alloc: Global, spot: &Spot<'a>) -> Result<Vec<Spot<'a>>, NoMemor
     Ok(all)
 }
 
+/// The first of them.
+fn first_type<'a>(alloc: Global, spot: &Spot<'a>) -> Result<Vec<Spot<'a>>, NoMemory>
+    ensures { IfOk result (λ all. map site_of all.items ≡ take 1 (spec.types_in (site_of spot.now))) }
+{
+    let mut all = Vec::new(alloc);
+    match first_named(Keyword::Type, spot.stmt.subs.items()) {
+        None => Ok(all),
+        Some(sub) => {
+            all.push(spot.within(alloc, sub)?)?;
+            Ok(all)
+        }
+    }
+}
+
 /// The `type` statement of a typedef, if there is one.
 fn type_of<'a>(alloc: Global, typedef: Option<Spot<'a>>) -> Result<Vec<Spot<'a>>, NoMemory>
     ensures { IfOk result (λ all. map site_of all.items
         ≡ flat_map (λ typedef. take 1 (spec.types_in typedef)) (option_to_list (option_map site_of typedef.entry))) }
 {
-    let mut all = Vec::new(alloc);
-    let typedef = match typedef {
-        None => return Ok(all),
-        Some(typedef) => typedef,
-    };
-    if let Some(sub) = first_named(Keyword::Type, typedef.stmt.subs.items()) {
-        all.push(typedef.within(alloc, sub)?)?;
+    match typedef {
+        None => Ok(Vec::new(alloc)),
+        Some(typedef) => first_type(alloc, &typedef),
     }
-    Ok(all)
 }
 
 /// The type statements that a type statement rests on.

@@ -23,6 +23,7 @@
 mod below;
 mod block;
 mod builtin;
+mod circle;
 mod count;
 mod identities;
 mod judging;

@@ -28,7 +28,7 @@ pub(crate) fn at(cause: Cause, number: u32, stmt: &Stmt) -> Found
 }
 
 /// The number that these digits write, or 255 where it is greater.
-fn small_number(text: &[u8]) -> u8
+pub(crate) fn small_number(text: &[u8]) -> u8
     ensures { result ≡ min (decimal text.now) 255 }
 {
     let mut number: u8 = 0;

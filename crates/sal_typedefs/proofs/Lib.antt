@@ -1,5 +1,7 @@
 pub mod Grammars
 pub mod BlockLists
+pub mod LeastLists
+pub mod EntryLists
 pub mod WalkLists
 pub mod IdentityLists
 pub mod SpotLists

@@ -9,4 +9,5 @@ pub mod Entries
 pub mod Patterns
 pub mod Restrictions
 pub mod Types
+pub mod Judgements
 pub mod Examples

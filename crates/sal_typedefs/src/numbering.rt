@@ -180,7 +180,7 @@ fn named<'e>(name: &str, entries: &'e [Entry]) -> Option<&'e Entry>
 }
 
 /// A name of the statement's own, and whether it is faulty. The number of one that gives none is `next`.
-fn own_entry(
+pub(crate) fn own_entry(
     alloc: Global,
     n: Numbering,
     before: &[Entry],
@@ -223,7 +223,7 @@ fn entry_or(alloc: Global, found: Option<&Entry>, name: &str) -> Result<Entry, N
 }
 
 /// A name that is chosen from these, and whether it is faulty.
-fn chosen_entry(
+pub(crate) fn chosen_entry(
     alloc: Global,
     n: Numbering,
     from: &[Entry],
@@ -240,7 +240,7 @@ fn chosen_entry(
 }
 
 /// The next number, behind one more name of this number.
-fn next_after(before: &[Entry], next: i128, number: i128) -> Result<i128, NoMemory>
+pub(crate) fn next_after(before: &[Entry], next: i128, number: i128) -> Result<i128, NoMemory>
     requires { next ≡ spec.next before.now }
     ensures { IfOk result (λ after. (name : List ℕ) → after ≡ spec.next (before.now ++ record { name = name; number = number } ∷ [])) }
 {

@@ -1,0 +1,13 @@
+//! What a statement was found to be.
+
+use crate::entry::Entry;
+use sal_module::Found;
+use sal_restrict::YangType;
+
+/// The least fault of a type statement and of those that it rests on, and its type and names where there is none.
+#[derive(Drop)]
+pub(crate) struct Judgement {
+    pub(crate) fault: Option<Found>,
+    pub(crate) ty: YangType,
+    pub(crate) entries: Vec<Entry>,
+}

@@ -166,8 +166,11 @@ abbrev pub choices : Base → Option (List Entry)
 choices base = if base.itself then None else Some base.entries
 
 -- the enums, or the bits
+abbrev pub faults_by : Base → ℕ → Stmt → Numbering → List Found
+faults_by base m stmt n = entry_faults n (choices base) m [] (all_named (item_of n) stmt)
+
 abbrev pub list_faults : Base → ℕ → Stmt → List Found
-list_faults base m stmt = flat_map (λ n. entry_faults n (choices base) m [] (all_named (item_of n) stmt)) (option_to_list (numbering_of (out-YangType base.type)))
+list_faults base m stmt = flat_map (faults_by base m stmt) (option_to_list (numbering_of (out-YangType base.type)))
 
 -- Nothing is asked of what restricts a decimal64 whose fraction digits are bad.
 abbrev pub restriction_faults : Base → ℕ → Stmt → List Found

@@ -53,12 +53,15 @@ names_in entries = map (λ (e : Entry). e.name) entries
 
 -- A statement that names none has all names of the type that it restricts.
 abbrev pub takes_all : Numbering → Base → Stmt → Bool
-takes_all n base stmt = not base.itself && length (all_named (item_of n) stmt) == 0
+takes_all n base stmt = not base.itself && not (list_any (is_named (item_of n)) (subs_of stmt))
 
 -- the names and numbers of the type
+abbrev pub entries_with : Base → Stmt → Numbering → List Entry
+entries_with base stmt n = if takes_all n base stmt then base.entries else entries_of n (choices base) [] (all_named (item_of n) stmt)
+
 abbrev pub entries_by : Base → Stmt → Option Numbering → List Entry
 entries_by base stmt None = []
-entries_by base stmt (Some n) = if takes_all n base stmt then base.entries else entries_of n (choices base) [] (all_named (item_of n) stmt)
+entries_by base stmt (Some n) = entries_with base stmt n
 
 abbrev pub entries_in : Base → Stmt → Layer → List Entry
 entries_in base stmt layer = entries_by base stmt (numbering_of layer)

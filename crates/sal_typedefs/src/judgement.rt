@@ -11,3 +11,11 @@ pub(crate) struct Judgement {
     pub(crate) ty: YangType,
     pub(crate) entries: Vec<Entry>,
 }
+
+/// What a statement restricts: a type with the numbers of its names, and whether it is the built-in type itself.
+#[derive(Drop)]
+pub(crate) struct Basis {
+    pub(crate) ty: YangType,
+    pub(crate) entries: Vec<Entry>,
+    pub(crate) itself: bool,
+}

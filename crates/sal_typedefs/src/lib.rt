@@ -30,6 +30,7 @@ mod entry;
 mod identities;
 mod judgement;
 mod judging;
+mod layer;
 mod meaning;
 mod merging;
 mod name;

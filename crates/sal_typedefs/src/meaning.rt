@@ -2,7 +2,7 @@
 ghost use Rattle.std.specs.Prelude.{◌≡◌, ◌++◌, ◌∷◌, [], ℕ, ◌<◌, List, IfOk, map, filter, length, unwrap_or, unsigned_abs, slice_index};
 ghost use Rattle.std.specs.List.{flat_map, enumerate_from, position_from};
 ghost use Rattle.std.specs.Option.{option_to_list};
-ghost use Rattle.sal_restrict.specs.declared.yang_type.YangType.{YangType as Type};
+ghost use Rattle.sal_restrict.specs.declared.yang_type.YangType.{YangType as Meant};
 ghost use Rattle.sal_restrict.specs.declared.yang_type.YangType.TheViews.{out-YangType};
 ghost use Rattle.sal_module.specs.declared.keyword.Keyword.TheVariants as word;
 ghost use Rattle.sal_module.specs.Keywords.{same};
@@ -167,7 +167,7 @@ fn push_members(flat: &mut Vec<YangType>, ty: &YangType, alloc: Global) -> Resul
 
 /// The members of a union, and those of unions among them.
 pub(crate) fn flat(alloc: Global, types: &[YangType]) -> Result<Seq<YangType>, NoMemory>
-    ensures { IfOk result (λ it. it ≡ flat_map (λ (t : Type). spec.members_of t (out-YangType t)) types.now) }
+    ensures { IfOk result (λ it. it ≡ flat_map (λ (t : Meant). spec.members_of t (out-YangType t)) types.now) }
 {
     let mut list = Vec::new(alloc);
     for ty in types {

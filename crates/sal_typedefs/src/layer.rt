@@ -13,15 +13,13 @@ ghost use Rattle.sal_typedefs.specs.Judgements as spec;
 
 use crate::entries::with_entries;
 use crate::entry::{Entry, Numbering};
-use crate::judgement::{Basis, Judgement};
-use crate::judging::{small_number, with_absent, with_subs};
+use crate::judgement::Basis;
 use crate::meaning::{bases_of, chosen_places, flat, names_in, own_places, positions};
-use crate::narrowing::restricted;
 use crate::typedefs::Typedefs;
-use sal_module::{Found, Keyword, has_named, value_of};
+use sal_module::{Found, has_named};
 use sal_restrict::YangType;
 use sal_stmt::Stmt;
-use sal_types::{Duplicate, NoMemory, Seq, Str};
+use sal_types::{Duplicate, NoMemory, Str};
 use std::alloc::Global;
 
 /// How the names of a type get their numbers, where it has names.
@@ -83,7 +81,7 @@ fn listed_by(
 }
 
 /// The names of a type that a statement restricts, and the least of this fault and theirs.
-fn listed(
+pub(crate) fn listed(
     best: Option<Found>,
     alloc: Global,
     basis: &Basis,
@@ -124,7 +122,7 @@ fn enum_type(
 }
 
 /// The type that a statement means which lists names, or names bases or members.
-fn named_type(
+pub(crate) fn named_type(
     alloc: Global,
     typedefs: &Typedefs,
     number: u32,
@@ -134,8 +132,9 @@ fn named_type(
     types: &[YangType],
 ) -> Result<YangType, NoMemory>
     requires { types_spec.IsPlain (out-YangType basis.now.ty) → ⊥ }
-    ensures { IfOk result (λ it. it
+    ensures value { IfOk result (λ it. it
         ≡ roll-YangType (types_spec.restricted typedefs.now number (spec.base_seen basis.now) stmt.now types.now entries.now (out-YangType basis.now.ty))) }
+    ensures numbers { IfOk result (λ it. HasNumbers (out-YangType it)) }
 {
     match &basis.ty {
         YangType::Enum { names, places } => {
@@ -173,7 +172,7 @@ fn named_type(
     }
 }
 
-fn is_plain(ty: &YangType) -> bool
+pub(crate) fn is_plain(ty: &YangType) -> bool
     ensures yes { result ≡ true → types_spec.IsPlain (out-YangType ty.now) }
     ensures no { result ≡ false → types_spec.IsPlain (out-YangType ty.now) → ⊥ }
 {

@@ -28,6 +28,7 @@ mod count;
 mod entries;
 mod entry;
 mod identities;
+mod judge;
 mod judgement;
 mod judging;
 mod layer;

@@ -1,5 +1,5 @@
 -- One statement over the type that it restricts.
-use Rattle.std.proofs.Common.{◌≡◌, ⊤, ℕ, ◌+◌, ◌<◌, ◌≤◌, List, [], ◌∷◌, ◌++◌, length, map, filter, Bool, true, false, not, ◌&&◌, ◌||◌, ◌==◌, nat_le, Option, Some, None, is_some, option_map, unwrap_or, if◌then◌else◌, refl, ◌∙◌, sym, ap, inl, inr, arith}
+use Rattle.std.proofs.Common.{◌≡◌, ℕ, ◌+◌, ◌<◌, ◌≤◌, List, [], ◌∷◌, ◌++◌, length, map, filter, Bool, true, false, not, ◌&&◌, ◌||◌, ◌==◌, nat_le, Option, Some, None, is_some, option_map, unwrap_or, if◌then◌else◌, refl, ◌∙◌, sym, ap, inl, inr, arith}
 use Rattle.std.specs.Prelude.{find}
 use Rattle.std.specs.List.{flat_map, list_any}
 use Rattle.std.proofs.lemmas.Bool.{cases_Bool}
@@ -13,11 +13,12 @@ use Rattle.sal_module.specs.Faults.{least}
 use Rattle.sal_module.specs.Profile.{at_stmt}
 use Rattle.sal_module.specs.Statements.{is_named, subs_of, argument_of}
 use Rattle.sal_restrict.specs.declared.yang_type.YangType.{YangType, out-YangType, roll-YangType}
+use Rattle.sal_restrict.specs.declared.yang_type.YangType.TheViews.{out-roll-YangType}
 use Rattle.sal_restrict.specs.declared.yang_type.YangType.TheOpen.{YangType-F}
 use Rattle.sal_typedefs.specs.declared.entry.Entry.{Entry}
-use Rattle.sal_typedefs.specs.Restrictions.{Base, Layer, with_digits, digits_of, digit_fault, digit_faults, are_fraction_digits, absent_faults, sub_faults, list_faults, is_misplaced, layer_of, restriction_faults, is_decimal, numbering_of}
+use Rattle.sal_typedefs.specs.Restrictions.{Base, Layer, is_wider, numbers, lengths, with_digits, digits_of, digit_fault, digit_faults, are_fraction_digits, absent_faults, sub_faults, list_faults, is_misplaced, layer_of, restriction_faults, is_decimal, numbering_of}
 use Rattle.sal_typedefs.specs.Types.{restricted, entries_in}
-use Rattle.sal_typedefs.specs.Judgements.{layer_faults, layer_meaning}
+use Rattle.sal_typedefs.specs.Judgements.{layer_faults, layer_meaning, with_layer}
 use Rattle.sal_typedefs.proofs.LeastLists.{some-faulty}
 
 -- ---- no names
@@ -110,3 +111,54 @@ module _ (base : Base) (ty : YangType) (d m : ℕ) (stmt : Stmt) where
   same-misplaced sub YangType-F.Empty e f = rw (e, f) refl
   same-misplaced sub (YangType-F.Union members) e f = rw (e, f) refl
   same-misplaced sub (YangType-F.Leafref path) e f = rw (e, f) refl
+
+-- ---- all faults
+
+all-subs : (base after : Base) (layer : Layer) (m : ℕ) (subs : List Stmt) → ((sub : Stmt) → is_misplaced base sub ≡ is_misplaced after sub) → flat_map (sub_faults base layer m) subs ≡ flat_map (sub_faults after layer m) subs
+all-subs base after layer m [] same = refl
+all-subs base after layer m (x ∷ subs) same =
+    let here : sub_faults base layer m x ≡ sub_faults after layer m x = ap (λ b. if b || ((is_named word.Range x && is_wider (numbers layer) x) || (is_named word.Length x && is_wider (lengths layer) x)) then at_stmt BadRestriction m x else []) (same x) in
+    ap (λ l. l ++ flat_map (sub_faults base layer m) subs) here ∙ ap (λ l. sub_faults after layer m x ++ l) (all-subs base after layer m subs same)
+
+pick : (a b : Bool) → a ≡ true → b ≡ true → (x y : List Found) → (if a && not b then x else y) ≡ y
+pick true true e f x y = refl
+pick true false e f x y = cc
+pick false b e f x y = cc
+
+module _ (base : Base) (m : ℕ) (stmt : Stmt) where
+  abbrev kind : Layer
+  kind = out-YangType base.type
+
+  out-layer : out-YangType (with_layer base (digits_of stmt)).type ≡ with_digits (digits_of stmt) (out-YangType base.type)
+  out-layer = out-roll-YangType (with_digits (digits_of stmt) (out-YangType base.type))
+
+  pub faults-plain : is_decimal base ≡ false → layer_faults base m stmt ≡ restriction_faults base m stmt
+  faults-plain e = rw e refl
+
+  pub faults-digits : is_decimal base ≡ true → (length (digit_faults m stmt) == 0) ≡ false → digit_faults m stmt ≡ restriction_faults base m stmt
+  faults-digits e f = rw (e, f) refl
+
+  pub layer-decimal : is_decimal base ≡ true → out-YangType (with_layer base (digits_of stmt)).type ≡ layer_of base stmt
+  layer-decimal e = out-layer ∙ rw e refl
+
+  whole : is_decimal base ≡ true → (length (digit_faults m stmt) == 0) ≡ true
+      → (absent_faults base m stmt ++ flat_map (sub_faults base (layer_of base stmt) m) (subs_of stmt)) ++ list_faults base m stmt ≡ restriction_faults base m stmt
+  whole e f =
+      sym (pick (is_decimal base) (length (digit_faults m stmt) == 0) e f (digit_faults m stmt)
+      ((absent_faults base m stmt ++ flat_map (sub_faults base (layer_of base stmt) m) (subs_of stmt)) ++ list_faults base m stmt))
+
+  pub faults-layer : is_decimal base ≡ true → (length (digit_faults m stmt) == 0) ≡ true → layer_faults (with_layer base (digits_of stmt)) m stmt ≡ restriction_faults base m stmt
+  faults-layer e f =
+      let after : Base = with_layer base (digits_of stmt) in
+      let absent : absent_faults base m stmt ≡ absent_faults after m stmt = same-absent base after.type (digits_of stmt) m stmt kind refl out-layer in
+      let listed : list_faults base m stmt ≡ list_faults after m stmt = same-list base after.type (digits_of stmt) m stmt kind refl out-layer in
+      let subs : flat_map (sub_faults base (layer_of base stmt) m) (subs_of stmt) ≡ flat_map (sub_faults after (layer_of base stmt) m) (subs_of stmt) =
+      all-subs base after (layer_of base stmt) m (subs_of stmt) (λ sub. same-misplaced base after.type (digits_of stmt) m stmt sub kind refl out-layer) in
+      sym (sym (whole e f)
+      ∙ ap (λ a. (a ++ flat_map (sub_faults base (layer_of base stmt) m) (subs_of stmt)) ++ list_faults base m stmt) absent
+      ∙ ap (λ s. (absent_faults after m stmt ++ s) ++ list_faults base m stmt) subs
+      ∙ ap (λ l. (absent_faults after m stmt ++ flat_map (sub_faults after (layer_of base stmt) m) (subs_of stmt)) ++ l) listed
+      ∙ ap (λ layer. (absent_faults after m stmt ++ flat_map (sub_faults after layer m) (subs_of stmt)) ++ list_faults after m stmt) (sym (layer-decimal e)))
+
+  pub layer-plain : is_decimal base ≡ false → out-YangType base.type ≡ layer_of base stmt
+  layer-plain e = rw e refl

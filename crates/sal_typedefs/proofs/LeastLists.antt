@@ -1,5 +1,5 @@
 -- The least fault of several lists.
-use Rattle.std.proofs.Common.{◌≡◌, ℕ, zero, suc, ◌+◌, ◌<◌, List, [], ◌∷◌, ◌++◌, length, take, drop, get_or, Bool, true, false, not, ◌&&◌, ◌||◌, ◌==◌, nat_lt, Option, Some, None, is_some, if◌then◌else◌, refl, ◌∙◌, sym, ap, inl, inr, arith, append_assoc, append-nil}
+use Rattle.std.proofs.Common.{◌≡◌, ℕ, zero, suc, ◌+◌, ◌<◌, List, [], ◌∷◌, ◌++◌, length, take, drop, get_or, Bool, true, false, not, ◌&&◌, ◌||◌, ◌==◌, nat_lt, Option, Some, None, is_some, option_map, unwrap_or, map, if◌then◌else◌, refl, ◌∙◌, sym, ap, inl, inr, arith, append_assoc, append-nil}
 use Rattle.std.specs.List.{flat_map, list_any}
 use Rattle.std.proofs.lemmas.Bool.{cases_Bool}
 use Rattle.std.proofs.lemmas.Bool.Decides.{nat_tests}
@@ -7,8 +7,13 @@ use Rattle.std.proofs.lemmas.List.{take_more}
 use Rattle.sal_module.specs.declared.fault.Found.{Found}
 use Rattle.sal_module.specs.Faults.{least, better, is_before, number_of}
 use Rattle.sal_typedefs.specs.declared.judgement.Judgement.{Judgement}
-use Rattle.sal_typedefs.specs.Types.{Judged, is_faulty}
-use Rattle.sal_typedefs.specs.Judgements.{merged, IsJudged, AreJudged}
+use Rattle.std.specs.Prelude.{tt}
+use Rattle.std.specs.List.{slice_get}
+use Rattle.sal_typedefs.specs.declared.builtin.Builtin.{Builtin}
+use Rattle.sal_typedefs.specs.Builtins.{type_of}
+use Rattle.sal_typedefs.specs.Restrictions.{Base}
+use Rattle.sal_typedefs.specs.Types.{Judged, is_faulty, nothing}
+use Rattle.sal_typedefs.specs.Judgements.{merged, IsJudged, AreJudged, AllNumbers, base_by}
 use Rattle.sal_typedefs.proofs.EntryLists.{least-two}
 
 -- ---- which counts
@@ -132,3 +137,55 @@ each-faulty (j ∷ js) = faulty-two j.faults (all_faults js) ∙ ap (λ b. not (
 
 pub any-faulty : (judged : List Judged) → is_some (least None (all_faults judged)) ≡ list_any is_faulty judged
 any-faulty judged = some-faulty (all_faults judged) ∙ each-faulty judged
+
+none-some : (q : Option Found) → is_some q ≡ true → q ≡ None → ⊥
+none-some None h e = cc
+none-some (Some x) h e = cc
+
+pub never-none : (best : Option Found) (xs : List Found) → is_some (least None xs) ≡ true → least best xs ≡ None → ⊥
+never-none None xs some none = none-some (least None xs) some none
+never-none (Some x) xs some none = none-some (least (Some x) xs) (least-some x xs) none
+
+pub stays-some : (best : Option Found) (xs : List Found) → is_some best ≡ true → least best xs ≡ None → ⊥
+stays-some None xs h none = cc
+stays-some (Some x) xs h none = none-some (least (Some x) xs) (least-some x xs) none
+
+-- ---- good statements below
+
+no-or : (a b : Bool) → (a || b) ≡ false → (a ≡ false) × (b ≡ false)
+no-or true b e = cc
+no-or false b e = (refl, e)
+
+pub good-fault : (j : Judged) → is_faulty j ≡ false → least None j.faults ≡ None
+good-fault j e = go j.faults e
+  where
+    go : (xs : List Found) → not (length xs == 0) ≡ false → least None xs ≡ None
+    go [] h = refl
+    go (x ∷ xs) h = let more : (length (x ∷ xs) == 0) ≡ false = grind (arith, nat_tests) in let k = rw more at h in cc
+
+pub good-types : (ds : List Judgement) (js : List Judged) → AreJudged ds js → list_any is_faulty js ≡ false → map (λ (d : Judgement). d.ty) ds ≡ map (λ (j : Judged). j.type) js
+good-types [] [] are good = refl
+good-types (d ∷ ds) (j ∷ js) are good =
+    let parts = no-or (is_faulty j) (list_any is_faulty js) good in
+    let here : d.ty ≡ j.type = are.0.type (are.0.fault ∙ good-fault j parts.0) in
+    ap (λ t. t ∷ map (λ (d : Judgement). d.ty) ds) here ∙ ap (λ ts. j.type ∷ ts) (good-types ds js are.1 parts.1)
+good-types [] (j ∷ js) are good = absurd are
+good-types (d ∷ ds) [] are good = absurd are
+
+pub base-same : (b : Option Builtin) (ds : List Judgement) (js : List Judged) → AreJudged ds js → list_any is_faulty js ≡ false
+    → base_by b ds ≡ (if is_some b then (let own : Base = record { type = unwrap_or (option_map type_of b) nothing.type; entries = []; itself = true } in own)
+        else (let other : Base = record { type = (unwrap_or (slice_get js 0) nothing).type; entries = (unwrap_or (slice_get js 0) nothing).entries; itself = false } in other))
+base-same (Some builtin) ds js are good = refl
+base-same None [] [] are good = refl
+base-same None (d ∷ ds) (j ∷ js) are good =
+    let parts = no-or (is_faulty j) (list_any is_faulty js) good in
+    let none = are.0.fault ∙ good-fault j parts.0 in
+    ap (λ t. record { type = t; entries = d.entries.items; itself = false }) (are.0.type none) ∙ ap (λ es. record { type = j.type; entries = es; itself = false }) (are.0.entries none)
+base-same None [] (j ∷ js) are good = absurd are
+base-same None (d ∷ ds) [] are good = absurd are
+
+pub all-numbers : (ds : List Judgement) (js : List Judged) → AreJudged ds js → AllNumbers ds
+all-numbers [] [] are = tt
+all-numbers (d ∷ ds) (j ∷ js) are = (are.0.numbers, all-numbers ds js are.1)
+all-numbers [] (j ∷ js) are = tt
+all-numbers (d ∷ ds) [] are = absurd are

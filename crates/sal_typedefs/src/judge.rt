@@ -10,17 +10,17 @@ ghost use Rattle.sal_typedefs.specs.Judgements as spec;
 use crate::entry::Entry;
 use crate::judgement::{Basis, Judgement};
 use crate::judging::{small_number, with_absent, with_all_digits, with_subs};
-use crate::layer::{is_plain, listed, named_type};
+use crate::layer::{copies, is_plain, listed, named_type};
 use crate::narrowing::restricted;
 use crate::typedefs::Typedefs;
 use sal_module::{Found, Keyword, value_of};
 use sal_restrict::YangType;
 use sal_stmt::Stmt;
-use sal_types::NoMemory;
+use sal_types::{Duplicate, NoMemory};
 use std::alloc::Global;
 
 /// A statement that has a fault: its type does not matter.
-fn faulty(alloc: Global, fault: Option<Found>) -> Judgement
+pub(crate) fn faulty(alloc: Global, fault: Option<Found>) -> Judgement
     ensures fault { result.fault ≡ fault }
     ensures numbers { HasNumbers (out-YangType result.ty) }
 {
@@ -89,16 +89,47 @@ fn is_decimal(basis: &Basis) -> bool
 }
 
 /// A type with the fraction digits that its statement gives.
-fn digits_type(ty: YangType, stmt: &Stmt) -> YangType
+fn digits_type(alloc: Global, ty: &YangType, stmt: &Stmt) -> Result<YangType, NoMemory>
     requires { restrictions.digits_of stmt.now ≤ 18 }
-    ensures value { out-YangType result ≡ restrictions.with_digits (restrictions.digits_of stmt.now) (out-YangType ty) }
-    ensures numbers { HasNumbers (out-YangType ty) → HasNumbers (out-YangType result) }
+    ensures value { IfOk result (λ it. it ≡ roll-YangType (restrictions.with_digits (restrictions.digits_of stmt.now) (out-YangType ty.now))) }
+    ensures numbers { IfOk result (λ it. HasNumbers (out-YangType ty.now) → HasNumbers (out-YangType it)) }
 {
-    let digits = small_number(value_of(Keyword::FractionDigits, stmt).as_bytes());
     match ty {
-        YangType::Dec { range, .. } => YangType::Dec { digits, range },
-        other => other,
+        YangType::Dec { range, .. } => Ok(YangType::Dec {
+            digits: small_number(value_of(Keyword::FractionDigits, stmt).as_bytes()),
+            range: range.copy()?,
+        }),
+        _ => ty.copy(alloc),
     }
+}
+
+/// A statement over a decimal64 whose digits it gives.
+fn judge_digits(
+    best: Option<Found>,
+    alloc: Global,
+    typedefs: &Typedefs,
+    number: u32,
+    stmt: &Stmt,
+    basis: &Basis,
+    types: &[YangType],
+) -> Result<Judgement, NoMemory>
+    requires digits { restrictions.digits_of stmt.now ≤ 18 }
+    requires numbers { HasNumbers (out-YangType basis.now.ty) }
+    ensures fault { IfOk result (λ d. d.fault ≡ least best (spec.layer_faults (spec.with_layer (spec.base_seen basis.now) (restrictions.digits_of stmt.now)) number stmt.now)) }
+    ensures meant { IfOk result (λ d. d.fault ≡ None → d.ty ≡ spec.layer_meaning typedefs.now number (spec.with_layer (spec.base_seen basis.now) (restrictions.digits_of stmt.now)) stmt.now types.now) }
+    ensures entries { IfOk result (λ d. d.fault ≡ None → d.entries.items
+        ≡ types_spec.entries_in (spec.with_layer (spec.base_seen basis.now) (restrictions.digits_of stmt.now)) stmt.now (out-YangType (spec.with_layer (spec.base_seen basis.now) (restrictions.digits_of stmt.now)).type)) }
+    ensures numbers { IfOk result (λ d. HasNumbers (out-YangType d.ty)) }
+{
+    let ty = digits_type(alloc, &basis.ty, stmt)?;
+    let entries = copies(alloc, basis.entries.as_slice())?;
+    let layer = Basis {
+        ty,
+        entries,
+        itself: basis.itself,
+    };
+    let judgement = judge_layer(best, alloc, typedefs, number, stmt, &layer, types)?;
+    Ok(judgement)
 }
 
 /// A statement over the type that it restricts.
@@ -108,31 +139,20 @@ pub(crate) fn restrict(
     typedefs: &Typedefs,
     number: u32,
     stmt: &Stmt,
-    basis: Basis,
+    basis: &Basis,
     types: &[YangType],
 ) -> Result<Judgement, NoMemory>
-    requires { HasNumbers (out-YangType basis.ty) }
-    ensures fault { IfOk result (λ d. d.fault ≡ least best (restrictions.restriction_faults (spec.base_seen basis) number stmt.now)) }
-    ensures meant { IfOk result (λ d. d.fault ≡ None → d.ty ≡ roll-YangType (types_spec.restricted typedefs.now number (spec.base_seen basis) stmt.now types.now
-        (types_spec.entries_in (spec.base_seen basis) stmt.now (restrictions.layer_of (spec.base_seen basis) stmt.now)) (restrictions.layer_of (spec.base_seen basis) stmt.now))) }
-    ensures entries { IfOk result (λ d. d.fault ≡ None → d.entries.items ≡ types_spec.entries_in (spec.base_seen basis) stmt.now (restrictions.layer_of (spec.base_seen basis) stmt.now)) }
+    requires { HasNumbers (out-YangType basis.now.ty) }
+    ensures fault { IfOk result (λ d. d.fault ≡ least best (restrictions.restriction_faults (spec.base_seen basis.now) number stmt.now)) }
+    ensures meant { IfOk result (λ d. d.fault ≡ None → d.ty ≡ spec.meaning_of typedefs.now number (spec.base_seen basis.now) stmt.now types.now) }
+    ensures entries { IfOk result (λ d. d.fault ≡ None → d.entries.items ≡ types_spec.entries_in (spec.base_seen basis.now) stmt.now (restrictions.layer_of (spec.base_seen basis.now) stmt.now)) }
     ensures numbers { IfOk result (λ d. HasNumbers (out-YangType d.ty)) }
 {
-    if !is_decimal(&basis) {
-        return judge_layer(best, alloc, typedefs, number, stmt, &basis, types);
+    if !is_decimal(basis) {
+        return judge_layer(best, alloc, typedefs, number, stmt, basis, types);
     }
     if with_all_digits(None, number, stmt).is_some() {
         return Ok(faulty(alloc, with_all_digits(best, number, stmt)));
     }
-    let Basis {
-        ty,
-        entries,
-        itself,
-    } = basis;
-    let with_digits = Basis {
-        ty: digits_type(ty, stmt),
-        entries,
-        itself,
-    };
-    judge_layer(best, alloc, typedefs, number, stmt, &with_digits, types)
+    judge_digits(best, alloc, typedefs, number, stmt, basis, types)
 }

@@ -40,7 +40,7 @@ fn takes_all(n: Numbering, basis: &Basis, stmt: &Stmt) -> bool
     !basis.itself && !has_named(n.item(), stmt.subs.items())
 }
 
-fn copies(alloc: Global, entries: &[Entry]) -> Result<Vec<Entry>, NoMemory>
+pub(crate) fn copies(alloc: Global, entries: &[Entry]) -> Result<Vec<Entry>, NoMemory>
     ensures { IfOk result (λ list. list.items ≡ entries.now) }
 {
     let mut list = Vec::with_capacity(alloc, entries.len())?;

@@ -20,6 +20,7 @@
 //! Cost: `is_malformed` compiles the pattern, as `regex` does.
 #![tactic(auto)]
 
+mod basis;
 mod below;
 mod block;
 mod builtin;
@@ -40,6 +41,7 @@ mod numbering;
 mod pattern;
 mod restriction;
 mod site;
+mod site_judge;
 mod spot;
 #[cfg(test)]
 mod tests;

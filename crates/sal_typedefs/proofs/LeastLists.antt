@@ -7,7 +7,6 @@ use Rattle.std.proofs.lemmas.List.{take_more}
 use Rattle.sal_module.specs.declared.fault.Found.{Found}
 use Rattle.sal_module.specs.Faults.{least, better, is_before, number_of}
 use Rattle.sal_typedefs.specs.declared.judgement.Judgement.{Judgement}
-use Rattle.std.specs.Prelude.{tt}
 use Rattle.std.specs.List.{slice_get}
 use Rattle.sal_typedefs.specs.declared.builtin.Builtin.{Builtin}
 use Rattle.sal_typedefs.specs.Builtins.{type_of}

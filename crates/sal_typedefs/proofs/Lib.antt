@@ -1,5 +1,6 @@
 pub mod Grammars
 pub mod BlockLists
+pub mod RunLists
 pub mod LayerLists
 pub mod MeaningLists
 pub mod LeastLists

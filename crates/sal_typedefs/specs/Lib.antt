@@ -10,4 +10,5 @@ pub mod Patterns
 pub mod Restrictions
 pub mod Types
 pub mod Judgements
+pub mod Runs
 pub mod Examples

@@ -28,6 +28,7 @@ mod circle;
 mod count;
 mod entries;
 mod entry;
+mod evaluate;
 mod identities;
 mod judge;
 mod judgement;
@@ -50,6 +51,7 @@ mod vectors;
 mod walk;
 
 pub use block::Block;
+pub use evaluate::judge_at;
 pub use pattern::is_malformed;
 pub use site::TypeSite;
 pub use typedefs::Typedefs;

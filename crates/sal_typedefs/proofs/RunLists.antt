@@ -81,3 +81,16 @@ run-more modules all n node d old done new some within is push one rest =
     let more : drop (n - 1) all ≡ node ∷ drop n all = drop_more all (n - 1) node (omega arith) ∙ ap (λ k. get_or all (n - 1) node ∷ drop k all) count ∙ ap (λ (g : Gone). g ∷ drop n all) (sym is) in
     let back : reverse new ≡ d ∷ reverse old = ap reverse push ∙ reverse-append old (d ∷ []) in
     rw (more, back) (one, rest)
+
+pub start-run : (modules : List Stmt) (all : List Gone) (done : List Judgement) → done ≡ [] → AreJudged (reverse done) (run modules (map node_of (drop (length all) all)))
+unfolding run
+start-run modules all done e = rw (e, drop_all (length all) all (omega arith)) tt
+
+pub top-judged : (steps : ℕ) (modules : List Stmt) (site : Site) (rest : List Judgement) (d : Judgement) (old : List Judgement) → old ≡ rest ++ d ∷ []
+    → AreJudged (reverse old) (run modules (nodes steps modules site)) → IsJudged d (judge steps modules site)
+top-judged steps modules site rest d old pop are =
+    let back : reverse old ≡ d ∷ reverse rest = ap reverse pop ∙ reverse-append rest (d ∷ []) in
+    let way : run modules (nodes steps modules site) ≡ judge steps modules site ∷ run modules [] = ap (run modules) (sym (append-nil (nodes steps modules site))) ∙ run-way steps modules site [] in
+    let P : List Judgement → Type 0 = λ ds. AreJudged ds (run modules (nodes steps modules site)) in
+    let Q : List Judged → Type 0 = λ js. AreJudged (d ∷ reverse rest) js in
+    (subst Q way (subst P back are)).0

@@ -43,13 +43,13 @@ before-untrans p q r h k = untrans p.module p.at (number_of p.cause) q.module q.
 assoc : (x y z : Found) → better (better (Some x) y) z ≡ merged (Some x) (better (Some y) z)
 assoc x y z = elim (cases_Bool (is_before y x)) [
   | inl yx ↦ elim (cases_Bool (is_before z y)) [
-      | inl zy ↦ rw (yx, zy) (let zx = before-trans z y x zy yx in rw zx refl)
-      | inr zy ↦ rw (yx, zy) (rw yx refl)
-    ]
+    | inl zy ↦ rw (yx, zy) (let zx = before-trans z y x zy yx in rw zx refl)
+    | inr zy ↦ rw (yx, zy) (rw yx refl)
+  ]
   | inr yx ↦ elim (cases_Bool (is_before z y)) [
-      | inl zy ↦ rw (yx, zy) refl
-      | inr zy ↦ let zx = before-untrans z y x zy yx in rw (yx, zy, zx) (rw yx refl)
-    ]
+    | inl zy ↦ rw (yx, zy) refl
+    | inr zy ↦ let zx = before-untrans z y x zy yx in rw (yx, zy, zx) (rw yx refl)
+  ]
 ]
 
 assoc-merged : (x y : Found) (more : Option Found) → merged (better (Some x) y) more ≡ merged (Some x) (merged (Some y) more)
@@ -173,7 +173,7 @@ good-types (d ∷ ds) [] are good = absurd are
 
 pub base-same : (b : Option Builtin) (ds : List Judgement) (js : List Judged) → AreJudged ds js → list_any is_faulty js ≡ false
     → base_by b ds ≡ (if is_some b then (let own : Base = record { type = unwrap_or (option_map type_of b) nothing.type; entries = []; itself = true } in own)
-        else (let other : Base = record { type = (unwrap_or (slice_get js 0) nothing).type; entries = (unwrap_or (slice_get js 0) nothing).entries; itself = false } in other))
+    else (let other : Base = record { type = (unwrap_or (slice_get js 0) nothing).type; entries = (unwrap_or (slice_get js 0) nothing).entries; itself = false } in other))
 base-same (Some builtin) ds js are good = refl
 base-same None [] [] are good = refl
 base-same None (d ∷ ds) (j ∷ js) are good =

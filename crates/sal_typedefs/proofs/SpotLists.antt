@@ -39,7 +39,7 @@ closest-some m name [] ys s e = cc
 closest-some m name (x ∷ xs) ys s e =
     elim (find (is_typedef_of name) (subs_of x)) as
     (λ f. (if is_some f then option_map (λ t. record { «module» = m; stmt = t; around = x ∷ xs }) f else closest m name xs) ≡ Some s
-        → (if is_some f then option_map (λ t. record { «module» = m; stmt = t; around = x ∷ (xs ++ ys) }) f else closest m name (xs ++ ys)) ≡ Some (longer ys s)) [
+    → (if is_some f then option_map (λ t. record { «module» = m; stmt = t; around = x ∷ (xs ++ ys) }) f else closest m name (xs ++ ys)) ≡ Some (longer ys s)) [
       | Some t ↦ λ h. ap (option_map (longer ys)) h
       | None ↦ λ h. closest-some m name xs ys s h
     ] e
@@ -49,7 +49,7 @@ closest-none m name [] ys e = refl
 closest-none m name (x ∷ xs) ys e =
     elim (find (is_typedef_of name) (subs_of x)) as
     (λ f. (if is_some f then option_map (λ t. record { «module» = m; stmt = t; around = x ∷ xs }) f else closest m name xs) ≡ None
-        → (if is_some f then option_map (λ t. record { «module» = m; stmt = t; around = x ∷ (xs ++ ys) }) f else closest m name (xs ++ ys)) ≡ closest m name ys) [
+    → (if is_some f then option_map (λ t. record { «module» = m; stmt = t; around = x ∷ (xs ++ ys) }) f else closest m name (xs ++ ys)) ≡ closest m name ys) [
       | Some t ↦ λ h. cc
       | None ↦ λ h. closest-none m name xs ys h
     ] e

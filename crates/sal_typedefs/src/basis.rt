@@ -56,7 +56,11 @@ fn derived_basis(alloc: Global, below: &[Judgement]) -> Result<Basis, NoMemory>
 }
 
 /// What a statement restricts that names this built-in type, or else a typedef.
-pub(crate) fn basis_of(alloc: Global, builtin: Option<Builtin>, below: &[Judgement]) -> Result<Basis, NoMemory>
+pub(crate) fn basis_of(
+    alloc: Global,
+    builtin: Option<Builtin>,
+    below: &[Judgement],
+) -> Result<Basis, NoMemory>
     ensures value { IfOk result (λ b. spec.base_seen b ≡ spec.base_by builtin below.now) }
     ensures numbers { spec.AllNumbers below.now → IfOk result (λ b. HasNumbers (out-YangType b.ty)) }
 {

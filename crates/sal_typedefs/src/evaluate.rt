@@ -40,11 +40,7 @@ fn take_last(
 }
 
 /// All these statements, from the last one to the first. The answer has the first one last.
-fn judge_all(
-    alloc: Global,
-    typedefs: &Typedefs,
-    nodes: &[Gone],
-) -> Result<Vec<Judgement>, NoMemory>
+fn judge_all(alloc: Global, typedefs: &Typedefs, nodes: &[Gone]) -> Result<Vec<Judgement>, NoMemory>
     ensures { IfOk result (λ done. AreJudged (reverse done.items) (spec.run typedefs.now (map walks.node_of nodes.now))) }
 {
     let mut done = Vec::new(alloc);

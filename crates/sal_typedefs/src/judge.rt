@@ -73,7 +73,15 @@ fn judge_layer(
     if best.is_some() {
         return Ok(faulty(alloc, best));
     }
-    let ty = typed(alloc, typedefs, number, stmt, basis, entries.as_slice(), types)?;
+    let ty = typed(
+        alloc,
+        typedefs,
+        number,
+        stmt,
+        basis,
+        entries.as_slice(),
+        types,
+    )?;
     Ok(Judgement {
         fault: best,
         ty,

@@ -106,7 +106,7 @@ fn enum_type(
 ) -> Result<YangType, NoMemory>
     ensures { IfOk result (λ it. out-YangType it
         ≡ YangType-F.Enum (types_spec.names_in entries.now) (if itself then map (λ (e : ℕ × Named). e.0) (enumerate_from 0 entries.now)
-            else types_spec.places_of names.now places.now (types_spec.names_in entries.now))) }
+        else types_spec.places_of names.now places.now (types_spec.names_in entries.now))) }
 {
     let all = names_in(alloc, entries)?;
     if itself {

@@ -27,11 +27,7 @@ pub(crate) struct Gone<'a> {
 }
 
 /// All these statements are gone to next, the first of them first.
-fn push_all<'a>(
-    ways: &mut Vec<Way<'a>>,
-    spots: Vec<Spot<'a>>,
-    steps: usize,
-) -> Result<(), NoMemory>
+fn push_all<'a>(ways: &mut Vec<Way<'a>>, spots: Vec<Spot<'a>>, steps: usize) -> Result<(), NoMemory>
     ensures { IfOk result (λ _. (modules : List Statement) →
         spec.left modules ways.new.items ≡ flat_map (spec.nodes steps modules) (map site_of spots.entry.items) ++ spec.left modules ways.old.items) }
 {

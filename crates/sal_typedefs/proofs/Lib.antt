@@ -1,1 +1,10 @@
 pub mod Grammars
+pub mod BlockLists
+pub mod RunLists
+pub mod LayerLists
+pub mod MeaningLists
+pub mod LeastLists
+pub mod EntryLists
+pub mod WalkLists
+pub mod IdentityLists
+pub mod SpotLists

@@ -1,8 +1,14 @@
 pub mod Scopes
+pub mod Blocks
 pub mod Builtins
 pub mod Names
+pub mod Ready
+pub mod Walks
+pub mod Spots
 pub mod Entries
 pub mod Patterns
 pub mod Restrictions
 pub mod Types
+pub mod Judgements
+pub mod Runs
 pub mod Examples

@@ -17,7 +17,10 @@ use Rattle.sal_restrict.specs.declared.ranges.Ranges.{Ranges}
 use Rattle.sal_restrict.specs.declared.yang_type.YangType.{YangType, out-YangType}
 use Rattle.sal_restrict.specs.declared.yang_type.YangType.TheOpen.{YangType-F}
 use Rattle.sal_restrict.specs.RangeTexts.{read_ranges}
-use Rattle.sal_typedefs.specs.Entries.{Entry, of_enums, of_bits, entry_faults, choice_faults}
+use Rattle.sal_typedefs.specs.declared.entry.Entry.{Entry}
+use Rattle.sal_typedefs.specs.declared.entry.Numbering.{Numbering}
+use Rattle.sal_typedefs.specs.declared.entry.Numbering.TheVariants.{Enums, Bits}
+use Rattle.sal_typedefs.specs.Entries.{item_of, entry_faults}
 use Rattle.sal_typedefs.specs.Patterns.{is_malformed}
 
 -- A type that a statement restricts: the built-in type itself, or one that is derived from it. The names of an enumeration or
@@ -152,12 +155,22 @@ is_bad base t sub = is_misplaced base sub || ((is_named word.Range sub && is_wid
 abbrev pub sub_faults : Base → Layer → ℕ → Stmt → List Found
 sub_faults base t m sub = if is_bad base t sub then at_stmt BadRestriction m sub else []
 
+-- how the names of a type get their numbers, where it has names
+abbrev pub numbering_of : Layer → Option Numbering
+numbering_of (YangType-F.Enum names places) = Some Enums
+numbering_of (YangType-F.Bits names positions) = Some Bits
+numbering_of t = None
+
+-- the names from which a statement chooses, or none where it gives names of its own
+abbrev pub choices : Base → Option (List Entry)
+choices base = if base.itself then None else Some base.entries
+
 -- the enums, or the bits
+abbrev pub faults_by : Base → ℕ → Stmt → Numbering → List Found
+faults_by base m stmt n = entry_faults n (choices base) m [] (all_named (item_of n) stmt)
+
 abbrev pub list_faults : Base → ℕ → Stmt → List Found
-list_faults base m stmt =
-    if is_enumeration (out-YangType base.type) then (if base.itself then entry_faults of_enums m [] (all_named word.Enum stmt) else choice_faults of_enums m base.entries [] (all_named word.Enum stmt))
-    else if is_bits (out-YangType base.type) then (if base.itself then entry_faults of_bits m [] (all_named word.Bit stmt) else choice_faults of_bits m base.entries [] (all_named word.Bit stmt))
-    else []
+list_faults base m stmt = flat_map (faults_by base m stmt) (option_to_list (numbering_of (out-YangType base.type)))
 
 -- Nothing is asked of what restricts a decimal64 whose fraction digits are bad.
 abbrev pub restriction_faults : Base → ℕ → Stmt → List Found

@@ -1,6 +1,6 @@
 -- What a type statement means: its type, or the first fault in it and in those that it rests on.
-use Rattle.std.specs.Prelude.{◌≡◌, ⊤, ℕ, zero, suc, ◌+◌, Bool, true, false, not, ◌==◌, List, [], ◌∷◌, ◌++◌, map, find, length, Option, Some, None, is_some, option_map, unwrap_or, if◌then◌else◌, Result, Ok, Err, unsigned_abs}
-use Rattle.std.specs.List.{flat_map, list_any, enumerate_from, position, slice_get, slice_index}
+use Rattle.std.specs.Prelude.{◌≡◌, ⊤, ℕ, zero, suc, Bool, true, false, not, ◌&&◌, ◌==◌, List, [], ◌∷◌, ◌++◌, map, find, length, Option, Some, None, is_some, option_map, unwrap_or, if◌then◌else◌, Result, Ok, Err, unsigned_abs}
+use Rattle.std.specs.List.{flat_map, list_any, enumerate_from, position_from, slice_get, slice_index}
 use Rattle.std.specs.Option.{option_to_list}
 use Rattle.std.specs.Result.{result_unwrap_or}
 use Rattle.sal_stmt.specs.declared.stmt.Stmt.{Stmt}
@@ -19,8 +19,11 @@ use Rattle.sal_restrict.specs.RangeTexts.{read_ranges}
 use Rattle.sal_typedefs.specs.Scopes.{Site, identity_of}
 use Rattle.sal_typedefs.specs.Builtins.{builtin_of, type_of}
 use Rattle.sal_typedefs.specs.Names.{name_of, rests_on, steps_of, all_name_faults}
-use Rattle.sal_typedefs.specs.Entries.{Entry, of_enums, of_bits, entries_of, chosen}
-use Rattle.sal_typedefs.specs.Restrictions.{Base, unlisted, Layer, layer_of, restriction_faults, pattern_faults}
+use Rattle.sal_typedefs.specs.declared.entry.Entry.{Entry}
+use Rattle.sal_typedefs.specs.declared.entry.Numbering.{Numbering}
+use Rattle.sal_typedefs.specs.declared.entry.Numbering.TheVariants.{Enums, Bits}
+use Rattle.sal_typedefs.specs.Entries.{item_of, entries_of}
+use Rattle.sal_typedefs.specs.Restrictions.{Base, unlisted, Layer, layer_of, numbering_of, choices, restriction_faults, pattern_faults}
 
 -- ---- the type of a statement without faults
 
@@ -43,20 +46,25 @@ members_of t layer = t ∷ []
 
 -- the places of some names in the original enumeration
 abbrev pub places_of : List (List ℕ) → List ℕ → List (List ℕ) → List ℕ
-places_of names places chosen = map (λ name. slice_index places (unwrap_or (position (same name) names) 0)) chosen
+places_of names places chosen = map (λ name. slice_index places (unwrap_or (position_from (same name) 0 names) 0)) chosen
 
 abbrev pub names_in : List Entry → List (List ℕ)
-names_in entries = map (λ (e : Entry). e.0) entries
+names_in entries = map (λ (e : Entry). e.name) entries
 
--- the names and numbers of the type, where it is an enumeration or bits
+-- A statement that names none has all names of the type that it restricts.
+abbrev pub takes_all : Numbering → Base → Stmt → Bool
+takes_all n base stmt = not base.itself && not (list_any (is_named (item_of n)) (subs_of stmt))
+
+-- the names and numbers of the type
+abbrev pub entries_with : Base → Stmt → Numbering → List Entry
+entries_with base stmt n = if takes_all n base stmt then base.entries else entries_of n (choices base) [] (all_named (item_of n) stmt)
+
+abbrev pub entries_by : Base → Stmt → Option Numbering → List Entry
+entries_by base stmt None = []
+entries_by base stmt (Some n) = entries_with base stmt n
+
 abbrev pub entries_in : Base → Stmt → Layer → List Entry
-entries_in base stmt (YangType-F.Enum names places) =
-    if base.itself then entries_of of_enums [] (all_named word.Enum stmt)
-    else if length (all_named word.Enum stmt) == 0 then base.entries else chosen base.entries (all_named word.Enum stmt)
-entries_in base stmt (YangType-F.Bits names positions) =
-    if base.itself then entries_of of_bits [] (all_named word.Bit stmt)
-    else if length (all_named word.Bit stmt) == 0 then base.entries else chosen base.entries (all_named word.Bit stmt)
-entries_in base stmt t = []
+entries_in base stmt layer = entries_by base stmt (numbering_of layer)
 
 -- What the statement says of itself is taken where it stands on the built-in type. Below are the types that it rests on.
 abbrev pub restricted : List Stmt → ℕ → Base → Stmt → List YangType → List Entry → Layer → Layer
@@ -65,9 +73,11 @@ restricted modules m base stmt below entries (YangType-F.Dec digits range) = Yan
 restricted modules m base stmt below entries (YangType-F.Text length patterns) =
     YangType-F.Text (narrowed word.Length stmt 0 length) (patterns ++ map pattern_of (all_named word.Pattern stmt))
 restricted modules m base stmt below entries (YangType-F.Enum names places) =
-    YangType-F.Enum (names_in entries) (if base.itself then map (λ (e : ℕ × Entry). e.0) (enumerate_from 0 entries) else places_of names places (names_in entries))
+    if takes_all Enums base stmt then YangType-F.Enum names places
+    else YangType-F.Enum (names_in entries) (if base.itself then map (λ (e : ℕ × Entry). e.0) (enumerate_from 0 entries) else places_of names places (names_in entries))
 restricted modules m base stmt below entries (YangType-F.Bits names positions) =
-    YangType-F.Bits (names_in entries) (map (λ (e : Entry). unsigned_abs e.1) entries)
+    if takes_all Bits base stmt then YangType-F.Bits names positions
+    else YangType-F.Bits (names_in entries) (map (λ (e : Entry). unsigned_abs e.number) entries)
 restricted modules m base stmt below entries (YangType-F.Bin length) = YangType-F.Bin (narrowed word.Length stmt 0 length)
 restricted modules m base stmt below entries (YangType-F.Ident bases) =
     YangType-F.Ident (if base.itself then flat_map (λ sub. option_to_list (identity_of modules m (argument_of sub))) (all_named word.Base stmt) else bases)
@@ -125,8 +135,13 @@ judged modules site base below =
       entries = entries;
     }
 
+-- at the end of a way
+unfoldable pub judge_last : List Stmt → Site → Judged
+judge_last modules site = judged modules site (base_of site []) []
+
+-- Where no name is faulty, no way takes more steps than there are statements.
 unfoldable pub judge : ℕ → List Stmt → Site → Judged
-judge zero modules site = nothing
+judge zero modules site = judge_last modules site
 judge (suc steps) modules site =
     judged modules site (base_of site (map (judge steps modules) (rests_on modules site))) (map (judge steps modules) (rests_on modules site))
 
@@ -140,8 +155,11 @@ abbrev pub unless : Option Found → Result YangType BuildFault → Result YangT
 unless None result = result
 unless (Some found) result = Err (fault_of found)
 
+abbrev pub judgement : List Stmt → Site → Judged
+judgement modules site = judge (steps_of modules) modules site
+
 -- Names are judged first, and all else only where no name has a fault.
 unfoldable pub resolve : List Stmt → Site → Result YangType BuildFault
 resolve modules site =
-    let type = judge (steps_of modules + 1) modules site in
+    let type = judgement modules site in
     unless (least None (all_name_faults modules site)) (answer type (least None type.faults))

@@ -17,7 +17,7 @@ use sal_stmt::Stmt;
 use sal_types::NoMemory;
 use std::alloc::Global;
 
-fn at(cause: Cause, number: u32, stmt: &Stmt) -> Found
+pub(crate) fn at(cause: Cause, number: u32, stmt: &Stmt) -> Found
     ensures { result ≡ record { cause = cause; «module» = number; at = (out-Stmt stmt.now).at } }
 {
     Found {
@@ -28,7 +28,7 @@ fn at(cause: Cause, number: u32, stmt: &Stmt) -> Found
 }
 
 /// The number that these digits write, or 255 where it is greater.
-fn small_number(text: &[u8]) -> u8
+pub(crate) fn small_number(text: &[u8]) -> u8
     ensures { result ≡ min (decimal text.now) 255 }
 {
     let mut number: u8 = 0;

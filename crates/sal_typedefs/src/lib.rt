@@ -2,14 +2,18 @@
 //!
 //! | item | what it is |
 //! |---|---|
+//! | `Typedefs` | modules with their typedefs and identities by name, made once for all look-ups |
+//! | `Block` | a statement whose block is open, with its typedefs by name |
+//! | `judge_at` | what a `type` statement in some blocks means, or its first fault other than those of names |
 //! | `TypeSite` | where a `type` statement begins |
 //! | `is_malformed` | whether the grammar of `regex` reads no pattern from a text |
 //!
 //! `specs/Types.antt` has the meaning of a statement: its type, or the first fault in it and in those that it rests on.
 //! Names are judged first (`specs/Names.antt`), then restrictions and patterns (`specs/Restrictions.antt`), with the
-//! numbers of enumerations and bits in `specs/Entries.antt`. The code has the built-in types, names with a prefix, which
-//! restrictions may stand on a type, the faults of one statement, and the types that it narrows. What goes from statement
-//! to statement has its definition alone so far.
+//! numbers of enumerations and bits in `specs/Entries.antt`. `judge_at` answers restrictions and patterns: from a statement to
+//! those that it rests on it goes by a list of ways (`src/walk.rt`), and judges them from the last to the first
+//! (`src/evaluate.rt`). Of the faults of names the code has circles of typedefs; the rest of them, and `resolve` over both,
+//! have their definition alone so far.
 //!
 //! ```
 //! is_malformed(alloc, "[a-z]+")?;  // false
@@ -17,19 +21,44 @@
 //! is_malformed(alloc, "(")?;       // true
 //! ```
 //!
-//! Cost: `is_malformed` compiles the pattern, as `regex` does.
+//! Cost: `is_malformed` compiles the pattern, as `regex` does. `Typedefs::new` and `Block::new` are linear in the statements, with
+//! the logarithm of the names for each. `judge_at` is linear in the statements that the type rests on, each of them judged anew,
+//! with the logarithm of a block's typedefs for each name and the square of the names that a statement lists.
 #![tactic(auto)]
 
+mod basis;
+mod below;
+mod block;
 mod builtin;
+mod circle;
+mod count;
+mod entries;
+mod entry;
+mod evaluate;
+mod identities;
+mod judge;
+mod judgement;
 mod judging;
+mod layer;
+mod meaning;
+mod merging;
 mod name;
+mod names;
 mod narrowing;
+mod numbering;
 mod pattern;
 mod restriction;
 mod site;
+mod site_judge;
+mod spot;
 #[cfg(test)]
 mod tests;
+mod typedefs;
 mod vectors;
+mod walk;
 
+pub use block::Block;
+pub use evaluate::judge_at;
 pub use pattern::is_malformed;
 pub use site::TypeSite;
+pub use typedefs::Typedefs;

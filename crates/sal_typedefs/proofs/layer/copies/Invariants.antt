@@ -1,0 +1,6 @@
+-- The first names.
+use Rattle.std.proofs.Common.{◌≡◌, take}
+use Rattle.sal_typedefs.proofs.layer.copies.Given as goal
+
+abbrev pub invariant-loop-entry : goal.invariant-loop-entry
+invariant-loop-entry l = l.list.items ≡ take l.entry-index l.entries

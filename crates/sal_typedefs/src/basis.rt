@@ -1,0 +1,71 @@
+//! What a type statement restricts: a built-in type, or that of the typedef that it names.
+ghost use Rattle.std.specs.Prelude.{◌≡◌, [], map, take, IfOk, Some, None, unwrap_or, if◌then◌else◌, is_some, true};
+ghost use Rattle.sal_restrict.specs.declared.yang_type.YangType.TheViews.{out-YangType};
+ghost use Rattle.sal_typedefs.specs.declared.judgement.Judgement.{Judgement as Kept};
+ghost use Rattle.sal_typedefs.specs.Restrictions.{HasNumbers};
+ghost use Rattle.sal_typedefs.specs.Builtins.{type_of};
+ghost use Rattle.sal_typedefs.specs.Judgements as spec;
+
+use crate::builtin::Builtin;
+use crate::judgement::{Basis, Judgement};
+use crate::layer::copies;
+use sal_restrict::YangType;
+use sal_types::NoMemory;
+use std::alloc::Global;
+
+/// The types of statements.
+pub(crate) fn types_of(alloc: Global, below: &[Judgement]) -> Result<Vec<YangType>, NoMemory>
+    ensures { IfOk result (λ types. types.items ≡ map (λ (d : Kept). d.ty) below.now) }
+{
+    let mut types = Vec::with_capacity(alloc, below.len())?;
+    for judgement in below {
+        types.push(judgement.ty.copy(alloc)?)?;
+    }
+    Ok(types)
+}
+
+/// A built-in type itself.
+fn own_basis(alloc: Global, builtin: Builtin) -> Result<Basis, NoMemory>
+    ensures value { IfOk result (λ b. spec.base_seen b ≡ record { type = type_of builtin; entries = []; itself = true }) }
+    ensures numbers { IfOk result (λ b. HasNumbers (out-YangType b.ty)) }
+{
+    Ok(Basis {
+        ty: builtin.bare(alloc)?,
+        entries: Vec::new(alloc),
+        itself: true,
+    })
+}
+
+/// The first of these types, or one without values.
+fn derived_basis(alloc: Global, below: &[Judgement]) -> Result<Basis, NoMemory>
+    ensures value { IfOk result (λ b. spec.base_seen b ≡ spec.first_base below.now) }
+    ensures numbers { spec.AllNumbers below.now → IfOk result (λ b. HasNumbers (out-YangType b.ty)) }
+{
+    match below.first() {
+        None => Ok(Basis {
+            ty: YangType::Empty,
+            entries: Vec::new(alloc),
+            itself: false,
+        }),
+        Some(judgement) => Ok(Basis {
+            ty: judgement.ty.copy(alloc)?,
+            entries: copies(alloc, judgement.entries.as_slice())?,
+            itself: false,
+        }),
+    }
+}
+
+/// What a statement restricts that names this built-in type, or else a typedef.
+pub(crate) fn basis_of(
+    alloc: Global,
+    builtin: Option<Builtin>,
+    below: &[Judgement],
+) -> Result<Basis, NoMemory>
+    ensures value { IfOk result (λ b. spec.base_seen b ≡ spec.base_by builtin below.now) }
+    ensures numbers { spec.AllNumbers below.now → IfOk result (λ b. HasNumbers (out-YangType b.ty)) }
+{
+    match builtin {
+        Some(builtin) => own_basis(alloc, builtin),
+        None => derived_basis(alloc, below),
+    }
+}

@@ -1,0 +1,22 @@
+//! A name of an enumeration or of bits, with its number (RFC 7950 sections 9.6 and 9.7).
+ghost use Rattle.std.specs.Prelude.{◌≡◌, ◌+◌, ◌^◌, ◌≤◌, ◌≤ℤ◌, min, not, pos, find, option_map, IfOk, IfSome, length};
+ghost use Rattle.std.specs.Option.{option_copied};
+ghost use Rattle.sal_module.specs.Arguments.{decimal};
+
+use sal_types::Str;
+
+/// A name and its number.
+#[derive(Debug, Drop)]
+pub(crate) struct Entry {
+    pub(crate) name: Str,
+    pub(crate) number: i128,
+}
+
+/// How names get their numbers.
+#[derive(Clone, Copy, Debug, PartialEq, Eq)]
+pub(crate) enum Numbering {
+    /// Those of an enumeration: each a `value` of 32 bits with a sign.
+    Enums,
+    /// Those of bits: each a `position` up to 63.
+    Bits,
+}

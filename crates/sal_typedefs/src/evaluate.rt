@@ -1,0 +1,103 @@
+//! A type statement and all that it rests on, judged without a recursion.
+ghost use Rattle.std.specs.Prelude.{◌≡◌, List, take, drop, map, reverse, None, IfOk};
+ghost use Rattle.sal_module.specs.Faults.{least};
+ghost use Rattle.sal_typedefs.specs.Names.{steps_of};
+ghost use Rattle.sal_typedefs.specs.Spots.{site_of, site_in};
+ghost use Rattle.sal_typedefs.specs.Types.{Judged, judgement};
+ghost use Rattle.sal_typedefs.specs.Walks as walks;
+ghost use Rattle.sal_typedefs.specs.Judgements.{AreJudged};
+ghost use Rattle.sal_typedefs.specs.Runs as spec;
+
+use crate::block::Block;
+use crate::judgement::Judgement;
+use crate::site_judge::judge_one;
+use crate::spot::Spot;
+use crate::typedefs::Typedefs;
+use crate::walk::{Gone, next, start};
+use sal_module::Found;
+use sal_restrict::YangType;
+use sal_stmt::Stmt;
+use sal_types::NoMemory;
+use std::alloc::Global;
+
+/// So many of those that were judged last, the last one first.
+fn take_last(
+    alloc: Global,
+    done: &mut Vec<Judgement>,
+    count: usize,
+) -> Result<Vec<Judgement>, NoMemory>
+    ensures { IfOk result (λ below. (judged : List Judged) → AreJudged (reverse done.old.items) judged
+        → AreJudged below.items (take count judged) × AreJudged (reverse done.new.items) (drop count judged)) }
+{
+    let mut below = Vec::new(alloc);
+    for i in 0..count {
+        match done.pop() {
+            None => return Ok(below),
+            Some(judgement) => below.push(judgement)?,
+        }
+    }
+    Ok(below)
+}
+
+/// All these statements, from the last one to the first. The answer has the first one last.
+fn judge_all(alloc: Global, typedefs: &Typedefs, nodes: &[Gone]) -> Result<Vec<Judgement>, NoMemory>
+    ensures { IfOk result (λ done. AreJudged (reverse done.items) (spec.run typedefs.now (map walks.node_of nodes.now))) }
+{
+    let mut done = Vec::new(alloc);
+    let mut n = nodes.len();
+    'nodes: while n > 0 {
+        let node = &nodes[n - 1];
+        let below = take_last(alloc, &mut done, node.below)?;
+        let judgement = judge_one(alloc, typedefs, &node.spot, below.as_slice())?;
+        done.push(judgement)?;
+        n -= 1;
+    }
+    Ok(done)
+}
+
+/// A statement before those that it rests on.
+fn gone<'a>(
+    alloc: Global,
+    typedefs: &'a Typedefs<'a>,
+    spot: Spot<'a>,
+) -> Result<Vec<Gone<'a>>, NoMemory>
+    ensures { IfOk result (λ all. map walks.node_of all.items ≡ walks.nodes (steps_of typedefs.now) typedefs.now (site_of spot.entry)) }
+{
+    let mut all = Vec::new(alloc);
+    let mut ways = start(alloc, typedefs, spot)?;
+    for _i in 0..u64::MAX {
+        match next(&mut ways, alloc, typedefs)? {
+            None => return Ok(all),
+            Some(gone) => all.push(gone)?,
+        }
+    }
+    Err(NoMemory)
+}
+
+/// The least fault in a `type` statement and in those that it rests on, names apart, and its type where there is none.
+///
+/// The statement stands in these blocks, from the module inwards. It takes time linear in the statements that it rests on,
+/// with the logarithm of a block's typedefs for each, and where it lists names their number squared.
+pub fn judge_at<'a>(
+    alloc: Global,
+    typedefs: &'a Typedefs<'a>,
+    number: u32,
+    around: &'a [Block<'a>],
+    stmt: &'a Stmt,
+) -> Result<(Option<Found>, YangType), NoMemory>
+    ensures fault { IfOk result (λ j. j.0 ≡ least None (judgement typedefs.now (site_in number around.now stmt.now)).faults) }
+    ensures meant { IfOk result (λ j. j.0 ≡ None → j.1 ≡ (judgement typedefs.now (site_in number around.now stmt.now)).type) }
+{
+    let spot = Spot {
+        module: number,
+        stmt,
+        outer: around,
+        inner: Vec::new(alloc),
+    };
+    let nodes = gone(alloc, typedefs, spot)?;
+    let mut done = judge_all(alloc, typedefs, nodes.as_slice())?;
+    match done.pop() {
+        None => Err(NoMemory),
+        Some(judgement) => Ok((judgement.fault, judgement.ty)),
+    }
+}

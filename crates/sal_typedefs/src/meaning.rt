@@ -1,0 +1,177 @@
+//! Types that name things: enumerations, bits, identityrefs and unions (RFC 7950 sections 9.6, 9.7, 9.10 and 9.12).
+ghost use Rattle.std.specs.Prelude.{◌≡◌, ◌++◌, ◌∷◌, [], ℕ, ◌<◌, List, IfOk, map, filter, length, unwrap_or, unsigned_abs, slice_index};
+ghost use Rattle.std.specs.List.{flat_map, enumerate_from, position_from};
+ghost use Rattle.std.specs.Option.{option_to_list};
+ghost use Rattle.sal_restrict.specs.declared.yang_type.YangType.{YangType as Meant};
+ghost use Rattle.sal_restrict.specs.declared.yang_type.YangType.TheViews.{out-YangType};
+ghost use Rattle.sal_module.specs.declared.keyword.Keyword.TheVariants as word;
+ghost use Rattle.sal_module.specs.Keywords.{same};
+ghost use Rattle.sal_module.specs.Statements.{all_named, argument_of, is_named};
+ghost use Rattle.sal_typedefs.specs.declared.entry.Entry.{Entry as Named};
+ghost use Rattle.sal_typedefs.specs.Scopes.{identity_of};
+ghost use Rattle.sal_typedefs.specs.Types as spec;
+
+use crate::entry::Entry;
+use crate::typedefs::Typedefs;
+use sal_module::{Keyword, argument_of, is_named};
+use sal_restrict::YangType;
+use sal_stmt::Stmt;
+use sal_types::{Duplicate, NoMemory, Seq, Str};
+use std::alloc::Global;
+
+/// The names.
+pub(crate) fn names_in(alloc: Global, entries: &[Entry]) -> Result<Seq<Str>, NoMemory>
+    ensures { IfOk result (λ names. names ≡ spec.names_in entries.now) }
+{
+    let mut names = Vec::with_capacity(alloc, entries.len())?;
+    for entry in entries {
+        names.push(entry.name.copy()?)?;
+    }
+    Ok(Seq::from_items(names))
+}
+
+fn small(number: usize) -> Result<u32, NoMemory>
+    ensures { IfOk result (λ n. n ≡ number) }
+{
+    match u32::try_from(number) {
+        Ok(n) => Ok(n),
+        Err(_) => Err(NoMemory),
+    }
+}
+
+/// The numbers of the names, in their order.
+pub(crate) fn own_places(alloc: Global, entries: &[Entry]) -> Result<Seq<u32>, NoMemory>
+    ensures { IfOk result (λ places. places ≡ map (λ (e : ℕ × Named). e.0) (enumerate_from 0 entries.now)) }
+{
+    let mut places = Vec::with_capacity(alloc, entries.len())?;
+    for (i, entry) in entries.iter().enumerate() {
+        places.push(small(i)?)?;
+    }
+    Ok(Seq::from_items(places))
+}
+
+/// The first place of a name.
+fn position(names: &[Str], name: &str) -> Option<usize>
+    ensures { result ≡ position_from (same name.now) 0 names.now }
+{
+    for (i, one) in names.iter().enumerate() {
+        if name == one.as_str() {
+            return Some(i);
+        }
+    }
+    None
+}
+
+/// The original place of a name.
+fn place_of(names: &[Str], places: &[u32], name: &str) -> u32
+    ensures { result ≡ slice_index places.now (unwrap_or (position_from (same name.now) 0 names.now) 0) }
+{
+    let i = match position(names, name) {
+        None => 0,
+        Some(i) => i,
+    };
+    match places.get(i) {
+        None => 0,
+        Some(place) => *place,
+    }
+}
+
+/// The places of these names in the original enumeration.
+pub(crate) fn chosen_places(
+    alloc: Global,
+    names: &[Str],
+    places: &[u32],
+    entries: &[Entry],
+) -> Result<Seq<u32>, NoMemory>
+    ensures { IfOk result (λ it. it ≡ spec.places_of names.now places.now (spec.names_in entries.now)) }
+{
+    let mut list = Vec::with_capacity(alloc, entries.len())?;
+    for entry in entries {
+        list.push(place_of(names, places, entry.name.as_str()))?;
+    }
+    Ok(Seq::from_items(list))
+}
+
+fn tiny(number: i128) -> Result<u8, NoMemory>
+    ensures { IfOk result (λ n. n ≡ unsigned_abs number) }
+{
+    match u8::try_from(number) {
+        Ok(n) => Ok(n),
+        Err(_) => Err(NoMemory),
+    }
+}
+
+/// The positions of bits.
+pub(crate) fn positions(alloc: Global, entries: &[Entry]) -> Result<Seq<u8>, NoMemory>
+    ensures { IfOk result (λ it. it ≡ map (λ (e : Named). unsigned_abs e.number) entries.now) }
+{
+    let mut list = Vec::with_capacity(alloc, entries.len())?;
+    for entry in entries {
+        list.push(tiny(entry.number)?)?;
+    }
+    Ok(Seq::from_items(list))
+}
+
+/// The identity that a statement names, if it is a base.
+fn push_base(
+    bases: &mut Vec<u32>,
+    typedefs: &Typedefs,
+    number: u32,
+    sub: &Stmt,
+) -> Result<(), NoMemory>
+    ensures { IfOk result (λ _. bases.new.items
+        ≡ bases.old.items ++ flat_map (λ sub. option_to_list (identity_of typedefs.now number (argument_of sub))) (filter (is_named word.Base) (sub.now ∷ []))) }
+{
+    if !is_named(Keyword::Base, sub) {
+        return Ok(());
+    }
+    match typedefs.identity_of(number, argument_of(sub)) {
+        None => Ok(()),
+        Some(k) => {
+            bases.push(small(k)?)?;
+            Ok(())
+        }
+    }
+}
+
+/// The identities that a statement names as bases.
+pub(crate) fn bases_of(
+    alloc: Global,
+    typedefs: &Typedefs,
+    number: u32,
+    stmt: &Stmt,
+) -> Result<Seq<u32>, NoMemory>
+    ensures { IfOk result (λ it. it
+        ≡ flat_map (λ sub. option_to_list (identity_of typedefs.now number (argument_of sub))) (all_named word.Base stmt.now)) }
+{
+    let mut bases = Vec::new(alloc);
+    for sub in stmt.subs.items() {
+        push_base(&mut bases, typedefs, number, sub)?;
+    }
+    Ok(Seq::from_items(bases))
+}
+
+/// A type goes behind others: of a union its members.
+fn push_members(flat: &mut Vec<YangType>, ty: &YangType, alloc: Global) -> Result<(), NoMemory>
+    ensures { IfOk result (λ _. flat.new.items ≡ flat.old.items ++ spec.members_of ty.now (out-YangType ty.now)) }
+{
+    if let YangType::Union { members } = ty {
+        for member in members.items() {
+            flat.push(member.copy(alloc)?)?;
+        }
+        return Ok(());
+    }
+    flat.push(ty.copy(alloc)?)?;
+    Ok(())
+}
+
+/// The members of a union, and those of unions among them.
+pub(crate) fn flat(alloc: Global, types: &[YangType]) -> Result<Seq<YangType>, NoMemory>
+    ensures { IfOk result (λ it. it ≡ flat_map (λ (t : Meant). spec.members_of t (out-YangType t)) types.now) }
+{
+    let mut list = Vec::new(alloc);
+    for ty in types {
+        push_members(&mut list, ty, alloc)?;
+    }
+    Ok(Seq::from_items(list))
+}

@@ -1,0 +1,256 @@
+//! How names get their numbers (RFC 7950 sections 9.6.4.2 and 9.7.4.2).
+ghost use Rattle.std.specs.Prelude.{◌≡◌, ◌≢◌, ◌≤◌, ◌++◌, ◌∷◌, [], ℕ, List, min, pos, drop, IfOk, None, Some, unwrap_or};
+ghost use Rattle.sal_stmt.specs.Words.{first};
+ghost use Rattle.std.specs.Option.{option_copied};
+ghost use Rattle.sal_module.specs.Arguments.{decimal};
+ghost use Rattle.sal_typedefs.specs.Entries as spec;
+
+use crate::entry::{Entry, Numbering};
+use crate::judging::small_number;
+use sal_module::{Form, Keyword, argument_of, first_named, has_form, is_whole};
+use sal_stmt::Stmt;
+use sal_types::{Duplicate, NoMemory, Str};
+use std::alloc::Global;
+
+const CAP: u64 = 4_294_967_296;
+
+/// The number that these digits write, or 2^32 where it is greater.
+fn decimal(digits: &[u8]) -> u64
+    ensures { result ≡ min 4294967296 (decimal digits.now) }
+{
+    let mut number: u64 = 0;
+    for digit in digits {
+        number = (10 * number + u64::from(digit.saturating_sub(b'0'))).min(CAP);
+    }
+    number
+}
+
+fn is_position(text: &[u8]) -> bool
+    ensures { result ≡ spec.has_form Numbering.Bits text.now }
+{
+    is_whole(text) && small_number(text) <= 63
+}
+
+fn first(text: &[u8]) -> u8
+    ensures { result ≡ first text.now }
+{
+    if text.is_empty() { 0 } else { text[0] }
+}
+
+/// The number that a text writes, where its digits write one up to 2^32.
+fn integer(text: &[u8]) -> i128
+    requires minus { first text.now ≡ 45 → decimal (drop 1 text.now) ≤ 4294967296 }
+    requires plus { first text.now ≢ 45 → decimal text.now ≤ 4294967296 }
+    ensures { result ≡ spec.integer text.now }
+{
+    if first(text) == b'-' {
+        -i128::from(decimal(&text[1..]))
+    } else {
+        i128::from(decimal(text))
+    }
+}
+
+impl Numbering {
+    /// The keyword of a name.
+    pub(crate) fn item(self) -> Keyword
+        ensures { result ≡ spec.item_of self }
+    {
+        match self {
+            Numbering::Enums => Keyword::Enum,
+            Numbering::Bits => Keyword::Bit,
+        }
+    }
+
+    /// The keyword of its number.
+    fn number_word(self) -> Keyword
+        ensures { result ≡ spec.number_word self }
+    {
+        match self {
+            Numbering::Enums => Keyword::Value,
+            Numbering::Bits => Keyword::Position,
+        }
+    }
+
+    /// Whether a text writes a number.
+    fn has_form(self, text: &str) -> bool
+        ensures { result ≡ spec.has_form self text.now }
+    {
+        match self {
+            Numbering::Enums => has_form(Form::Integer, text),
+            Numbering::Bits => is_position(text.as_bytes()),
+        }
+    }
+
+    /// The greatest number.
+    fn greatest(self) -> i128
+        ensures { result ≡ spec.greatest self }
+    {
+        match self {
+            Numbering::Enums => 2_147_483_647,
+            Numbering::Bits => 63,
+        }
+    }
+
+    /// The text of the number that a statement gives.
+    fn text_of(self, stmt: &Stmt) -> Option<&str>
+        ensures { spec.text_seen result ≡ spec.text_of self stmt.now }
+    {
+        match first_named(self.number_word(), stmt.subs.items()) {
+            None => None,
+            Some(sub) => Some(argument_of(sub)),
+        }
+    }
+
+    /// The number that a text writes, where it has the form.
+    fn number(self, text: &str) -> Option<i128>
+        ensures { result ≡ spec.stated self (Some text.now) }
+    {
+        if !self.has_form(text) {
+            return None;
+        }
+        Some(integer(text.as_bytes()))
+    }
+
+    /// The number that a statement gives, or else this one.
+    fn number_or(self, text: Option<&str>, next: i128) -> i128
+        ensures { result ≡ unwrap_or (spec.stated self (spec.text_seen text.entry)) next }
+    {
+        match text {
+            None => next,
+            Some(text) => match self.number(text) {
+                None => next,
+                Some(number) => number,
+            },
+        }
+    }
+
+    fn is_malformed(self, text: Option<&str>) -> bool
+        ensures { result ≡ spec.is_malformed self (spec.text_seen text.entry) }
+    {
+        match text {
+            None => false,
+            Some(text) => !self.has_form(text),
+        }
+    }
+
+    /// Whether a text gives another number than this one.
+    fn differs(self, number: i128, text: &str) -> bool
+        ensures { result ≡ spec.differs self number (Some text.now) }
+    {
+        match self.number(text) {
+            None => true,
+            Some(other) => other != number,
+        }
+    }
+
+    fn differs_from(self, text: Option<&str>, found: Option<&Entry>) -> bool
+        ensures { result ≡ spec.differs_from self (spec.text_seen text.entry) (option_copied found.entry) }
+    {
+        match found {
+            None => true,
+            Some(e) => match text {
+                None => false,
+                Some(text) => self.differs(e.number, text),
+            },
+        }
+    }
+}
+
+fn has_name(name: &str, entries: &[Entry]) -> bool
+    ensures { result ≡ spec.has_name name.now entries.now }
+{
+    entries.iter().any(|e| e.name.as_str() == name)
+}
+
+fn has_number(number: i128, entries: &[Entry]) -> bool
+    ensures { result ≡ spec.has_number number entries.now }
+{
+    entries.iter().any(|e| e.number == number)
+}
+
+fn named<'e>(name: &str, entries: &'e [Entry]) -> Option<&'e Entry>
+    ensures { option_copied result ≡ spec.named name.now entries.now }
+{
+    for e in entries {
+        if e.name.as_str() == name {
+            return Some(e);
+        }
+    }
+    None
+}
+
+/// A name of the statement's own, and whether it is faulty. The number of one that gives none is `next`.
+pub(crate) fn own_entry(
+    alloc: Global,
+    n: Numbering,
+    before: &[Entry],
+    next: i128,
+    stmt: &Stmt,
+) -> Result<(bool, Entry), NoMemory>
+    requires { next ≡ spec.next before.now }
+    ensures bad { IfOk result (λ p. p.0 ≡ spec.is_bad n before.now stmt.now) }
+    ensures entry { IfOk result (λ p. p.1 ≡ spec.entry_of n None before.now stmt.now) }
+{
+    let name = argument_of(stmt);
+    let text = n.text_of(stmt);
+    let number = n.number_or(text, next);
+    let bad = has_name(name, before)
+        || has_number(number, before)
+        || number > n.greatest()
+        || n.is_malformed(text);
+    Ok((
+        bad,
+        Entry {
+            name: Str::new(alloc, name)?,
+            number,
+        },
+    ))
+}
+
+fn entry_or(alloc: Global, found: Option<&Entry>, name: &str) -> Result<Entry, NoMemory>
+    ensures { IfOk result (λ e. e ≡ unwrap_or (option_copied found.entry) (record { name = name.now; number = pos 0 })) }
+{
+    match found {
+        None => Ok(Entry {
+            name: Str::new(alloc, name)?,
+            number: 0,
+        }),
+        Some(e) => Ok(Entry {
+            name: e.name.copy()?,
+            number: e.number,
+        }),
+    }
+}
+
+/// A name that is chosen from these, and whether it is faulty.
+pub(crate) fn chosen_entry(
+    alloc: Global,
+    n: Numbering,
+    from: &[Entry],
+    before: &[Entry],
+    stmt: &Stmt,
+) -> Result<(bool, Entry), NoMemory>
+    ensures bad { IfOk result (λ p. p.0 ≡ spec.is_bad_choice n from.now before.now stmt.now) }
+    ensures entry { IfOk result (λ p. p.1 ≡ spec.entry_of n (Some from.now) before.now stmt.now) }
+{
+    let name = argument_of(stmt);
+    let found = named(name, from);
+    let bad = has_name(name, before) || n.differs_from(n.text_of(stmt), found);
+    Ok((bad, entry_or(alloc, found, name)?))
+}
+
+/// The next number, behind one more name of this number.
+pub(crate) fn next_after(before: &[Entry], next: i128, number: i128) -> Result<i128, NoMemory>
+    requires { next ≡ spec.next before.now }
+    ensures { IfOk result (λ after. (name : List ℕ) → after ≡ spec.next (before.now ++ record { name = name; number = number } ∷ [])) }
+{
+    let after = match number.checked_add(1) {
+        None => return Err(NoMemory),
+        Some(after) => after,
+    };
+    if before.is_empty() || after > next {
+        Ok(after)
+    } else {
+        Ok(next)
+    }
+}

@@ -1,6 +1,6 @@
 -- Typedefs by name, from one statement to the next.
-use Rattle.std.proofs.Common.{◌≡◌, ◌≢◌, ℕ, zero, suc, ◌+◌, ◌-◌, ◌<◌, ◌≤◌, ◌==◌, ◌&&◌, List, [], ◌∷◌, ◌++◌, length, take, drop, get_or, Bool, true, false, not, Option, Some, None, is_some, option_map, if◌then◌else◌, refl, ◌∙◌, sym, ap, inl, inr, arith, append-nil, append_assoc}
-use Rattle.std.specs.Prelude.{String, Vec, find, reverse, option_and_then}
+use Rattle.std.proofs.Common.{◌≡◌, ℕ, suc, ◌+◌, ◌-◌, ◌<◌, ◌≤◌, List, [], ◌∷◌, ◌++◌, length, take, get_or, Bool, false, Option, Some, None, is_some, if◌then◌else◌, refl, ◌∙◌, sym, ap, inl, inr, arith}
+use Rattle.std.specs.Prelude.{String, find, option_and_then}
 use Rattle.std.specs.declared.alloc.Global.{Global}
 use Rattle.std.specs.List.{position_from, slice_get}
 use Rattle.std.specs.BTreeMap.{UpdatesBy, get_by_text}
@@ -12,9 +12,7 @@ use Rattle.std.proofs.lemmas.Bool.{cases_Bool}
 use Rattle.std.proofs.lemmas.List.{take_more, length-take}
 use Rattle.std.proofs.lemmas.Slice.Eq.{bytes_eq-Decides}
 use Rattle.std.proofs.lemmas.Map.Text.{btree_map_updates_text}
-use Rattle.sal_stmt.specs.declared.stmt.Stmt.{Stmt}
 use Rattle.sal_module.specs.Keywords.{same}
-use Rattle.sal_typedefs.specs.Scopes.{is_typedef_of}
 use Rattle.sal_typedefs.specs.Blocks.{Numbers, with_first}
 
 pub with_first-miss : (found : Option ℕ) (k : ℕ) → with_first found false k ≡ found

@@ -1,5 +1,5 @@
 -- Names of enumerations and bits, from one to the next.
-use Rattle.std.proofs.Common.{◌≡◌, ℕ, List, [], ◌∷◌, ◌++◌, take, get_or, filter, ◌<◌, ◌+◌, length, Bool, true, false, Option, if◌then◌else◌, refl, ◌∙◌, sym, ap, append_assoc, append-nil, arith}
+use Rattle.std.proofs.Common.{◌≡◌, ℕ, List, [], ◌∷◌, ◌++◌, take, get_or, filter, ◌<◌, ◌+◌, length, Bool, true, false, Option, if◌then◌else◌, refl, ◌∙◌, sym, ap, append_assoc, append-nil}
 use Rattle.std.proofs.lemmas.List.{take_more}
 use Rattle.std.proofs.lemmas.List.Sums.{fold-append}
 use Rattle.sal_stmt.specs.declared.stmt.Stmt.{Stmt}

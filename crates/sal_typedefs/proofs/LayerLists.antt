@@ -1,5 +1,5 @@
 -- One statement over the type that it restricts.
-use Rattle.std.proofs.Common.{◌≡◌, ℕ, ◌+◌, ◌<◌, ◌≤◌, List, [], ◌∷◌, ◌++◌, length, map, filter, Bool, true, false, not, ◌&&◌, ◌||◌, ◌==◌, nat_le, Option, Some, None, is_some, option_map, unwrap_or, if◌then◌else◌, refl, ◌∙◌, sym, ap, inl, inr, arith}
+use Rattle.std.proofs.Common.{◌≡◌, ℕ, ◌≤◌, List, [], ◌∷◌, ◌++◌, length, filter, Bool, true, false, not, ◌&&◌, ◌||◌, ◌==◌, nat_le, None, is_some, option_map, unwrap_or, if◌then◌else◌, refl, ◌∙◌, sym, ap, inl, inr, arith}
 use Rattle.std.specs.Prelude.{find}
 use Rattle.std.specs.List.{flat_map, list_any}
 use Rattle.std.proofs.lemmas.Bool.{cases_Bool}
@@ -12,13 +12,11 @@ use Rattle.sal_module.specs.Arguments.{decimal, is_whole}
 use Rattle.sal_module.specs.Faults.{least}
 use Rattle.sal_module.specs.Profile.{at_stmt}
 use Rattle.sal_module.specs.Statements.{is_named, subs_of, argument_of}
-use Rattle.sal_restrict.specs.declared.yang_type.YangType.{YangType, out-YangType, roll-YangType}
+use Rattle.sal_restrict.specs.declared.yang_type.YangType.{YangType, out-YangType}
 use Rattle.sal_restrict.specs.declared.yang_type.YangType.TheViews.{out-roll-YangType}
 use Rattle.sal_restrict.specs.declared.yang_type.YangType.TheOpen.{YangType-F}
-use Rattle.sal_typedefs.specs.declared.entry.Entry.{Entry}
-use Rattle.sal_typedefs.specs.Restrictions.{Base, Layer, is_wider, numbers, lengths, with_digits, digits_of, digit_fault, digit_faults, are_fraction_digits, absent_faults, sub_faults, list_faults, is_misplaced, layer_of, restriction_faults, is_decimal, numbering_of}
-use Rattle.sal_typedefs.specs.Types.{restricted, entries_in}
-use Rattle.sal_typedefs.specs.Judgements.{layer_faults, layer_meaning, with_layer}
+use Rattle.sal_typedefs.specs.Restrictions.{Base, Layer, is_wider, numbers, lengths, with_digits, digits_of, digit_fault, digit_faults, are_fraction_digits, absent_faults, sub_faults, list_faults, is_misplaced, layer_of, restriction_faults, is_decimal}
+use Rattle.sal_typedefs.specs.Judgements.{layer_faults, with_layer}
 use Rattle.sal_typedefs.proofs.LeastLists.{some-faulty}
 
 -- ---- no names

@@ -1,15 +1,14 @@
 -- Blocks around a statement, from one to the next.
-use Rattle.std.proofs.Common.{◌≡◌, ℕ, zero, suc, ◌+◌, ◌-◌, ◌<◌, ◌≤◌, ◌==◌, List, [], ◌∷◌, ◌++◌, length, map, take, drop, get_or, Bool, true, false, Option, Some, None, is_some, option_map, if◌then◌else◌, refl, ◌∙◌, sym, ap, arith, append_assoc, append-nil}
+use Rattle.std.proofs.Common.{◌≡◌, ℕ, zero, suc, ◌+◌, ◌-◌, ◌<◌, ◌≤◌, List, [], ◌∷◌, ◌++◌, length, take, get_or, Bool, true, false, Some, None, is_some, option_map, if◌then◌else◌, refl, ◌∙◌, sym, ap, arith}
 use Rattle.std.specs.Prelude.{find, reverse}
 use Rattle.std.specs.Borrow.{Bor}
 use Rattle.std.specs.List.{sum_by}
-use Rattle.std.proofs.lemmas.List.{take_more, length-map, get_or-map, reverse-append, take-map}
-use Rattle.std.proofs.lemmas.Bool.Decides.{nat_tests}
+use Rattle.std.proofs.lemmas.List.{take_more, length-map, get_or-map, reverse-append}
 use Rattle.sal_stmt.specs.declared.stmt.Stmt.{Stmt}
 use Rattle.sal_module.specs.Statements.{subs_of}
 use Rattle.sal_typedefs.specs.Scopes.{Site, is_typedef_of, closest}
 use Rattle.sal_typedefs.specs.Names.{count}
-use Rattle.sal_typedefs.specs.Spots.{stmts, seen_in, site_in}
+use Rattle.sal_typedefs.specs.Spots.{stmts, site_in}
 
 -- ---- the innermost block
 

@@ -1,5 +1,5 @@
 -- Ways from statement to statement, one step on.
-use Rattle.std.proofs.Common.{◌≡◌, ℕ, zero, suc, ◌+◌, ◌-◌, ◌<◌, List, [], ◌∷◌, ◌++◌, length, map, take, filter, Bool, true, false, Option, Some, None, refl, ◌∙◌, sym, ap, inl, inr, arith, append_assoc, append-nil}
+use Rattle.std.proofs.Common.{◌≡◌, ℕ, zero, suc, ◌-◌, ◌<◌, List, [], ◌∷◌, ◌++◌, length, map, take, filter, Bool, Some, None, refl, ◌∙◌, sym, ap, inl, inr, arith, append_assoc, append-nil}
 use Rattle.std.specs.Prelude.{find}
 use Rattle.std.specs.List.{flat_map}
 use Rattle.std.proofs.lemmas.Bool.{cases_Bool}

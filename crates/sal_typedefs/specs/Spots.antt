@@ -1,5 +1,5 @@
 -- Sites, as the code has them.
-use Rattle.std.specs.Prelude.{◌≡◌, ℕ, List, ◌++◌, map, reverse, take}
+use Rattle.std.specs.Prelude.{ℕ, List, ◌++◌, map, reverse, take}
 use Rattle.std.specs.Borrow.{Bor}
 use Rattle.sal_stmt.specs.declared.stmt.Stmt.{Stmt}
 use Rattle.sal_typedefs.specs.declared.spot.Spot.{Spot}

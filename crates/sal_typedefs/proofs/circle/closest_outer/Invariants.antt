@@ -3,7 +3,6 @@ use Rattle.std.proofs.Common.{◌≡◌, ◌≤◌, take, length}
 use Rattle.std.specs.Prelude.{find, reverse}
 use Rattle.sal_module.specs.declared.keyword.Keyword.TheVariants as word
 use Rattle.sal_module.specs.Statements.{is_named}
-use Rattle.sal_typedefs.specs.Spots.{stmts}
 use Rattle.sal_typedefs.proofs.circle.closest_outer.Given as goal
 
 abbrev pub invariant-closest : goal.invariant-closest

@@ -1,4 +1,4 @@
-use Rattle.std.proofs.Common.{◌≡◌, ◌∙◌, rules, true, sym, ap}
+use Rattle.std.proofs.Common.{◌≡◌, ◌∙◌, rules, true, sym}
 use Rattle.sal_module.specs.Statements.{is_named, subs_of}
 use Rattle.sal_typedefs.specs.Entries.{item_of, entries_seen}
 use Rattle.sal_typedefs.proofs.EntryLists.{entries-more, faults-more}

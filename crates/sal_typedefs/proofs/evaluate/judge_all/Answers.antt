@@ -1,4 +1,4 @@
-use Rattle.std.proofs.Common.{◌≡◌, ◌∙◌, List, take, drop, map, sym, subst, arith}
+use Rattle.std.proofs.Common.{List, take, drop, map, sym, subst, arith}
 use Rattle.sal_typedefs.specs.declared.judgement.Judgement.{Judgement}
 use Rattle.sal_typedefs.specs.Walks.{node_of}
 use Rattle.sal_typedefs.specs.Judgements.{AreJudged, AllNumbers}

@@ -1,4 +1,4 @@
-use Rattle.std.proofs.Common.{◌≡◌, ◌∙◌, ◌++◌, List, reverse, sym, ap, subst, append-nil}
+use Rattle.std.proofs.Common.{◌∙◌, ◌++◌, List, reverse, ap, subst, append-nil}
 use Rattle.sal_typedefs.specs.Scopes.{Site}
 use Rattle.sal_typedefs.specs.Names.{steps_of}
 use Rattle.sal_typedefs.specs.Spots.{stmts, site_in}

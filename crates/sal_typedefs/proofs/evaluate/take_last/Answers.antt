@@ -1,4 +1,4 @@
-use Rattle.std.proofs.Common.{◌≡◌, ◌∙◌, [], rules, List, drop, reverse, subst, sym, arith}
+use Rattle.std.proofs.Common.{◌≡◌, [], rules, List, drop, reverse, subst, sym, arith}
 use Rattle.sal_typedefs.specs.declared.judgement.Judgement.{Judgement}
 use Rattle.sal_typedefs.specs.Judgements.{AreJudged}
 use Rattle.sal_typedefs.proofs.RunLists.{taken-more, taken-all}

@@ -1,4 +1,4 @@
-use Rattle.std.proofs.Common.{◌≡◌, ◌∙◌, [], true, not, sym, ap, refl}
+use Rattle.std.proofs.Common.{◌∙◌, [], not, sym, ap}
 use Rattle.std.specs.List.{list_any}
 use Rattle.sal_module.specs.Faults.{least}
 use Rattle.sal_module.specs.Statements.{is_named, subs_of}

@@ -1,9 +1,8 @@
-use Rattle.std.proofs.Common.{◌≡◌, ◌∙◌, ◌≤◌, None, List, take, length, sym, ap, arith}
+use Rattle.std.proofs.Common.{◌∙◌, ◌≤◌, None, length, ap, arith}
 use Rattle.std.proofs.lemmas.Grind.{common_steps}
 use Rattle.std.proofs.lemmas.List.{take_all}
 use Rattle.std.specs.Prelude.{is_some}
 use Rattle.sal_module.specs.Faults.{least}
-use Rattle.sal_typedefs.specs.Types.{Judged}
 use Rattle.sal_typedefs.proofs.LeastLists.{all_faults, fault-more, as-many, any-faulty}
 use Rattle.sal_typedefs.proofs.merging.fault_below.Goals as goal
 

@@ -1,5 +1,5 @@
 -- The least fault in the first statements.
-use Rattle.std.proofs.Common.{◌≡◌, List, None, take, length, ◌≤◌}
+use Rattle.std.proofs.Common.{◌≡◌, List, None, take}
 use Rattle.std.specs.List.{flat_map}
 use Rattle.sal_module.specs.Faults.{least}
 use Rattle.sal_typedefs.specs.Types.{Judged}

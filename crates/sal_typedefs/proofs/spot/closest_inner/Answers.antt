@@ -1,11 +1,10 @@
-use Rattle.std.proofs.Common.{◌≡◌, ◌∙◌, Some, None, sym, ap, take, ◌-◌, arith}
-use Rattle.std.specs.Prelude.{find, reverse}
+use Rattle.std.proofs.Common.{◌≡◌, ◌∙◌, Some, None, sym, ap, arith}
+use Rattle.std.specs.Prelude.{find}
 use Rattle.sal_stmt.specs.declared.stmt.Stmt.{Stmt}
 use Rattle.std.proofs.Common.{List}
 use Rattle.std.specs.Borrow.{Bor}
 use Rattle.sal_module.specs.Statements.{subs_of}
 use Rattle.sal_typedefs.specs.Scopes.{is_typedef_of, closest}
-use Rattle.sal_typedefs.specs.Spots.{stmts}
 use Rattle.sal_typedefs.proofs.SpotLists.{last-block, found-here, found-later}
 use Rattle.sal_typedefs.proofs.spot.closest_inner.Goals as goal
 

@@ -2,7 +2,6 @@
 use Rattle.std.proofs.Common.{◌≡◌, ◌≤◌, take, length}
 use Rattle.std.specs.Prelude.{reverse}
 use Rattle.sal_typedefs.specs.Scopes.{closest}
-use Rattle.sal_typedefs.specs.Spots.{stmts}
 use Rattle.sal_typedefs.proofs.spot.closest_outer.Given as goal
 
 abbrev pub invariant-closest : goal.invariant-closest

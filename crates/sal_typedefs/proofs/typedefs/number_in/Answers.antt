@@ -1,4 +1,4 @@
-use Rattle.std.proofs.Common.{◌≡◌, ◌∙◌, ◌<◌, length, ap, arith}
+use Rattle.std.proofs.Common.{◌∙◌, ◌<◌, length, ap, arith}
 use Rattle.std.specs.BTreeMap.{get_by_text}
 use Rattle.sal_typedefs.specs.Blocks.{Numbers}
 use Rattle.sal_typedefs.proofs.IdentityLists.{number-at}

@@ -1,6 +1,5 @@
-use Rattle.std.proofs.Common.{◌≡◌, ◌∙◌, ap, subst, Option, None}
+use Rattle.std.proofs.Common.{◌∙◌, ap}
 use Rattle.std.specs.Prelude.{find}
-use Rattle.sal_stmt.specs.declared.stmt.Stmt.{Stmt}
 use Rattle.sal_module.specs.Statements.{subs_of}
 use Rattle.sal_typedefs.specs.Scopes.{is_typedef_of}
 use Rattle.sal_typedefs.proofs.BlockLists.{find-none, find-some}

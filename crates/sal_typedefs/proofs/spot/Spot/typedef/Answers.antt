@@ -1,9 +1,8 @@
-use Rattle.std.proofs.Common.{◌≡◌, ◌∙◌, ◌++◌, Some, None, sym, ap, take, option_map}
+use Rattle.std.proofs.Common.{◌≡◌, ◌∙◌, ◌++◌, Some, sym, ap, take}
 use Rattle.std.specs.Borrow.{Bor}
 use Rattle.sal_stmt.specs.declared.stmt.Stmt.{Stmt}
 use Rattle.std.proofs.lemmas.List.{take-map}
-use Rattle.sal_typedefs.specs.Scopes.{closest}
-use Rattle.sal_typedefs.specs.Spots.{stmts, seen_in, site_in}
+use Rattle.sal_typedefs.specs.Spots.{stmts, site_in}
 use Rattle.sal_typedefs.proofs.SpotLists.{inner-some, inner-none}
 use Rattle.sal_typedefs.proofs.spot.Spot.typedef.Goals as goal
 

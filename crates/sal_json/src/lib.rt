@@ -32,6 +32,8 @@ mod named;
 mod numerals;
 mod patterns;
 mod read;
+#[cfg(test)]
+mod tests;
 mod texts;
 mod texts_read;
 mod write;

@@ -1,0 +1,3 @@
+pub mod Pieces
+pub mod Above
+pub mod Keys

@@ -1,0 +1,71 @@
+-- Identities and what they are derived from (RFC 7950 section 7.18).
+use Rattle.std.specs.Prelude.{ℕ, zero, suc, Bool, ◌==◌, ◌||◌, List, [], ◌∷◌, ◌++◌, map, fold, length, Option, Some, None, is_none, slice_index_or, if◌then◌else◌}
+use Rattle.std.specs.List.{flat_map, list_any, enumerate_from}
+use Rattle.std.specs.Option.{option_to_list}
+use Rattle.sal_stmt.specs.declared.stmt.Stmt.{Stmt}
+use Rattle.sal_module.specs.declared.keyword.Keyword.TheVariants as word
+use Rattle.sal_module.specs.declared.fault.Cause.TheVariants.{UnknownName, NameCycle}
+use Rattle.sal_module.specs.declared.fault.Found.{Found}
+use Rattle.sal_module.specs.Statements.{all_named, argument_of}
+use Rattle.sal_module.specs.Profile.{at_stmt}
+use Rattle.sal_grouping.specs.Names.{reaches_home}
+use Rattle.sal_schema.specs.declared.table.IdentityInfo.{IdentityInfo}
+use Rattle.sal_typedefs.specs.Scopes as scopes
+use Rattle.sal_typedefs.specs.Scopes.{identity_of}
+
+-- ---- the list of identities
+
+-- an identity: its module and its statement
+abbrev pub Identity : Type 0
+Identity = ℕ × Stmt
+
+abbrev pub identities_in : ℕ → Stmt → List Identity
+identities_in m stmt = map (λ one. (m, one)) (scopes.identities_of stmt)
+
+-- in the order of modules and texts
+abbrev pub identities_of : List Stmt → List Identity
+identities_of stmts = flat_map (λ (entry : ℕ × Stmt). identities_in entry.0 entry.1) (enumerate_from 0 stmts)
+
+-- the identities that the `base` statements of one name
+abbrev pub bases_of : List Stmt → Identity → List ℕ
+bases_of stmts one = flat_map (λ base. option_to_list (identity_of stmts one.0 (argument_of base))) (all_named word.Base one.1)
+
+abbrev pub edges_of : List Stmt → List (List ℕ)
+edges_of stmts = map (bases_of stmts) (identities_of stmts)
+
+-- ---- what one is derived from
+
+-- each number once, where it stands first
+abbrev pub with_number : List ℕ → ℕ → List ℕ
+with_number out k = if list_any (λ j. j == k) out then out else out ++ k ∷ []
+
+abbrev pub once : List ℕ → List ℕ
+once numbers = fold with_number [] numbers
+
+-- Its bases, and what they are derived from, in so many steps. A way without a cycle visits no identity twice.
+unfoldable pub derived : ℕ → List (List ℕ) → ℕ → List ℕ
+derived zero edges i = []
+derived (suc n) edges i = once (flat_map (λ base. base ∷ derived n edges base) (slice_index_or edges i []))
+
+abbrev pub derived_from : List (List ℕ) → ℕ → List ℕ
+derived_from edges i = derived (length edges) edges i
+
+abbrev pub info_of : List (List ℕ) → ℕ → Identity → IdentityInfo
+info_of edges i one = record { name = argument_of one.1; «module» = one.0; derived_from = derived_from edges i }
+
+abbrev pub infos_of : List Stmt → List IdentityInfo
+infos_of stmts = map (λ (entry : ℕ × Identity). info_of (edges_of stmts) entry.0 entry.1) (enumerate_from 0 (identities_of stmts))
+
+-- ---- faults
+
+-- an identity that no module has, and a `base` by which the identity around it is derived from itself
+abbrev pub base_faults : List Stmt → List (List ℕ) → ℕ → ℕ → Stmt → List Found
+base_faults stmts edges i m base =
+    (if is_none (identity_of stmts m (argument_of base)) then at_stmt UnknownName m base else [])
+    ++ (if reaches_home edges (length edges) (Some i) (identity_of stmts m (argument_of base)) then at_stmt NameCycle m base else [])
+
+abbrev pub faults_of : List Stmt → List (List ℕ) → ℕ → Identity → List Found
+faults_of stmts edges i one = flat_map (base_faults stmts edges i one.0) (all_named word.Base one.1)
+
+abbrev pub all_faults : List Stmt → List Found
+all_faults stmts = flat_map (λ (entry : ℕ × Identity). faults_of stmts (edges_of stmts) entry.0 entry.1) (enumerate_from 0 (identities_of stmts))

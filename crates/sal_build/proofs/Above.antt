@@ -1,5 +1,5 @@
 -- What nodes have from above, from one node to the next.
-use Rattle.std.proofs.Common.{◌≡◌, ℕ, zero, suc, ◌+◌, ◌<◌, ◌≤◌, nat_lt, List, [], ◌∷◌, ◌++◌, length, get_or, Bool, true, false, Option, Some, None, refl, sym, ap, ◌∙◌, inl, inr, arith, get_or-default}
+use Rattle.std.proofs.Common.{◌≡◌, ℕ, zero, suc, ◌+◌, ◌<◌, ◌≤◌, nat_lt, List, [], ◌∷◌, ◌++◌, length, get_or, Bool, true, false, Option, Some, None, refl, sym, ap, ◌∙◌, inl, inr, arith}
 use Rattle.std.proofs.lemmas.Bool.{cases_lt, cases_Bool}
 use Rattle.std.proofs.lemmas.Bool.Decides.{nat_tests}
 use Rattle.std.specs.List.{slice_get}
@@ -49,10 +49,11 @@ module _ {A : Type 0} (f : Branch → ℕ → A → A) (top : A) (forest : List 
       is ∙ ap (f b k) (same-above (λ p. get_or done p top) (from_above f top forest) k b.parent (λ p less. so_far p top less)) ∙ from_above-step k b h at in
       table-last (from_above f top forest) done k next count here so_far
 
-  past-step : (n k : ℕ) → slice_get forest k ≡ None → inherited f top n forest k ≡ top
-  past-step zero k none = zero-step k
-    where
-      zero-step : (k : ℕ) → inherited f top 0 forest k ≡ top
-      unfolding inherited
-      zero-step k = refl
-  past-step (suc n) k none = step n k ∙ rw none refl
+  none-step : (k : ℕ) → inherited f top 0 forest k ≡ top
+  unfolding inherited
+  none-step k = refl
+
+  -- and of no other number is anything known
+  pub past : (n k : ℕ) → slice_get forest k ≡ None → inherited f top n forest k ≡ top
+  past zero k none = none-step k
+  past (suc n) k none = step n k ∙ rw none refl

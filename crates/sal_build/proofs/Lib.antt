@@ -1,3 +1,4 @@
 pub mod Pieces
 pub mod Above
 pub mod Keys
+pub mod Infos

@@ -1,5 +1,6 @@
 -- Keys and unique leafs of lists, and configuration under state data (RFC 7950 sections 7.8.2, 7.8.3 and 7.21.1).
-use Rattle.std.specs.Prelude.{◌≡◌, ◌≤◌, ℕ, Bool, true, false, not, ◌&&◌, ◌||◌, ◌==◌, nat_eq, bool_eq, List, [], ◌∷◌, ◌++◌, map, filter, find, length, Option, Some, None, is_none, option_and_then, if◌then◌else◌}
+use Rattle.std.specs.Prelude.{◌≡◌, ◌≤◌, ℕ, Bool, true, false, not, ◌&&◌, ◌||◌, ◌==◌, nat_eq, List, [], ◌∷◌, ◌++◌, map, filter, find, length, Option, Some, None, is_none, option_and_then, if◌then◌else◌}
+use mathlib.Core.Bool.{beq}
 use Rattle.std.specs.List.{flat_map, list_any, slice_split, slice_get, enumerate_from}
 use Rattle.std.specs.Option.{option_map_or, option_to_list, option_eq}
 use Rattle.sal_stmt.specs.declared.stmt.Stmt.{Stmt}
@@ -61,11 +62,14 @@ abbrev pub given : List (Option ℕ) → List ℕ
 given named = flat_map option_to_list named
 
 -- no names, or one that no leaf has
+abbrev pub has_none : List (Option ℕ) → Bool
+has_none named = list_any is_none named
+
 abbrev pub is_missing : List (Option ℕ) → Bool
-is_missing named = length named == 0 || list_any is_none named
+is_missing named = length named == 0 || has_none named
 
 abbrev pub same_config : Option Bool → Option Bool → Bool
-same_config = option_eq bool_eq
+same_config = option_eq beq
 
 abbrev pub differs : List Stmt → List Branch → ℕ → ℕ → Bool
 differs stmts forest k leaf = not (same_config (config_of stmts forest leaf) (config_of stmts forest k))

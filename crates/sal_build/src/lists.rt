@@ -157,10 +157,16 @@ pub(crate) fn given(alloc: Global, named: &[Option<u32>]) -> Result<Vec<u32>, No
 
 // ---- what is bad
 
+fn has_none(named: &[Option<u32>]) -> bool
+    ensures { result ≡ spec.has_none named.now }
+{
+    named.iter().any(|leaf| leaf.is_none())
+}
+
 fn is_missing(named: &[Option<u32>]) -> bool
     ensures { result ≡ spec.is_missing named.now }
 {
-    named.is_empty() || named.iter().any(|leaf| leaf.is_none())
+    named.is_empty() || has_none(named)
 }
 
 fn has_number(number: u32, numbers: &[u32]) -> bool

@@ -2,3 +2,4 @@ pub mod Pieces
 pub mod Above
 pub mod Keys
 pub mod Infos
+pub mod Climbs

@@ -42,10 +42,14 @@ with_number out k = if list_any (λ j. j == k) out then out else out ++ k ∷ []
 abbrev pub once : List ℕ → List ℕ
 once numbers = fold with_number [] numbers
 
+-- bases, each with what it is derived from
+abbrev pub joined : (ℕ → List ℕ) → List ℕ → List ℕ
+joined above bases = once (flat_map (λ base. base ∷ above base) bases)
+
 -- Its bases, and what they are derived from, in so many steps. A way without a cycle visits no identity twice.
 unfoldable pub derived : ℕ → List (List ℕ) → ℕ → List ℕ
 derived zero edges i = []
-derived (suc n) edges i = once (flat_map (λ base. base ∷ derived n edges base) (slice_index_or edges i []))
+derived (suc n) edges i = joined (derived n edges) (slice_index_or edges i [])
 
 abbrev pub derived_from : List (List ℕ) → ℕ → List ℕ
 derived_from edges i = derived (length edges) edges i

@@ -1,5 +1,5 @@
 -- Where leafrefs lead, and the types of nodes (RFC 7950 sections 6.4.1 and 9.9).
-use Rattle.std.specs.Prelude.{ℕ, zero, suc, ◌+◌, ◌==◌, Bool, true, false, ◌&&◌, List, [], ◌∷◌, ◌++◌, map, filter, find, length, take, drop, Option, Some, None, option_map, option_and_then, unwrap_or, if◌then◌else◌, codes}
+use Rattle.std.specs.Prelude.{◌≡◌, ◌≤◌, ℕ, zero, suc, ◌+◌, ◌-◌, ◌==◌, Bool, true, false, ◌&&◌, List, [], ◌∷◌, ◌++◌, map, filter, find, length, take, drop, Option, Some, None, option_map, option_and_then, unwrap_or, if◌then◌else◌, codes}
 use Rattle.std.specs.List.{flat_map, list_any, enumerate_from, slice_get, slice_split, prefix_len}
 use Rattle.std.specs.Option.{option_map_or, option_to_list}
 use Rattle.sal_stmt.specs.Words.{colon_at}
@@ -23,8 +23,11 @@ use Rattle.sal_typedefs.specs.Scopes.{Site, within, site_at}
 use Rattle.sal_typedefs.specs.Names.{name_of as type_name, under, steps_of, outside, path_names, is_up}
 use Rattle.sal_typedefs.specs.Types.{judge, members_of}
 use Rattle.sal_build.specs.Nodes.{kind_of, name_of, own_stmt}
-use Rattle.sal_build.specs.Inherited.{over, from_above, data_parent}
-use Rattle.sal_build.specs.Children.{key, first_with, data_key}
+use Rattle.std.specs.BTreeMap.{get}
+use Rattle.sal_build.specs.declared.child.Key.{Key}
+use Rattle.sal_build.specs.declared.walk.Ways.{Ways}
+use Rattle.sal_build.specs.Inherited.{AreInherited, with_data_node, from_above, data_parent}
+use Rattle.sal_build.specs.Children.{key, key_cmp, first_with, data_key}
 
 -- ---- the type statement of a node
 
@@ -47,24 +50,30 @@ leafrefs_at stmts b = flat_map (leafrefs_of stmts) (option_to_list (type_of stmt
 -- ---- places
 
 -- The RPC's input or output, or the notification, in which a node stands: the paths in it have it for an operation at the top.
+abbrev pub message_in : Kind → ℕ → Option ℕ → Option ℕ
+message_in kind k over = if is_message kind then Some k else over
+
 abbrev pub with_message : List Stmt → Branch → ℕ → Option ℕ → Option ℕ
-with_message stmts b k over = if is_message (kind_of stmts b) then Some k else over
+with_message stmts b k over = message_in (kind_of stmts b) k over
 
 abbrev pub message_of : List Stmt → List Branch → ℕ → Option ℕ
 message_of stmts forest k = from_above (with_message stmts) None forest k
 
 -- A step up leads to the node that data stand under, and from a message to the top. No step leads up from there.
+abbrev pub above_branch : List Stmt → List Branch → Branch → Option ℕ
+above_branch stmts forest b = if is_message (kind_of stmts b) then None else data_parent stmts forest b.parent
+
 abbrev pub above_node : List Stmt → List Branch → Option Branch → Option ℕ
 above_node stmts forest None = None
-above_node stmts forest (Some b) = if is_message (kind_of stmts b) then None else data_parent stmts forest b.parent
+above_node stmts forest (Some b) = above_branch stmts forest b
 
 abbrev pub step_up : List Stmt → List Branch → Option ℕ → Option (Option ℕ)
 step_up stmts forest None = None
 step_up stmts forest (Some n) = Some (above_node stmts forest (slice_get forest n))
 
-abbrev pub steps_up : List Stmt → List Branch → ℕ → Option ℕ → Option (Option ℕ)
-steps_up stmts forest zero place = Some place
-steps_up stmts forest (suc n) place = option_and_then (steps_up stmts forest n) (step_up stmts forest place)
+unfoldable pub steps_up : ℕ → List Stmt → List Branch → Option ℕ → Option (Option ℕ)
+steps_up zero stmts forest place = Some place
+steps_up (suc n) stmts forest place = option_and_then (steps_up n stmts forest) (step_up stmts forest place)
 
 -- the operation of a message: an RPC, or the notification itself
 abbrev pub operation_of : List Branch → ℕ → Option Branch
@@ -74,20 +83,40 @@ abbrev pub is_operation : List Stmt → List Branch → ℕ → ℕ → List ℕ
 is_operation stmts forest m n name = option_map_or (λ (b : Branch). b.module == m && same (name_of stmts b) name) (operation_of forest n) false
 
 -- A name at the top may be that of the own operation, and means the own message then. No other path leads into one.
+abbrev pub own_message : List Stmt → List Branch → Option ℕ → Option ℕ → ℕ → List ℕ → Option ℕ
+own_message stmts forest own (Some place) m name = None
+own_message stmts forest None None m name = None
+own_message stmts forest (Some n) None m name = if is_operation stmts forest m n name then Some n else None
+
+abbrev pub data_child : List Stmt → List Branch → Option ℕ → ℕ → List ℕ → Option ℕ
+data_child stmts forest place m name = first_with (data_key stmts forest) forest (key false place m name)
+
+abbrev pub or_else : Option ℕ → Option ℕ → Option ℕ
+or_else None other = other
+or_else (Some n) other = Some n
+
 abbrev pub step_down : List Stmt → List Branch → Option ℕ → Option ℕ → ℕ → List ℕ → Option ℕ
-step_down stmts forest (Some own) None m name =
-    if is_operation stmts forest m own name then Some own else first_with (data_key stmts forest) forest (key false None m name)
-step_down stmts forest own place m name = first_with (data_key stmts forest) forest (key false place m name)
+step_down stmts forest own place m name = or_else (own_message stmts forest own place m name) (data_child stmts forest place m name)
 
 -- Without a prefix a name is of the module of the node that has the type, and with one of the module that its statement's text means.
 abbrev pub module_named : List Stmt → ℕ → ℕ → List ℕ → Option ℕ
 module_named stmts owner source text = if has_prefix text then imported stmts source (take (colon_at text) text) else Some owner
 
+abbrev pub named_below : List Stmt → List Branch → Option ℕ → ℕ → ℕ → Option ℕ → List ℕ → Option ℕ
+named_below stmts forest own owner source place name =
+    option_and_then (λ m. step_down stmts forest own place m (local_name name)) (module_named stmts owner source name)
+
 abbrev pub steps_down : List Stmt → List Branch → Option ℕ → ℕ → ℕ → Option ℕ → List (List ℕ) → Option ℕ
 steps_down stmts forest own owner source place [] = place
 steps_down stmts forest own owner source place (name ∷ names) =
-    option_and_then (λ m. option_and_then (λ n. steps_down stmts forest own owner source (Some n) names) (step_down stmts forest own place m (local_name name)))
-    (module_named stmts owner source name)
+    option_and_then (λ n. steps_down stmts forest own owner source (Some n) names) (named_below stmts forest own owner source place name)
+
+-- what paths are followed by
+pub record AreWays (stmts : List Stmt) (forest : List Branch) (ways : Ways) : Type 0 where
+  pub few : length forest ≤ 65536
+  pub data_nodes : AreInherited (with_data_node stmts) None forest ways.data_nodes.items
+  pub messages : AreInherited (with_message stmts) None forest ways.messages.items
+  pub children : (q : Key) → get key_cmp ways.children q ≡ first_with (data_key stmts forest) forest q
 
 -- ---- targets
 
@@ -97,21 +126,30 @@ count_up path = prefix_len is_up (slice_split (λ c. c == 47) path)
 
 -- where its names begin, for a leaf under this place
 abbrev pub start_of : List Stmt → List Branch → Option ℕ → ℕ → Option (Option ℕ)
-start_of stmts forest place zero = Some None
-start_of stmts forest place (suc n) = steps_up stmts forest n place
+start_of stmts forest place up = if up == 0 then Some None else steps_up (up - 1) stmts forest place
 
 abbrev pub has_type_at : List Stmt → List Branch → ℕ → Bool
 has_type_at stmts forest n = option_map_or (λ b. has_type (kind_of stmts b)) (slice_get forest n) false
 
--- the leaf or leaf-list at which the path of a leafref ends
-abbrev pub end_of : List Stmt → List Branch → Option ℕ → Branch → ℕ → List ℕ → List (List ℕ) → Option ℕ
-end_of stmts forest own b source path [] = None
-end_of stmts forest own b source path names =
-    option_and_then (λ n. if has_type_at stmts forest n then Some n else None)
-    (option_and_then (λ place. steps_down stmts forest own b.module source place names) (start_of stmts forest (data_parent stmts forest b.parent) (count_up path)))
+-- a node that is a leaf or a leaf-list
+abbrev pub typed_node : List Stmt → List Branch → Option ℕ → Option ℕ
+typed_node stmts forest None = None
+typed_node stmts forest (Some n) = if has_type_at stmts forest n then Some n else None
 
+-- where a path leads from the leaf k, which goes up so often and down by these names
+abbrev pub end_from : List Stmt → List Branch → Option ℕ → ℕ → ℕ → List (List ℕ) → Option (Option ℕ) → Option ℕ
+end_from stmts forest own owner source names None = None
+end_from stmts forest own owner source names (Some start) = typed_node stmts forest (steps_down stmts forest own owner source start names)
+
+abbrev pub end_of : List Stmt → List Branch → ℕ → Branch → ℕ → ℕ → List (List ℕ) → Option ℕ
+end_of stmts forest k b source up names =
+    if length names == 0 then None
+    else end_from stmts forest (message_of stmts forest k) b.module source names (start_of stmts forest (data_parent stmts forest b.parent) up)
+
+-- the leaf or leaf-list at which the path of a leafref ends
 abbrev pub target_of : List Stmt → List Branch → ℕ → Branch → Site → Option ℕ
-target_of stmts forest k b site = end_of stmts forest (message_of stmts forest k) b site.module (value_of word.Path site.stmt) (path_names (value_of word.Path site.stmt))
+target_of stmts forest k b site =
+    end_of stmts forest k b site.module (count_up (value_of word.Path site.stmt)) (path_names (value_of word.Path site.stmt))
 
 abbrev pub targets_of : List Stmt → List Branch → ℕ → Branch → List ℕ
 targets_of stmts forest k b = flat_map (λ site. option_to_list (target_of stmts forest k b site)) (leafrefs_at stmts b)

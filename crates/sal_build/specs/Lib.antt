@@ -3,6 +3,7 @@ pub mod Inherited
 pub mod Children
 pub mod Lists
 pub mod Table
+pub mod Orders
 pub mod Identities
 pub mod Types
 pub mod Leafrefs

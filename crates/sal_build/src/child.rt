@@ -125,7 +125,7 @@ pub(crate) fn data_children_of(
 
 // ---- names in the statement of a node
 
-fn local_name<'s>(text: &'s str) -> &'s str
+pub(crate) fn local_name<'s>(text: &'s str) -> &'s str
     ensures { result.now ≡ spec.local_name text.now }
 {
     match text.split_once(':') {
@@ -144,7 +144,7 @@ fn module_named(modules: &Modules, branch: &Branch, text: &str) -> Option<u32>
     }
 }
 
-fn find(map: &Found, key: Key) -> Option<u32>
+pub(crate) fn find(map: &Found, key: Key) -> Option<u32>
     ensures { result ≡ get spec.key_cmp map.now key }
 {
     map.get(&key).copied()

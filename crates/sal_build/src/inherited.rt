@@ -84,7 +84,7 @@ pub(crate) fn config_at(
 
 // ---- the node that data stand under
 
-fn data_over(done: &[Option<u32>], k: usize, parent: Option<u32>) -> Option<u32>
+pub(crate) fn data_over(done: &[Option<u32>], k: usize, parent: Option<u32>) -> Option<u32>
     requires { k ≤ length done.now }
     ensures { result ≡ spec.above (λ p. slice_index_or done.now p None) None k parent }
 {

@@ -2,7 +2,10 @@
 #![tactic(auto)]
 
 mod child;
+mod derived;
+mod order;
 mod tables;
+mod walk;
 mod lists;
 mod words;
 mod info;

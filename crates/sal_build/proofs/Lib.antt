@@ -3,3 +3,4 @@ pub mod Above
 pub mod Keys
 pub mod Infos
 pub mod Climbs
+pub mod Derivations

@@ -15,6 +15,13 @@ pub(crate) struct Order {
     pub order: Vec<usize>,
 }
 
+/// What a number names.
+pub(crate) fn out_of(edges: &[Vec<usize>], i: usize) -> &[usize]
+    ensures { result.now ≡ slice_index_or (lists edges.now) i [] }
+{
+    if i < edges.len() { &edges[i] } else { &[] }
+}
+
 fn rank_of(ranks: &[usize], i: usize) -> usize
     ensures { result ≡ spec.rank_of ranks.now i }
 {
@@ -28,7 +35,8 @@ fn are_lower(ranks: &[usize], count: usize, i: usize, out: &[usize]) -> bool
     out.iter().all(|k| *k < count && rank_of(ranks, *k) < rank)
 }
 
-fn stands_at(order: &[usize], rank: usize, none: usize) -> usize
+/// The number at a rank.
+pub(crate) fn stands_at(order: &[usize], rank: usize, none: usize) -> usize
     ensures { result ≡ slice_index_or order.now rank none }
 {
     order.get(rank).copied().unwrap_or(none)
@@ -40,7 +48,7 @@ fn is_placed(edges: &[Vec<usize>], ranks: &[usize], order: &[usize], i: usize) -
 {
     rank_of(ranks, i) < edges.len()
         && stands_at(order, rank_of(ranks, i), edges.len()) == i
-        && are_lower(ranks, edges.len(), i, &edges[i])
+        && are_lower(ranks, edges.len(), i, out_of(edges, i))
 }
 
 fn are_placed(edges: &[Vec<usize>], ranks: &[usize], order: &[usize]) -> bool
@@ -54,14 +62,21 @@ fn are_placed(edges: &[Vec<usize>], ranks: &[usize], order: &[usize]) -> bool
     true
 }
 
-/// The numbers by their ranks.
-fn by_rank(alloc: Global, ranks: &[usize], count: usize) -> Result<Vec<usize>, NoMemory>
+fn unplaced(alloc: Global, count: usize) -> Result<Vec<usize>, NoMemory>
     ensures { IfOk result (λ order. length order.items ≡ count) }
 {
     let mut order = Vec::with_capacity(alloc, count)?;
     for _i in 0..count {
         order.push(count)?;
     }
+    Ok(order)
+}
+
+/// The numbers by their ranks.
+fn by_rank(alloc: Global, ranks: &[usize], count: usize) -> Result<Vec<usize>, NoMemory>
+    ensures { IfOk result (λ order. length order.items ≡ count) }
+{
+    let mut order = unplaced(alloc, count)?;
     for (i, rank) in ranks.iter().enumerate() {
         if *rank < count {
             order[*rank] = i;

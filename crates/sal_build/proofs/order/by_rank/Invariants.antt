@@ -2,8 +2,5 @@
 use Rattle.std.proofs.Common.{◌≡◌, length}
 use Rattle.sal_build.proofs.order.by_rank.Given as goal
 
-abbrev pub invariant-loop-_i : goal.invariant-loop-_i
-invariant-loop-_i l = length l.order.items ≡ l._i
-
 abbrev pub invariant-loop-i : goal.invariant-loop-i
 invariant-loop-i l = length l.order.items ≡ l.count

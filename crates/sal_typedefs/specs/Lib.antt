@@ -1,6 +1,10 @@
 pub mod Scopes
+pub mod Blocks
 pub mod Builtins
 pub mod Names
+pub mod Ready
+pub mod Walks
+pub mod Spots
 pub mod Entries
 pub mod Patterns
 pub mod Restrictions

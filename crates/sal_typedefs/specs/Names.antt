@@ -106,11 +106,11 @@ abbrev pub cycle_faults : ℕ → List Stmt → Site → List Found
 cycle_faults steps modules site = if goes_in_circle steps modules site then at_stmt NameCycle site.module site.stmt else []
 
 -- an identity that no module has, by a `base` of an identityref
+abbrev pub base_fault : List Stmt → ℕ → Stmt → List Found
+base_fault modules m sub = if is_named word.Base sub && is_none (identity_of modules m (argument_of sub)) then at_stmt UnknownName m sub else []
+
 abbrev pub base_faults : List Stmt → Site → List Found
-base_faults modules site =
-    if same (name_of site) (codes "identityref")
-    then flat_map (λ base. if is_none (identity_of modules site.module (argument_of base)) then at_stmt UnknownName site.module base else []) (all_named word.Base site.stmt)
-    else []
+base_faults modules site = if same (name_of site) (codes "identityref") then flat_map (base_fault modules site.module) (subs_of site.stmt) else []
 
 -- a prefix that no import has, in the path of a leafref
 abbrev pub path_faults : List Stmt → Site → List Found

@@ -1,6 +1,6 @@
 -- Statements with what stands around them, and the names that mean others (RFC 7950 sections 5.5, 6.2.1 and 6.4.1).
 use Rattle.std.specs.Prelude.{ℕ, zero, suc, ◌+◌, Bool, ◌&&◌, ◌==◌, nat_lt, List, [], ◌∷◌, length, take, drop, find, Option, Some, None, is_some, option_map, option_and_then, if◌then◌else◌}
-use Rattle.std.specs.List.{slice_get, sum_by, position}
+use Rattle.std.specs.List.{slice_get, sum_by, position_from}
 use Rattle.std.specs.Option.{option_to_list}
 use Rattle.sal_stmt.specs.declared.stmt.Stmt.{Stmt, out-Stmt}
 use Rattle.sal_stmt.specs.Words.{colon_at}
@@ -78,7 +78,7 @@ identities_of stmt = all_named word.Identity stmt
 -- Identities are numbered over all modules, in the order of their texts.
 abbrev pub identity_in : List Stmt → List ℕ → ℕ → Stmt → Option ℕ
 identity_in modules name m stmt =
-    option_map (λ i. sum_by (λ one. length (identities_of one)) (take m modules) + i) (position (λ one. same (argument_of one) name) (identities_of stmt))
+    option_map (λ i. sum_by (λ one. length (identities_of one)) (take m modules) + i) (position_from (λ one. same (argument_of one) name) 0 (identities_of stmt))
 
 abbrev pub identity_of : List Stmt → ℕ → List ℕ → Option ℕ
 identity_of modules m name =

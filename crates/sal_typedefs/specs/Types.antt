@@ -1,6 +1,6 @@
 -- What a type statement means: its type, or the first fault in it and in those that it rests on.
 use Rattle.std.specs.Prelude.{◌≡◌, ⊤, ℕ, zero, suc, ◌+◌, Bool, true, false, not, ◌==◌, List, [], ◌∷◌, ◌++◌, map, find, length, Option, Some, None, is_some, option_map, unwrap_or, if◌then◌else◌, Result, Ok, Err, unsigned_abs}
-use Rattle.std.specs.List.{flat_map, list_any, enumerate_from, position, slice_get, slice_index}
+use Rattle.std.specs.List.{flat_map, list_any, enumerate_from, position_from, slice_get, slice_index}
 use Rattle.std.specs.Option.{option_to_list}
 use Rattle.std.specs.Result.{result_unwrap_or}
 use Rattle.sal_stmt.specs.declared.stmt.Stmt.{Stmt}
@@ -43,7 +43,7 @@ members_of t layer = t ∷ []
 
 -- the places of some names in the original enumeration
 abbrev pub places_of : List (List ℕ) → List ℕ → List (List ℕ) → List ℕ
-places_of names places chosen = map (λ name. slice_index places (unwrap_or (position (same name) names) 0)) chosen
+places_of names places chosen = map (λ name. slice_index places (unwrap_or (position_from (same name) 0 names) 0)) chosen
 
 abbrev pub names_in : List Entry → List (List ℕ)
 names_in entries = map (λ (e : Entry). e.0) entries

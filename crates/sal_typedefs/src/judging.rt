@@ -17,7 +17,7 @@ use sal_stmt::Stmt;
 use sal_types::NoMemory;
 use std::alloc::Global;
 
-fn at(cause: Cause, number: u32, stmt: &Stmt) -> Found
+pub(crate) fn at(cause: Cause, number: u32, stmt: &Stmt) -> Found
     ensures { result ≡ record { cause = cause; «module» = number; at = (out-Stmt stmt.now).at } }
 {
     Found {

@@ -20,16 +20,26 @@
 //! Cost: `is_malformed` compiles the pattern, as `regex` does.
 #![tactic(auto)]
 
+mod below;
+mod block;
 mod builtin;
+mod circle;
+mod count;
+mod identities;
 mod judging;
 mod name;
 mod narrowing;
 mod pattern;
 mod restriction;
 mod site;
+mod spot;
 #[cfg(test)]
 mod tests;
+mod typedefs;
 mod vectors;
+mod walk;
 
+pub use block::Block;
 pub use pattern::is_malformed;
 pub use site::TypeSite;
+pub use typedefs::Typedefs;

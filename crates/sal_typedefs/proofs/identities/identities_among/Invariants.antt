@@ -1,0 +1,11 @@
+-- The identities so far.
+use Rattle.std.proofs.Common.{◌≡◌, ◌+◌, take, length}
+use Rattle.sal_typedefs.specs.Ready.{identities_among, AreNumbered}
+use Rattle.sal_typedefs.proofs.identities.identities_among.Given as goal
+
+abbrev pub invariant-loop-sub : goal.invariant-loop-sub
+invariant-loop-sub l =
+    record {
+      names : AreNumbered l.start (take l.sub-index l.subs) l.map;
+      next : l.next ≡ l.start + length (identities_among (take l.sub-index l.subs));
+    }

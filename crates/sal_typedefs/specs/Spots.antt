@@ -1,0 +1,21 @@
+-- Sites, as the code has them.
+use Rattle.std.specs.Prelude.{◌≡◌, ℕ, List, ◌++◌, map, reverse, take}
+use Rattle.std.specs.Borrow.{Bor}
+use Rattle.sal_stmt.specs.declared.stmt.Stmt.{Stmt}
+use Rattle.sal_typedefs.specs.declared.spot.Spot.{Spot}
+use Rattle.sal_typedefs.specs.Scopes.{Site}
+
+-- a statement with the blocks around it, from the outermost inwards
+abbrev pub site_in : ℕ → List Stmt → Stmt → Site
+site_in m blocks stmt = record { «module» = m; stmt = stmt; around = reverse blocks }
+
+abbrev pub stmts : List (Bor Stmt) → List Stmt
+stmts all = map (λ (s : Bor Stmt). s.now) all
+
+-- a statement of module m in the last of so many of these blocks
+abbrev pub seen_in : ℕ → List Stmt → ℕ × Bor Stmt → Site
+seen_in m blocks found = site_in m (take found.0 blocks) found.1.now
+
+-- the site that the code holds: the blocks of the caller, and those inside
+abbrev pub site_of : Spot → Site
+site_of s = site_in s.module (s.outer.now ++ stmts s.inner.items) s.stmt.now

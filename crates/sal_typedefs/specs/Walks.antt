@@ -1,0 +1,27 @@
+-- The statements that a type statement rests on, one after another.
+use Rattle.std.specs.Prelude.{ℕ, zero, suc, List, [], ◌∷◌, ◌++◌, length}
+use Rattle.std.specs.List.{flat_map}
+use Rattle.sal_stmt.specs.declared.stmt.Stmt.{Stmt}
+use Rattle.sal_typedefs.specs.declared.walk.Way.{Way}
+use Rattle.sal_typedefs.specs.declared.walk.Gone.{Gone}
+use Rattle.sal_typedefs.specs.Scopes.{Site}
+use Rattle.sal_typedefs.specs.Names.{rests_on}
+use Rattle.sal_typedefs.specs.Spots.{site_of}
+
+-- a statement, and how many come behind it on which it rests itself
+pub record Node : Type 0 where
+  pub site : Site
+  pub below : ℕ
+
+-- a statement before those that it rests on, in so many steps
+unfoldable pub nodes : ℕ → List Stmt → Site → List Node
+nodes zero modules site = record { site = site; below = 0 } ∷ []
+nodes (suc steps) modules site = record { site = site; below = length (rests_on modules site) } ∷ flat_map (nodes steps modules) (rests_on modules site)
+
+-- what is left to go to, the last one first
+abbrev pub left : List Stmt → List Way → List Node
+left modules [] = []
+left modules (way ∷ ways) = left modules ways ++ nodes way.steps modules (site_of way.spot)
+
+abbrev pub node_of : Gone → Node
+node_of gone = record { site = site_of gone.spot; below = gone.below }

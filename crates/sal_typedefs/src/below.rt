@@ -1,0 +1,109 @@
+//! What a type statement rests on: the type of the typedef that it names, or the members of a union.
+ghost use Rattle.std.specs.Prelude.{◌≡◌, IfOk, map, option_map, take};
+ghost use Rattle.std.specs.List.{flat_map};
+ghost use Rattle.std.specs.Option.{option_to_list};
+ghost use Rattle.sal_typedefs.specs.Scopes as scopes;
+ghost use Rattle.sal_typedefs.specs.Names as spec;
+ghost use Rattle.sal_typedefs.specs.Spots.{site_of};
+
+use crate::builtin::builtin_of;
+use crate::name::local;
+use crate::spot::{Spot, typedef_in};
+use crate::typedefs::Typedefs;
+use sal_module::{Keyword, argument_of, first_named, is_named};
+use sal_types::NoMemory;
+use std::alloc::Global;
+
+/// The typedef of a name in a module, seen from a statement.
+fn typedef_of<'a>(
+    alloc: Global,
+    typedefs: &'a Typedefs<'a>,
+    spot: &Spot<'a>,
+    number: u32,
+    name: &str,
+) -> Result<Option<Spot<'a>>, NoMemory>
+    ensures { IfOk result (λ found. option_map site_of found ≡ scopes.closest number name.now (scopes.blocks_of typedefs.now (site_of spot.now) number)) }
+{
+    if number == spot.module {
+        return spot.typedef(alloc, name);
+    }
+    match typedefs.top(number) {
+        None => Ok(None),
+        Some(blocks) => Ok(typedef_in(alloc, number, blocks, name)),
+    }
+}
+
+/// The typedef that a type statement names.
+pub(crate) fn target<'a>(
+    alloc: Global,
+    typedefs: &'a Typedefs<'a>,
+    spot: &Spot<'a>,
+) -> Result<Option<Spot<'a>>, NoMemory>
+    ensures { IfOk result (λ found. option_map site_of found ≡ spec.target typedefs.now (site_of spot.now)) }
+{
+    let name = argument_of(spot.stmt);
+    if builtin_of(name).is_some() {
+        return Ok(None);
+    }
+    match typedefs.module_of(spot.module, name) {
+        None => Ok(None),
+        Some(number) => typedef_of(alloc, typedefs, spot, number, local(name)),
+    }
+}
+
+/// The `type` statements in the block of a statement.
+fn types_in<'a>(alloc: Global, spot: &Spot<'a>) -> Result<Vec<Spot<'a>>, NoMemory>
+    ensures { IfOk result (λ all. map site_of all.items ≡ spec.types_in (site_of spot.now)) }
+{
+    let mut all = Vec::new(alloc);
+    for sub in spot.stmt.subs.items() {
+        if is_named(Keyword::Type, sub) {
+            all.push(spot.within(alloc, sub)?)?;
+        }
+    }
+    Ok(all)
+}
+
+/// The first of them.
+fn first_type<'a>(alloc: Global, spot: &Spot<'a>) -> Result<Vec<Spot<'a>>, NoMemory>
+    ensures { IfOk result (λ all. map site_of all.items ≡ take 1 (spec.types_in (site_of spot.now))) }
+{
+    let mut all = Vec::new(alloc);
+    match first_named(Keyword::Type, spot.stmt.subs.items()) {
+        None => Ok(all),
+        Some(sub) => {
+            all.push(spot.within(alloc, sub)?)?;
+            Ok(all)
+        }
+    }
+}
+
+/// The `type` statement of a typedef, if there is one.
+fn type_of<'a>(alloc: Global, typedef: Option<Spot<'a>>) -> Result<Vec<Spot<'a>>, NoMemory>
+    ensures { IfOk result (λ all. map site_of all.items
+        ≡ flat_map (λ typedef. take 1 (spec.types_in typedef)) (option_to_list (option_map site_of typedef.entry))) }
+{
+    match typedef {
+        None => Ok(Vec::new(alloc)),
+        Some(typedef) => first_type(alloc, &typedef),
+    }
+}
+
+/// The type statements that a type statement rests on.
+pub(crate) fn rests_on<'a>(
+    alloc: Global,
+    typedefs: &'a Typedefs<'a>,
+    spot: &Spot<'a>,
+) -> Result<Vec<Spot<'a>>, NoMemory>
+    ensures { IfOk result (λ all. map site_of all.items ≡ spec.rests_on typedefs.now (site_of spot.now)) }
+{
+    let name = argument_of(spot.stmt);
+    if builtin_of(name).is_some() {
+        if name == "union" {
+            return types_in(alloc, spot);
+        }
+        return Ok(Vec::new(alloc));
+    }
+    let typedef = target(alloc, typedefs, spot)?;
+    type_of(alloc, typedef)
+}

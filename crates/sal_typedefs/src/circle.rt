@@ -1,0 +1,111 @@
+//! Typedefs that rest on themselves.
+ghost use Rattle.std.specs.Prelude.{◌≡◌, [], IfOk, find, reverse};
+ghost use Rattle.std.specs.List.{list_any};
+ghost use Rattle.std.specs.Option.{option_copied, option_to_list};
+ghost use Rattle.sal_module.specs.declared.keyword.Keyword.TheVariants as word;
+ghost use Rattle.sal_module.specs.Statements.{is_named};
+ghost use Rattle.sal_typedefs.specs.Spots.{stmts, site_of};
+ghost use Rattle.sal_typedefs.specs.Names as spec;
+
+use crate::below::target;
+use crate::block::Block;
+use crate::spot::Spot;
+use crate::typedefs::Typedefs;
+use crate::walk::{next, start};
+use sal_module::{Keyword, is_named};
+use sal_stmt::Stmt;
+use sal_types::NoMemory;
+use std::alloc::Global;
+
+fn closest_outer<'a>(list: &[Block<'a>]) -> Option<&'a Stmt>
+    ensures { option_copied result ≡ find (is_named word.Typedef) (reverse list.now) }
+{
+    let mut n = list.len();
+    'closest: while n > 0 {
+        let stmt = list[n - 1].stmt();
+        if is_named(Keyword::Typedef, stmt) {
+            return Some(stmt);
+        }
+        n -= 1;
+    }
+    None
+}
+
+fn closest_inner<'a>(list: &[&'a Stmt]) -> Option<&'a Stmt>
+    ensures { option_copied result ≡ find (is_named word.Typedef) (reverse (stmts list.now)) }
+{
+    let mut n = list.len();
+    'closest: while n > 0 {
+        let stmt = list[n - 1];
+        if is_named(Keyword::Typedef, stmt) {
+            return Some(stmt);
+        }
+        n -= 1;
+    }
+    None
+}
+
+/// The closest typedef around a statement.
+fn typedef_around<'a>(spot: &Spot<'a>) -> Option<&'a Stmt>
+    ensures { option_copied result ≡ spec.typedef_around (site_of spot.now) }
+{
+    match closest_inner(spot.inner.as_slice()) {
+        Some(stmt) => Some(stmt),
+        None => closest_outer(spot.outer),
+    }
+}
+
+/// Whether a type statement names this typedef of this module.
+fn is_of<'a>(
+    alloc: Global,
+    typedefs: &'a Typedefs<'a>,
+    number: u32,
+    typedef: &Stmt,
+    spot: &Spot<'a>,
+) -> Result<bool, NoMemory>
+    ensures { IfOk result (λ is. is ≡ spec.is_of typedefs.now (record { «module» = number; stmt = typedef.now; around = [] }) (site_of spot.now)) }
+{
+    match target(alloc, typedefs, spot)? {
+        None => Ok(false),
+        Some(found) => Ok(number == found.module && typedef.at == found.stmt.at),
+    }
+}
+
+/// Whether a type statement, or one that it rests on, names this typedef of its module.
+fn reaches<'a>(
+    alloc: Global,
+    typedefs: &'a Typedefs<'a>,
+    spot: &Spot<'a>,
+    typedef: &Stmt,
+) -> Result<bool, NoMemory>
+    ensures { IfOk result (λ does. does ≡ list_any (spec.is_of typedefs.now (record { «module» = spot.now.module; stmt = typedef.now; around = [] }))
+        (spec.under (spec.steps_of typedefs.now) typedefs.now (site_of spot.now))) }
+{
+    let mut ways = start(alloc, typedefs, spot.copy(alloc)?)?;
+    for _i in 0..u64::MAX {
+        match next(&mut ways, alloc, typedefs)? {
+            None => return Ok(false),
+            Some(gone) => {
+                if is_of(alloc, typedefs, spot.module, typedef, &gone.spot)? {
+                    return Ok(true);
+                }
+            }
+        }
+    }
+    Err(NoMemory)
+}
+
+/// Whether the typedef around a type statement rests on itself by the name that the statement gives.
+pub(crate) fn goes_in_circle<'a>(
+    alloc: Global,
+    typedefs: &'a Typedefs<'a>,
+    spot: &Spot<'a>,
+) -> Result<bool, NoMemory>
+    ensures { IfOk result (λ does. does ≡ list_any (λ typedef. list_any (spec.is_of typedefs.now (record { «module» = spot.now.module; stmt = typedef; around = [] }))
+        (spec.under (spec.steps_of typedefs.now) typedefs.now (site_of spot.now))) (option_to_list (spec.typedef_around (site_of spot.now)))) }
+{
+    match typedef_around(spot) {
+        None => Ok(false),
+        Some(typedef) => reaches(alloc, typedefs, spot, typedef),
+    }
+}

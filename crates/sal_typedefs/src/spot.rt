@@ -1,0 +1,136 @@
+//! Type statements with the blocks around them.
+ghost use Rattle.std.specs.Prelude.{◌≡◌, ◌≤◌, IfOk, IfSome, map, option_map, reverse, length};
+ghost use Rattle.sal_typedefs.specs.Scopes as scopes;
+ghost use Rattle.sal_typedefs.specs.Spots as spec;
+
+use crate::block::{Block, typedef_among};
+use sal_module::{Keyword, is_named};
+use sal_stmt::Stmt;
+use sal_types::NoMemory;
+use std::alloc::Global;
+
+/// A statement and the blocks around it, from the outermost inwards: first those of the caller, then those inside.
+#[derive(Drop)]
+pub(crate) struct Spot<'a> {
+    pub(crate) module: u32,
+    pub(crate) stmt: &'a Stmt,
+    pub(crate) outer: &'a [Block<'a>],
+    pub(crate) inner: Vec<&'a Stmt>,
+}
+
+fn copies<'a>(alloc: Global, list: &[&'a Stmt]) -> Result<Vec<&'a Stmt>, NoMemory>
+    ensures { IfOk result (λ copy. spec.stmts copy.items ≡ spec.stmts list.now) }
+{
+    let mut copy = Vec::with_capacity(alloc, list.len())?;
+    for stmt in list {
+        copy.push(*stmt)?;
+    }
+    Ok(copy)
+}
+
+/// The typedef of a name in the innermost of these blocks that has one, and how many of the blocks are around it.
+fn closest_outer<'a>(number: u32, blocks: &[Block<'a>], name: &str) -> Option<(usize, &'a Stmt)>
+    ensures value { option_map (spec.seen_in number blocks.now) result ≡ scopes.closest number name.now (reverse blocks.now) }
+    ensures within { IfSome result (λ found. found.0 ≤ length blocks.now) }
+{
+    let mut n = blocks.len();
+    'closest: while n > 0 {
+        if let Some(stmt) = blocks[n - 1].typedef(name) {
+            return Some((n, stmt));
+        }
+        n -= 1;
+    }
+    None
+}
+
+/// The same, of blocks that have no index.
+fn closest_inner<'a>(number: u32, list: &[&'a Stmt], name: &str) -> Option<(usize, &'a Stmt)>
+    ensures value { option_map (spec.seen_in number (spec.stmts list.now)) result ≡ scopes.closest number name.now (reverse (spec.stmts list.now)) }
+    ensures within { IfSome result (λ found. found.0 ≤ length list.now) }
+{
+    let mut n = list.len();
+    'closest: while n > 0 {
+        if let Some(stmt) = typedef_among(list[n - 1].subs.items(), name) {
+            return Some((n, stmt));
+        }
+        n -= 1;
+    }
+    None
+}
+
+/// A statement in the last of these blocks.
+fn spot_in<'a>(
+    alloc: Global,
+    number: u32,
+    blocks: &'a [Block<'a>],
+    found: Option<(usize, &'a Stmt)>,
+) -> Option<Spot<'a>>
+    requires { IfSome found (λ found. found.0 ≤ length blocks.now) }
+    ensures { option_map spec.site_of result ≡ option_map (spec.seen_in number blocks.now) found.entry }
+{
+    match found {
+        None => None,
+        Some((n, stmt)) => Some(Spot {
+            module: number,
+            stmt,
+            outer: &blocks[..n],
+            inner: Vec::new(alloc),
+        }),
+    }
+}
+
+/// The typedef of a name in the closest of these blocks that has one.
+pub(crate) fn typedef_in<'a>(
+    alloc: Global,
+    number: u32,
+    blocks: &'a [Block<'a>],
+    name: &str,
+) -> Option<Spot<'a>>
+    ensures { option_map spec.site_of result ≡ scopes.closest number name.now (reverse blocks.now) }
+{
+    let found = closest_outer(number, blocks, name);
+    spot_in(alloc, number, blocks, found)
+}
+
+impl<'a> Spot<'a> {
+    /// The typedef of a name in the closest block around that has one.
+    pub(crate) fn typedef(&self, alloc: Global, name: &str) -> Result<Option<Spot<'a>>, NoMemory>
+        ensures { IfOk result (λ found. option_map spec.site_of found ≡ scopes.closest self.now.module name.now (spec.site_of self.now).around) }
+    {
+        match closest_inner(self.module, self.inner.as_slice(), name) {
+            None => Ok(typedef_in(alloc, self.module, self.outer, name)),
+            Some((n, stmt)) => Ok(Some(Spot {
+                module: self.module,
+                stmt,
+                outer: self.outer,
+                inner: copies(alloc, &self.inner[..n])?,
+            })),
+        }
+    }
+
+    /// The same statement once more.
+    pub(crate) fn copy(&self, alloc: Global) -> Result<Spot<'a>, NoMemory>
+        ensures { IfOk result (λ spot. spec.site_of spot ≡ spec.site_of self.now) }
+    {
+        Ok(Spot {
+            module: self.module,
+            stmt: self.stmt,
+            outer: self.outer,
+            inner: copies(alloc, self.inner.as_slice())?,
+        })
+    }
+
+    /// A statement in the block of this one.
+    pub(crate) fn within(&self, alloc: Global, sub: &'a Stmt) -> Result<Spot<'a>, NoMemory>
+        ensures { IfOk result (λ spot. spec.site_of spot ≡ scopes.within (spec.site_of self.now) sub.now) }
+    {
+        let mut inner = copies(alloc, self.inner.as_slice())?;
+        inner.push(self.stmt)?;
+        Ok(Spot {
+            module: self.module,
+            stmt: sub,
+            outer: self.outer,
+            inner,
+        })
+    }
+}

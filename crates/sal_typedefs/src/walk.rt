@@ -1,0 +1,84 @@
+//! From a type statement to those that it rests on, and on from those, without a recursion.
+ghost use Rattle.std.specs.Prelude.{◌≡◌, ◌++◌, ◌∷◌, [], List, IfOk, MatchOption, map};
+ghost use Rattle.std.specs.List.{flat_map};
+ghost use Rattle.sal_stmt.specs.declared.stmt.Stmt.{Stmt as Statement};
+ghost use Rattle.sal_typedefs.specs.Names.{steps_of};
+ghost use Rattle.sal_typedefs.specs.Spots.{site_of};
+ghost use Rattle.sal_typedefs.specs.Walks as spec;
+
+use crate::below::rests_on;
+use crate::spot::Spot;
+use crate::typedefs::Typedefs;
+use sal_types::NoMemory;
+use std::alloc::Global;
+
+/// A statement that is left to go to, and how many steps may follow.
+#[derive(Drop)]
+pub(crate) struct Way<'a> {
+    pub(crate) spot: Spot<'a>,
+    pub(crate) steps: usize,
+}
+
+/// A statement that was gone to, and how many it rests on.
+#[derive(Drop)]
+pub(crate) struct Gone<'a> {
+    pub(crate) spot: Spot<'a>,
+    pub(crate) below: usize,
+}
+
+/// All these statements are gone to next, the first of them first.
+fn push_all<'a>(
+    ways: &mut Vec<Way<'a>>,
+    spots: Vec<Spot<'a>>,
+    steps: usize,
+) -> Result<(), NoMemory>
+    ensures { IfOk result (λ _. (modules : List Statement) →
+        spec.left modules ways.new.items ≡ flat_map (spec.nodes steps modules) (map site_of spots.entry.items) ++ spec.left modules ways.old.items) }
+{
+    let mut spots = spots;
+    'spots: while spots.len() > 0 {
+        if let Some(spot) = spots.pop() {
+            ways.push(Way { spot, steps })?;
+        }
+    }
+    Ok(())
+}
+
+/// Goes to the next statement.
+pub(crate) fn next<'a>(
+    ways: &mut Vec<Way<'a>>,
+    alloc: Global,
+    typedefs: &'a Typedefs<'a>,
+) -> Result<Option<Gone<'a>>, NoMemory>
+    ensures { IfOk result (λ gone. MatchOption gone (spec.left typedefs.now ways.old.items ≡ [])
+        (λ gone. spec.left typedefs.now ways.old.items ≡ spec.node_of gone ∷ spec.left typedefs.now ways.new.items)) }
+{
+    let way = match ways.pop() {
+        None => return Ok(None),
+        Some(way) => way,
+    };
+    let Way { spot, steps } = way;
+    if steps == 0 {
+        return Ok(Some(Gone { spot, below: 0 }));
+    }
+    let spots = rests_on(alloc, typedefs, &spot)?;
+    let below = spots.len();
+    push_all(ways, spots, steps - 1)?;
+    Ok(Some(Gone { spot, below }))
+}
+
+/// A way that begins at a statement.
+pub(crate) fn start<'a>(
+    alloc: Global,
+    typedefs: &Typedefs<'a>,
+    spot: Spot<'a>,
+) -> Result<Vec<Way<'a>>, NoMemory>
+    ensures { IfOk result (λ ways. spec.left typedefs.now ways.items ≡ spec.nodes (steps_of typedefs.now) typedefs.now (site_of spot.entry)) }
+{
+    let mut ways = Vec::new(alloc);
+    ways.push(Way {
+        spot,
+        steps: typedefs.steps(),
+    })?;
+    Ok(ways)
+}

@@ -4,3 +4,4 @@ pub mod Keys
 pub mod Infos
 pub mod Climbs
 pub mod Derivations
+pub mod Seen

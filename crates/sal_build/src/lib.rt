@@ -8,6 +8,7 @@ mod tables;
 mod walk;
 mod lists;
 mod words;
+mod identities;
 mod info;
 mod inherited;
 mod node;

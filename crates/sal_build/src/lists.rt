@@ -288,7 +288,7 @@ fn with_fault(best: Option<Found>, cause: Cause, module: u32, stmt: &Stmt) -> Op
     )
 }
 
-fn with_bad(best: Option<Found>, is_bad: bool, cause: Cause, module: u32, stmt: &Stmt) -> Option<Found>
+pub(crate) fn with_bad(best: Option<Found>, is_bad: bool, cause: Cause, module: u32, stmt: &Stmt) -> Option<Found>
     ensures { result ≡ least best (if is_bad then spec.at_stmt cause «module» stmt.now else []) }
 {
     if is_bad {

@@ -146,6 +146,10 @@ end_of stmts forest k b source up names =
     if length names == 0 then None
     else end_from stmts forest (message_of stmts forest k) b.module source names (start_of stmts forest (data_parent stmts forest b.parent) up)
 
+-- and from the node of this number
+abbrev pub end_at : List Stmt → List Branch → ℕ → ℕ → ℕ → List (List ℕ) → Option ℕ
+end_at stmts forest k source up names = option_and_then (λ b. end_of stmts forest k b source up names) (slice_get forest k)
+
 -- the leaf or leaf-list at which the path of a leafref ends
 abbrev pub target_of : List Stmt → List Branch → ℕ → Branch → Site → Option ℕ
 target_of stmts forest k b site =

@@ -8,3 +8,4 @@ pub mod Identities
 pub mod Types
 pub mod Leafrefs
 pub mod Build
+pub mod Examples

@@ -1,17 +1,45 @@
-//! Modules related to a schema: their tree, types, lists and numbers as a table.
+//! Modules related to the table of a schema.
+//!
+//! | item | what it is |
+//! |---|---|
+//! | `list_fault` | the first fault of keys, unique leafs and `config` in the tree of modules |
+//! | `node_infos` | the nodes of the table, by number |
+//! | `identity_fault`, `identity_infos` | the first fault of identities, and the identities of the table |
+//! | `leafref_end` | where the path of a leafref leads |
+//! | `Key` | what a node is found by: its parent, its module and its name |
+//! | `examples` | worked examples, as laws |
+//!
+//! `specs/Build.antt` has the whole: the table of modules, or their first fault. It puts together what a statement says of its
+//! node (`Nodes`), what a node has from above (`Inherited`), nodes by name (`Children`), keys and unique leafs (`Lists`), the
+//! nodes of the table (`Table`), identities (`Identities`), type statements (`Types`), and leafrefs with the types of nodes
+//! (`Leafrefs`). The code has all of them but the walk over type statements and the types of nodes, which have their
+//! definitions alone so far.
+//!
+//! ```
+//! let modules = check(alloc, &stmts)?;
+//! let forest = expand(alloc, &modules)?;
+//! let found = list_fault(alloc, &modules, &forest)?;  // none: keys and config are good
+//! let nodes = node_infos(alloc, &modules, &forest)?;
+//! ```
+//!
+//! No call nests deeper than a few levels, but where identities go in a circle.
 #![tactic(auto)]
 
 mod child;
 mod derived;
-mod order;
-mod tables;
-mod walk;
-mod lists;
-mod words;
 mod identities;
 mod info;
 mod inherited;
+mod lists;
 mod node;
+mod order;
+mod tables;
+#[cfg(test)]
+mod tests;
+mod vectors;
+mod walk;
+mod whole;
+mod words;
 
-
-pub use node::{kind_of, name_of};
+pub use child::Key;
+pub use whole::{identity_fault, identity_infos, leafref_end, list_fault, node_infos};

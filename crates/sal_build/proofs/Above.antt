@@ -1,12 +1,12 @@
 -- What nodes have from above, from one node to the next.
-use Rattle.std.proofs.Common.{◌≡◌, ℕ, zero, suc, ◌+◌, ◌<◌, ◌≤◌, nat_lt, List, [], ◌∷◌, ◌++◌, length, get_or, Bool, true, false, Option, Some, None, refl, sym, ap, ◌∙◌, inl, inr, arith}
-use Rattle.std.proofs.lemmas.Bool.{cases_lt, cases_Bool}
+use Rattle.std.proofs.Common.{◌≡◌, ℕ, zero, suc, ◌+◌, ◌<◌, nat_lt, List, [], ◌∷◌, ◌++◌, length, get_or, Option, Some, None, refl, sym, ap, ◌∙◌, inl, inr, arith}
+use Rattle.std.proofs.lemmas.Bool.{cases_Bool}
 use Rattle.std.proofs.lemmas.Bool.Decides.{nat_tests}
 use Rattle.std.specs.List.{slice_get}
 use Rattle.std.specs.Option.{option_map_or}
 use Rattle.sal_grouping.specs.declared.forest.Branch.{Branch}
 use Rattle.sal_grouping.proofs.Places.{table-last}
-use Rattle.sal_build.specs.Inherited.{above, over, inherited, from_above, AreInherited}
+use Rattle.sal_build.specs.Inherited.{above, inherited, from_above}
 
 module _ {A : Type 0} (f : Branch → ℕ → A → A) (top : A) (forest : List Branch) where
   step : (n k : ℕ) → inherited f top (suc n) forest k ≡ option_map_or (λ b. f b k (above (inherited f top n forest) top k b.parent)) (slice_get forest k) top

@@ -1,12 +1,12 @@
 -- What identities are derived from, in an order in which bases stand before what is derived from them.
-use Rattle.std.proofs.Common.{◌≡◌, ◌≢◌, ℕ, zero, suc, ◌+◌, ◌-◌, ◌<◌, ◌==◌, ◌&&◌, nat_lt, List, [], ◌∷◌, ◌++◌, fold, length, get_or, Bool, true, false, refl, sym, ap, ◌∙◌, inl, inr, arith, get_or-set_other, get_or-set_same}
+use Rattle.std.proofs.Common.{◌≡◌, ◌≢◌, ℕ, zero, suc, ◌+◌, ◌-◌, ◌<◌, ◌==◌, ◌&&◌, nat_lt, List, [], ◌∷◌, ◌++◌, length, get_or, Bool, true, false, refl, sym, ap, ◌∙◌, inl, inr, arith, get_or-set_other, get_or-set_same}
 use Rattle.std.specs.Prelude.{if◌then◌else◌, Vec}
 use Rattle.std.specs.declared.alloc.Global.{Global}
 use Rattle.std.proofs.Math.ListN.{set}
 use Rattle.std.specs.List.{list_all, flat_map}
 use Rattle.std.proofs.lemmas.Bool.{cases_Bool, cases_lt}
 use Rattle.std.proofs.lemmas.Bool.Decides.{nat_tests}
-use Rattle.sal_build.specs.Orders.{rows, rank_of, is_lower, is_placed, IsOrdered}
+use Rattle.sal_build.specs.Orders.{rows, rank_of, is_lower, IsOrdered}
 use Rattle.sal_build.specs.Identities.{once, joined, derived, derived_from}
 
 pub both-first : (a b : Bool) → (a && b) ≡ true → a ≡ true
@@ -50,9 +50,6 @@ derived-some edges zero i h = absurd (omega arith)
 derived-some edges (suc n) i h = let under : suc n - 1 ≡ n = omega arith in rw under (derived-suc edges n i)
 
 module _ (edges : List (List ℕ)) (ranks order : List ℕ) (good : IsOrdered edges ranks order) where
-
-
-
   placed : (i : ℕ) → i < length edges → (nat_lt (rank_of ranks i) (length edges) && (get_or order (rank_of ranks i) (length edges) == i)) ≡ true
   placed i h = both-first _ (list_all (is_lower ranks (length edges) i) (get_or edges i [])) (good.each i h)
 

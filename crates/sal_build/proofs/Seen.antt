@@ -1,7 +1,7 @@
 -- Identities, from one to the next.
 use Rattle.std.proofs.Common.{◌≡◌, ℕ, ◌+◌, ◌<◌, List, [], ◌∷◌, ◌++◌, length, take, drop, get_or, Option, sym, ap, ◌∙◌, append_assoc, arith}
 use Rattle.std.specs.Borrow.{Bor}
-use Rattle.std.proofs.lemmas.List.{get_or-map, length-map, drop_more, drop_all, append-nil}
+use Rattle.std.proofs.lemmas.List.{get_or-map, length-map, drop_more}
 use Rattle.sal_stmt.specs.declared.stmt.Stmt.{Stmt}
 use Rattle.sal_module.specs.declared.fault.Found.{Found}
 use Rattle.sal_module.specs.Faults.{least}

@@ -1,5 +1,5 @@
 -- The table to which modules are related, or the first fault. Each pass is judged only where those before it found nothing.
-use Rattle.std.specs.Prelude.{ℕ, List, ◌++◌, map, Result, Ok, Err}
+use Rattle.std.specs.Prelude.{List, ◌++◌, map, Result, Ok}
 use Rattle.sal_types.specs.Reading.{◌>>=◌}
 use Rattle.sal_stmt.specs.declared.stmt.Stmt.{Stmt}
 use Rattle.sal_module.specs.declared.fault.BuildFault.{BuildFault}

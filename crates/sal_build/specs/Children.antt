@@ -1,5 +1,5 @@
 -- Nodes by their names below other nodes (RFC 7950 sections 6.2.1 and 6.5).
-use Rattle.std.specs.Prelude.{ℕ, Bool, true, false, List, take, Option, Some, None, option_and_then, if◌then◌else◌}
+use Rattle.std.specs.Prelude.{ℕ, Bool, false, List, take, Option, Some, None, option_and_then, if◌then◌else◌}
 use Rattle.std.specs.List.{position_from}
 use Rattle.std.specs.Ordering.{eq_by_cmp}
 use Rattle.std.specs.declared.cmp.Ordering.{Ordering}

@@ -1,5 +1,5 @@
 -- Identities and what they are derived from (RFC 7950 section 7.18).
-use Rattle.std.specs.Prelude.{ℕ, zero, suc, ◌+◌, ◌==◌, List, [], ◌∷◌, ◌++◌, map, fold, length, Option, Some, None, is_none, slice_index_or, if◌then◌else◌}
+use Rattle.std.specs.Prelude.{ℕ, zero, suc, ◌+◌, ◌==◌, List, [], ◌∷◌, ◌++◌, map, fold, length, Option, Some, is_none, slice_index_or, if◌then◌else◌}
 use Rattle.std.specs.List.{flat_map, list_any, enumerate_from}
 use Rattle.std.specs.Option.{option_to_list}
 use Rattle.sal_stmt.specs.declared.stmt.Stmt.{Stmt}

@@ -1,5 +1,5 @@
 -- What a node has from the one above it.
-use Rattle.std.specs.Prelude.{◌≡◌, ℕ, zero, suc, ◌<◌, Bool, true, false, nat_lt, List, length, Option, Some, None, option_map, unwrap_or, slice_index_or, if◌then◌else◌}
+use Rattle.std.specs.Prelude.{◌≡◌, ℕ, zero, suc, ◌<◌, Bool, true, nat_lt, List, length, Option, Some, None, option_map, unwrap_or, slice_index_or, if◌then◌else◌}
 use Rattle.std.specs.List.{slice_get}
 use Rattle.std.specs.Option.{option_map_or}
 use Rattle.sal_stmt.specs.declared.stmt.Stmt.{Stmt}

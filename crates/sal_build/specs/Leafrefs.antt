@@ -1,6 +1,6 @@
 -- Where leafrefs lead, and the types of nodes (RFC 7950 sections 6.4.1 and 9.9).
 use Rattle.std.specs.Prelude.{◌≡◌, ◌≤◌, ℕ, zero, suc, ◌+◌, ◌-◌, ◌==◌, Bool, true, false, ◌&&◌, List, [], ◌∷◌, ◌++◌, map, filter, find, length, take, drop, Option, Some, None, option_map, option_and_then, unwrap_or, if◌then◌else◌, codes}
-use Rattle.std.specs.List.{flat_map, list_any, enumerate_from, slice_get, slice_split, prefix_len}
+use Rattle.std.specs.List.{flat_map, enumerate_from, slice_get, slice_split, prefix_len}
 use Rattle.std.specs.Option.{option_map_or, option_to_list}
 use Rattle.sal_stmt.specs.Words.{colon_at}
 use Rattle.sal_stmt.specs.declared.stmt.Stmt.{Stmt}
@@ -9,7 +9,7 @@ use Rattle.sal_module.specs.declared.fault.Cause.TheVariants.{BadTarget, NameCyc
 use Rattle.sal_module.specs.declared.fault.Found.{Found}
 use Rattle.sal_module.specs.Keywords.{same}
 use Rattle.sal_module.specs.Modules.{imported}
-use Rattle.sal_module.specs.Statements.{is_named, subs_of, argument_of, value_of}
+use Rattle.sal_module.specs.Statements.{is_named, subs_of, value_of}
 use Rattle.sal_module.specs.Profile.{at_stmt}
 use Rattle.sal_restrict.specs.declared.yang_type.YangType.{YangType, out-YangType, roll-YangType}
 use Rattle.sal_restrict.specs.declared.yang_type.YangType.TheOpen.{YangType-F}
@@ -18,11 +18,10 @@ use Rattle.sal_grouping.specs.Groupings.{has_prefix, local_name}
 use Rattle.sal_grouping.specs.Names.{reaches_home}
 use Rattle.sal_schema.specs.declared.kind.Kind.{Kind}
 use Rattle.sal_schema.specs.Kinds.{is_message, has_type}
-use Rattle.sal_schema.specs.Table.{is_same}
 use Rattle.sal_typedefs.specs.Scopes.{Site, within, site_at}
-use Rattle.sal_typedefs.specs.Names.{name_of as type_name, under, steps_of, outside, path_names, is_up}
+use Rattle.sal_typedefs.specs.Names.{name_of as type_name, under, steps_of, path_names, is_up}
 use Rattle.sal_typedefs.specs.Types.{judge, members_of}
-use Rattle.sal_build.specs.Nodes.{kind_of, name_of, own_stmt}
+use Rattle.sal_build.specs.Nodes.{kind_of, name_of}
 use Rattle.std.specs.BTreeMap.{get}
 use Rattle.sal_build.specs.declared.child.Key.{Key}
 use Rattle.sal_build.specs.declared.walk.Ways.{Ways}

@@ -1,15 +1,14 @@
 -- Keys and unique leafs of lists, and configuration under state data (RFC 7950 sections 7.8.2, 7.8.3 and 7.21.1).
-use Rattle.std.specs.Prelude.{◌≡◌, ◌≤◌, ℕ, Bool, true, false, not, ◌&&◌, ◌||◌, ◌==◌, nat_eq, List, [], ◌∷◌, ◌++◌, map, filter, find, length, Option, Some, None, is_none, option_and_then, if◌then◌else◌}
+use Rattle.std.specs.Prelude.{◌≡◌, ◌≤◌, ℕ, Bool, true, false, not, ◌&&◌, ◌||◌, ◌==◌, nat_eq, List, [], ◌∷◌, ◌++◌, map, filter, length, Option, Some, None, is_none, option_and_then, if◌then◌else◌}
 use mathlib.Core.Bool.{beq}
 use Rattle.std.specs.List.{flat_map, list_any, slice_split, slice_get, enumerate_from}
 use Rattle.std.specs.Option.{option_map_or, option_to_list, option_eq}
 use Rattle.sal_stmt.specs.declared.stmt.Stmt.{Stmt}
 use Rattle.sal_stmt.specs.Words.{is_blank, is_empty}
-use Rattle.sal_module.specs.declared.keyword.Keyword.{Keyword}
 use Rattle.sal_module.specs.declared.keyword.Keyword.TheVariants as word
 use Rattle.sal_module.specs.declared.fault.Cause.TheVariants.{BadKey, ConfigUnderState}
 use Rattle.sal_module.specs.declared.fault.Found.{Found}
-use Rattle.sal_module.specs.Statements.{is_named, subs_of, all_named, argument_of}
+use Rattle.sal_module.specs.Statements.{is_named, subs_of, argument_of}
 use Rattle.sal_module.specs.Profile as profile
 use Rattle.sal_module.specs.declared.fault.Cause.{Cause}
 use Rattle.sal_grouping.specs.declared.forest.Branch.{Branch}

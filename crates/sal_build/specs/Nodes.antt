@@ -1,5 +1,5 @@
 -- What the statement of a node says of it (RFC 7950 section 7).
-use Rattle.std.specs.Prelude.{ℕ, Bool, true, false, ◌&&◌, List as Row, [], Option, Some, None, is_some, find, min, option_map, unwrap_or, if◌then◌else◌, codes}
+use Rattle.std.specs.Prelude.{ℕ, Bool, true, false, List as Row, [], Option, Some, None, is_some, find, min, option_map, if◌then◌else◌, codes}
 use Rattle.std.specs.List.{list_any}
 use Rattle.std.specs.Option.{option_map_or}
 use Rattle.sal_stmt.specs.declared.stmt.Stmt.{Stmt, out-Stmt}
@@ -14,7 +14,6 @@ use Rattle.sal_grouping.specs.declared.forest.Implied.{Implied}
 use Rattle.sal_grouping.specs.declared.forest.Implied.TheVariants as implied
 use Rattle.sal_schema.specs.declared.kind.Kind.{Kind}
 use Rattle.sal_schema.specs.declared.kind.Kind.TheVariants.{Container, List, LeafList, Leaf, Choice, Case, Rpc, Input, Output, Notification}
-use Rattle.sal_schema.specs.Kinds.{is_rpc, is_notification}
 
 -- ---- its statement
 

@@ -1,12 +1,11 @@
 -- The types of all statements and nodes, and their faults.
-use Rattle.std.specs.Prelude.{ℕ, zero, suc, ◌+◌, Bool, ◌&&◌, not, List, [], ◌∷◌, ◌++◌, map, find, filter, length, Option, Some, None, is_some, is_none, option_map, option_and_then, unwrap_or, if◌then◌else◌, codes}
-use Rattle.std.specs.List.{flat_map, list_any, enumerate_from, slice_get}
-use Rattle.std.specs.Option.{option_map_or, option_to_list}
+use Rattle.std.specs.Prelude.{ℕ, zero, suc, ◌+◌, Bool, ◌&&◌, not, List, [], ◌∷◌, ◌++◌, is_some, if◌then◌else◌}
+use Rattle.std.specs.List.{flat_map, enumerate_from}
 use Rattle.sal_stmt.specs.declared.stmt.Stmt.{Stmt, out-Stmt}
 use Rattle.sal_module.specs.declared.keyword.Keyword.TheVariants as word
 use Rattle.sal_module.specs.declared.fault.Found.{Found}
-use Rattle.sal_module.specs.Keywords.{same, keyword_of}
-use Rattle.sal_module.specs.Statements.{is_named, subs_of, argument_of}
+use Rattle.sal_module.specs.Keywords.{keyword_of}
+use Rattle.sal_module.specs.Statements.{is_named, subs_of}
 use Rattle.sal_typedefs.specs.Scopes.{Site, within, top}
 use Rattle.sal_typedefs.specs.Names as names
 use Rattle.sal_typedefs.specs.Names.{steps_of}

@@ -94,11 +94,7 @@ fn empty_rows(alloc: Global, count: usize) -> Result<Vec<Vec<u32>>, NoMemory>
 }
 
 /// What each identity is derived from, by an order in which its bases stand before it.
-fn derived_by(
-    alloc: Global,
-    edges: &[Vec<usize>],
-    order: &Order,
-) -> Result<Vec<Vec<u32>>, NoMemory>
+fn derived_by(alloc: Global, edges: &[Vec<usize>], order: &Order) -> Result<Vec<Vec<u32>>, NoMemory>
     requires { IsOrdered (lists edges.now) order.now.ranks.items order.now.order.items }
     ensures count { IfOk result (λ all. length (rows all.items) ≡ length (lists edges.now)) }
     ensures each { IfOk result (λ all. (k : ℕ) → k < length (lists edges.now) → slice_index_or (rows all.items) k [] ≡ spec.derived_from (lists edges.now) k) }

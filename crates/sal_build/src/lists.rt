@@ -45,7 +45,16 @@ pub(crate) fn keys_named(
 {
     let mut named = Vec::with_capacity(alloc, names.len())?;
     for name in names {
-        let leaf = child_named(alloc, modules, forest, &tables.children, branch, true, k, name.as_str())?;
+        let leaf = child_named(
+            alloc,
+            modules,
+            forest,
+            &tables.children,
+            branch,
+            true,
+            k,
+            name.as_str(),
+        )?;
         named.push(leaf)?;
     }
     Ok(named)
@@ -90,9 +99,27 @@ fn leaf_below(
             None => return Ok(None),
             Some((step, more)) => {
                 if more.is_empty() {
-                    return child_named(alloc, modules, forest, &tables.children, branch, true, above, step.as_str());
+                    return child_named(
+                        alloc,
+                        modules,
+                        forest,
+                        &tables.children,
+                        branch,
+                        true,
+                        above,
+                        step.as_str(),
+                    );
                 }
-                let next = child_named(alloc, modules, forest, &tables.children, branch, false, above, step.as_str())?;
+                let next = child_named(
+                    alloc,
+                    modules,
+                    forest,
+                    &tables.children,
+                    branch,
+                    false,
+                    above,
+                    step.as_str(),
+                )?;
                 match unless_list(modules, forest, next) {
                     None => return Ok(None),
                     Some(n) => {
@@ -203,13 +230,7 @@ fn differs(modules: &Modules, forest: &[Branch], tables: &Tables, k: u32, leaf: 
     )
 }
 
-fn any_differs(
-    modules: &Modules,
-    forest: &[Branch],
-    tables: &Tables,
-    k: u32,
-    leafs: &[u32],
-) -> bool
+fn any_differs(modules: &Modules, forest: &[Branch], tables: &Tables, k: u32, leafs: &[u32]) -> bool
     requires { spec.AreTables modules.now forest.now tables.now }
     ensures { result ≡ list_any (spec.differs modules.now forest.now k) leafs.now }
 {
@@ -233,9 +254,7 @@ fn are_bad_keys(
     ensures { IfOk result (λ bad. bad ≡ spec.are_bad_keys modules.now forest.now k named.now) }
 {
     let leafs = given(alloc, named)?;
-    Ok(is_missing(named)
-        || !all_differ(&leafs)
-        || any_differs(modules, forest, tables, k, &leafs))
+    Ok(is_missing(named) || !all_differ(&leafs) || any_differs(modules, forest, tables, k, &leafs))
 }
 
 fn is_bad_key(
@@ -288,7 +307,13 @@ fn with_fault(best: Option<Found>, cause: Cause, module: u32, stmt: &Stmt) -> Op
     )
 }
 
-pub(crate) fn with_bad(best: Option<Found>, is_bad: bool, cause: Cause, module: u32, stmt: &Stmt) -> Option<Found>
+pub(crate) fn with_bad(
+    best: Option<Found>,
+    is_bad: bool,
+    cause: Cause,
+    module: u32,
+    stmt: &Stmt,
+) -> Option<Found>
     ensures { result ≡ least best (if is_bad then spec.at_stmt cause «module» stmt.now else []) }
 {
     if is_bad {

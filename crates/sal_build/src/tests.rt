@@ -134,40 +134,122 @@ fn verdict(rt: &HostRuntime, texts: &[&str]) -> Result<String, Fail> {
 /// Behind the head `module m { namespace "u"; prefix p; ` of 36 bytes, with the nodes and identities, or the first fault.
 const BODIES: &[(&str, &str)] = &[
     ("list l { key k; leaf j { type string; } }", "bad-key 0 45"),
-    ("list l { key k; leaf k { type string; } }", "0 - list l c k1;1 0 leaf k c t0;"),
-    ("container c { config false; leaf a { type string; } }", "0 - container c s;1 0 leaf a s t0;"),
-    ("container c { config false; leaf a { config true; type string; } }", "config-under-state 0 73"),
-    ("list l { key \"k k\"; leaf k { type string; } }", "bad-key 0 45"),
-    ("list l { key \"k p:k\"; leaf k { type string; } }", "bad-key 0 45"),
-    ("list l { key k; leaf k { config false; type string; } }", "bad-key 0 45"),
-    ("list l { config false; key k; leaf k { type string; } }", "0 - list l s k1;1 0 leaf k s t0;"),
-    ("list l { config false; key k; leaf k { config true; type string; } }", "bad-key 0 59"),
-    ("list l { key k; choice c { leaf k { type string; } } }", "bad-key 0 45"),
-    ("list l { key \" p:k\\n j \"; leaf j { type string; } leaf k { type string; } }", "0 - list l c k2,1;1 0 leaf j c t0;2 0 leaf k c t1;"),
-    ("list l { key q:k; leaf k { type string; } }", "bad-key 0 45"),
-    ("list l { key k; leaf-list k { type string; } }", "bad-key 0 45"),
-    ("list l { key \"\"; leaf k { type string; } }", "bad-key 0 45"),
-    ("list l { key k; unique \"c/a b\"; leaf k { type string; } leaf b { type string; } container c { leaf a { type string; } } }", "0 - list l c k1 u4,2;1 0 leaf k c t0;2 0 leaf b c t1;3 0 container c c;4 3 leaf a c t2;"),
-    ("list l { key k; unique \"i/a\"; leaf k { type string; } list i { key a; leaf a { type string; } } }", "bad-key 0 52"),
-    ("list l { key k; unique \"a\"; leaf k { type string; } container c { leaf a { type string; } } }", "bad-key 0 52"),
-    ("list l { key k; unique \"c\"; leaf k { type string; } container c { leaf a { type string; } } }", "bad-key 0 52"),
-    ("list l { key k; unique \"x/y/a\"; leaf k { type string; } choice x { case y { leaf a { type string; } } } }", "0 - list l c k1 u4;1 0 leaf k c t0;2 0 choice x c;3 2 case y c;4 3 leaf a c t1;"),
-    ("list l { key k; choice k { case z { leaf q { type string; } } } leaf k { type string; } }", "0 - list l c k4;1 0 choice k c;2 1 case z c;3 2 leaf q c t0;4 0 leaf k c t1;"),
-    ("rpc r { input { leaf a { config false; type string; } } }", "0 - rpc r -;1 0 input input -;2 1 leaf a - t0;3 0 output output -;"),
-    ("container c { presence \"x\"; leaf-list a { min-elements 2; max-elements 7; type string; } }", "0 - presence c c;1 0 leaf-list a c t0 2..7;"),
-    ("leaf a { mandatory true; type string; } choice d { config false; leaf b { type string; } }", "0 - leaf a c t0 !;1 - choice d s;2 1 case b s;3 2 leaf b s t1;"),
-    ("grouping g { list l { key k; leaf k { type string; } } } container c { config false; uses g; }", "0 - container c s;1 0 list l s k2;2 1 leaf k s t0;"),
+    (
+        "list l { key k; leaf k { type string; } }",
+        "0 - list l c k1;1 0 leaf k c t0;",
+    ),
+    (
+        "container c { config false; leaf a { type string; } }",
+        "0 - container c s;1 0 leaf a s t0;",
+    ),
+    (
+        "container c { config false; leaf a { config true; type string; } }",
+        "config-under-state 0 73",
+    ),
+    (
+        "list l { key \"k k\"; leaf k { type string; } }",
+        "bad-key 0 45",
+    ),
+    (
+        "list l { key \"k p:k\"; leaf k { type string; } }",
+        "bad-key 0 45",
+    ),
+    (
+        "list l { key k; leaf k { config false; type string; } }",
+        "bad-key 0 45",
+    ),
+    (
+        "list l { config false; key k; leaf k { type string; } }",
+        "0 - list l s k1;1 0 leaf k s t0;",
+    ),
+    (
+        "list l { config false; key k; leaf k { config true; type string; } }",
+        "bad-key 0 59",
+    ),
+    (
+        "list l { key k; choice c { leaf k { type string; } } }",
+        "bad-key 0 45",
+    ),
+    (
+        "list l { key \" p:k\\n j \"; leaf j { type string; } leaf k { type string; } }",
+        "0 - list l c k2,1;1 0 leaf j c t0;2 0 leaf k c t1;",
+    ),
+    (
+        "list l { key q:k; leaf k { type string; } }",
+        "bad-key 0 45",
+    ),
+    (
+        "list l { key k; leaf-list k { type string; } }",
+        "bad-key 0 45",
+    ),
+    (
+        "list l { key \"\"; leaf k { type string; } }",
+        "bad-key 0 45",
+    ),
+    (
+        "list l { key k; unique \"c/a b\"; leaf k { type string; } leaf b { type string; } container c { leaf a { type string; } } }",
+        "0 - list l c k1 u4,2;1 0 leaf k c t0;2 0 leaf b c t1;3 0 container c c;4 3 leaf a c t2;",
+    ),
+    (
+        "list l { key k; unique \"i/a\"; leaf k { type string; } list i { key a; leaf a { type string; } } }",
+        "bad-key 0 52",
+    ),
+    (
+        "list l { key k; unique \"a\"; leaf k { type string; } container c { leaf a { type string; } } }",
+        "bad-key 0 52",
+    ),
+    (
+        "list l { key k; unique \"c\"; leaf k { type string; } container c { leaf a { type string; } } }",
+        "bad-key 0 52",
+    ),
+    (
+        "list l { key k; unique \"x/y/a\"; leaf k { type string; } choice x { case y { leaf a { type string; } } } }",
+        "0 - list l c k1 u4;1 0 leaf k c t0;2 0 choice x c;3 2 case y c;4 3 leaf a c t1;",
+    ),
+    (
+        "list l { key k; choice k { case z { leaf q { type string; } } } leaf k { type string; } }",
+        "0 - list l c k4;1 0 choice k c;2 1 case z c;3 2 leaf q c t0;4 0 leaf k c t1;",
+    ),
+    (
+        "rpc r { input { leaf a { config false; type string; } } }",
+        "0 - rpc r -;1 0 input input -;2 1 leaf a - t0;3 0 output output -;",
+    ),
+    (
+        "container c { presence \"x\"; leaf-list a { min-elements 2; max-elements 7; type string; } }",
+        "0 - presence c c;1 0 leaf-list a c t0 2..7;",
+    ),
+    (
+        "leaf a { mandatory true; type string; } choice d { config false; leaf b { type string; } }",
+        "0 - leaf a c t0 !;1 - choice d s;2 1 case b s;3 2 leaf b s t1;",
+    ),
+    (
+        "grouping g { list l { key k; leaf k { type string; } } } container c { config false; uses g; }",
+        "0 - container c s;1 0 list l s k2;2 1 leaf k s t0;",
+    ),
     ("identity a { base b; }", "unknown-name 0 49"),
-    ("identity a { base b; } identity b { base p:a; }", "name-cycle 0 49"),
-    ("identity a; identity b { base a; base b; }", "name-cycle 0 69"),
-    ("identity a; identity b; identity c { base a; base b; } identity d { base c; } identity e { base d; base a; }", "a b c<0,1 d<2,0,1 e<3,2,0,1 "),
+    (
+        "identity a { base b; } identity b { base p:a; }",
+        "name-cycle 0 49",
+    ),
+    (
+        "identity a; identity b { base a; base b; }",
+        "name-cycle 0 69",
+    ),
+    (
+        "identity a; identity b; identity c { base a; base b; } identity d { base c; } identity e { base d; base a; }",
+        "a b c<0,1 d<2,0,1 e<3,2,0,1 ",
+    ),
 ];
 
 #[test]
 fn bodies_give_their_tables(rt: HostRuntime) -> Result<(), Fail> {
     for (body, expected) in BODIES {
         let text = format!(in rt.alloc(); "module m {{ namespace \"u\"; prefix p; {body} }}")?;
-        assert_eq!(rt; verdict(&rt, &[text.as_str()])?.as_str(), *expected, "{body}");
+        assert_eq!(rt;
+            verdict(&rt, &[text.as_str()])?.as_str(),
+            *expected,
+            "{body}"
+        );
     }
     Ok(())
 }

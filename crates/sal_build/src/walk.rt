@@ -29,11 +29,7 @@ pub(crate) struct Ways {
 fn message_in(kind: Kind, k: u32, over: Option<u32>) -> Option<u32>
     ensures { result ≡ spec.message_in kind k over }
 {
-    if kind.is_message() {
-        Some(k)
-    } else {
-        over
-    }
+    if kind.is_message() { Some(k) } else { over }
 }
 
 fn messages_of(
@@ -53,11 +49,7 @@ fn messages_of(
 }
 
 /// The ways of a forest.
-pub(crate) fn ways_of(
-    alloc: Global,
-    modules: &Modules,
-    forest: &[Branch],
-) -> Result<Ways, NoMemory>
+pub(crate) fn ways_of(alloc: Global, modules: &Modules, forest: &[Branch]) -> Result<Ways, NoMemory>
     requires { length forest.now ≤ 65536 }
     ensures { IfOk result (λ ways. spec.AreWays modules.now forest.now ways) }
 {
@@ -73,12 +65,7 @@ pub(crate) fn ways_of(
 
 // ---- up
 
-fn above_node(
-    modules: &Modules,
-    forest: &[Branch],
-    ways: &Ways,
-    branch: &Branch,
-) -> Option<u32>
+fn above_node(modules: &Modules, forest: &[Branch], ways: &Ways, branch: &Branch) -> Option<u32>
     requires { spec.AreWays modules.now forest.now ways.now }
     ensures { result ≡ spec.above_branch modules.now forest.now branch.now }
 {
@@ -325,12 +312,7 @@ fn typed_node(modules: &Modules, forest: &[Branch], node: Option<u32>) -> Option
     }
 }
 
-fn message_at(
-    modules: &Modules,
-    forest: &[Branch],
-    messages: &[Option<u32>],
-    k: u32,
-) -> Option<u32>
+fn message_at(modules: &Modules, forest: &[Branch], messages: &[Option<u32>], k: u32) -> Option<u32>
     requires { inherited.AreInherited (spec.with_message modules.now) None forest.now messages.now }
     ensures { result ≡ spec.message_of modules.now forest.now k }
 {

@@ -1,4 +1,4 @@
-use Rattle.std.proofs.Common.{◌∙◌, take, sym, ap}
+use Rattle.std.proofs.Common.{◌∙◌, take, ap}
 use Rattle.std.proofs.lemmas.List.{get_or_default}
 use Rattle.sal_build.specs.Children.{child_key, first_with, with_first, is_found_by}
 use Rattle.sal_build.proofs.Keys.{alike-known, one-more}

@@ -1,8 +1,7 @@
-use Rattle.std.proofs.Common.{◌≡◌, ◌∙◌, ◌<◌, length, get_or, sym, ap, arith, rules}
-use Rattle.std.proofs.lemmas.List.{get_or_default}
+use Rattle.std.proofs.Common.{◌∙◌, get_or, sym, ap, arith}
 use Rattle.sal_grouping.specs.Indexes.{lists}
 use Rattle.sal_grouping.proofs.IndexLists.{lists-length}
-use Rattle.sal_build.specs.Orders.{rows, rank_of}
+use Rattle.sal_build.specs.Orders.{rows}
 use Rattle.sal_build.proofs.Derivations.{low, ranked-more}
 use Rattle.sal_build.proofs.derived.derived_by.Goals as goal
 

@@ -1,4 +1,4 @@
-use Rattle.std.proofs.Common.{rules, ◌≡◌, ◌∙◌, ◌<◌, ◌++◌, ◌∷◌, [], ◌+◌, length, drop, get_or, sym, ap, arith}
+use Rattle.std.proofs.Common.{rules, ◌∙◌, ◌<◌, ◌++◌, ◌∷◌, [], ◌+◌, length, drop, get_or, sym, ap, arith}
 use Rattle.sal_grouping.specs.Indexes.{lists}
 use Rattle.sal_build.specs.Orders.{rows}
 use Rattle.sal_build.specs.Identities.{seen, infos_from}

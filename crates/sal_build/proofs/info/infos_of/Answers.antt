@@ -1,6 +1,6 @@
-use Rattle.std.proofs.Common.{◌≡◌, ◌∙◌, ◌++◌, ◌∷◌, [], ◌+◌, drop, sym, ap, arith}
+use Rattle.std.proofs.Common.{◌∙◌, ◌++◌, ◌∷◌, [], ◌+◌, drop, sym, ap, arith}
 use Rattle.std.proofs.lemmas.List.{get_or_default}
-use Rattle.sal_build.specs.Table.{info_of, infos_from}
+use Rattle.sal_build.specs.Table.{infos_from}
 use Rattle.sal_build.proofs.Infos.{types-few, types-more, infos-more}
 use Rattle.sal_build.proofs.info.infos_of.Goals as goal
 

@@ -1,4 +1,4 @@
-use Rattle.std.proofs.Common.{◌∙◌, true, Some, get_or, rules, ap, arith}
+use Rattle.std.proofs.Common.{◌∙◌, true, Some, get_or, rules, ap}
 use Rattle.std.proofs.lemmas.Option.{slice_get-get_or}
 use Rattle.sal_build.specs.Inherited.{with_config}
 use Rattle.sal_build.proofs.Above.{inherited-more}
@@ -13,5 +13,5 @@ loop-k-preserved c =
     let is = rw (c.kind_of.ensures, c.own_stmt.ensures, over) at c.config_in.ensures in
     let more =
     inherited-more (with_config c.args.modules.now) (Some true) forest c.loop-k.all.items k _ c.config_in.result c.loop-k-test.true (slice_get-get_or forest k _ c.loop-k-test.true)
-        c.loop-k.invariant.count c.loop-k.invariant.each is in
-    record { count = search rules; each = λ m d h. ap (λ xs. get_or xs m d) pushed ∙ more m d h; }
+    c.loop-k.invariant.count c.loop-k.invariant.each is in
+    record { count = search rules; each = λ m d h. ap (λ xs. get_or xs m d) pushed ∙ more m d h }

@@ -8,4 +8,4 @@ pub loop-k-preserved : goal.loop-k-preserved
 loop-k-preserved c =
     let forest = c.args.forest.now in
     least_more (node_faults c.args.modules.now forest) forest c.loop-k.k _ None c.loop-k.best c.in_ok-best.best c.loop-k-test.true
-        (get_or_default forest c.loop-k.k _ _ c.loop-k-test.true) c.loop-k.invariant c.in_ok-best.ensures
+    (get_or_default forest c.loop-k.k _ _ c.loop-k-test.true) c.loop-k.invariant c.in_ok-best.ensures

@@ -1,4 +1,4 @@
-use Rattle.std.proofs.Common.{◌≡◌, ◌∙◌, rules, List, ℕ, [], ◌∷◌, ◌++◌, sym, ap, append_assoc}
+use Rattle.std.proofs.Common.{◌≡◌, ◌∙◌, rules, [], ◌∷◌, ◌++◌, sym, ap, append_assoc}
 use Rattle.sal_grouping.proofs.Paths.{names, names-whole, names-parts}
 use Rattle.sal_build.proofs.words.steps_of.Goals as goal
 

@@ -1,4 +1,4 @@
-use Rattle.std.proofs.Common.{◌≡◌, ◌∙◌, ◌<◌, ◌+◌, length, take, drop, rules, sym, ap, arith}
+use Rattle.std.proofs.Common.{◌∙◌, ◌<◌, ◌+◌, length, take, drop, rules, sym, ap, arith}
 use Rattle.sal_build.proofs.Pieces.{word_len, words-last, words-more}
 use Rattle.sal_build.proofs.words.words_of.Goals as goal
 

@@ -31,10 +31,10 @@ joined-same test f g bases all agree = ap once (flat-same test f g bases all agr
 pub less : (a b : ℕ) → nat_lt a b ≡ true → a < b
 less a b e = grind (arith, nat_tests)
 
-equal : (a b : ℕ) → (a == b) ≡ true → a ≡ b
+pub equal : (a b : ℕ) → (a == b) ≡ true → a ≡ b
 equal a b e = grind (arith, nat_tests)
 
-unequal : (a b : ℕ) → (a == b) ≡ false → a ≡ b → ⊥
+pub unequal : (a b : ℕ) → (a == b) ≡ false → a ≡ b → ⊥
 unequal a b e same = grind (arith, nat_tests)
 
 pub derived-zero : (edges : List (List ℕ)) (i : ℕ) → derived 0 edges i ≡ []

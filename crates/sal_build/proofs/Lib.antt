@@ -5,3 +5,5 @@ pub mod Infos
 pub mod Climbs
 pub mod Derivations
 pub mod Seen
+pub mod Ranked
+pub mod Fillings

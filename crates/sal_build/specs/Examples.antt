@@ -1,5 +1,5 @@
 -- Modules for the examples, with their forests.
-use Rattle.std.specs.Prelude.{List, [], ◌∷◌, Option, Some, None}
+use Rattle.std.specs.Prelude.{List, [], ◌∷◌, Option, Some, None, codes}
 use Prim.Native.String.{String}
 use Rattle.sal_stmt.specs.declared.stmt.Stmt.{Stmt}
 use Rattle.sal_module.specs.declared.fault.Found.{Found}
@@ -7,6 +7,9 @@ use Rattle.sal_module.specs.Examples.{plain}
 use Rattle.sal_module.specs.Faults.{least}
 use Rattle.sal_grouping.specs.declared.forest.Branch.{Branch}
 use Rattle.sal_grouping.specs.Examples.{of_module, leaf, branch}
+use Rattle.sal_restrict.specs.declared.yang_type.YangType.{YangType, roll-YangType}
+use Rattle.sal_restrict.specs.declared.yang_type.YangType.TheOpen.{YangType-F}
+use Rattle.sal_build.specs.Filled.{empty}
 use Rattle.sal_build.specs.Lists as lists
 use Rattle.sal_build.specs.Identities as identities
 
@@ -35,3 +38,13 @@ two_identities first second =
 
 abbrev pub identity_fault : List Stmt → Option Found
 identity_fault stmts = least None (identities.all_faults stmts)
+
+-- a union of a leafref and an empty leaf, the leafref with a union of this type for its target
+abbrev pub path_and_empty : YangType
+path_and_empty = roll-YangType (YangType-F.Union (roll-YangType (YangType-F.Leafref (codes "../a")) ∷ empty ∷ []))
+
+abbrev pub union_of : YangType → YangType
+union_of member = roll-YangType (YangType-F.Union (member ∷ []))
+
+abbrev pub boolean : YangType
+boolean = roll-YangType YangType-F.Bool

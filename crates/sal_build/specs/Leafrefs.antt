@@ -11,8 +11,7 @@ use Rattle.sal_module.specs.Keywords.{same}
 use Rattle.sal_module.specs.Modules.{imported}
 use Rattle.sal_module.specs.Statements.{is_named, subs_of, value_of}
 use Rattle.sal_module.specs.Profile.{at_stmt}
-use Rattle.sal_restrict.specs.declared.yang_type.YangType.{YangType, out-YangType, roll-YangType}
-use Rattle.sal_restrict.specs.declared.yang_type.YangType.TheOpen.{YangType-F}
+use Rattle.sal_restrict.specs.declared.yang_type.YangType.{YangType}
 use Rattle.sal_grouping.specs.declared.forest.Branch.{Branch}
 use Rattle.sal_grouping.specs.Groupings.{has_prefix, local_name}
 use Rattle.sal_grouping.specs.Names.{reaches_home}
@@ -20,7 +19,8 @@ use Rattle.sal_schema.specs.declared.kind.Kind.{Kind}
 use Rattle.sal_schema.specs.Kinds.{is_message, has_type}
 use Rattle.sal_typedefs.specs.Scopes.{Site, within, site_at}
 use Rattle.sal_typedefs.specs.Names.{name_of as type_name, under, steps_of, path_names, is_up}
-use Rattle.sal_typedefs.specs.Types.{judge, members_of}
+use Rattle.sal_typedefs.specs.Types.{judge}
+use Rattle.sal_build.specs.Filled.{empty, type_of_node}
 use Rattle.sal_build.specs.Nodes.{kind_of, name_of}
 use Rattle.std.specs.BTreeMap.{get}
 use Rattle.sal_build.specs.declared.child.Key.{Key}
@@ -183,41 +183,18 @@ all_faults stmts forest = flat_map (λ (entry : ℕ × Branch). node_faults stmt
 
 -- ---- the type of a node
 
-abbrev pub empty : YangType
-empty = roll-YangType YangType-F.Empty
-
-abbrev pub is_reference : YangType-F YangType → Bool
-is_reference (YangType-F.Leafref path) = true
-is_reference layer = false
-
--- the members of a union, each leafref with the type of its target: what that is as a union counts
-abbrev pub filled_members : List YangType → List YangType → List YangType
-filled_members [] types = []
-filled_members (member ∷ members) types =
-    if is_reference (out-YangType member)
-    then members_of (unwrap_or (slice_get types 0) empty) (out-YangType (unwrap_or (slice_get types 0) empty)) ++ filled_members members (drop 1 types)
-    else member ∷ filled_members members types
-
-abbrev pub filled_layer : YangType → List YangType → YangType-F YangType → YangType
-filled_layer t types (YangType-F.Leafref path) = unwrap_or (slice_get types 0) empty
-filled_layer t types (YangType-F.Union members) = roll-YangType (YangType-F.Union (filled_members members types))
-filled_layer t types layer = t
-
--- the type, with the types of the targets of its leafrefs in their order
-abbrev pub filled : YangType → List YangType → YangType
-filled t types = filled_layer t types (out-YangType t)
-
 abbrev pub stated_type : List Stmt → Option Site → YangType
 stated_type stmts None = empty
 stated_type stmts (Some site) = (judge (steps_of stmts + 1) stmts site).type
 
--- A leafref takes its target's type. Without a cycle no way of leafrefs visits a node twice.
-unfoldable pub node_type : ℕ → List Stmt → List Branch → ℕ → YangType
-node_type zero stmts forest k = empty
-node_type (suc n) stmts forest k =
-    option_map_or (λ b. filled (stated_type stmts (type_of stmts b)) (map (node_type n stmts forest) (targets_of stmts forest k b))) (slice_get forest k) empty
+-- what the type statement of each node means, its leafrefs still paths
+abbrev pub own_types : List Stmt → List Branch → List YangType
+own_types stmts forest = map (λ b. stated_type stmts (type_of stmts b)) forest
+
+abbrev pub node_type : List Stmt → List Branch → ℕ → YangType
+node_type stmts forest k = type_of_node (own_types stmts forest) (edges_of stmts forest) k
 
 -- the types of the nodes that have one, in order
 abbrev pub types_of : List Stmt → List Branch → List YangType
 types_of stmts forest =
-    flat_map (λ (entry : ℕ × Branch). if has_type (kind_of stmts entry.1) then node_type (length forest) stmts forest entry.0 ∷ [] else []) (enumerate_from 0 forest)
+    flat_map (λ (entry : ℕ × Branch). if has_type (kind_of stmts entry.1) then node_type stmts forest entry.0 ∷ [] else []) (enumerate_from 0 forest)

@@ -4,6 +4,7 @@ pub mod Children
 pub mod Lists
 pub mod Table
 pub mod Orders
+pub mod Filled
 pub mod Identities
 pub mod Types
 pub mod Leafrefs

@@ -27,6 +27,7 @@
 
 mod child;
 mod derived;
+mod fill;
 mod identities;
 mod info;
 mod inherited;
@@ -42,4 +43,5 @@ mod whole;
 mod words;
 
 pub use child::Key;
+pub use fill::filled_types;
 pub use whole::{identity_fault, identity_infos, leafref_end, list_fault, node_infos};

@@ -6,14 +6,15 @@
 //! | `node_infos` | the nodes of the table, by number |
 //! | `identity_fault`, `identity_infos` | the first fault of identities, and the identities of the table |
 //! | `leafref_end` | where the path of a leafref leads |
+//! | `filled_types` | the types of nodes: a leafref takes its target's type |
 //! | `Key` | what a node is found by: its parent, its module and its name |
 //! | `examples` | worked examples, as laws |
 //!
 //! `specs/Build.antt` has the whole: the table of modules, or their first fault. It puts together what a statement says of its
 //! node (`Nodes`), what a node has from above (`Inherited`), nodes by name (`Children`), keys and unique leafs (`Lists`), the
-//! nodes of the table (`Table`), identities (`Identities`), type statements (`Types`), and leafrefs with the types of nodes
-//! (`Leafrefs`). The code has all of them but the walk over type statements and the types of nodes, which have their
-//! definitions alone so far.
+//! nodes of the table (`Table`), identities (`Identities`), type statements (`Types`), where leafrefs lead (`Leafrefs`) and the
+//! types of nodes (`Filled`). The code has all of them but the walk over type statements, the reading of a leafref's path, and
+//! what puts the parts together, which have their definitions alone so far.
 //!
 //! ```
 //! let modules = check(alloc, &stmts)?;

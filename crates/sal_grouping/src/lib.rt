@@ -6,6 +6,7 @@
 //! | `Forest` | the nodes, seen as their list by number |
 //! | `Branch` | a node: its parent, its module, and where its statement stands |
 //! | `Implied` | what a node without a statement is: a case, an input or an output |
+//! | `ranking`, `reaches` | whether a way along named edges leads from one number to another |
 //! | `examples` | worked examples, as laws |
 //!
 //! The statements that matter stand in one list over all modules, and a statement is known by its number there
@@ -48,4 +49,5 @@ mod vectors;
 mod whole;
 
 pub use forest::{Branch, Forest, Implied};
+pub use reach::{ranking, reaches};
 pub use whole::expand;

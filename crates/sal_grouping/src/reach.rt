@@ -168,7 +168,7 @@ fn reaching(
 // ---- together
 
 /// The rank of each grouping, or none where they are of no use.
-pub(crate) fn ranking(alloc: Global, edges: &[Vec<usize>]) -> Result<Option<Vec<usize>>, NoMemory>
+pub fn ranking(alloc: Global, edges: &[Vec<usize>]) -> Result<Option<Vec<usize>>, NoMemory>
     ensures { IfOk result (λ ranking. IfSome ranking (λ ranks. spec.IsRanked (lists edges.now) ranks.items)) }
 {
     let ranks = ranks_of(alloc, edges)?;
@@ -191,7 +191,7 @@ fn is_below(ranking: &Option<Vec<usize>>, used: usize, g: usize) -> bool
 ///
 /// Where no way leads from there into a cycle, that takes no time. Elsewhere it takes that of all groupings' names, for each
 /// step of the longest way to it.
-pub(crate) fn reaches(
+pub fn reaches(
     alloc: Global,
     edges: &[Vec<usize>],
     ranking: &Option<Vec<usize>>,

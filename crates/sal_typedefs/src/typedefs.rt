@@ -108,7 +108,7 @@ impl<'a> Typedefs<'a> {
     }
 
     /// The number of the identity that a name stands for in a module.
-    pub(crate) fn identity_of(&self, number: u32, name: &str) -> Option<usize>
+    pub fn identity_of(&self, number: u32, name: &str) -> Option<usize>
         ensures { result ≡ spec.identity_of self.now number name.now }
     {
         match module_of(self.modules, number, name) {

@@ -1,0 +1,9 @@
+-- The nodes so far.
+use Rattle.std.proofs.Common.{◌≡◌, take}
+use Rattle.std.specs.BTreeMap.{get}
+use Rattle.sal_build.specs.declared.child.Key.{Key}
+use Rattle.sal_build.specs.Children.{key_cmp, first_with, data_key}
+use Rattle.sal_build.proofs.child.data_children_of.Given as goal
+
+abbrev pub invariant-loop-k : goal.invariant-loop-k
+invariant-loop-k l = (q : Key) → get key_cmp l.map q ≡ first_with (data_key l.modules l.forest) (take l.k l.forest) q

@@ -1,0 +1,13 @@
+use Rattle.std.proofs.Common.{◌<◌, length, arith}
+use Rattle.sal_grouping.specs.Indexes.{lists}
+use Rattle.sal_grouping.proofs.IndexLists.{lists-length}
+use Rattle.sal_build.specs.Orders.{rows}
+use Rattle.sal_build.proofs.Derivations.{put-row}
+use Rattle.sal_build.proofs.derived.place_row.Goals as goal
+
+pub returns-in_ok-row-clause-each : goal.returns-in_ok-row-clause-each
+returns-in_ok-row-clause-each c k h =
+    let a = c.args in
+    let inside : a.i < length (rows a.all.now.items) = omega (arith, c.requires, lists-length a.edges.now) in
+    let row = rw (c.out_of.ensures, c.deref.ensures.value) at c.in_ok-row.ensures in
+    put-row a.all.now.items (lists a.edges.now) a.i c.in_ok-row.row inside row k

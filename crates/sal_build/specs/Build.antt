@@ -1,0 +1,36 @@
+-- The table to which modules are related, or the first fault. Each pass is judged only where those before it found nothing.
+use Rattle.std.specs.Prelude.{List, ◌++◌, map, Result, Ok}
+use Rattle.sal_types.specs.Reading.{◌>>=◌}
+use Rattle.sal_stmt.specs.declared.stmt.Stmt.{Stmt}
+use Rattle.sal_module.specs.declared.fault.BuildFault.{BuildFault}
+use Rattle.sal_module.specs.declared.fault.Found.{Found}
+use Rattle.sal_module.specs.Modules.{check}
+use Rattle.sal_module.specs.Statements.{argument_of}
+use Rattle.sal_grouping.specs.declared.forest.Branch.{Branch}
+use Rattle.sal_grouping.specs.Expand.{expand, unless_any}
+use Rattle.sal_schema.specs.declared.table.SchemaTable.{SchemaTable}
+use Rattle.sal_build.specs.Identities as identities
+use Rattle.sal_build.specs.Leafrefs as leafrefs
+use Rattle.sal_build.specs.Lists as lists
+use Rattle.sal_build.specs.Table.{infos_of}
+use Rattle.sal_build.specs.Types as types
+
+abbrev pub table_of : List Stmt → List Branch → SchemaTable
+table_of stmts forest = record {
+  nodes = infos_of stmts forest;
+  types = leafrefs.types_of stmts forest;
+  modules = map argument_of stmts;
+  identities = identities.infos_of stmts;
+}
+
+-- names of types, of identities and of leafrefs
+abbrev pub name_faults : List Stmt → List Branch → List Found
+name_faults stmts forest = types.name_faults stmts ++ identities.all_faults stmts ++ leafrefs.all_faults stmts forest
+
+abbrev pub build : List Stmt → Result SchemaTable BuildFault
+build stmts =
+    check stmts >>= expand
+    >>= (λ forest. unless_any (name_faults stmts forest) forest)
+    >>= (λ forest. unless_any (types.other_faults stmts) forest)
+    >>= (λ forest. unless_any (lists.all_faults stmts forest) forest)
+    >>= (λ forest. Ok (table_of stmts forest))

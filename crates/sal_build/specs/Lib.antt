@@ -1,0 +1,12 @@
+pub mod Nodes
+pub mod Inherited
+pub mod Children
+pub mod Lists
+pub mod Table
+pub mod Orders
+pub mod Filled
+pub mod Identities
+pub mod Types
+pub mod Leafrefs
+pub mod Build
+pub mod Examples

@@ -1,0 +1,39 @@
+-- The types of all statements and nodes, and their faults.
+use Rattle.std.specs.Prelude.{ℕ, zero, suc, ◌+◌, Bool, ◌&&◌, not, List, [], ◌∷◌, ◌++◌, is_some, if◌then◌else◌}
+use Rattle.std.specs.List.{flat_map, enumerate_from}
+use Rattle.sal_stmt.specs.declared.stmt.Stmt.{Stmt, out-Stmt}
+use Rattle.sal_module.specs.declared.keyword.Keyword.TheVariants as word
+use Rattle.sal_module.specs.declared.fault.Found.{Found}
+use Rattle.sal_module.specs.Keywords.{keyword_of}
+use Rattle.sal_module.specs.Statements.{is_named, subs_of}
+use Rattle.sal_typedefs.specs.Scopes.{Site, within, top}
+use Rattle.sal_typedefs.specs.Names as names
+use Rattle.sal_typedefs.specs.Names.{steps_of}
+use Rattle.sal_typedefs.specs.Types.{judge}
+
+-- ---- all type statements
+
+-- A statement whose keyword the profile has, and that is no extension: what stands in others means nothing.
+abbrev pub is_read : Stmt → Bool
+is_read stmt = is_some (keyword_of (out-Stmt stmt).keyword) && not (is_named word.Extension stmt)
+
+abbrev pub type_here : Site → List Site
+type_here site = if is_named word.Type site.stmt then site ∷ [] else []
+
+-- the type statements among a statement and those in so many levels below it
+unfoldable pub types_in : ℕ → Site → List Site
+types_in zero site = if is_read site.stmt then type_here site else []
+types_in (suc levels) site = if is_read site.stmt then type_here site ++ flat_map (λ sub. types_in levels (within site sub)) (subs_of site.stmt) else []
+
+-- Blocks are open 64 deep at most.
+abbrev pub types_of : List Stmt → List Site
+types_of stmts = flat_map (λ (entry : ℕ × Stmt). types_in 64 (top entry.0 entry.1)) (enumerate_from 0 stmts)
+
+-- ---- their faults
+
+abbrev pub name_faults : List Stmt → List Found
+name_faults stmts = flat_map (names.name_faults (steps_of stmts) stmts) (types_of stmts)
+
+-- Those of a type count again at each that rests on it, which changes nothing: the least counts.
+abbrev pub other_faults : List Stmt → List Found
+other_faults stmts = flat_map (λ site. (judge (steps_of stmts + 1) stmts site).faults) (types_of stmts)

@@ -1,0 +1,180 @@
+//! Nodes by their names below other nodes.
+ghost use Rattle.std.specs.Prelude.{◌≡◌, ℕ, ◌+◌, ◌≤◌, List, Option, Some, None, true, IfOk, take, length};
+ghost use Rattle.std.specs.BTreeMap.{get};
+ghost use Rattle.sal_grouping.specs.declared.forest.Branch.{Branch as Knot};
+ghost use Rattle.sal_build.specs.declared.child.Key.{Key as Name};
+ghost use Rattle.sal_build.specs.Inherited.{AreInherited, with_data_node};
+ghost use Rattle.sal_build.specs.Children as spec;
+
+use crate::inherited::data_parent;
+use crate::node::{kind_of, name_of};
+use sal_grouping::Branch;
+use sal_module::Modules;
+use sal_schema::Kind;
+use sal_types::{NoMemory, Str};
+use std::alloc::Global;
+use std::collections::BTreeMap;
+
+/// What a node is found by.
+#[derive(Debug, Drop, PartialEq, Eq, PartialOrd, Ord)]
+pub struct Key {
+    /// Whether a leaf is meant: not told apart where data are looked for.
+    pub leaf: bool,
+    /// The node below which it is looked for, or none at the top.
+    pub above: Option<u32>,
+    /// The module of its name.
+    pub module: u32,
+    /// Its name.
+    pub name: Str,
+}
+
+/// The first node with each key.
+pub(crate) type Found = BTreeMap<Key, u32>;
+
+fn is_leaf(kind: Kind) -> bool
+    ensures { result ≡ spec.is_leaf_kind kind }
+{
+    match kind {
+        Kind::Leaf => true,
+        _ => false,
+    }
+}
+
+fn child_key(alloc: Global, modules: &Modules, branch: &Branch) -> Result<Option<Key>, NoMemory>
+    ensures { IfOk result (λ key. key ≡ spec.child_key modules.now branch.now) }
+{
+    let name = Str::new(alloc, name_of(modules, branch))?;
+    Ok(Some(Key {
+        leaf: is_leaf(kind_of(modules, branch)),
+        above: branch.parent,
+        module: branch.module,
+        name,
+    }))
+}
+
+fn data_key(
+    alloc: Global,
+    modules: &Modules,
+    forest: &[Branch],
+    nodes: &[Option<u32>],
+    branch: &Branch,
+) -> Result<Option<Key>, NoMemory>
+    requires { AreInherited (with_data_node modules.now) None forest.now nodes.now }
+    ensures { IfOk result (λ key. key ≡ spec.data_key modules.now forest.now branch.now) }
+{
+    if !kind_of(modules, branch).is_data() {
+        return Ok(None);
+    }
+    let name = Str::new(alloc, name_of(modules, branch))?;
+    Ok(Some(Key {
+        leaf: false,
+        above: data_parent(modules, forest, nodes, branch.parent),
+        module: branch.module,
+        name,
+    }))
+}
+
+/// The key has this number, where it has none.
+fn put(map: &mut Found, key: Option<Key>, k: u32) -> Result<(), NoMemory>
+    requires { (a b : Name) → spec.same_key a b ≡ true → get spec.key_cmp map.old a ≡ get spec.key_cmp map.old b }
+    ensures { IfOk result (λ _. (q : Name) → get spec.key_cmp map.new q ≡ spec.with_first (get spec.key_cmp map.old q) (spec.is_found_by q key) k) }
+{
+    if let Some(key) = key {
+        if !map.contains_key(&key) {
+            map.insert(key, k)?;
+        }
+    }
+    Ok(())
+}
+
+/// The nodes by their parents and names.
+pub(crate) fn children_of(
+    alloc: Global,
+    modules: &Modules,
+    forest: &[Branch],
+) -> Result<Found, NoMemory>
+    requires { length forest.now ≤ 65536 }
+    ensures { IfOk result (λ map. (q : Name) → get spec.key_cmp map q ≡ spec.first_with (spec.child_key modules.now) forest.now q) }
+{
+    let mut map = BTreeMap::new(alloc);
+    for (k, branch) in forest.iter().enumerate() {
+        let key = child_key(alloc, modules, branch)?;
+        put(&mut map, key, k as u32)?;
+    }
+    Ok(map)
+}
+
+/// The nodes for data by the nodes that their data stand under, and their names.
+pub(crate) fn data_children_of(
+    alloc: Global,
+    modules: &Modules,
+    forest: &[Branch],
+    nodes: &[Option<u32>],
+) -> Result<Found, NoMemory>
+    requires few { length forest.now ≤ 65536 }
+    requires known { AreInherited (with_data_node modules.now) None forest.now nodes.now }
+    ensures { IfOk result (λ map. (q : Name) → get spec.key_cmp map q ≡ spec.first_with (spec.data_key modules.now forest.now) forest.now q) }
+{
+    let mut map = BTreeMap::new(alloc);
+    for (k, branch) in forest.iter().enumerate() {
+        let key = data_key(alloc, modules, forest, nodes, branch)?;
+        put(&mut map, key, k as u32)?;
+    }
+    Ok(map)
+}
+
+// ---- names in the statement of a node
+
+pub(crate) fn local_name<'s>(text: &'s str) -> &'s str
+    ensures { result.now ≡ spec.local_name text.now }
+{
+    match text.split_once(':') {
+        Some((_prefix, name)) => name,
+        None => text,
+    }
+}
+
+/// The module of a name in the statement of a node.
+fn module_named(modules: &Modules, branch: &Branch, text: &str) -> Option<u32>
+    ensures { result ≡ spec.module_named modules.now branch.now text.now }
+{
+    match text.split_once(':') {
+        Some((prefix, _name)) => modules.imported(branch.source, prefix),
+        None => Some(branch.module),
+    }
+}
+
+pub(crate) fn find(map: &Found, key: Key) -> Option<u32>
+    ensures { result ≡ get spec.key_cmp map.now key }
+{
+    map.get(&key).copied()
+}
+
+/// The child of a name, a leaf or another node.
+pub(crate) fn child_named(
+    alloc: Global,
+    modules: &Modules,
+    forest: &[Branch],
+    map: &Found,
+    branch: &Branch,
+    leaf: bool,
+    above: u32,
+    text: &str,
+) -> Result<Option<u32>, NoMemory>
+    requires { (q : Name) → get spec.key_cmp map.now q ≡ spec.first_with (spec.child_key modules.now) forest.now q }
+    ensures { IfOk result (λ child. child ≡ spec.child_named modules.now forest.now branch.now leaf above text.now) }
+{
+    match module_named(modules, branch, text) {
+        None => Ok(None),
+        Some(module) => {
+            let name = Str::new(alloc, local_name(text))?;
+            let key = Key {
+                leaf,
+                above: Some(above),
+                module,
+                name,
+            };
+            Ok(find(map, key))
+        }
+    }
+}

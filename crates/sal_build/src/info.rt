@@ -1,0 +1,181 @@
+//! The nodes of the table.
+ghost use Rattle.std.specs.Prelude.{◌≡◌, ◌+◌, ◌++◌, ◌<◌, IfOk, if◌then◌else◌};
+ghost use Rattle.sal_build.specs.Lists as lists;
+ghost use Rattle.sal_build.specs.Table as spec;
+
+use crate::inherited::config_at;
+use crate::lists::{block_of, given, is_list, keys_named, uniques_named};
+use crate::node::{is_mandatory, kind_of, max_elements, min_elements, name_of, own_stmt};
+use crate::tables::Tables;
+use crate::words::words_of;
+use sal_grouping::Branch;
+use sal_module::{Keyword, Modules, argument_of, is_named};
+use sal_schema::{Kind, Leafs, NodeInfo};
+use sal_stmt::Stmt;
+use sal_types::{NoMemory, Seq, Str};
+use std::alloc::Global;
+
+/// The keys that a statement gives go behind these.
+fn push_keys(
+    keys: &mut Vec<u32>,
+    alloc: Global,
+    modules: &Modules,
+    forest: &[Branch],
+    tables: &Tables,
+    k: u32,
+    branch: &Branch,
+    sub: &Stmt,
+) -> Result<(), NoMemory>
+    requires { lists.AreTables modules.now forest.now tables.now }
+    ensures { IfOk result (λ _. keys.new.items ≡ keys.old.items ++ lists.keys_in modules.now forest.now k branch.now sub.now) }
+{
+    if !is_named(Keyword::Key, sub) {
+        return Ok(());
+    }
+    let names = words_of(alloc, argument_of(sub))?;
+    let named = keys_named(alloc, modules, forest, tables, k, branch, &names)?;
+    let leafs = given(alloc, &named)?;
+    keys.extend_from_slice(&leafs)?;
+    Ok(())
+}
+
+fn keys_of(
+    alloc: Global,
+    modules: &Modules,
+    forest: &[Branch],
+    tables: &Tables,
+    k: u32,
+    branch: &Branch,
+) -> Result<Vec<u32>, NoMemory>
+    requires { lists.AreTables modules.now forest.now tables.now }
+    ensures { IfOk result (λ keys. keys.items ≡ lists.keys_of modules.now forest.now k branch.now) }
+{
+    let mut keys = Vec::new(alloc);
+    if !is_list(kind_of(modules, branch)) {
+        return Ok(keys);
+    }
+    for sub in block_of(modules, branch) {
+        push_keys(&mut keys, alloc, modules, forest, tables, k, branch, sub)?;
+    }
+    Ok(keys)
+}
+
+/// The unique leafs that a statement gives go behind these.
+fn push_unique(
+    uniques: &mut Vec<Leafs>,
+    alloc: Global,
+    modules: &Modules,
+    forest: &[Branch],
+    tables: &Tables,
+    k: u32,
+    branch: &Branch,
+    sub: &Stmt,
+) -> Result<(), NoMemory>
+    requires { lists.AreTables modules.now forest.now tables.now }
+    ensures { IfOk result (λ _. uniques.new.items ≡ uniques.old.items ++ lists.uniques_in modules.now forest.now k branch.now sub.now) }
+{
+    if !is_named(Keyword::Unique, sub) {
+        return Ok(());
+    }
+    let names = words_of(alloc, argument_of(sub))?;
+    let named = uniques_named(alloc, modules, forest, tables, k, branch, &names)?;
+    uniques.push(Seq::from_items(given(alloc, &named)?))?;
+    Ok(())
+}
+
+fn uniques_of(
+    alloc: Global,
+    modules: &Modules,
+    forest: &[Branch],
+    tables: &Tables,
+    k: u32,
+    branch: &Branch,
+) -> Result<Vec<Leafs>, NoMemory>
+    requires { lists.AreTables modules.now forest.now tables.now }
+    ensures { IfOk result (λ uniques. uniques.items ≡ lists.uniques_of modules.now forest.now k branch.now) }
+{
+    let mut uniques = Vec::new(alloc);
+    if !is_list(kind_of(modules, branch)) {
+        return Ok(uniques);
+    }
+    for sub in block_of(modules, branch) {
+        push_unique(&mut uniques, alloc, modules, forest, tables, k, branch, sub)?;
+    }
+    Ok(uniques)
+}
+
+/// Whether a node has a type.
+pub(crate) fn is_typed(modules: &Modules, branch: &Branch) -> bool
+    ensures { result ≡ spec.is_typed modules.now branch.now }
+{
+    match kind_of(modules, branch) {
+        Kind::Leaf => true,
+        Kind::LeafList => true,
+        _ => false,
+    }
+}
+
+fn type_number(modules: &Modules, branch: &Branch, n: u32) -> Option<u32>
+    ensures { result ≡ spec.type_number modules.now branch.now n }
+{
+    if is_typed(modules, branch) {
+        Some(n)
+    } else {
+        None
+    }
+}
+
+fn info_of(
+    alloc: Global,
+    modules: &Modules,
+    forest: &[Branch],
+    tables: &Tables,
+    k: u32,
+    branch: &Branch,
+    types: u32,
+) -> Result<NodeInfo, NoMemory>
+    requires tables { lists.AreTables modules.now forest.now tables.now }
+    requires types { types ≡ spec.types_before modules.now forest.now k }
+    ensures { IfOk result (λ info. info ≡ spec.info_of modules.now forest.now k branch.now) }
+{
+    let own = own_stmt(modules, branch);
+    Ok(NodeInfo {
+        parent: branch.parent,
+        kind: kind_of(modules, branch),
+        module: branch.module,
+        name: Str::new(alloc, name_of(modules, branch))?,
+        config: config_at(modules, forest, &tables.configs, Some(k)),
+        ty: type_number(modules, branch, types),
+        keys: Seq::from_items(keys_of(alloc, modules, forest, tables, k, branch)?),
+        mandatory: is_mandatory(own),
+        min_elements: min_elements(own),
+        max_elements: max_elements(own),
+        unique: Seq::from_items(uniques_of(alloc, modules, forest, tables, k, branch)?),
+    })
+}
+
+fn after(types: u32, typed: bool) -> u32
+    requires { types < 65536 }
+    ensures { result ≡ (if typed then types + 1 else types) }
+{
+    if typed { types + 1 } else { types }
+}
+
+/// The nodes of the table.
+pub(crate) fn infos_of(
+    alloc: Global,
+    modules: &Modules,
+    forest: &[Branch],
+    tables: &Tables,
+) -> Result<Vec<NodeInfo>, NoMemory>
+    requires { lists.AreTables modules.now forest.now tables.now }
+    ensures { IfOk result (λ infos. infos.items ≡ spec.infos_of modules.now forest.now) }
+{
+    let mut infos = Vec::with_capacity(alloc, forest.len())?;
+    let mut types = 0;
+    for (k, branch) in forest.iter().enumerate() {
+        infos.push(info_of(alloc, modules, forest, tables, k as u32, branch, types)?)?;
+        types = after(types, is_typed(modules, branch));
+    }
+    Ok(infos)
+}

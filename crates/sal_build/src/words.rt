@@ -1,0 +1,101 @@
+//! Texts of names.
+ghost use Rattle.std.specs.Prelude.{◌≡◌, ◌+◌, ◌-◌, ◌<◌, ◌≤◌, ◌++◌, ◌∷◌, [], length, take, drop, filter, not, slice_index, IfOk, MatchOption};
+ghost use Rattle.std.specs.List.{prefix_len};
+ghost use Rattle.sal_stmt.specs.Words.{is_blank as is_blank_byte, is_empty};
+ghost use Rattle.sal_build.specs.Lists as spec;
+
+use sal_types::{NoMemory, Str};
+use std::alloc::Global;
+
+fn is_blank(c: u8) -> bool
+    ensures { result ≡ is_blank_byte c }
+{
+    c == b' ' || c == b'\t' || c == b'\r' || c == b'\n'
+}
+
+fn word_len(text: &str) -> usize
+    ensures value { result ≡ prefix_len (λ c. not (is_blank_byte c)) text.now }
+    ensures within { result ≤ length text.now }
+{
+    text.as_bytes()
+        .iter()
+        .take_while(|c| !is_blank(**c))
+        .count()
+}
+
+/// Where the first blank stands.
+fn blank_at(text: &str) -> Option<usize>
+    ensures { MatchOption result (length text.now ≤ prefix_len (λ c. not (is_blank_byte c)) text.now) (λ i. (i ≡ prefix_len (λ c. not (is_blank_byte c)) text.now) × (i < length text.now) × (slice_index text.now i < 128)) }
+{
+    let len = word_len(text);
+    if len < text.len() { Some(len) } else { None }
+}
+
+/// What stands before an ASCII byte.
+fn front(text: &str, i: usize) -> &str
+    requires there { i < length text.now }
+    requires ascii { slice_index text.now i < 128 }
+    ensures { result.now ≡ take i text.now }
+{
+    &text[..i]
+}
+
+/// What follows the first bytes, of which the last is ASCII.
+fn tail(text: &str, n: usize) -> &str
+    requires some { 0 < n }
+    requires there { n ≤ length text.now }
+    requires ascii { slice_index text.now (n - 1) < 128 }
+    ensures { result.now ≡ drop n text.now }
+{
+    &text[n..]
+}
+
+/// The word goes behind these, if it has a byte.
+fn push_word(words: &mut Vec<Str>, alloc: Global, word: &str) -> Result<(), NoMemory>
+    ensures { IfOk result (λ _. words.new.items ≡ words.old.items ++ filter (λ w. not (is_empty w)) (word.now ∷ [])) }
+{
+    if !word.is_empty() {
+        words.push(Str::new(alloc, word)?)?;
+    }
+    Ok(())
+}
+
+/// What stands between blanks.
+pub(crate) fn words_of(alloc: Global, text: &str) -> Result<Vec<Str>, NoMemory>
+    ensures { IfOk result (λ words. words.items ≡ spec.words_of text.now) }
+{
+    let mut words = Vec::new(alloc);
+    let mut rest = text;
+    'words: loop {
+        match blank_at(rest) {
+            None => {
+                push_word(&mut words, alloc, rest)?;
+                return Ok(words);
+            }
+            Some(i) => {
+                push_word(&mut words, alloc, front(rest, i))?;
+                rest = tail(rest, i + 1);
+            }
+        }
+    }
+}
+
+/// The steps of a name, with a `/` between them.
+pub(crate) fn steps_of(alloc: Global, word: &str) -> Result<Vec<Str>, NoMemory>
+    ensures { IfOk result (λ steps. steps.items ≡ spec.steps_of word.now) }
+{
+    let mut steps = Vec::new(alloc);
+    let mut rest = word;
+    'steps: loop {
+        match rest.split_once('/') {
+            None => {
+                steps.push(Str::new(alloc, rest)?)?;
+                return Ok(steps);
+            }
+            Some((step, more)) => {
+                steps.push(Str::new(alloc, step)?)?;
+                rest = more;
+            }
+        }
+    }
+}

@@ -14,7 +14,6 @@ pub mod Parted
 pub mod Points
 pub mod ReadBack
 pub mod Readable
-pub mod TestTable
 pub mod TextAgain
 pub mod Typed
 pub mod WholeTexts

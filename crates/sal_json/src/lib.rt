@@ -32,8 +32,6 @@ mod named;
 mod numerals;
 mod patterns;
 mod read;
-#[cfg(test)]
-mod tests;
 mod texts;
 mod texts_read;
 mod write;

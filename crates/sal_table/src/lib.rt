@@ -1,4 +1,31 @@
-//! Whether a table is the table of a schema: the test that a table needs which comes from outside the program.
+//! Whether a table is the table of a schema: the test for tables that come from outside the program.
+//!
+//! | item | what it is |
+//! |---|---|
+//! | `is_table` | whether a table is the table of a schema: exactly where `IsTable` of `sal_schema` holds |
+//! | `schema_of` | the schema of a table, or that it is not the table of one |
+//! | `TableFault` | why a table gives no schema: it is not the table of one, or memory ran out |
+//!
+//! `sal_schema` says in `specs/Valid` what is asked of a table: numbers that stand for something, nodes below nodes that
+//! take them, types where they belong, keys and unique leafs of their lists, identities that go round in no circle, types
+//! that hold no union in a union, and names that stand for one thing each. `specs/` here has the test as one value for a
+//! table (`Whole`) and the names by which doubles are found (`Keys`). Which of the rules a table breaks is not told.
+//!
+//! ```
+//! match schema_of(alloc, table) {
+//!     Ok(schema) => serve(&schema),
+//!     Err(TableFault::NotATable) => refuse(),
+//!     Err(TableFault::NoMemory) => retry(),
+//! }
+//! ```
+//!
+//! | call | cost, for n nodes |
+//! |---|---|
+//! | `is_table` | n log n comparisons of names, k log k for the k keys of a list, the k names of an enumeration or of bits; for each node for data the choices and cases right above it, and for each unique leaf the nodes between it and its list; a copy of each name, of one kind of names at a time |
+//! | `schema_of` | that, and what `Schema::from_table` costs |
+//!
+//! Both are linear in the height of the tree where a chain of choices and cases is that high. No call goes deeper than the
+//! types of a union.
 #![tactic(auto)]
 
 mod climb;
@@ -9,6 +36,8 @@ mod kind;
 mod lists;
 mod names;
 mod node;
+#[cfg(test)]
+mod tests;
 mod types;
 mod whole;
 mod words;

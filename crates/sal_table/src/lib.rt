@@ -7,25 +7,26 @@
 //! | `TableFault` | why a table gives no schema: it is not the table of one, or memory ran out |
 //!
 //! `sal_schema` says in `specs/Valid` what is asked of a table: numbers that stand for something, nodes below nodes that
-//! take them, types where they belong, keys and unique leafs of their lists, identities that go round in no circle, types
-//! that hold no union in a union, and names that stand for one thing each. `specs/` here has the test as one value for a
-//! table (`Whole`) and the names by which doubles are found (`Keys`). Which of the rules a table breaks is not told.
+//! take them, types where they belong, keys and unique leafs of their lists, identities that are not derived from
+//! themselves, types that hold no union in a union, and names that stand for one thing each. `specs/` here has the test as
+//! one value for a table (`Whole`) and the names by which doubles are found (`Keys`). Which of the rules a table breaks is
+//! not told.
 //!
 //! ```
 //! match schema_of(alloc, table) {
 //!     Ok(schema) => serve(&schema),
 //!     Err(TableFault::NotATable) => refuse(),
-//!     Err(TableFault::NoMemory) => retry(),
+//!     Err(TableFault::NoMemory) => give_up(),
 //! }
 //! ```
 //!
 //! | call | cost, for n nodes |
 //! |---|---|
-//! | `is_table` | n log n comparisons of names, k log k for the k keys of a list, the k names of an enumeration or of bits; for each node for data the choices and cases right above it, and for each unique leaf the nodes between it and its list; a copy of each name, of one kind of names at a time |
+//! | `is_table` | n log n comparisons of names, and k log k for k keys of a list or k names of an enumeration or of bits; for each node for data a look at the choices and cases right above it, and for each unique leaf at the nodes up to its list; a copy of each name, of one kind of names at a time |
 //! | `schema_of` | that, and what `Schema::from_table` costs |
 //!
-//! Both are linear in the height of the tree where a chain of choices and cases is that high. No call goes deeper than the
-//! types of a union.
+//! So a table that is made to be slow, as one chain of choices and cases above many leafs, costs the product of the two. No
+//! call goes deeper than the types of a union.
 #![tactic(auto)]
 
 mod climb;

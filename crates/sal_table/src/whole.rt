@@ -14,7 +14,7 @@ use sal_schema::{Schema, SchemaTable};
 use sal_types::NoMemory;
 use std::alloc::Global;
 
-/// How many things of a kind a table may have, and one more.
+/// One more than the most things of a kind that a table may have.
 const LIMIT: usize = 4_294_967_296;
 
 // Whether there are fewer than 2 ^ 32 of each kind of things.
@@ -44,6 +44,9 @@ fn passes(alloc: Global, table: &SchemaTable) -> Result<bool, NoMemory>
 }
 
 /// Whether the table is the table of a schema.
+///
+/// It takes memory for a copy of each name, of one kind of names at a time, and fails where there is none. For n nodes it
+/// compares names n log n times; a node for data costs the choices and cases right above it besides.
 pub fn is_table(alloc: Global, table: &SchemaTable) -> Result<bool, NoMemory>
     ensures { IfOk result (λ b. IsTrue b ↔ IsTable table.now) }
 {
@@ -51,6 +54,8 @@ pub fn is_table(alloc: Global, table: &SchemaTable) -> Result<bool, NoMemory>
 }
 
 /// The schema of this table, where it is the table of one.
+///
+/// It costs what `is_table` and `Schema::from_table` cost. The table is given up in each case, for want of memory too.
 pub fn schema_of(alloc: Global, table: SchemaTable) -> Result<Schema, TableFault>
     ensures schema { IfOk result (λ schema. schema ≡ table) }
     ensures table { OnOk result (IsTable table) }

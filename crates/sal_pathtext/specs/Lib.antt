@@ -1,0 +1,5 @@
+pub mod Words
+pub mod Nodes
+pub mod Read
+pub mod Written
+pub mod Examples

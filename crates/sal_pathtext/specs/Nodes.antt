@@ -33,6 +33,11 @@ abbrev pub values_given : List Given → List ℕ → Option (List Value)
 values_given given [] = Some []
 values_given given (leaf ∷ leafs) = option_and_then (λ value. with_value value (values_given given leafs)) (value_given given leaf)
 
+-- the leaf that a predicate is about, where it has not been given a value before
+abbrev pub not_given : List Given → Option ℕ → Option ℕ
+not_given given None = None
+not_given given (Some leaf) = if list_any (is_for leaf) given then None else Some leaf
+
 module _ (table : SchemaTable) where
   -- the name of a node's module
   abbrev pub own_module : ℕ → List ℕ
@@ -58,11 +63,6 @@ module _ (table : SchemaTable) where
   -- what a name means in a predicate: a key of the list
   abbrev pub key_meant : ℕ → Name → Option ℕ
   key_meant n name = option_and_then (if_key n) (meant (Some n) name)
-
-  -- the leaf that a predicate is about, where it has not been given a value before
-  abbrev pub not_given : List Given → Option ℕ → Option ℕ
-  not_given given None = None
-  not_given given (Some leaf) = if list_any (is_for leaf) given then None else Some leaf
 
   -- the step to the entry with the values that were given: that of a leaf-list, or those of all keys of a list in order
   abbrev pub entry_given : ℕ → List Given → Option Step

@@ -21,6 +21,10 @@ use Rattle.sal_pathtext.specs.Nodes.{meant, dot_meant, key_meant, not_given, ent
 abbrev pub top : Here
 top = record { node = None; wants_entry = false; name_at = 0 }
 
+-- behind the predicates of an entry
+abbrev pub behind_entry : Here → Here
+behind_entry here = record { node = here.node; wants_entry = false; name_at = here.name_at }
+
 -- what a value is taken for, where its predicate stands at this place
 abbrev pub taken : ℕ → Result Value ScalarFault → Result Value PathTextFault
 taken at (Ok value) = Ok value
@@ -30,6 +34,15 @@ taken at (Err fault) = Err (BadPredicate at)
 abbrev pub found : {X : Type 0} → PathTextFault → Option X → Result X PathTextFault
 found fault (Some x) = Ok x
 found fault None = Err fault
+
+module _ (table : SchemaTable) where
+  -- behind the name of a node, which stands at this place
+  abbrev pub behind_name : ℕ → ℕ → Here
+  behind_name n at = record { node = Some n; wants_entry = is_kind has_entries table n; name_at = at }
+
+  -- a list was named, and has no keys yet
+  abbrev pub lacks_keys : Here → Bool
+  lacks_keys here = here.wants_entry && option_map_or (is_kind is_list table) here.node false
 
 module _ (table : SchemaTable) (whole : Text) where
   -- ---- predicates
@@ -45,7 +58,7 @@ module _ (table : SchemaTable) (whole : Text) where
   unfoldable pub predicate : ℕ → List Given → Text → Read Given
   predicate n given t = do
     (named, after) ← subject n (after_blanks (drop 1 t))
-    leaf ← found (BadPredicate (place whole t)) (not_given table given named)
+    leaf ← found (BadPredicate (place whole t)) (not_given given named)
     (text, rest) ← said whole after
     value ← taken (place whole t) (value_of table leaf text)
     end ← closed whole rest
@@ -62,25 +75,13 @@ module _ (table : SchemaTable) (whole : Text) where
 
   -- ---- steps
 
-  -- a list was named, and has no keys yet
-  abbrev pub lacks_keys : Here → Bool
-  lacks_keys here = here.wants_entry && option_map_or (is_kind is_list table) here.node false
-
-  -- behind the name of a node, which stands at this place
-  abbrev pub behind_name : ℕ → ℕ → Here
-  behind_name n at = record { node = Some n; wants_entry = is_kind has_entries table n; name_at = at }
-
-  -- behind the predicates of an entry
-  abbrev pub behind_entry : Here → Here
-  behind_entry here = record { node = here.node; wants_entry = false; name_at = here.name_at }
-
   -- a name, behind its slash
   unfoldable pub named : Here → Text → Result (Step × Here × Text) PathTextFault
   named here t = do
     (called, after) ← name whole t
-    if lacks_keys here then Err (BadPredicate here.name_at) else (do
+    if lacks_keys table here then Err (BadPredicate here.name_at) else (do
       n ← found (UnknownNode (place whole t)) (meant table here.node called)
-      Ok (Node n, behind_name n (place whole t), after))
+      Ok (Node n, behind_name table n (place whole t), after))
 
   -- the predicates of an entry, at the first `[`
   unfoldable pub entered : Here → Text → Result (Step × Here × Text) PathTextFault

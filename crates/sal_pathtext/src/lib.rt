@@ -5,5 +5,8 @@ mod examples;
 mod fault;
 mod given;
 mod here;
+mod nodes;
+mod reader;
+mod words;
 
 pub use fault::PathTextFault;

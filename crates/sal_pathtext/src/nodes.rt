@@ -1,0 +1,259 @@
+//! Which node a name means, and by which values the entries of lists and leaf-lists are told.
+ghost use Rattle.std.specs.Prelude.{◌≡◌, ◌<◌, length, option_map, find, IfOk, IfSome};
+ghost use Rattle.std.specs.List.{list_any};
+ghost use Rattle.sal_types.specs.Reading.{GivesUnless};
+ghost use Rattle.sal_schema.specs.Kinds as kinds;
+ghost use Rattle.sal_schema.specs.Table as table;
+ghost use Rattle.sal_json.specs.Patterns.{patterns_of};
+ghost use Rattle.sal_pathtext.specs.Nodes as spec;
+
+use crate::given::Given;
+use sal_json::{Patterns, ScalarFault, read_text, write_text};
+use sal_schema::{Kind, Schema};
+use sal_types::{Duplicate, Keys, NoMemory, Seq, Step, Str, Value};
+use std::alloc::Global;
+
+fn module_at(schema: &Schema, node: u32) -> Option<u32>
+    ensures module_number { result ≡ table.module_of schema.now node }
+    ensures within { IfSome result (λ m. m < length schema.now.modules) }
+{
+    if node < schema.len() {
+        Some(schema.module_of(node))
+    } else {
+        None
+    }
+}
+
+fn type_at(schema: &Schema, node: u32) -> Option<u32>
+    ensures ty { result ≡ table.type_of schema.now node }
+    ensures within { IfSome result (λ ty. ty < length schema.now.types) }
+{
+    if node < schema.len() {
+        schema.type_of(node)
+    } else {
+        None
+    }
+}
+
+fn kind_at(schema: &Schema, node: u32) -> Option<Kind>
+    ensures { result ≡ table.kind_of schema.now node }
+{
+    if node < schema.len() {
+        Some(schema.kind(node))
+    } else {
+        None
+    }
+}
+
+/// The key leafs of a list, in order; none of another node.
+pub(crate) fn keys_at(schema: &Schema, node: u32) -> &[u32]
+    ensures { result.now ≡ table.keys_of schema.now node }
+{
+    if node < schema.len() {
+        schema.keys(node)
+    } else {
+        &[]
+    }
+}
+
+/// The name of a node, without its module.
+pub(crate) fn name_at(schema: &Schema, node: u32) -> &str
+    ensures { result.now ≡ table.name_of schema.now node }
+{
+    if node < schema.len() {
+        schema.name_of(node)
+    } else {
+        ""
+    }
+}
+
+/// The name of a node's module.
+pub(crate) fn own_module(schema: &Schema, node: u32) -> &str
+    ensures { result.now ≡ spec.own_module schema.now node }
+{
+    match module_at(schema, node) {
+        Some(module) => schema.module_name(module),
+        None => "",
+    }
+}
+
+pub(crate) fn is_list(schema: &Schema, node: u32) -> bool
+    ensures { result ≡ table.is_kind kinds.is_list schema.now node }
+{
+    match kind_at(schema, node) {
+        Some(Kind::List) => true,
+        _ => false,
+    }
+}
+
+pub(crate) fn is_leaf_list(schema: &Schema, node: u32) -> bool
+    ensures { result ≡ table.is_kind kinds.is_leaf_list schema.now node }
+{
+    match kind_at(schema, node) {
+        Some(Kind::LeafList) => true,
+        _ => false,
+    }
+}
+
+pub(crate) fn has_entries(schema: &Schema, node: u32) -> bool
+    ensures { result ≡ table.is_kind kinds.has_entries schema.now node }
+{
+    match kind_at(schema, node) {
+        Some(kind) => kind.has_entries(),
+        None => false,
+    }
+}
+
+/// The node for data that a name means, below a node or at the top.
+pub(crate) fn meant(
+    schema: &Schema,
+    parent: Option<u32>,
+    module: Option<&str>,
+    name: &str,
+) -> Option<u32>
+    ensures { result ≡ spec.meant schema.now parent (option_map (λ m. m.now) «module».entry, name.now) }
+{
+    match (parent, module) {
+        (None, None) => None,
+        (None, Some(module)) => schema.child(None, module, name),
+        (Some(node), None) => schema.child(parent, own_module(schema, node), name),
+        (Some(node), Some(module)) => {
+            if module == own_module(schema, node) {
+                None
+            } else {
+                schema.child(parent, module, name)
+            }
+        }
+    }
+}
+
+/// What `.` means in a predicate of this node.
+pub(crate) fn dot_meant(schema: &Schema, node: u32) -> Option<u32>
+    ensures { result ≡ spec.dot_meant schema.now node }
+{
+    if is_leaf_list(schema, node) {
+        Some(node)
+    } else {
+        None
+    }
+}
+
+fn is_among(number: u32, numbers: &[u32]) -> bool
+    ensures { result ≡ table.is_among number numbers.now }
+{
+    numbers.iter().any(|other| *other == number)
+}
+
+/// The key of this list that a name means.
+pub(crate) fn key_meant(schema: &Schema, node: u32, module: Option<&str>, name: &str) -> Option<u32>
+    ensures { result ≡ spec.key_meant schema.now node (option_map (λ m. m.now) «module».entry, name.now) }
+{
+    match meant(schema, Some(node), module, name) {
+        Some(leaf) if is_among(leaf, keys_at(schema, node)) => Some(leaf),
+        _ => None,
+    }
+}
+
+fn is_given(given: &[Given], leaf: u32) -> bool
+    ensures { result ≡ list_any (spec.is_for leaf) given.now }
+{
+    given.iter().any(|one| one.leaf == leaf)
+}
+
+/// The leaf, where no predicate has given it a value before.
+pub(crate) fn not_given(given: &[Given], leaf: Option<u32>) -> Option<u32>
+    ensures { result ≡ spec.not_given given.now leaf }
+{
+    match leaf {
+        Some(leaf) if !is_given(given, leaf) => Some(leaf),
+        _ => None,
+    }
+}
+
+fn find_given(given: &[Given], leaf: u32) -> Option<&Given>
+    ensures { option_map (λ one. one.now) result ≡ find (spec.is_for leaf) given.now }
+{
+    given.iter().find(|one| one.leaf == leaf)
+}
+
+fn value_given(given: &[Given], leaf: u32) -> Option<&Value>
+    ensures { option_map (λ value. value.now) result ≡ spec.value_given given.now leaf }
+{
+    match find_given(given, leaf) {
+        Some(one) => Some(&one.value),
+        None => None,
+    }
+}
+
+/// The values that the keys were given, in order, where each was given one.
+fn values_given(alloc: Global, given: &[Given], keys: &[u32]) -> Result<Option<Keys>, NoMemory>
+    ensures { IfOk result (λ values. values ≡ spec.values_given given.now keys.now) }
+{
+    let mut values = Vec::with_capacity(alloc, keys.len())?;
+    for key in keys {
+        match value_given(given, *key) {
+            Some(value) => values.push(value.copy()?)?,
+            None => return Ok(None),
+        }
+    }
+    Ok(Some(Seq::from_items(values)))
+}
+
+/// The step to the entry with the values that were given, unless one is missing.
+pub(crate) fn entry_given(
+    alloc: Global,
+    schema: &Schema,
+    node: u32,
+    given: &[Given],
+) -> Result<Option<Step>, NoMemory>
+    ensures { IfOk result (λ step. step ≡ spec.entry_given schema.now node given.now) }
+{
+    if is_leaf_list(schema, node) {
+        return match value_given(given, node) {
+            Some(value) => Ok(Some(Step::Item(value.copy()?))),
+            None => Ok(None),
+        };
+    }
+    match values_given(alloc, given, keys_at(schema, node))? {
+        Some(values) => Ok(Some(Step::Key(values))),
+        None => Ok(None),
+    }
+}
+
+/// The value of a leaf or leaf-list that a text stands for.
+pub(crate) fn value_of(
+    alloc: Global,
+    schema: &Schema,
+    patterns: &Patterns,
+    leaf: u32,
+    text: &str,
+) -> Result<Value, ScalarFault>
+    requires { patterns.now ≡ patterns_of schema.now }
+    ensures { GivesUnless ScalarFault.NoMemory (λ value. value) result (spec.value_of schema.now leaf text.now) }
+{
+    let Some(module) = module_at(schema, leaf) else {
+        return Err(ScalarFault::WrongKind);
+    };
+    let Some(ty) = type_at(schema, leaf) else {
+        return Err(ScalarFault::WrongKind);
+    };
+    read_text(alloc, schema, patterns, ty, module, text)
+}
+
+/// The text of a value of a leaf or leaf-list.
+pub(crate) fn value_text(
+    alloc: Global,
+    schema: &Schema,
+    leaf: u32,
+    value: &Value,
+) -> Result<Str, NoMemory>
+    ensures { IfOk result (λ text. text ≡ spec.value_text schema.now leaf value.now) }
+{
+    let Some(module) = module_at(schema, leaf) else {
+        return Str::new(alloc, "");
+    };
+    let Some(ty) = type_at(schema, leaf) else {
+        return Str::new(alloc, "");
+    };
+    write_text(alloc, schema, ty, module, value)
+}

@@ -1,3 +1,5 @@
 pub mod Entries
 pub mod Quotes
 pub mod Runs
+pub mod Steps
+pub mod Texts

@@ -6,6 +6,7 @@ use Rattle.std.proofs.lemmas.List.{drop_more, drop-drop}
 use Rattle.std.proofs.lemmas.List.Sums.{prefix_len_stops}
 use Rattle.std.specs.List.{list_any, prefix_len}
 use Rattle.sal_types.specs.Reading.{◌>>=◌, with_front}
+use Rattle.sal_pathtext.specs.Written.{doubled}
 use Rattle.sal_pathtext.specs.Words.{Text, Read, first, is_double_quote, bad_text, single}
 
 abbrev pub is_other : ℕ → ℕ → Bool
@@ -101,4 +102,31 @@ double-one (c ∷ t) low =
       | inr e ↦
           let z : before 34 (c ∷ t) ≡ 1 + before 34 t = rw e refl in
           rw (e, double-one t (omega arith)) refl
+    ]
+
+-- each single quote twice, up to the next one
+pub doubled-none : (t : Text) → length t ≤ before 39 t → doubled t ≡ t
+doubled-none [] past = refl
+doubled-none (c ∷ t) past =
+    elim (cases_Bool (c == 39)) [
+      | inl e ↦ absurd (let z : before 39 (c ∷ t) ≡ 0 = rw e refl in omega arith)
+      | inr e ↦
+          let z : before 39 (c ∷ t) ≡ 1 + before 39 t = rw e refl in
+          rw (e, doubled-none t (omega arith)) refl
+    ]
+
+pub doubled-at : (t : Text) → before 39 t < length t → doubled t ≡ take (before 39 t) t ++ (39 ∷ 39 ∷ doubled (drop (before 39 t + 1) t))
+doubled-at [] low = absurd (omega arith)
+doubled-at (c ∷ t) low =
+    elim (cases_Bool (c == 39)) [
+      | inl e ↦
+          let z : before 39 (c ∷ t) ≡ 0 = rw e refl in
+          let is : c ≡ 39 = grind (arith, nat_tests) in
+          rw (z, e) (ap (λ d. d ∷ d ∷ doubled t) is)
+      | inr e ↦
+          let z : before 39 (c ∷ t) ≡ 1 + before 39 t = rw e refl in
+          let s : 1 + before 39 t ≡ suc (before 39 t) = omega arith in
+          let s1 : suc (before 39 t) + 1 ≡ suc (before 39 t + 1) = omega arith in
+          let rest = doubled-at t (omega arith) in
+          rw (z, s, s1, e) (ap (λ u. c ∷ u) rest)
     ]

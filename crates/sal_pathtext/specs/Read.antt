@@ -97,14 +97,15 @@ module _ (table : SchemaTable) (whole : Text) where
   abbrev pub step : Here → Text → Result (Step × Here × Text) PathTextFault
   step here t = if first t == 91 then entered here t else if first t == 47 then named here (drop 1 t) else bad_text whole t
 
-  -- what would be a step too many: a name, or the first predicate of an entry
+  -- what would be a step too many: the first predicate of an entry, or a name
+  abbrev pub one_entry_more : Here → Text → Result (List Step) PathTextFault
+  one_entry_more here t = do
+    n ← found (BadPredicate (place whole t)) here.node
+    past ← predicate n [] t
+    Err TooDeep
+
   unfoldable pub one_more : Here → Text → Result (List Step) PathTextFault
-  one_more here t =
-      if first t == 91 && here.wants_entry then (do
-        n ← found (BadPredicate (place whole t)) here.node
-        past ← predicate n [] t
-        Err TooDeep)
-      else (step here t >>= λ past. Err TooDeep)
+  one_more here t = if first t == 91 && here.wants_entry then one_entry_more here t else (step here t >>= λ past. Err TooDeep)
 
   -- the steps from here on, of which so many have room
   unfoldable pub steps : ℕ → Here → Text → Result (List Step) PathTextFault

@@ -26,6 +26,11 @@ in_quotes t =
     else if not (list_any is_double_quote t) then 34 ∷ t ++ 34 ∷ []
     else 39 ∷ doubled t ++ 39 ∷ []
 
+-- the node below which the next step stands
+abbrev pub behind : Option ℕ → Step → Option ℕ
+behind here (Node n) = Some n
+behind here step = here
+
 module _ (table : SchemaTable) where
   -- the name of a node with its module
   abbrev pub full_name : ℕ → List ℕ
@@ -36,25 +41,35 @@ module _ (table : SchemaTable) where
   name_text None n = full_name n
   name_text (Some p) n = if text_eq (own_module table n) (own_module table p) then name_of table n else full_name n
 
-  -- that the leaf of this name has this value
-  abbrev pub predicate_text : List ℕ → ℕ → Value → List ℕ
-  predicate_text name leaf value = 91 ∷ name ++ (61 ∷ in_quotes (value_text table leaf value) ++ 93 ∷ [])
+  -- what a predicate says of the value, and its end
+  abbrev pub said_text : ℕ → Value → List ℕ
+  said_text leaf value = 61 ∷ in_quotes (value_text table leaf value) ++ 93 ∷ []
+
+  -- the predicate of a key, and that of a leaf-list entry
+  abbrev pub key_text : ℕ → ℕ → Value → List ℕ
+  key_text n leaf value = 91 ∷ name_text (Some n) leaf ++ said_text leaf value
+
+  abbrev pub item_text : ℕ → Value → List ℕ
+  item_text n value = 91 ∷ 46 ∷ said_text n value
 
   -- a predicate for each key of the list, in order
   abbrev pub keys_text : ℕ → List ℕ → List Value → List ℕ
-  keys_text n (leaf ∷ leafs) (value ∷ values) = predicate_text (name_text (Some n) leaf) leaf value ++ keys_text n leafs values
+  keys_text n (leaf ∷ leafs) (value ∷ values) = key_text n leaf value ++ keys_text n leafs values
   keys_text n leafs values = []
 
   abbrev pub entry_text : ℕ → Step → List ℕ
   entry_text n (Key values) = keys_text n (keys_of table n) values
-  entry_text n (Item value) = predicate_text (codes ".") n value
+  entry_text n (Item value) = item_text n value
   entry_text n step = []
 
-  -- steps below a node, or at the top
+  -- a step below a node, or at the top
+  abbrev pub step_text : Option ℕ → Step → List ℕ
+  step_text here (Node n) = 47 ∷ name_text here n
+  step_text here step = option_map_or (λ n. entry_text n step) here []
+
   abbrev pub steps_text : Option ℕ → List Step → List ℕ
   steps_text here [] = []
-  steps_text here (Node n ∷ steps) = 47 ∷ name_text here n ++ steps_text (Some n) steps
-  steps_text here (step ∷ steps) = option_map_or (λ n. entry_text n step) here [] ++ steps_text here steps
+  steps_text here (step ∷ steps) = step_text here step ++ steps_text (behind here step) steps
 
 -- the text of a path
 abbrev pub written : SchemaTable → List Step → List ℕ

@@ -187,4 +187,53 @@ impl<'a> Reader<'a> {
             Err(NoMemory) => Err(PathTextFault::NoMemory),
         }
     }
+
+    /// One step, of which the text still has at least a byte.
+    pub(crate) fn step<'s>(
+        &self,
+        here: Here,
+        s: &'s str,
+    ) -> Result<(Step, Here, &'s str), PathTextFault>
+        ensures { Gives (λ p. (p.0, p.1, p.2.now)) result (spec.step self.now.schema.now self.now.text.now here s.now) }
+    {
+        let c = first(s);
+        if c == b'[' {
+            return self.entered(here, s);
+        }
+        if c != b'/' {
+            return Err(bad_text(self.text, s));
+        }
+        match self.named(here, tail(s, 1)) {
+            Ok((node, next, after)) => Ok((Step::Node(node), next, after)),
+            Err(fault) => Err(fault),
+        }
+    }
+
+    /// The fault of a text that goes on behind the last step that has room.
+    #[tactic(auto, unfolding(crate::specs::Read::one_more))]
+    pub(crate) fn one_more(&self, here: Here, s: &str) -> PathTextFault
+        ensures { (result ≡ PathTextFault.NoMemory → ⊥) → spec.one_more self.now.schema.now self.now.text.now here s.now ≡ Err result }
+    {
+        if first(s) == b'[' && here.wants_entry {
+            return self.one_entry_more(here, s);
+        }
+        match self.step(here, s) {
+            Ok(_) => PathTextFault::TooDeep,
+            Err(fault) => fault,
+        }
+    }
+
+    /// The fault of an entry that has no room: that of its first predicate, if it has one.
+    fn one_entry_more(&self, here: Here, s: &str) -> PathTextFault
+        requires { first_of s.now ≡ 91 }
+        ensures { (result ≡ PathTextFault.NoMemory → ⊥) → spec.one_entry_more self.now.schema.now self.now.text.now here s.now ≡ Err result }
+    {
+        let Some(node) = here.node else {
+            return self.bad_predicate(s);
+        };
+        match self.predicate(node, &[], s) {
+            Ok(_) => PathTextFault::TooDeep,
+            Err(fault) => fault,
+        }
+    }
 }

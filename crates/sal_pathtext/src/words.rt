@@ -31,7 +31,7 @@ pub(crate) fn tail(s: &str, n: usize) -> &str
 
 /// What stands before an ASCII byte.
 #[inline]
-fn front(s: &str, i: usize) -> &str
+pub(crate) fn front(s: &str, i: usize) -> &str
     requires there { i < length s.now }
     requires ascii { slice_index s.now i < 128 }
     ensures { result.now ≡ take i s.now }
@@ -144,7 +144,7 @@ pub(crate) fn name<'s>(
 }
 
 /// How many bytes stand before the first one like this, or all of them.
-fn place_of(byte: u8, bytes: &[u8]) -> usize
+pub(crate) fn place_of(byte: u8, bytes: &[u8]) -> usize
     ensures value { result ≡ prefix_len (λ c. not (c == byte)) bytes.now }
     ensures within { result ≤ length bytes.now }
 {

@@ -1,4 +1,31 @@
 //! Paths as text, both ways.
+//!
+//! | item | what it is |
+//! |---|---|
+//! | `read_path` | the path that a text stands for in a schema, or the first fault with its place |
+//! | `write_path` | the one spelling of a path |
+//! | `PathTextFault` | why a text is no path |
+//!
+//! `/` is the root. Another path is a slash and a name for each node, outermost first. The first name tells its module, as
+//! `topo:network`; a later one does exactly where its module is another than that of the node above it, as `geo:site`. An
+//! entry of a list has its keys behind the list's name, as `link[peer='b'][port='7']`, and one of a leaf-list its value, as
+//! `seen[.='12']`. Keys are read in any order and written in theirs. Without keys a list's name is the last one, and means the
+//! whole list. Values are in single or double quotes, and in single quotes `''` stands for one; what stands there is a key text
+//! of `sal_json`. Spaces and tabs may stand inside the brackets beside the key, the `=` and the value.
+//!
+//! `specs/` has the words of a text (`Words`), what names mean and by which values entries are told (`Nodes`), the path that a
+//! text stands for (`Read`) and the text of a path (`Written`). The reader and the writer give what these definitions give,
+//! unless memory runs out, and what is read fits the schema.
+//!
+//! ```
+//! let patterns = Patterns::of(alloc, &schema)?;
+//! let path = read_path(alloc, &schema, &patterns, "/topo:network/node[id='a']/geo:site")?;
+//! let text = write_path(alloc, &schema, &path)?;
+//! ```
+//!
+//! Costs: reading is linear in the text, with a search by halves for each name and what `read_text` costs for each value; for k
+//! predicates of one entry there are k times k comparisons of numbers, and a schema bounds k by the keys of a list. Writing is
+//! linear in the text.
 #![tactic(auto)]
 
 mod examples;

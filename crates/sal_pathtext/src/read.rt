@@ -1,5 +1,6 @@
 //! Paths from texts.
-ghost use Rattle.std.specs.Prelude.{◌≡◌, [], ◌∷◌, ◌++◌, Err, OnOk, OnErr};
+ghost use Rattle.std.specs.Prelude.{◌≡◌, [], ◌∷◌, ◌++◌, Err, IfOk, IsTrue, OnOk, OnErr};
+ghost use Rattle.sal_schema.specs.Paths.{fits_path};
 ghost use Rattle.sal_json.specs.Patterns.{patterns_of};
 ghost use Rattle.sal_pathtext.specs.Read as spec;
 ghost use Rattle.sal_pathtext.specs.Read.{Gives};
@@ -50,11 +51,23 @@ fn steps(reader: &Reader) -> Result<Path, PathTextFault>
     Ok(path)
 }
 
+#[tactic(auto, unfolding(crate::specs::Read::read_path))]
+fn read(reader: &Reader) -> Result<Path, PathTextFault>
+    ensures { Gives (λ path. path) result (spec.read_path reader.now.schema.now reader.now.text.now) }
+{
+    if first(reader.text) != b'/' {
+        return Err(PathTextFault::BadText { at: 0 });
+    }
+    if reader.text.len() == 1 {
+        return Ok(Path::root(reader.alloc));
+    }
+    steps(reader)
+}
+
 /// The path that a text stands for in a schema: `/` for the root, and otherwise a slash and a name for each node, with the
 /// keys or the value of an entry in brackets behind the name of its list or leaf-list.
 ///
 /// The fault is the first from the left. It takes time linear in the text, and for each value that of `read_text`.
-#[tactic(auto, unfolding(crate::specs::Read::read_path))]
 pub fn read_path(
     alloc: Global,
     schema: &Schema,
@@ -63,12 +76,9 @@ pub fn read_path(
 ) -> Result<Path, PathTextFault>
     requires { patterns.now ≡ patterns_of schema.now }
     ensures exact { Gives (λ path. path) result (spec.read_path schema.now text.now) }
+    ensures fits { IfOk result (λ path. IsTrue (fits_path schema.now path)) }
 {
-    if first(text) != b'/' {
-        return Err(PathTextFault::BadText { at: 0 });
-    }
-    if text.len() == 1 {
-        return Ok(Path::root(alloc));
-    }
-    steps(&Reader::new(alloc, schema, patterns, text))
+    let _nodes = schema.len();
+    let path = read(&Reader::new(alloc, schema, patterns, text))?;
+    Ok(path)
 }

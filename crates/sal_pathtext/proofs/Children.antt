@@ -1,0 +1,149 @@
+-- What a name stands for is a node for data below that parent.
+use Rattle.std.proofs.Common.{◌≡◌, ℕ, zero, suc, ◌+◌, ◌-◌, ◌≤◌, Bool, true, false, cond, not, ◌&&◌, ◌==◌, IsTrue, List, [], ◌∷◌, ◌++◌, length, get_or, Option, Some, None, refl, sym, ap, ◌∙◌, arith}
+use Rattle.std.specs.Prelude.{option_map, option_and_then, find, if◌then◌else◌}
+use Rattle.std.specs.List.{slice_get}
+use Rattle.std.specs.Option.{option_map_or}
+use Rattle.std.specs.Ordering.{is_eq, nat_cmp}
+use Rattle.std.specs.declared.cmp.Ordering.{Ordering}
+use Rattle.std.specs.declared.cmp.Ordering.TheVariants.{Less, Equal, Greater}
+use Rattle.std.specs.FinMap.{nat_cmp-IsAntisymmetric}
+use Rattle.std.proofs.lemmas.Bool.{not-true, true≢false}
+use Rattle.std.proofs.lemmas.Bool.Decides.{nat_tests}
+use Rattle.std.proofs.lemmas.Option.{option_and_then_some}
+use Rattle.sal_types.specs.Order.{then-first}
+use Rattle.sal_schema.specs.declared.kind.Kind.{Kind}
+use Rattle.sal_schema.specs.declared.names.Name.{Name as FullName}
+use Rattle.sal_schema.specs.declared.names.Named.{Named}
+use Rattle.sal_schema.specs.declared.table.NodeInfo.{NodeInfo}
+use Rattle.sal_schema.specs.declared.table.SchemaTable.{SchemaTable}
+use Rattle.sal_schema.specs.Kinds.{is_data, is_choice_or_case, has_type}
+use Rattle.sal_schema.specs.Names.{name_cmp, is_called, lookup, named, name_of_parts, data_at, data_names, module_called, child_of}
+use Rattle.sal_schema.specs.Table.{each_from, closest, data_node, data_parent, is_data_child, is_kind, is_same, parent_of}
+use Rattle.sal_schema.specs.Valid.{IsTable, stands_right, is_under, text_eq}
+use Rattle.sal_schema.proofs.Conjuncts.{and_first, and_second}
+use Rattle.sal_schema.proofs.Facts.{slice_get_some, closest-None, closest-Some}
+use Rattle.sal_schema.proofs.Numbered.{list_all-at}
+use Rattle.sal_pathtext.specs.Words.{Name}
+use Rattle.sal_pathtext.specs.Nodes.{own_module, meant}
+
+some_same : {X : Type 0} (x y : X) → ◌≡◌ {A = Option X} (Some x) (Some y) → x ≡ y
+some_same x y e = cc
+
+none_some : {X P : Type 0} (x : X) → ◌≡◌ {A = Option X} None (Some x) → P
+none_some x e = cc
+
+is_equal : (o : Ordering) → is_eq o ≡ true → o ≡ Equal
+is_equal Less e = cc
+is_equal Equal e = refl
+is_equal Greater e = cc
+
+same-itself : (o : Option ℕ) → is_same o o ≡ true
+same-itself None = refl
+same-itself (Some n) = grind (arith, nat_tests)
+
+-- two names of one parent
+same_parent : (x y : FullName) → is_eq (name_cmp x y) ≡ true → x.parent ≡ y.parent
+same_parent x y e = by x.parent y.parent (is_equal (name_cmp x y) e)
+  where
+    by : (p q : Option ℕ) → name_cmp (name_of_parts p x.module x.text) (name_of_parts q y.module y.text) ≡ Equal → p ≡ q
+    by None None e = refl
+    by None (Some q) e = cc
+    by (Some p) None e = cc
+    by (Some p) (Some q) e = ap Some (nat_cmp-IsAntisymmetric p q (then-first _ _ e))
+
+-- a node for data of this number is there, and its data parent is this one
+abbrev pub IsChild : SchemaTable → Option ℕ → Option NodeInfo → Type 0
+IsChild table parent found = (node : NodeInfo) × (found ≡ Some node) × (is_data node.kind ≡ true) × (data_node table node.parent ≡ parent)
+
+module _ (table : SchemaTable) (name : FullName) where
+  found_in : (nodes : List NodeInfo) (i n : ℕ) → lookup (each_from (data_at table) i nodes) name ≡ Some n → (i ≤ n) × IsChild table name.parent (slice_get nodes (n - i))
+  found_in [] i n e = none_some n e
+  found_in (node ∷ nodes) i n e =
+      by_kind (λ e. let (low, child) = found_in nodes (i + 1) n e in let more : n - i ≡ suc (n - (i + 1)) = omega arith in (omega arith, rw more child)) (is_data node.kind) refl e
+    where
+      here : Named
+      here = named (data_node table node.parent) node.module node.name i
+
+      Here : Type 0
+      Here = (i ≤ n) × IsChild table name.parent (slice_get (node ∷ nodes) (n - i))
+
+      Further : Type 0
+      Further = lookup (each_from (data_at table) (i + 1) nodes) name ≡ Some n → Here
+
+      by_name : Further → (b : Bool) → is_called name here ≡ b → is_data node.kind ≡ true
+          → option_map (λ (entry : Named). entry.number) (cond b (Some here) (find (is_called name) (each_from (data_at table) (i + 1) nodes))) ≡ Some n → Here
+      by_name further true is known e =
+          let same : i ≡ n = some_same i n e in
+          let none : n - i ≡ 0 = omega arith in
+          (omega arith, rw none (node, refl, known, same_parent here.name name is))
+      by_name further false is known e = further e
+
+      by_kind : Further → (b : Bool) → is_data node.kind ≡ b → lookup (cond b (here ∷ []) [] ++ each_from (data_at table) (i + 1) nodes) name ≡ Some n → Here
+      by_kind further true known e = by_name further (is_called name here) refl known e
+      by_kind further false known e = further e
+
+-- what is found below a parent is a child of it
+pub child_of-is : (table : SchemaTable) (parent : Option ℕ) (m text : List ℕ) (n : ℕ) → child_of table parent m text ≡ Some n → is_data_child table parent n ≡ true
+child_of-is table parent m text n e = option_and_then_some (λ k. lookup (data_names table) (name_of_parts parent k text)) (module_called table m) n e (λ k known found. by k found)
+  where
+    by : (k : ℕ) → lookup (data_names table) (name_of_parts parent k text) ≡ Some n → is_data_child table parent n ≡ true
+    by k found =
+        let (low, child) = found_in table (name_of_parts parent k text) table.nodes 0 n found in
+        let (node, there, known, above) = child in
+        let whole : n - 0 ≡ n = omega arith in
+        let at : slice_get table.nodes n ≡ Some node = ap (slice_get table.nodes) (sym whole) ∙ there in
+        rw at (rw (known, above) (same-itself parent))
+
+pub meant-is : (table : SchemaTable) (parent : Option ℕ) (name : Name) (n : ℕ) → meant table parent name ≡ Some n → is_data_child table parent n ≡ true
+meant-is table None (None, own) n e = none_some n e
+meant-is table None (Some m, own) n e = child_of-is table None m own n e
+meant-is table (Some p) (None, own) n e = child_of-is table (Some p) (own_module table p) own n e
+meant-is table (Some p) (Some m, own) n e = by (text_eq m (own_module table p)) e
+  where
+    by : (b : Bool) → (if b then None else child_of table (Some p) m own) ≡ Some n → is_data_child table (Some p) n ≡ true
+    by true e = none_some n e
+    by false e = child_of-is table (Some p) m own n e
+
+-- ---- leafs and leaf-lists have no children
+
+abbrev stays : Kind → Bool
+stays kind = not (is_choice_or_case kind)
+
+closest-zero : (table : SchemaTable) (here : Option ℕ) → closest stays table 0 here ≡ None
+unfolding closest
+closest-zero table here = refl
+
+-- under a node that data stand under stands a child of it
+climb : (table : SchemaTable) (p steps k : ℕ) → closest stays table steps (parent_of table k) ≡ Some p → (c : ℕ) × (parent_of table c ≡ Some p)
+climb table p zero k e = none_some p (sym (closest-zero table (parent_of table k)) ∙ e)
+climb table p (suc steps) k e = by (λ q more. climb table p steps q more) (parent_of table k) refl e
+  where
+    by : ((q : ℕ) → closest stays table steps (parent_of table q) ≡ Some p → (c : ℕ) × (parent_of table c ≡ Some p)) → (o : Option ℕ) → parent_of table k ≡ o → closest stays table (suc steps) o ≡ Some p → (c : ℕ) × (parent_of table c ≡ Some p)
+    by up None above e = none_some p (sym (closest-None stays table (suc steps)) ∙ e)
+    by up (Some q) above e = elim (is_kind stays table q) as (λ b. cond b (Some q) (closest stays table steps (parent_of table q)) ≡ Some p → (c : ℕ) × (parent_of table c ≡ Some p)) [
+      | true ↦ λ here. (k, above ∙ here)
+      | false ↦ λ more. up q more
+    ] (sym (closest-Some stays table steps q) ∙ e)
+
+-- what stands below this node, by its parent
+child_stands : (table : SchemaTable) (c p : ℕ) → IsTable table → parent_of table c ≡ Some p → is_kind has_type table p ≡ false
+child_stands table c p good e = option_and_then_some (λ (node : NodeInfo). node.parent) (slice_get table.nodes c) p e (λ node there above. by node there above)
+  where
+    by : (node : NodeInfo) → slice_get table.nodes c ≡ Some node → node.parent ≡ Some p → is_kind has_type table p ≡ false
+    by node there above =
+        let (inside, here) = slice_get_some table.nodes c node there in
+        let right = list_all-at (stands_right table) table.nodes c node good.places inside in
+        let right2 : stands_right table node ≡ true = rw here right in
+        let free = and_first (not (is_under has_type table node)) _ (and_first _ _ (and_first _ _ right2)) in
+        let no : is_under has_type table node ≡ false = not-true (is_under has_type table node) free in
+        rw above at no
+
+pub no_child : (table : SchemaTable) (p n : ℕ) → IsTable table → is_kind has_type table p ≡ true → is_data_child table (Some p) n ≡ true → ⊥
+no_child table p n good leaf child =
+    let above = same-is (data_parent table n) p (and_second (is_kind is_data table n) (is_same (data_parent table n) (Some p)) child) in
+    let (c, under) = climb table p (length table.nodes) n above in
+    true≢false (sym leaf ∙ child_stands table c p good under)
+  where
+    same-is : (o : Option ℕ) (p : ℕ) → is_same o (Some p) ≡ true → o ≡ Some p
+    same-is None p e = cc
+    same-is (Some q) p e = let same : q ≡ p = grind (arith, nat_tests) in ap Some same

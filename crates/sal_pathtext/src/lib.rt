@@ -35,6 +35,8 @@ mod here;
 mod nodes;
 mod read;
 mod reader;
+#[cfg(test)]
+mod tests;
 mod words;
 mod write;
 

@@ -18,11 +18,11 @@ use sal_types::NoMemory;
 use std::alloc::Global;
 
 /// The least of this fault and that of a name that no typedef has.
-pub(crate) fn with_unknown<'a>(
+pub(crate) fn with_unknown<'x, 'a>(
     best: Option<Found>,
     alloc: Global,
-    typedefs: &'a Typedefs<'a>,
-    spot: &Spot<'a>,
+    typedefs: &'x Typedefs<'a>,
+    spot: &Spot<'x, 'a>,
 ) -> Result<Option<Found>, NoMemory>
     ensures { IfOk result (λ it. it ≡ least best (spec.unknown_faults typedefs.now (site_of spot.now))) }
 {
@@ -33,11 +33,11 @@ pub(crate) fn with_unknown<'a>(
 }
 
 /// The least of this fault and that of a name by which the typedef around it rests on itself.
-pub(crate) fn with_circle<'a>(
+pub(crate) fn with_circle<'x, 'a>(
     best: Option<Found>,
     alloc: Global,
-    typedefs: &'a Typedefs<'a>,
-    spot: &Spot<'a>,
+    typedefs: &'x Typedefs<'a>,
+    spot: &Spot<'x, 'a>,
 ) -> Result<Option<Found>, NoMemory>
     ensures { IfOk result (λ it. it ≡ least best (spec.cycle_faults (spec.steps_of typedefs.now) typedefs.now (site_of spot.now))) }
 {

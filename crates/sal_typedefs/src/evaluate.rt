@@ -88,12 +88,7 @@ pub fn judge_at<'x, 'a>(
     ensures fault { IfOk result (λ j. j.0 ≡ least None (judgement typedefs.now (site_in number around.now stmt.now)).faults) }
     ensures meant { IfOk result (λ j. j.0 ≡ None → j.1 ≡ (judgement typedefs.now (site_in number around.now stmt.now)).type) }
 {
-    let spot = Spot {
-        module: number,
-        stmt,
-        outer: around,
-        inner: Vec::new(alloc),
-    };
+    let spot = Spot::new(alloc, number, around, stmt);
     let nodes = gone(alloc, typedefs, spot)?;
     let mut done = judge_all(alloc, typedefs, nodes.as_slice())?;
     match done.pop() {

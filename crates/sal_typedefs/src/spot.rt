@@ -93,6 +93,23 @@ pub(crate) fn typedef_in<'x, 'a>(
 }
 
 impl<'x, 'a> Spot<'x, 'a> {
+    /// A statement in the last of these blocks.
+    pub(crate) fn new(
+        alloc: Global,
+        number: u32,
+        around: &'x [Block<'a>],
+        stmt: &'a Stmt,
+    ) -> Spot<'x, 'a>
+        ensures { spec.site_of result ≡ spec.site_in number around.now stmt.now }
+    {
+        Spot {
+            module: number,
+            stmt,
+            outer: around,
+            inner: Vec::new(alloc),
+        }
+    }
+
     /// The typedef of a name in the closest block around that has one.
     pub(crate) fn typedef(
         &self,

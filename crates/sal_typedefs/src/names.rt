@@ -139,7 +139,8 @@ pub(crate) fn with_names<'x, 'a>(
 /// (`UnknownName`), or a typedef that rests on itself by this name (`NameCycle`).
 ///
 /// The statement stands in these blocks, from the module inwards. It takes time linear in the statements that the type rests
-/// on, with the logarithm of a block's typedefs for each.
+/// on, each as often as it is rested on, with the logarithm of a block's typedefs for each. Where that leads into a circle of
+/// other typedefs, it goes around in it for as many steps as there are statements.
 pub fn name_fault_at<'x, 'a>(
     alloc: Global,
     typedefs: &'x Typedefs<'a>,

@@ -1,6 +1,5 @@
 -- Ways to a place, one level down.
-use Rattle.std.proofs.Common.{◌≡◌, ℕ, zero, suc, ◌-◌, ◌<◌, ◌==◌, List, true, false, Some, None, refl, ap, arith}
-use Rattle.sal_stmt.specs.declared.stmt.Stmt.{Stmt}
+use Rattle.std.proofs.Common.{◌≡◌, ℕ, zero, suc, ◌-◌, ◌<◌, ◌==◌, true, false, Some, None, refl, arith}
 use Rattle.sal_module.specs.Statements.{subs_of}
 use Rattle.sal_module.specs.Places.{find_first}
 use Rattle.sal_typedefs.specs.Scopes.{Site, within, place_of, way_to}

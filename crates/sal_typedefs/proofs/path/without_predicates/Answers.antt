@@ -1,5 +1,5 @@
 use Rattle.std.proofs.Common.{◌≡◌, ◌∙◌, ◌++◌, ◌∷◌, [], Some, rules, sym, ap, string_bytes}
-use Rattle.sal_typedefs.specs.Names.{outside, inside}
+use Rattle.sal_typedefs.specs.Names.{outside}
 use Rattle.sal_typedefs.proofs.PathLists.{behind, behind-nothing, behind-two, predicates-none, predicates-some}
 use Rattle.sal_typedefs.proofs.path.without_predicates.Goals as goal
 

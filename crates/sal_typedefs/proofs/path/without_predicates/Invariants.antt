@@ -1,5 +1,5 @@
 -- What is kept, before what is left of the path.
-use Rattle.std.proofs.Common.{◌≡◌, ◌++◌, length, string_bytes}
+use Rattle.std.proofs.Common.{◌≡◌, length, string_bytes}
 use denote.Text.{Utf8}
 use denote.Shadow.{shadow}
 use Rattle.sal_typedefs.specs.Names.{outside}

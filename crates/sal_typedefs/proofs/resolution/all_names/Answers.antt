@@ -1,9 +1,9 @@
-use Rattle.std.proofs.Common.{◌≡◌, ◌∙◌, ◌∷◌, [], None, map, sym, ap}
+use Rattle.std.proofs.Common.{◌≡◌, ◌∙◌, ◌∷◌, None, map, sym, ap}
 use Rattle.std.specs.List.{flat_map}
 use Rattle.sal_module.specs.Faults.{least}
 use Rattle.sal_typedefs.specs.Names.{name_faults, steps_of}
 use Rattle.sal_typedefs.specs.Spots.{site_of}
-use Rattle.sal_typedefs.specs.Walks.{Node, nodes, left, node_of}
+use Rattle.sal_typedefs.specs.Walks.{Node, left, node_of}
 use Rattle.sal_typedefs.proofs.EntryLists.{least-two}
 use Rattle.sal_typedefs.proofs.WalkLists.{sites-under}
 use Rattle.sal_typedefs.proofs.resolution.all_names.Goals as goal

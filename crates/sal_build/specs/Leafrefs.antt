@@ -1,6 +1,6 @@
 -- Where leafrefs lead, and the types of nodes (RFC 7950 sections 6.4.1 and 9.9).
-use Rattle.std.specs.Prelude.{◌≡◌, ◌≤◌, ℕ, zero, suc, ◌+◌, ◌-◌, ◌==◌, Bool, true, false, ◌&&◌, List, [], ◌∷◌, ◌++◌, map, filter, find, length, take, drop, Option, Some, None, option_map, option_and_then, unwrap_or, if◌then◌else◌, codes}
-use Rattle.std.specs.List.{flat_map, enumerate_from, slice_get, slice_split, prefix_len}
+use Rattle.std.specs.Prelude.{◌≡◌, ◌≤◌, ℕ, zero, suc, ◌-◌, ◌==◌, Bool, false, ◌&&◌, List, [], ◌∷◌, ◌++◌, map, find, length, take, Option, Some, None, option_map, option_and_then, if◌then◌else◌}
+use Rattle.std.specs.List.{flat_map, enumerate_from, slice_get}
 use Rattle.std.specs.Option.{option_map_or, option_to_list}
 use Rattle.sal_stmt.specs.Words.{colon_at}
 use Rattle.sal_stmt.specs.declared.stmt.Stmt.{Stmt}
@@ -18,8 +18,9 @@ use Rattle.sal_grouping.specs.Names.{reaches_home}
 use Rattle.sal_schema.specs.declared.kind.Kind.{Kind}
 use Rattle.sal_schema.specs.Kinds.{is_message, has_type}
 use Rattle.sal_typedefs.specs.Scopes.{Site, within, site_at}
-use Rattle.sal_typedefs.specs.Names.{name_of as type_name, under, steps_of, path_names, is_up}
-use Rattle.sal_typedefs.specs.Types.{judge}
+use Rattle.sal_typedefs.specs.Names.{path_names}
+pub use Rattle.sal_typedefs.specs.Names.{is_leafref, leafrefs_of, count_up}
+use Rattle.sal_typedefs.specs.Types.{Judged, is_faulty, judgement}
 use Rattle.sal_build.specs.Filled.{empty, type_of_node}
 use Rattle.sal_build.specs.Nodes.{kind_of, name_of}
 use Rattle.std.specs.BTreeMap.{get}
@@ -36,15 +37,12 @@ type_in site = option_map (within site) (find (is_named word.Type) (subs_of site
 abbrev pub type_of : List Stmt → Branch → Option Site
 type_of stmts b = if has_type (kind_of stmts b) then option_and_then type_in (site_at stmts b.source b.at) else None
 
-abbrev pub is_leafref : Site → Bool
-is_leafref site = same (type_name site) (codes "leafref")
-
 -- the leafrefs among a type and those that it rests on
-abbrev pub leafrefs_of : List Stmt → Site → List Site
-leafrefs_of stmts site = filter is_leafref (under (steps_of stmts) stmts site)
+abbrev pub stated_leafrefs : List Stmt → Option Site → List Site
+stated_leafrefs stmts site = flat_map (leafrefs_of stmts) (option_to_list site)
 
 abbrev pub leafrefs_at : List Stmt → Branch → List Site
-leafrefs_at stmts b = flat_map (leafrefs_of stmts) (option_to_list (type_of stmts b))
+leafrefs_at stmts b = stated_leafrefs stmts (type_of stmts b)
 
 -- ---- places
 
@@ -119,10 +117,6 @@ pub record AreWays (stmts : List Stmt) (forest : List Branch) (ways : Ways) : Ty
 
 -- ---- targets
 
--- how many steps a path goes up: none where it begins at the top
-abbrev pub count_up : List ℕ → ℕ
-count_up path = prefix_len is_up (slice_split (λ c. c == 47) path)
-
 -- where its names begin, for a leaf under this place
 abbrev pub start_of : List Stmt → List Branch → Option ℕ → ℕ → Option (Option ℕ)
 start_of stmts forest place up = if up == 0 then Some None else steps_up (up - 1) stmts forest place
@@ -183,9 +177,13 @@ all_faults stmts forest = flat_map (λ (entry : ℕ × Branch). node_faults stmt
 
 -- ---- the type of a node
 
+-- A type with a fault means nothing: such modules have no table.
+abbrev pub sound_type : Judged → YangType
+sound_type judged = if is_faulty judged then empty else judged.type
+
 abbrev pub stated_type : List Stmt → Option Site → YangType
 stated_type stmts None = empty
-stated_type stmts (Some site) = (judge (steps_of stmts + 1) stmts site).type
+stated_type stmts (Some site) = sound_type (judgement stmts site)
 
 -- what the type statement of each node means, its leafrefs still paths
 abbrev pub own_types : List Stmt → List Branch → List YangType

@@ -11,7 +11,8 @@ use sal_restrict::YangType;
 use sal_types::{NoMemory, Seq};
 use std::alloc::Global;
 
-fn empty_type() -> YangType
+/// The type without values.
+pub(crate) fn empty_type() -> YangType
     ensures { result ≡ spec.empty }
 {
     YangType::Empty

@@ -38,6 +38,8 @@ mod order;
 mod tables;
 #[cfg(test)]
 mod tests;
+mod typed;
+mod types;
 mod vectors;
 mod walk;
 mod whole;

@@ -7,6 +7,7 @@ pub mod Derivations
 pub mod Seen
 pub mod Ranked
 pub mod Fillings
+pub mod Leading
 pub mod Walked
 pub mod Preorder
 pub mod PlaceMaps

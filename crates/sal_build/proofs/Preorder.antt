@@ -1,5 +1,5 @@
 -- All statements in the order of the texts, and the first of them at a place.
-use Rattle.std.proofs.Common.{◌≡◌, ℕ, zero, suc, ◌+◌, ◌-◌, ◌<◌, ◌≤◌, List, [], ◌∷◌, ◌++◌, Bool, true, false, ◌&&◌, ◌==◌, Option, Some, None, is_some, option_map, if◌then◌else◌, refl, ◌∙◌, sym, ap, inl, inr, arith}
+use Rattle.std.proofs.Common.{◌≡◌, ℕ, zero, suc, ◌+◌, ◌-◌, ◌<◌, ◌≤◌, List, [], ◌∷◌, Bool, false, ◌&&◌, ◌==◌, Option, Some, None, is_some, if◌then◌else◌, refl, ◌∙◌, ap, inl, inr, arith}
 use Rattle.std.specs.Prelude.{find, option_and_then}
 use Rattle.std.specs.List.{flat_map, enumerate_from, slice_get}
 use Rattle.std.specs.Option.{option_or}

@@ -19,7 +19,7 @@ pub(crate) fn empty_type() -> YangType
 }
 
 /// A copy of the type of this number.
-fn type_at(alloc: Global, all: &[YangType], k: usize) -> Result<YangType, NoMemory>
+pub(crate) fn type_at(alloc: Global, all: &[YangType], k: usize) -> Result<YangType, NoMemory>
     ensures { IfOk result (λ t. t ≡ spec.type_at all.now k) }
 {
     if k < all.len() {

@@ -1,6 +1,6 @@
-use Rattle.std.proofs.Common.{◌≡◌, ◌∙◌, List, map, get_or, Option, sym, ap, subst}
+use Rattle.std.proofs.Common.{◌∙◌, List, get_or, ap, subst}
 use Rattle.sal_build.specs.declared.typed.Place.{Place}
-use Rattle.sal_build.specs.Typed.{place_of_node, AreFirst, Own, owns, owns_of, places_of, found_for}
+use Rattle.sal_build.specs.Typed.{AreFirst, Own, owns, places_of, found_for}
 use Rattle.sal_build.proofs.Kept.{each-found}
 use Rattle.sal_build.proofs.typed.node_types.Goals as goal
 

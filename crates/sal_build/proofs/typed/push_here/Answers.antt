@@ -1,6 +1,6 @@
-use Rattle.std.proofs.Common.{◌≡◌, ◌∙◌, ◌++◌, ◌∷◌, [], sym, ap}
+use Rattle.std.proofs.Common.{◌∙◌, ◌++◌, ◌∷◌, [], sym, ap}
 use Rattle.sal_typedefs.specs.Spots.{site_in}
-use Rattle.sal_build.specs.Typed.{owns, own_here}
+use Rattle.sal_build.specs.Typed.{owns}
 use Rattle.sal_build.proofs.Walked.{popped}
 use Rattle.sal_build.proofs.Kept.{kept-none, kept-one}
 use Rattle.sal_build.proofs.typed.push_here.Goals as goal

@@ -3,7 +3,6 @@ use Rattle.std.proofs.lemmas.Grind.{common_steps}
 use Rattle.sal_module.specs.Faults.{least}
 use Rattle.sal_module.specs.Statements.{subs_of}
 use Rattle.sal_typedefs.specs.Spots.{site_in}
-use Rattle.sal_build.specs.Types.{faults_in}
 use Rattle.sal_build.proofs.Walked.{unread, faults-last, popped, faults-more, faults-all}
 use Rattle.sal_build.proofs.types.+with_stmt.Goals as goal
 

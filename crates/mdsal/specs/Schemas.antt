@@ -9,7 +9,9 @@ use Rattle.sal_module.specs.declared.fault.BuildFault.{BuildFault}
 use Rattle.sal_module.specs.declared.fault.BuildFault.TheVariants as build_fault
 use Rattle.sal_module.specs.declared.fault.What.{What}
 use Rattle.sal_module.specs.declared.fault.What.TheVariants.{Modules, Nodes}
-use Rattle.sal_module.specs.Modules.{check}
+use Rattle.sal_schema.specs.declared.table.SchemaTable.{SchemaTable}
+use Rattle.sal_schema.specs.Text.{table_text}
+use Rattle.sal_build.specs.Build.{build}
 use Rattle.mdsal.specs.declared.schema_fault.SchemaFault.{SchemaFault}
 use Rattle.mdsal.specs.declared.schema_fault.SchemaFault.TheVariants.{Bad, NoMemory}
 
@@ -71,14 +73,14 @@ statements_from number [] = Ok []
 statements_from number (text ∷ texts) =
     or_text number (read text) >>= (λ stmt. statements_from (number + 1) texts >>= (λ stmts. Ok (stmt ∷ stmts)))
 
--- Modules that pass have the empty text, as long as no schema is built from them.
-abbrev pub checked : Result (List Stmt) BuildFault → Result (List ℕ) (List ℕ)
-checked (Ok stmts) = Ok []
-checked (Err fault) = Err (build_text fault)
+-- the text of the table that was built, or that of the fault
+abbrev pub told : Result SchemaTable BuildFault → Result (List ℕ) (List ℕ)
+told (Ok table) = Ok (table_text table)
+told (Err fault) = Err (build_text fault)
 
--- The texts are read first, in their order, and the first fault of a text counts; then the modules are checked.
+-- The texts are read first, in their order, and the first fault of a text counts; then the schema is built.
 abbrev pub schema_of : List (List ℕ) → Result (List ℕ) (List ℕ)
-schema_of texts = statements_from 0 texts >>= (λ stmts. checked (check stmts))
+schema_of texts = statements_from 0 texts >>= (λ stmts. told (build stmts))
 
 -- ---- what a function returned
 

@@ -19,6 +19,8 @@ pub mod decided;
 pub mod run;
 pub mod schema;
 pub mod schema_fault;
+#[cfg(test)]
+mod schema_tests;
 pub mod simulation;
 pub mod slots;
 pub mod status;

@@ -5,20 +5,19 @@ ghost use Rattle.sal_stmt.specs.Text.{Gives, read};
 ghost use Rattle.mdsal.specs.Schemas as spec;
 
 use crate::schema_fault::{SchemaFault, of_modules, of_text};
-use sal_module::check;
+use sal_build::build;
 use sal_stmt::{Stmt, StmtFault, read_module};
 use sal_types::Str;
 use std::alloc::Global;
 
 /// The text of the schema that modules build, or the text of their first fault. The texts are read first, in their order.
-/// Modules that pass have the empty text, as long as no schema is built from them.
 pub fn schema_of(alloc: Global, texts: &[Str]) -> Result<Str, SchemaFault>
     requires { IsTrue (are_short texts.now) }
     ensures { spec.Makes (λ text. text) result (spec.schema_of texts.now) }
 {
     let stmts = statements_of(alloc, texts)?;
-    match check(alloc, &stmts) {
-        Ok(_) => Ok(Str::new(alloc, "")?),
+    match build(alloc, &stmts) {
+        Ok(schema) => Ok(schema.text(alloc)?),
         Err(fault) => Err(of_modules(alloc, &fault)),
     }
 }

@@ -27,6 +27,9 @@ const ESCAPED: &str =
 const ESCAPED_REPORT: &str =
     "order 0\n0 0 begun 0\n0 1 ok\n0 2 data \"\\\"é\\n\\\\\"\ntree 0 0 {} {}\n";
 
+const PLAIN_TABLE: &str =
+    "0 - container plain:box config\n1 0 leaf plain:a config string\n2 0 leaf plain:b config string\n3 0 leaf plain:c config string\n4 0 leaf plain:d config string\n5 0 leaf plain:e config string\n6 0 leaf plain:f config string\n7 0 leaf plain:g config string\n8 0 leaf plain:h config string\n";
+
 // Runs the word on the input: the exit status, and whether the output is the wanted one.
 fn ends(
     rt: &HostRuntime,
@@ -59,10 +62,10 @@ fn scripts_end_with_their_reports(rt: HostRuntime) -> Result<(), Fail> {
         ("sim", r#"{"clients":[{"steps":[["fly"]]}]}"#, 6, ""),
         ("sim", r#"{"order":[0]}"#, 9, ""),
         ("sim", r#"{"modules":[]}"#, 6, ""),
-        ("schema", "{}", 0, ""),
+        ("schema", "{}", 0, PLAIN_TABLE),
         ("schema", r#"{"modules":[]}"#, 0, ""),
         ("schema", r#"{"modules":[7]}"#, 6, ""),
-        ("schema", r#"{"order":[0]}"#, 0, ""),
+        ("schema", r#"{"order":[0]}"#, 0, PLAIN_TABLE),
         (
             "schema",
             r#"{"modules":["module m { namespace \"u\"; prefix p; import n { prefix q; } }","module n { namespace \"v\"; prefix p; }"]}"#,

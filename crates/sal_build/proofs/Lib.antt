@@ -7,3 +7,8 @@ pub mod Derivations
 pub mod Seen
 pub mod Ranked
 pub mod Fillings
+pub mod Leading
+pub mod Walked
+pub mod Preorder
+pub mod PlaceMaps
+pub mod Kept

@@ -27,10 +27,13 @@ table_of stmts forest = record {
 abbrev pub name_faults : List Stmt → List Branch → List Found
 name_faults stmts forest = types.name_faults stmts ++ identities.all_faults stmts ++ leafrefs.all_faults stmts forest
 
-abbrev pub build : List Stmt → Result SchemaTable BuildFault
-build stmts =
-    check stmts >>= expand
-    >>= (λ forest. unless_any (name_faults stmts forest) forest)
+-- the table of this forest, where no part that follows finds a fault
+abbrev pub judged : List Stmt → List Branch → Result SchemaTable BuildFault
+judged stmts forest =
+    unless_any (name_faults stmts forest) forest
     >>= (λ forest. unless_any (types.other_faults stmts) forest)
     >>= (λ forest. unless_any (lists.all_faults stmts forest) forest)
     >>= (λ forest. Ok (table_of stmts forest))
+
+abbrev pub build : List Stmt → Result SchemaTable BuildFault
+build stmts = check stmts >>= (λ modules. expand modules >>= judged modules)

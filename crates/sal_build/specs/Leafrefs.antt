@@ -1,6 +1,6 @@
 -- Where leafrefs lead, and the types of nodes (RFC 7950 sections 6.4.1 and 9.9).
-use Rattle.std.specs.Prelude.{◌≡◌, ◌≤◌, ℕ, zero, suc, ◌+◌, ◌-◌, ◌==◌, Bool, true, false, ◌&&◌, List, [], ◌∷◌, ◌++◌, map, filter, find, length, take, drop, Option, Some, None, option_map, option_and_then, unwrap_or, if◌then◌else◌, codes}
-use Rattle.std.specs.List.{flat_map, enumerate_from, slice_get, slice_split, prefix_len}
+use Rattle.std.specs.Prelude.{◌≡◌, ◌≤◌, ℕ, zero, suc, ◌-◌, ◌==◌, Bool, false, ◌&&◌, List, [], ◌∷◌, ◌++◌, map, find, length, take, Option, Some, None, option_map, option_and_then, if◌then◌else◌}
+use Rattle.std.specs.List.{flat_map, enumerate_from, slice_get}
 use Rattle.std.specs.Option.{option_map_or, option_to_list}
 use Rattle.sal_stmt.specs.Words.{colon_at}
 use Rattle.sal_stmt.specs.declared.stmt.Stmt.{Stmt}
@@ -18,13 +18,17 @@ use Rattle.sal_grouping.specs.Names.{reaches_home}
 use Rattle.sal_schema.specs.declared.kind.Kind.{Kind}
 use Rattle.sal_schema.specs.Kinds.{is_message, has_type}
 use Rattle.sal_typedefs.specs.Scopes.{Site, within, site_at}
-use Rattle.sal_typedefs.specs.Names.{name_of as type_name, under, steps_of, path_names, is_up}
-use Rattle.sal_typedefs.specs.Types.{judge}
+use Rattle.sal_typedefs.specs.Names.{leafrefs_of, count_up, path_names}
+use Rattle.sal_typedefs.specs.Leafrefs.{leafref_seen, stmt_in}
+use Rattle.sal_typedefs.specs.declared.leafrefs.Leafref.{Leafref}
+use Rattle.sal_typedefs.specs.Types.{Judged, is_faulty, judgement}
 use Rattle.sal_build.specs.Filled.{empty, type_of_node}
 use Rattle.sal_build.specs.Nodes.{kind_of, name_of}
 use Rattle.std.specs.BTreeMap.{get}
 use Rattle.sal_build.specs.declared.child.Key.{Key}
 use Rattle.sal_build.specs.declared.walk.Ways.{Ways}
+use Rattle.std.specs.declared.alloc.Global.{Global}
+use Rattle.std.specs.declared.vec.Vec.{Vec}
 use Rattle.sal_build.specs.Inherited.{AreInherited, with_data_node, from_above, data_parent}
 use Rattle.sal_build.specs.Children.{key, key_cmp, first_with, data_key}
 
@@ -36,15 +40,19 @@ type_in site = option_map (within site) (find (is_named word.Type) (subs_of site
 abbrev pub type_of : List Stmt → Branch → Option Site
 type_of stmts b = if has_type (kind_of stmts b) then option_and_then type_in (site_at stmts b.source b.at) else None
 
-abbrev pub is_leafref : Site → Bool
-is_leafref site = same (type_name site) (codes "leafref")
-
 -- the leafrefs among a type and those that it rests on
-abbrev pub leafrefs_of : List Stmt → Site → List Site
-leafrefs_of stmts site = filter is_leafref (under (steps_of stmts) stmts site)
+abbrev pub stated_leafrefs : List Stmt → Option Site → List Site
+stated_leafrefs stmts site = flat_map (leafrefs_of stmts) (option_to_list site)
 
 abbrev pub leafrefs_at : List Stmt → Branch → List Site
-leafrefs_at stmts b = flat_map (leafrefs_of stmts) (option_to_list (type_of stmts b))
+leafrefs_at stmts b = stated_leafrefs stmts (type_of stmts b)
+
+-- a leafref: the module of its type statement, and the statement
+abbrev pub Reference : Type 0
+Reference = ℕ × Stmt
+
+abbrev pub references_at : List Stmt → Branch → List Reference
+references_at stmts b = map stmt_in (leafrefs_at stmts b)
 
 -- ---- places
 
@@ -119,10 +127,6 @@ pub record AreWays (stmts : List Stmt) (forest : List Branch) (ways : Ways) : Ty
 
 -- ---- targets
 
--- how many steps a path goes up: none where it begins at the top
-abbrev pub count_up : List ℕ → ℕ
-count_up path = prefix_len is_up (slice_split (λ c. c == 47) path)
-
 -- where its names begin, for a leaf under this place
 abbrev pub start_of : List Stmt → List Branch → Option ℕ → ℕ → Option (Option ℕ)
 start_of stmts forest place up = if up == 0 then Some None else steps_up (up - 1) stmts forest place
@@ -150,42 +154,49 @@ abbrev pub end_at : List Stmt → List Branch → ℕ → ℕ → ℕ → List (
 end_at stmts forest k source up names = option_and_then (λ b. end_of stmts forest k b source up names) (slice_get forest k)
 
 -- the leaf or leaf-list at which the path of a leafref ends
-abbrev pub target_of : List Stmt → List Branch → ℕ → Branch → Site → Option ℕ
-target_of stmts forest k b site =
-    end_of stmts forest k b site.module (count_up (value_of word.Path site.stmt)) (path_names (value_of word.Path site.stmt))
+abbrev pub target_of : List Stmt → List Branch → ℕ → Branch → Reference → Option ℕ
+target_of stmts forest k b one =
+    end_of stmts forest k b one.0 (count_up (value_of word.Path one.1)) (path_names (value_of word.Path one.1))
 
 abbrev pub targets_of : List Stmt → List Branch → ℕ → Branch → List ℕ
-targets_of stmts forest k b = flat_map (λ site. option_to_list (target_of stmts forest k b site)) (leafrefs_at stmts b)
+targets_of stmts forest k b = flat_map (λ one. option_to_list (target_of stmts forest k b one)) (references_at stmts b)
 
 -- of each node, in order
 abbrev pub edges_of : List Stmt → List Branch → List (List ℕ)
-edges_of stmts forest = map (λ (entry : ℕ × Branch). targets_of stmts forest entry.0 entry.1) (enumerate_from 0 forest)
+edges_of stmts forest = flat_map (λ (entry : ℕ × Branch). targets_of stmts forest entry.0 entry.1 ∷ []) (enumerate_from 0 forest)
 
 -- ---- faults
 
 -- A leafref whose path ends at no leaf has the fault at the path. One without a path lacks what it needs, which another part judges.
-abbrev pub target_faults : Option ℕ → Site → List Found
-target_faults None site = flat_map (λ path. at_stmt BadTarget site.module path) (option_to_list (find (is_named word.Path) (subs_of site.stmt)))
-target_faults (Some n) site = []
+abbrev pub target_faults : Option ℕ → Reference → List Found
+target_faults None one = flat_map (at_stmt BadTarget one.0) (option_to_list (find (is_named word.Path) (subs_of one.1)))
+target_faults (Some n) one = []
 
 -- a leafref by which a node takes its own type
-abbrev pub cycle_faults : List (List ℕ) → ℕ → Option ℕ → Site → List Found
-cycle_faults edges k target site = if reaches_home edges (length edges) (Some k) target then at_stmt NameCycle site.module site.stmt else []
+abbrev pub cycle_faults : List (List ℕ) → ℕ → Option ℕ → Reference → List Found
+cycle_faults edges k target one = if reaches_home edges (length edges) (Some k) target then at_stmt NameCycle one.0 one.1 else []
 
-abbrev pub leafref_faults : List Stmt → List Branch → List (List ℕ) → ℕ → Branch → Site → List Found
-leafref_faults stmts forest edges k b site = target_faults (target_of stmts forest k b site) site ++ cycle_faults edges k (target_of stmts forest k b site) site
+abbrev pub faults_to : List (List ℕ) → ℕ → Option ℕ → Reference → List Found
+faults_to edges k target one = target_faults target one ++ cycle_faults edges k target one
+
+abbrev pub leafref_faults : List Stmt → List Branch → List (List ℕ) → ℕ → Branch → Reference → List Found
+leafref_faults stmts forest edges k b one = faults_to edges k (target_of stmts forest k b one) one
 
 abbrev pub node_faults : List Stmt → List Branch → List (List ℕ) → ℕ → Branch → List Found
-node_faults stmts forest edges k b = flat_map (leafref_faults stmts forest edges k b) (leafrefs_at stmts b)
+node_faults stmts forest edges k b = flat_map (leafref_faults stmts forest edges k b) (references_at stmts b)
 
 abbrev pub all_faults : List Stmt → List Branch → List Found
 all_faults stmts forest = flat_map (λ (entry : ℕ × Branch). node_faults stmts forest (edges_of stmts forest) entry.0 entry.1) (enumerate_from 0 forest)
 
 -- ---- the type of a node
 
+-- A type with a fault means nothing: such modules have no table.
+abbrev pub sound_type : Judged → YangType
+sound_type judged = if is_faulty judged then empty else judged.type
+
 abbrev pub stated_type : List Stmt → Option Site → YangType
 stated_type stmts None = empty
-stated_type stmts (Some site) = (judge (steps_of stmts + 1) stmts site).type
+stated_type stmts (Some site) = sound_type (judgement stmts site)
 
 -- what the type statement of each node means, its leafrefs still paths
 abbrev pub own_types : List Stmt → List Branch → List YangType
@@ -198,3 +209,11 @@ node_type stmts forest k = type_of_node (own_types stmts forest) (edges_of stmts
 abbrev pub types_of : List Stmt → List Branch → List YangType
 types_of stmts forest =
     flat_map (λ (entry : ℕ × Branch). if has_type (kind_of stmts entry.1) then node_type stmts forest entry.0 ∷ [] else []) (enumerate_from 0 forest)
+
+-- ---- what the code has
+
+abbrev pub seen : List Leafref → List Reference
+seen all = map leafref_seen all
+
+abbrev pub seen_all : List (Vec Leafref Global) → List (List Reference)
+seen_all lists = map (λ (all : Vec Leafref Global). seen all.items) lists

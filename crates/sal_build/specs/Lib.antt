@@ -8,5 +8,6 @@ pub mod Filled
 pub mod Identities
 pub mod Types
 pub mod Leafrefs
+pub mod Typed
 pub mod Build
 pub mod Examples

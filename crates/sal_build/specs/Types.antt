@@ -1,5 +1,5 @@
 -- The types of all statements and nodes, and their faults.
-use Rattle.std.specs.Prelude.{ℕ, zero, suc, ◌+◌, Bool, ◌&&◌, not, List, [], ◌∷◌, ◌++◌, is_some, if◌then◌else◌}
+use Rattle.std.specs.Prelude.{ℕ, zero, suc, Bool, ◌&&◌, not, List, [], ◌∷◌, ◌++◌, is_some, if◌then◌else◌}
 use Rattle.std.specs.List.{flat_map, enumerate_from}
 use Rattle.sal_stmt.specs.declared.stmt.Stmt.{Stmt, out-Stmt}
 use Rattle.sal_module.specs.declared.keyword.Keyword.TheVariants as word
@@ -9,7 +9,9 @@ use Rattle.sal_module.specs.Statements.{is_named, subs_of}
 use Rattle.sal_typedefs.specs.Scopes.{Site, within, top}
 use Rattle.sal_typedefs.specs.Names as names
 use Rattle.sal_typedefs.specs.Names.{steps_of}
-use Rattle.sal_typedefs.specs.Types.{judge}
+use Rattle.sal_typedefs.specs.Types.{judgement}
+use Rattle.sal_build.specs.declared.types.Asked.{Asked}
+use Rattle.sal_build.specs.declared.types.Asked.TheVariants as asked
 
 -- ---- all type statements
 
@@ -31,9 +33,24 @@ types_of stmts = flat_map (λ (entry : ℕ × Stmt). types_in 64 (top entry.0 en
 
 -- ---- their faults
 
+-- of one type statement: those of its names, or those of restrictions and patterns in it and in all that it rests on
+abbrev pub faults_at : Asked → List Stmt → Site → List Found
+faults_at asked.Names stmts site = names.name_faults (steps_of stmts) stmts site
+faults_at asked.Others stmts site = (judgement stmts site).faults
+
 abbrev pub name_faults : List Stmt → List Found
-name_faults stmts = flat_map (names.name_faults (steps_of stmts) stmts) (types_of stmts)
+name_faults stmts = flat_map (faults_at asked.Names stmts) (types_of stmts)
 
 -- Those of a type count again at each that rests on it, which changes nothing: the least counts.
 abbrev pub other_faults : List Stmt → List Found
-other_faults stmts = flat_map (λ site. (judge (steps_of stmts + 1) stmts site).faults) (types_of stmts)
+other_faults stmts = flat_map (faults_at asked.Others stmts) (types_of stmts)
+
+abbrev pub faults_of : Asked → List Stmt → List Found
+faults_of which stmts = flat_map (faults_at which stmts) (types_of stmts)
+
+-- of the type statements here, and in so many levels
+abbrev pub faults_here : Asked → List Stmt → Site → List Found
+faults_here which stmts site = flat_map (faults_at which stmts) (type_here site)
+
+abbrev pub faults_in : Asked → ℕ → List Stmt → Site → List Found
+faults_in which levels stmts site = flat_map (faults_at which stmts) (types_in levels site)

@@ -11,14 +11,15 @@ use sal_restrict::YangType;
 use sal_types::{NoMemory, Seq};
 use std::alloc::Global;
 
-fn empty_type() -> YangType
+/// The type without values.
+pub(crate) fn empty_type() -> YangType
     ensures { result ≡ spec.empty }
 {
     YangType::Empty
 }
 
 /// A copy of the type of this number.
-fn type_at(alloc: Global, all: &[YangType], k: usize) -> Result<YangType, NoMemory>
+pub(crate) fn type_at(alloc: Global, all: &[YangType], k: usize) -> Result<YangType, NoMemory>
     ensures { IfOk result (λ t. t ≡ spec.type_at all.now k) }
 {
     if k < all.len() {

@@ -111,7 +111,8 @@ pub(crate) fn edges_of(
 
 // ---- faults
 
-fn is_cyclic(
+/// Whether a way leads from a target back to the one that has it.
+pub(crate) fn is_cyclic(
     alloc: Global,
     edges: &[Vec<usize>],
     ranks: &Option<Vec<usize>>,

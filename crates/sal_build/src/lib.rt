@@ -1,7 +1,9 @@
-//! Modules related to the table of a schema.
+//! From YANG modules to their schema (RFC 7950), or to the first fault.
 //!
 //! | item | what it is |
 //! |---|---|
+//! | `build` | the schema of modules, or their first fault |
+//! | `table_of_modules` | its table as data |
 //! | `list_fault` | the first fault of keys, unique leafs and `config` in the tree of modules |
 //! | `node_infos` | the nodes of the table, by number |
 //! | `identity_fault`, `identity_infos` | the first fault of identities, and the identities of the table |
@@ -13,17 +15,16 @@
 //! `specs/Build.antt` has the whole: the table of modules, or their first fault. It puts together what a statement says of its
 //! node (`Nodes`), what a node has from above (`Inherited`), nodes by name (`Children`), keys and unique leafs (`Lists`), the
 //! nodes of the table (`Table`), identities (`Identities`), type statements (`Types`), where leafrefs lead (`Leafrefs`) and the
-//! types of nodes (`Filled`). The code has all of them but the walk over type statements, the reading of a leafref's path, and
-//! what puts the parts together, which have their definitions alone so far.
+//! types of nodes (`Filled`).
 //!
 //! ```
-//! let modules = check(alloc, &stmts)?;
-//! let forest = expand(alloc, &modules)?;
-//! let found = list_fault(alloc, &modules, &forest)?;  // none: keys and config are good
-//! let nodes = node_infos(alloc, &modules, &forest)?;
+//! let schema = build(alloc, &stmts)?;
+//! let text = schema.text(alloc)?; // a line for each node
 //! ```
 //!
-//! No call nests deeper than a few levels, but where identities go in a circle.
+//! Cost: linear in the statements and the nodes, times the logarithm of the nodes, where no type rests on many others. Each type
+//! statement is judged with all that it rests on; an augment's target is looked for along the tree, and augments in rounds. No call
+//! nests deeper than blocks do, but where identities or leafrefs go in a circle.
 #![tactic(auto)]
 
 mod child;
@@ -32,12 +33,16 @@ mod fill;
 mod identities;
 mod info;
 mod inherited;
+mod leafrefs;
 mod lists;
 mod node;
 mod order;
+mod schema;
 mod tables;
 #[cfg(test)]
 mod tests;
+mod typed;
+mod types;
 mod vectors;
 mod walk;
 mod whole;
@@ -45,4 +50,5 @@ mod words;
 
 pub use child::Key;
 pub use fill::filled_types;
+pub use schema::{build, table_of_modules};
 pub use whole::{identity_fault, identity_infos, leafref_end, list_fault, node_infos};

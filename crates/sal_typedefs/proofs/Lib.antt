@@ -8,3 +8,5 @@ pub mod EntryLists
 pub mod WalkLists
 pub mod IdentityLists
 pub mod SpotLists
+pub mod PathLists
+pub mod PlaceLists

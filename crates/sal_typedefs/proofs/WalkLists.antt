@@ -75,3 +75,15 @@ pub sites-under : (steps : ℕ) (modules : List Stmt) (site : Site) → map (λ 
 unfolding nodes under
 sites-under zero modules site = refl
 sites-under (suc steps) modules site = ap (λ rest. site ∷ rest) (sites-each (nodes steps modules) (under steps modules) (sites-under steps modules) (rests_on modules site))
+
+-- ---- one after another
+
+filter-first : {X : Type 0} (p : X → Bool) (x : X) (xs : List X) → filter p (x ∷ xs) ≡ filter p (x ∷ []) ++ filter p xs
+filter-first p x xs = elim (cases_Bool (p x)) [ inl e ↦ rw e refl | inr e ↦ rw e refl ]
+
+-- the first of those that pass goes behind those before
+pub passing-more : {X Y : Type 0} (f : X → Y) (p : X → Bool) (done next : List Y) (x : X) (xs : List X) → next ≡ done ++ map f (filter p (x ∷ []))
+    → done ++ map f (filter p (x ∷ xs)) ≡ next ++ map f (filter p xs)
+passing-more f p done next x xs put =
+    ap (λ l. done ++ map f l) (filter-first p x xs) ∙ ap (λ l. done ++ l) (map-append f (filter p (x ∷ [])) (filter p xs))
+    ∙ sym (append_assoc done (map f (filter p (x ∷ []))) (map f (filter p xs))) ∙ ap (λ l. l ++ map f (filter p xs)) (sym put)

@@ -5,10 +5,12 @@ pub mod Names
 pub mod Ready
 pub mod Walks
 pub mod Spots
+pub mod Leafrefs
 pub mod Entries
 pub mod Patterns
 pub mod Restrictions
 pub mod Types
+pub mod Sites
 pub mod Judgements
 pub mod Runs
 pub mod Examples

@@ -1,6 +1,6 @@
 -- The names in a type statement and in those that it rests on, and their faults.
-use Rattle.std.specs.Prelude.{ℕ, zero, suc, ◌+◌, Bool, not, ◌&&◌, ◌==◌, nat_lt, List, [], ◌∷◌, ◌++◌, map, find, length, take, drop, Option, Some, None, is_some, is_none, option_map, unwrap_or, if◌then◌else◌, codes}
-use Rattle.std.specs.List.{flat_map, list_any, list_all, prefix_len, slice_split, slice_get, sum_by}
+use Rattle.std.specs.Prelude.{ℕ, zero, suc, ◌+◌, Bool, not, ◌&&◌, ◌==◌, nat_lt, List, [], ◌∷◌, ◌++◌, map, filter, find, length, take, drop, Option, Some, None, is_some, is_none, option_map, if◌then◌else◌, codes}
+use Rattle.std.specs.List.{flat_map, list_any, list_all, prefix_len, before_first, after_first, slice_split, sum_by}
 use Rattle.std.specs.Option.{option_to_list}
 use Rattle.sal_stmt.specs.declared.stmt.Stmt.{Stmt}
 use Rattle.sal_stmt.specs.Words.{is_keyword}
@@ -47,6 +47,15 @@ count (suc levels) stmt = 1 + sum_by (count levels) (subs_of stmt)
 abbrev pub steps_of : List Stmt → ℕ
 steps_of modules = sum_by (count 64) modules
 
+-- ---- leafrefs
+
+abbrev pub is_leafref : Site → Bool
+is_leafref site = same (name_of site) (codes "leafref")
+
+-- those among a type statement and all that it rests on
+abbrev pub leafrefs_of : List Stmt → Site → List Site
+leafrefs_of modules site = filter is_leafref (under (steps_of modules) modules site)
+
 -- ---- the names of a leafref's path
 
 -- What stands in brackets is skipped: of each predicate the closing bracket is left. Brackets that are not closed make no path.
@@ -57,30 +66,39 @@ abbrev mutual
 
   pub inside : List ℕ → Option (List ℕ)
   inside [] = None
-  inside (c ∷ t) = if c == 93 then option_map (λ rest. c ∷ rest) (outside t) else inside t
+  inside (c ∷ t) = if c == 93 then option_map (λ rest. 93 ∷ rest) (outside t) else inside t
 
--- a name, and predicates behind it
-abbrev pub name_len : List ℕ → ℕ
-name_len step = prefix_len (λ c. not (c == 93)) step
+-- the name of a step, before its predicates
+abbrev pub name_in : List ℕ → List ℕ
+name_in step = before_first (λ c. c == 93) step
 
 abbrev pub is_step : List ℕ → Bool
-is_step step = is_keyword (take (name_len step) step) && list_all (λ c. c == 93) (drop (name_len step) step)
+is_step step = is_keyword (name_in step) && list_all (λ c. c == 93) (after_first (λ c. c == 93) step)
 
 abbrev pub is_up : List ℕ → Bool
 is_up step = same step (codes "..")
 
--- the steps of a path that goes down from the top, or first up one or more times
+-- how many steps a path goes up: none where it begins at the top
+abbrev pub count_up : List ℕ → ℕ
+count_up path = prefix_len is_up (slice_split (λ c. c == 47) path)
+
+-- Its names begin behind an empty step, at the top, or behind one or more steps up.
+abbrev pub start_of : List (List ℕ) → ℕ
+start_of [] = 0
+start_of (step ∷ steps) = if length step == 0 then 1 else prefix_len is_up (step ∷ steps)
+
 abbrev pub steps_down : List (List ℕ) → List (List ℕ)
-steps_down steps = if length (unwrap_or (slice_get steps 0) (codes "x")) == 0 then drop 1 steps else drop (prefix_len is_up steps) steps
+steps_down steps = drop (start_of steps) steps
 
 abbrev pub is_path : List (List ℕ) → Bool
-is_path steps = (nat_lt (length (steps_down steps)) (length steps) && nat_lt 0 (length (steps_down steps))) && list_all is_step (steps_down steps)
+is_path steps = (nat_lt 0 (start_of steps) && nat_lt 0 (length (steps_down steps))) && list_all is_step (steps_down steps)
+
+abbrev pub names_of : List (List ℕ) → List (List ℕ)
+names_of steps = if is_path steps then map name_in (steps_down steps) else []
 
 -- its names, if it has the form of a path (RFC 7950 section 9.9.2)
 abbrev pub path_names : List ℕ → List (List ℕ)
-path_names t =
-    flat_map (λ shut. if is_path (slice_split (λ c. c == 47) shut) then map (λ step. take (name_len step) step) (steps_down (slice_split (λ c. c == 47) shut)) else [])
-    (option_to_list (outside t))
+path_names t = flat_map (λ path. names_of (slice_split (λ c. c == 47) path)) (option_to_list (outside t))
 
 -- ---- faults
 
@@ -115,7 +133,7 @@ base_faults modules site = if same (name_of site) (codes "identityref") then fla
 -- a prefix that no import has, in the path of a leafref
 abbrev pub path_faults : List Stmt → Site → List Found
 path_faults modules site =
-    if same (name_of site) (codes "leafref") && list_any (λ name. is_none (module_of modules site.module name)) (path_names (value_of word.Path site.stmt))
+    if is_leafref site && list_any (λ name. is_none (module_of modules site.module name)) (path_names (value_of word.Path site.stmt))
     then at_stmt UnknownName site.module site.stmt else []
 
 abbrev pub name_faults : ℕ → List Stmt → Site → List Found

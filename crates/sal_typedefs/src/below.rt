@@ -15,13 +15,13 @@ use sal_types::NoMemory;
 use std::alloc::Global;
 
 /// The typedef of a name in a module, seen from a statement.
-fn typedef_of<'a>(
+fn typedef_of<'x, 'a>(
     alloc: Global,
-    typedefs: &'a Typedefs<'a>,
-    spot: &Spot<'a>,
+    typedefs: &'x Typedefs<'a>,
+    spot: &Spot<'x, 'a>,
     number: u32,
     name: &str,
-) -> Result<Option<Spot<'a>>, NoMemory>
+) -> Result<Option<Spot<'x, 'a>>, NoMemory>
     ensures { IfOk result (λ found. option_map site_of found ≡ scopes.closest number name.now (scopes.blocks_of typedefs.now (site_of spot.now) number)) }
 {
     if number == spot.module {
@@ -34,11 +34,11 @@ fn typedef_of<'a>(
 }
 
 /// The typedef that a type statement names.
-pub(crate) fn target<'a>(
+pub(crate) fn target<'x, 'a>(
     alloc: Global,
-    typedefs: &'a Typedefs<'a>,
-    spot: &Spot<'a>,
-) -> Result<Option<Spot<'a>>, NoMemory>
+    typedefs: &'x Typedefs<'a>,
+    spot: &Spot<'x, 'a>,
+) -> Result<Option<Spot<'x, 'a>>, NoMemory>
     ensures { IfOk result (λ found. option_map site_of found ≡ spec.target typedefs.now (site_of spot.now)) }
 {
     let name = argument_of(spot.stmt);
@@ -52,7 +52,7 @@ pub(crate) fn target<'a>(
 }
 
 /// The `type` statements in the block of a statement.
-fn types_in<'a>(alloc: Global, spot: &Spot<'a>) -> Result<Vec<Spot<'a>>, NoMemory>
+fn types_in<'x, 'a>(alloc: Global, spot: &Spot<'x, 'a>) -> Result<Vec<Spot<'x, 'a>>, NoMemory>
     ensures { IfOk result (λ all. map site_of all.items ≡ spec.types_in (site_of spot.now)) }
 {
     let mut all = Vec::new(alloc);
@@ -65,7 +65,7 @@ fn types_in<'a>(alloc: Global, spot: &Spot<'a>) -> Result<Vec<Spot<'a>>, NoMemor
 }
 
 /// The first of them.
-fn first_type<'a>(alloc: Global, spot: &Spot<'a>) -> Result<Vec<Spot<'a>>, NoMemory>
+fn first_type<'x, 'a>(alloc: Global, spot: &Spot<'x, 'a>) -> Result<Vec<Spot<'x, 'a>>, NoMemory>
     ensures { IfOk result (λ all. map site_of all.items ≡ take 1 (spec.types_in (site_of spot.now))) }
 {
     let mut all = Vec::new(alloc);
@@ -79,7 +79,10 @@ fn first_type<'a>(alloc: Global, spot: &Spot<'a>) -> Result<Vec<Spot<'a>>, NoMem
 }
 
 /// The `type` statement of a typedef, if there is one.
-fn type_of<'a>(alloc: Global, typedef: Option<Spot<'a>>) -> Result<Vec<Spot<'a>>, NoMemory>
+fn type_of<'x, 'a>(
+    alloc: Global,
+    typedef: Option<Spot<'x, 'a>>,
+) -> Result<Vec<Spot<'x, 'a>>, NoMemory>
     ensures { IfOk result (λ all. map site_of all.items
         ≡ flat_map (λ typedef. take 1 (spec.types_in typedef)) (option_to_list (option_map site_of typedef.entry))) }
 {
@@ -90,11 +93,11 @@ fn type_of<'a>(alloc: Global, typedef: Option<Spot<'a>>) -> Result<Vec<Spot<'a>>
 }
 
 /// The type statements that a type statement rests on.
-pub(crate) fn rests_on<'a>(
+pub(crate) fn rests_on<'x, 'a>(
     alloc: Global,
-    typedefs: &'a Typedefs<'a>,
-    spot: &Spot<'a>,
-) -> Result<Vec<Spot<'a>>, NoMemory>
+    typedefs: &'x Typedefs<'a>,
+    spot: &Spot<'x, 'a>,
+) -> Result<Vec<Spot<'x, 'a>>, NoMemory>
     ensures { IfOk result (λ all. map site_of all.items ≡ spec.rests_on typedefs.now (site_of spot.now)) }
 {
     let name = argument_of(spot.stmt);

@@ -46,7 +46,7 @@ fn closest_inner<'a>(list: &[&'a Stmt]) -> Option<&'a Stmt>
 }
 
 /// The closest typedef around a statement.
-fn typedef_around<'a>(spot: &Spot<'a>) -> Option<&'a Stmt>
+fn typedef_around<'x, 'a>(spot: &Spot<'x, 'a>) -> Option<&'a Stmt>
     ensures { option_copied result ≡ spec.typedef_around (site_of spot.now) }
 {
     match closest_inner(spot.inner.as_slice()) {
@@ -56,12 +56,12 @@ fn typedef_around<'a>(spot: &Spot<'a>) -> Option<&'a Stmt>
 }
 
 /// Whether a type statement names this typedef of this module.
-fn is_of<'a>(
+fn is_of<'x, 'a>(
     alloc: Global,
-    typedefs: &'a Typedefs<'a>,
+    typedefs: &'x Typedefs<'a>,
     number: u32,
     typedef: &Stmt,
-    spot: &Spot<'a>,
+    spot: &Spot<'x, 'a>,
 ) -> Result<bool, NoMemory>
     ensures { IfOk result (λ is. is ≡ spec.is_of typedefs.now (record { «module» = number; stmt = typedef.now; around = [] }) (site_of spot.now)) }
 {
@@ -72,10 +72,10 @@ fn is_of<'a>(
 }
 
 /// Whether a type statement, or one that it rests on, names this typedef of its module.
-fn reaches<'a>(
+fn reaches<'x, 'a>(
     alloc: Global,
-    typedefs: &'a Typedefs<'a>,
-    spot: &Spot<'a>,
+    typedefs: &'x Typedefs<'a>,
+    spot: &Spot<'x, 'a>,
     typedef: &Stmt,
 ) -> Result<bool, NoMemory>
     ensures { IfOk result (λ does. does ≡ list_any (spec.is_of typedefs.now (record { «module» = spot.now.module; stmt = typedef.now; around = [] }))
@@ -96,10 +96,10 @@ fn reaches<'a>(
 }
 
 /// Whether the typedef around a type statement rests on itself by the name that the statement gives.
-pub(crate) fn goes_in_circle<'a>(
+pub(crate) fn goes_in_circle<'x, 'a>(
     alloc: Global,
-    typedefs: &'a Typedefs<'a>,
-    spot: &Spot<'a>,
+    typedefs: &'x Typedefs<'a>,
+    spot: &Spot<'x, 'a>,
 ) -> Result<bool, NoMemory>
     ensures { IfOk result (λ does. does ≡ list_any (λ typedef. list_any (spec.is_of typedefs.now (record { «module» = spot.now.module; stmt = typedef; around = [] }))
         (spec.under (spec.steps_of typedefs.now) typedefs.now (site_of spot.now))) (option_to_list (spec.typedef_around (site_of spot.now)))) }

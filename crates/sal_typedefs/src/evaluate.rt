@@ -56,11 +56,11 @@ fn judge_all(alloc: Global, typedefs: &Typedefs, nodes: &[Gone]) -> Result<Vec<J
 }
 
 /// A statement before those that it rests on.
-fn gone<'a>(
+fn gone<'x, 'a>(
     alloc: Global,
-    typedefs: &'a Typedefs<'a>,
-    spot: Spot<'a>,
-) -> Result<Vec<Gone<'a>>, NoMemory>
+    typedefs: &'x Typedefs<'a>,
+    spot: Spot<'x, 'a>,
+) -> Result<Vec<Gone<'x, 'a>>, NoMemory>
     ensures { IfOk result (λ all. map walks.node_of all.items ≡ walks.nodes (steps_of typedefs.now) typedefs.now (site_of spot.entry)) }
 {
     let mut all = Vec::new(alloc);
@@ -78,22 +78,17 @@ fn gone<'a>(
 ///
 /// The statement stands in these blocks, from the module inwards. It takes time linear in the statements that it rests on,
 /// with the logarithm of a block's typedefs for each, and where it lists names their number squared.
-pub fn judge_at<'a>(
+pub fn judge_at<'x, 'a>(
     alloc: Global,
-    typedefs: &'a Typedefs<'a>,
+    typedefs: &'x Typedefs<'a>,
     number: u32,
-    around: &'a [Block<'a>],
+    around: &'x [Block<'a>],
     stmt: &'a Stmt,
 ) -> Result<(Option<Found>, YangType), NoMemory>
     ensures fault { IfOk result (λ j. j.0 ≡ least None (judgement typedefs.now (site_in number around.now stmt.now)).faults) }
     ensures meant { IfOk result (λ j. j.0 ≡ None → j.1 ≡ (judgement typedefs.now (site_in number around.now stmt.now)).type) }
 {
-    let spot = Spot {
-        module: number,
-        stmt,
-        outer: around,
-        inner: Vec::new(alloc),
-    };
+    let spot = Spot::new(alloc, number, around, stmt);
     let nodes = gone(alloc, typedefs, spot)?;
     let mut done = judge_all(alloc, typedefs, nodes.as_slice())?;
     match done.pop() {

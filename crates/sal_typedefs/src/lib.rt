@@ -2,28 +2,34 @@
 //!
 //! | item | what it is |
 //! |---|---|
+//! | `resolve` | what the `type` statement at a place of some modules means, or its first fault: names first, then all else |
+//! | `TypeSite` | where a `type` statement begins |
 //! | `Typedefs` | modules with their typedefs and identities by name, made once for all look-ups |
 //! | `Block` | a statement whose block is open, with its typedefs by name |
-//! | `judge_at` | what a `type` statement in some blocks means, or its first fault other than those of names |
-//! | `TypeSite` | where a `type` statement begins |
+//! | `name_fault_at` | the first fault of the names in one `type` statement that stands in some blocks |
+//! | `judge_at` | what such a statement means, or the first fault of restrictions and patterns in it and in those that it rests on |
+//! | `leafrefs_at`, `Leafref` | the leafrefs among such a statement and those that it rests on |
+//! | `path_names`, `count_up` | the names in a leafref's path, and how many steps it goes up before them |
 //! | `is_malformed` | whether the grammar of `regex` reads no pattern from a text |
 //!
 //! `specs/Types.antt` has the meaning of a statement: its type, or the first fault in it and in those that it rests on.
 //! Names are judged first (`specs/Names.antt`), then restrictions and patterns (`specs/Restrictions.antt`), with the
-//! numbers of enumerations and bits in `specs/Entries.antt`. `judge_at` answers restrictions and patterns: from a statement to
-//! those that it rests on it goes by a list of ways (`src/walk.rt`), and judges them from the last to the first
-//! (`src/evaluate.rt`). Of the faults of names the code has circles of typedefs; the rest of them, and `resolve` over both,
-//! have their definition alone so far.
+//! numbers of enumerations and bits in `specs/Entries.antt`. From a statement to those that it rests on the code goes by a list
+//! of ways (`src/walk.rt`), and judges them from the last to the first (`src/evaluate.rt`).
 //!
 //! ```
-//! is_malformed(alloc, "[a-z]+")?;  // false
-//! is_malformed(alloc, "a)|(?:b")?; // false: all of the text is put into one group
-//! is_malformed(alloc, "(")?;       // true
+//! // module m { namespace u; prefix p; typedef t { type uint8 { range 1..9; } } leaf a { type t; } }
+//! resolve(alloc, &modules, &TypeSite { module: 0, at: 84 })?; // uint8, from 1 to 9
+//! path_names(alloc, "../p:a[k = current()/../b]/c")?;         // p:a and c
+//! is_malformed(alloc, "a)|(?:b")?;                            // false: all of the text is put into one group
 //! ```
 //!
 //! Cost: `is_malformed` compiles the pattern, as `regex` does. `Typedefs::new` and `Block::new` are linear in the statements, with
-//! the logarithm of the names for each. `judge_at` is linear in the statements that the type rests on, each of them judged anew,
-//! with the logarithm of a block's typedefs for each name and the square of the names that a statement lists.
+//! the logarithm of the names for each, and `path_names` in the text. The calls for a statement are linear in the statements
+//! that the type rests on, each as often as it is rested on, with the logarithm of a block's typedefs for each name; `judge_at`
+//! also takes the square of the names that a statement lists, and `resolve` looks for circles once for each statement. Where the
+//! names have a fault that is exponential at worst: in a union that names one typedef twice in a circle there is no end but the
+//! number of statements. So ask `name_fault_at` for all types of the modules before any of the others.
 #![tactic(auto)]
 
 mod basis;
@@ -40,13 +46,17 @@ mod judge;
 mod judgement;
 mod judging;
 mod layer;
+mod leafrefs;
 mod meaning;
 mod merging;
 mod name;
 mod names;
 mod narrowing;
 mod numbering;
+mod path;
 mod pattern;
+mod place;
+mod resolution;
 mod restriction;
 mod site;
 mod site_judge;
@@ -59,6 +69,10 @@ mod walk;
 
 pub use block::Block;
 pub use evaluate::judge_at;
+pub use leafrefs::{Leafref, leafrefs_at};
+pub use names::name_fault_at;
+pub use path::{count_up, path_names};
 pub use pattern::is_malformed;
+pub use resolution::resolve;
 pub use site::TypeSite;
 pub use typedefs::Typedefs;

@@ -11,10 +11,10 @@ use std::alloc::Global;
 
 /// A statement and the blocks around it, from the outermost inwards: first those of the caller, then those inside.
 #[derive(Drop)]
-pub(crate) struct Spot<'a> {
+pub(crate) struct Spot<'x, 'a> {
     pub(crate) module: u32,
     pub(crate) stmt: &'a Stmt,
-    pub(crate) outer: &'a [Block<'a>],
+    pub(crate) outer: &'x [Block<'a>],
     pub(crate) inner: Vec<&'a Stmt>,
 }
 
@@ -59,12 +59,12 @@ fn closest_inner<'a>(number: u32, list: &[&'a Stmt], name: &str) -> Option<(usiz
 }
 
 /// A statement in the last of these blocks.
-fn spot_in<'a>(
+fn spot_in<'x, 'a>(
     alloc: Global,
     number: u32,
-    blocks: &'a [Block<'a>],
+    blocks: &'x [Block<'a>],
     found: Option<(usize, &'a Stmt)>,
-) -> Option<Spot<'a>>
+) -> Option<Spot<'x, 'a>>
     requires { IfSome found (λ found. found.0 ≤ length blocks.now) }
     ensures { option_map spec.site_of result ≡ option_map (spec.seen_in number blocks.now) found.entry }
 {
@@ -80,21 +80,42 @@ fn spot_in<'a>(
 }
 
 /// The typedef of a name in the closest of these blocks that has one.
-pub(crate) fn typedef_in<'a>(
+pub(crate) fn typedef_in<'x, 'a>(
     alloc: Global,
     number: u32,
-    blocks: &'a [Block<'a>],
+    blocks: &'x [Block<'a>],
     name: &str,
-) -> Option<Spot<'a>>
+) -> Option<Spot<'x, 'a>>
     ensures { option_map spec.site_of result ≡ scopes.closest number name.now (reverse blocks.now) }
 {
     let found = closest_outer(number, blocks, name);
     spot_in(alloc, number, blocks, found)
 }
 
-impl<'a> Spot<'a> {
+impl<'x, 'a> Spot<'x, 'a> {
+    /// A statement in the last of these blocks.
+    pub(crate) fn new(
+        alloc: Global,
+        number: u32,
+        around: &'x [Block<'a>],
+        stmt: &'a Stmt,
+    ) -> Spot<'x, 'a>
+        ensures { spec.site_of result ≡ spec.site_in number around.now stmt.now }
+    {
+        Spot {
+            module: number,
+            stmt,
+            outer: around,
+            inner: Vec::new(alloc),
+        }
+    }
+
     /// The typedef of a name in the closest block around that has one.
-    pub(crate) fn typedef(&self, alloc: Global, name: &str) -> Result<Option<Spot<'a>>, NoMemory>
+    pub(crate) fn typedef(
+        &self,
+        alloc: Global,
+        name: &str,
+    ) -> Result<Option<Spot<'x, 'a>>, NoMemory>
         ensures { IfOk result (λ found. option_map spec.site_of found ≡ scopes.closest self.now.module name.now (spec.site_of self.now).around) }
     {
         match closest_inner(self.module, self.inner.as_slice(), name) {
@@ -109,7 +130,7 @@ impl<'a> Spot<'a> {
     }
 
     /// The same statement once more.
-    pub(crate) fn copy(&self, alloc: Global) -> Result<Spot<'a>, NoMemory>
+    pub(crate) fn copy(&self, alloc: Global) -> Result<Spot<'x, 'a>, NoMemory>
         ensures { IfOk result (λ spot. spec.site_of spot ≡ spec.site_of self.now) }
     {
         Ok(Spot {
@@ -121,7 +142,7 @@ impl<'a> Spot<'a> {
     }
 
     /// A statement in the block of this one.
-    pub(crate) fn within(&self, alloc: Global, sub: &'a Stmt) -> Result<Spot<'a>, NoMemory>
+    pub(crate) fn within(&self, alloc: Global, sub: &'a Stmt) -> Result<Spot<'x, 'a>, NoMemory>
         ensures { IfOk result (λ spot. spec.site_of spot ≡ scopes.within (spec.site_of self.now) sub.now) }
     {
         let mut inner = copies(alloc, self.inner.as_slice())?;

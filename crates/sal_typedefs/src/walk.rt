@@ -14,20 +14,24 @@ use std::alloc::Global;
 
 /// A statement that is left to go to, and how many steps may follow.
 #[derive(Drop)]
-pub(crate) struct Way<'a> {
-    pub(crate) spot: Spot<'a>,
+pub(crate) struct Way<'x, 'a> {
+    pub(crate) spot: Spot<'x, 'a>,
     pub(crate) steps: usize,
 }
 
 /// A statement that was gone to, and how many it rests on.
 #[derive(Drop)]
-pub(crate) struct Gone<'a> {
-    pub(crate) spot: Spot<'a>,
+pub(crate) struct Gone<'x, 'a> {
+    pub(crate) spot: Spot<'x, 'a>,
     pub(crate) below: usize,
 }
 
 /// All these statements are gone to next, the first of them first.
-fn push_all<'a>(ways: &mut Vec<Way<'a>>, spots: Vec<Spot<'a>>, steps: usize) -> Result<(), NoMemory>
+fn push_all<'x, 'a>(
+    ways: &mut Vec<Way<'x, 'a>>,
+    spots: Vec<Spot<'x, 'a>>,
+    steps: usize,
+) -> Result<(), NoMemory>
     ensures { IfOk result (λ _. (modules : List Statement) →
         spec.left modules ways.new.items ≡ flat_map (spec.nodes steps modules) (map site_of spots.entry.items) ++ spec.left modules ways.old.items) }
 {
@@ -41,11 +45,11 @@ fn push_all<'a>(ways: &mut Vec<Way<'a>>, spots: Vec<Spot<'a>>, steps: usize) -> 
 }
 
 /// Goes to the next statement.
-pub(crate) fn next<'a>(
-    ways: &mut Vec<Way<'a>>,
+pub(crate) fn next<'x, 'a>(
+    ways: &mut Vec<Way<'x, 'a>>,
     alloc: Global,
-    typedefs: &'a Typedefs<'a>,
-) -> Result<Option<Gone<'a>>, NoMemory>
+    typedefs: &'x Typedefs<'a>,
+) -> Result<Option<Gone<'x, 'a>>, NoMemory>
     ensures { IfOk result (λ gone. MatchOption gone (spec.left typedefs.now ways.old.items ≡ [])
         (λ gone. spec.left typedefs.now ways.old.items ≡ spec.node_of gone ∷ spec.left typedefs.now ways.new.items)) }
 {
@@ -64,11 +68,11 @@ pub(crate) fn next<'a>(
 }
 
 /// A way that begins at a statement.
-pub(crate) fn start<'a>(
+pub(crate) fn start<'x, 'a>(
     alloc: Global,
     typedefs: &Typedefs<'a>,
-    spot: Spot<'a>,
-) -> Result<Vec<Way<'a>>, NoMemory>
+    spot: Spot<'x, 'a>,
+) -> Result<Vec<Way<'x, 'a>>, NoMemory>
     ensures { IfOk result (λ ways. spec.left typedefs.now ways.items ≡ spec.nodes (steps_of typedefs.now) typedefs.now (site_of spot.entry)) }
 {
     let mut ways = Vec::new(alloc);

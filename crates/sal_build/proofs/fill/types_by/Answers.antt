@@ -1,4 +1,4 @@
-use Rattle.std.proofs.Common.{◌≡◌, ◌∙◌, ◌<◌, length, get_or, sym, ap, arith}
+use Rattle.std.proofs.Common.{◌∙◌, ◌<◌, length, get_or, sym, ap, arith}
 use Rattle.sal_grouping.specs.Indexes.{lists}
 use Rattle.sal_grouping.proofs.IndexLists.{lists-length}
 use Rattle.sal_build.proofs.Derivations.{low}

@@ -1,7 +1,7 @@
-use Rattle.std.proofs.Common.{◌∙◌, ◌++◌, List, reverse, ap, subst, append-nil}
+use Rattle.std.proofs.Common.{◌∙◌, List, reverse, ap, subst}
 use Rattle.sal_typedefs.specs.Scopes.{Site}
 use Rattle.sal_typedefs.specs.Names.{steps_of}
-use Rattle.sal_typedefs.specs.Spots.{stmts, site_in}
+use Rattle.sal_typedefs.specs.Spots.{site_in}
 use Rattle.sal_typedefs.specs.Walks.{Node, nodes}
 use Rattle.sal_typedefs.specs.Judgements.{AreJudged}
 use Rattle.sal_typedefs.specs.Runs.{run}
@@ -14,9 +14,8 @@ returns-clause-fault c =
     let modules = a.typedefs.now in
     let steps = steps_of modules in
     let site : Site = site_in a.number a.around.now a.stmt.now in
-    let around = ap (λ inner. a.around.now ++ stmts inner) c.new.ensures.items ∙ append-nil a.around.now in
     let way = rw c.as_slice.ensures.value at c.in_ok-done.ensures in
-    let ns = c.in_ok-nodes.ensures ∙ ap (λ blocks. nodes steps modules (site_in a.number blocks a.stmt.now)) around in
+    let ns = c.in_ok-nodes.ensures ∙ ap (nodes steps modules) c.new-spot.ensures in
     let P : List Node → Type 0 = λ n. AreJudged (reverse c.in_ok-done.done.items) (run modules n) in
     (top-judged steps modules site c.pop.new.self.items c.in-Some.judgement c.in_ok-done.done.items c.in-Some.ensures.items (subst P ns way)).fault
 
@@ -26,8 +25,7 @@ returns-clause-meant c =
     let modules = a.typedefs.now in
     let steps = steps_of modules in
     let site : Site = site_in a.number a.around.now a.stmt.now in
-    let around = ap (λ inner. a.around.now ++ stmts inner) c.new.ensures.items ∙ append-nil a.around.now in
     let way = rw c.as_slice.ensures.value at c.in_ok-done.ensures in
-    let ns = c.in_ok-nodes.ensures ∙ ap (λ blocks. nodes steps modules (site_in a.number blocks a.stmt.now)) around in
+    let ns = c.in_ok-nodes.ensures ∙ ap (nodes steps modules) c.new-spot.ensures in
     let P : List Node → Type 0 = λ n. AreJudged (reverse c.in_ok-done.done.items) (run modules n) in
     (top-judged steps modules site c.pop.new.self.items c.in-Some.judgement c.in_ok-done.done.items c.in-Some.ensures.items (subst P ns way)).type

@@ -1,0 +1,9 @@
+-- The targets of the nodes so far.
+use Rattle.std.proofs.Common.{◌≡◌, [], ◌∷◌, take}
+use Rattle.sal_grouping.specs.Indexes.{lists}
+use Rattle.sal_grouping.proofs.Places.{numbered}
+use Rattle.sal_build.specs.Leafrefs.{targets_of}
+use Rattle.sal_build.proofs.leafrefs.edges_of.Given as goal
+
+abbrev pub invariant-loop-k : goal.invariant-loop-k
+invariant-loop-k l = lists l.edges.items ≡ numbered (λ k b. targets_of l.modules l.forest k b ∷ []) 0 (take l.k l.forest)

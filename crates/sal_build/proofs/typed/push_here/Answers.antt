@@ -1,0 +1,25 @@
+use Rattle.std.proofs.Common.{◌∙◌, ◌++◌, ◌∷◌, [], sym, ap}
+use Rattle.sal_typedefs.specs.Spots.{site_in}
+use Rattle.sal_build.specs.Typed.{owns}
+use Rattle.sal_build.proofs.Walked.{popped}
+use Rattle.sal_build.proofs.Kept.{kept-none, kept-one}
+use Rattle.sal_build.proofs.typed.push_here.Goals as goal
+
+pub returns-then-not-contains_key-clause-value : goal.returns-then-not-contains_key-clause-value
+returns-then-not-contains_key-clause-value c =
+    let a = c.args in
+    kept-none a.wanted.now a.typedefs.now _ (site_in a.number a.around.now.items a.stmt.now) (owns a.all.now.items) c.place_at.ensures (sym c.contains_key.ensures ∙ c.if-not-contains_key.true)
+
+pub returns-clause-value : goal.returns-clause-value
+returns-clause-value c =
+    let a = c.args in
+    let opened = c.in_ok-push.ensures.items ∙ ap (λ b. a.around.now.items ++ b ∷ []) c.in_ok-new.ensures in
+    let own = rw c.deref.ensures.value at c.in_ok-own.ensures in
+    ap owns c.in_ok-push-2.ensures.items
+    ∙ kept-one a.wanted.now a.typedefs.now _ a.number a.around.now.items c.push.new.self.items a.stmt.now a.all.now.items c.in_ok-own.own c.place_at.ensures
+    (sym c.contains_key.ensures ∙ c.if-not-contains_key.false) opened own
+
+pub returns-clause-around : goal.returns-clause-around
+returns-clause-around c =
+    let opened = c.in_ok-push.ensures.items ∙ ap (λ b. c.args.around.now.items ++ b ∷ []) c.in_ok-new.ensures in
+    popped c.push.new.self.items c.args.around.now.items c.pop.new.self.items c.args.stmt.now _ c.push.new.self.ok.0 c.pop.ensures.rest opened

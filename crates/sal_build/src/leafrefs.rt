@@ -1,0 +1,217 @@
+//! Leafrefs: where those of each node lead, and their faults (RFC 7950 section 9.9).
+ghost use Rattle.std.specs.Prelude.{◌≡◌, ◌++◌, [], None, IfOk, IfSome, map, length, slice_index_or};
+ghost use Rattle.std.specs.List.{flat_map};
+ghost use Rattle.std.specs.Option.{option_to_list};
+ghost use Rattle.sal_module.specs.Faults.{least};
+ghost use Rattle.sal_grouping.specs.Indexes.{lists};
+ghost use Rattle.sal_grouping.specs.Reach.{IsRanked};
+ghost use Rattle.sal_typedefs.specs.Leafrefs as seeing;
+ghost use Rattle.sal_build.specs.Leafrefs as spec;
+
+use crate::identities::is_cyclic;
+use crate::lists::with_bad;
+use crate::walk::{Ways, end_of};
+use sal_grouping::{Branch, ranking};
+use sal_module::{Cause, Found, Keyword, Modules, first_named, value_of};
+use sal_typedefs::{Leafref, count_up, path_names};
+use sal_types::NoMemory;
+use std::alloc::Global;
+
+/// The leafrefs of the node of this number.
+fn leafrefs_at<'r, 'm>(all: &'r [Vec<Leafref<'m>>], k: usize) -> &'r [Leafref<'m>]
+    ensures { spec.seen result.now ≡ slice_index_or (spec.seen_all all.now) k [] }
+{
+    if k < all.len() { &all[k] } else { &[] }
+}
+
+/// The leaf or leaf-list to which a leafref of a node leads.
+fn target_of(
+    alloc: Global,
+    modules: &Modules,
+    forest: &[Branch],
+    ways: &Ways,
+    k: u32,
+    branch: &Branch,
+    leafref: &Leafref,
+) -> Result<Option<u32>, NoMemory>
+    requires { spec.AreWays modules.now forest.now ways.now }
+    ensures { IfOk result (λ node. node ≡ spec.target_of modules.now forest.now k branch.now (seeing.leafref_seen leafref.now)) }
+{
+    let path = value_of(Keyword::Path, leafref.stmt);
+    let names = path_names(alloc, path)?;
+    let source = leafref.module;
+    let up = count_up(path);
+    end_of(alloc, modules, forest, ways, k, branch, source, up, &names)
+}
+
+/// Where the leafrefs of a node lead, without those that lead nowhere.
+fn targets_of(
+    alloc: Global,
+    modules: &Modules,
+    forest: &[Branch],
+    ways: &Ways,
+    k: u32,
+    branch: &Branch,
+    leafrefs: &[Leafref],
+) -> Result<Vec<usize>, NoMemory>
+    requires { spec.AreWays modules.now forest.now ways.now }
+    ensures { IfOk result (λ targets. targets.items
+        ≡ flat_map (λ one. option_to_list (spec.target_of modules.now forest.now k branch.now one)) (spec.seen leafrefs.now)) }
+{
+    let mut targets = Vec::new(alloc);
+    for leafref in leafrefs {
+        let target = target_of(alloc, modules, forest, ways, k, branch, leafref)?;
+        push_target(&mut targets, target)?;
+    }
+    Ok(targets)
+}
+
+fn push_target(targets: &mut Vec<usize>, target: Option<u32>) -> Result<(), NoMemory>
+    ensures { IfOk result (λ _. targets.new.items ≡ targets.old.items ++ option_to_list target) }
+{
+    if let Some(node) = target {
+        targets.push(node as usize)?;
+    }
+    Ok(())
+}
+
+/// Where the leafrefs of each node lead.
+pub(crate) fn edges_of(
+    alloc: Global,
+    modules: &Modules,
+    forest: &[Branch],
+    ways: &Ways,
+    leafrefs: &[Vec<Leafref>],
+) -> Result<Vec<Vec<usize>>, NoMemory>
+    requires ways { spec.AreWays modules.now forest.now ways.now }
+    requires leafrefs { spec.seen_all leafrefs.now ≡ map (spec.references_at modules.now) forest.now }
+    ensures { IfOk result (λ edges. lists edges.items ≡ spec.edges_of modules.now forest.now) }
+{
+    let mut edges = Vec::with_capacity(alloc, forest.len())?;
+    for (k, branch) in forest.iter().enumerate() {
+        let own = leafrefs_at(leafrefs, k);
+        let targets = targets_of(alloc, modules, forest, ways, k as u32, branch, own)?;
+        edges.push(targets)?;
+    }
+    Ok(edges)
+}
+
+// ---- faults
+
+fn with_path(best: Option<Found>, target: Option<u32>, leafref: &Leafref) -> Option<Found>
+    ensures { result ≡ least best (spec.target_faults target (seeing.leafref_seen leafref.now)) }
+{
+    if target.is_some() {
+        return best;
+    }
+    match first_named(Keyword::Path, leafref.stmt.subs.items()) {
+        None => best,
+        Some(path) => with_bad(best, true, Cause::BadTarget, leafref.module, path),
+    }
+}
+
+fn with_target(
+    best: Option<Found>,
+    alloc: Global,
+    edges: &[Vec<usize>],
+    ranks: &Option<Vec<usize>>,
+    k: usize,
+    target: Option<u32>,
+    leafref: &Leafref,
+) -> Result<Option<Found>, NoMemory>
+    requires { IfSome ranks.now (λ ranks. IsRanked (lists edges.now) ranks.items) }
+    ensures { IfOk result (λ found. found ≡ least best (spec.faults_to (lists edges.now) k target (seeing.leafref_seen leafref.now))) }
+{
+    let best = with_path(best, target, leafref);
+    let cyclic = is_cyclic(alloc, edges, ranks, k, target.map(|n| n as usize))?;
+    Ok(with_bad(best, cyclic, Cause::NameCycle, leafref.module, leafref.stmt))
+}
+
+fn with_leafref(
+    best: Option<Found>,
+    alloc: Global,
+    modules: &Modules,
+    forest: &[Branch],
+    ways: &Ways,
+    edges: &[Vec<usize>],
+    ranks: &Option<Vec<usize>>,
+    k: u32,
+    branch: &Branch,
+    leafref: &Leafref,
+) -> Result<Option<Found>, NoMemory>
+    requires ways { spec.AreWays modules.now forest.now ways.now }
+    requires ranks { IfSome ranks.now (λ ranks. IsRanked (lists edges.now) ranks.items) }
+    ensures { IfOk result (λ found. found ≡ least best (spec.leafref_faults modules.now forest.now (lists edges.now) k branch.now (seeing.leafref_seen leafref.now))) }
+{
+    let target = target_of(alloc, modules, forest, ways, k, branch, leafref)?;
+    with_target(best, alloc, edges, ranks, k as usize, target, leafref)
+}
+
+fn with_leafrefs(
+    best: Option<Found>,
+    alloc: Global,
+    modules: &Modules,
+    forest: &[Branch],
+    ways: &Ways,
+    edges: &[Vec<usize>],
+    ranks: &Option<Vec<usize>>,
+    k: u32,
+    branch: &Branch,
+    leafrefs: &[Leafref],
+) -> Result<Option<Found>, NoMemory>
+    requires ways { spec.AreWays modules.now forest.now ways.now }
+    requires ranks { IfSome ranks.now (λ ranks. IsRanked (lists edges.now) ranks.items) }
+    ensures { IfOk result (λ found. found
+        ≡ least best (flat_map (spec.leafref_faults modules.now forest.now (lists edges.now) k branch.now) (spec.seen leafrefs.now))) }
+{
+    let mut best = best;
+    for leafref in leafrefs {
+        best = with_leafref(
+            best, alloc, modules, forest, ways, edges, ranks, k, branch, leafref,
+        )?;
+    }
+    Ok(best)
+}
+
+fn ranked_fault(
+    alloc: Global,
+    modules: &Modules,
+    forest: &[Branch],
+    ways: &Ways,
+    leafrefs: &[Vec<Leafref>],
+    edges: &[Vec<usize>],
+    ranks: &Option<Vec<usize>>,
+) -> Result<Option<Found>, NoMemory>
+    requires ways { spec.AreWays modules.now forest.now ways.now }
+    requires leafrefs { spec.seen_all leafrefs.now ≡ map (spec.references_at modules.now) forest.now }
+    requires edges { lists edges.now ≡ spec.edges_of modules.now forest.now }
+    requires ranks { IfSome ranks.now (λ ranks. IsRanked (lists edges.now) ranks.items) }
+    ensures { IfOk result (λ found. found ≡ least None (spec.all_faults modules.now forest.now)) }
+{
+    let mut best = None;
+    for (k, branch) in forest.iter().enumerate() {
+        let own = leafrefs_at(leafrefs, k);
+        best = with_leafrefs(
+            best, alloc, modules, forest, ways, edges, ranks, k as u32, branch, own,
+        )?;
+    }
+    Ok(best)
+}
+
+/// The first fault of leafrefs: a path that leads to no leaf or leaf-list, or a leafref by which a node takes its own type.
+pub(crate) fn leafrefs_fault(
+    alloc: Global,
+    modules: &Modules,
+    forest: &[Branch],
+    ways: &Ways,
+    leafrefs: &[Vec<Leafref>],
+    edges: &[Vec<usize>],
+) -> Result<Option<Found>, NoMemory>
+    requires ways { spec.AreWays modules.now forest.now ways.now }
+    requires leafrefs { spec.seen_all leafrefs.now ≡ map (spec.references_at modules.now) forest.now }
+    requires edges { lists edges.now ≡ spec.edges_of modules.now forest.now }
+    ensures { IfOk result (λ found. found ≡ least None (spec.all_faults modules.now forest.now)) }
+{
+    let ranks = ranking(alloc, edges)?;
+    ranked_fault(alloc, modules, forest, ways, leafrefs, edges, &ranks)
+}

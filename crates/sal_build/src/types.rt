@@ -1,0 +1,174 @@
+//! The first fault of type statements.
+ghost use Rattle.std.specs.Prelude.{◌≡◌, ◌∷◌, [], None, IfOk};
+ghost use Rattle.sal_module.specs.Faults.{least};
+ghost use Rattle.sal_typedefs.specs.Judgements.{merged};
+ghost use Rattle.sal_typedefs.specs.Spots.{site_in};
+ghost use Rattle.sal_build.specs.Types as spec;
+
+use sal_module::{Found, Keyword, Modules, better, is_named, keyword_of};
+use sal_stmt::Stmt;
+use sal_typedefs::{Block, Typedefs, judge_at, name_fault_at};
+use sal_types::NoMemory;
+use std::alloc::Global;
+
+/// Which faults of type statements are asked for.
+#[derive(Clone, Copy, Debug, PartialEq, Eq)]
+pub(crate) enum Asked {
+    /// Those of names.
+    Names,
+    /// Those of restrictions and patterns.
+    Others,
+}
+
+/// How deep the blocks of a statement may be open in one another.
+const MAX_BLOCKS: u32 = 64;
+
+/// Whether what stands in a statement means something.
+fn is_read(stmt: &Stmt) -> bool
+    ensures { result ≡ spec.is_read stmt.now }
+{
+    keyword_of(stmt.keyword.as_str()).is_some() && !is_named(Keyword::Extension, stmt)
+}
+
+fn merge(best: Option<Found>, found: Option<Found>) -> Option<Found>
+    ensures { result ≡ merged best found }
+{
+    match found {
+        None => best,
+        Some(found) => better(best, found),
+    }
+}
+
+fn fault_at<'x, 'a>(
+    alloc: Global,
+    typedefs: &'x Typedefs<'a>,
+    asked: Asked,
+    number: u32,
+    around: &'x [Block<'a>],
+    stmt: &'a Stmt,
+) -> Result<Option<Found>, NoMemory>
+    ensures { IfOk result (λ found. found ≡ least None (spec.faults_at asked typedefs.now (site_in number around.now stmt.now))) }
+{
+    match asked {
+        Asked::Names => name_fault_at(alloc, typedefs, number, around, stmt),
+        Asked::Others => {
+            let (found, _ty) = judge_at(alloc, typedefs, number, around, stmt)?;
+            Ok(found)
+        }
+    }
+}
+
+/// The least of this fault and those of a statement, where it is a `type`.
+fn with_here<'x, 'a>(
+    best: Option<Found>,
+    alloc: Global,
+    typedefs: &'x Typedefs<'a>,
+    asked: Asked,
+    number: u32,
+    around: &'x [Block<'a>],
+    stmt: &'a Stmt,
+) -> Result<Option<Found>, NoMemory>
+    ensures { IfOk result (λ it. it ≡ least best (spec.faults_here asked typedefs.now (site_in number around.now stmt.now))) }
+{
+    if !is_named(Keyword::Type, stmt) {
+        return Ok(best);
+    }
+    let found = fault_at(alloc, typedefs, asked, number, around, stmt)?;
+    Ok(merge(best, found))
+}
+
+/// The least of this fault and those of the type statements among a statement and those in so many levels below it.
+///
+/// The blocks are those around the statement, and are the same again afterwards.
+fn with_stmt<'x, 'a>(
+    best: Option<Found>,
+    alloc: Global,
+    typedefs: &'x Typedefs<'a>,
+    asked: Asked,
+    number: u32,
+    around: &mut Vec<Block<'a>>,
+    levels: u32,
+    stmt: &'a Stmt,
+) -> Result<Option<Found>, NoMemory>
+    ensures value { IfOk result (λ it. it ≡ least best (spec.faults_in asked levels typedefs.now (site_in number around.old.items stmt.now))) }
+    ensures around { IfOk result (λ _. around.new.items ≡ around.old.items) }
+{
+    if !is_read(stmt) {
+        return Ok(best);
+    }
+    let mut best = with_here(best, alloc, typedefs, asked, number, around, stmt)?;
+    if levels == 0 {
+        return Ok(best);
+    }
+    around.push(Block::new(alloc, stmt)?)?;
+    for sub in stmt.subs.items() {
+        best = with_stmt(
+            best,
+            alloc,
+            typedefs,
+            asked,
+            number,
+            around,
+            levels - 1,
+            sub,
+        )?;
+    }
+    around.pop();
+    Ok(best)
+}
+
+/// The least fault of this kind of all type statements, or none.
+fn type_fault<'x, 'a>(
+    alloc: Global,
+    modules: &'a Modules,
+    typedefs: &'x Typedefs<'a>,
+    asked: Asked,
+) -> Result<Option<Found>, NoMemory>
+    requires { typedefs.now ≡ modules.now }
+    ensures { IfOk result (λ found. found ≡ least None (spec.faults_of asked modules.now)) }
+{
+    let stmts = modules.items();
+    let mut around = Vec::new(alloc);
+    let mut best = None;
+    for (m, stmt) in stmts.iter().enumerate() {
+        best = with_stmt(
+            best,
+            alloc,
+            typedefs,
+            asked,
+            m as u32,
+            &mut around,
+            MAX_BLOCKS,
+            stmt,
+        )?;
+    }
+    Ok(best)
+}
+
+/// The first fault of names in type statements, or none (RFC 7950 sections 5.5, 7.3 and 9.9.2).
+///
+/// It takes time linear in the statements, and in what each type statement rests on.
+pub(crate) fn type_name_fault<'x, 'a>(
+    alloc: Global,
+    modules: &'a Modules,
+    typedefs: &'x Typedefs<'a>,
+) -> Result<Option<Found>, NoMemory>
+    requires { typedefs.now ≡ modules.now }
+    ensures { IfOk result (λ found. found ≡ least None (spec.name_faults modules.now)) }
+{
+    type_fault(alloc, modules, typedefs, Asked::Names)
+}
+
+/// The first fault of restrictions and patterns in type statements, or none (RFC 7950 section 9).
+///
+/// It takes time linear in the statements, and in what each type statement rests on.
+pub(crate) fn type_other_fault<'x, 'a>(
+    alloc: Global,
+    modules: &'a Modules,
+    typedefs: &'x Typedefs<'a>,
+) -> Result<Option<Found>, NoMemory>
+    requires { typedefs.now ≡ modules.now }
+    ensures { IfOk result (λ found. found ≡ least None (spec.other_faults modules.now)) }
+{
+    type_fault(alloc, modules, typedefs, Asked::Others)
+}

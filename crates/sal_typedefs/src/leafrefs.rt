@@ -1,0 +1,62 @@
+//! Leafrefs in the type of a node (RFC 7950 section 9.9).
+ghost use Rattle.std.specs.Prelude.{◌≡◌, ◌++◌, ◌∷◌, [], IfOk, map, filter};
+ghost use Rattle.sal_typedefs.specs.Spots.{site_of, site_in};
+ghost use Rattle.sal_typedefs.specs.Names as names;
+ghost use Rattle.sal_typedefs.specs.Leafrefs as spec;
+
+use crate::block::Block;
+use crate::spot::Spot;
+use crate::typedefs::Typedefs;
+use crate::walk::{next, start};
+use sal_module::argument_of;
+use sal_stmt::Stmt;
+use sal_types::NoMemory;
+use std::alloc::Global;
+
+/// A `type leafref` statement.
+#[derive(Drop)]
+pub struct Leafref<'a> {
+    /// The number of the module in which it stands: the prefixes in its path are those of this module.
+    pub module: u32,
+    /// The statement, which has the path.
+    pub stmt: &'a Stmt,
+}
+
+/// The statement goes behind these, if it is a leafref.
+fn push_leafref<'x, 'a>(all: &mut Vec<Leafref<'a>>, spot: &Spot<'x, 'a>) -> Result<(), NoMemory>
+    ensures { IfOk result (λ _. map spec.leafref_seen all.new.items ≡ map spec.leafref_seen all.old.items ++ map spec.stmt_in (filter names.is_leafref (site_of spot.now ∷ []))) }
+{
+    if argument_of(spot.stmt) == "leafref" {
+        all.push(Leafref {
+            module: spot.module,
+            stmt: spot.stmt,
+        })?;
+    }
+    Ok(())
+}
+
+/// The leafrefs among a `type` statement and those that it rests on, in the order in which these are gone to: each statement
+/// before those that it rests on.
+///
+/// The statement stands in these blocks, from the module inwards. It takes time linear in the statements that it rests on,
+/// with the logarithm of a block's typedefs for each.
+pub fn leafrefs_at<'x, 'a>(
+    alloc: Global,
+    typedefs: &'x Typedefs<'a>,
+    number: u32,
+    around: &'x [Block<'a>],
+    stmt: &'a Stmt,
+) -> Result<Vec<Leafref<'a>>, NoMemory>
+    ensures { IfOk result (λ all. map spec.leafref_seen all.items ≡ map spec.stmt_in (names.leafrefs_of typedefs.now (site_in number around.now stmt.now))) }
+{
+    let spot = Spot::new(alloc, number, around, stmt);
+    let mut all = Vec::new(alloc);
+    let mut ways = start(alloc, typedefs, spot)?;
+    for _i in 0..u64::MAX {
+        match next(&mut ways, alloc, typedefs)? {
+            None => return Ok(all),
+            Some(gone) => push_leafref(&mut all, &gone.spot)?,
+        }
+    }
+    Err(NoMemory)
+}

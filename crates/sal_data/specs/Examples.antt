@@ -1,7 +1,7 @@
 -- Tables, JSON values and rows for the examples.
-use Rattle.std.specs.Prelude.{ℕ, zero, suc, ◌+◌, pos, false, true, List as Row, [], ◌∷◌, ◌++◌, Option, Some, None, Result, Ok, Err, codes}
+use Rattle.std.specs.Prelude.{ℕ, zero, suc, ◌+◌, false, true, List as Row, [], ◌∷◌, ◌++◌, Some, None, Result, Err, codes}
 use Prim.Native.String.{String}
-use Rattle.serde_json.specs.Data.{Data, number, string, array, object, unsigned, Items, no_items, item, Members, no_members, member}
+use Rattle.serde_json.specs.Data.{Data, number, string, array, object, unsigned, no_items, item, no_members, member}
 use Rattle.sal_types.specs.declared.value.Atom.{Atom}
 use Rattle.sal_types.specs.declared.value.Atom.TheVariants.{Text, Unsigned}
 use Rattle.sal_types.specs.declared.value.Value.{Value}
@@ -12,7 +12,7 @@ use Rattle.sal_types.specs.declared.value.Step.TheVariants.{Node, Key, Item}
 use Rattle.sal_types.specs.declared.row.Row.{Row as TreeRow}
 use Rattle.sal_restrict.specs.declared.yang_type.YangType.{YangType, roll-YangType}
 use Rattle.sal_restrict.specs.declared.yang_type.YangType.TheOpen.{YangType-F}
-use Rattle.sal_schema.specs.declared.kind.Kind.TheVariants.{Container, List, LeafList}
+use Rattle.sal_schema.specs.declared.kind.Kind.TheVariants.{Container, LeafList}
 use Rattle.sal_schema.specs.declared.table.NodeInfo.{NodeInfo}
 use Rattle.sal_schema.specs.declared.table.SchemaTable.{SchemaTable}
 use Rattle.sal_schema.specs.Examples.{info, node, leaf, list, whole, text}
@@ -68,6 +68,14 @@ rack name json = only "inv:rack" (only name json)
 -- a slot without a site
 abbrev pub slot : ℕ → String → Data
 slot id side = object (member (codes "id") (whole_number id) (member (codes "side") (words side) no_members))
+
+-- an entry without a key, and with a member that is none
+abbrev pub slot_of_a_door : Data
+slot_of_a_door = object (member (codes "door") (words "x") (member (codes "id") (whole_number 1) no_members))
+
+-- a rack with a lamp and a size that are none
+abbrev pub two_faults : Data
+two_faults = only "inv:rack" (object (member (codes "lamp") (words "on") (member (codes "size") nothing no_members)))
 
 abbrev pub slot_without_module : Data
 slot_without_module = object (member (codes "id") (whole_number 1) (member (codes "side") (words "l") (member (codes "site") (words "x") no_members)))
@@ -125,6 +133,10 @@ tree_rows =
     ∷ row (Node 0 ∷ Node 5 ∷ []) Mark
     ∷ row (Node 0 ∷ Node 6 ∷ []) (Leaf (value 1 (Text (codes "4"))))
     ∷ []
+
+-- a size that is a number
+abbrev pub number_rows : Row TreeRow
+number_rows = row (Node 0 ∷ Node 6 ∷ []) (Leaf (value 0 (Unsigned 4))) ∷ []
 
 -- ---- readings and writings
 

@@ -12,6 +12,7 @@ pub fn trees_read()
     ensures whole { example.reads example.tree ≡ Ok example.tree_rows }
     ensures other_order { example.reads (example.tree_with (example.two (example.words "b") (example.words "a"))) ≡ Ok example.tree_rows }
     ensures entry { example.reads_at (example.at_slot 1 "l") example.slot_with_site ≡ Ok example.slot_rows }
+    ensures number_first { example.reads (example.rack "size" (example.whole_number 4)) ≡ Ok example.number_rows }
     ensures of_none { example.reads (example.rack "slot" (array no_items)) ≡ Ok [] }
 {}
 
@@ -35,6 +36,7 @@ pub fn faults_of_names()
 /// Faults of entries: of their keys, and of two with the same keys or value. A call does nothing: its clauses are the laws.
 pub fn faults_of_entries()
     ensures no_key { example.reads_at example.slots (example.one (example.only "id" (example.whole_number 1))) ≡ example.fails (MissingKey example.slots) }
+    ensures keys_first { example.reads_at example.slots (example.one example.slot_of_a_door) ≡ example.fails (MissingKey example.slots) }
     ensures bad_key { example.reads_at example.slots (example.one (example.slot 256 "l")) ≡ example.fails (BadScalar example.slots OutOfRange) }
     ensures another { example.reads_at (example.at_slot 1 "l") (example.slot 2 "l") ≡ example.fails (KeyDiffers (example.at_slot 1 "l")) }
     ensures twice { example.reads_at example.slots (example.two (example.slot 1 "l") (example.slot 1 "l")) ≡ example.fails (DoubleEntry (example.at_slot 1 "l")) }
@@ -46,6 +48,8 @@ pub fn faults_of_entries()
 pub fn faults_of_values()
     ensures no_object { example.reads (example.only "inv:rack" (array no_items)) ≡ example.fails (WrongShape (Node 0 ∷ [])) }
     ensures no_array { example.reads_at example.slots example.nothing ≡ example.fails (WrongShape example.slots) }
+    ensures no_entry { example.reads_at example.slots (example.one (example.whole_number 5)) ≡ example.fails (WrongShape example.slots) }
+    ensures first_counts { example.reads example.two_faults ≡ example.fails (WrongShape (Node 0 ∷ Node 5 ∷ [])) }
     ensures object_in_leaf { example.reads (example.rack "size" example.nothing) ≡ example.fails (BadScalar (Node 0 ∷ Node 6 ∷ []) WrongKind) }
     ensures deep { example.reads_deep (example.only "c" example.nothing) ≡ example.fails (TooDeep (example.down 32 0)) }
 {}

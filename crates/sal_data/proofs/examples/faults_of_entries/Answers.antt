@@ -29,3 +29,7 @@ returns-clause-tag_twice c = simp (type_scalar, own_json, out-roll-YangType)
 pub returns-clause-another_tag : goal.returns-clause-another_tag
 unfolding digits chars closest
 returns-clause-another_tag c = simp (type_scalar, own_json, out-roll-YangType)
+
+pub returns-clause-keys_first : goal.returns-clause-keys_first
+unfolding digits chars closest
+returns-clause-keys_first c = simp (type_scalar, own_json, out-roll-YangType)

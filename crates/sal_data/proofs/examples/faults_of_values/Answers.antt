@@ -22,3 +22,11 @@ returns-clause-object_in_leaf c = simp (type_scalar, own_json, out-roll-YangType
 pub returns-clause-deep : goal.returns-clause-deep
 unfolding digits chars closest
 returns-clause-deep c = refl
+
+pub returns-clause-no_entry : goal.returns-clause-no_entry
+unfolding digits chars closest
+returns-clause-no_entry c = refl
+
+pub returns-clause-first_counts : goal.returns-clause-first_counts
+unfolding digits chars closest
+returns-clause-first_counts c = refl

@@ -22,3 +22,7 @@ returns-clause-entry c = simp (type_scalar, own_json, out-roll-YangType)
 pub returns-clause-of_none : goal.returns-clause-of_none
 unfolding digits chars closest
 returns-clause-of_none c = refl
+
+pub returns-clause-number_first : goal.returns-clause-number_first
+unfolding digits chars closest
+returns-clause-number_first c = simp (type_scalar, own_json, out-roll-YangType)

@@ -4,7 +4,6 @@ use Rattle.std.proofs.Common.{refl}
 use Rattle.serde_json.specs.Data.{Data, string, object, no_members, member}
 use Rattle.sal_types.specs.declared.value.Atom.TheVariants.{Text, Unsigned}
 use Rattle.sal_restrict.specs.declared.yang_type.YangType.TheViews.{out-roll-YangType}
-use Rattle.sal_schema.specs.Table.{closest}
 use Rattle.sal_json.specs.Written.{type_json_of, layer_for}
 use Rattle.sal_data.specs.Written.{scalar_json, node_json}
 use Rattle.sal_data.specs.Examples.{table, value, whole_number, nothing, only, one, two}

@@ -1,0 +1,4 @@
+pub mod Examples
+pub mod Members
+pub mod Read
+pub mod Written

@@ -1,0 +1,29 @@
+//! Why a JSON value stands for no rows.
+use sal_json::ScalarFault;
+use sal_types::{Path, Str};
+
+/// Why a JSON value stands for no rows of a schema.
+///
+/// `path` is the place: of the object for the faults of a member's name, of the list for those of keys, and of the entry or
+/// node itself for the others.
+#[derive(Debug, Drop, PartialEq, Eq)]
+pub enum DataFault {
+    /// No child of the node at the path has this name in the right form.
+    UnknownMember { path: Path, name: Str },
+    /// The name is written without its module, and stands at the top or is that of a child of another module.
+    NeedsModule { path: Path, name: Str },
+    /// Another JSON value than an object or an array stands where one is wanted.
+    WrongShape { path: Path },
+    /// An entry of the list at the path lacks a key.
+    MissingKey { path: Path },
+    /// The entry has another key or value than that of the path that it was read at.
+    KeyDiffers { path: Path },
+    /// An earlier entry of the list or leaf-list has the same key or value.
+    DoubleEntry { path: Path },
+    /// A leaf, a leaf-list entry, or a key of the list at the path has no value of its type.
+    BadScalar { path: Path, fault: ScalarFault },
+    /// The path would have a 33rd step below this one.
+    TooDeep { path: Path },
+    /// Memory ran out.
+    NoMemory,
+}

@@ -1,5 +1,5 @@
 //! The patterns of a schema, compiled.
-ghost use Rattle.std.specs.Prelude.{◌≡◌, ◌++◌, ◌<◌, IfOk, IfErr, MatchOption, IsTrue, Some, true, map, length, string_bytes};
+ghost use Rattle.std.specs.Prelude.{◌≡◌, ◌++◌, ◌<◌, IfOk, IfErr, IfSome, MatchOption, IsTrue, Some, true, false, map, length, string_bytes};
 ghost use Rattle.std.specs.List.{slice_get, list_all, list_any};
 ghost use Rattle.sal_restrict.specs.declared.yang_type.YangType.{out-YangType};
 ghost use Rattle.sal_json.specs.Patterns as spec;
@@ -65,7 +65,8 @@ impl Whole {
 pub(crate) type Wholes = Seq<Whole>;
 
 fn of_list(alloc: Global, patterns: &[Pattern]) -> Result<Option<Wholes>, NoMemory>
-    ensures { IfOk result (λ found. MatchOption found (spec.have_malformed patterns.now ≡ true) (λ list. list ≡ map spec.searched patterns.now)) }
+    ensures compiled { IfOk result (λ found. MatchOption found (spec.have_malformed patterns.now ≡ true) (λ list. list ≡ map spec.searched patterns.now)) }
+    ensures formed { IfOk result (λ found. IfSome found (λ _. spec.have_malformed patterns.now ≡ false)) }
 {
     let mut list = Vec::with_capacity(alloc, patterns.len())?;
     for pattern in patterns {
@@ -78,7 +79,8 @@ fn of_list(alloc: Global, patterns: &[Pattern]) -> Result<Option<Wholes>, NoMemo
 }
 
 fn of_plain(alloc: Global, ty: &YangType) -> Result<Option<Wholes>, NoMemory>
-    ensures { IfOk result (λ found. MatchOption found (spec.have_malformed (spec.plain_patterns ty.now) ≡ true) (λ list. list ≡ spec.plain_searched ty.now)) }
+    ensures compiled { IfOk result (λ found. MatchOption found (spec.have_malformed (spec.plain_patterns ty.now) ≡ true) (λ list. list ≡ spec.plain_searched ty.now)) }
+    ensures formed { IfOk result (λ found. IfSome found (λ _. spec.have_malformed (spec.plain_patterns ty.now) ≡ false)) }
 {
     match ty {
         YangType::Text { patterns, .. } => of_list(alloc, patterns.items()),
@@ -87,7 +89,8 @@ fn of_plain(alloc: Global, ty: &YangType) -> Result<Option<Wholes>, NoMemory>
 }
 
 fn of_members(alloc: Global, members: &[YangType]) -> Result<Option<Seq<Wholes>>, NoMemory>
-    ensures { IfOk result (λ found. MatchOption found (list_any spec.have_malformed (map spec.plain_patterns members.now) ≡ true) (λ list. list ≡ map spec.plain_searched members.now)) }
+    ensures compiled { IfOk result (λ found. MatchOption found (list_any spec.have_malformed (map spec.plain_patterns members.now) ≡ true) (λ list. list ≡ map spec.plain_searched members.now)) }
+    ensures formed { IfOk result (λ found. IfSome found (λ _. list_any spec.have_malformed (map spec.plain_patterns members.now) ≡ false)) }
 {
     let mut list = Vec::with_capacity(alloc, members.len())?;
     for member in members {
@@ -100,7 +103,8 @@ fn of_members(alloc: Global, members: &[YangType]) -> Result<Option<Seq<Wholes>>
 }
 
 fn of_one(alloc: Global, ty: &YangType) -> Result<Option<Seq<Wholes>>, NoMemory>
-    ensures { IfOk result (λ found. MatchOption found (spec.have_malformed (spec.plain_patterns ty.now) ≡ true) (λ list. list ≡ spec.only (spec.plain_searched ty.now))) }
+    ensures compiled { IfOk result (λ found. MatchOption found (spec.have_malformed (spec.plain_patterns ty.now) ≡ true) (λ list. list ≡ spec.only (spec.plain_searched ty.now))) }
+    ensures formed { IfOk result (λ found. IfSome found (λ _. spec.have_malformed (spec.plain_patterns ty.now) ≡ false)) }
 {
     let mut list = Vec::with_capacity(alloc, 1)?;
     match of_plain(alloc, ty)? {
@@ -111,7 +115,8 @@ fn of_one(alloc: Global, ty: &YangType) -> Result<Option<Seq<Wholes>>, NoMemory>
 }
 
 fn of_type(alloc: Global, ty: &YangType) -> Result<Option<Seq<Wholes>>, NoMemory>
-    ensures { IfOk result (λ found. MatchOption found (spec.has_malformed ty.now ≡ true) (λ list. list ≡ spec.type_searched ty.now)) }
+    ensures compiled { IfOk result (λ found. MatchOption found (spec.has_malformed ty.now ≡ true) (λ list. list ≡ spec.type_searched ty.now)) }
+    ensures formed { IfOk result (λ found. IfSome found (λ _. spec.has_malformed ty.now ≡ false)) }
 {
     match ty {
         YangType::Union { members } => of_members(alloc, members.items()),
@@ -142,6 +147,7 @@ impl Patterns {
     /// of memory. It takes the time and memory that `regex` takes for each pattern.
     pub fn of(alloc: Global, schema: &Schema) -> Result<Patterns, PatternsFault>
         ensures of_schema { IfOk result (λ patterns. patterns ≡ spec.patterns_of schema.now) }
+        ensures formed { IfOk result (λ _. list_any spec.has_malformed schema.now.types ≡ false) }
         ensures refused { IfErr result (spec.IsRefusal schema.now) }
     {
         let mut types = Vec::new(alloc);

@@ -20,7 +20,6 @@ use Rattle.sal_history.specs.declared.call.Call.{Call}
 use Rattle.sal_history.specs.declared.call.Call.TheVariants.{Begin, Submit, Settle}
 use Rattle.sal_history.specs.declared.call.Entry.{Entry}
 use Rattle.sal_history.specs.declared.reply.Reply.TheVariants.{Begun, Refused}
-use Rattle.sal_history.specs.declared.reply.Refusal.TheVariants.{Shared}
 use Rattle.sal_history.specs.History.{Answered, Base, Sent, answer, began, began_at, commits, decide_front, decide_next, decided_by, done_ops, is_live, ops_if_done, outcome, outcomes, reply_to, sent_by, sents}
 use Rattle.sal_history.specs.Laws.{ConflictsOfALogNameALaterCommit, ConflictsOfALogNameAnOwnWrite, IsLaterTouch, IsOwnWrite}
 use Rattle.sal_history.proofs.Named.{named}
@@ -149,7 +148,7 @@ module _ (world : List Opening) where
 
     new_base : (call : Call) (b : Base) → began call (reply_to world answered call) ≡ Some b → b.commit ≤ length (commits answered b.domain)
     new_base (Begin domain mode) b =
-        elim (is_live domain) as (λ live. began (Begin domain mode) (if live then Begun (length (commits answered domain)) None else Refused (Shared (NoDomain domain))) ≡ Some b → b.commit ≤ length (commits answered b.domain)) [
+        elim (is_live domain) as (λ live. began (Begin domain mode) (if live then Begun (length (commits answered domain)) None else Refused (NoDomain domain)) ≡ Some b → b.commit ≤ length (commits answered b.domain)) [
           | true ↦ λ e. subst (λ (c : Base). c.commit ≤ length (commits answered c.domain)) (same_Some (record { domain = domain; commit = length (commits answered domain) }) b e) (omega arith)
           | false ↦ λ e. cc
         ]

@@ -16,8 +16,7 @@ use Rattle.sal_history.specs.declared.call.Call.{Call}
 use Rattle.sal_history.specs.declared.call.Call.TheVariants.{Begin, Submit, Settle}
 use Rattle.sal_history.specs.declared.call.Entry.{Entry}
 use Rattle.sal_history.specs.declared.reply.Reply.{Reply}
-use Rattle.sal_history.specs.declared.reply.Reply.TheVariants.{Begun, Accepted, Receipt, Settled, Refused}
-use Rattle.sal_history.specs.declared.reply.Refusal.TheVariants.{Shared}
+use Rattle.sal_history.specs.declared.reply.Reply.TheVariants.{Begun, Receipt, Settled, Refused}
 use Rattle.sal_history.specs.Trees.{opening_of}
 
 -- a transaction that was begun: its domain and the number of its base commit
@@ -85,7 +84,7 @@ outcome_by newest None = Done (newest + 1)
 -- the answer to a settle, from the submission and the outcome of its receipt; no caller has a receipt without them
 abbrev pub settled : Option Sent → Option Outcome → Reply
 settled (Some s) (Some o) = Settled s.base.domain o
-settled s o = Accepted
+settled s o = Receipt 0
 
 module _ (world : List Opening) where
   -- the outcome of a submission, decided over these commits of its domain
@@ -109,7 +108,7 @@ module _ (world : List Opening) where
 
   -- the reply to a call after these entries
   abbrev pub reply_to : List Answered → Call → Reply
-  reply_to answered (Begin domain mode) = if is_live domain then Begun (length (commits answered domain)) None else Refused (Shared (NoDomain domain))
+  reply_to answered (Begin domain mode) = if is_live domain then Begun (length (commits answered domain)) None else Refused (NoDomain domain)
   reply_to answered (Submit place ops) = Receipt (length (sents answered) + 1)
   reply_to answered (Settle receipt) = settled (slice_get (sents answered) (receipt - 1)) (slice_get (outcomes answered ++ decided_by answered (Settle receipt)) (receipt - 1))
 

@@ -3,7 +3,7 @@
 //! | type | what it is |
 //! |---|---|
 //! | `Call`, `Entry`, `Log` | a shared call; a call with its client; the calls in order |
-//! | `Reply`, `Refusal` | what a step is answered; why it made no call |
+//! | `Reply` | what a shared call is answered |
 //! | `Opening` | a domain's trees before the first commit |
 //! | `laws` | functions that do nothing, each with a law of the log's meaning as its contract |
 //!
@@ -24,4 +24,4 @@ pub mod reply;
 
 pub use call::{Call, Entry, Log};
 pub use opening::Opening;
-pub use reply::{Refusal, Reply};
+pub use reply::Reply;

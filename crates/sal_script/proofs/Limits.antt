@@ -56,30 +56,30 @@ short_programs c (d ∷ ds) programs h =
     let one = short_program d first.0 (found (client_place c) (program_of d) first.0 first.1) in
     rw (← all) (ap suc more.0, rw (one, more.1) refl)
 
-as_many_steps : (c s : ℕ) (ds : List Data) (steps : List ScriptStep) → steps_from c s ds ≡ Ok steps → length steps ≡ length ds
-as_many_steps c s [] steps h = let none : [] ≡ steps = cc in rw (← none) refl
-as_many_steps c s (d ∷ ds) steps h =
-    let first = parts (or_bad (step_place c s) (step_of d)) _ steps h in
-    let rest = parts (steps_from c (s + 1) ds) _ steps first.2 in
+as_many_steps : (plain : Bool) (c s : ℕ) (ds : List Data) (steps : List ScriptStep) → steps_from plain c s ds ≡ Ok steps → length steps ≡ length ds
+as_many_steps plain c s [] steps h = let none : [] ≡ steps = cc in rw (← none) refl
+as_many_steps plain c s (d ∷ ds) steps h =
+    let first = parts (or_bad (step_place c s) (step_of plain d)) _ steps h in
+    let rest = parts (steps_from plain c (s + 1) ds) _ steps first.2 in
     let all : first.0 ∷ rest.0 ≡ steps = cc rest.2 in
-    rw (← all) (ap suc (as_many_steps c (s + 1) ds rest.0 rest.1))
+    rw (← all) (ap suc (as_many_steps plain c (s + 1) ds rest.0 rest.1))
 
-as_many_clients : (c : ℕ) (programs : List (List Data)) (clients : List (List ScriptStep)) → clients_from c programs ≡ Ok clients → (length clients ≡ length programs) × (short clients ≡ short programs)
-as_many_clients c [] clients h = let none : [] ≡ clients = cc in rw (← none) (refl, refl)
-as_many_clients c (p ∷ ps) clients h =
-    let first = parts (steps_from c 0 p) _ clients h in
-    let rest = parts (clients_from (c + 1) ps) _ clients first.2 in
+as_many_clients : (plain : Bool) (c : ℕ) (programs : List (List Data)) (clients : List (List ScriptStep)) → clients_from plain c programs ≡ Ok clients → (length clients ≡ length programs) × (short clients ≡ short programs)
+as_many_clients plain c [] clients h = let none : [] ≡ clients = cc in rw (← none) (refl, refl)
+as_many_clients plain c (p ∷ ps) clients h =
+    let first = parts (steps_from plain c 0 p) _ clients h in
+    let rest = parts (clients_from plain (c + 1) ps) _ clients first.2 in
     let all : first.0 ∷ rest.0 ≡ clients = cc rest.2 in
-    let more = as_many_clients (c + 1) ps rest.0 rest.1 in
-    let one = as_many_steps c 0 p first.0 first.1 in
+    let more = as_many_clients plain (c + 1) ps rest.0 rest.1 in
+    let one = as_many_steps plain c 0 p first.0 first.1 in
     rw (← all) (ap suc more.0, rw (one, more.1) refl)
 
 -- the clients that are read
-pub within : (place : List ℕ) (o : Option (List Data)) (ds : List Data) (programs : List (List Data)) (clients : List (List ScriptStep)) → or_bad place (option_and_then (at_most 16) o) ≡ Ok ds
-    → programs_from 0 ds ≡ Ok programs → clients_from 0 programs ≡ Ok clients → IsTrue (within_limits clients)
-within place o ds programs clients listed read made =
+pub within : (plain : Bool) (place : List ℕ) (o : Option (List Data)) (ds : List Data) (programs : List (List Data)) (clients : List (List ScriptStep)) → or_bad place (option_and_then (at_most 16) o) ≡ Ok ds
+    → programs_from 0 ds ≡ Ok programs → clients_from plain 0 programs ≡ Ok clients → IsTrue (within_limits clients)
+within plain place o ds programs clients listed read made =
     let many = both o (at_most 16) ds (found place _ ds listed) in
     let few = kept 16 many.0 ds _ refl many.2 in
     let pieces = short_programs 0 ds programs read in
-    let whole = as_many_clients 0 programs clients made in
+    let whole = as_many_clients plain 0 programs clients made in
     rw (whole.0, pieces.0, few, whole.1, pieces.1) refl

@@ -1,27 +1,56 @@
 -- Worked examples: the steps of clients, and whole reports.
-use Rattle.std.specs.Prelude.{ℕ, List, [], ◌∷◌, ◌++◌, Result, Ok, Err, codes, decimal}
+use Rattle.std.specs.Prelude.{ℕ, zero, suc, ◌+◌, false, true, List, [], ◌∷◌, ◌++◌, None, Some, Result, Ok, Err, codes, decimal}
 use Prim.Native.String.{String}
 use Rattle.sal_types.specs.declared.value.Store.TheVariants.{Config}
-use Rattle.sal_types.specs.declared.value.Step.{Step}
+use Rattle.sal_types.specs.declared.value.Atom.TheVariants.{Text}
+use Rattle.sal_types.specs.declared.value.Cell.TheVariants.{Leaf}
+use Rattle.sal_types.specs.declared.value.Step.TheVariants.{Node}
+use Rattle.sal_types.specs.declared.row.Row.{Row}
+use Rattle.serde_json.specs.Data.{object, no_members}
+use Rattle.sal_schema.specs.declared.kind.Kind.TheVariants.{Container}
+use Rattle.sal_schema.specs.declared.table.NodeInfo.{NodeInfo}
+use Rattle.sal_schema.specs.declared.table.SchemaTable.{SchemaTable}
+use Rattle.sal_schema.specs.Examples.{node, leaf as leaf_node, text}
+use Rattle.sal_history.specs.declared.opening.Opening.{Opening}
 use Rattle.sal_rows.specs.declared.outcome.Mode.TheVariants.{Ro, Rw}
 use Rattle.sal_script.specs.declared.script.ScriptStep.{ScriptStep}
-use Rattle.sal_script.specs.declared.script.ScriptStep.TheVariants.{Begin, Put, Read, Submit, Settle}
-use Rattle.sal_script.specs.Plain.{leaf_path}
+use Rattle.sal_script.specs.declared.script.ScriptStep.TheVariants.{Begin, Put, Read, Exists, Submit, Settle}
+use Rattle.sal_script.specs.Script.{Parts}
+use Rattle.sal_script.specs.declared.script.TheConstants.{PLAIN}
 use Rattle.sal_script.specs.Play.{Played, play}
 use Rattle.sal_script.specs.Report.{report}
 
--- the leafs a and b
-abbrev pub a : List Step
-a = leaf_path 1
+-- a container `box` with the leafs `a` to `h`, texts
+abbrev pub leafs : ℕ → ℕ → List NodeInfo
+leafs zero letter = []
+leafs (suc more) letter = leaf_node (Some 0) 0 (letter ∷ []) 0 ∷ leafs more (letter + 1)
 
-abbrev pub b : List Step
-b = leaf_path 2
+abbrev pub table : SchemaTable
+table = record { nodes = node None (Container false) 0 (codes "box") ∷ leafs 8 97; types = text 0 100 ∷ []; modules = codes "plain" ∷ []; identities = [] }
+
+-- a world of one domain with these rows in its configuration
+abbrev pub world_of : List Row → List Opening
+world_of rows = record { config = rows; oper = [] } ∷ []
+
+-- a script over `plain` without openings
+abbrev pub plain_script : List (List ScriptStep) → List ℕ → Parts
+plain_script clients order = record { modules = PLAIN.now ∷ []; config = object no_members; operational = object no_members; clients = clients; order = order }
+
+-- the texts of the paths of the leafs a and b
+abbrev pub a : String
+a = "/plain:box/a"
+
+abbrev pub b : String
+b = "/plain:box/b"
 
 abbrev pub begin : ScriptStep
 begin = Begin 0 0 Rw
 
-abbrev pub put : List Step → String → ScriptStep
-put path text = Put 0 Config path (codes text)
+abbrev pub put : String → String → ScriptStep
+put path text = Put 0 Config (codes path) (codes text)
+
+abbrev pub read : ℕ → String → ScriptStep
+read slot path = Read slot Config (codes path)
 
 -- a client that begins, writes, submits and settles
 abbrev pub commits : ScriptStep → List ScriptStep
@@ -29,11 +58,11 @@ commits write = begin ∷ write ∷ Submit 0 ∷ Settle 0 ∷ []
 
 -- the report of a script in an order, or a text that names the index at which the order fails
 abbrev pub text_of : Result Played ℕ → List ℕ
-text_of (Ok played) = report played
+text_of (Ok played) = report table (world_of []) played
 text_of (Err index) = codes "bad order at " ++ decimal index
 
 abbrev pub run : List (List ScriptStep) → List ℕ → List ℕ
-run clients order = text_of (play clients order)
+run clients order = text_of (play table (world_of []) clients order)
 
 -- the order in which both clients begin before the first one submits
 abbrev pub crossed : List ℕ
@@ -42,8 +71,8 @@ crossed = 0 ∷ 1 ∷ 0 ∷ 0 ∷ 1 ∷ 1 ∷ []
 -- a client that reads its own write, which its older snapshot and a later one see otherwise
 abbrev pub own_writes : List ScriptStep
 own_writes =
-    Begin 0 0 Ro ∷ Begin 1 0 Rw ∷ Put 1 Config a (codes "x") ∷ Read 1 Config a ∷ Read 0 Config a ∷ Submit 1 ∷ Settle 1 ∷ Read 0 Config a ∷ Begin 0 0 Ro
-    ∷ Read 0 Config a ∷ []
+    Begin 0 0 Ro ∷ Begin 1 0 Rw ∷ Put 1 Config (codes a) (codes "x") ∷ read 1 a ∷ read 0 a ∷ Submit 1 ∷ Settle 1 ∷ read 0 a ∷ Begin 0 0 Ro
+    ∷ read 0 a ∷ []
 
 abbrev pub own_writes_report : String
 own_writes_report =
@@ -56,3 +85,22 @@ same_leaf_report =
 abbrev pub different_leafs_report : String
 different_leafs_report =
     "order 0 1 0 0 1 1\n0 0 begun 0\n0 1 ok\n0 2 receipt 1\n0 3 done 1\n1 0 begun 0\n1 1 ok\n1 2 receipt 2\n1 3 done 2\ntree 0 2 {\"plain:box\":{\"a\":\"x\",\"b\":\"y\"}} {}\n"
+
+-- a client that looks at a tree with an opening value, and at what is not there
+abbrev pub looks : List ScriptStep
+looks =
+    Begin 0 0 Ro ∷ read 0 "/" ∷ Exists 0 Config (codes "/plain:box") ∷ Exists 0 Config (codes b) ∷ read 0 "/plain:box/i" ∷ read 0 "plain" ∷ []
+
+abbrev pub looks_report : String
+looks_report =
+    "order 0\n0 0 begun 0\n0 1 data {\"plain:box\":{\"a\":\"o\"}}\n0 2 true\n0 3 false\n0 4 refused path unknown-node 11\n0 5 refused path bad-text 0\ntree 0 0 {\"plain:box\":{\"a\":\"o\"}} {}\n"
+
+abbrev pub opened : List Row
+opened = record { path = Node 0 ∷ Node 1 ∷ []; cell = Leaf (record { member = 0; atom = Text (codes "o") }) } ∷ []
+
+abbrev pub text_over : List Row → Result Played ℕ → List ℕ
+text_over rows (Ok played) = report table (world_of rows) played
+text_over rows (Err index) = codes "bad order at " ++ decimal index
+
+abbrev pub run_over : List Row → List (List ScriptStep) → List ℕ → List ℕ
+run_over rows clients order = text_over rows (play table (world_of rows) clients order)

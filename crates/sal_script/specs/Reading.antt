@@ -3,6 +3,7 @@ use Rattle.std.specs.Prelude.{◌≡◌, ℕ, List, Result, Ok, Err, MatchResult
 use Rattle.sal_script.specs.declared.fault.ScriptFault.{ScriptFault}
 use Rattle.sal_script.specs.declared.fault.ScriptFault.TheVariants.{BadScript, NoMemory}
 use Rattle.sal_script.specs.declared.script.Script.{Script}
+use Rattle.serde_json.specs.View.{view}
 use Rattle.sal_script.specs.Script.{Parts}
 
 -- the fault names the place, unless memory ran out
@@ -15,13 +16,13 @@ abbrev pub IsFaultOf : {Y : Type 0} → Result Y (List ℕ) → ScriptFault → 
 IsFaultOf read (BadScript place) = read ≡ Err place
 IsFaultOf read NoMemory = Unit {0}
 
--- what a reader returned, seen by view, is what is read; a fault is that which is read, unless memory ran out
+-- what a reader returned, as it is seen, is what is read; a fault is that which is read, unless memory ran out
 abbrev pub Reads : {X Y : Type 0} → (X → Y) → Result X ScriptFault → Result Y (List ℕ) → Type 0
-Reads view result read = MatchResult result (λ x. read ≡ Ok (view x)) (IsFaultOf read)
+Reads seen result read = MatchResult result (λ x. read ≡ Ok (seen x)) (IsFaultOf read)
 
 -- what a script has
 abbrev pub parts : Script → Parts
-parts script = record { modules = script.modules; clients = script.clients; order = script.order }
+parts script = record { modules = script.modules; config = view script.config; operational = view script.operational; clients = script.clients; order = script.order }
 
 -- the script that is read, or the first bad place, unless memory ran out
 abbrev pub ReadsScript : Result Script ScriptFault → Result Parts (List ℕ) → Type 0

@@ -1,24 +1,25 @@
 -- Which script bytes stand for, or the first bad place, looked for in the order of the lines below.
-use Rattle.std.specs.Prelude.{ℕ, Bool, ◌+◌, ◌^◌, List, [], ◌∷◌, ◌++◌, length, Option, None, Some, option_and_then, Result, Ok, Err, codes, decimal, if◌then◌else◌, nat_le}
+use Rattle.std.specs.Prelude.{ℕ, Bool, ◌+◌, ◌^◌, List, [], ◌∷◌, ◌++◌, length, Option, None, Some, option_and_then, is_none, Result, Ok, Err, codes, decimal, if◌then◌else◌, nat_le}
 use Rattle.std.specs.Option.{option_map}
 use Rattle.sal_types.specs.Reading.{◌>>=◌}
 use Rattle.sal_types.specs.declared.value.Store.{Store}
-use Rattle.sal_types.specs.declared.value.Store.TheVariants.{Config}
-use Rattle.sal_types.specs.declared.value.Step.{Step}
+use Rattle.sal_types.specs.declared.value.Store.TheVariants.{Config, Oper}
 use Rattle.sal_rows.specs.declared.outcome.Mode.{Mode}
 use Rattle.sal_rows.specs.declared.outcome.Mode.TheVariants.{Ro, Rw}
-use Rattle.serde_json.specs.Data.{Data, Members}
+use Rattle.serde_json.specs.Data.{Data, object, Members, no_members}
 use Rattle.serde_json.specs.Find.{as_str, as_object, get_member}
 use Rattle.sal_script.specs.declared.script.ScriptStep.{ScriptStep}
-use Rattle.sal_script.specs.declared.script.ScriptStep.TheVariants.{Begin, Put, Read, Submit, Settle}
+use Rattle.sal_script.specs.declared.script.ScriptStep.TheVariants.{Begin, Put, Read, Exists, Submit, Settle}
 use Rattle.sal_script.specs.declared.script.TheConstants.{PLAIN}
 use Rattle.sal_script.specs.Limits.{is_short}
 use Rattle.sal_script.specs.Json.{text_eq, list_of, all_named, whole_below, data_of}
-use Rattle.sal_script.specs.Plain.{path_of_text}
+use Rattle.sal_script.specs.Plain.{is_leaf_text}
 
 -- what a script has
 pub record Parts : Type 0 where
   pub modules : List (List ℕ)
+  pub config : Data
+  pub operational : Data
   pub clients : List (List ScriptStep)
   pub order : List ℕ
 
@@ -54,25 +55,34 @@ abbrev pub mode_of : Data → Option Mode
 mode_of d = option_and_then mode_named (as_str d)
 
 abbrev pub store_named : List ℕ → Option Store
-store_named name = if text_eq name (codes "config") then Some Config else None
+store_named name = if text_eq name (codes "config") then Some Config else (if text_eq name (codes "operational") then Some Oper else None)
 
 abbrev pub store_of : Data → Option Store
 store_of d = option_and_then store_named (as_str d)
-
-abbrev pub path_of : Data → Option (List Step)
-path_of d = option_and_then path_of_text (as_str d)
 
 abbrev pub begin_of : List Data → Option ScriptStep
 begin_of (t ∷ d ∷ o ∷ []) = option_and_then (λ slot. option_and_then (λ domain. option_map (Begin slot domain) (mode_of o)) (domain_of d)) (slot_of t)
 begin_of parts = None
 
+-- Until writes of every kind are there, a put is one of a text at a leaf of `plain`, in the configuration.
+abbrev pub config_of : Data → Option Store
+config_of d = option_and_then (λ name. if text_eq name (codes "config") then Some Config else None) (as_str d)
+
+abbrev pub leaf_of : Data → Option (List ℕ)
+leaf_of d = option_and_then (λ text. if is_leaf_text text then Some text else None) (as_str d)
+
 abbrev pub put_of : List Data → Option ScriptStep
-put_of (t ∷ s ∷ p ∷ v ∷ []) = option_and_then (λ slot. option_and_then (λ store. option_and_then (λ path. option_map (Put slot store path) (as_str v)) (path_of p)) (store_of s)) (slot_of t)
+put_of (t ∷ s ∷ p ∷ v ∷ []) = option_and_then (λ slot. option_and_then (λ store. option_and_then (λ path. option_map (Put slot store path) (as_str v)) (leaf_of p)) (config_of s)) (slot_of t)
 put_of parts = None
 
-abbrev pub read_of : List Data → Option ScriptStep
-read_of (t ∷ s ∷ p ∷ []) = option_and_then (λ slot. option_and_then (λ store. option_map (Read slot store) (path_of p)) (store_of s)) (slot_of t)
-read_of parts = None
+-- a step by its slot, its store and the text of its path
+abbrev pub Naming : Type 0
+Naming = ℕ → Store → List ℕ → ScriptStep
+
+-- a step that looks at a path
+abbrev pub look_of : Naming → List Data → Option ScriptStep
+look_of step (t ∷ s ∷ p ∷ []) = option_and_then (λ slot. option_and_then (λ store. option_map (step slot store) (as_str p)) (store_of s)) (slot_of t)
+look_of step parts = None
 
 abbrev pub submit_of : List Data → Option ScriptStep
 submit_of (t ∷ []) = option_map Submit (slot_of t)
@@ -82,22 +92,23 @@ abbrev pub settle_of : List Data → Option ScriptStep
 settle_of (t ∷ []) = option_map Settle (slot_of t)
 settle_of parts = None
 
--- the step with this word and these parts behind it
-abbrev pub step_named : List ℕ → List Data → Option ScriptStep
-step_named word parts =
+-- The step with this word and these parts behind it. A script that names modules has no puts yet.
+abbrev pub step_named : Bool → List ℕ → List Data → Option ScriptStep
+step_named plain word parts =
     if text_eq word (codes "begin") then begin_of parts
-    else (if text_eq word (codes "put") then put_of parts
-    else (if text_eq word (codes "read") then read_of parts
+    else (if text_eq word (codes "put") then (if plain then put_of parts else None)
+    else (if text_eq word (codes "read") then look_of Read parts
+    else (if text_eq word (codes "exists") then look_of Exists parts
     else (if text_eq word (codes "submit") then submit_of parts
-    else (if text_eq word (codes "settle") then settle_of parts else None))))
+    else (if text_eq word (codes "settle") then settle_of parts else None)))))
 
-abbrev pub step_from : List Data → Option ScriptStep
-step_from [] = None
-step_from (word ∷ parts) = option_and_then (λ name. step_named name parts) (as_str word)
+abbrev pub step_from : Bool → List Data → Option ScriptStep
+step_from plain [] = None
+step_from plain (word ∷ parts) = option_and_then (λ name. step_named plain name parts) (as_str word)
 
--- the step that an array stands for
-abbrev pub step_of : Data → Option ScriptStep
-step_of d = option_and_then step_from (list_of d)
+-- the step that an array stands for; whether the script is one over `plain` is told
+abbrev pub step_of : Bool → Data → Option ScriptStep
+step_of plain d = option_and_then (step_from plain) (list_of d)
 
 -- ---- members
 
@@ -123,14 +134,14 @@ programs_from c [] = Ok []
 programs_from c (d ∷ ds) = or_bad (client_place c) (program_of d) >>= (λ program. programs_from (c + 1) ds >>= (λ programs. Ok (program ∷ programs)))
 
 -- the steps of client c, from number s on
-abbrev pub steps_from : ℕ → ℕ → List Data → Result (List ScriptStep) (List ℕ)
-steps_from c s [] = Ok []
-steps_from c s (d ∷ ds) = or_bad (step_place c s) (step_of d) >>= (λ step. steps_from c (s + 1) ds >>= (λ steps. Ok (step ∷ steps)))
+abbrev pub steps_from : Bool → ℕ → ℕ → List Data → Result (List ScriptStep) (List ℕ)
+steps_from plain c s [] = Ok []
+steps_from plain c s (d ∷ ds) = or_bad (step_place c s) (step_of plain d) >>= (λ step. steps_from plain c (s + 1) ds >>= (λ steps. Ok (step ∷ steps)))
 
 -- the steps of the clients from number c on
-abbrev pub clients_from : ℕ → List (List Data) → Result (List (List ScriptStep)) (List ℕ)
-clients_from c [] = Ok []
-clients_from c (p ∷ ps) = steps_from c 0 p >>= (λ steps. clients_from (c + 1) ps >>= (λ clients. Ok (steps ∷ clients)))
+abbrev pub clients_from : Bool → ℕ → List (List Data) → Result (List (List ScriptStep)) (List ℕ)
+clients_from plain c [] = Ok []
+clients_from plain c (p ∷ ps) = steps_from plain c 0 p >>= (λ steps. clients_from plain (c + 1) ps >>= (λ clients. Ok (steps ∷ clients)))
 
 -- what each of these stands for, where each stands for something
 abbrev pub all_of : {A : Type 0} → (Data → Option A) → List Data → Option (List A)
@@ -153,23 +164,41 @@ modules_member ms = given (get_member (codes "modules") ms)
     given None = Some (PLAIN.now ∷ [])
     given (Some d) = option_and_then (all_of text_of) (list_of d)
 
+-- a script that names no modules is one over `plain`
+abbrev pub is_plain : Members → Bool
+is_plain ms = is_none (get_member (codes "modules") ms)
+
+-- an object
+abbrev pub if_object : Data → Option Data
+if_object d = option_map (λ ms. d) (as_object d)
+
+-- the data of an opening tree, an object; an absent one is empty
+abbrev pub opening_member : List ℕ → Members → Option Data
+opening_member name ms = given (get_member name ms)
+  where
+    given : Option Data → Option Data
+    given None = Some (object no_members)
+    given (Some d) = if_object d
+
 -- the members that a script may have
-abbrev pub names_of : Bool → List (List ℕ)
-names_of with_modules = if with_modules then codes "modules" ∷ codes "clients" ∷ codes "order" ∷ [] else codes "clients" ∷ codes "order" ∷ []
+abbrev pub names : List (List ℕ)
+names = codes "modules" ∷ codes "config" ∷ codes "operational" ∷ codes "clients" ∷ codes "order" ∷ []
 
 -- ---- the script
 
 abbrev pub parts_of : Members → Result Parts (List ℕ)
 parts_of ms =
     or_bad (codes "modules") (modules_member ms)
-    >>= (λ texts. or_bad (codes "clients") (option_and_then (at_most 16) (list_member (codes "clients") ms))
+    >>= (λ texts. or_bad (codes "config") (opening_member (codes "config") ms)
+    >>= (λ config. or_bad (codes "operational") (opening_member (codes "operational") ms)
+    >>= (λ operational. or_bad (codes "clients") (option_and_then (at_most 16) (list_member (codes "clients") ms))
     >>= (λ ds. programs_from 0 ds
-    >>= (λ programs. clients_from 0 programs
+    >>= (λ programs. clients_from (is_plain ms) 0 programs
     >>= (λ clients. or_bad (codes "order") (option_and_then numbers_of (list_member (codes "order") ms))
-    >>= (λ order. Ok (record { modules = texts; clients = clients; order = order }))))))
+    >>= (λ order. Ok (record { modules = texts; config = config; operational = operational; clients = clients; order = order }))))))))
 
--- the script that bytes stand for, or the first bad place; whether it may name modules is told
-abbrev pub script_of : Bool → List ℕ → Result Parts (List ℕ)
-script_of with_modules bytes =
+-- the script that bytes stand for, or the first bad place
+abbrev pub script_of : List ℕ → Result Parts (List ℕ)
+script_of bytes =
     or_bad (codes "json") (data_of bytes)
-    >>= (λ d. or_bad (codes "script") (members_of (names_of with_modules) d) >>= parts_of)
+    >>= (λ d. or_bad (codes "script") (members_of names d) >>= parts_of)

@@ -3,6 +3,7 @@
 //! | type or call | what it is |
 //! |---|---|
 //! | `Script`, `Program`, `ScriptStep` | a script; a client's steps; one step |
+//! | `StepReply`, `StepRefusal` | what a step is answered; why it made no call |
 //! | `read_script` | the script that bytes stand for, or the first bad place |
 //! | `ScriptFault` | why bytes are no script |
 //!
@@ -10,7 +11,7 @@
 //! `specs/Report` the text of that.
 //!
 //! ```
-//! let script = read_script(alloc, br#"{"clients":[{"steps":[["begin",0,0,"rw"]]}],"order":[0]}"#, false)?;
+//! let script = read_script(alloc, br#"{"clients":[{"steps":[["begin",0,0,"rw"]]}],"order":[0]}"#)?;
 //! ```
 //!
 //! Cost: linear in the bytes. Hostile input is refused by its place; nesting is bounded by the JSON reader.
@@ -19,6 +20,7 @@
 pub mod examples;
 pub mod fault;
 pub mod read;
+pub mod reply;
 pub mod script;
 mod step;
 #[cfg(test)]
@@ -27,4 +29,5 @@ mod values;
 
 pub use fault::ScriptFault;
 pub use read::read_script;
+pub use reply::{StepRefusal, StepReply};
 pub use script::{MAX_CLIENTS, MAX_PROGRAM, PLAIN, Program, Script, ScriptStep};

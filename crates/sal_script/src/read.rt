@@ -15,13 +15,13 @@ use sal_types::{Seq, Str};
 use serde_json::{Map, Value};
 use std::alloc::Global;
 
-/// The script that bytes stand for, or the first bad place: the bytes as JSON, the object's members, `modules`,
-/// `clients` and each client, the steps of each client, `order`. `with_modules` tells whether it may name modules.
-pub fn read_script(alloc: Global, bytes: &[u8], with_modules: bool) -> Result<Script, ScriptFault>
-    ensures { ReadsScript result (spec.script_of with_modules bytes.now) }
+/// The script that bytes stand for, or the first bad place: the bytes as JSON, the object's members, `modules`, `config`,
+/// `operational`, `clients` and each client, the steps of each client, `order`.
+pub fn read_script(alloc: Global, bytes: &[u8]) -> Result<Script, ScriptFault>
+    ensures { ReadsScript result (spec.script_of bytes.now) }
 {
     let value = value_of(alloc, bytes)?;
-    let members = script_members(alloc, &value, with_modules)?;
+    let members = script_members(alloc, &value)?;
     parts_of(alloc, members)
 }
 
@@ -39,28 +39,14 @@ fn value_of(alloc: Global, bytes: &[u8]) -> Result<Value, ScriptFault>
     }
 }
 
-// The members of the object that a script is.
-fn script_members<'v>(
-    alloc: Global,
-    value: &'v Value,
-    with_modules: bool,
-) -> Result<&'v Map<String, Value>, ScriptFault>
-    ensures { Reads (λ members. members_view members.now.entries) result (spec.or_bad (codes "script") (spec.members_of (spec.names_of with_modules) (view value.now))) }
+// The members of the object that a script is, where it has no others than it may.
+fn script_members(alloc: Global, value: &Value) -> Result<&Map<String, Value>, ScriptFault>
+    ensures { Reads (λ members. members_view members.now.entries) result (spec.or_bad (codes "script") (spec.members_of spec.names (view value.now))) }
 {
-    match listed_members(value, with_modules) {
+    let names = &["modules", "config", "operational", "clients", "order"];
+    match members_of(value, names) {
         Some(members) => Ok(members),
         None => Err(bad(alloc, "script")),
-    }
-}
-
-// The members of the object, where it has no others than it may.
-fn listed_members(value: &Value, with_modules: bool) -> Option<&Map<String, Value>>
-    ensures { option_map (λ members. members_view members.now.entries) result ≡ spec.members_of (spec.names_of with_modules) (view value.now) }
-{
-    if with_modules {
-        members_of(value, &["modules", "clients", "order"])
-    } else {
-        members_of(value, &["clients", "order"])
     }
 }
 
@@ -68,15 +54,35 @@ fn parts_of(alloc: Global, members: &Map<String, Value>) -> Result<Script, Scrip
     ensures { Reads parts result (spec.parts_of (members_view members.now.entries)) }
 {
     let modules = modules_of(alloc, members)?;
+    let config = opening_of(alloc, members, "config")?;
+    let operational = opening_of(alloc, members, "operational")?;
     let listed = listed_clients(alloc, members)?;
     let programs = programs_of(alloc, listed)?;
-    let clients = clients_of(alloc, &programs)?;
+    let plain = member(members, "modules").is_none();
+    let clients = clients_of(alloc, plain, &programs)?;
     let order = order_of(alloc, members)?;
     Ok(Script {
         modules: Seq::from_items(modules),
+        config,
+        operational,
         clients: Seq::from_items(clients),
         order: Seq::from_items(order),
     })
+}
+
+// The data of an opening tree, under the member of this name.
+fn opening_of(
+    alloc: Global,
+    members: &Map<String, Value>,
+    name: &str,
+) -> Result<Value, ScriptFault>
+    ensures { Reads view result (spec.or_bad name.now (spec.opening_member name.now (members_view members.now.entries))) }
+{
+    match member(members, name) {
+        None => Ok(Value::Object(Map::new(alloc))),
+        Some(value) if value.is_object() => Ok(value.clone()?),
+        Some(_) => Err(bad(alloc, name)),
+    }
 }
 
 // The texts of the modules.
@@ -177,24 +183,33 @@ fn program_of(value: &Value) -> Option<&[Value]>
 }
 
 // The steps of each client.
-fn clients_of(alloc: Global, programs: &[&[Value]]) -> Result<Vec<Program>, ScriptFault>
-    ensures { Reads (λ clients. clients.items) result (spec.clients_from 0 (map (λ program. map view program.now) programs.now)) }
+fn clients_of(
+    alloc: Global,
+    plain: bool,
+    programs: &[&[Value]],
+) -> Result<Vec<Program>, ScriptFault>
+    ensures { Reads (λ clients. clients.items) result (spec.clients_from plain 0 (map (λ program. map view program.now) programs.now)) }
 {
     let mut clients = Vec::new(alloc);
     for (client, program) in programs.iter().enumerate() {
-        let steps = steps_of(alloc, client, program)?;
+        let steps = steps_of(alloc, plain, client, program)?;
         clients.push(Seq::from_items(steps))?;
     }
     Ok(clients)
 }
 
 // The steps of one client.
-fn steps_of(alloc: Global, client: usize, program: &[Value]) -> Result<Vec<ScriptStep>, ScriptFault>
-    ensures { Reads (λ steps. steps.items) result (spec.steps_from client 0 (map view program.now)) }
+fn steps_of(
+    alloc: Global,
+    plain: bool,
+    client: usize,
+    program: &[Value],
+) -> Result<Vec<ScriptStep>, ScriptFault>
+    ensures { Reads (λ steps. steps.items) result (spec.steps_from plain client 0 (map view program.now)) }
 {
     let mut steps = Vec::new(alloc);
     for (number, value) in program.iter().enumerate() {
-        match step_of(alloc, value)? {
+        match step_of(alloc, plain, value)? {
             Some(step) => steps.push(step)?,
             None => return Err(bad_step(alloc, client, number)),
         }

@@ -3,7 +3,8 @@ ghost use Rattle.std.specs.Prelude.{IsTrue};
 ghost use Rattle.sal_script.specs.Limits.{are_short, within_limits};
 
 use sal_rows::Mode;
-use sal_types::{Path, Seq, Store, Str};
+use sal_types::{Seq, Store, Str};
+use serde_json::Value;
 
 /// How many clients a script has at most.
 pub const MAX_CLIENTS: usize = 16;
@@ -15,8 +16,9 @@ pub const MAX_PROGRAM: usize = 256;
 pub const PLAIN: &str =
     "module plain { namespace \"urn:plain\"; prefix p; container box {\n leaf a { type string; } leaf b { type string; } leaf c { type string; } leaf d { type string; }\n leaf e { type string; } leaf f { type string; } leaf g { type string; } leaf h { type string; } } }\n";
 
-/// One step of a client. Slots are the client's own places for transactions and for receipts, from 0 to 255.
-#[derive(Debug, Drop)]
+/// One step of a client. Slots are the client's own places for transactions and for receipts, from 0 to 255. Paths and values
+/// are read by the schema when the step is answered.
+#[derive(Drop)]
 pub enum ScriptStep {
     /// Begins a transaction of the domain into the slot.
     Begin {
@@ -24,18 +26,24 @@ pub enum ScriptStep {
         domain: u32,
         mode: Mode,
     },
-    /// Puts a text at the leaf, in the slot's transaction.
+    /// Puts the text at the path, in the slot's transaction.
     Put {
         slot: u8,
         store: Store,
-        path: Path,
+        path: Str,
         text: Str,
     },
     /// Reads what the slot's transaction sees at the path.
     Read {
         slot: u8,
         store: Store,
-        path: Path,
+        path: Str,
+    },
+    /// Asks whether the slot's transaction sees something at the path or below it.
+    Exists {
+        slot: u8,
+        store: Store,
+        path: Str,
     },
     /// Submits the slot's transaction; its receipt goes into the receipt slot of the same number.
     Submit {
@@ -50,11 +58,13 @@ pub enum ScriptStep {
 /// The steps of a client, in order.
 pub type Program = Seq<ScriptStep>;
 
-/// A script: the texts of its modules, each shorter than 4 GiB, at most 16 clients with at most 256 steps each, and the
-/// order of their shared calls.
-#[derive(Debug, Drop)]
+/// A script: the texts of its modules, each shorter than 4 GiB, the data of its opening trees, at most 16 clients with at most
+/// 256 steps each, and the order of their shared calls.
+#[derive(Drop)]
 pub struct Script {
     pub modules: Seq<Str>,
+    pub config: Value,
+    pub operational: Value,
     pub clients: Seq<Program>,
     pub order: Seq<u32>,
     ghost short: { IsTrue (are_short modules) },

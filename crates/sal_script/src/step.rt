@@ -1,46 +1,61 @@
 //! The steps of a client, from JSON arrays.
-ghost use Rattle.std.specs.Prelude.{◌≡◌, IfOk, MatchOption, Some, None, map};
+ghost use Rattle.std.specs.Prelude.{◌≡◌, ℕ, List, IfOk, MatchOption, Some, None, map, option_map};
 ghost use Rattle.serde_json.specs.View.{view};
-ghost use Rattle.sal_script.specs.Plain.{leaf_path, path_of_text};
+ghost use Rattle.sal_script.specs.Plain.{is_leaf_text};
+ghost use Rattle.sal_script.specs.Script.{Naming};
 ghost use Rattle.sal_script.specs.Script as spec;
 
 use crate::script::ScriptStep;
 use crate::values::{list_of, whole_below};
 use sal_rows::Mode;
-use sal_types::{NoMemory, Path, Step, Store, Str};
+use sal_types::{NoMemory, Store, Str};
 use serde_json::Value;
 use std::alloc::Global;
 
-/// The step that a JSON array stands for.
-pub(crate) fn step_of(alloc: Global, value: &Value) -> Result<Option<ScriptStep>, NoMemory>
-    ensures { IfOk result (λ found. found ≡ spec.step_of (view value.now)) }
+/// The step that a JSON array stands for; whether the script is one over `plain` is told.
+pub(crate) fn step_of(
+    alloc: Global,
+    plain: bool,
+    value: &Value,
+) -> Result<Option<ScriptStep>, NoMemory>
+    ensures { IfOk result (λ found. found ≡ spec.step_of plain (view value.now)) }
 {
     match list_of(value) {
-        Some(parts) => step_from(alloc, parts),
+        Some(parts) => step_from(alloc, plain, parts),
         None => Ok(None),
     }
 }
 
-fn step_from(alloc: Global, parts: &[Value]) -> Result<Option<ScriptStep>, NoMemory>
-    ensures { IfOk result (λ found. found ≡ spec.step_from (map view parts.now)) }
+fn step_from(
+    alloc: Global,
+    plain: bool,
+    parts: &[Value],
+) -> Result<Option<ScriptStep>, NoMemory>
+    ensures { IfOk result (λ found. found ≡ spec.step_from plain (map view parts.now)) }
 {
     let [word, parts @ ..] = parts else {
         return Ok(None);
     };
     match word.as_str() {
-        Some(name) => step_named(alloc, name, parts),
+        Some(name) => step_named(alloc, plain, name, parts),
         None => Ok(None),
     }
 }
 
 // The step with this word and these parts behind it.
-fn step_named(alloc: Global, word: &str, parts: &[Value]) -> Result<Option<ScriptStep>, NoMemory>
-    ensures { IfOk result (λ found. found ≡ spec.step_named word.now (map view parts.now)) }
+fn step_named(
+    alloc: Global,
+    plain: bool,
+    word: &str,
+    parts: &[Value],
+) -> Result<Option<ScriptStep>, NoMemory>
+    ensures { IfOk result (λ found. found ≡ spec.step_named plain word.now (map view parts.now)) }
 {
     match word {
         "begin" => Ok(begin_of(parts)),
-        "put" => put_of(alloc, parts),
+        "put" if plain => put_of(alloc, parts),
         "read" => read_of(alloc, parts),
+        "exists" => exists_of(alloc, parts),
         "submit" => Ok(submit_of(parts)),
         "settle" => Ok(settle_of(parts)),
         _ => Ok(None),
@@ -62,18 +77,16 @@ fn begin_of(parts: &[Value]) -> Option<ScriptStep>
 fn put_of(alloc: Global, parts: &[Value]) -> Result<Option<ScriptStep>, NoMemory>
     ensures { IfOk result (λ found. found ≡ spec.put_of (map view parts.now)) }
 {
-    let [slot, store, path, text] = parts else {
+    let [slot, store, path, value] = parts else {
         return Ok(None);
     };
-    let (Some(slot), Some(store)) = (slot_of(slot), store_of(store)) else {
+    let (Some(slot), Some(store)) = (slot_of(slot), config_of(store)) else {
         return Ok(None);
     };
-    let Some(path) = path_of(alloc, path)? else {
+    let (Some(path), Some(text)) = (leaf_of(path), value.as_str()) else {
         return Ok(None);
     };
-    let Some(text) = text.as_str() else {
-        return Ok(None);
-    };
+    let path = Str::new(alloc, path)?;
     let text = Str::new(alloc, text)?;
     Ok(Some(ScriptStep::Put {
         slot,
@@ -83,19 +96,37 @@ fn put_of(alloc: Global, parts: &[Value]) -> Result<Option<ScriptStep>, NoMemory
     }))
 }
 
-fn read_of(alloc: Global, parts: &[Value]) -> Result<Option<ScriptStep>, NoMemory>
-    ensures { IfOk result (λ found. found ≡ spec.read_of (map view parts.now)) }
+// The slot, the store and the text of a path.
+fn look_of(parts: &[Value]) -> Option<(u8, Store, &str)>
+    ensures { MatchOption result ((step : Naming) → spec.look_of step (map view parts.now) ≡ None) (λ look. (step : Naming) → spec.look_of step (map view parts.now) ≡ Some (step look.0 look.1 look.2.now)) }
 {
     let [slot, store, path] = parts else {
+        return None;
+    };
+    let slot = slot_of(slot)?;
+    let store = store_of(store)?;
+    let path = path.as_str()?;
+    Some((slot, store, path))
+}
+
+fn read_of(alloc: Global, parts: &[Value]) -> Result<Option<ScriptStep>, NoMemory>
+    ensures { IfOk result (λ found. found ≡ spec.look_of ScriptStep.Read (map view parts.now)) }
+{
+    let Some((slot, store, text)) = look_of(parts) else {
         return Ok(None);
     };
-    let (Some(slot), Some(store)) = (slot_of(slot), store_of(store)) else {
-        return Ok(None);
-    };
-    let Some(path) = path_of(alloc, path)? else {
-        return Ok(None);
-    };
+    let path = Str::new(alloc, text)?;
     Ok(Some(ScriptStep::Read { slot, store, path }))
+}
+
+fn exists_of(alloc: Global, parts: &[Value]) -> Result<Option<ScriptStep>, NoMemory>
+    ensures { IfOk result (λ found. found ≡ spec.look_of ScriptStep.Exists (map view parts.now)) }
+{
+    let Some((slot, store, text)) = look_of(parts) else {
+        return Ok(None);
+    };
+    let path = Str::new(alloc, text)?;
+    Ok(Some(ScriptStep::Exists { slot, store, path }))
 }
 
 fn submit_of(parts: &[Value]) -> Option<ScriptStep>
@@ -151,44 +182,40 @@ fn store_of(value: &Value) -> Option<Store>
 {
     match value.as_str()? {
         "config" => Some(Store::Config),
+        "operational" => Some(Store::Oper),
         _ => None,
     }
 }
 
-fn path_of(alloc: Global, value: &Value) -> Result<Option<Path>, NoMemory>
-    ensures { IfOk result (λ found. found ≡ spec.path_of (view value.now)) }
+// The configuration, which alone takes puts yet.
+fn config_of(value: &Value) -> Option<Store>
+    ensures { result ≡ spec.config_of (view value.now) }
 {
-    let Some(text) = value.as_str() else {
-        return Ok(None);
-    };
-    match leaf_of(text) {
-        Some(leaf) => Ok(Some(leaf_path(alloc, leaf)?)),
-        None => Ok(None),
-    }
-}
-
-// The number of the leaf whose path has this text.
-fn leaf_of(text: &str) -> Option<u32>
-    ensures { MatchOption result (path_of_text text.now ≡ None) (λ leaf. path_of_text text.now ≡ Some (leaf_path leaf)) }
-{
-    match text {
-        "/plain:box/a" => Some(1),
-        "/plain:box/b" => Some(2),
-        "/plain:box/c" => Some(3),
-        "/plain:box/d" => Some(4),
-        "/plain:box/e" => Some(5),
-        "/plain:box/f" => Some(6),
-        "/plain:box/g" => Some(7),
-        "/plain:box/h" => Some(8),
+    match value.as_str()? {
+        "config" => Some(Store::Config),
         _ => None,
     }
 }
 
-fn leaf_path(alloc: Global, leaf: u32) -> Result<Path, NoMemory>
-    ensures { IfOk result (λ path. path ≡ leaf_path leaf) }
+// The text of the path of a leaf of `plain`.
+fn leaf_of(value: &Value) -> Option<&str>
+    ensures { option_map (λ text. text.now) result ≡ spec.leaf_of (view value.now) }
 {
-    let mut path = Path::root(alloc);
-    path.push(Step::Node(0)).map_err(|_| NoMemory)?;
-    path.push(Step::Node(leaf)).map_err(|_| NoMemory)?;
-    Ok(path)
+    match value.as_str() {
+        Some(text) if is_leaf_text(text) => Some(text),
+        _ => None,
+    }
+}
+
+fn is_leaf_text(text: &str) -> bool
+    ensures { result ≡ is_leaf_text text.now }
+{
+    text == "/plain:box/a"
+        || text == "/plain:box/b"
+        || text == "/plain:box/c"
+        || text == "/plain:box/d"
+        || text == "/plain:box/e"
+        || text == "/plain:box/f"
+        || text == "/plain:box/g"
+        || text == "/plain:box/h"
 }

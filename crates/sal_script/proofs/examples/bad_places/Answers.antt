@@ -14,9 +14,9 @@ pub returns-clause-script : goal.returns-clause-script
 unfolding serde_json_on_literals utf8_valid_len is_utf8 chars
 returns-clause-script c = refl
 
-pub returns-clause-no_modules : goal.returns-clause-no_modules
+pub returns-clause-unknown : goal.returns-clause-unknown
 unfolding serde_json_on_literals utf8_valid_len is_utf8 chars
-returns-clause-no_modules c = refl
+returns-clause-unknown c = refl
 
 pub returns-clause-modules : goal.returns-clause-modules
 unfolding serde_json_on_literals utf8_valid_len is_utf8 chars
@@ -25,3 +25,7 @@ returns-clause-modules c = refl
 pub returns-clause-step : goal.returns-clause-step
 unfolding digits serde_json_on_literals utf8_valid_len is_utf8 chars
 returns-clause-step c = refl
+
+pub returns-clause-config : goal.returns-clause-config
+unfolding serde_json_on_literals utf8_valid_len is_utf8 chars
+returns-clause-config c = refl

@@ -10,17 +10,17 @@ returns-in-None c =
     let place = step_place c.args.client l.number in
     let fails = ap (or_bad place) (sym c.in_ok-step.ensures ∙ c.in-None.is) in
     fault_at place _ _ c.bad_step.ensures
-    (steps_from-each c.args.client 0 c.args.program.now
-    ∙ each_fails (step_at c.args.client) l.steps.items l.number c.args.program.now _ c.index-program-number.result place c.loop-number-test.true c.index-program-number.is fails l.invariant)
+    (steps_from-each c.args.plain c.args.client 0 c.args.program.now
+    ∙ each_fails (step_at c.args.plain c.args.client) l.steps.items l.number c.args.program.now _ c.index-program-number.result place c.loop-number-test.true c.index-program-number.is fails l.invariant)
 
 pub loop-number-preserved : goal.loop-number-preserved
 loop-number-preserved c =
     let l = c.loop-number in
     let read = ap (or_bad (step_place c.args.client l.number)) (sym c.in_ok-step.ensures ∙ c.in-Some.is) in
     rw c.in_ok-push-in-Some.ensures.items
-    (each_next (step_at c.args.client) l.steps.items l.number c.args.program.now _ c.index-program-number.result c.in-Some.step c.loop-number-test.true c.index-program-number.is read l.invariant)
+    (each_next (step_at c.args.plain c.args.client) l.steps.items l.number c.args.program.now _ c.index-program-number.result c.in-Some.step c.loop-number-test.true c.index-program-number.is read l.invariant)
 
 pub returns : goal.returns
 returns c =
     let l = c.loop-number in
-    steps_from-each c.args.client 0 c.args.program.now ∙ each_done (step_at c.args.client) l.steps.items l.number c.args.program.now _ c.loop-number-test.false l.invariant
+    steps_from-each c.args.plain c.args.client 0 c.args.program.now ∙ each_done (step_at c.args.plain c.args.client) l.steps.items l.number c.args.program.now _ c.loop-number-test.false l.invariant

@@ -4,4 +4,4 @@ use Rattle.sal_script.proofs.Readers.{step_at}
 use Rattle.sal_script.proofs.read.steps_of.Given as goal
 
 abbrev pub invariant-loop-number : goal.invariant-loop-number
-invariant-loop-number l = before l.steps.items (each_from (step_at l.client) l.number (drop l.number l.program)) ≡ each_from (step_at l.client) 0 l.program
+invariant-loop-number l = before l.steps.items (each_from (step_at l.plain l.client) l.number (drop l.number l.program)) ≡ each_from (step_at l.plain l.client) 0 l.program

@@ -128,16 +128,16 @@ module _ (table : SchemaTable) where
 
   module _ (whole : Text) where
     -- a predicate, from behind each of its parts
-    abbrev from_value : Text → ℕ → Value → Result (Given × Text) PathTextFault
+    abbrev pub from_value : Text → ℕ → Value → Result (Given × Text) PathTextFault
     from_value rest leaf value = closed whole rest >>= λ end. Ok (record { leaf = leaf; value = value }, end)
 
-    abbrev from_said : ℕ → ℕ → List ℕ × Text → Result (Given × Text) PathTextFault
+    abbrev pub from_said : ℕ → ℕ → List ℕ × Text → Result (Given × Text) PathTextFault
     from_said at leaf spoken = taken at (value_of table leaf spoken.0) >>= from_value spoken.1 leaf
 
-    abbrev from_leaf : ℕ → Text → ℕ → Result (Given × Text) PathTextFault
+    abbrev pub from_leaf : ℕ → Text → ℕ → Result (Given × Text) PathTextFault
     from_leaf at after leaf = said whole after >>= from_said at leaf
 
-    abbrev from_subject : ℕ → List Given → Option ℕ × Text → Result (Given × Text) PathTextFault
+    abbrev pub from_subject : ℕ → List Given → Option ℕ × Text → Result (Given × Text) PathTextFault
     from_subject at given one = found (BadPredicate at) (not_given given one.0) >>= from_leaf at one.1
 
     predicate_right : (n : ℕ) (given : List Given) (t : Text) (p : Given × Text) → predicate table whole n given t ≡ Ok p → is_right p.0 ≡ true

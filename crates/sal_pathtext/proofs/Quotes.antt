@@ -28,7 +28,7 @@ with_front-nil (Err e) = refl
 pub stands_at : (q : ℕ) (t : Text) → before q t < length t → get_or t (before q t) 0 ≡ q
 stands_at q t low = let stop = prefix_len_stops (is_other q) t 0 low in grind (arith, nat_tests)
 
-single-cons : (whole : Text) (c : ℕ) (t : Text) → single whole (c ∷ t) ≡ (
+pub single-cons : (whole : Text) (c : ℕ) (t : Text) → single whole (c ∷ t) ≡ (
     if not (c == 39) then with_front (c ∷ []) (single whole t)
     else if first t == 39 then with_front (39 ∷ []) (single whole (drop 1 t))
     else Ok ([], t)

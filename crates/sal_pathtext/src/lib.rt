@@ -32,6 +32,7 @@ mod examples;
 mod fault;
 mod given;
 mod here;
+mod laws;
 mod nodes;
 mod read;
 mod reader;
@@ -41,5 +42,6 @@ mod words;
 mod write;
 
 pub use fault::PathTextFault;
+pub use laws::{read_paths_read_again, written_paths_read};
 pub use read::read_path;
 pub use write::write_path;

@@ -1,12 +1,11 @@
 -- What is read from a text of bytes is bytes.
-use Rattle.std.proofs.Common.{◌≡◌, ℕ, zero, suc, ◌+◌, ◌<◌, Bool, true, false, not, ◌==◌, List, [], ◌∷◌, ◌++◌, take, drop, Option, Some, None, Result, Ok, if◌then◌else◌, refl, subst, arith}
+use Rattle.std.proofs.Common.{◌≡◌, ℕ, zero, suc, ◌+◌, ◌<◌, true, false, not, ◌==◌, [], ◌∷◌, take, drop, Some, None, Ok, if◌then◌else◌, subst, arith}
 use Rattle.std.specs.Prelude.{⊤}
 use Rattle.std.specs.List.{list_any, prefix_len, position_or_len, before_first, after_first}
 use Rattle.base64.specs.GeneralPurpose.{IsBytes}
 use Rattle.sal_types.specs.Reading.{◌>>=◌, with_front}
 use Rattle.sal_schema.specs.Valid.{starts_identifier}
 use Rattle.sal_json.proofs.Chosen.{same_ok}
-use Rattle.sal_pathtext.specs.declared.fault.PathTextFault.{PathTextFault}
 use Rattle.sal_pathtext.specs.declared.fault.PathTextFault.TheVariants.{BadText}
 use Rattle.sal_pathtext.specs.Words.{Text, Name, first, is_blank, after_blanks, word_len, is_double_quote, place, bad_text, expected, identifier, name, single, double, quoted, said, closed}
 use Rattle.sal_pathtext.proofs.Fitting.{bind_ok}

@@ -1,9 +1,8 @@
 -- A path that was read is one of data, and each of its values is readable.
-use Rattle.std.proofs.Common.{◌≡◌, ℕ, zero, suc, ◌+◌, ◌≤◌, Bool, true, false, not, ◌&&◌, ◌==◌, IsTrue, List, [], ◌∷◌, ◌++◌, length, drop, Option, Some, None, Result, Ok, Err, if◌then◌else◌, refl, sym, ap, subst, ◌∙◌, arith}
-use Rattle.std.specs.Prelude.{⊤, option_map, option_and_then, find}
-use Rattle.std.specs.List.{list_any, prefix_len}
+use Rattle.std.proofs.Common.{◌≡◌, ℕ, zero, suc, ◌≤◌, Bool, true, false, not, ◌==◌, List, [], ◌∷◌, ◌++◌, length, drop, Option, Some, None, Ok, Err, if◌then◌else◌, refl, sym, ap, subst, ◌∙◌, arith}
+use Rattle.std.specs.Prelude.{⊤, option_map, find}
+use Rattle.std.specs.List.{prefix_len}
 use Rattle.std.specs.Option.{option_map_or}
-use Rattle.std.proofs.lemmas.Bool.{true≢false}
 use Rattle.std.proofs.lemmas.Bool.Decides.{nat_tests}
 use Rattle.std.proofs.lemmas.Option.{option_and_then_some}
 use Rattle.sal_types.specs.declared.value.Value.{Value}
@@ -11,6 +10,7 @@ use Rattle.sal_types.specs.declared.value.Step.{Step}
 use Rattle.sal_types.specs.declared.value.Step.TheVariants.{Node, Key, Item}
 use Rattle.sal_types.specs.Reading.{◌>>=◌}
 use Rattle.sal_schema.specs.declared.kind.Kind.{Kind}
+use Rattle.sal_schema.specs.declared.kind.Kind.TheVariants.{Container, List as ListKind, LeafList, Leaf}
 use Rattle.sal_schema.specs.declared.table.SchemaTable.{SchemaTable}
 use Rattle.sal_schema.specs.Kinds.{is_data, is_leaf_list, is_message}
 use Rattle.sal_schema.specs.Table.{is_kind, is_same, kind_of, keys_of, type_of, module_of, data_parent, is_data_child}
@@ -21,13 +21,12 @@ use Rattle.sal_json.specs.Read.{text_scalar_of}
 use Rattle.sal_json.specs.Written.{text_of}
 use Rattle.sal_json.proofs.Chosen.{from_some, same_ok}
 use Rattle.sal_json.proofs.ReadBack.{key_reads_back}
-use Rattle.sal_pathtext.specs.declared.fault.PathTextFault.{PathTextFault}
 use Rattle.sal_pathtext.specs.declared.fault.PathTextFault.TheVariants.{BadText, BadPredicate, UnknownNode}
 use Rattle.sal_pathtext.specs.declared.given.Given.{Given}
 use Rattle.sal_pathtext.specs.declared.here.Here.{Here}
-use Rattle.sal_pathtext.specs.Laws.{IsReadable, AreReadable, IsReadableStep, AreReadableSteps, begins_with_data, IsDataPath, ReadIsData, ReadIsReadable, ReadsAgain}
-use Rattle.sal_pathtext.specs.Words.{Text, Name, first, is_blank, is_empty, after_blanks, place, bad_text, name, said, closed}
-use Rattle.sal_pathtext.specs.Nodes.{is_for, value_given, with_value, values_given, not_given, meant, dot_meant, key_meant, entry_given, value_of, value_text}
+use Rattle.sal_pathtext.specs.Laws.{IsReadable, AreReadable, IsReadableStep, AreReadableSteps, begins_with_data, ReadIsData, ReadIsReadable, ReadsAgain}
+use Rattle.sal_pathtext.specs.Words.{Text, first, is_blank, is_empty, after_blanks, place, bad_text, name, said, closed}
+use Rattle.sal_pathtext.specs.Nodes.{is_for, value_given, with_value, values_given, not_given, meant, dot_meant, key_meant, entry_given, value_of}
 use Rattle.sal_pathtext.specs.Read.{top, taken, found, subject, predicate, predicates, lacks_keys, behind_name, behind_entry, named, entered, step, one_more, steps, read_path}
 use Rattle.sal_pathtext.specs.Written.{behind}
 use Rattle.sal_pathtext.proofs.Children.{meant-is}
@@ -207,7 +206,11 @@ module _ (table : SchemaTable) (good : IsTable table) where
     data_is_no_message (Some k) e = by k e
       where
         by : (k : Kind) → is_data k ≡ true → not (is_message k) ≡ true
-        by k e = ?
+        by (Container presence) e = refl
+        by ListKind e = refl
+        by LeafList e = refl
+        by Leaf e = refl
+        by k e = cc
 
     -- a node that was named at the top is one for data
     named_begins : (here : Here) (t : Text) (p : Taken) (path : List Step) → named table whole here t ≡ Ok p → starts table here.node (p.0 ∷ path) ≡ true
@@ -225,6 +228,33 @@ module _ (table : SchemaTable) (good : IsTable table) where
         by : (o : Option ℕ) (n : ℕ) → is_data_child table o n ≡ true → starts table o (Node n ∷ path) ≡ true
         by None n child = data_is_no_message (kind_of table n) (and_first (is_kind is_data table n) (is_same (data_parent table n) None) child)
         by (Some m) n child = refl
+
+    -- what the first step at the top tells
+    abbrev Begins : Here → List Step → Type 0
+    Begins here path = starts table here.node path ≡ true
+
+    step_begins : (here : Here) (t : Text) (p : Taken) (path : List Step) → (first t == 91) ≡ false → step table whole here t ≡ Ok p → Begins here (p.0 ∷ path)
+    step_begins here t p path slash e =
+        let e1 : (if first t == 47 then named table whole here (drop 1 t) else bad_text whole t) ≡ Ok p =
+        sym (ap (λ b. if b then entered table whole here t else if first t == 47 then named table whole here (drop 1 t) else bad_text whole t) slash) ∙ e in
+        elim (first t == 47) as (λ b. (if b then named table whole here (drop 1 t) else bad_text whole t) ≡ Ok p → Begins here (p.0 ∷ path)) [
+          | true ↦ λ e2. named_begins here (drop 1 t) p path e2
+          | false ↦ λ e2. never (BadText (place whole t)) p e2
+        ] e1
+
+    steps_begin : (room : ℕ) (here : Here) (t : Text) (path : List Step) → (first t == 91) ≡ false → steps table whole (suc room) here t ≡ Ok path → Begins here path
+    unfolding steps
+    steps_begin room here t path slash e =
+        elim (is_empty t) as (λ b. (if b then Ok [] else (step table whole here t >>= from_step table good whole room)) ≡ Ok path → Begins here path) [
+          | true ↦ λ e1. subst (Begins here) (same_ok [] path e1) (none here.node)
+          | false ↦ λ e1. bind_ok (step table whole here t) (from_step table good whole room) path e1 (λ p read e2.
+              bind_ok (steps table whole room p.1 p.2) (λ others. Ok (p.0 ∷ others)) path e2 (λ others more e3.
+              subst (Begins here) (same_ok (p.0 ∷ others) path e3) (step_begins here t p others slash read)))
+        ] e
+      where
+        none : (o : Option ℕ) → starts table o [] ≡ true
+        none None = refl
+        none (Some n) = refl
 
     steps-short : (room : ℕ) (here : Here) (t : Text) (path : List Step) → steps table whole room here t ≡ Ok path → length path ≤ room
     unfolding steps
@@ -244,11 +274,35 @@ module _ (table : SchemaTable) (good : IsTable table) where
 
 -- ---- whole paths
 
+module _ (table : SchemaTable) (whole : Text) where
+  -- the root, or steps from the top
+  by_steps : {P : Type 0} (path : List Step) → read_path table whole ≡ Ok path → ([] ≡ path → P) → (first whole ≡ 47 → steps table whole 32 top whole ≡ Ok path → P) → P
+  unfolding read_path
+  by_steps {P = P} path e root some =
+      elim (first whole == 47) as (λ b. (first whole == 47) ≡ b → (if b then (if length whole == 1 then Ok [] else steps table whole 32 top whole) else Err (BadText 0)) ≡ Ok path → P) [
+        | true ↦ λ slash e1. elim (length whole == 1) as (λ b. (if b then Ok [] else steps table whole 32 top whole) ≡ Ok path → P) [
+          | true ↦ λ e2. root (same_ok [] path e2)
+          | false ↦ λ e2. some (is_slash slash) e2
+        ] e1
+        | false ↦ λ slash e1. never (BadText 0) path e1
+      ] refl e
+    where
+      is_slash : (first whole == 47) ≡ true → first whole ≡ 47
+      is_slash e = grind (arith, nat_tests)
+
 pub read-is_data : ReadIsData
-read-is_data table good text path e = record { fits = read_fits table text path good e; of_data = ?; short = ? }
+read-is_data table good text path e = record {
+  fits = read_fits table text path good e;
+  of_data = by_steps table text path e (λ root. subst (λ p. begins_with_data table p ≡ true) root refl) (λ slash some. steps_begin table good text 31 top text path (no_bracket text slash) some);
+  short = by_steps table text path e (λ root. subst (λ (p : List Step). length p ≤ 32) root (omega arith)) (λ slash some. steps-short table good text 32 top text path some);
+}
+  where
+    no_bracket : (t : Text) → first t ≡ 47 → (first t == 91) ≡ false
+    no_bracket t e = rw e refl
 
 pub read-is_readable : ReadIsReadable
-read-is_readable table good text path is e = ?
+read-is_readable table good text path is e =
+    by_steps table text path e (λ root. subst (λ p. AreReadableSteps table None p) root tt) (λ slash some. steps_read table good text 32 top text path (bytes-from text is) some)
 
 pub reads-again : ReadsAgain
 reads-again table good text path is e = written-reads table good path (read-is_data table good text path e) (read-is_readable table good text path is e)

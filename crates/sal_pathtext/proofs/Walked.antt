@@ -140,7 +140,7 @@ module _ (table : SchemaTable) (good : IsTable table) where
 
     -- ---- steps
 
-    full : {P : Type 0} (here : Here) (t : Text) (path : List Step) → one_more table whole here t ≡ Ok path → P
+    pub full : {P : Type 0} (here : Here) (t : Text) (path : List Step) → one_more table whole here t ≡ Ok path → P
     unfolding one_more
     full {P = P} here t path e =
         elim (first t == 91 && here.wants_entry) as (λ b. (if b then one_entry_more table whole here t else (step table whole here t >>= λ past. Err TooDeep)) ≡ Ok path → P) [

@@ -1,7 +1,7 @@
 -- The predicates of an entry read back, and give the values of its keys.
-use Rattle.std.proofs.Common.{◌≡◌, ℕ, zero, suc, ◌+◌, ◌-◌, ◌<◌, ◌≤◌, Bool, true, false, not, ◌&&◌, ◌==◌, IsTrue, List, [], ◌∷◌, ◌++◌, length, drop, get_or, Option, Some, None, Result, Ok, if◌then◌else◌, refl, sym, ap, subst, ◌∙◌, arith, append_assoc, append-nil}
-use Rattle.std.specs.Prelude.{◌||◌, nat_eq, option_map, option_and_then, ⊤}
-use Rattle.std.specs.List.{list_all, list_any, slice_get}
+use Rattle.std.proofs.Common.{◌≡◌, ℕ, zero, suc, ◌-◌, ◌<◌, ◌≤◌, Bool, true, false, not, ◌&&◌, ◌==◌, IsTrue, List, [], ◌∷◌, ◌++◌, length, drop, Option, Some, None, Ok, if◌then◌else◌, refl, sym, ap, subst, ◌∙◌, arith, append_assoc, append-nil}
+use Rattle.std.specs.Prelude.{nat_eq, option_map, option_and_then, ⊤}
+use Rattle.std.specs.List.{list_all, list_any}
 use Rattle.std.specs.Option.{option_map_or}
 use Rattle.std.proofs.lemmas.Bool.{and_from, or_from, or_left, or_right, not-true}
 use Rattle.std.proofs.lemmas.Bool.Decides.{nat_tests}
@@ -18,16 +18,16 @@ use Rattle.sal_schema.specs.Valid.{IsTable, all_differ, has_its_keys, agree, is_
 use Rattle.sal_schema.proofs.Conjuncts.{and_first, and_second, or_first, or_second}
 use Rattle.sal_schema.proofs.Facts.{slice_get_some, slice_get_there, is_there, closest-Some}
 use Rattle.sal_schema.proofs.Numbered.{all_from-at}
-use Rattle.sal_pathtext.specs.declared.fault.PathTextFault.{PathTextFault}
 use Rattle.sal_pathtext.specs.declared.fault.PathTextFault.TheVariants.{BadPredicate}
 use Rattle.sal_pathtext.specs.declared.given.Given.{Given}
 use Rattle.sal_pathtext.specs.Laws.{IsReadable, AreReadable}
-use Rattle.sal_pathtext.specs.Words.{Text, first, is_blank, after_blanks, place, name}
-use Rattle.sal_pathtext.specs.Nodes.{is_for, value_given, with_value, values_given, not_given, if_key, key_meant, meant, value_text}
+use Rattle.sal_pathtext.specs.Words.{Text, first, is_blank, place, name}
+use Rattle.sal_pathtext.specs.Nodes.{is_for, value_given, with_value, values_given, if_key, key_meant, value_text}
 use Rattle.sal_pathtext.specs.Read.{taken, found, subject, predicate, predicates}
 use Rattle.sal_pathtext.specs.Written.{name_text, said_text, key_text, item_text, keys_text}
+use Rattle.sal_pathtext.proofs.Children.{same-itself}
 use Rattle.sal_pathtext.proofs.Fitting.{from_value, from_said, from_leaf, from_subject}
-use Rattle.sal_pathtext.proofs.WrittenNames.{IsEnd, is_same-is, not_blank, not_dot, spelled, name-again, name-starts, meant-again}
+use Rattle.sal_pathtext.proofs.WrittenNames.{IsEnd, is_same-is, not_blank, not_dot, name-again, name-starts, meant-again}
 use Rattle.sal_pathtext.proofs.WrittenQuotes.{no_blanks, said-again}
 
 -- ---- the values of keys
@@ -132,18 +132,12 @@ module _ (table : SchemaTable) where
     abbrev is_key : ℕ → Bool
     is_key leaf = is_kind is_leaf table leaf && is_same (parent_of table leaf) (Some n)
 
-    same-itself : (o p : Option ℕ) → o ≡ p → is_same o p ≡ true
-    same-itself None None e = refl
-    same-itself None (Some q) e = cc
-    same-itself (Some m) None e = cc
-    same-itself (Some m) (Some q) e = let same : m ≡ q = cc in grind (arith, nat_tests)
-
     key_is_child : (leaf : ℕ) → is_key leaf ≡ true → is_data_child table (Some n) leaf ≡ true
     key_is_child leaf e =
         let kind = leaf_is_data (kind_of table leaf) (and_first (is_kind is_leaf table leaf) (is_same (parent_of table leaf) (Some n)) e) in
         let above = is_same-is (parent_of table leaf) (Some n) (and_second (is_kind is_leaf table leaf) (is_same (parent_of table leaf) (Some n)) e) in
         and_from (is_kind is_data table leaf) (is_same (data_parent table leaf) (Some n)) kind
-        (same-itself (data_parent table leaf) (Some n) (ap (data_node table) above ∙ under_list))
+        (ap (λ o. is_same o (Some n)) (ap (data_node table) above ∙ under_list) ∙ same-itself (Some n))
 
     keys_are : (leafs : List ℕ) → IsTrue (list_all is_key leafs) → AreAmong (keys_of table n) leafs → AreKeys n leafs
     keys_are [] all among = tt

@@ -1,5 +1,5 @@
 -- A name that is written reads back, and means its node.
-use Rattle.std.proofs.Common.{◌≡◌, ℕ, zero, suc, ◌+◌, ◌<◌, Bool, true, false, nat_lt, ◌&&◌, ◌==◌, IsTrue, List, [], ◌∷◌, ◌++◌, length, take, drop, get_or, Option, Some, None, Ok, if◌then◌else◌, refl, sym, ap, subst, ◌∙◌, inl, inr, arith, append_assoc}
+use Rattle.std.proofs.Common.{◌≡◌, ℕ, zero, suc, ◌+◌, ◌<◌, Bool, true, false, ◌==◌, IsTrue, List, [], ◌∷◌, ◌++◌, length, take, drop, get_or, Option, Some, None, Ok, if◌then◌else◌, refl, sym, ap, subst, ◌∙◌, inl, inr, arith, append_assoc}
 use Rattle.std.specs.Prelude.{Contains, option_and_then, option_map}
 use Rattle.std.specs.List.{list_all, slice_get}
 use Rattle.std.specs.Option.{option_map_or}
@@ -14,8 +14,8 @@ use Rattle.sal_schema.specs.declared.table.NodeInfo.{NodeInfo}
 use Rattle.sal_schema.specs.declared.table.SchemaTable.{SchemaTable}
 use Rattle.sal_schema.specs.Kinds.{is_data}
 use Rattle.sal_schema.specs.Names.{name_cmp-IsTotalOrder, is_called, lookup, are_distinct, module_at, module_names, data_at, data_names, named, name_of_parts, module_called, child_of}
-use Rattle.sal_schema.specs.Table.{each_from, data_node, data_parent, is_data_child, is_kind, is_same, module_of, module_name, name_of, node_at, parent_of}
-use Rattle.sal_schema.specs.Valid.{IsTable, has_numbers, is_identifier, starts_identifier, goes_on, text_eq}
+use Rattle.sal_schema.specs.Table.{each_from, data_node, data_parent, is_data_child, is_kind, is_same, module_name, name_of}
+use Rattle.sal_schema.specs.Valid.{IsTable, is_identifier, starts_identifier, goes_on, text_eq}
 use Rattle.sal_schema.proofs.Conjuncts.{and_first, and_second}
 use Rattle.sal_schema.proofs.Facts.{slice_get_some, slice_get_there, slice_get_at, is_there, numbers_at, module_is_there}
 use Rattle.sal_schema.proofs.Numbered.{list_all-at}

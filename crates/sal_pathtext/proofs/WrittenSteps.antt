@@ -1,5 +1,5 @@
 -- The text that is written for a path reads as this path.
-use Rattle.std.proofs.Common.{◌≡◌, ℕ, zero, suc, ◌+◌, ◌-◌, ◌<◌, ◌≤◌, Bool, true, false, not, ◌&&◌, ◌==◌, IsTrue, List, [], ◌∷◌, ◌++◌, length, drop, Option, Some, None, Result, Ok, Err, if◌then◌else◌, refl, sym, ap, subst, ◌∙◌, arith, append_assoc, length-append}
+use Rattle.std.proofs.Common.{◌≡◌, ℕ, zero, suc, ◌+◌, ◌-◌, ◌<◌, ◌≤◌, Bool, true, false, not, ◌&&◌, ◌==◌, List, [], ◌∷◌, ◌++◌, length, drop, Option, Some, None, Ok, Err, if◌then◌else◌, refl, sym, ap, subst, ◌∙◌, arith, append_assoc, length-append}
 use Rattle.std.specs.Prelude.{◌||◌, IfSome, option_map}
 use Rattle.std.specs.Option.{option_map_or}
 use Rattle.std.proofs.lemmas.Bool.{true≢false, not-true}
@@ -12,24 +12,23 @@ use Rattle.sal_schema.specs.declared.kind.Kind.{Kind}
 use Rattle.sal_schema.specs.declared.kind.Kind.TheVariants.{List as ListKind}
 use Rattle.sal_schema.specs.declared.table.SchemaTable.{SchemaTable}
 use Rattle.sal_schema.specs.Kinds.{is_list, is_leaf_list, is_message}
-use Rattle.sal_schema.specs.Paths.{may_follow, are_of_nodes, may_pick, step_fits, after_step, fits_from, fits_path}
+use Rattle.sal_schema.specs.Paths.{may_follow, are_of_nodes, may_pick, step_fits, after_step, fits_from}
 use Rattle.sal_schema.specs.Table.{is_kind, kind_of, keys_of, name_of, is_data_child}
 use Rattle.sal_schema.specs.Valid.{IsTable}
 use Rattle.sal_schema.specs.Values.{is_of_node}
 use Rattle.sal_schema.proofs.Conjuncts.{and_first, and_second}
-use Rattle.sal_pathtext.specs.declared.fault.PathTextFault.{PathTextFault}
 use Rattle.sal_pathtext.specs.declared.fault.PathTextFault.TheVariants.{BadPredicate, UnknownNode, BadText}
 use Rattle.sal_pathtext.specs.declared.given.Given.{Given}
 use Rattle.sal_pathtext.specs.declared.here.Here.{Here}
-use Rattle.sal_pathtext.specs.Laws.{IsReadable, AreReadable, IsReadableStep, AreReadableSteps, IsReadablePath, begins_with_data, IsDataPath, WrittenReads, WrittenApart}
-use Rattle.sal_pathtext.specs.Words.{Text, Name, first, place, name}
-use Rattle.sal_pathtext.specs.Nodes.{own_module, value_given, values_given, entry_given, meant, value_text}
+use Rattle.sal_pathtext.specs.Laws.{IsReadable, AreReadable, IsReadableStep, AreReadableSteps, begins_with_data, WrittenReads, WrittenApart}
+use Rattle.sal_pathtext.specs.Words.{Text, first, place}
+use Rattle.sal_pathtext.specs.Nodes.{own_module, value_given, values_given, entry_given, meant}
 use Rattle.sal_pathtext.specs.Read.{top, found, predicates, lacks_keys, behind_name, behind_entry, named, entered, step, steps, read_path}
-use Rattle.sal_pathtext.specs.Written.{in_quotes, name_text, said_text, item_text, keys_text, entry_text, step_text, steps_text, behind, written}
+use Rattle.sal_pathtext.specs.Written.{name_text, said_text, item_text, keys_text, step_text, steps_text, behind, written}
 use Rattle.sal_pathtext.proofs.Steps.{steps-end, steps_at}
 use Rattle.sal_pathtext.proofs.Walked.{from_node, from_name, from_given, from_owner}
 use Rattle.sal_pathtext.proofs.WrittenNames.{IsEnd, name-again, meant-again, spelled}
-use Rattle.sal_pathtext.proofs.WrittenEntries.{givens, HasKeys, list_has_keys, free-nil, values_found, item-again, keys-again}
+use Rattle.sal_pathtext.proofs.WrittenEntries.{givens, list_has_keys, free-nil, values_found, item-again, keys-again}
 use Rattle.sal_json.proofs.Chosen.{same_ok}
 
 module _ (table : SchemaTable) where

@@ -45,7 +45,7 @@ abbrev pub begins_with_data : SchemaTable → List Step → Bool
 begins_with_data table (Node n ∷ steps) = not (is_kind is_message table n)
 begins_with_data table path = true
 
--- the path of data: it fits the schema, and has no more steps than a path may have
+-- a path of data: it fits the schema, is not inside a message, and has no more steps than a path may have
 pub record IsDataPath (table : SchemaTable) (path : List Step) : Type 0 where
   pub fits : fits_path table path ≡ true
   pub of_data : begins_with_data table path ≡ true
@@ -65,17 +65,17 @@ WrittenApart =
     (table : SchemaTable) → IsTable table → (path other : List Step) → IsDataPath table path → IsDataPath table other
     → IsReadablePath table path → IsReadablePath table other → written table path ≡ written table other → path ≡ other
 
--- A path that was read from a text of bytes is a path of data.
+-- A path that was read is a path of data.
 abbrev pub ReadIsData : Type 0
 ReadIsData = (table : SchemaTable) → IsTable table → (text : List ℕ) (path : List Step) → read_path table text ≡ Ok path → IsDataPath table path
 
--- All values of a path that was read from a text of bytes are readable.
+-- All values of a path that was read from a text of bytes are readable: what is written for each reads as it.
 abbrev pub ReadIsReadable : Type 0
 ReadIsReadable =
     (table : SchemaTable) → IsTable table → (text : List ℕ) (path : List Step) → IsBytes text → read_path table text ≡ Ok path
     → IsReadablePath table path
 
--- What was read from a text of bytes, written and read again is the same path.
+-- What was read from a text of bytes, then written and read again, is the same path.
 abbrev pub ReadsAgain : Type 0
 ReadsAgain =
     (table : SchemaTable) → IsTable table → (text : List ℕ) (path : List Step) → IsBytes text → read_path table text ≡ Ok path

@@ -1,10 +1,10 @@
 //! Laws of the definitions. A call does nothing: its clauses are the laws.
 ghost use Rattle.sal_pathtext.specs.Laws.{WrittenReads, WrittenApart, ReadIsData, ReadIsReadable, ReadsAgain};
 
-/// The text of a path stands for it.
+/// A path that was written reads as this path, and two paths with one text are one.
 ///
-/// Each path of data that fits the schema, has at most 32 steps, and has values whose texts read as them is what its text is
-/// read as. So two such paths with one text are one path.
+/// Of each path that fits the schema, is not inside a message, and has at most 32 steps, where the text of each of its values
+/// reads as that value. That of a value of a union does not where an earlier member of the union reads it as its own.
 pub fn written_paths_read()
     ensures path { WrittenReads }
     ensures apart { WrittenApart }
@@ -12,7 +12,8 @@ pub fn written_paths_read()
 
 /// What was read, written and read again is the same path.
 ///
-/// A path that was read from a text is one of data, and its values are readable.
+/// For a path that was read fits the schema, is not inside a message, and has at most 32 steps, and the text of each of its
+/// values reads as that value.
 pub fn read_paths_read_again()
     ensures of_data { ReadIsData }
     ensures readable { ReadIsReadable }

@@ -49,9 +49,10 @@ free-nil (leaf ∷ leafs) = (refl, free-nil leafs)
 free-push : (given : List Given) (one : Given) (leafs : List ℕ) → AreFree given leafs → list_any (nat_eq one.leaf) leafs ≡ false → AreFree (given ++ one ∷ []) leafs
 free-push given one [] free other = tt
 free-push given one (leaf ∷ leafs) free other =
-    let here : (one.leaf == leaf) ≡ false = or_first (nat_eq one.leaf leaf) (list_any (nat_eq one.leaf) leafs) other in
-    (list_any-append (is_for leaf) given (one ∷ []) ∙ or_from (list_any (is_for leaf) given) (list_any (is_for leaf) (one ∷ [])) free.0 (or_from (one.leaf == leaf) false here refl),
-     free-push given one leafs free.1 (or_second (nat_eq one.leaf leaf) (list_any (nat_eq one.leaf) leafs) other))
+    let here : (one.leaf == leaf) ≡ false = or_first (nat_eq one.leaf leaf) (list_any (nat_eq one.leaf) leafs) other in (
+      list_any-append (is_for leaf) given (one ∷ []) ∙ or_from (list_any (is_for leaf) given) (list_any (is_for leaf) (one ∷ [])) free.0 (or_from (one.leaf == leaf) false here refl),
+      free-push given one leafs free.1 (or_second (nat_eq one.leaf leaf) (list_any (nat_eq one.leaf) leafs) other),
+    )
 
 itself : (n : ℕ) → (n == n) ≡ true
 itself n = grind (arith, nat_tests)

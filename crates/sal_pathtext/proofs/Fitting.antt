@@ -1,22 +1,21 @@
 -- What is read fits the schema.
-use Rattle.std.proofs.Common.{◌≡◌, ℕ, zero, suc, ◌-◌, Bool, true, false, not, ◌&&◌, ◌||◌, ◌==◌, List, [], ◌∷◌, ◌++◌, length, drop, Option, Some, None, Result, Ok, Err, if◌then◌else◌, refl, sym, ap, ◌∙◌, arith}
+use Rattle.std.proofs.Common.{◌≡◌, ℕ, zero, suc, Bool, true, false, ◌&&◌, ◌==◌, List, [], ◌∷◌, ◌++◌, drop, Option, Some, None, Result, Ok, Err, if◌then◌else◌, refl, sym, ap, ◌∙◌, arith}
 use Rattle.std.specs.Prelude.{option_map, option_and_then, find}
 use Rattle.std.specs.List.{list_all, list_any, slice_get}
 use Rattle.std.specs.Option.{option_map_or}
-use Rattle.std.proofs.lemmas.Bool.{true≢false, and_from, not-true}
+use Rattle.std.proofs.lemmas.Bool.{and_from}
 use Rattle.std.proofs.lemmas.Bool.Decides.{nat_tests}
 use Rattle.std.proofs.lemmas.Option.{option_and_then_some}
 use Rattle.sal_types.specs.declared.value.Value.{Value}
 use Rattle.sal_types.specs.declared.value.Step.{Step}
-use Rattle.sal_types.specs.declared.value.Step.TheVariants.{Node, Key, Item}
+use Rattle.sal_types.specs.declared.value.Step.TheVariants.{Key, Item}
 use Rattle.sal_types.specs.Reading.{◌>>=◌}
 use Rattle.sal_schema.specs.declared.kind.Kind.{Kind}
 use Rattle.sal_schema.specs.declared.kind.Kind.TheVariants.{List as ListKind, LeafList}
 use Rattle.sal_schema.specs.declared.table.SchemaTable.{SchemaTable}
-use Rattle.sal_schema.specs.Kinds.{is_list, is_leaf_list, has_entries, has_type, is_message}
-use Rattle.sal_schema.specs.Paths.{may_follow, are_of_nodes, may_pick, step_fits, after_step, fits_from, fits_path}
-use Rattle.sal_schema.specs.Table.{is_kind, kind_of, keys_of, type_of, module_of, is_data_child}
-use Rattle.sal_schema.specs.Valid.{IsTable}
+use Rattle.sal_schema.specs.Kinds.{is_list, is_leaf_list, has_entries}
+use Rattle.sal_schema.specs.Paths.{are_of_nodes, may_pick}
+use Rattle.sal_schema.specs.Table.{is_kind, kind_of, keys_of, type_of, module_of}
 use Rattle.sal_schema.specs.Values.{is_of_node, is_of_type}
 use Rattle.sal_json.specs.declared.fault.ScalarFault.{ScalarFault}
 use Rattle.sal_json.specs.declared.fault.ScalarFault.TheVariants.{WrongKind}
@@ -24,13 +23,12 @@ use Rattle.sal_json.specs.Read.{text_scalar_of}
 use Rattle.sal_json.proofs.OfType.{key_of_type}
 use Rattle.sal_json.proofs.Chosen.{from_some, same_ok}
 use Rattle.sal_pathtext.specs.declared.fault.PathTextFault.{PathTextFault}
-use Rattle.sal_pathtext.specs.declared.fault.PathTextFault.TheVariants.{BadPredicate, UnknownNode}
+use Rattle.sal_pathtext.specs.declared.fault.PathTextFault.TheVariants.{BadPredicate}
 use Rattle.sal_pathtext.specs.declared.given.Given.{Given}
 use Rattle.sal_pathtext.specs.declared.here.Here.{Here}
-use Rattle.sal_pathtext.specs.Words.{Text, Name, first, is_empty, place, after_blanks, name, said, closed}
-use Rattle.sal_pathtext.specs.Nodes.{is_for, value_given, with_value, values_given, not_given, meant, dot_meant, key_meant, entry_given, value_of}
-use Rattle.sal_pathtext.specs.Read.{top, taken, found, subject, predicate, predicates, lacks_keys, behind_name, behind_entry, named, entered, step, one_more, one_entry_more, steps, read_path}
-use Rattle.sal_pathtext.proofs.Children.{meant-is, no_child}
+use Rattle.sal_pathtext.specs.Words.{Text, first, place, after_blanks, said, closed}
+use Rattle.sal_pathtext.specs.Nodes.{is_for, value_given, with_value, values_given, not_given, entry_given, value_of}
+use Rattle.sal_pathtext.specs.Read.{taken, found, subject, predicate, predicates}
 
 -- ---- readers
 
@@ -46,7 +44,7 @@ pub found_ok : {X : Type 0} (fault : PathTextFault) (o : Option X) (x : X) → f
 found_ok fault None x e = cc
 found_ok fault (Some y) x e = ap Some (same_ok y x e)
 
-taken_ok : (at : ℕ) (r : Result Value ScalarFault) (value : Value) → taken at r ≡ Ok value → r ≡ Ok value
+pub taken_ok : (at : ℕ) (r : Result Value ScalarFault) (value : Value) → taken at r ≡ Ok value → r ≡ Ok value
 taken_ok at (Ok v) value e = ap Ok (same_ok v value e)
 taken_ok at (Err fault) value e = cc
 
@@ -60,13 +58,13 @@ right : (a b : Bool) → (a && b) ≡ true → b ≡ true
 right true b e = e
 right false b e = cc
 
-some_value : (x y : Value) → Some x ≡ Some y → x ≡ y
+pub some_value : (x y : Value) → Some x ≡ Some y → x ≡ y
 some_value x y e = cc
 
-some_step : (x y : Step) → Some x ≡ Some y → x ≡ y
+pub some_step : (x y : Step) → Some x ≡ Some y → x ≡ y
 some_step x y e = cc
 
-some_list : (x y : List Value) → Some x ≡ Some y → x ≡ y
+pub some_list : (x y : List Value) → Some x ≡ Some y → x ≡ y
 some_list x y e = cc
 
 -- ---- values
@@ -128,16 +126,16 @@ module _ (table : SchemaTable) where
 
   module _ (whole : Text) where
     -- a predicate, from behind each of its parts
-    abbrev from_value : Text → ℕ → Value → Result (Given × Text) PathTextFault
+    abbrev pub from_value : Text → ℕ → Value → Result (Given × Text) PathTextFault
     from_value rest leaf value = closed whole rest >>= λ end. Ok (record { leaf = leaf; value = value }, end)
 
-    abbrev from_said : ℕ → ℕ → List ℕ × Text → Result (Given × Text) PathTextFault
+    abbrev pub from_said : ℕ → ℕ → List ℕ × Text → Result (Given × Text) PathTextFault
     from_said at leaf spoken = taken at (value_of table leaf spoken.0) >>= from_value spoken.1 leaf
 
-    abbrev from_leaf : ℕ → Text → ℕ → Result (Given × Text) PathTextFault
+    abbrev pub from_leaf : ℕ → Text → ℕ → Result (Given × Text) PathTextFault
     from_leaf at after leaf = said whole after >>= from_said at leaf
 
-    abbrev from_subject : ℕ → List Given → Option ℕ × Text → Result (Given × Text) PathTextFault
+    abbrev pub from_subject : ℕ → List Given → Option ℕ × Text → Result (Given × Text) PathTextFault
     from_subject at given one = found (BadPredicate at) (not_given given one.0) >>= from_leaf at one.1
 
     predicate_right : (n : ℕ) (given : List Given) (t : Text) (p : Given × Text) → predicate table whole n given t ≡ Ok p → is_right p.0 ≡ true

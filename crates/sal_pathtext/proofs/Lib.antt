@@ -2,7 +2,13 @@ pub mod Children
 pub mod Entries
 pub mod Fitting
 pub mod Quotes
+pub mod ReadBytes
+pub mod ReadPaths
 pub mod Runs
 pub mod Steps
 pub mod Texts
 pub mod Walked
+pub mod WrittenEntries
+pub mod WrittenNames
+pub mod WrittenQuotes
+pub mod WrittenSteps

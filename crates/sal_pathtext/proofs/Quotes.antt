@@ -1,11 +1,11 @@
 -- Texts in quotes, from one quote to the next.
-use Rattle.std.proofs.Common.{◌≡◌, ℕ, zero, suc, ◌+◌, ◌-◌, ◌<◌, ◌≤◌, Bool, true, false, not, ◌==◌, List, [], ◌∷◌, ◌++◌, length, take, drop, get_or, Ok, Err, if◌then◌else◌, refl, sym, ap, ◌∙◌, inl, inr, arith, append_assoc, append-nil}
-use Rattle.std.proofs.lemmas.Bool.{cases_Bool, cases_lt}
+use Rattle.std.proofs.Common.{◌≡◌, ℕ, suc, ◌+◌, ◌<◌, ◌≤◌, Bool, true, false, not, ◌==◌, List, [], ◌∷◌, ◌++◌, length, take, drop, get_or, Ok, Err, if◌then◌else◌, refl, sym, ap, ◌∙◌, inl, inr, arith, append_assoc, append-nil}
+use Rattle.std.proofs.lemmas.Bool.{cases_Bool}
 use Rattle.std.proofs.lemmas.Bool.Decides.{nat_tests}
 use Rattle.std.proofs.lemmas.List.{drop_more, drop-drop}
 use Rattle.std.proofs.lemmas.List.Sums.{prefix_len_stops}
 use Rattle.std.specs.List.{list_any, prefix_len}
-use Rattle.sal_types.specs.Reading.{◌>>=◌, with_front}
+use Rattle.sal_types.specs.Reading.{with_front}
 use Rattle.sal_pathtext.specs.Written.{doubled}
 use Rattle.sal_pathtext.specs.Words.{Text, Read, first, is_double_quote, bad_text, single}
 
@@ -28,7 +28,7 @@ with_front-nil (Err e) = refl
 pub stands_at : (q : ℕ) (t : Text) → before q t < length t → get_or t (before q t) 0 ≡ q
 stands_at q t low = let stop = prefix_len_stops (is_other q) t 0 low in grind (arith, nat_tests)
 
-single-cons : (whole : Text) (c : ℕ) (t : Text) → single whole (c ∷ t) ≡ (
+pub single-cons : (whole : Text) (c : ℕ) (t : Text) → single whole (c ∷ t) ≡ (
     if not (c == 39) then with_front (c ∷ []) (single whole t)
     else if first t == 39 then with_front (39 ∷ []) (single whole (drop 1 t))
     else Ok ([], t)

@@ -1,5 +1,5 @@
 -- Texts of keys.
-use Rattle.std.proofs.Common.{◌≡◌, ℕ, ◌≤◌, List, [], ◌∷◌, length, drop, refl, ap, ◌∙◌}
+use Rattle.std.proofs.Common.{◌≡◌, ℕ, ◌≤◌, List, [], ◌∷◌, length, drop, refl, ap}
 use Rattle.std.proofs.lemmas.List.{drop_all}
 use Rattle.sal_types.specs.declared.value.Value.{Value}
 use Rattle.sal_schema.specs.declared.table.SchemaTable.{SchemaTable}

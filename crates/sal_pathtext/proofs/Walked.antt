@@ -28,7 +28,7 @@ abbrev pub Taken : Type 0
 Taken = Step × Here × Text
 
 -- a fault is no answer
-never : {X P : Type 0} (fault : PathTextFault) (x : X) → ◌≡◌ {A = Result X PathTextFault} (Err fault) (Ok x) → P
+pub never : {X P : Type 0} (fault : PathTextFault) (x : X) → ◌≡◌ {A = Result X PathTextFault} (Err fault) (Ok x) → P
 never fault x e = cc
 
 bind_never : {X Y P : Type 0} (r : Result X PathTextFault) (fault : PathTextFault) (y : Y) → (r >>= λ x. Err fault) ≡ Ok y → P
@@ -83,10 +83,10 @@ module _ (table : SchemaTable) (good : IsTable table) where
       (and_from here.wants_entry (option_map_or (λ k. may_pick table k (Item value)) here.node false) wants (ap (λ o. option_map_or (λ k. may_pick table k (Item value)) o false) owner ∙ picks), refl)
 
   module _ (whole : Text) where
-    abbrev from_node : ℕ → Text → ℕ → Result (Step × Here × Text) PathTextFault
+    abbrev pub from_node : ℕ → Text → ℕ → Result (Step × Here × Text) PathTextFault
     from_node at after n = Ok (Node n, behind_name table n at, after)
 
-    abbrev from_name : Here → ℕ → Name × Text → Result (Step × Here × Text) PathTextFault
+    abbrev pub from_name : Here → ℕ → Name × Text → Result (Step × Here × Text) PathTextFault
     from_name here at called = if lacks_keys table here then Err (BadPredicate here.name_at) else (found (UnknownNode at) (meant table here.node called.0) >>= from_node at called.1)
 
     named_fits : (here : Here) (t : Text) (p : Taken) → IsSound table here → named table whole here t ≡ Ok p → Fits here p
@@ -102,10 +102,10 @@ module _ (table : SchemaTable) (good : IsTable table) where
             let child = meant-is table here.node called.0 n (found_ok (UnknownNode (place whole t)) (meant table here.node called.0) n there) in
             subst (Fits here) (same_ok (Node n, behind_name table n (place whole t), called.1) p e1) (name_fits here n (place whole t) called.1 sound lacks child))
 
-    abbrev from_given : Here → ℕ → List Given × Text → Result (Step × Here × Text) PathTextFault
+    abbrev pub from_given : Here → ℕ → List Given × Text → Result (Step × Here × Text) PathTextFault
     from_given here n read = found (BadPredicate here.name_at) (entry_given table n read.0) >>= λ one. Ok (one, behind_entry here, read.1)
 
-    abbrev from_owner : Here → Text → ℕ → Result (Step × Here × Text) PathTextFault
+    abbrev pub from_owner : Here → Text → ℕ → Result (Step × Here × Text) PathTextFault
     from_owner here t n = predicates table whole (length t) n [] t >>= from_given here n
 
     entered_fits : (here : Here) (t : Text) (p : Taken) → IsSound table here → entered table whole here t ≡ Ok p → Fits here p
@@ -140,7 +140,7 @@ module _ (table : SchemaTable) (good : IsTable table) where
 
     -- ---- steps
 
-    full : {P : Type 0} (here : Here) (t : Text) (path : List Step) → one_more table whole here t ≡ Ok path → P
+    pub full : {P : Type 0} (here : Here) (t : Text) (path : List Step) → one_more table whole here t ≡ Ok path → P
     unfolding one_more
     full {P = P} here t path e =
         elim (first t == 91 && here.wants_entry) as (λ b. (if b then one_entry_more table whole here t else (step table whole here t >>= λ past. Err TooDeep)) ≡ Ok path → P) [
@@ -148,7 +148,7 @@ module _ (table : SchemaTable) (good : IsTable table) where
           | false ↦ λ e1. bind_never (step table whole here t) TooDeep path e1
         ] e
 
-    abbrev from_step : ℕ → Taken → Result (List Step) PathTextFault
+    abbrev pub from_step : ℕ → Taken → Result (List Step) PathTextFault
     from_step room p = steps table whole room p.1 p.2 >>= λ others. Ok (p.0 ∷ others)
 
     steps_fit : (room : ℕ) (here : Here) (t : Text) (path : List Step) → IsSound table here → steps table whole room here t ≡ Ok path

@@ -1,5 +1,5 @@
 -- A schema and words for the examples.
-use Rattle.std.specs.Prelude.{ℕ, zero, suc, ◌+◌, true, false, List as Row, [], ◌∷◌, ◌++◌, Option, Some, None, Result, codes}
+use Rattle.std.specs.Prelude.{ℕ, zero, suc, true, false, List as Row, [], ◌∷◌, ◌++◌, Option, Some, None, Result, codes}
 use Prim.Native.String.{String}
 use Rattle.sal_types.specs.declared.value.Atom.{Atom}
 use Rattle.sal_types.specs.declared.value.Atom.TheVariants.{Text, Unsigned}
@@ -9,7 +9,7 @@ use Rattle.sal_types.specs.declared.value.Step.TheVariants.{Node, Key}
 use Rattle.sal_schema.specs.declared.kind.Kind.TheVariants.{Container, LeafList}
 use Rattle.sal_schema.specs.declared.table.NodeInfo.{NodeInfo}
 use Rattle.sal_schema.specs.declared.table.SchemaTable.{SchemaTable}
-use Rattle.sal_schema.specs.Examples.{info, topology, topology_nodes, topology_types}
+use Rattle.sal_schema.specs.Examples.{info, topology_nodes, topology_types}
 use Rattle.sal_pathtext.specs.declared.fault.PathTextFault.{PathTextFault}
 use Rattle.sal_pathtext.specs.Read.{read_path}
 use Rattle.sal_pathtext.specs.Written.{written}

@@ -2,4 +2,5 @@ pub mod Words
 pub mod Nodes
 pub mod Read
 pub mod Written
+pub mod Laws
 pub mod Examples

@@ -5,6 +5,7 @@
 //! | `read_path` | the path that a text stands for in a schema, or the first fault with its place |
 //! | `write_path` | the one spelling of a path |
 //! | `PathTextFault` | why a text is no path |
+//! | `laws` | functions that do nothing, each with laws of the two as its contract |
 //!
 //! `/` is the root. Another path is a slash and a name for each node, outermost first. The first name tells its module, as
 //! `topo:network`; a later one does exactly where its module is another than that of the node above it, as `geo:site`. An
@@ -15,7 +16,8 @@
 //!
 //! `specs/` has the words of a text (`Words`), what names mean and by which values entries are told (`Nodes`), the path that a
 //! text stands for (`Read`) and the text of a path (`Written`). The reader and the writer give what these definitions give,
-//! unless memory runs out, and what is read fits the schema.
+//! unless memory runs out, and what is read fits the schema. A path that was written reads as this path
+//! (`laws::written_paths_read`), and what was read, written and read again is the same path (`laws::read_paths_read_again`).
 //!
 //! ```
 //! let patterns = Patterns::of(alloc, &schema)?;
@@ -32,6 +34,7 @@ mod examples;
 mod fault;
 mod given;
 mod here;
+pub mod laws;
 mod nodes;
 mod read;
 mod reader;

@@ -1,7 +1,6 @@
-use Rattle.std.proofs.Common.{◌≡◌, ◌∙◌, ◌+◌, ◌-◌, ◌<◌, ◌≤◌, [], ◌∷◌, ◌++◌, length, Ok, Err, rules, sym, ap, arith, length-append}
+use Rattle.std.proofs.Common.{◌≡◌, ◌∙◌, ◌+◌, ◌-◌, ◌<◌, [], ◌∷◌, ◌++◌, length, rules, sym, ap, arith, length-append}
 use Rattle.std.proofs.lemmas.Grind.{common_steps}
 use Rattle.std.proofs.lemmas.Bool.Decides.{nat_tests}
-use Rattle.sal_types.specs.Reading.{◌>>=◌}
 use Rattle.sal_pathtext.specs.Read.{steps}
 use Rattle.sal_pathtext.proofs.Steps.{behind, behind-one, steps-end, steps-full, steps_at}
 use Rattle.sal_pathtext.proofs.read.steps.Goals as goal

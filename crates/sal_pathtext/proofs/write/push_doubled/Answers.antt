@@ -1,4 +1,4 @@
-use Rattle.std.proofs.Common.{◌≡◌, ◌∙◌, ◌++◌, string_bytes, rules, sym, ap, arith}
+use Rattle.std.proofs.Common.{◌∙◌, ◌++◌, string_bytes, rules, sym, ap, arith}
 use Rattle.std.proofs.lemmas.Grind.{common_steps}
 use Rattle.std.proofs.lemmas.Bool.Decides.{nat_tests}
 use Rattle.sal_pathtext.proofs.Quotes.{stands_at, doubled-none, doubled-at}

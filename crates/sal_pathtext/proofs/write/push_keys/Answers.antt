@@ -1,7 +1,6 @@
-use Rattle.std.proofs.Common.{◌∙◌, ◌++◌, drop, string_bytes, sym, ap, arith, append-nil}
+use Rattle.std.proofs.Common.{◌∙◌, ◌++◌, drop, string_bytes, ap, arith, append-nil}
 use Rattle.std.proofs.lemmas.Grind.{common_steps}
 use Rattle.std.proofs.lemmas.Bool.Decides.{nat_tests}
-use Rattle.sal_schema.specs.Table.{keys_of}
 use Rattle.sal_pathtext.proofs.Texts.{keys-none}
 use Rattle.sal_pathtext.proofs.write.push_keys.Goals as goal
 

@@ -1,15 +1,16 @@
 -- How rows are written as JSON (RFC 7951 sections 4 and 5).
-use Rattle.std.specs.Prelude.{ℕ, zero, suc, List, [], ◌∷◌, ◌++◌, length, drop, map, Option, Some, None, fold, if◌then◌else◌}
-use Rattle.std.specs.List.{list_any}
-use Rattle.std.specs.Option.{option_map_or}
-use Rattle.serde_json.specs.Data.{Data, null, array, object, Items, no_items, item, Members, no_members, put}
+use Rattle.std.specs.Prelude.{ℕ, zero, suc, ◌+◌, Bool, List, [], ◌∷◌, ◌++◌, length, Option, Some, None, fold, if◌then◌else◌}
+use Rattle.std.specs.List.{slice_get}
+use Rattle.std.specs.Option.{option_map_or, option_eq}
+use Rattle.serde_json.specs.Data.{Data, null, array, object, Members, no_members, put}
+use Rattle.serde_json.specs.View.{items_of}
 use Rattle.sal_types.specs.declared.value.Value.{Value}
 use Rattle.sal_types.specs.declared.value.Cell.{Cell}
 use Rattle.sal_types.specs.declared.value.Cell.TheVariants.{Mark, Leaf}
 use Rattle.sal_types.specs.declared.value.Step.{Step}
 use Rattle.sal_types.specs.declared.value.Step.TheVariants.{Node, Key, Item}
 use Rattle.sal_types.specs.declared.row.Row.{Row}
-use Rattle.sal_types.specs.Tree.{cell, under}
+use Rattle.sal_types.specs.Tree.{under}
 use Rattle.sal_schema.specs.declared.table.SchemaTable.{SchemaTable}
 use Rattle.sal_schema.specs.Kinds.{is_leaf, is_leaf_list, is_list}
 use Rattle.sal_schema.specs.Table.{is_kind, type_of, module_of}
@@ -18,26 +19,32 @@ use Rattle.sal_json.specs.Written.{json_of}
 use Rattle.sal_data.specs.Members.{member_name}
 use Rattle.sal_data.specs.Read.{same_step}
 
--- ---- rows below a path
+-- Below, k is how many steps lead to a place, and rows are those of a tree at the place and below it, in the order of their
+-- paths. So rows with the same next step stand together.
 
-abbrev pub from_step : ℕ → Row → Row
-from_step k row = record { path = drop k row.path; cell = row.cell }
+-- ---- runs of rows
 
--- the rows at the path and below it, as they are seen from there
-abbrev pub below : List Step → List Row → List Row
-below path rows = map (from_step (length path)) (under rows path)
+-- the step behind the place; none of a row at the place itself
+abbrev pub next_step : ℕ → Row → Option Step
+next_step k row = slice_get row.path k
 
--- the steps and one more, if it is not among them
-abbrev pub with_step : List Step → Step → List Step
-with_step steps step = if list_any (same_step step) steps then steps else steps ++ step ∷ []
+abbrev pub same_next : Option Step → Option Step → Bool
+same_next = option_eq same_step
 
-abbrev pub with_first : List Step → List Step → List Step
-with_first steps [] = steps
-with_first steps (step ∷ path) = with_step steps step
+-- the next step of a run, which all its rows have
+abbrev pub step_of : ℕ → List Row → Option Step
+step_of k [] = None
+step_of k (row ∷ rows) = next_step k row
 
--- the first steps of the rows, each once
-abbrev pub first_steps : List Row → List Step
-first_steps rows = fold (λ steps (row : Row). with_first steps row.path) [] rows
+-- one more row before the runs: it joins the first one, if that has its next step
+abbrev pub with_row : ℕ → Row → List (List Row) → List (List Row)
+with_row k row [] = (row ∷ []) ∷ []
+with_row k row (run ∷ runs) = if same_next (next_step k row) (step_of k run) then (row ∷ run) ∷ runs else (row ∷ []) ∷ run ∷ runs
+
+-- the rows in runs, each with another next step than the one before it
+unfoldable pub runs_of : ℕ → List Row → List (List Row)
+runs_of k [] = []
+runs_of k (row ∷ rows) = with_row k row (runs_of k rows)
 
 -- ---- values
 
@@ -48,53 +55,70 @@ abbrev pub cell_json : SchemaTable → ℕ → Cell → Data
 cell_json table n Mark = null
 cell_json table n (Leaf value) = scalar_json table n value
 
--- the value of the leaf
+-- the value of the leaf, from its row
 abbrev pub leaf_json : SchemaTable → ℕ → List Row → Data
-leaf_json table n rows = option_map_or (cell_json table n) (cell rows []) null
-
-abbrev pub item_json : SchemaTable → ℕ → Step → Data
-item_json table n (Item value) = scalar_json table n value
-item_json table n step = null
+leaf_json table n [] = null
+leaf_json table n (row ∷ rows) = cell_json table n row.cell
 
 -- ---- trees
 
-abbrev pub items_of : (Step → Data) → List Step → Items
-items_of f [] = no_items
-items_of f (step ∷ steps) = item (f step) (items_of f steps)
+-- what gives the value of a node from its place and its rows
+abbrev pub Writer : Type 0
+Writer = ℕ → ℕ → List Row → Data
 
--- the members with that of a node, in byte order of their names; f gives the values of nodes from the rows below them
-abbrev pub with_member : SchemaTable → Option ℕ → (ℕ → List Row → Data) → List Row → Members → Step → Members
-with_member table parent f rows ms (Node n) = put (member_name table parent n) (f n (below (Node n ∷ []) rows)) ms
-with_member table parent f rows ms step = ms
+-- the members with that of a node, in byte order of their names
+abbrev pub with_member : SchemaTable → Option ℕ → Writer → ℕ → Members → Option Step → List Row → Members
+with_member table parent f k ms (Some (Node n)) run = put (member_name table parent n) (f n (k + 1) run) ms
+with_member table parent f k ms step run = ms
+
+abbrev pub with_run : SchemaTable → Option ℕ → Writer → ℕ → Members → List Row → Members
+with_run table parent f k ms run = with_member table parent f k ms (step_of k run) run
 
 -- an object with a member for each child that a row stands at or below: neither lists nor containers without presence are there empty
-abbrev pub members_json : SchemaTable → Option ℕ → (ℕ → List Row → Data) → List Row → Data
-members_json table parent f rows = object (fold (with_member table parent f rows) no_members (first_steps rows))
+abbrev pub members_json : SchemaTable → Option ℕ → Writer → ℕ → List Row → Data
+members_json table parent f k rows = object (fold (with_run table parent f k) no_members (runs_of k rows))
 
-abbrev pub entry_json : SchemaTable → ℕ → (ℕ → List Row → Data) → List Row → Step → Data
-entry_json table n f rows step = members_json table (Some n) f (below (step ∷ []) rows)
+-- the value of an entry of the leaf-list
+abbrev pub item_json : SchemaTable → ℕ → Option Step → List Data
+item_json table n (Some (Item value)) = scalar_json table n value ∷ []
+item_json table n step = []
 
--- the value of a node from the rows below it, which are at most so many nodes deep
-unfoldable pub node_json : ℕ → SchemaTable → ℕ → List Row → Data
-node_json zero table n rows = null
-node_json (suc levels) table n rows =
+-- the values of the entries of the leaf-list
+abbrev pub items_json : SchemaTable → ℕ → ℕ → List (List Row) → List Data
+items_json table n k [] = []
+items_json table n k (run ∷ runs) = item_json table n (step_of k run) ++ items_json table n k runs
+
+-- the value of an entry of the list
+abbrev pub entry_json : SchemaTable → ℕ → Writer → ℕ → Option Step → List Row → List Data
+entry_json table n f k (Some (Key values)) run = members_json table (Some n) f (k + 1) run ∷ []
+entry_json table n f k step run = []
+
+-- the values of the entries of the list
+abbrev pub entries_json : SchemaTable → ℕ → Writer → ℕ → List (List Row) → List Data
+entries_json table n f k [] = []
+entries_json table n f k (run ∷ runs) = entry_json table n f k (step_of k run) run ++ entries_json table n f k runs
+
+-- the value of a node, below which rows are at most so many nodes deep
+unfoldable pub node_json : ℕ → SchemaTable → Writer
+node_json zero table n k rows = null
+node_json (suc levels) table n k rows =
     if is_kind is_leaf table n then leaf_json table n rows
-    else if is_kind is_leaf_list table n then array (items_of (item_json table n) (first_steps rows))
-    else if is_kind is_list table n then array (items_of (entry_json table n (node_json levels table) rows) (first_steps rows))
-    else members_json table (Some n) (node_json levels table) rows
+    else if is_kind is_leaf_list table n then array (items_of (items_json table n k (runs_of k rows)))
+    else if is_kind is_list table n then array (items_of (entries_json table n (node_json levels table) k (runs_of k rows)))
+    else members_json table (Some n) (node_json levels table) k rows
 
 -- a path has at most 32 steps
-abbrev pub any_json : SchemaTable → ℕ → List Row → Data
-any_json table n rows = node_json 32 table n rows
+abbrev pub any_json : SchemaTable → Writer
+any_json table = node_json 32 table
 
 -- ---- the value at a path
 
 abbrev pub json_at : SchemaTable → List Step → Option Step → List Row → Data
-json_at table path None rows = members_json table None (any_json table) rows
-json_at table path (Some (Node n)) rows = any_json table n rows
-json_at table path (Some (Key values)) rows = members_json table (node_of path) (any_json table) rows
+json_at table path None rows = members_json table None (any_json table) 0 rows
+json_at table path (Some (Node n)) rows = any_json table n (length path) rows
+json_at table path (Some (Key values)) rows = members_json table (node_of path) (any_json table) (length path) rows
 json_at table path (Some (Item value)) rows = option_map_or (λ n. scalar_json table n value) (node_of path) null
 
--- the JSON value of the rows at the path and below it
+-- the JSON value of the rows at the path and below it, for rows in the order of their paths
 abbrev pub write_data : SchemaTable → List Step → List Row → Data
-write_data table path rows = json_at table path (last_step path) (below path rows)
+write_data table path rows = json_at table path (last_step path) (under rows path)

@@ -17,5 +17,7 @@
 
 mod examples;
 mod fault;
+mod runs;
+mod written_names;
 
 pub use fault::DataFault;

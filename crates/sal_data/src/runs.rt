@@ -1,9 +1,11 @@
 //! Rows in runs, each with another next step than the one before it.
 ghost use Rattle.std.specs.Prelude.{◌≡◌, ◌<◌, ◌≤◌, ◌∷◌, not, length, option_map};
-ghost use Rattle.std.specs.List.{position_or_len};
+ghost use Rattle.std.specs.List.{position_or_len, prefix_len};
+ghost use Rattle.sal_types.specs.Prefix.{is_prefix};
+ghost use Rattle.sal_types.specs.Tree.{IsAscending, under};
 ghost use Rattle.sal_data.specs.Written as spec;
 
-use sal_types::{Row, Step};
+use sal_types::{Path, Row, Step};
 
 fn next_step(row: &Row, k: usize) -> Option<&Step>
     ensures { option_map (λ s. s.now) result ≡ spec.next_step k row.now }
@@ -51,4 +53,40 @@ pub(crate) fn first_run(rows: &[Row], k: usize) -> (&[Row], &[Row])
 {
     let len = run_len(rows, k, step_of(rows, k));
     rows.split_at(len)
+}
+
+/// The place of the first row at the path or below it, or how many rows there are.
+fn first_under(rows: &[Row], path: &Path) -> usize
+    ensures place { result ≡ position_or_len (λ row. is_prefix path.now row.path) rows.now }
+    ensures within { result ≤ length rows.now }
+{
+    for i in 0..rows.len() {
+        if path.is_prefix_of(&rows[i].path) {
+            return i;
+        }
+    }
+    rows.len()
+}
+
+/// How many rows from the first on stand at the path or below it.
+fn count_under(rows: &[Row], path: &Path) -> usize
+    ensures count { result ≡ prefix_len (λ row. is_prefix path.now row.path) rows.now }
+    ensures within { result ≤ length rows.now }
+{
+    for i in 0..rows.len() {
+        if !path.is_prefix_of(&rows[i].path) {
+            return i;
+        }
+    }
+    rows.len()
+}
+
+/// The rows at the path and below it, which stand together.
+pub(crate) fn under<'r>(rows: &'r [Row], path: &Path) -> &'r [Row]
+    requires { IsAscending rows.now }
+    ensures { result.now ≡ under rows.now path.now }
+{
+    let (_, rest) = rows.split_at(first_under(rows, path));
+    let (run, _) = rest.split_at(count_under(rest, path));
+    run
 }

@@ -2,6 +2,7 @@
 ghost use Rattle.std.specs.Prelude.{◌≡◌, ◌<◌, ◌++◌, ◌∷◌, IfOk, IfSome, OnOk, length, string_bytes};
 ghost use Rattle.serde_json.specs.Data.{put};
 ghost use Rattle.serde_json.specs.View.{view, members_view};
+ghost use Rattle.sal_schema.specs.Kinds as kinds;
 ghost use Rattle.sal_schema.specs.Table as table;
 ghost use Rattle.sal_data.specs.Members as spec;
 
@@ -11,13 +12,40 @@ use serde_json::{Map, Value as Json};
 use std::alloc::Global;
 
 /// The kind of a node, where there is one of this number.
-pub(crate) fn kind_at(schema: &Schema, node: u32) -> Option<Kind>
+fn kind_at(schema: &Schema, node: u32) -> Option<Kind>
     ensures { result ≡ table.kind_of schema.now node }
 {
     if node < schema.len() {
         Some(schema.kind(node))
     } else {
         None
+    }
+}
+
+pub(crate) fn is_leaf(schema: &Schema, node: u32) -> bool
+    ensures { result ≡ table.is_kind kinds.is_leaf schema.now node }
+{
+    match kind_at(schema, node) {
+        Some(Kind::Leaf) => true,
+        _ => false,
+    }
+}
+
+pub(crate) fn is_leaf_list(schema: &Schema, node: u32) -> bool
+    ensures { result ≡ table.is_kind kinds.is_leaf_list schema.now node }
+{
+    match kind_at(schema, node) {
+        Some(Kind::LeafList) => true,
+        _ => false,
+    }
+}
+
+pub(crate) fn is_list(schema: &Schema, node: u32) -> bool
+    ensures { result ≡ table.is_kind kinds.is_list schema.now node }
+{
+    match kind_at(schema, node) {
+        Some(Kind::List) => true,
+        _ => false,
     }
 }
 

@@ -16,6 +16,7 @@ pub mod client;
 pub mod commit;
 pub mod conflict;
 pub mod decided;
+pub mod reader;
 pub mod run;
 pub mod schema;
 pub mod schema_fault;

@@ -1,3 +1,5 @@
 pub mod FirstRun
 pub mod Levels
 pub mod Consecutive
+pub mod CellFound
+pub mod Prefixed

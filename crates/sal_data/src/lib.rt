@@ -15,11 +15,14 @@
 //! Reading and writing have no code yet: the definitions are what it will be held to.
 #![tactic(auto)]
 
+mod cells;
 mod examples;
 mod fault;
+mod fits;
 mod runs;
 mod write;
 mod written_names;
 
 pub use fault::DataFault;
+pub use fits::fits_rows;
 pub use write::write_data;

@@ -15,7 +15,17 @@
 //! Reading and writing have no code yet: the definitions are what it will be held to.
 #![tactic(auto)]
 
+mod entries;
 mod examples;
 mod fault;
+mod lookups;
+mod members;
+mod order;
+mod read;
+#[cfg(test)]
+mod read_tests;
+mod reader;
+mod walk;
 
 pub use fault::DataFault;
+pub use read::read_data;

@@ -1,12 +1,17 @@
 -- Readings, one after another.
-use Rattle.std.proofs.Common.{◌≡◌, Bool, true, false, List, [], ◌∷◌, ◌++◌, Result, Ok, Err, if◌then◌else◌, refl, sym, ap, ◌∙◌, append_assoc}
+use Rattle.std.proofs.Common.{◌≡◌, Bool, true, false, List, [], ◌∷◌, ◌++◌, Result, Ok, Err, cond, if◌then◌else◌, refl, sym, ap, ◌∙◌, append_assoc}
+use Rattle.std.specs.Prelude.{◌||◌, IsErrAnd}
 use Rattle.std.specs.List.{list_any}
+use Rattle.std.specs.Cmp.{eq_by_cmp_equiv}
+use Rattle.sal_types.specs.declared.value.Value.{Value}
 use Rattle.sal_types.specs.declared.value.Step.{Step}
 use Rattle.sal_types.specs.declared.row.Row.{Row}
-use Rattle.sal_types.specs.Reading.{◌>>=◌}
+use Rattle.sal_types.specs.Order.{step_cmp-IsTotalOrder}
+use Rattle.sal_types.specs.Reading.{◌>>=◌, GivesUnless}
 use Rattle.sal_data.specs.declared.fault.DataFault.{DataFault}
 use Rattle.sal_data.specs.declared.fault.DataFault.TheVariants.{DoubleEntry}
 use Rattle.sal_data.specs.Read.{Reading, followed, one_more, same_step}
+use Rattle.sal_data.specs.Walked.{HaveSame}
 
 pub followed-none : (read : Reading) → followed [] read ≡ read
 followed-none (Ok rows) = refl
@@ -20,6 +25,23 @@ pub followed-then : (out : List Row) (first rest : Reading) → followed out (fi
 followed-then out (Ok rows) rest = followed-followed out rows rest
 followed-then out (Err fault) rest = refl
 
+-- the fault that a `?` passes on
+pub gives_err : {X Y F : Type 0} (memory : F) (view : X → Y) (result : Result X F) (e : F) (read : Result Y F) → IsErrAnd result (λ d. d ≡ e) → ((e ≡ memory → ⊥) → read ≡ Err e) → GivesUnless memory view result read
+gives_err memory view (Ok x) e read is fault = absurd is
+gives_err memory view (Err d) e read is fault = rw is fault
+
+-- these values before those that are read
+abbrev pub in_front : List Value → Result (List Value) DataFault → Result (List Value) DataFault
+in_front front read = read >>= λ others. Ok (front ++ others)
+
+pub in_front-none : (read : Result (List Value) DataFault) → in_front [] read ≡ read
+in_front-none (Ok values) = refl
+in_front-none (Err fault) = refl
+
+pub in_front-one : (front : List Value) (value : Value) (read : Result (List Value) DataFault) → in_front front (read >>= λ values. Ok (value ∷ values)) ≡ in_front (front ++ value ∷ []) read
+in_front-one front value (Ok values) = ap Ok (sym (append_assoc front (value ∷ []) values))
+in_front-one front value (Err fault) = refl
+
 -- what follows two steps, or three, follows them together
 pub after_two : {B C D F : Type 0} (r : Result B F) (g : B → Result C F) (h : C → Result D F) → (r >>= λ b. (g b >>= h)) ≡ ((r >>= g) >>= h)
 after_two (Ok b) g h = refl
@@ -30,6 +52,17 @@ after_three (Ok a) f g h = after_two (f a) (g a) h
 after_three (Err e) f g h = refl
 
 -- ---- entries that are none of those before
+
+as_or : (a b : Bool) → cond a true b ≡ (a || b)
+as_or true b = refl
+as_or false b = refl
+
+-- the steps and one more
+pub have_more : (old new : List Step) (step : Step) → ((q : Step) → list_any (same_step q) new ≡ cond (same_step step q) true (list_any (same_step q) old)) → HaveSame new (step ∷ old)
+have_more old new step updated q = updated q ∙ as_or (same_step step q) (list_any (same_step q) old) ∙ ap (λ b. b || list_any (same_step q) old) ((eq_by_cmp_equiv step_cmp-IsTotalOrder).symm step q)
+
+pub have_same_more : (old others new : List Step) (step : Step) → HaveSame old others → HaveSame new (step ∷ old) → HaveSame new (step ∷ others)
+have_same_more old others new step same more q = more q ∙ ap (λ b. same_step q step || b) (same q)
 
 abbrev new_place : List Step → Step → Result (List Step) DataFault → Result (List Step) DataFault
 new_place seen step place = place >>= λ below. (one_more seen step below >>= λ now. Ok below)

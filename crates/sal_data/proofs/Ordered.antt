@@ -1,5 +1,6 @@
 -- Rows in the order of their paths, as a map holds them.
 use Rattle.std.proofs.Common.{◌≡◌, ℕ, zero, suc, Bool, true, false, List, [], ◌∷◌, ◌++◌, take, fold, refl, ap, sym, ◌∙◌}
+use Rattle.std.proofs.lemmas.List.Sums.{fold-append}
 use Rattle.std.specs.Prelude.{◌&&◌}
 use Rattle.std.specs.Ordering.{match_ordering, is_lt}
 use Rattle.std.specs.declared.cmp.Ordering.TheVariants.{Less, Equal, Greater}
@@ -46,6 +47,9 @@ entries-set_row (x ∷ rows) row =
     ] refl
 
 -- ---- all of them
+
+pub entries-in_order-more : (rows : List Row) (row : Row) → entries (in_order (rows ++ row ∷ [])) ≡ insert_entry path_cmp (entries (in_order rows)) row.path row.cell
+entries-in_order-more rows row = ap entries (fold-append set_row [] rows (row ∷ [])) ∙ entries-set_row (in_order rows) row
 
 IsAscending-fold : (tree rows : List Row) → IsAscending tree → IsAscending (fold set_row tree rows)
 IsAscending-fold tree [] h = h

@@ -40,11 +40,7 @@ pub(crate) fn mark(path: &Path, out: &mut Vec<Row>) -> Result<(), NoMemory>
 }
 
 /// The path of the entry, which is none of those that were seen, and is one of them from now on.
-pub(crate) fn entered(
-    path: &Path,
-    step: Step,
-    seen: &mut BTreeSet<Step>,
-) -> Result<Path, DataFault>
+pub(crate) fn entered(path: &Path, step: Step, seen: &mut BTreeSet<Step>) -> Result<Path, DataFault>
     ensures value { GivesUnless DataFault.NoMemory (λ below. below) result (new_entry seen.old.keys path.now step) }
     ensures one_more { OnOk result (HaveSame seen.new.keys (step ∷ seen.old.keys)) }
 {

@@ -1,10 +1,10 @@
 //! The nodes that the names of members mean, and the members that nodes have.
-ghost use Rattle.std.specs.Prelude.{◌≡◌, ◌∷◌, ◌++◌, option_map, option_and_then, IfOk, string_bytes};
+ghost use Rattle.std.specs.Prelude.{◌≡◌, ◌<◌, ◌∷◌, ◌++◌, Some, length, is_some, option_map, option_and_then, IfOk, string_bytes};
 ghost use Rattle.serde_json.specs.View.{view, members_view};
 ghost use Rattle.serde_json.specs.Find.{get_member};
 ghost use Rattle.sal_types.specs.Reading.{GivesUnless};
 ghost use Rattle.sal_schema.specs.Names.{child_of};
-ghost use Rattle.sal_schema.specs.Table.{name_of};
+ghost use Rattle.sal_schema.specs.Table.{module_name, name_of};
 ghost use Rattle.sal_data.specs.Members as spec;
 
 use crate::fault::DataFault;
@@ -51,20 +51,36 @@ fn child_called(schema: &Schema, parent: Option<u32>, name: &str) -> Option<u32>
     }
 }
 
-/// Whether some module has a child of this name below the node.
-fn is_of_some_module(schema: &Schema, parent: Option<u32>, name: &str) -> bool
-    ensures { result ≡ spec.is_of_some_module schema.now parent name.now }
+/// Whether the module has a child of this name below the node.
+fn has_child(schema: &Schema, node: u32, module: u32, name: &str) -> bool
+    requires { «module» < length schema.now.modules }
+    ensures { result ≡ is_some (child_of schema.now (Some node) (module_name schema.now «module») name.now) }
 {
-    if parent.is_none() {
-        return true;
-    }
+    schema
+        .child(Some(node), schema.module_name(module), name)
+        .is_some()
+}
+
+/// Whether some module has a child of this name below the node.
+fn has_child_of_some(schema: &Schema, node: u32, name: &str) -> bool
+    ensures { result ≡ spec.is_of_some_module schema.now (Some node) name.now }
+{
     for module in 0..schema.modules() {
-        let found = schema.child(parent, schema.module_name(module), name);
-        if found.is_some() {
+        if has_child(schema, node, module, name) {
             return true;
         }
     }
     false
+}
+
+/// Whether some module has a child of this name below the node, or in the top object any module may.
+fn is_of_some_module(schema: &Schema, parent: Option<u32>, name: &str) -> bool
+    ensures { result ≡ spec.is_of_some_module schema.now parent name.now }
+{
+    match parent {
+        Some(node) => has_child_of_some(schema, node, name),
+        None => true,
+    }
 }
 
 /// Why the name means no member of the object at the path.

@@ -1,5 +1,5 @@
 //! Rows from JSON values.
-ghost use Rattle.std.specs.Prelude.{◌≡◌, ◌≤◌, [], length, Ok, IfOk};
+ghost use Rattle.std.specs.Prelude.{◌≡◌, ◌≤◌, length, IfOk};
 ghost use Rattle.serde_json.specs.View.{view};
 ghost use Rattle.sal_types.specs.Reading.{GivesUnless};
 ghost use Rattle.sal_schema.specs.Paths.{last_step, node_of};
@@ -53,15 +53,11 @@ fn node_at_end(path: &Path) -> Option<u32>
     here
 }
 
-/// Whether the entry of the JSON value is the one that was asked for.
-fn asked_for(path: &Path, asked: &Step, step: &Step) -> Result<(), DataFault>
-    ensures { GivesUnless DataFault.NoMemory (λ _. []) result (spec.if_asked path.now asked.now (Ok []) step.now) }
+/// Whether the step is the one that was asked for.
+fn is_asked(asked: &Step, step: &Step) -> bool
+    ensures { result ≡ spec.same_step step.now asked.now }
 {
-    if *step == *asked {
-        Ok(())
-    } else {
-        Err(DataFault::KeyDiffers { path: path.copy()? })
-    }
+    *step == *asked
 }
 
 impl<'a> Reader<'a> {
@@ -78,7 +74,9 @@ impl<'a> Reader<'a> {
     {
         let list = before_last(self.alloc, path)?;
         let step = self.key_step(node, &list, json)?;
-        asked_for(path, asked, &step)?;
+        if !is_asked(asked, &step) {
+            return Err(DataFault::KeyDiffers { path: path.copy()? });
+        }
         mark(path, out)?;
         self.object_rows(Some(node), path, json, out)
     }
@@ -96,7 +94,9 @@ impl<'a> Reader<'a> {
     {
         let list = before_last(self.alloc, path)?;
         let step = self.item_step(node, &list, json)?;
-        asked_for(path, asked, &step)?;
+        if !is_asked(asked, &step) {
+            return Err(DataFault::KeyDiffers { path: path.copy()? });
+        }
         mark(path, out)?;
         Ok(())
     }

@@ -16,13 +16,23 @@
 #![tactic(auto)]
 
 mod cells;
+mod entries;
 mod examples;
 mod fault;
 mod fits;
+mod lookups;
+mod members;
+mod order;
+mod read;
+#[cfg(test)]
+mod read_tests;
+mod reader;
 mod runs;
+mod walk;
 mod write;
 mod written_names;
 
 pub use fault::DataFault;
 pub use fits::fits_rows;
+pub use read::read_data;
 pub use write::write_data;

@@ -17,5 +17,9 @@
 
 mod examples;
 mod fault;
+mod runs;
+mod write;
+mod written_names;
 
 pub use fault::DataFault;
+pub use write::write_data;

@@ -1,0 +1,3 @@
+pub mod FirstRun
+pub mod Levels
+pub mod Consecutive

@@ -1,0 +1,10 @@
+use Rattle.std.proofs.Common.{◌≡◌, ◌+◌, drop}
+use Rattle.std.specs.List.{position_or_len}
+use Rattle.sal_types.specs.declared.row.Row.{Row}
+use Rattle.sal_types.specs.Prefix.{is_prefix}
+use Rattle.sal_data.proofs.runs.first_under.Given as goal
+
+abbrev pub invariant-loop-i : goal.invariant-loop-i
+invariant-loop-i l =
+    let below = λ (row : Row). is_prefix l.path row.path in
+    position_or_len below l.rows ≡ l.i + position_or_len below (drop l.i l.rows)

@@ -1,5 +1,6 @@
 //! Faults of path texts and of data, in words.
 ghost use Rattle.std.specs.Prelude.{◌≡◌, ◌∷◌, ◌++◌, IfOk, OnOk, string_bytes};
+ghost use Rattle.json.specs.Print.{quoted};
 ghost use Rattle.sal_script.specs.Report as spec;
 
 use crate::pieces::{push_numbered, push_path, push_quoted, push_word};
@@ -57,12 +58,10 @@ pub(crate) fn push_data_fault(
 {
     match fault {
         DataFault::UnknownMember { path, name } => {
-            push_place(alloc, text, schema, "unknown-member", path)?;
-            push_quoted(alloc, text, name.as_str())
+            push_named(alloc, text, schema, "unknown-member", path, name)
         }
         DataFault::NeedsModule { path, name } => {
-            push_place(alloc, text, schema, "needs-module", path)?;
-            push_quoted(alloc, text, name.as_str())
+            push_named(alloc, text, schema, "needs-module", path, name)
         }
         DataFault::WrongShape { path } => push_place(alloc, text, schema, "wrong-shape", path),
         DataFault::MissingKey { path } => push_place(alloc, text, schema, "missing-key", path),
@@ -89,6 +88,21 @@ fn push_place(
 {
     text.push_str(word)?;
     push_path(alloc, text, schema, path)
+}
+
+// A word, the path of a place and the name of a member.
+fn push_named(
+    alloc: Global,
+    text: &mut String,
+    schema: &Schema,
+    word: &str,
+    path: &Path,
+    name: &Str,
+) -> Result<(), NoMemory>
+    ensures { OnOk result (string_bytes text.new ≡ string_bytes text.old ++ (word.now ++ (spec.path_text schema.now path.now ++ (32 ∷ quoted name.now)))) }
+{
+    push_place(alloc, text, schema, word, path)?;
+    push_quoted(alloc, text, name.as_str())
 }
 
 // A space and why a value is none of its type.

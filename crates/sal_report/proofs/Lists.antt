@@ -1,7 +1,8 @@
 -- Lines written one after another, as a loop does.
 use Rattle.std.proofs.Common.{◌≡◌, ℕ, ◌+◌, ◌<◌, ◌≤◌, List, [], ◌∷◌, ◌++◌, length, get_or, drop, append_assoc, append-nil, refl, ap, sym, ◌∙◌}
 use Rattle.std.proofs.lemmas.List.{drop_more, drop_all}
-use Rattle.sal_history.specs.declared.reply.Reply.{Reply}
+use Rattle.sal_schema.specs.declared.table.SchemaTable.{SchemaTable}
+use Rattle.sal_script.specs.declared.reply.StepReply.{StepReply}
 use Rattle.sal_script.specs.Report.{client_lines, reply_line, reply_lines}
 
 -- the lines of a list, the first with this number
@@ -19,13 +20,14 @@ module _ {A : Type 0} (line : ℕ → A → List ℕ) (done whole : List ℕ) (i
   pub all_lines : length xs ≤ i → done ≡ whole
   all_lines h = sym (append-nil done) ∙ ap (λ ys. done ++ lines_from line i ys) (sym (drop_all i xs h)) ∙ so_far
 
-pub client_lines-from : (client s : ℕ) (rs : List Reply) → client_lines client s rs ≡ lines_from (reply_line client) s rs
-client_lines-from client s [] = refl
-client_lines-from client s (r ∷ rs) = ap (λ rest. reply_line client s r ++ rest) (client_lines-from client (s + 1) rs)
+module _ (table : SchemaTable) where
+  pub client_lines-from : (client s : ℕ) (rs : List StepReply) → client_lines table client s rs ≡ lines_from (reply_line table client) s rs
+  client_lines-from client s [] = refl
+  client_lines-from client s (r ∷ rs) = ap (λ rest. reply_line table client s r ++ rest) (client_lines-from client (s + 1) rs)
 
-abbrev pub client_text : ℕ → List Reply → List ℕ
-client_text client rs = client_lines client 0 rs
+  abbrev pub client_text : ℕ → List StepReply → List ℕ
+  client_text client rs = client_lines table client 0 rs
 
-pub reply_lines-from : (c : ℕ) (rss : List (List Reply)) → reply_lines c rss ≡ lines_from client_text c rss
-reply_lines-from c [] = refl
-reply_lines-from c (rs ∷ rss) = ap (λ rest. client_text c rs ++ rest) (reply_lines-from (c + 1) rss)
+  pub reply_lines-from : (c : ℕ) (rss : List (List StepReply)) → reply_lines table c rss ≡ lines_from client_text c rss
+  reply_lines-from c [] = refl
+  reply_lines-from c (rs ∷ rss) = ap (λ rest. client_text c rs ++ rest) (reply_lines-from (c + 1) rss)

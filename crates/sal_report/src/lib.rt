@@ -1,32 +1,32 @@
-//! The report of a run, as text: the order of the calls, a line for each step, and the trees at the end.
+//! The text of a run over any schema: the order of the calls, a line for each step, and the trees at the end.
 //!
 //! | call | what it is |
 //! |---|---|
 //! | `report` | the text for a log, the replies to the clients' steps, and the trees at the end |
+//! | `path_fault_text`, `data_fault_text` | why a text is no path, why a value is no data of the schema, in words |
 //!
-//! What the text is, to the byte, stands in `sal_script` (`specs/Report`): for every log, replies and trees. JSON in it
-//! (RFC 8259, RFC 7951 section 4) is written by `serde_json`.
+//! What the texts are, to the byte, stands in `sal_script` (`specs/Report`): for every schema, log, replies and trees. Paths
+//! are written by `sal_pathtext` and rows by `sal_data`, as JSON (RFC 7951).
 //!
 //! ```
-//! let text = report(alloc, log, &[replies], 1, &config, &oper)?;
+//! let text = report(alloc, &schema, log, &[replies], 1, &config, &oper)?;
 //! // order 0 0 0
 //! // 0 0 begun 0
 //! // 0 1 ok
 //! // 0 2 receipt 1
 //! // 0 3 done 1
-//! // tree 0 1 {"plain:box":{"a":"x"}} {}
+//! // tree 0 1 {"topo:network":{"node":[{"id":"a"}]}} {}
 //! ```
 //!
-//! Cost: the text grows in place. Beside it stands the JSON of one value or of one
-//! tree at a time. Time goes with the text's length, and for a tree of n rows with n log n, since an object keeps its
-//! members in the order of their names. Where two rows have one name, the later counts.
+//! Cost: the text grows in place. Beside it stand the JSON and the text of one reply or of one tree at a time. Time is linear
+//! in the text, in the steps of the rows' paths, and in what `sal_data` takes to write the rows.
 #![tactic(auto)]
 
+mod faults;
 mod lines;
+mod pieces;
 mod replies;
-#[cfg(test)]
-mod tests;
-mod values;
 mod words;
 
+pub use faults::{data_fault_text, path_fault_text};
 pub use lines::report;

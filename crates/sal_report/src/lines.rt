@@ -1,35 +1,37 @@
 //! The lines of a report. Each function writes behind what stands in the text.
 ghost use Rattle.std.specs.Prelude.{◌≡◌, [], ◌∷◌, ◌++◌, IfOk, OnOk, string_bytes};
 ghost use Rattle.std.specs.List.{flat_map};
-ghost use Rattle.serde_json.specs.Written.{compact_text};
-ghost use Rattle.sal_script.specs.Plain.{data_of_tree};
 ghost use Rattle.sal_script.specs.Report as spec;
 
-use crate::replies::{push_number, push_numbered, push_reply, push_value};
-use crate::values::tree_value;
-use sal_history::{Entry, Reply};
+use crate::pieces::{push_data, push_number, push_numbered};
+use crate::replies::push_reply;
+use sal_history::Entry;
 use sal_rows::Rows;
-use sal_types::{NoMemory, Row, Seq, Str};
+use sal_schema::Schema;
+use sal_script::StepReply;
+use sal_types::{NoMemory, Path, Seq, Str};
 use std::alloc::Global;
 
-/// The report of a run: the line of the order, a line for each reply by client and step, and the line of the trees.
+/// The report of a run over the schema: the line of the order, a line for each reply by client and step, and the line of the
+/// trees.
 ///
 /// `log` has the calls in order, `replies` has for each client its steps' replies in order, `commits` is the number of
 /// commits, and `config` and `oper` are the trees at the end. It fails only where memory runs out.
 pub fn report(
     alloc: Global,
+    schema: &Schema,
     log: &[Entry],
-    replies: &[Seq<Reply>],
+    replies: &[Seq<StepReply>],
     commits: u64,
     config: &Rows,
     oper: &Rows,
 ) -> Result<Str, NoMemory>
-    ensures { IfOk result (λ text. text ≡ spec.report_of log.now replies.now commits config.now oper.now) }
+    ensures { IfOk result (λ text. text ≡ spec.report_of schema.now log.now replies.now commits config.now oper.now) }
 {
     let mut text = String::new(alloc);
     push_order(&mut text, log)?;
-    push_replies(alloc, &mut text, replies)?;
-    push_trees(alloc, &mut text, commits, config.items(), oper.items())?;
+    push_replies(alloc, &mut text, schema, replies)?;
+    push_trees(alloc, &mut text, schema, commits, config, oper)?;
     Ok(Str::from_string(text))
 }
 
@@ -51,11 +53,16 @@ fn push_clients(text: &mut String, log: &[Entry]) -> Result<(), NoMemory>
     Ok(())
 }
 
-fn push_replies(alloc: Global, text: &mut String, replies: &[Seq<Reply>]) -> Result<(), NoMemory>
-    ensures { OnOk result (string_bytes text.new ≡ string_bytes text.old ++ spec.reply_lines 0 replies.now) }
+fn push_replies(
+    alloc: Global,
+    text: &mut String,
+    schema: &Schema,
+    replies: &[Seq<StepReply>],
+) -> Result<(), NoMemory>
+    ensures { OnOk result (string_bytes text.new ≡ string_bytes text.old ++ spec.reply_lines schema.now 0 replies.now) }
 {
     for (client, replies) in replies.iter().enumerate() {
-        push_client(alloc, text, client, replies.items())?;
+        push_client(alloc, text, schema, client, replies.items())?;
     }
     Ok(())
 }
@@ -64,13 +71,14 @@ fn push_replies(alloc: Global, text: &mut String, replies: &[Seq<Reply>]) -> Res
 fn push_client(
     alloc: Global,
     text: &mut String,
+    schema: &Schema,
     client: usize,
-    replies: &[Reply],
+    replies: &[StepReply],
 ) -> Result<(), NoMemory>
-    ensures { OnOk result (string_bytes text.new ≡ string_bytes text.old ++ spec.client_lines client 0 replies.now) }
+    ensures { OnOk result (string_bytes text.new ≡ string_bytes text.old ++ spec.client_lines schema.now client 0 replies.now) }
 {
     for (step, reply) in replies.iter().enumerate() {
-        push_line(alloc, text, client, step, reply)?;
+        push_line(alloc, text, schema, client, step, reply)?;
     }
     Ok(())
 }
@@ -78,40 +86,46 @@ fn push_client(
 fn push_line(
     alloc: Global,
     text: &mut String,
+    schema: &Schema,
     client: usize,
     step: usize,
-    reply: &Reply,
+    reply: &StepReply,
 ) -> Result<(), NoMemory>
-    ensures { OnOk result (string_bytes text.new ≡ string_bytes text.old ++ spec.reply_line client step reply.now) }
+    ensures { OnOk result (string_bytes text.new ≡ string_bytes text.old ++ spec.reply_line schema.now client step reply.now) }
 {
     write!(text, "{client} {step} ")?;
-    push_reply(alloc, text, reply)?;
+    push_reply(alloc, text, schema, reply)?;
     end_line(text)
 }
 
 fn push_trees(
     alloc: Global,
     text: &mut String,
+    schema: &Schema,
     commits: u64,
-    config: &[Row],
-    oper: &[Row],
+    config: &Rows,
+    oper: &Rows,
 ) -> Result<(), NoMemory>
-    ensures { OnOk result (string_bytes text.new ≡ string_bytes text.old ++ spec.tree_line 0 commits config.now oper.now) }
+    ensures { OnOk result (string_bytes text.new ≡ string_bytes text.old ++ spec.tree_line schema.now 0 commits config.now oper.now) }
 {
     push_numbered(text, "tree", 0)?;
     push_number(text, commits)?;
-    push_tree(alloc, text, config)?;
-    push_tree(alloc, text, oper)?;
+    push_tree(alloc, text, schema, config)?;
+    push_tree(alloc, text, schema, oper)?;
     end_line(text)
 }
 
 // A space and a tree.
-fn push_tree(alloc: Global, text: &mut String, rows: &[Row]) -> Result<(), NoMemory>
-    ensures { OnOk result (string_bytes text.new ≡ string_bytes text.old ++ (32 ∷ compact_text (data_of_tree rows.now))) }
+fn push_tree(
+    alloc: Global,
+    text: &mut String,
+    schema: &Schema,
+    rows: &Rows,
+) -> Result<(), NoMemory>
+    ensures { OnOk result (string_bytes text.new ≡ string_bytes text.old ++ spec.tree_text schema.now rows.now) }
 {
-    let tree = tree_value(alloc, rows)?;
     text.push(' ')?;
-    push_value(alloc, text, &tree)
+    push_data(alloc, text, schema, &Path::root(alloc), rows)
 }
 
 fn end_line(text: &mut String) -> Result<(), NoMemory>

@@ -1,85 +1,56 @@
 //! The texts of replies. Each function writes behind what stands in the text.
-ghost use Rattle.std.specs.Prelude.{◌≡◌, ◌++◌, IfOk, OnOk, codes, false, string_bytes};
-ghost use Rattle.json.specs.Print.{quoted};
-ghost use Rattle.serde_json.specs.View.{view};
-ghost use Rattle.serde_json.specs.Written.{compact_text, has_float};
-ghost use Rattle.sal_script.specs.Plain.{text_of_path};
+ghost use Rattle.std.specs.Prelude.{◌≡◌, ◌++◌, OnOk, codes, string_bytes};
 ghost use Rattle.sal_script.specs.Report as spec;
 
-use crate::values::cell_value;
-use crate::words::{kind_word, leaf_name, store_word};
-use sal_history::{Refusal, Reply};
-use sal_rows::{CallFault, Outcome};
-use sal_types::{NoMemory, Path, Row, Step};
-use serde_json::Value;
+use crate::faults::{push_data_fault, push_path_fault};
+use crate::pieces::{push_data, push_numbered, push_path, push_word};
+use crate::words::{kind_word, store_word, truth_word};
+use sal_history::Reply;
+use sal_rows::{CallFault, Outcome, Rows};
+use sal_schema::Schema;
+use sal_script::{StepRefusal, StepReply};
+use sal_types::{NoMemory, Path};
 use std::alloc::Global;
 
-// A space and a number.
-pub(crate) fn push_number(text: &mut String, number: u64) -> Result<(), NoMemory>
-    ensures { OnOk result (string_bytes text.new ≡ string_bytes text.old ++ spec.number number) }
-{
-    write!(text, " {number}")?;
-    Ok(())
-}
-
-// The JSON text of a value.
-pub(crate) fn push_value(alloc: Global, text: &mut String, value: &Value) -> Result<(), NoMemory>
-    requires { has_float (view value.now) ≡ false }
-    ensures { OnOk result (string_bytes text.new ≡ string_bytes text.old ++ compact_text (view value.now)) }
-{
-    let written = value.to_string(alloc)?;
-    text.push_str(written.as_str())?;
-    Ok(())
-}
-
 // The reply to a step.
-pub(crate) fn push_reply(alloc: Global, text: &mut String, reply: &Reply) -> Result<(), NoMemory>
-    ensures { OnOk result (string_bytes text.new ≡ string_bytes text.old ++ spec.reply_text reply.now) }
+pub(crate) fn push_reply(
+    alloc: Global,
+    text: &mut String,
+    schema: &Schema,
+    reply: &StepReply,
+) -> Result<(), NoMemory>
+    ensures { OnOk result (string_bytes text.new ≡ string_bytes text.old ++ spec.reply_text schema.now reply.now) }
 {
     match reply {
-        Reply::Begun { commit, on } => push_begun(text, *commit, *on),
-        Reply::Accepted => push_word(text, "ok"),
-        Reply::Read { rows, .. } => push_rows(alloc, text, rows.items()),
-        Reply::Receipt { number } => push_numbered(text, "receipt", *number),
-        Reply::Settled { outcome, .. } => push_outcome(alloc, text, outcome),
-        Reply::Refused { refusal } => {
+        StepReply::Called { reply } => push_call(alloc, text, schema, reply),
+        StepReply::Accepted => push_word(text, "ok"),
+        StepReply::Read { path, rows, .. } => push_rows(alloc, text, schema, path, rows),
+        StepReply::Exists { found } => push_word(text, truth_word(*found)),
+        StepReply::Refused { refusal } => {
             text.push_str("refused ")?;
-            push_refusal(text, *refusal)
+            push_refusal(alloc, text, schema, refusal)
         }
     }
 }
 
-fn push_refusal(text: &mut String, refusal: Refusal) -> Result<(), NoMemory>
-    ensures { OnOk result (string_bytes text.new ≡ string_bytes text.old ++ spec.refusal_text refusal) }
+// The answer to a shared call.
+fn push_call(
+    alloc: Global,
+    text: &mut String,
+    schema: &Schema,
+    reply: &Reply,
+) -> Result<(), NoMemory>
+    ensures { OnOk result (string_bytes text.new ≡ string_bytes text.old ++ spec.call_text schema.now reply.now) }
 {
-    match refusal {
-        Refusal::EmptySlot => push_word(text, "empty-slot"),
-        Refusal::ReadOnly => push_word(text, "read-only"),
-        Refusal::Shared { fault } => push_fault(text, fault),
+    match reply {
+        Reply::Begun { commit, on } => push_begun(text, *commit, *on),
+        Reply::Receipt { number } => push_numbered(text, "receipt", *number),
+        Reply::Settled { outcome, .. } => push_outcome(alloc, text, schema, outcome),
+        Reply::Refused { fault } => {
+            text.push_str("refused ")?;
+            push_fault(text, *fault)
+        }
     }
-}
-
-fn push_fault(text: &mut String, fault: CallFault) -> Result<(), NoMemory>
-    ensures { OnOk result (string_bytes text.new ≡ string_bytes text.old ++ spec.fault_text fault) }
-{
-    match fault {
-        CallFault::NoDomain { id } => push_numbered(text, "no-domain", u64::from(id)),
-    }
-}
-
-fn push_word(text: &mut String, word: &str) -> Result<(), NoMemory>
-    ensures { OnOk result (string_bytes text.new ≡ string_bytes text.old ++ word.now) }
-{
-    text.push_str(word)?;
-    Ok(())
-}
-
-// A word, a space and a number.
-pub(crate) fn push_numbered(text: &mut String, word: &str, number: u64) -> Result<(), NoMemory>
-    ensures { OnOk result (string_bytes text.new ≡ string_bytes text.old ++ (word.now ++ spec.number number)) }
-{
-    text.push_str(word)?;
-    push_number(text, number)
 }
 
 fn push_begun(text: &mut String, commit: u64, on: Option<u64>) -> Result<(), NoMemory>
@@ -92,20 +63,21 @@ fn push_begun(text: &mut String, commit: u64, on: Option<u64>) -> Result<(), NoM
     }
 }
 
-// What a read found at a leaf.
-fn push_rows(alloc: Global, text: &mut String, rows: &[Row]) -> Result<(), NoMemory>
-    ensures { OnOk result (string_bytes text.new ≡ string_bytes text.old ++ spec.rows_text rows.now) }
+fn push_fault(text: &mut String, fault: CallFault) -> Result<(), NoMemory>
+    ensures { OnOk result (string_bytes text.new ≡ string_bytes text.old ++ spec.fault_text fault) }
 {
-    let Some(row) = rows.first() else {
-        return push_word(text, "absent");
-    };
-    let value = cell_value(alloc, &row.cell)?;
-    text.push_str("data ")?;
-    push_value(alloc, text, &value)
+    match fault {
+        CallFault::NoDomain { id } => push_numbered(text, "no-domain", u64::from(id)),
+    }
 }
 
-fn push_outcome(alloc: Global, text: &mut String, outcome: &Outcome) -> Result<(), NoMemory>
-    ensures { OnOk result (string_bytes text.new ≡ string_bytes text.old ++ spec.outcome_text outcome.now) }
+fn push_outcome(
+    alloc: Global,
+    text: &mut String,
+    schema: &Schema,
+    outcome: &Outcome,
+) -> Result<(), NoMemory>
+    ensures { OnOk result (string_bytes text.new ≡ string_bytes text.old ++ spec.outcome_text schema.now outcome.now) }
 {
     match outcome {
         Outcome::Done { commit } => push_numbered(text, "done", *commit),
@@ -117,33 +89,50 @@ fn push_outcome(alloc: Global, text: &mut String, outcome: &Outcome) -> Result<(
         } => {
             text.push_str("conflict ")?;
             text.push_str(store_word(*store))?;
-            text.push(' ')?;
-            push_path(alloc, text, path)?;
+            push_path(alloc, text, schema, path)?;
             text.push(' ')?;
             push_numbered(text, kind_word(*kind), *commit)
         }
     }
 }
 
-// The text of a path, as a JSON text.
-fn push_path(alloc: Global, text: &mut String, path: &Path) -> Result<(), NoMemory>
-    ensures { OnOk result (string_bytes text.new ≡ string_bytes text.old ++ quoted (text_of_path path.now)) }
+fn push_refusal(
+    alloc: Global,
+    text: &mut String,
+    schema: &Schema,
+    refusal: &StepRefusal,
+) -> Result<(), NoMemory>
+    ensures { OnOk result (string_bytes text.new ≡ string_bytes text.old ++ spec.refusal_text schema.now refusal.now) }
 {
-    let path = path_text(alloc, path)?;
-    push_value(alloc, text, &Value::String(path))
+    match refusal {
+        StepRefusal::EmptySlot => push_word(text, "empty-slot"),
+        StepRefusal::ReadOnly => push_word(text, "read-only"),
+        StepRefusal::BadPath { fault } => {
+            text.push_str("path ")?;
+            push_path_fault(text, *fault)
+        }
+        StepRefusal::BadData { fault } => {
+            text.push_str("data ")?;
+            push_data_fault(alloc, text, schema, fault)
+        }
+    }
 }
 
-fn path_text(alloc: Global, path: &Path) -> Result<String, NoMemory>
-    ensures { IfOk result (λ text. string_bytes text ≡ text_of_path path.now) }
+// What a read found at a path.
+fn push_rows(
+    alloc: Global,
+    text: &mut String,
+    schema: &Schema,
+    path: &Path,
+    rows: &Rows,
+) -> Result<(), NoMemory>
+    ensures { OnOk result (string_bytes text.new ≡ string_bytes text.old ++ spec.rows_text schema.now path.now rows.now) }
 {
-    let mut text = String::from_str(alloc, "/")?;
-    match path.steps() {
-        [Step::Node(_), Step::Node(leaf)] => {
-            text.push_str("plain:box/")?;
-            text.push_str(leaf_name(*leaf))?;
+    match (path.steps(), rows.items()) {
+        ([_, ..], []) => push_word(text, "absent"),
+        _ => {
+            text.push_str("data ")?;
+            push_data(alloc, text, schema, path, rows)
         }
-        [_] => text.push_str("plain:box")?,
-        _ => (),
     }
-    Ok(text)
 }

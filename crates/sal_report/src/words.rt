@@ -1,10 +1,10 @@
 //! The words of a report.
 ghost use Rattle.std.specs.Prelude.{◌≡◌};
-ghost use Rattle.sal_script.specs.Plain.{last_name, leaf_name};
-ghost use Rattle.sal_script.specs.Report.{kind_text, store_text};
+ghost use Rattle.sal_script.specs.Report.{kind_text, scalar_text, store_text, truth_text};
 
+use sal_json::ScalarFault;
 use sal_rows::ClashKind;
-use sal_types::{Path, Step, Store};
+use sal_types::Store;
 
 pub(crate) fn store_word(store: Store) -> &'static str
     ensures { result.now ≡ store_text store }
@@ -25,29 +25,25 @@ pub(crate) fn kind_word(kind: ClashKind) -> &'static str
     }
 }
 
-// The name of a leaf of the module `plain`, by its node's number.
-pub(crate) fn leaf_name(leaf: u32) -> &'static str
-    ensures { result.now ≡ leaf_name leaf }
+pub(crate) fn truth_word(truth: bool) -> &'static str
+    ensures { result.now ≡ truth_text truth }
 {
-    match leaf {
-        1 => "a",
-        2 => "b",
-        3 => "c",
-        4 => "d",
-        5 => "e",
-        6 => "f",
-        7 => "g",
-        8 => "h",
-        _ => "?",
+    match truth {
+        true => "true",
+        false => "false",
     }
 }
 
-// The name of the node that a path ends at, in its parent.
-pub(crate) fn last_name(path: &Path) -> &'static str
-    ensures { result.now ≡ last_name path.now }
+// Why a value is none of its type.
+pub(crate) fn scalar_word(fault: ScalarFault) -> &'static str
+    ensures { result.now ≡ scalar_text fault }
 {
-    match path.steps() {
-        [Step::Node(_), Step::Node(leaf)] => leaf_name(*leaf),
-        _ => "",
+    match fault {
+        ScalarFault::WrongKind => "wrong-kind",
+        ScalarFault::OutOfRange => "out-of-range",
+        ScalarFault::BadLength => "bad-length",
+        ScalarFault::NoMatch => "no-match",
+        ScalarFault::UnknownName => "unknown-name",
+        ScalarFault::NoMemory => "no-memory",
     }
 }

@@ -53,6 +53,10 @@ on_text (Some receipt) = codes " on" ++ number receipt
 abbrev pub fault_text : CallFault → List ℕ
 fault_text (NoDomain id) = codes "no-domain" ++ number id
 
+abbrev pub truth_text : Bool → List ℕ
+truth_text true = codes "true"
+truth_text false = codes "false"
+
 -- ---- faults of texts and of data
 
 abbrev pub scalar_text : ScalarFault → List ℕ
@@ -109,10 +113,6 @@ module _ (table : SchemaTable) where
   abbrev pub rows_text : List Step → List Row → List ℕ
   rows_text (step ∷ path) [] = codes "absent"
   rows_text path rows = codes "data " ++ compact_text (write_data table path rows)
-
-  abbrev pub truth_text : Bool → List ℕ
-  truth_text true = codes "true"
-  truth_text false = codes "false"
 
   abbrev pub reply_text : StepReply → List ℕ
   reply_text (step_reply.Called reply) = call_text reply

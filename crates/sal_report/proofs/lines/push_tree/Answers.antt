@@ -1,7 +1,0 @@
-use Rattle.std.proofs.Common.{ap, ◌∙◌}
-use Rattle.serde_json.specs.Written.{has_float}
-use Rattle.sal_report.proofs.Whole.{has_float-data_of_tree}
-use Rattle.sal_report.proofs.lines.push_tree.Goals as goal
-
-pub push_value-requires : goal.push_value-requires
-push_value-requires c = ap has_float c.in_ok-tree.ensures ∙ has_float-data_of_tree c.args.rows.now

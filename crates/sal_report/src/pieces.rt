@@ -1,0 +1,84 @@
+//! The pieces of a line: words, numbers, paths and rows. Each function writes behind what stands in the text.
+ghost use Rattle.std.specs.Prelude.{◌≡◌, ◌∷◌, ◌++◌, OnOk, false, string_bytes};
+ghost use Rattle.json.specs.Print.{quoted};
+ghost use Rattle.serde_json.specs.View.{view};
+ghost use Rattle.serde_json.specs.Written.{compact_text, has_float};
+ghost use Rattle.sal_data.specs.Written.{write_data};
+ghost use Rattle.sal_script.specs.Report as spec;
+
+use sal_data::write_data;
+use sal_pathtext::write_path;
+use sal_rows::Rows;
+use sal_schema::Schema;
+use sal_types::{NoMemory, Path};
+use serde_json::Value;
+use std::alloc::Global;
+
+pub(crate) fn push_word(text: &mut String, word: &str) -> Result<(), NoMemory>
+    ensures { OnOk result (string_bytes text.new ≡ string_bytes text.old ++ word.now) }
+{
+    text.push_str(word)?;
+    Ok(())
+}
+
+// A space and a number.
+pub(crate) fn push_number(text: &mut String, number: u64) -> Result<(), NoMemory>
+    ensures { OnOk result (string_bytes text.new ≡ string_bytes text.old ++ spec.number number) }
+{
+    write!(text, " {number}")?;
+    Ok(())
+}
+
+// A word, a space and a number.
+pub(crate) fn push_numbered(text: &mut String, word: &str, number: u64) -> Result<(), NoMemory>
+    ensures { OnOk result (string_bytes text.new ≡ string_bytes text.old ++ (word.now ++ spec.number number)) }
+{
+    text.push_str(word)?;
+    push_number(text, number)
+}
+
+// The JSON text of a value.
+fn push_value(alloc: Global, text: &mut String, value: &Value) -> Result<(), NoMemory>
+    requires { has_float (view value.now) ≡ false }
+    ensures { OnOk result (string_bytes text.new ≡ string_bytes text.old ++ compact_text (view value.now)) }
+{
+    let written = value.to_string(alloc)?;
+    text.push_str(written.as_str())?;
+    Ok(())
+}
+
+// A space and a JSON text of these words.
+pub(crate) fn push_quoted(alloc: Global, text: &mut String, words: &str) -> Result<(), NoMemory>
+    ensures { OnOk result (string_bytes text.new ≡ string_bytes text.old ++ (32 ∷ quoted words.now)) }
+{
+    let words = String::from_str(alloc, words)?;
+    text.push(' ')?;
+    push_value(alloc, text, &Value::String(words))
+}
+
+// A space and the text of a path.
+pub(crate) fn push_path(
+    alloc: Global,
+    text: &mut String,
+    schema: &Schema,
+    path: &Path,
+) -> Result<(), NoMemory>
+    ensures { OnOk result (string_bytes text.new ≡ string_bytes text.old ++ spec.path_text schema.now path.now) }
+{
+    let path = write_path(alloc, schema, path)?;
+    push_quoted(alloc, text, path.as_str())
+}
+
+// The rows at a path and below it, as JSON.
+pub(crate) fn push_data(
+    alloc: Global,
+    text: &mut String,
+    schema: &Schema,
+    path: &Path,
+    rows: &Rows,
+) -> Result<(), NoMemory>
+    ensures { OnOk result (string_bytes text.new ≡ string_bytes text.old ++ compact_text (write_data schema.now path.now rows.now)) }
+{
+    let value = write_data(alloc, schema, path, rows)?;
+    push_value(alloc, text, &value)
+}

@@ -13,11 +13,10 @@ use Rattle.sal_rows.specs.Apply.{apply_ops}
 use Rattle.sal_history.specs.declared.call.Call.TheVariants.{Begin as BeginCall, Submit as SubmitCall}
 use Rattle.sal_history.specs.declared.call.Entry.{Entry}
 use Rattle.sal_history.specs.declared.reply.Reply.{Reply}
-use Rattle.sal_history.specs.declared.reply.Reply.TheVariants.{Begun, Accepted, Receipt, Refused}
-use Rattle.sal_history.specs.declared.reply.Refusal.TheVariants.{Shared as SharedRefusal}
+use Rattle.sal_history.specs.declared.reply.Reply.TheVariants.{Begun, Receipt, Refused}
 use Rattle.sal_history.specs.History.{Base, base_tree, began_at, commits, history, is_live, reply_to, sent_by, sents, view}
 use Rattle.sal_script.specs.declared.script.ScriptStep.TheVariants.{Begin}
-use Rattle.sal_script.specs.Play.{Client, Open, Slots, keep, local, set_slot, shared, submit, submit_in, write, write_in}
+use Rattle.sal_script.specs.Play.{Client, Open, Slots, keep, set_slot, shared, submit, submit_in}
 use Rattle.mdsal.specs.declared.client.Standing.TheVariants.{Writable}
 use Rattle.mdsal.specs.declared.transaction.Transaction.{Transaction}
 use Rattle.mdsal.specs.Views.{open_of, view_of, Accepts, Begins, IsSoundView}
@@ -41,18 +40,10 @@ module _ (world : List Opening) where
   pub kept-refused : (log : List Entry) (r : Reply) (slot domain : ℕ) (mode : Mode) (old : Client) → (domain ≡ 0 → ⊥) → r ≡ reply_to world (history world log) (BeginCall domain mode) → old ≡ keep (length log) (Begin slot domain mode) r old
   kept-refused log r slot domain mode old dead is =
       let no : is_live domain ≡ false = grind (arith, nat_tests) in
-      let answer : r ≡ Refused (SharedRefusal (NoDomain domain)) = is ∙ ap (λ b. if b then Begun (length (commits (history world log) domain)) None else Refused (SharedRefusal (NoDomain domain))) no in
+      let answer : r ≡ Refused (NoDomain domain) = is ∙ ap (λ b. if b then Begun (length (commits (history world log) domain)) None else Refused (NoDomain domain)) no in
       sym (ap (λ q. keep (length log) (Begin slot domain mode) q old) answer)
 
   -- ---- writes
-
-  write_mode : (slot : ℕ) (op : Op) (tx : Open) (m : Mode) (client : Client) → standing_in m ≡ Writable → write_in slot op tx m client ≡ local Accepted (record client { transactions = set_slot slot (Some (record tx { ops = tx.ops ++ op ∷ [] })) client.transactions })
-  write_mode slot op tx Ro client w = cc
-  write_mode slot op tx Wo client w = refl
-  write_mode slot op tx Rw client w = refl
-
-  pub write-writable : (slot : ℕ) (op : Op) (client : Client) (o : Option Open) (tx : Open) → o ≡ Some tx → standing_of o ≡ Writable → write slot op client o ≡ local Accepted (record client { transactions = set_slot slot (Some (record tx { ops = tx.ops ++ op ∷ [] })) client.transactions })
-  write-writable slot op client o tx e w = ap (write slot op client) e ∙ write_mode slot op tx tx.mode client (sym (ap standing_of e) ∙ w)
 
   pub open_of-accept : (op : Op) (old new : Transaction) → Accepts op old new → record (open_of old) { ops = old.ops.items ++ op ∷ [] } ≡ open_of new
   open_of-accept op old new a = λ i. record { place = sym a.place i; domain = 0; mode = sym a.mode i; ops = sym a.ops i }

@@ -33,9 +33,10 @@ impl Reader {
     ghost use Rattle.std.specs.List.{list_any};
     ghost use Rattle.sal_types.specs.Reading.{GivesUnless};
     ghost use Rattle.sal_json.specs.Patterns.{has_malformed, IsRefusal};
-    ghost use Rattle.sal_pathtext.specs.Reading.{Gives};
-    ghost use Rattle.sal_pathtext.specs.Read as paths;
-    ghost use Rattle.sal_data.specs.Read as data;
+    ghost use Rattle.serde_json.specs.View.{view};
+    ghost use Rattle.sal_pathtext.specs.Read.{Gives};
+    ghost use Rattle.sal_pathtext.specs.Read as path_spec;
+    ghost use Rattle.sal_data.specs.Read as data_spec;
 
     /// A reader of this schema.
     pub fn of(alloc: Global, schema: Schema) -> Result<Self, PatternsFault>
@@ -56,14 +57,14 @@ impl Reader {
 
     /// The path that the text stands for.
     pub fn path(&self, alloc: Global, text: &str) -> Result<Path, PathTextFault>
-        ensures { Gives (λ path. path) result (paths.read_path self.now text.now) }
+        ensures { Gives (λ path. path) result (path_spec.read_path self.now text.now) }
     {
         read_path(alloc, &self.schema, &self.patterns, text)
     }
 
     /// The rows that the value at the path stands for.
     pub fn data(&self, alloc: Global, path: &Path, value: &Value) -> Result<Rows, DataFault>
-        ensures { GivesUnless DataFault.NoMemory (λ rows. rows) result (data.read_data self.now path.now (view value.now)) }
+        ensures { GivesUnless DataFault.NoMemory (λ rows. rows) result (data_spec.read_data self.now path.now (view value.now)) }
     {
         read_data(alloc, &self.schema, &self.patterns, path, value)
     }

@@ -24,6 +24,8 @@ pub mod schema_fault;
 #[cfg(test)]
 mod schema_tests;
 pub mod scripted;
+#[cfg(test)]
+mod sim_tests;
 pub mod simulation;
 pub mod slots;
 pub mod status;

@@ -61,7 +61,9 @@ fn scripts_end_with_their_reports(rt: HostRuntime) -> Result<(), Fail> {
         ("sim", "{", 6, ""),
         ("sim", r#"{"clients":[{"steps":[["fly"]]}]}"#, 6, ""),
         ("sim", r#"{"order":[0]}"#, 9, ""),
-        ("sim", r#"{"modules":[]}"#, 6, ""),
+        ("sim", r#"{"modules":[]}"#, 0, "order\ntree 0 0 {} {}\n"),
+        ("sim", r#"{"modules":["module m {"]}"#, 7, ""),
+        ("sim", r#"{"config":{"box":{}}}"#, 8, ""),
         ("schema", "{}", 0, PLAIN_TABLE),
         ("schema", r#"{"modules":[]}"#, 0, ""),
         ("schema", r#"{"modules":[7]}"#, 6, ""),
@@ -199,6 +201,9 @@ fn lines_name_the_place(rt: HostRuntime) -> Result<(), Fail> {
     let text = Str::new(rt.alloc(), "module 0 unclosed 9")?;
     let schema = Status::BadSchema { device: 0, text }.line(rt.alloc())?;
     assert_eq!(rt; schema.as_str(), "bad schema 0 module 0 unclosed 9\n");
+    let text = Str::new(rt.alloc(), "0 config data too-deep \"/\"")?;
+    let opening = Status::BadOpening { text }.line(rt.alloc())?;
+    assert_eq!(rt; opening.as_str(), "bad opening 0 config data too-deep \"/\"\n");
     assert_eq!(rt; Status::Done.line(rt.alloc())?.as_str(), "");
     Ok(())
 }

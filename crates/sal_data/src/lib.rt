@@ -20,7 +20,11 @@ mod examples;
 mod fault;
 mod fits;
 mod runs;
+#[cfg(test)]
+mod test_table;
 mod write;
+#[cfg(test)]
+mod write_tests;
 mod written_names;
 
 pub use fault::DataFault;

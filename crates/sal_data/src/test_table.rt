@@ -101,6 +101,9 @@ fn nodes(alloc: Global) -> Result<Seq<NodeInfo>, NoMemory> {
 }
 
 fn range(alloc: Global, low: i128, high: i128) -> Result<Ranges, NoMemory> {
+    if low > high {
+        return Err(NoMemory);
+    }
     Ok(Ranges::from_items(vec![in alloc; Part { low, high }]?))
 }
 

@@ -1,5 +1,8 @@
-pub mod FirstRun
-pub mod Levels
-pub mod Consecutive
 pub mod CellFound
+pub mod Consecutive
+pub mod FirstRun
+pub mod Following
+pub mod Levels
+pub mod Ordered
 pub mod Prefixed
+pub mod Walking

@@ -10,7 +10,8 @@ ghost use Rattle.sal_schema.specs.Paths.{last_step, node_of};
 ghost use Rattle.sal_schema.specs.Fitting as spec;
 
 use crate::cells::{cell_at, cell_below};
-use crate::written_names::{is_leaf, keys_at, node_at_end};
+use crate::lookups::{is_leaf, keys_at};
+use crate::written_names::node_at_end;
 use sal_rows::Rows;
 use sal_schema::Schema;
 use sal_types::{Cell, Path, Row, Step, Value};

@@ -1,4 +1,4 @@
-//! A table of the tests: a box with nodes of each kind, and a leaf of each type.
+//! The schema of the texts that are read in tests: a box with a leaf of each type, and nodes of each kind.
 use sal_restrict::{Part, Ranges, YangType};
 use sal_schema::{IdentityInfo, Kind, NodeInfo, SchemaTable};
 use sal_types::{NoMemory, Seq, Str};
@@ -212,7 +212,6 @@ fn identities(alloc: Global) -> Result<Seq<IdentityInfo>, NoMemory> {
     Ok(Seq::from_items(list))
 }
 
-/// The table.
 pub(crate) fn table(alloc: Global) -> Result<SchemaTable, NoMemory> {
     Ok(SchemaTable {
         nodes: nodes(alloc)?,

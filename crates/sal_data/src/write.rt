@@ -6,10 +6,9 @@ ghost use Rattle.sal_types.specs.declared.value.Step.TheVariants.{Item};
 ghost use Rattle.sal_schema.specs.Paths.{last_step};
 ghost use Rattle.sal_data.specs.Written as spec;
 
+use crate::lookups::{is_leaf, is_leaf_list, is_list, module_at, type_at};
 use crate::runs::{first_run, step_of, under};
-use crate::written_names::{
-    is_leaf, is_leaf_list, is_list, module_at, node_at_end, put_member, type_at,
-};
+use crate::written_names::{node_at_end, put_member};
 use sal_json::write_scalar;
 use sal_rows::Rows;
 use sal_schema::Schema;

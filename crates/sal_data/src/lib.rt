@@ -34,8 +34,8 @@
 //! Writing goes once through the rows for each step of their paths: `runs` parts them where the next step changes, and `write`
 //! makes a member or an item of each run, without a copy of rows or paths. Beside that it takes what `write_scalar` takes for
 //! each value, and for each member a search by halves among those of its object. Rows of the tree before and behind those at
-//! the path are passed over one by one. Calls nest as deep as a path has steps. `fits_rows` takes no memory: for each entry and
-//! presence container above a row it searches by halves for its row and, of an entry, for its key leafs.
+//! the path are passed over one by one. Calls nest as deep as a path has steps. `fits_rows` takes no memory: it goes once through the rows, and looks by
+//! halves for the row of each entry and presence container above them and, of an entry, for its key leafs.
 #![tactic(auto)]
 
 mod cells;

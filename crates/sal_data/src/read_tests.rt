@@ -36,16 +36,22 @@ fn slot_step(alloc: Global) -> Result<Step, NoMemory> {
     Ok(Step::Key(Seq::from_items(keys)))
 }
 
+fn go_into_box(path: &mut Path, node: u32) -> Result<(), NoMemory> {
+    go(path, Step::Node(0))?;
+    go(path, Step::Node(node))
+}
+
 fn path_to(alloc: Global, place: &Place) -> Result<Path, NoMemory> {
     let mut path = Path::root(alloc);
-    let node = match place {
-        Place::Root => return Ok(path),
-        Place::Text => 10,
-        Place::Slots | Place::Slot => 20,
-        Place::Tags | Place::Tag => 24,
-    };
-    go(&mut path, Step::Node(0))?;
-    go(&mut path, Step::Node(node))?;
+    match place {
+        Place::Root => (),
+        Place::Text => go_into_box(&mut path, 10)?,
+        Place::Slots | Place::Slot => go_into_box(&mut path, 20)?,
+        Place::Tags | Place::Tag => go_into_box(&mut path, 24)?,
+        Place::Input => go(&mut path, Step::Node(32))?,
+        Place::Output => go(&mut path, Step::Node(34))?,
+        Place::Told => go(&mut path, Step::Node(36))?,
+    }
     match place {
         Place::Slot => go(&mut path, slot_step(alloc)?)?,
         Place::Tag => go(&mut path, Step::Item(text_value(alloc, "a")?))?,

@@ -59,6 +59,17 @@ const NODES: &[Info] = &[
     Info(Some(29), Kind::Leaf, 0, "pair", Some(4), &[]),
 ];
 
+// An RPC with its input and output, and a notification, with the numbers behind those.
+const MESSAGES: &[Info] = &[
+    Info(None, Kind::Rpc, 0, "go", None, &[]),
+    Info(Some(31), Kind::Input, 0, "input", None, &[]),
+    Info(Some(32), Kind::Leaf, 0, "speed", Some(4), &[]),
+    Info(Some(31), Kind::Output, 0, "output", None, &[]),
+    Info(Some(34), Kind::Leaf, 1, "time", Some(4), &[]),
+    Info(None, Kind::Notification, 0, "told", None, &[]),
+    Info(Some(36), Kind::Leaf, 0, "why", Some(9), &[]),
+];
+
 // Whole numbers: their bits, whether they have a sign, and their least and greatest.
 #[derive(Drop)]
 struct Whole(u8, bool, i128, i128);
@@ -74,7 +85,7 @@ const WHOLES: &[Whole] = &[
     Whole(64, false, 0, 18446744073709551615),
 ];
 
-fn node(alloc: Global, info: &Info) -> Result<NodeInfo, NoMemory> {
+fn node(alloc: Global, info: &Info, config: Option<bool>) -> Result<NodeInfo, NoMemory> {
     let name = Str::new(alloc, info.3)?;
     let keys = Vec::from_slice(alloc, info.5)?;
     Ok(NodeInfo {
@@ -82,7 +93,7 @@ fn node(alloc: Global, info: &Info) -> Result<NodeInfo, NoMemory> {
         kind: info.1,
         module: info.2,
         name,
-        config: Some(true),
+        config,
         ty: info.4,
         keys: Seq::from_items(keys),
         mandatory: false,
@@ -95,13 +106,16 @@ fn node(alloc: Global, info: &Info) -> Result<NodeInfo, NoMemory> {
 fn nodes(alloc: Global) -> Result<Seq<NodeInfo>, NoMemory> {
     let mut list = Vec::new(alloc);
     for info in NODES {
-        list.push(node(alloc, info)?)?;
+        list.push(node(alloc, info, Some(true))?)?;
+    }
+    for message in MESSAGES {
+        list.push(node(alloc, message, None)?)?;
     }
     Ok(Seq::from_items(list))
 }
 
 fn range(alloc: Global, low: i128, high: i128) -> Result<Ranges, NoMemory> {
-    if low > high {
+    if high < low {
         return Err(NoMemory);
     }
     Ok(Ranges::from_items(vec![in alloc; Part { low, high }]?))

@@ -9,6 +9,9 @@ pub(crate) enum Place {
     Slot,
     Tags,
     Tag,
+    Input,
+    Output,
+    Told,
 }
 
 // Places, JSON texts, and what is to be read: rows as `text_of` writes them, or a fault as `fault_text` does.
@@ -372,4 +375,16 @@ pub(crate) const CASES: &[(Place, &str, &str)] = &[
     (Place::Tag, r#""a""#, "/0/24.0'a'* "),
     (Place::Tag, r#""b""#, "KeyDiffers/0/24.0'a'"),
     (Place::Tag, r#"1"#, "WrongKind/0/24"),
+    // the data of messages stand below their input, output or notification, and none at the top
+    (Place::Input, r#"{"speed":3}"#, "/32/33=0u3 "),
+    (Place::Input, r#"{"time":3}"#, "UnknownMember/32 time"),
+    (Place::Output, r#"{"geo:time":3}"#, "/34/35=0u3 "),
+    (Place::Output, r#"{"time":3}"#, "NeedsModule/34 time"),
+    (Place::Told, r#"{"why":"w"}"#, "/36/37=0'w' "),
+    (Place::Root, r#"{"inv:go":{}}"#, "UnknownMember inv:go"),
+    (
+        Place::Root,
+        r#"{"inv:told":{"why":"w"}}"#,
+        "UnknownMember inv:told",
+    ),
 ];

@@ -12,8 +12,8 @@ ghost use Rattle.sal_schema.specs.Fitting as spec;
 ghost use Rattle.sal_data.specs.Read.{same_step};
 
 use crate::cells::{cell_at, cell_below};
+use crate::ends::node_at_end;
 use crate::lookups::{is_leaf, keys_at};
-use crate::written_names::node_at_end;
 use sal_rows::Rows;
 use sal_schema::Schema;
 use sal_types::{Cell, Path, Row, Step, Value};

@@ -39,6 +39,7 @@
 #![tactic(auto)]
 
 mod cells;
+mod ends;
 mod entries;
 mod examples;
 mod fault;

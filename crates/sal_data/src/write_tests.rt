@@ -174,12 +174,7 @@ fn rows_without(alloc: Global, left_out: usize) -> Result<Rows, NoMemory> {
     }
 }
 
-fn text_at(
-    alloc: Global,
-    schema: &Schema,
-    rows: &Rows,
-    hops: &[Hop],
-) -> Result<String, NoMemory> {
+fn text_at(alloc: Global, schema: &Schema, rows: &Rows, hops: &[Hop]) -> Result<String, NoMemory> {
     let json = write_data(alloc, schema, &path_of(alloc, hops)?, rows)?;
     Ok(json.to_string(alloc)?)
 }
@@ -205,10 +200,7 @@ fn rows_fit_where_entries_are_whole(rt: HostRuntime) -> Result<(), Fail> {
     let root = Path::root(alloc);
     for (left_out, wanted) in LEFT_OUT {
         let rows = rows_without(alloc, *left_out)?;
-        assert!(rt;
-            fits_rows(&schema, &root, &rows) == *wanted,
-            "{left_out}"
-        );
+        assert!(rt; fits_rows(&schema, &root, &rows) == *wanted, "{left_out}");
     }
     Ok(())
 }

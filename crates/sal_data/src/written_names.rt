@@ -1,28 +1,14 @@
-//! Members of an object under the names of their nodes, and the node at the end of a path.
+//! Members of an object, put under the names of their nodes.
 ghost use Rattle.std.specs.Prelude.{◌≡◌, ◌++◌, ◌∷◌, IfOk, OnOk, string_bytes};
 ghost use Rattle.serde_json.specs.Data.{put};
 ghost use Rattle.serde_json.specs.View.{view, members_view};
-ghost use Rattle.sal_schema.specs.Paths.{node_of};
 ghost use Rattle.sal_data.specs.Members as spec;
 
 use crate::lookups::{is_qualified, name_at, own_module};
 use sal_schema::Schema;
-use sal_types::{NoMemory, Step};
+use sal_types::NoMemory;
 use serde_json::{Map, Value as Json};
 use std::alloc::Global;
-
-/// The node that these steps of a path come to: that of a list for each of its entries.
-pub(crate) fn node_at_end(steps: &[Step]) -> Option<u32>
-    ensures { result ≡ node_of steps.now }
-{
-    let mut here = None;
-    for step in steps {
-        if let Step::Node(node) = step {
-            here = Some(*node);
-        }
-    }
-    here
-}
 
 fn qualified(alloc: Global, module: &str, name: &str) -> Result<String, NoMemory>
     ensures { IfOk result (λ t. string_bytes t ≡ «module».now ++ 58 ∷ name.now) }

@@ -1,0 +1,9 @@
+pub mod Listed
+pub mod ObjectMembers
+pub mod Prefixed
+pub mod Runs
+pub mod PathsFit
+pub mod Children
+pub mod MemberNames
+pub mod Lawful
+pub mod Composed

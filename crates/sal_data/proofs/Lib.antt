@@ -7,3 +7,5 @@ pub mod Children
 pub mod MemberNames
 pub mod Lawful
 pub mod Composed
+pub mod Parts
+pub mod Ordered

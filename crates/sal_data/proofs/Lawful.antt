@@ -129,7 +129,7 @@ module _ (table : SchemaTable) (good : IsTable table) (at : List Step) (rows : L
 
   -- ---- leafs and leaf-lists end a path
 
-  no_object_child : (p : List Step) (n : ℕ) (s : Step) (q : List Step) (c : Cell) → after table (root table) p ≡ at_object table (Some n) → is_kind has_type table n ≡ true → cell rows (p ++ s ∷ q) ≡ Some c → ⊥
+  pub no_object_child : (p : List Step) (n : ℕ) (s : Step) (q : List Step) (c : Cell) → after table (root table) p ≡ at_object table (Some n) → is_kind has_type table n ≡ true → cell rows (p ++ s ∷ q) ≡ Some c → ⊥
   no_object_child p n s q c place typed e =
       let fits : step_here table (at_object table (Some n)) s ≡ true = subst (λ x. step_here table x s ≡ true) place (step_is_right p s q c e) in
       let (m, is, follows) = follows_object table (Some n) s fits in

@@ -9,3 +9,5 @@ pub mod Lawful
 pub mod Composed
 pub mod Parts
 pub mod Ordered
+pub mod Steps
+pub mod Objects

@@ -44,7 +44,7 @@ key (Some s) = s ∷ []
 abbrev pub Before : Option Step → Option Step → Type 0
 Before a b = path_cmp (key a) (key b) ≡ Less
 
-before_apart : (a b : Option Step) → Before a b → a ≡ b → ⊥
+pub before_apart : (a b : Option Step) → Before a b → a ≡ b → ⊥
 before_apart a b e same =
     let tied : path_cmp (key b) (key b) ≡ Equal = tied_itself path_cmp-IsTotalOrder (key b) in
     let lt : path_cmp (key b) (key b) ≡ Less = ap (λ c. path_cmp (key c) (key b)) (sym same) ∙ e in

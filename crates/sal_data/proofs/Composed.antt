@@ -141,7 +141,7 @@ module _ (rows : List Row) where
   GivesBelow-same path r s e g = record { read = g.read; is = e ∙ g.is; sound = g.sound; all = g.all }
 
   -- rows below one more step
-  behind : (path : List Step) (s : Step) (q : List Step) → (path ++ s ∷ []) ++ q ≡ path ++ s ∷ q
+  pub behind : (path : List Step) (s : Step) (q : List Step) → (path ++ s ∷ []) ++ q ≡ path ++ s ∷ q
   behind path s q = append_assoc path (s ∷ []) q
 
   all_behind : (path : List Step) (s : Step) (reading : Reading) (g : Gives (path ++ s ∷ []) reading) (q : List Step) (c : Cell) → cell rows (path ++ s ∷ q) ≡ Some c → In (at_row (path ++ s ∷ q) c) g.read

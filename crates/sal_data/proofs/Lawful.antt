@@ -49,11 +49,11 @@ one-of P x xs h = All-head P x xs h
 
 -- ---- kinds
 
-kind_never : (p q : Kind → Bool) (o : Option Kind) → ((k : Kind) → p k ≡ true → q k ≡ false) → option_map_or p o false ≡ true → option_map_or q o false ≡ false
+pub kind_never : (p q : Kind → Bool) (o : Option Kind) → ((k : Kind) → p k ≡ true → q k ≡ false) → option_map_or p o false ≡ true → option_map_or q o false ≡ false
 kind_never p q None never e = refl
 kind_never p q (Some k) never e = never k e
 
-kind_always : (p q : Kind → Bool) (o : Option Kind) → ((k : Kind) → p k ≡ true → q k ≡ true) → option_map_or p o false ≡ true → option_map_or q o false ≡ true
+pub kind_always : (p q : Kind → Bool) (o : Option Kind) → ((k : Kind) → p k ≡ true → q k ≡ true) → option_map_or p o false ≡ true → option_map_or q o false ≡ true
 kind_always p q None always e = e
 kind_always p q (Some k) always e = always k e
 

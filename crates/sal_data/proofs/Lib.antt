@@ -11,3 +11,4 @@ pub mod Parts
 pub mod Ordered
 pub mod Steps
 pub mod Objects
+pub mod Leafs

@@ -12,3 +12,4 @@ pub mod Ordered
 pub mod Steps
 pub mod Objects
 pub mod Leafs
+pub mod Lists

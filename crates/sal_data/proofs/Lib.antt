@@ -13,3 +13,4 @@ pub mod Steps
 pub mod Objects
 pub mod Leafs
 pub mod Lists
+pub mod ReadsAgain

@@ -101,7 +101,7 @@ module _ (table : SchemaTable) (good : IsTable table) (at : List Step) (rows : L
       enough levels (length ((path ++ Node n ∷ []) ++ q)) (length (path ++ Node n ∷ [])) (is_short table good at rows whole ((path ++ Node n ∷ []) ++ q) c e) (shorter (path ++ Node n ∷ []) q) room2
 
   -- so each member of an object does
-  each_gives : (levels : ℕ) (parent : Option ℕ) (path here : _) (part : IsPart rows path here) (place : after table (root table) path ≡ at_object table parent) (below : is_prefix at path ≡ true) (empty : parent ≡ None → path ≡ [])
+  pub each_gives : (levels : ℕ) (parent : Option ℕ) (path here : _) (part : IsPart rows path here) (place : after table (root table) path ≡ at_object table parent) (below : is_prefix at path ≡ true) (empty : parent ≡ None → path ≡ [])
       → LevelGives levels → 32 < levels + (length path + 1) → EachGives table good at rows whole (node_json levels table) parent path here part place below empty
   each_gives levels parent path here part place below empty gives room n run mine q c e =
       let some = there_are_levels levels path n q c room e in

@@ -17,5 +17,6 @@
 
 mod examples;
 mod fault;
+pub mod laws;
 
 pub use fault::DataFault;

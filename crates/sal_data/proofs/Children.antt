@@ -92,7 +92,7 @@ called_itself entry = let laws = eq_by_cmp_equiv name_cmp-IsTotalOrder in laws.r
 found_itself : (names : List Named) (entry : Named) → IsTrue (are_distinct names) → Contains names entry → lookup names entry.name ≡ Some entry.number
 found_itself names entry distinct there = sym (lookup-Finds names names entry.name (Some entry.number) distinct (IsPermutation-refl names) (entry, there, called_itself entry, refl))
 
-first_default : (xs : List (List ℕ)) (k : ℕ) (d x : List ℕ) → slice_get xs k ≡ Some x → get_or xs k d ≡ x
+pub first_default : (xs : List (List ℕ)) (k : ℕ) (d x : List ℕ) → slice_get xs k ≡ Some x → get_or xs k d ≡ x
 first_default [] k d x e = cc
 first_default (y ∷ xs) zero d x e = cc
 first_default (y ∷ xs) (suc k) d x e = first_default xs k d x e
@@ -136,6 +136,12 @@ module _ (table : SchemaTable) (good : IsTable table) where
         module_named_well = subst (λ t. is_identifier t ≡ true) (sym here2) (list_all-at is_identifier table.modules node.module text good.module_names known);
       }
 
+  -- a module's name names it
+  pub module_known : (m : ℕ) (text : List ℕ) → slice_get table.modules m ≡ Some text → module_called table text ≡ Some m
+  module_known m text at =
+      found_itself (module_names table) (named None 0 text m) good.distinct.modules
+      (listed (λ m text. named None 0 text m ∷ []) table.modules 0 m m text (named None 0 text m) at (omega arith) refl)
+
   module _ (parent : Option ℕ) (n : ℕ) (c : IsChild table parent n) where
     pub module_name-is : module_name table c.node.module ≡ c.module_text
     module_name-is = first_default table.modules c.node.module [] c.module_text c.of_module
@@ -146,11 +152,6 @@ module _ (table : SchemaTable) (good : IsTable table) where
     pub name_of-is : name_of table n ≡ c.node.name
     name_of-is = ap (λ o. option_map_or (λ (node : NodeInfo). node.name) o []) c.there
 
-    module_found : module_called table c.module_text ≡ Some c.node.module
-    module_found =
-        found_itself (module_names table) (named None 0 c.module_text c.node.module) good.distinct.modules
-        (listed (λ m text. named None 0 text m ∷ []) table.modules 0 c.node.module c.node.module c.module_text (named None 0 c.module_text c.node.module) c.of_module (omega arith) refl)
-
     name_found : lookup (data_names table) (name_of_parts parent c.node.module c.node.name) ≡ Some n
     name_found =
         let entry = named (data_node table c.node.parent) c.node.module c.node.name n in
@@ -160,4 +161,4 @@ module _ (table : SchemaTable) (good : IsTable table) where
 
     -- the child of this name in its module
     pub child_of-name : child_of table parent c.module_text c.node.name ≡ Some n
-    child_of-name = ap (option_and_then (λ k. lookup (data_names table) (name_of_parts parent k c.node.name))) module_found ∙ name_found
+    child_of-name = ap (option_and_then (λ k. lookup (data_names table) (name_of_parts parent k c.node.name))) (module_known c.node.module c.module_text c.of_module) ∙ name_found

@@ -14,3 +14,4 @@ pub mod Objects
 pub mod Leafs
 pub mod Lists
 pub mod ReadsAgain
+pub mod NamesMeant

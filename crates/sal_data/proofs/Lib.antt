@@ -15,3 +15,6 @@ pub mod Leafs
 pub mod Lists
 pub mod ReadsAgain
 pub mod NamesMeant
+pub mod RowsRead
+pub mod ReadParts
+pub mod ReadTrees

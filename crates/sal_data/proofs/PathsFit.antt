@@ -176,3 +176,14 @@ module _ (table : SchemaTable) where
       let other : is_kind is_list table n ≡ false = kind_apart is_leaf_list is_list (kind_of table n) leaf_list_other list in
       absurd (true≢false (sym (and_parts (is_kind is_list table n) (are_of_nodes table (keys_of table n) values) (and_parts (is_kind has_entries table n) (may_pick table n (Key values)) h).1).0 ∙ other))
   follows_leaf_list n (Item value) list h = (value, refl)
+
+  -- ---- one more step
+
+  fits-join : (spot : Spot) (p : List Step) (s : Step) → fits_here spot p ≡ true → step_here (after spot p) s ≡ true → fits_here spot (p ++ s ∷ []) ≡ true
+  fits-join spot [] s h e = fits-step spot s [] ∙ and_from (step_here spot s) true e refl
+  fits-join spot (t ∷ p) s h e =
+      let (here, rest) = step_parts spot t p h in
+      fits-step spot t (p ++ s ∷ []) ∙ and_from (step_here spot t) (fits_here (next spot t) (p ++ s ∷ [])) here (fits-join (next spot t) p s rest e)
+
+  pub fits-more : (p : List Step) (s : Step) → fits_path table p ≡ true → step_here (after root p) s ≡ true → fits_path table (p ++ s ∷ []) ≡ true
+  fits-more p s h e = fits-join root p s h e

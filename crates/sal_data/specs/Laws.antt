@@ -1,6 +1,8 @@
 -- What is written reads as what it was.
-use Rattle.std.specs.Prelude.{◌≡◌, ℕ, ◌≤◌, not, ◌||◌, List, [], ◌∷◌, ◌++◌, length, Option, Some, Ok, is_some, IsTrue}
+use Rattle.std.specs.Prelude.{◌≡◌, ℕ, ◌≤◌, ⊤, not, ◌||◌, List, [], ◌∷◌, ◌++◌, length, Option, Some, None, Ok, is_some, IsTrue}
 use Rattle.std.specs.List.{All}
+use Rattle.serde_json.specs.Data.{Data, null, boolean, number, string, array, object, Items, no_items, item, Members, no_members, member}
+use Rattle.serde_json.specs.Find.{get_member}
 use Rattle.sal_types.specs.declared.value.Value.{Value}
 use Rattle.sal_types.specs.declared.value.Cell.{Cell}
 use Rattle.sal_types.specs.declared.value.Cell.TheVariants.{Mark, Leaf}
@@ -12,6 +14,7 @@ use Rattle.sal_schema.specs.declared.table.SchemaTable.{SchemaTable}
 use Rattle.sal_schema.specs.Fitting.{fits, has_own_row}
 use Rattle.sal_schema.specs.Paths.{fits_path, last_step, node_of}
 use Rattle.sal_schema.specs.Valid.{IsTable}
+use Rattle.sal_json.specs.Laws.{HasBytes}
 use Rattle.sal_data.specs.Read.{node_scalar, read_data}
 use Rattle.sal_data.specs.Written.{scalar_json, write_data}
 
@@ -51,3 +54,29 @@ abbrev pub ReadsAsWritten : Type 0
 ReadsAsWritten =
     (table : SchemaTable) → IsTable table → (path : List Step) → IsTrue (fits_path table path) → (rows : List Row) → IsWhole table path rows
     → read_data table path (write_data table path rows) ≡ Ok rows
+
+-- ---- JSON values
+
+-- a JSON value as a text has it: each name stands once in its object, and strings are bytes
+abbrev mutual
+  pub IsJson : Data → Type 0
+  IsJson null = ⊤
+  IsJson (boolean b) = ⊤
+  IsJson (number x) = ⊤
+  IsJson (string t) = HasBytes (string t)
+  IsJson (array items) = AreJson items
+  IsJson (object ms) = HasJson ms
+
+  pub AreJson : Items → Type 0
+  AreJson no_items = ⊤
+  AreJson (item json items) = IsJson json × AreJson items
+
+  pub HasJson : Members → Type 0
+  HasJson no_members = ⊤
+  HasJson (member name json ms) = (get_member name ms ≡ None) × (IsJson json × HasJson ms)
+
+-- The rows that are read at a path are whole.
+abbrev pub ReadsWhole : Type 0
+ReadsWhole =
+    (table : SchemaTable) → IsTable table → (path : List Step) → IsTrue (fits_path table path) → length path ≤ 32 → (json : Data) → IsJson json → (rows : List Row)
+    → read_data table path json ≡ Ok rows → IsWhole table path rows

@@ -125,7 +125,7 @@ module _ (table : SchemaTable) where
             spelled = spelled;
           }
 
-  same-itself : (o : Option ℕ) → is_same o o ≡ true
+  pub same-itself : (o : Option ℕ) → is_same o o ≡ true
   same-itself None = refl
   same-itself (Some n) = grind (arith, nat_tests)
 

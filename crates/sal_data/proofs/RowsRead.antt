@@ -73,7 +73,7 @@ module _ (table : SchemaTable) where
 
   -- ---- more rows
 
-  KeyRows-more : (xs ys : List Row) → ((row : Row) → In row xs → In row ys) → (q : List Step) (leafs : List ℕ) (values : List Value) → KeyRows xs q leafs values → KeyRows ys q leafs values
+  pub KeyRows-more : (xs ys : List Row) → ((row : Row) → In row xs → In row ys) → (q : List Step) (leafs : List ℕ) (values : List Value) → KeyRows xs q leafs values → KeyRows ys q leafs values
   KeyRows-more xs ys more q [] [] h = tt
   KeyRows-more xs ys more q [] (value ∷ values) h = tt
   KeyRows-more xs ys more q (leaf ∷ leafs) [] h = tt

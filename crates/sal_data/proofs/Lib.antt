@@ -18,3 +18,4 @@ pub mod NamesMeant
 pub mod RowsRead
 pub mod ReadParts
 pub mod ReadTrees
+pub mod ReadWhole

@@ -1,8 +1,8 @@
 -- What stands in a list.
 use Rattle.std.proofs.Common.{◌≡◌, ◌⊎◌, inl, inr, zero, suc, Bool, true, false, cond, List, [], ◌∷◌, ◌++◌, map, ◌&&◌, refl, sym, ap, ◌∙◌}
 use Rattle.std.specs.List.{All, filter, list_all}
-use Rattle.std.proofs.lemmas.Bool.{and_parts, cases_Bool}
-use Rattle.std.proofs.lemmas.List.Elements.{All-head, All-tail}
+use Rattle.std.proofs.lemmas.Bool.{and_parts, and_from, cases_Bool}
+use Rattle.std.proofs.lemmas.List.Elements.{All-head, All-tail, All-nil, All-cons}
 
 abbrev pub In : {X : Type 0} → X → List X → Type 0
 In x [] = ⊥
@@ -56,3 +56,11 @@ pub All-In : {X : Type 0} (P : X → Type 0) (x : X) (xs : List X) → All P xs 
 All-In P x [] h there = absurd there
 All-In P x (z ∷ xs) h (inl e) = let here : P z = All-head P z xs h in rw e here
 All-In P x (z ∷ xs) h (inr there) = All-In P x xs (All-tail P z xs h) there
+
+pub list_all-from : {X : Type 0} (p : X → Bool) (xs : List X) → ((x : X) → In x xs → p x ≡ true) → list_all p xs ≡ true
+list_all-from p [] h = refl
+list_all-from p (x ∷ xs) h = and_from (p x) (list_all p xs) (h x (inl refl)) (list_all-from p xs (λ y there. h y (inr there)))
+
+pub All-from : {X : Type 0} (P : X → Type 0) (xs : List X) → ((x : X) → In x xs → P x) → All P xs
+All-from P [] h = All-nil P
+All-from P (x ∷ xs) h = All-cons P x xs (h x (inl refl)) (All-from P xs (λ y there. h y (inr there)))

@@ -22,6 +22,23 @@ ascends-onto (row ∷ read) tree h = ascends-onto read (set_row tree row) (IsAsc
 pub IsAscending-in_order : (read : List Row) → IsAscending (in_order read)
 IsAscending-in_order read = ascends-onto read [] refl
 
+-- a cell is that of a row that was put in, or stood there before
+from_read : (read tree : List Row) (p : List Step) (c : Cell) → cell (onto tree read) p ≡ Some c → In (record { path = p; cell = c }) read ⊎ (cell tree p ≡ Some c)
+from_read [] tree p c e = inr e
+from_read (x ∷ read) tree p c e = elim (from_read read (set_row tree x) p c e) [
+  | inl later ↦ inl (inr later)
+  | inr set ↦ elim (path_eq p x.path) as (λ b. path_eq p x.path ≡ b → (if b then Some x.cell else cell tree p) ≡ Some c → In (record { path = p; cell = c }) (x ∷ read) ⊎ (cell tree p ≡ Some c)) [
+      | true ↦ λ is e. let at : p ≡ x.path = same_path p x.path is in let same : c ≡ x.cell = cc in inl (inl (λ i. record { path = at i; cell = same i }))
+      | false ↦ λ is e. inr e
+    ] refl (sym (cell-set_row tree x p) ∙ set)
+]
+
+none_in : (p : List Step) (c : Cell) → cell [] p ≡ Some c → ⊥
+none_in p c e = cc
+
+pub in_order-from : (read : List Row) (p : List Step) (c : Cell) → cell (in_order read) p ≡ Some c → In (record { path = p; cell = c }) read
+in_order-from read p c e = elim (from_read read [] p c e) [ inl there ↦ there | inr none ↦ absurd (none_in p c none) ]
+
 module _ (rows : List Row) where
   -- each cell of the tree is one of the rows
   abbrev Agrees : List Row → Type 0
@@ -53,7 +70,7 @@ module _ (rows : List Row) where
   stands-kept [] tree p h = h
   stands-kept (row ∷ read) tree p h = stands-kept read (set_row tree row) p (stands-set tree row p h)
 
-  stands-read : (read tree : List Row) (row : Row) → In row read → Stands (onto tree read) row.path
+  pub stands-read : (read tree : List Row) (row : Row) → In row read → Stands (onto tree read) row.path
   stands-read [] tree row there = absurd there
   stands-read (x ∷ read) tree row (inl e) =
       stands-kept read (set_row tree x) row.path
@@ -76,3 +93,9 @@ module _ (rows : List Row) where
           let (d, there) = stands-read read [] (record { path = p; cell = c }) (all p c at) in
           let never : ◌≡◌ {A = Option Cell} None (Some d) = sym is ∙ there in
           cc
+
+-- where rows of one path are alike, each stands in the tree
+pub in_order-at : (read : List Row) (row : Row) → ((a b : Row) → In a read → In b read → a.path ≡ b.path → a.cell ≡ b.cell) → In row read → cell (in_order read) row.path ≡ Some row.cell
+in_order-at read row alike there =
+    let (d, at) = stands-read [] read [] row there in
+    at ∙ ap Some (alike (record { path = row.path; cell = d }) row (in_order-from read row.path d at) there refl)

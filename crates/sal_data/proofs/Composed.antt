@@ -22,7 +22,7 @@ use Rattle.sal_data.specs.Read.{Reading, followed, marked, longer, leaf_rows, ke
 use Rattle.serde_json.specs.View.{items_of}
 use Rattle.sal_data.proofs.Listed.{In, In-left, In-right, In-either}
 use Rattle.sal_data.proofs.ObjectMembers.{Has}
-use Rattle.sal_data.proofs.Runs.{step_is}
+use Rattle.sal_data.proofs.RunsApart.{step_is}
 
 -- ---- steps of a reading
 

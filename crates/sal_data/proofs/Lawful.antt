@@ -25,7 +25,7 @@ use Rattle.sal_schema.specs.Valid.{IsTable}
 use Rattle.sal_schema.specs.Values.{is_of_node}
 use Rattle.sal_data.specs.Laws.{IsWhole, IsReadable, HasReadable, row_values, step_values}
 use Rattle.sal_data.proofs.Listed.{In, In-map, list_all-In, All-In}
-use Rattle.sal_data.proofs.Prefixed.{In-cell}
+use Rattle.sal_data.proofs.Fronts.{In-cell}
 use Rattle.sal_data.proofs.Children.{no_child}
 use Rattle.sal_data.proofs.PathsFit.{last_step-end, node_of-node, node_of-item, Spot, root, step_here, after, at_node, at_object, after-end, after-node, step-behind, follows_object}
 

@@ -34,7 +34,7 @@ use Rattle.sal_data.proofs.PathsFit.{last_step-end, node_of-node, root, after, a
 use Rattle.sal_data.proofs.Lawful.{step_is_right, is_room, leaf_ends, item_ends, row_at_node, row_at_item, leaf_readable, item_readable, mark_at, HasOwn, kind_never}
 use Rattle.sal_data.proofs.Composed.{Gives, GivesBelow, ItemGives, ItemsGive, AreItems, items_give, at_row, bind_is, node_rows-leaf, only_row, from_below, Gives-same, behind}
 use Rattle.sal_data.proofs.Parts.{IsPart, runs, row_of, run_of}
-use Rattle.sal_data.proofs.Runs.{AreRuns}
+use Rattle.sal_data.proofs.RunsApart.{AreRuns}
 use Rattle.sal_data.proofs.Steps.{onto_steps, steps_of, steps-In, steps-Apart}
 
 -- ---- kinds

@@ -1,14 +1,14 @@
 pub mod Listed
 pub mod ObjectMembers
-pub mod Prefixed
-pub mod Runs
+pub mod Fronts
+pub mod RunsApart
 pub mod PathsFit
 pub mod Children
 pub mod MemberNames
 pub mod Lawful
 pub mod Composed
 pub mod Parts
-pub mod Ordered
+pub mod PutInOrder
 pub mod Steps
 pub mod Objects
 pub mod Leafs
@@ -19,3 +19,4 @@ pub mod RowsRead
 pub mod ReadParts
 pub mod ReadTrees
 pub mod ReadWhole
+pub mod TreeParts

@@ -31,13 +31,13 @@ use Rattle.sal_data.specs.Read.{Reading, marked, node_scalar, leaf_rows, key_val
 use Rattle.sal_data.specs.Written.{Writer, members_json, entry_json, entries_json, node_json, step_of, runs_of}
 use Rattle.sal_data.proofs.Listed.{In}
 use Rattle.sal_data.proofs.ObjectMembers.{build}
-use Rattle.sal_data.proofs.Prefixed.{length-more}
+use Rattle.sal_data.proofs.Fronts.{length-more}
 use Rattle.sal_data.proofs.PathsFit.{last_step-end, node_of-node, node_of-key, root, after, next, at_node, at_object, step_here, after-node, after-end, follows_list}
 use Rattle.sal_data.proofs.Lawful.{step_is_right, is_room, is_short, row_at_node, row_at_key, mark_at, whole_at, own_at_node, HasOwn, kind_never}
 use Rattle.sal_data.proofs.Composed.{Gives, GivesBelow, EntryGives, EntriesGive, AreEntries, entries_give, at_row, bind_is, from_below, with_mark, Gives-same, GivesBelow-same, behind}
 use Rattle.sal_data.proofs.Objects.{EachGives, LeafReads, object_gives, keys_read}
 use Rattle.sal_data.proofs.Parts.{IsPart, runs, row_of, run_of, part_of}
-use Rattle.sal_data.proofs.Runs.{AreRuns}
+use Rattle.sal_data.proofs.RunsApart.{AreRuns}
 use Rattle.sal_data.proofs.Steps.{onto_steps, steps_of, steps-In, steps-Apart}
 use Rattle.sal_data.proofs.Leafs.{leaf_reads, leaf_gives, leaf_list_gives}
 

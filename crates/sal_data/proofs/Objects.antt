@@ -31,7 +31,7 @@ use Rattle.sal_data.specs.Written.{Writer, step_of, runs_of}
 use Rattle.sal_data.proofs.Listed.{In}
 use Rattle.sal_data.proofs.ObjectMembers.{Has, Has-found, found, IsNamed, IsOf, build, of_runs, each_named}
 use Rattle.sal_data.proofs.MemberNames.{member_node-name, same_child}
-use Rattle.sal_data.proofs.Prefixed.{length-more}
+use Rattle.sal_data.proofs.Fronts.{length-more}
 use Rattle.sal_data.proofs.PathsFit.{root, after, at_object}
 use Rattle.sal_data.proofs.Lawful.{child_step, is_room}
 use Rattle.sal_data.proofs.Composed.{Gives, GivesBelow, MemberGives, MembersGive, members_give, at_row, bind_is}

@@ -10,8 +10,8 @@ use Rattle.sal_types.proofs.Prefixes.{IsPrefix-from_test, is_prefix-append}
 use Rattle.sal_rows.proofs.Cells.{IsAscending-filter}
 use Rattle.sal_data.specs.Written.{next_step, step_of, runs_of}
 use Rattle.sal_data.proofs.Listed.{In, In-filter, In-filter_from}
-use Rattle.sal_data.proofs.Prefixed.{slice_get-behind, Rises, rises, In-cell, cell-In}
-use Rattle.sal_data.proofs.Runs.{AreRuns, are_runs, unique}
+use Rattle.sal_data.proofs.Fronts.{slice_get-behind, Rises, rises, In-cell, cell-In}
+use Rattle.sal_data.proofs.RunsApart.{AreRuns, are_runs, unique}
 use Rattle.sal_data.proofs.Composed.{at_row}
 
 module _ (rows : List Row) where

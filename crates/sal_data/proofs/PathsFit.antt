@@ -13,7 +13,7 @@ use Rattle.sal_schema.specs.Kinds.{has_entries, is_list, is_leaf_list, is_leaf, 
 use Rattle.sal_schema.specs.Table.{is_kind, kind_of, keys_of, is_data_child}
 use Rattle.sal_schema.specs.Paths.{may_follow, are_of_nodes, may_pick, step_fits, fits_from, fits_path, last_step, node_from, node_of}
 use Rattle.sal_schema.specs.Values.{is_of_node}
-use Rattle.sal_data.proofs.Prefixed.{length-more}
+use Rattle.sal_data.proofs.Fronts.{length-more}
 
 -- ---- the end of a path
 

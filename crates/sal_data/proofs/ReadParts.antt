@@ -36,7 +36,7 @@ use Rattle.sal_data.specs.Written.{scalar_json}
 use Rattle.sal_data.proofs.Listed.{In, In-left, In-right}
 use Rattle.sal_data.proofs.ObjectMembers.{Has}
 use Rattle.sal_data.proofs.RowsRead.{a_row}
-use Rattle.sal_data.proofs.Runs.{same_step-itself}
+use Rattle.sal_data.proofs.RunsApart.{same_step-itself}
 
 -- ---- steps of a reading
 

@@ -36,7 +36,7 @@ use Rattle.sal_data.proofs.Children.{same-is}
 use Rattle.sal_data.proofs.ObjectMembers.{Has, found, Has-found}
 use Rattle.sal_data.proofs.MemberNames.{member_node-name}
 use Rattle.sal_data.proofs.NamesMeant.{member_meant, same-itself}
-use Rattle.sal_data.proofs.Prefixed.{length-more}
+use Rattle.sal_data.proofs.Fronts.{length-more}
 use Rattle.sal_data.proofs.PathsFit.{last_step-end, node_of-node, node_of-key, node_of-item, Spot, root, step_here, after, next, at_node, at_object, after-node, after-end, fits-more}
 use Rattle.sal_data.proofs.Lawful.{kind_never, kind_always}
 use Rattle.sal_data.proofs.Composed.{node_rows-leaf}

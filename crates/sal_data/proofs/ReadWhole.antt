@@ -32,12 +32,12 @@ use Rattle.sal_data.specs.declared.fault.DataFault.TheVariants.{WrongShape, KeyD
 use Rattle.sal_data.specs.Laws.{IsWhole, HasReadable, IsJson, ReadsWhole}
 use Rattle.sal_data.specs.Read.{Reading, marked, node_scalar, key_values, key_step, item_step, object_rows, members_rows, before_last, if_asked, same_step, entry_rows, item_rows, rows_at, in_order, read_data}
 use Rattle.sal_data.proofs.Listed.{In, In-map_from, list_all-from, All-from}
-use Rattle.sal_data.proofs.Prefixed.{rises, cell-In}
+use Rattle.sal_data.proofs.Fronts.{rises, cell-In}
 use Rattle.sal_data.proofs.PathsFit.{last_step-end, node_of-key, node_of-item, ends, root, after, at_object, after-end, after-node_of}
 use Rattle.sal_data.proofs.Lawful.{kind_never}
 use Rattle.sal_data.proofs.NamesMeant.{member_meant}
-use Rattle.sal_data.proofs.Runs.{step_is}
-use Rattle.sal_data.proofs.Ordered.{IsAscending-in_order, in_order-from, in_order-at}
+use Rattle.sal_data.proofs.RunsApart.{step_is}
+use Rattle.sal_data.proofs.PutInOrder.{IsAscending-in_order, in_order-from, in_order-at}
 use Rattle.sal_data.proofs.RowsRead.{a_row, KeyRows, WholeIn, IsFit, AtPath, BelowPath, ReadAt, ReadBelow, at_plain}
 use Rattle.sal_data.proofs.ReadParts.{bind_ok, followed_parts, item_value}
 use Rattle.sal_data.proofs.ReadTrees.{Names, node_read, members_read, entry_at, item_at}

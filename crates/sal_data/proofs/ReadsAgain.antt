@@ -29,15 +29,15 @@ use Rattle.sal_data.specs.Laws.{IsWhole, ReadsAsWritten}
 use Rattle.sal_data.specs.Read.{Reading, at_path, marked, node_scalar, key_step, item_step, object_rows, members_rows, node_rows, before_last, if_asked, same_step, entry_rows, item_rows, rows_at, in_order, read_data}
 use Rattle.sal_data.specs.Written.{members_json, scalar_json, any_json, node_json, json_at, write_data, runs_of}
 use Rattle.sal_data.proofs.Listed.{In}
-use Rattle.sal_data.proofs.Prefixed.{length-more}
+use Rattle.sal_data.proofs.Fronts.{length-more}
 use Rattle.sal_data.proofs.PathsFit.{last_step-end, node_of-node, node_of-key, node_of-item, ends, root, after, next, at_object, step_here, step-behind, after-end, after-node_of}
 use Rattle.sal_data.proofs.Lawful.{lies_below, row_at_key, row_at_item, no_row_at_root, item_readable, own_at_top, no_object_child, kind_always}
 use Rattle.sal_data.proofs.Composed.{Gives, GivesBelow, at_row, bind_is, from_below, with_mark, only_row, Gives-same}
 use Rattle.sal_data.proofs.Objects.{object_gives}
 use Rattle.sal_data.proofs.Parts.{IsPart, part_at}
-use Rattle.sal_data.proofs.Runs.{same_step-itself}
+use Rattle.sal_data.proofs.RunsApart.{same_step-itself}
 use Rattle.sal_data.proofs.Lists.{LevelGives, level_gives, each_gives, entry_members, entry_found, entry_gives}
-use Rattle.sal_data.proofs.Ordered.{in_order-is}
+use Rattle.sal_data.proofs.PutInOrder.{in_order-is}
 
 -- ---- the end of a path
 
@@ -63,7 +63,7 @@ list_typed : (k : Kind) → is_leaf_list k ≡ true → has_type k ≡ true
 list_typed LeafList e = refl
 list_typed k e = cc
 
-itself : (p : List Step) → is_prefix p p ≡ true
+pub itself : (p : List Step) → is_prefix p p ≡ true
 itself p = ap (is_prefix p) (sym (append-nil p)) ∙ is_prefix-append p []
 
 module _ (table : SchemaTable) (good : IsTable table) (rows : List Row) where

@@ -4,7 +4,7 @@ use Rattle.sal_types.specs.declared.value.Step.{Step}
 use Rattle.sal_types.specs.declared.row.Row.{Row}
 use Rattle.sal_data.specs.Written.{step_of}
 use Rattle.sal_data.proofs.Listed.{In}
-use Rattle.sal_data.proofs.Runs.{RunsRise, before_apart}
+use Rattle.sal_data.proofs.RunsApart.{RunsRise, before_apart}
 use Rattle.sal_data.proofs.Composed.{Apart}
 
 abbrev pub onto_steps : Option Step → List Step → List Step

@@ -9,7 +9,7 @@ use Rattle.sal_types.specs.declared.value.Cell.TheVariants.{Mark, Leaf}
 use Rattle.sal_types.specs.declared.value.Step.{Step}
 use Rattle.sal_types.specs.declared.value.Step.TheVariants.{Item}
 use Rattle.sal_types.specs.declared.row.Row.{Row}
-use Rattle.sal_types.specs.Tree.{cell, IsAscending}
+use Rattle.sal_types.specs.Tree.{cell, under, IsAscending}
 use Rattle.sal_schema.specs.declared.table.SchemaTable.{SchemaTable}
 use Rattle.sal_schema.specs.Fitting.{fits, has_own_row}
 use Rattle.sal_schema.specs.Paths.{fits_path, last_step, node_of}
@@ -55,6 +55,12 @@ ReadsAsWritten =
     (table : SchemaTable) → IsTable table → (path : List Step) → IsTrue (fits_path table path) → (rows : List Row) → IsWhole table path rows
     → read_data table path (write_data table path rows) ≡ Ok rows
 
+-- What is written of a whole tree at a path reads there as the tree's rows at the path and below it.
+abbrev pub TreesReadAsWritten : Type 0
+TreesReadAsWritten =
+    (table : SchemaTable) → IsTable table → (tree : List Row) → IsWhole table [] tree → (path : List Step) → IsTrue (fits_path table path)
+    → IsTrue (not (has_own_row table path) || is_some (cell tree path)) → read_data table path (write_data table path tree) ≡ Ok (under tree path)
+
 -- ---- JSON values
 
 -- a JSON value as a text has it: each name stands once in its object, and strings are bytes
@@ -80,3 +86,9 @@ abbrev pub ReadsWhole : Type 0
 ReadsWhole =
     (table : SchemaTable) → IsTable table → (path : List Step) → IsTrue (fits_path table path) → length path ≤ 32 → (json : Data) → IsJson json → (rows : List Row)
     → read_data table path json ≡ Ok rows → IsWhole table path rows
+
+-- What is written for what was read reads as the same rows.
+abbrev pub ReadsAgain : Type 0
+ReadsAgain =
+    (table : SchemaTable) → IsTable table → (path : List Step) → IsTrue (fits_path table path) → length path ≤ 32 → (json : Data) → IsJson json → (rows : List Row)
+    → read_data table path json ≡ Ok rows → read_data table path (write_data table path rows) ≡ Ok rows

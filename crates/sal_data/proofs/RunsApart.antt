@@ -15,7 +15,7 @@ use Rattle.sal_types.proofs.Prefixes.{IsPrefix-from_test}
 use Rattle.sal_data.specs.Read.{same_step}
 use Rattle.sal_data.specs.Written.{next_step, same_next, step_of, with_row, runs_of}
 use Rattle.sal_data.proofs.Listed.{In}
-use Rattle.sal_data.proofs.Prefixed.{slice_get-behind, path_cmp-behind, Rises}
+use Rattle.sal_data.proofs.Fronts.{slice_get-behind, path_cmp-behind, Rises}
 
 -- ---- steps
 

@@ -1,5 +1,5 @@
 -- The name of a child means it again, and leafs have no children.
-use Rattle.std.proofs.Common.{◌≡◌, ℕ, zero, suc, ◌+◌, ◌<◌, ◌==◌, nat_lt, Bool, true, false, cond, not, ◌&&◌, IsTrue, List, [], ◌∷◌, ◌++◌, length, get_or, Option, Some, None, refl, sym, ap, subst, ◌∙◌, arith}
+use Rattle.std.proofs.Common.{◌≡◌, ℕ, zero, suc, ◌+◌, Bool, true, false, cond, not, IsTrue, List, [], ◌∷◌, ◌++◌, length, get_or, Option, Some, None, refl, sym, ap, subst, ◌∙◌, arith}
 use Rattle.std.specs.Prelude.{Contains, option_map, option_and_then}
 use Rattle.std.specs.List.{slice_get}
 use Rattle.std.specs.Option.{option_map_or}
@@ -16,7 +16,7 @@ use Rattle.sal_schema.specs.declared.table.SchemaTable.{SchemaTable}
 use Rattle.sal_schema.specs.Kinds.{is_data, is_choice_or_case, has_type}
 use Rattle.sal_schema.specs.Names.{name_cmp-IsTotalOrder, is_called, lookup, are_distinct, named, name_of_parts, data_at, data_names, module_names, module_called, child_of}
 use Rattle.sal_schema.specs.Table.{each_from, closest, data_node, data_parent, is_data_child, is_kind, is_same, parent_of, module_of, name_of, module_name}
-use Rattle.sal_schema.specs.Valid.{IsTable, stands_right, is_under, is_identifier, has_numbers}
+use Rattle.sal_schema.specs.Valid.{IsTable, stands_right, is_under, is_identifier}
 use Rattle.sal_schema.proofs.Conjuncts.{and_first, and_second}
 use Rattle.sal_schema.proofs.Facts.{slice_get_some, slice_get_there, closest-None, closest-Some, module_is_there, numbers_at}
 use Rattle.sal_schema.proofs.Numbered.{list_all-at}

@@ -1,14 +1,12 @@
 -- What readers of parts give, put together.
-use Rattle.std.proofs.Common.{◌≡◌, ◌⊎◌, inl, inr, ℕ, zero, suc, ◌+◌, ◌<◌, Bool, true, false, cond, List, [], ◌∷◌, ◌++◌, length, Option, Some, None, Result, Ok, Err, if◌then◌else◌, refl, sym, ap, subst, ◌∙◌, arith, append_assoc, append-nil}
-use Rattle.std.specs.Prelude.{nat_lt}
+use Rattle.std.proofs.Common.{◌≡◌, inl, inr, ℕ, ◌<◌, Bool, true, false, List, [], ◌∷◌, ◌++◌, length, Option, Some, Result, Ok, Err, if◌then◌else◌, refl, sym, ap, subst, ◌∙◌, append_assoc, append-nil}
 use Rattle.std.specs.List.{list_any}
 use Rattle.std.proofs.lemmas.Bool.{lt-ltb, or_cases, false_from_ne_true}
-use Rattle.std.proofs.lemmas.Bool.Decides.{nat_tests}
-use Rattle.serde_json.specs.Data.{Data, null, boolean, number, string, array, object, Items, no_items, item, Members, no_members, member}
+use Rattle.serde_json.specs.Data.{Data, null, boolean, number, string, array, object, Members, no_members, member}
 use Rattle.sal_types.specs.declared.value.Cell.{Cell}
-use Rattle.sal_types.specs.declared.value.Cell.TheVariants.{Mark, Leaf}
+use Rattle.sal_types.specs.declared.value.Cell.TheVariants.{Mark}
 use Rattle.sal_types.specs.declared.value.Step.{Step}
-use Rattle.sal_types.specs.declared.value.Step.TheVariants.{Node, Key, Item}
+use Rattle.sal_types.specs.declared.value.Step.TheVariants.{Node}
 use Rattle.sal_types.specs.declared.row.Row.{Row}
 use Rattle.sal_types.specs.Reading.{◌>>=◌}
 use Rattle.sal_types.specs.Tree.{cell}
@@ -17,8 +15,8 @@ use Rattle.sal_schema.specs.Kinds.{is_leaf}
 use Rattle.sal_schema.specs.Table.{is_kind}
 use Rattle.sal_data.specs.declared.fault.DataFault.{DataFault}
 use Rattle.sal_data.specs.declared.fault.DataFault.TheVariants.{TooDeep, WrongShape, DoubleEntry}
-use Rattle.sal_data.specs.Members.{member_name, member_node}
-use Rattle.sal_data.specs.Read.{Reading, followed, marked, longer, leaf_rows, key_step, item_step, one_more, items_rows, node_rows, object_rows, members_rows, entries_rows, of_array, of_object, of_other, same_step}
+use Rattle.sal_data.specs.Members.{member_node}
+use Rattle.sal_data.specs.Read.{Reading, followed, marked, longer, leaf_rows, key_step, item_step, one_more, items_rows, node_rows, object_rows, members_rows, entries_rows, same_step}
 use Rattle.serde_json.specs.View.{items_of}
 use Rattle.sal_data.proofs.Listed.{In, In-left, In-right, In-either}
 use Rattle.sal_data.proofs.ObjectMembers.{Has}
@@ -180,9 +178,9 @@ module _ (rows : List Row) where
         record {
           read = one.gives.read ++ rest.read;
           is = bind_is (member_node table parent path name) (λ n. longer path (Node n) >>= (λ below. node_rows table n below json >>= (λ rows. followed rows (members_rows table parent path ms)))) n one.found
-          ∙ bind_is (longer path (Node n)) (λ below. node_rows table n below json >>= (λ rows. followed rows (members_rows table parent path ms))) below (longer-is path (Node n) one.room)
-          ∙ bind_is (node_rows table n below json) (λ rows. followed rows (members_rows table parent path ms)) one.gives.read one.gives.is
-          ∙ rest_is;
+              ∙ bind_is (longer path (Node n)) (λ below. node_rows table n below json >>= (λ rows. followed rows (members_rows table parent path ms))) below (longer-is path (Node n) one.room)
+              ∙ bind_is (node_rows table n below json) (λ rows. followed rows (members_rows table parent path ms)) one.gives.read one.gives.is
+              ∙ rest_is;
           sound = sound-append one.gives.read rest.read one.gives.sound rest.sound;
           all = λ k d m q c h found e. by one rest k d m q c h found e;
         }
@@ -232,10 +230,10 @@ module _ (rows : List Row) where
         record {
           read = one.gives.read ++ rest.read;
           is = bind_is (key_step table n path json) (λ step. longer path step >>= (λ below. one_more seen step below >>= (λ now. marked true below (object_rows table (Some n) below json) >>= (λ rows. followed rows (entries_rows table n path now (items_of more)))))) s one.found
-          ∙ bind_is (longer path s) (λ below. one_more seen s below >>= (λ now. marked true below (object_rows table (Some n) below json) >>= (λ rows. followed rows (entries_rows table n path now (items_of more))))) below (longer-is path s one.room)
-          ∙ bind_is (one_more seen s below) (λ now. marked true below (object_rows table (Some n) below json) >>= (λ rows. followed rows (entries_rows table n path now (items_of more)))) (s ∷ seen) (one_more-is seen s below (λ before. fresh s before (inl refl)))
-          ∙ bind_is (marked true below (object_rows table (Some n) below json)) (λ rows. followed rows (entries_rows table n path (s ∷ seen) (items_of more))) one.gives.read one.gives.is
-          ∙ followed-is one.gives.read rest.read (entries_rows table n path (s ∷ seen) (items_of more)) rest.is;
+              ∙ bind_is (longer path s) (λ below. one_more seen s below >>= (λ now. marked true below (object_rows table (Some n) below json) >>= (λ rows. followed rows (entries_rows table n path now (items_of more))))) below (longer-is path s one.room)
+              ∙ bind_is (one_more seen s below) (λ now. marked true below (object_rows table (Some n) below json) >>= (λ rows. followed rows (entries_rows table n path now (items_of more)))) (s ∷ seen) (one_more-is seen s below (λ before. fresh s before (inl refl)))
+              ∙ bind_is (marked true below (object_rows table (Some n) below json)) (λ rows. followed rows (entries_rows table n path (s ∷ seen) (items_of more))) one.gives.read one.gives.is
+              ∙ followed-is one.gives.read rest.read (entries_rows table n path (s ∷ seen) (items_of more)) rest.is;
           sound = sound-append one.gives.read rest.read one.gives.sound rest.sound;
           all = λ t q c h e. by rest t q c h e;
         }
@@ -275,9 +273,9 @@ module _ (rows : List Row) where
         record {
           read = at_row below Mark ∷ rest.read;
           is = bind_is (item_step table n path json) (λ step. longer path step >>= (λ below. one_more seen step below >>= (λ now. marked true below (items_rows table n path now (items_of more))))) s one.found
-          ∙ bind_is (longer path s) (λ below. one_more seen s below >>= (λ now. marked true below (items_rows table n path now (items_of more)))) below (longer-is path s one.room)
-          ∙ bind_is (one_more seen s below) (λ now. marked true below (items_rows table n path now (items_of more))) (s ∷ seen) (one_more-is seen s below (λ before. fresh s before (inl refl)))
-          ∙ followed-is (at_row below Mark ∷ []) rest.read (items_rows table n path (s ∷ seen) (items_of more)) rest.is;
+              ∙ bind_is (longer path s) (λ below. one_more seen s below >>= (λ now. marked true below (items_rows table n path now (items_of more)))) below (longer-is path s one.room)
+              ∙ bind_is (one_more seen s below) (λ now. marked true below (items_rows table n path now (items_of more))) (s ∷ seen) (one_more-is seen s below (λ before. fresh s before (inl refl)))
+              ∙ followed-is (at_row below Mark ∷ []) rest.read (items_rows table n path (s ∷ seen) (items_of more)) rest.is;
           sound = sound-append (at_row below Mark ∷ []) rest.read (sound-one below Mark one.here) rest.sound;
           all = λ t q c h e. by rest t q c h e;
         }

@@ -1,9 +1,9 @@
 -- What holds at each path of rows that are whole.
-use Rattle.std.proofs.Common.{◌≡◌, ◌⊎◌, inl, inr, ℕ, zero, suc, ◌+◌, ◌≤◌, ◌<◌, Bool, true, false, not, ◌&&◌, ◌||◌, List, [], ◌∷◌, ◌++◌, length, map, Option, Some, None, Ok, refl, sym, ap, subst, ◌∙◌, arith, IsTrue, append_assoc, append-nil, length-append}
+use Rattle.std.proofs.Common.{◌≡◌, ◌⊎◌, inl, inr, ℕ, suc, ◌+◌, ◌≤◌, ◌<◌, Bool, true, false, not, ◌&&◌, ◌||◌, List, [], ◌∷◌, ◌++◌, length, Option, Some, None, refl, sym, ap, subst, ◌∙◌, arith, append-nil, length-append}
 use Rattle.std.specs.Prelude.{is_some}
-use Rattle.std.specs.List.{list_all, All}
+use Rattle.std.specs.List.{All}
 use Rattle.std.specs.Option.{option_map_or}
-use Rattle.std.proofs.lemmas.Bool.{cases_Bool, and_parts, and_from, or_cases, true≢false, not-true, not_from_true}
+use Rattle.std.proofs.lemmas.Bool.{and_parts, or_cases, true≢false, not-true}
 use Rattle.std.proofs.lemmas.List.Elements.{All-head}
 use Rattle.sal_types.specs.declared.value.Value.{Value}
 use Rattle.sal_types.specs.declared.value.Cell.{Cell}
@@ -13,21 +13,20 @@ use Rattle.sal_types.specs.declared.value.Step.TheVariants.{Node, Key, Item}
 use Rattle.sal_types.specs.declared.row.Row.{Row}
 use Rattle.sal_types.specs.Prefix.{is_prefix}
 use Rattle.sal_types.specs.Tree.{cell}
-use Rattle.sal_types.proofs.Prefixes.{is_prefix-append, IsPrefix-from_test}
 use Rattle.sal_schema.specs.declared.kind.Kind.{Kind}
 use Rattle.sal_schema.specs.declared.kind.Kind.TheVariants.{Leaf as LeafKind, LeafList}
 use Rattle.sal_schema.specs.declared.table.SchemaTable.{SchemaTable}
 use Rattle.sal_schema.specs.Fitting.{has_mark, has_value, is_at_leaf, has_own_row, cell_fits, prefixes, has_keys, is_whole_at, is_whole_above, is_in_message, is_root, row_fits}
-use Rattle.sal_schema.specs.Kinds.{is_leaf, is_leaf_list, is_list, is_presence, has_entries, has_type, is_message}
+use Rattle.sal_schema.specs.Kinds.{is_leaf, is_leaf_list, is_presence, has_entries, has_type, is_message}
 use Rattle.sal_schema.specs.Paths.{may_follow, fits_path, last_step, node_of}
 use Rattle.sal_schema.specs.Table.{is_kind, kind_of, is_data_child}
 use Rattle.sal_schema.specs.Valid.{IsTable}
 use Rattle.sal_schema.specs.Values.{is_of_node}
-use Rattle.sal_data.specs.Laws.{IsWhole, IsReadable, HasReadable, row_values, step_values}
+use Rattle.sal_data.specs.Laws.{IsWhole, IsReadable, HasReadable, step_values}
 use Rattle.sal_data.proofs.Listed.{In, In-map, list_all-In, All-In}
 use Rattle.sal_data.proofs.Fronts.{In-cell}
 use Rattle.sal_data.proofs.Children.{no_child}
-use Rattle.sal_data.proofs.PathsFit.{last_step-end, node_of-node, node_of-item, Spot, root, step_here, after, at_node, at_object, after-end, after-node, step-behind, follows_object}
+use Rattle.sal_data.proofs.PathsFit.{last_step-end, node_of-node, node_of-item, Spot, root, step_here, after, at_object, after-end, after-node, step-behind, follows_object}
 
 -- ---- prefixes
 

@@ -1,38 +1,35 @@
 -- What is written for a leaf, and for a leaf-list, reads as its rows.
-use Rattle.std.proofs.Common.{◌≡◌, ◌⊎◌, inl, inr, ℕ, zero, suc, ◌+◌, ◌≤◌, ◌<◌, Bool, true, false, ◌&&◌, List, [], ◌∷◌, ◌++◌, length, Option, Some, None, Result, Ok, Err, refl, sym, ap, subst, ◌∙◌, arith, append_assoc, append-nil, if◌then◌else◌}
-use Rattle.std.specs.Prelude.{◌||◌}
+use Rattle.std.proofs.Common.{◌≡◌, inl, inr, ℕ, zero, suc, ◌≤◌, Bool, true, false, List, [], ◌∷◌, ◌++◌, length, Option, Some, Ok, Err, refl, sym, ap, subst, ◌∙◌, arith, append_assoc, append-nil, if◌then◌else◌}
 use Rattle.std.specs.List.{slice_get}
-use Rattle.std.specs.Option.{option_map_or}
-use Rattle.std.proofs.lemmas.Bool.{and_parts, or_right, or_left, true≢false}
-use Rattle.serde_json.specs.Data.{Data, array, object, Items}
+use Rattle.std.proofs.lemmas.Bool.{or_right, true≢false}
+use Rattle.serde_json.specs.Data.{array, Items}
 use Rattle.serde_json.specs.View.{items_of}
 use Rattle.sal_types.specs.declared.value.Value.{Value}
 use Rattle.sal_types.specs.declared.value.Cell.{Cell}
-use Rattle.sal_types.specs.declared.value.Cell.TheVariants.{Mark, Leaf}
+use Rattle.sal_types.specs.declared.value.Cell.TheVariants.{Leaf}
 use Rattle.sal_types.specs.declared.value.Step.{Step}
-use Rattle.sal_types.specs.declared.value.Step.TheVariants.{Node, Key, Item}
+use Rattle.sal_types.specs.declared.value.Step.TheVariants.{Node, Item}
 use Rattle.sal_types.specs.declared.row.Row.{Row}
-use Rattle.sal_types.specs.Prefix.{is_prefix, IsPrefix}
+use Rattle.sal_types.specs.Prefix.{is_prefix}
 use Rattle.sal_types.specs.Reading.{◌>>=◌}
 use Rattle.sal_types.specs.Tree.{cell}
 use Rattle.sal_types.proofs.Prefixes.{IsPrefix-from_test, is_prefix-append}
 use Rattle.sal_schema.specs.declared.kind.Kind.{Kind}
-use Rattle.sal_schema.specs.declared.kind.Kind.TheVariants.{Leaf as LeafKind, LeafList, List as ListKind, Container}
+use Rattle.sal_schema.specs.declared.kind.Kind.TheVariants.{Leaf as LeafKind, LeafList}
 use Rattle.sal_schema.specs.declared.table.SchemaTable.{SchemaTable}
 use Rattle.sal_schema.specs.Fitting.{has_mark, is_at_leaf, has_own_row}
-use Rattle.sal_schema.specs.Kinds.{is_leaf, is_leaf_list, is_list, is_presence, has_entries}
-use Rattle.sal_schema.specs.Paths.{last_step, node_of}
+use Rattle.sal_schema.specs.Kinds.{is_leaf, is_leaf_list, is_list, is_presence}
+use Rattle.sal_schema.specs.Paths.{last_step}
 use Rattle.sal_schema.specs.Table.{is_kind, kind_of}
 use Rattle.sal_schema.specs.Valid.{IsTable}
-use Rattle.sal_data.specs.declared.fault.DataFault.{DataFault}
 use Rattle.sal_data.specs.declared.fault.DataFault.TheVariants.{WrongShape}
-use Rattle.sal_data.specs.Laws.{IsWhole, IsReadable}
-use Rattle.sal_data.specs.Read.{Reading, at_path, node_scalar, leaf_rows, item_step, items_rows, entries_rows, node_rows, of_array}
-use Rattle.sal_data.specs.Written.{Writer, cell_json, scalar_json, leaf_json, item_json, items_json, node_json, step_of, runs_of}
+use Rattle.sal_data.specs.Laws.{IsWhole}
+use Rattle.sal_data.specs.Read.{Reading, at_path, node_scalar, leaf_rows, items_rows, entries_rows, node_rows}
+use Rattle.sal_data.specs.Written.{cell_json, scalar_json, leaf_json, item_json, items_json, node_json, step_of, runs_of}
 use Rattle.sal_data.proofs.Listed.{In}
-use Rattle.sal_data.proofs.PathsFit.{last_step-end, node_of-node, root, after, at_node, step_here, after-node, follows_leaf_list}
+use Rattle.sal_data.proofs.PathsFit.{last_step-end, node_of-node, at_node, step_here, after-node, follows_leaf_list}
 use Rattle.sal_data.proofs.Lawful.{step_is_right, is_room, leaf_ends, item_ends, row_at_node, row_at_item, leaf_readable, item_readable, mark_at, HasOwn, kind_never}
-use Rattle.sal_data.proofs.Composed.{Gives, GivesBelow, ItemGives, ItemsGive, AreItems, items_give, at_row, bind_is, node_rows-leaf, only_row, from_below, Gives-same, behind}
+use Rattle.sal_data.proofs.Composed.{Gives, ItemGives, AreItems, items_give, at_row, node_rows-leaf, only_row, from_below, Gives-same}
 use Rattle.sal_data.proofs.Parts.{IsPart, runs, row_of, run_of}
 use Rattle.sal_data.proofs.RunsApart.{AreRuns}
 use Rattle.sal_data.proofs.Steps.{onto_steps, steps_of, steps-In, steps-Apart}

@@ -1,40 +1,38 @@
 -- What is written for a list, and for a container, reads as its rows.
-use Rattle.std.proofs.Common.{◌≡◌, ◌⊎◌, inl, inr, ℕ, zero, suc, ◌+◌, ◌≤◌, ◌<◌, Bool, true, false, not, ◌&&◌, List, [], ◌∷◌, ◌++◌, length, Option, Some, None, Result, Ok, Err, refl, sym, ap, subst, ◌∙◌, arith, append_assoc, append-nil, if◌then◌else◌}
+use Rattle.std.proofs.Common.{◌≡◌, ◌⊎◌, inl, inr, ℕ, zero, suc, ◌+◌, ◌≤◌, ◌<◌, Bool, true, false, not, List, [], ◌∷◌, ◌++◌, length, Option, Some, None, Ok, Err, refl, sym, ap, subst, ◌∙◌, arith, append_assoc, append-nil, if◌then◌else◌}
 use Rattle.std.specs.Prelude.{◌||◌, is_some}
 use Rattle.std.specs.List.{slice_get}
 use Rattle.std.specs.Option.{option_map_or}
-use Rattle.std.proofs.lemmas.Bool.{cases_Bool, and_parts, or_right, or_left, true≢false}
+use Rattle.std.proofs.lemmas.Bool.{cases_Bool, and_parts, or_left, true≢false}
 use Rattle.serde_json.specs.Data.{Data, array, object, Items, Members, no_members}
 use Rattle.serde_json.specs.View.{items_of}
 use Rattle.sal_types.specs.declared.value.Value.{Value}
 use Rattle.sal_types.specs.declared.value.Cell.{Cell}
 use Rattle.sal_types.specs.declared.value.Cell.TheVariants.{Mark, Leaf}
 use Rattle.sal_types.specs.declared.value.Step.{Step}
-use Rattle.sal_types.specs.declared.value.Step.TheVariants.{Node, Key, Item}
+use Rattle.sal_types.specs.declared.value.Step.TheVariants.{Node, Key}
 use Rattle.sal_types.specs.declared.row.Row.{Row}
-use Rattle.sal_types.specs.Prefix.{is_prefix, IsPrefix}
-use Rattle.sal_types.specs.Reading.{◌>>=◌}
+use Rattle.sal_types.specs.Prefix.{is_prefix}
 use Rattle.sal_types.specs.Tree.{cell}
 use Rattle.sal_types.proofs.Prefixes.{IsPrefix-from_test, is_prefix-append}
 use Rattle.sal_schema.specs.declared.kind.Kind.{Kind}
-use Rattle.sal_schema.specs.declared.kind.Kind.TheVariants.{Leaf as LeafKind, LeafList, List as ListKind, Container}
+use Rattle.sal_schema.specs.declared.kind.Kind.TheVariants.{LeafList, List as ListKind}
 use Rattle.sal_schema.specs.declared.table.SchemaTable.{SchemaTable}
 use Rattle.sal_schema.specs.Fitting.{has_mark, is_at_leaf, has_own_row, has_keys, has_key_leafs}
 use Rattle.sal_schema.specs.Kinds.{is_leaf, is_leaf_list, is_list, is_presence, has_entries}
 use Rattle.sal_schema.specs.Paths.{are_of_nodes, last_step, node_of}
 use Rattle.sal_schema.specs.Table.{is_kind, kind_of, keys_of}
 use Rattle.sal_schema.specs.Valid.{IsTable}
-use Rattle.sal_data.specs.declared.fault.DataFault.{DataFault}
 use Rattle.sal_data.specs.declared.fault.DataFault.TheVariants.{WrongShape}
-use Rattle.sal_data.specs.Laws.{IsWhole, IsReadable}
-use Rattle.sal_data.specs.Read.{Reading, marked, node_scalar, leaf_rows, key_values, key_step, items_rows, entries_rows, object_rows, members_rows, node_rows, of_array, of_object}
-use Rattle.sal_data.specs.Written.{Writer, members_json, entry_json, entries_json, node_json, step_of, runs_of}
+use Rattle.sal_data.specs.Laws.{IsWhole}
+use Rattle.sal_data.specs.Read.{Reading, marked, leaf_rows, key_values, key_step, items_rows, entries_rows, object_rows, members_rows, node_rows}
+use Rattle.sal_data.specs.Written.{members_json, entry_json, entries_json, node_json, step_of, runs_of}
 use Rattle.sal_data.proofs.Listed.{In}
 use Rattle.sal_data.proofs.ObjectMembers.{build}
 use Rattle.sal_data.proofs.Fronts.{length-more}
 use Rattle.sal_data.proofs.PathsFit.{last_step-end, node_of-node, node_of-key, root, after, next, at_node, at_object, step_here, after-node, after-end, follows_list}
 use Rattle.sal_data.proofs.Lawful.{step_is_right, is_room, is_short, row_at_node, row_at_key, mark_at, whole_at, own_at_node, HasOwn, kind_never}
-use Rattle.sal_data.proofs.Composed.{Gives, GivesBelow, EntryGives, EntriesGive, AreEntries, entries_give, at_row, bind_is, from_below, with_mark, Gives-same, GivesBelow-same, behind}
+use Rattle.sal_data.proofs.Composed.{Gives, GivesBelow, EntryGives, AreEntries, entries_give, bind_is, from_below, with_mark, Gives-same}
 use Rattle.sal_data.proofs.Objects.{EachGives, LeafReads, object_gives, keys_read}
 use Rattle.sal_data.proofs.Parts.{IsPart, runs, row_of, run_of, part_of}
 use Rattle.sal_data.proofs.RunsApart.{AreRuns}
@@ -277,12 +275,12 @@ module _ (table : SchemaTable) (good : IsTable table) (at : List Step) (rows : L
     one_more_level own = elim (cases_Bool (is_kind is_leaf table n)) [
       | inl leaf ↦ leaf_gives table good at rows whole p n here part levels leaf own
       | inr other ↦ elim (cases_Bool (is_kind is_leaf_list table n)) [
-          | inl leaf_list ↦ leaf_list_gives table good at rows whole p n here part leaf_list below levels
-          | inr neither ↦ elim (cases_Bool (is_kind is_list table n)) [
-              | inl list ↦ list_gives list other neither
-              | inr none ↦ container_gives other neither none own
-            ]
+        | inl leaf_list ↦ leaf_list_gives table good at rows whole p n here part leaf_list below levels
+        | inr neither ↦ elim (cases_Bool (is_kind is_list table n)) [
+          | inl list ↦ list_gives list other neither
+          | inr none ↦ container_gives other neither none own
         ]
+      ]
     ]
 
   pub level_gives : (levels : ℕ) → LevelGives levels

@@ -1,9 +1,9 @@
 -- The name of a member means its node again.
-use Rattle.std.proofs.Common.{◌≡◌, ℕ, zero, suc, ◌+◌, Bool, true, false, cond, not, List, [], ◌∷◌, ◌++◌, length, take, drop, Option, Some, None, Result, Ok, Err, if◌then◌else◌, refl, sym, ap, ◌∙◌, arith, inl, inr}
-use Rattle.std.specs.Prelude.{◌||◌, option_and_then}
+use Rattle.std.proofs.Common.{◌≡◌, ℕ, suc, ◌+◌, true, false, List, [], ◌∷◌, ◌++◌, length, take, drop, Option, Some, None, Ok, Err, if◌then◌else◌, refl, sym, ap, ◌∙◌, arith, inl, inr}
+use Rattle.std.specs.Prelude.{option_and_then}
 use Rattle.std.specs.Option.{option_map_or}
 use Rattle.std.specs.List.{list_any, position_or_len, before_first, after_first}
-use Rattle.std.proofs.lemmas.Bool.{cases_Bool, or_right, or_parts, not-true, not-false}
+use Rattle.std.proofs.lemmas.Bool.{cases_Bool, or_right, or_parts, not-false}
 use Rattle.std.proofs.lemmas.Option.{same_Some}
 use Rattle.sal_types.specs.declared.value.Step.{Step}
 use Rattle.sal_schema.specs.declared.table.SchemaTable.{SchemaTable}
@@ -12,8 +12,7 @@ use Rattle.sal_schema.specs.Table.{is_data_child, is_same, module_of, module_nam
 use Rattle.sal_schema.specs.Valid.{IsTable}
 use Rattle.sal_json.specs.Named.{is_colon}
 use Rattle.sal_json.proofs.IdentTexts.{no_colon}
-use Rattle.sal_data.specs.declared.fault.DataFault.{DataFault}
-use Rattle.sal_data.specs.Members.{is_qualified, own_module, member_name, has_module, if_qualified, qualified_child, plain_child, child_called, name_fault, member_node}
+use Rattle.sal_data.specs.Members.{is_qualified, own_module, member_name, if_qualified, qualified_child, plain_child, child_called, name_fault, member_node}
 use Rattle.sal_data.proofs.Children.{IsChild, child, module_name-is, module_of-is, name_of-is, child_of-name, same-is}
 
 -- ---- a text with a colon

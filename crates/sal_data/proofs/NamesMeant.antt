@@ -1,15 +1,13 @@
 -- What a name means has this name.
-use Rattle.std.proofs.Common.{◌≡◌, ◌⊎◌, inl, inr, ℕ, zero, suc, ◌+◌, ◌-◌, ◌<◌, Bool, true, false, cond, not, ◌&&◌, IsTrue, List, [], ◌∷◌, ◌++◌, length, take, drop, get_or, Option, Some, None, Result, Ok, Err, if◌then◌else◌, refl, sym, ap, subst, ◌∙◌, arith}
-use Rattle.std.specs.Prelude.{option_map, option_and_then, find, nat_lt, ◌||◌}
+use Rattle.std.proofs.Common.{◌≡◌, ◌⊎◌, inl, inr, ℕ, zero, suc, ◌+◌, Bool, true, false, cond, List, [], ◌∷◌, ◌++◌, take, drop, get_or, Option, Some, None, Ok, if◌then◌else◌, refl, sym, ap, subst, ◌∙◌, arith}
+use Rattle.std.specs.Prelude.{option_map, option_and_then, find, ◌||◌}
 use Rattle.std.specs.List.{slice_get, list_any, position_or_len, before_first, after_first}
 use Rattle.std.specs.Option.{option_map_or}
-use Rattle.std.specs.Ordering.{is_eq, nat_cmp, ordering_then}
-use Rattle.std.specs.declared.cmp.Ordering.{Ordering}
-use Rattle.std.specs.declared.cmp.Ordering.TheVariants.{Less, Equal, Greater}
+use Rattle.std.specs.Ordering.{is_eq, nat_cmp}
+use Rattle.std.specs.declared.cmp.Ordering.TheVariants.{Equal}
 use Rattle.std.specs.Cmp.{Equal-is}
-use Rattle.std.specs.Cmp.Lexicographic.{slice_cmp}
 use Rattle.std.specs.FinMap.{nat_cmp-IsAntisymmetric, slice_cmp-IsAntisymmetric}
-use Rattle.std.proofs.lemmas.Bool.{cases_Bool, and_parts, and_from, not-true, true≢false, not_from_true}
+use Rattle.std.proofs.lemmas.Bool.{and_from, not_from_true}
 use Rattle.std.proofs.lemmas.Bool.Decides.{nat_tests}
 use Rattle.std.proofs.lemmas.Option.{option_and_then_some, same_Some, cond_some}
 use Rattle.sal_types.specs.declared.value.Step.{Step}
@@ -20,13 +18,12 @@ use Rattle.sal_schema.specs.declared.table.NodeInfo.{NodeInfo}
 use Rattle.sal_schema.specs.declared.table.SchemaTable.{SchemaTable}
 use Rattle.sal_schema.specs.Kinds.{is_data}
 use Rattle.sal_schema.specs.Names.{name_cmp, is_called, lookup, named, name_of_parts, module_at, data_at, data_names, module_names, module_called, child_of}
-use Rattle.sal_schema.specs.Table.{each_from, data_node, data_parent, is_data_child, is_kind, is_same, module_of, name_of, module_name, parent_of}
+use Rattle.sal_schema.specs.Table.{each_from, data_node, data_parent, is_data_child, is_kind, is_same, module_of, name_of, module_name}
 use Rattle.sal_schema.specs.Valid.{IsTable, is_identifier}
 use Rattle.sal_schema.proofs.Facts.{slice_get_some, slice_get_there, module_is_there, numbers_at}
 use Rattle.sal_schema.proofs.Numbered.{list_all-at}
 use Rattle.sal_json.specs.Named.{is_colon}
 use Rattle.sal_json.proofs.Chosen.{from_some, same_ok}
-use Rattle.sal_data.specs.declared.fault.DataFault.{DataFault}
 use Rattle.sal_data.specs.Members.{is_qualified, own_module, member_name, has_module, if_qualified, qualified_child, plain_child, child_called, name_fault, member_node}
 use Rattle.sal_data.proofs.Listed.{In, In-either}
 use Rattle.sal_data.proofs.Children.{first_default, module_known}

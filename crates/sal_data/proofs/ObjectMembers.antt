@@ -1,5 +1,5 @@
 -- The members of an object, and those of one that is built member by member.
-use Rattle.std.proofs.Common.{◌≡◌, ◌⊎◌, inl, inr, ℕ, ◌+◌, Bool, true, false, List, [], ◌∷◌, ◌++◌, Option, Some, None, refl, sym, ap, subst, ◌∙◌}
+use Rattle.std.proofs.Common.{◌≡◌, ◌⊎◌, inl, inr, ℕ, ◌+◌, List, [], ◌∷◌, Option, Some, None, refl, sym, ap, subst, ◌∙◌}
 use Rattle.std.specs.List.{fold}
 use Rattle.std.specs.declared.cmp.Ordering.{Ordering}
 use Rattle.std.specs.declared.cmp.Ordering.TheVariants.{Less, Equal, Greater}
@@ -36,9 +36,9 @@ Has-from_put l e k d (member n x ms) h =
       | Less ↦ λ is h. h
       | Equal ↦ λ is h. elim h [ inl (a, b) ↦ inl (a ∙ sym (same_text k n is), b) | inr more ↦ inr (inr more) ]
       | Greater ↦ λ is h. elim h [
-          | inl here ↦ inr (inl here)
-          | inr more ↦ elim (Has-from_put l e k d ms more) [ inl new ↦ inl new | inr old ↦ inr (inr old) ]
-        ]
+        | inl here ↦ inr (inl here)
+        | inr more ↦ elim (Has-from_put l e k d ms more) [ inl new ↦ inl new | inr old ↦ inr (inr old) ]
+      ]
     ] refl h
 
 pub IsNamed-put : (k : List ℕ) (d : Data) (ms : Members) → IsNamed k (put k d ms)
@@ -110,9 +110,9 @@ module _ (table : SchemaTable) (parent : Option ℕ) (f : Writer) (k : ℕ) wher
       by : ((ms : Members) → Has name d (build ms runs) → Has name d ms ⊎ IsOf runs name d) → (o : Option Step) → step_of k run ≡ o → Has name d (build (with_member table parent f k ms o run) runs) → Has name d ms ⊎ IsOf (run ∷ runs) name d
       by rest (Some (Node n)) at h = elim (rest (put (member_name table parent n) (f n (k + 1) run) ms) h) [
         | inl before ↦ elim (Has-from_put name d (member_name table parent n) (f n (k + 1) run) ms before) [
-            | inl (called, value) ↦ inr (record { node = n; run = run; there = inl refl; step = at; named = called; value = value })
-            | inr old ↦ inl old
-          ]
+          | inl (called, value) ↦ inr (record { node = n; run = run; there = inl refl; step = at; named = called; value = value })
+          | inr old ↦ inl old
+        ]
         | inr later ↦ inr (more_runs run runs name d later)
       ]
       by rest None at h = elim (rest ms h) [ inl old ↦ inl old | inr later ↦ inr (more_runs run runs name d later) ]

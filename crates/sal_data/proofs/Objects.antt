@@ -1,16 +1,16 @@
 -- What is written for an object reads as the rows below it.
-use Rattle.std.proofs.Common.{◌≡◌, ◌⊎◌, inl, inr, ℕ, zero, suc, ◌+◌, ◌≤◌, ◌<◌, Bool, true, false, ◌&&◌, List, [], ◌∷◌, ◌++◌, length, Option, Some, None, Result, Ok, Err, refl, sym, ap, subst, ◌∙◌, arith, append_assoc, append-nil}
+use Rattle.std.proofs.Common.{◌≡◌, inl, inr, ℕ, true, false, List, [], ◌∷◌, ◌++◌, length, Option, Some, None, Ok, Err, refl, sym, ap, subst, ◌∙◌, append_assoc}
 use Rattle.std.specs.Option.{option_map_or}
 use Rattle.std.specs.Ordering.{eq_by_cmp}
 use Rattle.std.specs.Cmp.{Equal-is}
 use Rattle.std.proofs.lemmas.Bool.{and_parts}
-use Rattle.serde_json.specs.Data.{Data, object, Members, no_members}
+use Rattle.serde_json.specs.Data.{Data, Members, no_members}
 use Rattle.serde_json.specs.Find.{get_member}
 use Rattle.sal_types.specs.declared.value.Value.{Value}
 use Rattle.sal_types.specs.declared.value.Cell.{Cell}
-use Rattle.sal_types.specs.declared.value.Cell.TheVariants.{Mark, Leaf}
+use Rattle.sal_types.specs.declared.value.Cell.TheVariants.{Leaf}
 use Rattle.sal_types.specs.declared.value.Step.{Step}
-use Rattle.sal_types.specs.declared.value.Step.TheVariants.{Node, Key, Item}
+use Rattle.sal_types.specs.declared.value.Step.TheVariants.{Node}
 use Rattle.sal_types.specs.declared.row.Row.{Row}
 use Rattle.sal_types.specs.Order.{cell_cmp, cell_cmp-IsAntisymmetric}
 use Rattle.sal_types.specs.Prefix.{is_prefix}
@@ -22,14 +22,13 @@ use Rattle.sal_schema.specs.Paths.{are_of_nodes}
 use Rattle.sal_schema.specs.Table.{is_data_child}
 use Rattle.sal_schema.specs.Valid.{IsTable}
 use Rattle.sal_schema.specs.Values.{is_of_node}
-use Rattle.sal_data.specs.declared.fault.DataFault.{DataFault}
 use Rattle.sal_data.specs.declared.fault.DataFault.TheVariants.{MissingKey}
 use Rattle.sal_data.specs.Laws.{IsWhole}
 use Rattle.sal_data.specs.Members.{member_name, member_node}
 use Rattle.sal_data.specs.Read.{at_path, node_scalar, key_value, key_values, node_rows, members_rows}
-use Rattle.sal_data.specs.Written.{Writer, step_of, runs_of}
+use Rattle.sal_data.specs.Written.{Writer, runs_of}
 use Rattle.sal_data.proofs.Listed.{In}
-use Rattle.sal_data.proofs.ObjectMembers.{Has, Has-found, found, IsNamed, IsOf, build, of_runs, each_named}
+use Rattle.sal_data.proofs.ObjectMembers.{Has, Has-found, found, IsOf, build, of_runs, each_named}
 use Rattle.sal_data.proofs.MemberNames.{member_node-name, same_child}
 use Rattle.sal_data.proofs.Fronts.{length-more}
 use Rattle.sal_data.proofs.PathsFit.{root, after, at_object}

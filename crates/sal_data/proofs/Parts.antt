@@ -1,14 +1,14 @@
 -- The rows of a tree at a path and below it, and the runs of these.
-use Rattle.std.proofs.Common.{◌≡◌, ◌⊎◌, inl, inr, ℕ, zero, suc, ◌+◌, Bool, true, false, List, [], ◌∷◌, ◌++◌, length, Option, Some, None, refl, sym, ap, subst, ◌∙◌, append_assoc}
-use Rattle.std.specs.List.{slice_get, filter}
+use Rattle.std.proofs.Common.{◌≡◌, true, List, [], ◌∷◌, ◌++◌, length, Option, Some, None, sym, ap, subst, ◌∙◌, append_assoc}
+use Rattle.std.specs.List.{slice_get}
 use Rattle.sal_types.specs.declared.value.Cell.{Cell}
 use Rattle.sal_types.specs.declared.value.Step.{Step}
 use Rattle.sal_types.specs.declared.row.Row.{Row}
-use Rattle.sal_types.specs.Prefix.{is_prefix, IsPrefix}
+use Rattle.sal_types.specs.Prefix.{is_prefix}
 use Rattle.sal_types.specs.Tree.{cell, under, IsAscending}
 use Rattle.sal_types.proofs.Prefixes.{IsPrefix-from_test, is_prefix-append}
 use Rattle.sal_rows.proofs.Cells.{IsAscending-filter}
-use Rattle.sal_data.specs.Written.{next_step, step_of, runs_of}
+use Rattle.sal_data.specs.Written.{step_of, runs_of}
 use Rattle.sal_data.proofs.Listed.{In, In-filter, In-filter_from}
 use Rattle.sal_data.proofs.Fronts.{slice_get-behind, Rises, rises, In-cell, cell-In}
 use Rattle.sal_data.proofs.RunsApart.{AreRuns, are_runs, unique}

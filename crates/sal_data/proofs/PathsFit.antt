@@ -1,16 +1,16 @@
 -- Where a path that fits comes to, and what may follow it.
-use Rattle.std.proofs.Common.{◌≡◌, ◌⊎◌, inl, inr, ℕ, zero, suc, ◌+◌, ◌-◌, Bool, true, false, not, ◌&&◌, ◌||◌, List, [], ◌∷◌, ◌++◌, length, Option, Some, None, refl, sym, ap, subst, ◌∙◌, arith}
+use Rattle.std.proofs.Common.{◌≡◌, ◌⊎◌, inl, inr, ℕ, ◌+◌, ◌-◌, Bool, true, false, not, ◌&&◌, List, [], ◌∷◌, ◌++◌, length, Option, Some, None, refl, sym, ap, ◌∙◌, arith}
 use Rattle.std.specs.List.{slice_get}
 use Rattle.std.specs.Option.{option_map_or}
-use Rattle.std.proofs.lemmas.Bool.{and_parts, and_from, not-true, true≢false, false≢true}
+use Rattle.std.proofs.lemmas.Bool.{and_parts, and_from, not-true, true≢false}
 use Rattle.sal_types.specs.declared.value.Value.{Value}
 use Rattle.sal_types.specs.declared.value.Step.{Step}
 use Rattle.sal_types.specs.declared.value.Step.TheVariants.{Node, Key, Item}
 use Rattle.sal_schema.specs.declared.kind.Kind.{Kind}
 use Rattle.sal_schema.specs.declared.kind.Kind.TheVariants.{List as ListKind, LeafList}
 use Rattle.sal_schema.specs.declared.table.SchemaTable.{SchemaTable}
-use Rattle.sal_schema.specs.Kinds.{has_entries, is_list, is_leaf_list, is_leaf, is_presence}
-use Rattle.sal_schema.specs.Table.{is_kind, kind_of, keys_of, is_data_child}
+use Rattle.sal_schema.specs.Kinds.{has_entries, is_list, is_leaf_list}
+use Rattle.sal_schema.specs.Table.{is_kind, kind_of, keys_of}
 use Rattle.sal_schema.specs.Paths.{may_follow, are_of_nodes, may_pick, step_fits, fits_from, fits_path, last_step, node_from, node_of}
 use Rattle.sal_schema.specs.Values.{is_of_node}
 use Rattle.sal_data.proofs.Fronts.{length-more}

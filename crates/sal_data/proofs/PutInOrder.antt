@@ -1,5 +1,5 @@
 -- Rows that were read, in the order of their paths.
-use Rattle.std.proofs.Common.{◌≡◌, ◌⊎◌, inl, inr, Bool, true, false, List, [], ◌∷◌, Option, Some, None, if◌then◌else◌, refl, sym, ap, ◌∙◌}
+use Rattle.std.proofs.Common.{◌≡◌, ◌⊎◌, inl, inr, true, false, List, [], ◌∷◌, Option, Some, None, if◌then◌else◌, refl, sym, ap, ◌∙◌}
 use Rattle.std.specs.List.{fold}
 use Rattle.sal_types.specs.declared.value.Cell.{Cell}
 use Rattle.sal_types.specs.declared.value.Step.{Step}
@@ -28,9 +28,9 @@ from_read [] tree p c e = inr e
 from_read (x ∷ read) tree p c e = elim (from_read read (set_row tree x) p c e) [
   | inl later ↦ inl (inr later)
   | inr set ↦ elim (path_eq p x.path) as (λ b. path_eq p x.path ≡ b → (if b then Some x.cell else cell tree p) ≡ Some c → In (record { path = p; cell = c }) (x ∷ read) ⊎ (cell tree p ≡ Some c)) [
-      | true ↦ λ is e. let at : p ≡ x.path = same_path p x.path is in let same : c ≡ x.cell = cc in inl (inl (λ i. record { path = at i; cell = same i }))
-      | false ↦ λ is e. inr e
-    ] refl (sym (cell-set_row tree x p) ∙ set)
+    | true ↦ λ is e. let at : p ≡ x.path = same_path p x.path is in let same : c ≡ x.cell = cc in inl (inl (λ i. record { path = at i; cell = same i }))
+    | false ↦ λ is e. inr e
+  ] refl (sym (cell-set_row tree x p) ∙ set)
 ]
 
 none_in : (p : List Step) (c : Cell) → cell [] p ≡ Some c → ⊥

@@ -1,22 +1,21 @@
 -- What a reader did, from what it gave.
-use Rattle.std.proofs.Common.{◌≡◌, ◌⊎◌, inl, inr, ℕ, zero, suc, ◌+◌, ◌≤◌, ◌<◌, Bool, true, false, List, [], ◌∷◌, ◌++◌, length, Option, Some, None, Result, Ok, Err, if◌then◌else◌, refl, sym, ap, subst, ◌∙◌, arith, append_assoc, append-nil}
+use Rattle.std.proofs.Common.{◌≡◌, ◌⊎◌, inl, inr, ℕ, ◌<◌, Bool, true, false, List, [], ◌∷◌, ◌++◌, length, Option, Some, Result, Ok, Err, if◌then◌else◌, refl, sym, ap, subst, ◌∙◌}
 use Rattle.std.specs.Prelude.{nat_lt, option_and_then, ◌||◌}
 use Rattle.std.specs.List.{list_any, slice_get}
 use Rattle.std.specs.Option.{option_map_or}
 use Rattle.std.proofs.lemmas.Bool.{ltb-true, and_from}
-use Rattle.serde_json.specs.Data.{Data, null, boolean, number, string, array, object, Items, no_items, item, Members, no_members, member}
+use Rattle.serde_json.specs.Data.{Data, null, boolean, number, string, array, object, Items, item, Members, no_members, member}
 use Rattle.serde_json.specs.Find.{get_member}
 use Rattle.sal_types.specs.declared.value.Value.{Value}
-use Rattle.sal_types.specs.declared.value.Cell.{Cell}
 use Rattle.sal_types.specs.declared.value.Cell.TheVariants.{Mark, Leaf}
 use Rattle.sal_types.specs.declared.value.Step.{Step}
-use Rattle.sal_types.specs.declared.value.Step.TheVariants.{Node, Key, Item}
+use Rattle.sal_types.specs.declared.value.Step.TheVariants.{Node, Item}
 use Rattle.sal_types.specs.declared.row.Row.{Row}
 use Rattle.sal_types.specs.Reading.{◌>>=◌}
 use Rattle.sal_schema.specs.declared.table.SchemaTable.{SchemaTable}
 use Rattle.sal_schema.specs.Kinds.{is_leaf, is_leaf_list, is_list, is_presence, has_entries}
 use Rattle.sal_schema.specs.Paths.{are_of_nodes}
-use Rattle.sal_schema.specs.Table.{is_kind, keys_of, type_of, module_of}
+use Rattle.sal_schema.specs.Table.{is_kind, type_of, module_of}
 use Rattle.sal_schema.specs.Valid.{IsTable}
 use Rattle.sal_schema.specs.Values.{is_of_node, is_of_type}
 use Rattle.sal_json.specs.declared.fault.ScalarFault.{ScalarFault}
@@ -27,8 +26,7 @@ use Rattle.sal_json.specs.Written.{json_of}
 use Rattle.sal_json.proofs.Chosen.{from_some, same_ok, chosen, otherwise}
 use Rattle.sal_json.proofs.OfType.{json_of_type}
 use Rattle.sal_json.proofs.ReadBack.{reads_back}
-use Rattle.sal_data.specs.declared.fault.DataFault.{DataFault}
-use Rattle.sal_data.specs.declared.fault.DataFault.TheVariants.{TooDeep, WrongShape, DoubleEntry, MissingKey, KeyDiffers, BadScalar}
+use Rattle.sal_data.specs.declared.fault.DataFault.TheVariants.{TooDeep, WrongShape, DoubleEntry, MissingKey}
 use Rattle.sal_data.specs.Laws.{IsReadable, IsJson}
 use Rattle.sal_data.specs.Members.{member_name, member_node}
 use Rattle.sal_data.specs.Read.{Reading, followed, marked, longer, at_path, node_scalar, leaf_rows, key_value, key_values, key_step, item_step, one_more, items_rows, node_rows, object_rows, members_rows, entries_rows, of_array, of_object, of_other, same_step}

@@ -1,47 +1,45 @@
 -- What is read at a path is whole.
-use Rattle.std.proofs.Common.{◌≡◌, ◌⊎◌, inl, inr, ℕ, zero, suc, ◌+◌, ◌≤◌, ◌<◌, Bool, true, false, cond, not, ◌&&◌, List, [], ◌∷◌, ◌++◌, length, get_or, Option, Some, None, Result, Ok, Err, if◌then◌else◌, refl, sym, ap, subst, ◌∙◌, arith, append_assoc, append-nil, IsTrue}
-use Rattle.std.specs.Prelude.{option_map, option_and_then, ◌||◌, nat_eq}
+use Rattle.std.proofs.Common.{◌≡◌, inl, inr, ℕ, zero, suc, ◌≤◌, ◌<◌, Bool, true, false, cond, not, ◌&&◌, List, [], ◌∷◌, ◌++◌, length, Option, Some, None, Ok, refl, sym, ap, subst, ◌∙◌, arith}
+use Rattle.std.specs.Prelude.{option_map, ◌||◌, nat_eq}
 use Rattle.std.specs.List.{list_all, slice_get, All}
 use Rattle.std.specs.Option.{option_map_or}
-use Rattle.std.proofs.lemmas.Bool.{cases_Bool, and_parts, and_from, or_left, true≢false}
+use Rattle.std.proofs.lemmas.Bool.{and_parts, and_from, or_left, true≢false}
 use Rattle.std.proofs.lemmas.Bool.Decides.{nat_tests}
 use Rattle.std.proofs.lemmas.List.Elements.{All-nil, All-cons}
 use Rattle.serde_json.specs.Data.{Data, null, boolean, number, string, array, object, Items, no_items, item, Members, no_members, member}
 use Rattle.serde_json.specs.Find.{get_member}
 use Rattle.sal_types.specs.declared.value.Value.{Value}
-use Rattle.sal_types.specs.declared.value.Cell.{Cell}
 use Rattle.sal_types.specs.declared.value.Cell.TheVariants.{Mark, Leaf}
 use Rattle.sal_types.specs.declared.value.Step.{Step}
 use Rattle.sal_types.specs.declared.value.Step.TheVariants.{Node, Key, Item}
 use Rattle.sal_types.specs.declared.row.Row.{Row}
 use Rattle.sal_schema.specs.declared.kind.Kind.{Kind}
-use Rattle.sal_schema.specs.declared.kind.Kind.TheVariants.{Leaf as LeafKind, LeafList, List as ListKind, Container}
+use Rattle.sal_schema.specs.declared.kind.Kind.TheVariants.{Leaf as LeafKind, LeafList, List as ListKind}
 use Rattle.sal_schema.specs.declared.table.NodeInfo.{NodeInfo}
 use Rattle.sal_schema.specs.declared.table.SchemaTable.{SchemaTable}
-use Rattle.sal_schema.specs.Fitting.{has_mark, has_value, is_at_leaf, has_own_row, cell_fits}
+use Rattle.sal_schema.specs.Fitting.{has_mark, has_value, is_at_leaf}
 use Rattle.sal_schema.specs.Kinds.{is_leaf, is_leaf_list, is_list, is_presence, has_entries, is_data, is_choice_or_case, is_message}
-use Rattle.sal_schema.specs.Paths.{may_follow, are_of_nodes, fits_path, last_step, node_of}
-use Rattle.sal_schema.specs.Table.{is_kind, kind_of, keys_of, parent_of, data_node, data_parent, is_data_child, is_same, closest, is_among}
+use Rattle.sal_schema.specs.Paths.{are_of_nodes, fits_path, node_of}
+use Rattle.sal_schema.specs.Table.{is_kind, kind_of, keys_of, parent_of, data_node, data_parent, is_data_child, is_same, closest}
 use Rattle.sal_schema.specs.Valid.{IsTable, has_its_keys, agree, is_empty, all_differ}
 use Rattle.sal_schema.specs.Values.{is_of_node}
 use Rattle.sal_schema.proofs.Facts.{slice_get_some, closest-Some}
 use Rattle.sal_schema.proofs.Numbered.{all_from-at}
 use Rattle.sal_json.proofs.Chosen.{same_ok}
-use Rattle.sal_data.specs.declared.fault.DataFault.{DataFault}
-use Rattle.sal_data.specs.Laws.{IsReadable, HasReadable, IsJson, AreJson, HasJson, row_values, step_values}
+use Rattle.sal_data.specs.Laws.{IsReadable, IsJson, AreJson, HasJson, step_values}
 use Rattle.sal_data.specs.Members.{member_name, member_node}
-use Rattle.sal_data.specs.Read.{Reading, followed, marked, node_scalar, leaf_rows, key_values, key_step, item_step, items_rows, node_rows, object_rows, members_rows, entries_rows}
+use Rattle.sal_data.specs.Read.{marked, node_scalar, leaf_rows, key_values, items_rows, node_rows, members_rows, entries_rows}
 use Rattle.sal_data.proofs.Listed.{In, list_all-In}
 use Rattle.sal_data.proofs.Children.{same-is}
 use Rattle.sal_data.proofs.ObjectMembers.{Has, found, Has-found}
 use Rattle.sal_data.proofs.MemberNames.{member_node-name}
 use Rattle.sal_data.proofs.NamesMeant.{member_meant, same-itself}
 use Rattle.sal_data.proofs.Fronts.{length-more}
-use Rattle.sal_data.proofs.PathsFit.{last_step-end, node_of-node, node_of-key, node_of-item, Spot, root, step_here, after, next, at_node, at_object, after-node, after-end, fits-more}
+use Rattle.sal_data.proofs.PathsFit.{last_step-end, node_of-node, node_of-key, node_of-item, root, step_here, after, next, at_object, after-node, after-end, fits-more}
 use Rattle.sal_data.proofs.Lawful.{kind_never, kind_always}
 use Rattle.sal_data.proofs.Composed.{node_rows-leaf}
-use Rattle.sal_data.proofs.RowsRead.{a_row, Alike, KeyRows, KeyRows-more, WholeIn, IsFit, AtPath, BelowPath, ReadAt, ReadBelow, none_below, joined_rows, at_plain, at_one, at_marked}
-use Rattle.sal_data.proofs.ReadParts.{bind_ok, followed_parts, MemberParts, member_parts, MemberRows, members_all, EntryParts, entry_parts, ItemParts, item_parts, value_fits, value_readable, leaf_parts, item_value, KeysRead, keys_parts, keys_fit, array_parts, object_parts, other_parts}
+use Rattle.sal_data.proofs.RowsRead.{a_row, KeyRows, KeyRows-more, WholeIn, IsFit, ReadAt, ReadBelow, none_below, joined_rows, at_plain, at_one, at_marked}
+use Rattle.sal_data.proofs.ReadParts.{bind_ok, followed_parts, member_parts, members_all, EntryParts, entry_parts, item_parts, value_fits, value_readable, leaf_parts, item_value, KeysRead, keys_parts, keys_fit, array_parts, object_parts, other_parts}
 
 -- ---- kinds
 
@@ -157,8 +155,8 @@ module _ (table : SchemaTable) (good : IsTable table) where
         short = short;
         is_cell = ap (λ s. has_value table s value) (last_step-end p (Node n)) ∙ and_from (is_kind is_leaf table n) (is_of_node table n value) leaf (value_fits table n json value scalar);
         readable = λ m known.
-          subst (λ (vs : List Value). All (IsReadable table m) (value ∷ vs)) (ap step_values (sym (last_step-end p (Node n))))
-          (All-cons (IsReadable table m) value [] (subst (λ k. IsReadable table k value) (same_some n m (sym (node_of-node p n) ∙ known)) readable) (All-nil (IsReadable table m)));
+            subst (λ (vs : List Value). All (IsReadable table m) (value ∷ vs)) (ap step_values (sym (last_step-end p (Node n))))
+            (All-cons (IsReadable table m) value [] (subst (λ k. IsReadable table k value) (same_some n m (sym (node_of-node p n) ∙ known)) readable) (All-nil (IsReadable table m)));
       }) (node_whole p n (a_row path (Leaf value) ∷ []) (λ presence. absurd (true≢false (sym presence ∙ kind_never is_leaf is_presence (kind_of table n) leaf_not_presence leaf)))))
 
   -- a mark at the end of a path
@@ -301,10 +299,10 @@ module _ (table : SchemaTable) (good : IsTable table) where
       (record {
         marks = λ _. inl refl;
         keyed = λ vs last m known.
-          let of_values : values ≡ vs = same_key values vs (sym (last_step-end p (Key values)) ∙ last) in
-          let of_node : n ≡ m = same_some n m (sym (node_of-key p values ∙ node) ∙ known) in
-          KeyRows-more table ys (a_row path Mark ∷ ys) (λ r h. inr h) path (keys_of table m) vs
-          (subst (λ k. KeyRows table ys path (keys_of table k) vs) of_node (subst (λ (v : List Value). KeyRows table ys path (keys_of table n) v) of_values leafs));
+            let of_values : values ≡ vs = same_key values vs (sym (last_step-end p (Key values)) ∙ last) in
+            let of_node : n ≡ m = same_some n m (sym (node_of-key p values ∙ node) ∙ known) in
+            KeyRows-more table ys (a_row path Mark ∷ ys) (λ r h. inr h) path (keys_of table m) vs
+            (subst (λ k. KeyRows table ys path (keys_of table k) vs) of_node (subst (λ (v : List Value). KeyRows table ys path (keys_of table n) v) of_values leafs));
       }))
 
   -- what was done for an entry that is an object
@@ -360,9 +358,9 @@ module _ (table : SchemaTable) (good : IsTable table) where
         elim (array_parts table n (p ++ Node n ∷ []) (array items) (entries_rows table n (p ++ Node n ∷ []) [] items) (items_rows table n (p ++ Node n ∷ []) [] items) read e) [
           | inl (leaf, rows) ↦ leaf_at p n (array items) read fit short leaf is rows
           | inr other ↦ elim other [
-              | inl (list, rows) ↦ entries_at p n (Fresh []) read (kind_always is_list has_entries (kind_of table n) list_has_entries list) (entries_read items p n [] read fit list is rows)
-              | inr (list, rows) ↦ entries_at p n (Fresh []) read (kind_always is_leaf_list has_entries (kind_of table n) leaf_list_has_entries list) (items_read items p n [] read fit list is rows)
-            ]
+            | inl (list, rows) ↦ entries_at p n (Fresh []) read (kind_always is_list has_entries (kind_of table n) list_has_entries list) (entries_read items p n [] read fit list is rows)
+            | inr (list, rows) ↦ entries_at p n (Fresh []) read (kind_always is_leaf_list has_entries (kind_of table n) leaf_list_has_entries list) (items_read items p n [] read fit list is rows)
+          ]
         ]
     node_read (object ms) p n read fit short is e =
         elim (object_parts table n (p ++ Node n ∷ []) (object ms) (members_rows table (Some n) (p ++ Node n ∷ []) ms) read e) [

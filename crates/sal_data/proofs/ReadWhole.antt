@@ -1,11 +1,10 @@
 -- The rows that are read at a path, in order, are whole.
-use Rattle.std.proofs.Common.{◌≡◌, ◌⊎◌, inl, inr, ℕ, zero, suc, ◌+◌, ◌≤◌, ◌<◌, Bool, true, false, not, ◌&&◌, IsTrue, List, [], ◌∷◌, ◌++◌, length, map, Option, Some, None, Result, Ok, Err, if◌then◌else◌, refl, sym, ap, subst, ◌∙◌, arith, append_assoc, append-nil}
+use Rattle.std.proofs.Common.{◌≡◌, ◌⊎◌, inl, inr, ℕ, ◌≤◌, Bool, true, false, not, ◌&&◌, List, [], ◌∷◌, ◌++◌, length, Option, Some, None, Ok, Err, refl, sym, ap, subst, ◌∙◌, append_assoc, append-nil}
 use Rattle.std.specs.Prelude.{◌||◌, is_some}
-use Rattle.std.specs.List.{list_all, All}
 use Rattle.std.specs.Option.{option_map_or}
 use Rattle.std.specs.Ordering.{eq_by_cmp, is_eq}
 use Rattle.std.specs.Cmp.{tied_itself}
-use Rattle.std.proofs.lemmas.Bool.{cases_Bool, and_parts, and_from, not_from_false, true≢false}
+use Rattle.std.proofs.lemmas.Bool.{cases_Bool, and_parts, and_from}
 use Rattle.serde_json.specs.Data.{Data, null, boolean, number, string, array, object, Members}
 use Rattle.sal_types.specs.declared.value.Value.{Value}
 use Rattle.sal_types.specs.declared.value.Cell.{Cell}
@@ -15,8 +14,8 @@ use Rattle.sal_types.specs.declared.value.Step.TheVariants.{Node, Key, Item}
 use Rattle.sal_types.specs.declared.row.Row.{Row}
 use Rattle.sal_types.specs.contracts.value.CellOrd.TheImpl.Laws as cell_laws
 use Rattle.sal_types.specs.Order.{cell_cmp}
-use Rattle.sal_types.specs.Prefix.{is_prefix, IsPrefix}
-use Rattle.sal_types.specs.Tree.{cell, IsAscending}
+use Rattle.sal_types.specs.Prefix.{is_prefix}
+use Rattle.sal_types.specs.Tree.{cell}
 use Rattle.sal_types.proofs.Prefixes.{IsPrefix-from_test, is_prefix-append}
 use Rattle.sal_schema.specs.declared.kind.Kind.{Kind}
 use Rattle.sal_schema.specs.declared.kind.Kind.TheVariants.{Leaf as LeafKind, LeafList, List as ListKind, Container}
@@ -24,13 +23,12 @@ use Rattle.sal_schema.specs.declared.table.SchemaTable.{SchemaTable}
 use Rattle.sal_schema.specs.Fitting.{has_mark, has_own_row, cell_fits, prefixes, has_cell, has_key_leafs, has_keys, is_whole_at, is_whole_above, is_in_message, is_root, row_fits, fits}
 use Rattle.sal_schema.specs.Kinds.{is_data, is_message}
 use Rattle.sal_schema.specs.Paths.{fits_path, last_step, node_of}
-use Rattle.sal_schema.specs.Table.{is_kind, kind_of, keys_of, is_data_child, is_same, data_parent}
+use Rattle.sal_schema.specs.Table.{is_kind, kind_of, keys_of, is_same, data_parent}
 use Rattle.sal_schema.specs.Valid.{IsTable}
 use Rattle.sal_json.proofs.Chosen.{from_some, same_ok, chosen}
-use Rattle.sal_data.specs.declared.fault.DataFault.{DataFault}
 use Rattle.sal_data.specs.declared.fault.DataFault.TheVariants.{WrongShape, KeyDiffers}
 use Rattle.sal_data.specs.Laws.{IsWhole, HasReadable, IsJson, ReadsWhole}
-use Rattle.sal_data.specs.Read.{Reading, marked, node_scalar, key_values, key_step, item_step, object_rows, members_rows, before_last, if_asked, same_step, entry_rows, item_rows, rows_at, in_order, read_data}
+use Rattle.sal_data.specs.Read.{Reading, marked, key_values, key_step, item_step, object_rows, before_last, if_asked, same_step, entry_rows, item_rows, rows_at, in_order}
 use Rattle.sal_data.proofs.Listed.{In, In-map_from, list_all-from, All-from}
 use Rattle.sal_data.proofs.Fronts.{rises, cell-In}
 use Rattle.sal_data.proofs.PathsFit.{last_step-end, node_of-key, node_of-item, ends, root, after, at_object, after-end, after-node_of}
@@ -38,7 +36,7 @@ use Rattle.sal_data.proofs.Lawful.{kind_never}
 use Rattle.sal_data.proofs.NamesMeant.{member_meant}
 use Rattle.sal_data.proofs.RunsApart.{step_is}
 use Rattle.sal_data.proofs.PutInOrder.{IsAscending-in_order, in_order-from, in_order-at}
-use Rattle.sal_data.proofs.RowsRead.{a_row, KeyRows, WholeIn, IsFit, AtPath, BelowPath, ReadAt, ReadBelow, at_plain}
+use Rattle.sal_data.proofs.RowsRead.{a_row, KeyRows, WholeIn, AtPath, BelowPath, ReadAt, at_plain}
 use Rattle.sal_data.proofs.ReadParts.{bind_ok, followed_parts, item_value}
 use Rattle.sal_data.proofs.ReadTrees.{Names, node_read, members_read, entry_at, item_at}
 

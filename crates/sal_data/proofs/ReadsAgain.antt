@@ -1,16 +1,15 @@
 -- What is written for the rows at a path reads there as these rows.
-use Rattle.std.proofs.Common.{◌≡◌, ◌⊎◌, inl, inr, ℕ, zero, suc, ◌+◌, ◌-◌, ◌≤◌, ◌<◌, Bool, true, false, ◌&&◌, IsTrue, List, [], ◌∷◌, ◌++◌, length, take, Option, Some, None, Result, Ok, Err, refl, sym, ap, subst, ◌∙◌, arith, append-nil, append_assoc, if◌then◌else◌}
-use Rattle.std.specs.Prelude.{◌||◌}
+use Rattle.std.proofs.Common.{◌≡◌, inl, inr, ℕ, ◌+◌, ◌-◌, ◌<◌, Bool, true, false, List, [], ◌∷◌, ◌++◌, length, take, Option, Some, None, Ok, Err, refl, sym, ap, subst, ◌∙◌, arith, append-nil, if◌then◌else◌}
 use Rattle.std.specs.Option.{option_map_or}
 use Rattle.std.proofs.lemmas.Bool.{and_parts, or_left}
-use Rattle.serde_json.specs.Data.{Data, null, object, Members}
+use Rattle.serde_json.specs.Data.{null, object}
 use Rattle.sal_types.specs.declared.value.Value.{Value}
 use Rattle.sal_types.specs.declared.value.Cell.{Cell}
-use Rattle.sal_types.specs.declared.value.Cell.TheVariants.{Mark, Leaf}
+use Rattle.sal_types.specs.declared.value.Cell.TheVariants.{Mark}
 use Rattle.sal_types.specs.declared.value.Step.{Step}
 use Rattle.sal_types.specs.declared.value.Step.TheVariants.{Node, Key, Item}
 use Rattle.sal_types.specs.declared.row.Row.{Row}
-use Rattle.sal_types.specs.Prefix.{is_prefix, IsPrefix}
+use Rattle.sal_types.specs.Prefix.{is_prefix}
 use Rattle.sal_types.specs.Reading.{◌>>=◌}
 use Rattle.sal_types.specs.Tree.{cell, under}
 use Rattle.sal_types.proofs.Prefixes.{IsPrefix-from_test, is_prefix-append}
@@ -23,20 +22,19 @@ use Rattle.sal_schema.specs.Paths.{may_pick, are_of_nodes, fits_path, last_step,
 use Rattle.sal_schema.specs.Table.{is_kind, kind_of, keys_of}
 use Rattle.sal_schema.specs.Valid.{IsTable}
 use Rattle.sal_schema.specs.Values.{is_of_node}
-use Rattle.sal_data.specs.declared.fault.DataFault.{DataFault}
 use Rattle.sal_data.specs.declared.fault.DataFault.TheVariants.{WrongShape, KeyDiffers}
 use Rattle.sal_data.specs.Laws.{IsWhole, ReadsAsWritten}
-use Rattle.sal_data.specs.Read.{Reading, at_path, marked, node_scalar, key_step, item_step, object_rows, members_rows, node_rows, before_last, if_asked, same_step, entry_rows, item_rows, rows_at, in_order, read_data}
-use Rattle.sal_data.specs.Written.{members_json, scalar_json, any_json, node_json, json_at, write_data, runs_of}
+use Rattle.sal_data.specs.Read.{Reading, at_path, marked, key_step, item_step, object_rows, node_rows, before_last, if_asked, entry_rows, item_rows, rows_at, in_order, read_data}
+use Rattle.sal_data.specs.Written.{members_json, scalar_json, any_json, node_json, json_at, write_data}
 use Rattle.sal_data.proofs.Listed.{In}
 use Rattle.sal_data.proofs.Fronts.{length-more}
-use Rattle.sal_data.proofs.PathsFit.{last_step-end, node_of-node, node_of-key, node_of-item, ends, root, after, next, at_object, step_here, step-behind, after-end, after-node_of}
-use Rattle.sal_data.proofs.Lawful.{lies_below, row_at_key, row_at_item, no_row_at_root, item_readable, own_at_top, no_object_child, kind_always}
-use Rattle.sal_data.proofs.Composed.{Gives, GivesBelow, at_row, bind_is, from_below, with_mark, only_row, Gives-same}
+use Rattle.sal_data.proofs.PathsFit.{last_step-end, node_of-key, node_of-item, ends, root, after, at_object, step-behind, after-end, after-node_of}
+use Rattle.sal_data.proofs.Lawful.{lies_below, row_at_item, no_row_at_root, item_readable, own_at_top, no_object_child, kind_always}
+use Rattle.sal_data.proofs.Composed.{Gives, at_row, bind_is, from_below, only_row, Gives-same}
 use Rattle.sal_data.proofs.Objects.{object_gives}
-use Rattle.sal_data.proofs.Parts.{IsPart, part_at}
+use Rattle.sal_data.proofs.Parts.{part_at}
 use Rattle.sal_data.proofs.RunsApart.{same_step-itself}
-use Rattle.sal_data.proofs.Lists.{LevelGives, level_gives, each_gives, entry_members, entry_found, entry_gives}
+use Rattle.sal_data.proofs.Lists.{level_gives, each_gives, entry_members, entry_found, entry_gives}
 use Rattle.sal_data.proofs.PutInOrder.{in_order-is}
 
 -- ---- the end of a path

@@ -1,16 +1,14 @@
 -- Rows that rise, parted into runs with the same next step.
-use Rattle.std.proofs.Common.{◌≡◌, ◌⊎◌, inl, inr, ℕ, zero, suc, ◌+◌, Bool, true, false, cond, not, ◌&&◌, ◌||◌, List, [], ◌∷◌, ◌++◌, length, Option, Some, None, if◌then◌else◌, refl, sym, ap, subst, ◌∙◌, arith}
+use Rattle.std.proofs.Common.{◌≡◌, ◌⊎◌, inl, inr, ℕ, true, false, List, [], ◌∷◌, length, Option, Some, None, if◌then◌else◌, refl, sym, ap, subst, ◌∙◌}
 use Rattle.std.specs.List.{slice_get}
-use Rattle.std.specs.Option.{option_eq}
 use Rattle.std.specs.Ordering.{is_eq, ordering_then}
-use Rattle.std.specs.declared.cmp.Ordering.{Ordering}
 use Rattle.std.specs.declared.cmp.Ordering.TheVariants.{Less, Equal, Greater}
 use Rattle.std.specs.Cmp.{Equal-is, tied_itself}
 use Rattle.std.proofs.lemmas.Bool.{true≢false}
 use Rattle.sal_types.specs.declared.value.Step.{Step}
 use Rattle.sal_types.specs.declared.row.Row.{Row}
 use Rattle.sal_types.specs.Order.{step_cmp, step_cmp-IsAntisymmetric, step_cmp-IsTotalOrder, path_cmp, path_cmp-IsTotalOrder}
-use Rattle.sal_types.specs.Prefix.{is_prefix, IsPrefix}
+use Rattle.sal_types.specs.Prefix.{is_prefix}
 use Rattle.sal_types.proofs.Prefixes.{IsPrefix-from_test}
 use Rattle.sal_data.specs.Read.{same_step}
 use Rattle.sal_data.specs.Written.{next_step, same_next, step_of, with_row, runs_of}

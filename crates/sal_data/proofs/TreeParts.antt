@@ -1,29 +1,26 @@
 -- The part of a whole tree at a path is whole there.
-use Rattle.std.proofs.Common.{◌≡◌, ◌⊎◌, inl, inr, ℕ, zero, suc, ◌≤◌, Bool, true, false, cond, not, ◌&&◌, IsTrue, List, [], ◌∷◌, ◌++◌, length, Option, Some, None, Ok, if◌then◌else◌, refl, sym, ap, subst, ◌∙◌}
+use Rattle.std.proofs.Common.{◌≡◌, ℕ, ◌≤◌, Bool, true, false, cond, not, ◌&&◌, List, [], ◌∷◌, ◌++◌, length, Option, Some, None, if◌then◌else◌, refl, sym, ap, ◌∙◌}
 use Rattle.std.specs.Prelude.{◌||◌, is_some}
-use Rattle.std.specs.List.{filter, list_all, All}
+use Rattle.std.specs.List.{filter}
 use Rattle.std.specs.Option.{option_map_or}
 use Rattle.std.specs.Ordering.{eq_by_cmp}
-use Rattle.std.proofs.lemmas.Bool.{cases_Bool, and_parts, and_from}
+use Rattle.std.proofs.lemmas.Bool.{and_parts, and_from}
 use Rattle.sal_types.specs.declared.value.Value.{Value}
-use Rattle.sal_types.specs.declared.value.Cell.{Cell}
-use Rattle.sal_types.specs.declared.value.Cell.TheVariants.{Mark, Leaf}
+use Rattle.sal_types.specs.declared.value.Cell.TheVariants.{Leaf}
 use Rattle.sal_types.specs.declared.value.Step.{Step}
 use Rattle.sal_types.specs.declared.value.Step.TheVariants.{Node, Key, Item}
 use Rattle.sal_types.specs.declared.row.Row.{Row}
 use Rattle.sal_types.specs.Order.{cell_cmp}
 use Rattle.sal_types.specs.Prefix.{is_prefix}
-use Rattle.sal_types.specs.Tree.{cell, under, IsAscending}
-use Rattle.sal_types.proofs.Prefixes.{is_prefix-append}
+use Rattle.sal_types.specs.Tree.{cell, under}
 use Rattle.sal_rows.proofs.Cells.{cell-filter, IsAscending-filter}
 use Rattle.sal_schema.specs.declared.table.SchemaTable.{SchemaTable}
 use Rattle.sal_schema.specs.Fitting.{has_mark, has_own_row, cell_fits, prefixes, has_cell, has_key_leafs, has_keys, is_whole_at, is_whole_above, is_in_message, is_root, row_fits}
 use Rattle.sal_schema.specs.Paths.{fits_path, last_step, node_of}
 use Rattle.sal_schema.specs.Table.{keys_of}
-use Rattle.sal_schema.specs.Valid.{IsTable}
 use Rattle.sal_data.specs.Laws.{IsWhole, HasReadable, TreesReadAsWritten, ReadsAgain}
 use Rattle.sal_data.specs.Read.{read_data}
-use Rattle.sal_data.specs.Written.{json_at, write_data}
+use Rattle.sal_data.specs.Written.{json_at}
 use Rattle.sal_data.proofs.Listed.{In, In-filter_from, list_all-In, list_all-from, All-In, All-from}
 use Rattle.sal_data.proofs.Lists.{longer_prefix}
 use Rattle.sal_data.proofs.ReadsAgain.{reads_as_written, itself}

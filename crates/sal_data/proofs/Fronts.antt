@@ -1,5 +1,5 @@
 -- Prefixes of paths, and the rows of a tree by their paths.
-use Rattle.std.proofs.Common.{◌≡◌, inl, inr, ℕ, suc, ◌+◌, true, false, List, [], ◌∷◌, ◌++◌, length, Some, if◌then◌else◌, refl, sym, ap, ◌∙◌, arith}
+use Rattle.std.proofs.Common.{◌≡◌, inl, inr, ℕ, suc, ◌+◌, true, false, List, [], ◌∷◌, ◌++◌, append_assoc, length, Some, if◌then◌else◌, refl, sym, ap, ◌∙◌, arith}
 use Rattle.std.specs.FinMap.{is_sorted}
 use Rattle.std.specs.FinMap.Entries.{below_all}
 use Rattle.std.specs.List.{slice_get}
@@ -12,6 +12,8 @@ use Rattle.sal_types.specs.declared.value.Cell.{Cell}
 use Rattle.sal_types.specs.declared.value.Step.{Step}
 use Rattle.sal_types.specs.declared.row.Row.{Row}
 use Rattle.sal_types.specs.Order.{path_cmp, path_cmp-IsTotalOrder, path_eq, step_cmp-IsTotalOrder}
+use Rattle.sal_types.specs.Prefix.{is_prefix}
+use Rattle.sal_types.proofs.Prefixes.{IsPrefix-from_test, is_prefix-append}
 use Rattle.sal_types.specs.Tree.{cell, entries, IsAscending}
 use Rattle.sal_rows.proofs.Cells.{same_path, path_eq-itself}
 use Rattle.sal_data.proofs.Listed.{In}
@@ -36,6 +38,12 @@ tied_first o p q = ordering_then o (path_cmp p q)
 pub path_cmp-behind : (p q r : List Step) → path_cmp (p ++ q) (p ++ r) ≡ path_cmp q r
 path_cmp-behind [] q r = refl
 path_cmp-behind (s ∷ p) q r = ap (λ o. tied_first o (p ++ q) (p ++ r)) (tied_itself step_cmp-IsTotalOrder s) ∙ path_cmp-behind p q r
+
+-- a prefix is one of the path with a step more
+pub longer_prefix : (a b : List Step) (s : Step) → is_prefix a b ≡ true → is_prefix a (b ++ s ∷ []) ≡ true
+longer_prefix a b s h =
+    let (r, is) = IsPrefix-from_test a b h in
+    ap (λ x. is_prefix a (x ++ s ∷ [])) is ∙ ap (is_prefix a) (append_assoc a r (s ∷ [])) ∙ is_prefix-append a (r ++ s ∷ [])
 
 -- ---- rows that rise
 

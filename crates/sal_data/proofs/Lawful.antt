@@ -2,7 +2,6 @@
 use Rattle.std.proofs.Common.{◌≡◌, ◌⊎◌, inl, inr, ℕ, suc, ◌+◌, ◌≤◌, ◌<◌, Bool, true, false, not, ◌&&◌, ◌||◌, List, [], ◌∷◌, ◌++◌, length, Option, Some, None, refl, sym, ap, subst, ◌∙◌, arith, append-nil, length-append}
 use Rattle.std.specs.Prelude.{is_some}
 use Rattle.std.specs.List.{All}
-use Rattle.std.specs.Option.{option_map_or}
 use Rattle.std.proofs.lemmas.Bool.{and_parts, or_cases, true≢false, not-true}
 use Rattle.std.proofs.lemmas.List.Elements.{All-head}
 use Rattle.sal_types.specs.declared.value.Value.{Value}
@@ -13,13 +12,11 @@ use Rattle.sal_types.specs.declared.value.Step.TheVariants.{Node, Key, Item}
 use Rattle.sal_types.specs.declared.row.Row.{Row}
 use Rattle.sal_types.specs.Prefix.{is_prefix}
 use Rattle.sal_types.specs.Tree.{cell}
-use Rattle.sal_schema.specs.declared.kind.Kind.{Kind}
-use Rattle.sal_schema.specs.declared.kind.Kind.TheVariants.{Leaf as LeafKind, LeafList}
 use Rattle.sal_schema.specs.declared.table.SchemaTable.{SchemaTable}
 use Rattle.sal_schema.specs.Fitting.{has_mark, has_value, is_at_leaf, has_own_row, cell_fits, prefixes, has_keys, is_whole_at, is_whole_above, is_in_message, is_root, row_fits}
 use Rattle.sal_schema.specs.Kinds.{is_leaf, is_leaf_list, is_presence, has_entries, has_type, is_message}
 use Rattle.sal_schema.specs.Paths.{may_follow, fits_path, last_step, node_of}
-use Rattle.sal_schema.specs.Table.{is_kind, kind_of, is_data_child}
+use Rattle.sal_schema.specs.Table.{is_kind, is_data_child}
 use Rattle.sal_schema.specs.Valid.{IsTable}
 use Rattle.sal_schema.specs.Values.{is_of_node}
 use Rattle.sal_data.specs.Laws.{IsWhole, IsReadable, HasReadable, step_values}
@@ -27,6 +24,7 @@ use Rattle.sal_data.proofs.Listed.{In, In-map, list_all-In, All-In}
 use Rattle.sal_data.proofs.Fronts.{In-cell}
 use Rattle.sal_data.proofs.Children.{no_child}
 use Rattle.sal_data.proofs.PathsFit.{last_step-end, node_of-node, node_of-item, Spot, root, step_here, after, at_object, after-end, after-node, step-behind, follows_object}
+use Rattle.sal_data.proofs.KindFacts.{leaf-entries, leaf-type, leaf_list-type}
 
 -- ---- prefixes
 
@@ -47,30 +45,6 @@ one-of : (P : Value → Type 0) (x : Value) (xs : List Value) → All P (x ∷ x
 one-of P x xs h = All-head P x xs h
 
 -- ---- kinds
-
-pub kind_never : (p q : Kind → Bool) (o : Option Kind) → ((k : Kind) → p k ≡ true → q k ≡ false) → option_map_or p o false ≡ true → option_map_or q o false ≡ false
-kind_never p q None never e = refl
-kind_never p q (Some k) never e = never k e
-
-pub kind_always : (p q : Kind → Bool) (o : Option Kind) → ((k : Kind) → p k ≡ true → q k ≡ true) → option_map_or p o false ≡ true → option_map_or q o false ≡ true
-kind_always p q None always e = e
-kind_always p q (Some k) always e = always k e
-
-leaf_presence : (k : Kind) → is_leaf k ≡ true → is_presence k ≡ false
-leaf_presence LeafKind e = refl
-leaf_presence k e = cc
-
-leaf_entries : (k : Kind) → is_leaf k ≡ true → has_entries k ≡ false
-leaf_entries LeafKind e = refl
-leaf_entries k e = cc
-
-leaf_type : (k : Kind) → is_leaf k ≡ true → has_type k ≡ true
-leaf_type LeafKind e = refl
-leaf_type k e = cc
-
-leaf_list_type : (k : Kind) → is_leaf_list k ≡ true → has_type k ≡ true
-leaf_list_type LeafList e = refl
-leaf_list_type k e = cc
 
 module _ (table : SchemaTable) (good : IsTable table) (at : List Step) (rows : List Row) (whole : IsWhole table at rows) where
   -- ---- at a row
@@ -136,13 +110,13 @@ module _ (table : SchemaTable) (good : IsTable table) (at : List Step) (rows : L
 
   pub leaf_ends : (p : List Step) (n : ℕ) (s : Step) (q : List Step) (c : Cell) → is_kind is_leaf table n ≡ true → cell rows ((p ++ Node n ∷ []) ++ s ∷ q) ≡ Some c → ⊥
   leaf_ends p n s q c leaf e =
-      let none : is_kind has_entries table n ≡ false = kind_never is_leaf has_entries (kind_of table n) leaf_entries leaf in
-      no_object_child (p ++ Node n ∷ []) n s q c (after-node table p n ∙ ap (λ b. record { node = Some n; wants_entry = b }) none) (kind_always is_leaf has_type (kind_of table n) leaf_type leaf) e
+      let none : is_kind has_entries table n ≡ false = leaf-entries table n leaf in
+      no_object_child (p ++ Node n ∷ []) n s q c (after-node table p n ∙ ap (λ b. record { node = Some n; wants_entry = b }) none) (leaf-type table n leaf) e
 
   pub item_ends : (p : List Step) (n : ℕ) (value : Value) (s : Step) (q : List Step) (c : Cell) → is_kind is_leaf_list table n ≡ true → cell rows (((p ++ Node n ∷ []) ++ Item value ∷ []) ++ s ∷ q) ≡ Some c → ⊥
   item_ends p n value s q c list e =
       no_object_child ((p ++ Node n ∷ []) ++ Item value ∷ []) n s q c (after-end table (root table) (p ++ Node n ∷ []) (Item value) ∙ ap (λ x. record { node = x; wants_entry = false }) (ap (λ (x : Spot). x.node) (after-node table p n)))
-      (kind_always is_leaf_list has_type (kind_of table n) leaf_list_type list) e
+      (leaf_list-type table n list) e
 
   -- ---- rows of their own
 

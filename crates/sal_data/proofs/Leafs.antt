@@ -13,44 +13,26 @@ use Rattle.sal_types.specs.declared.row.Row.{Row}
 use Rattle.sal_types.specs.Prefix.{is_prefix}
 use Rattle.sal_types.specs.Reading.{◌>>=◌}
 use Rattle.sal_types.specs.Tree.{cell}
-use Rattle.sal_types.proofs.Prefixes.{IsPrefix-from_test, is_prefix-append}
-use Rattle.sal_schema.specs.declared.kind.Kind.{Kind}
-use Rattle.sal_schema.specs.declared.kind.Kind.TheVariants.{Leaf as LeafKind, LeafList}
+use Rattle.sal_types.proofs.Prefixes.{IsPrefix-from_test}
 use Rattle.sal_schema.specs.declared.table.SchemaTable.{SchemaTable}
 use Rattle.sal_schema.specs.Fitting.{has_mark, is_at_leaf, has_own_row}
-use Rattle.sal_schema.specs.Kinds.{is_leaf, is_leaf_list, is_list, is_presence}
+use Rattle.sal_schema.specs.Kinds.{is_leaf, is_leaf_list, is_list}
 use Rattle.sal_schema.specs.Paths.{last_step}
-use Rattle.sal_schema.specs.Table.{is_kind, kind_of}
+use Rattle.sal_schema.specs.Table.{is_kind}
 use Rattle.sal_schema.specs.Valid.{IsTable}
 use Rattle.sal_data.specs.declared.fault.DataFault.TheVariants.{WrongShape}
 use Rattle.sal_data.specs.Laws.{IsWhole}
 use Rattle.sal_data.specs.Read.{Reading, at_path, node_scalar, leaf_rows, items_rows, entries_rows, node_rows}
 use Rattle.sal_data.specs.Written.{cell_json, scalar_json, leaf_json, item_json, items_json, node_json, step_of, runs_of}
 use Rattle.sal_data.proofs.Listed.{In}
+use Rattle.sal_data.proofs.Fronts.{longer_prefix}
 use Rattle.sal_data.proofs.PathsFit.{last_step-end, node_of-node, at_node, step_here, after-node, follows_leaf_list}
-use Rattle.sal_data.proofs.Lawful.{step_is_right, is_room, leaf_ends, item_ends, row_at_node, row_at_item, leaf_readable, item_readable, mark_at, HasOwn, kind_never}
+use Rattle.sal_data.proofs.Lawful.{step_is_right, is_room, leaf_ends, item_ends, row_at_node, row_at_item, leaf_readable, item_readable, mark_at, HasOwn}
 use Rattle.sal_data.proofs.Composed.{Gives, ItemGives, AreItems, items_give, at_row, node_rows-leaf, only_row, from_below, Gives-same}
 use Rattle.sal_data.proofs.Parts.{IsPart, runs, row_of, run_of}
 use Rattle.sal_data.proofs.RunsApart.{AreRuns}
 use Rattle.sal_data.proofs.Steps.{onto_steps, steps_of, steps-In, steps-Apart}
-
--- ---- kinds
-
-leaf_other : (k : Kind) → is_leaf k ≡ true → is_presence k ≡ false
-leaf_other LeafKind e = refl
-leaf_other k e = cc
-
-leaf_list_leaf : (k : Kind) → is_leaf_list k ≡ true → is_leaf k ≡ false
-leaf_list_leaf LeafList e = refl
-leaf_list_leaf k e = cc
-
-leaf_list_list : (k : Kind) → is_leaf_list k ≡ true → is_list k ≡ false
-leaf_list_list LeafList e = refl
-leaf_list_list k e = cc
-
-leaf_list_presence : (k : Kind) → is_leaf_list k ≡ true → is_presence k ≡ false
-leaf_list_presence LeafList e = refl
-leaf_list_presence k e = cc
+use Rattle.sal_data.proofs.KindFacts.{leaf-presence, leaf_list-leaf, leaf_list-list, leaf_list-presence}
 
 -- ---- what is written for a node, by its kind
 
@@ -102,7 +84,7 @@ module _ (table : SchemaTable) (good : IsTable table) (at : List Step) (rows : L
       let has : has_own_row table path ≡ true = or_right (has_mark table (last_step path)) (is_at_leaf table (last_step path)) (ap (is_at_leaf table) (last_step-end p (Node n)) ∙ leaf) in
       let (c, e) = own has in
       elim (row_at_node table good at rows whole p n c e) [
-        | inl (presence, is_mark) ↦ absurd (true≢false (sym presence ∙ kind_never is_leaf is_presence (kind_of table n) leaf_other leaf))
+        | inl (presence, is_mark) ↦ absurd (true≢false (sym presence ∙ leaf-presence table n leaf))
         | inr (_, (value, is_value)) ↦ by value (e ∙ ap Some is_value)
       ]
     where
@@ -122,8 +104,8 @@ module _ (table : SchemaTable) (good : IsTable table) (at : List Step) (rows : L
 
     no_row : (c : Cell) → cell rows (p ++ Node n ∷ []) ≡ Some c → ⊥
     no_row c e = elim (row_at_node table good at rows whole p n c e) [
-      | inl (presence, is_mark) ↦ true≢false (sym presence ∙ kind_never is_leaf_list is_presence (kind_of table n) leaf_list_presence list)
-      | inr (leaf, more) ↦ true≢false (sym leaf ∙ kind_never is_leaf_list is_leaf (kind_of table n) leaf_list_leaf list)
+      | inl (presence, is_mark) ↦ true≢false (sym presence ∙ leaf_list-presence table n list)
+      | inr (leaf, more) ↦ true≢false (sym leaf ∙ leaf_list-leaf table n list)
     ]
 
     item_gives : (s : Step) (q : List Step) (c : Cell) (value : Value) → s ≡ Item value → cell rows ((p ++ Node n ∷ []) ++ s ∷ q) ≡ Some c → ItemGives rows table n (p ++ Node n ∷ []) (Item value) (scalar_json table n value)
@@ -138,11 +120,6 @@ module _ (table : SchemaTable) (good : IsTable table) (at : List Step) (rows : L
           here = mark ∙ ap Some (row_at_item table good at rows whole path value d mark);
           alone = λ t r x there. item_ends table good at rows whole p n value t r x list there;
         }
-      where
-        longer_prefix : (a b : List Step) (s : Step) → is_prefix a b ≡ true → is_prefix a (b ++ s ∷ []) ≡ true
-        longer_prefix a b s h =
-            let (r, is) = IsPrefix-from_test a b h in
-            ap (λ x. is_prefix a (x ++ s ∷ [])) is ∙ ap (is_prefix a) (append_assoc a r (s ∷ [])) ∙ is_prefix-append a (r ++ s ∷ [])
 
     -- a run is that of an entry
     abbrev IsItem : List Row → Type 0
@@ -167,8 +144,8 @@ module _ (table : SchemaTable) (good : IsTable table) (at : List Step) (rows : L
 
     of_array-items : (items : Items) → node_rows table n (p ++ Node n ∷ []) (array items) ≡ items_rows table n (p ++ Node n ∷ []) [] items
     of_array-items items =
-        let leaf : is_kind is_leaf table n ≡ false = kind_never is_leaf_list is_leaf (kind_of table n) leaf_list_leaf list in
-        let other : is_kind is_list table n ≡ false = kind_never is_leaf_list is_list (kind_of table n) leaf_list_list list in
+        let leaf : is_kind is_leaf table n ≡ false = leaf_list-leaf table n list in
+        let other : is_kind is_list table n ≡ false = leaf_list-list table n list in
         let read = entries_rows table n path [] items in
         let mine = items_rows table n path [] items in
         let wrong : Reading = Err (WrongShape path) in
@@ -178,7 +155,7 @@ module _ (table : SchemaTable) (good : IsTable table) (at : List Step) (rows : L
 
     pub leaf_list_gives : (levels : ℕ) → Gives rows (p ++ Node n ∷ []) (node_rows table n (p ++ Node n ∷ []) (node_json (suc levels) table n (length (p ++ Node n ∷ [])) here))
     leaf_list_gives levels =
-        let leaf : is_kind is_leaf table n ≡ false = kind_never is_leaf_list is_leaf (kind_of table n) leaf_list_leaf list in
+        let leaf : is_kind is_leaf table n ≡ false = leaf_list-leaf table n list in
         let all = runs_of (length path) here in
         let are : AreRuns path here (runs_of (length path) here) = runs rows path here part in
         let given = items_give rows table n path (steps_of (length path) all) (items_json table n (length path) all) [] (steps-Apart rows path all are.rise) (λ s before later. before) (are_items all run_item) in

@@ -1,3 +1,4 @@
+pub mod KindFacts
 pub mod Listed
 pub mod ObjectMembers
 pub mod Fronts

@@ -14,14 +14,11 @@ use Rattle.sal_types.specs.declared.value.Step.TheVariants.{Node, Key}
 use Rattle.sal_types.specs.declared.row.Row.{Row}
 use Rattle.sal_types.specs.Prefix.{is_prefix}
 use Rattle.sal_types.specs.Tree.{cell}
-use Rattle.sal_types.proofs.Prefixes.{IsPrefix-from_test, is_prefix-append}
-use Rattle.sal_schema.specs.declared.kind.Kind.{Kind}
-use Rattle.sal_schema.specs.declared.kind.Kind.TheVariants.{LeafList, List as ListKind}
 use Rattle.sal_schema.specs.declared.table.SchemaTable.{SchemaTable}
 use Rattle.sal_schema.specs.Fitting.{has_mark, is_at_leaf, has_own_row, has_keys, has_key_leafs}
 use Rattle.sal_schema.specs.Kinds.{is_leaf, is_leaf_list, is_list, is_presence, has_entries}
 use Rattle.sal_schema.specs.Paths.{are_of_nodes, last_step, node_of}
-use Rattle.sal_schema.specs.Table.{is_kind, kind_of, keys_of}
+use Rattle.sal_schema.specs.Table.{is_kind, keys_of}
 use Rattle.sal_schema.specs.Valid.{IsTable}
 use Rattle.sal_data.specs.declared.fault.DataFault.TheVariants.{WrongShape}
 use Rattle.sal_data.specs.Laws.{IsWhole}
@@ -29,36 +26,18 @@ use Rattle.sal_data.specs.Read.{Reading, marked, leaf_rows, key_values, key_step
 use Rattle.sal_data.specs.Written.{members_json, entry_json, entries_json, node_json, step_of, runs_of}
 use Rattle.sal_data.proofs.Listed.{In}
 use Rattle.sal_data.proofs.ObjectMembers.{build}
-use Rattle.sal_data.proofs.Fronts.{length-more}
+use Rattle.sal_data.proofs.Fronts.{length-more, longer_prefix}
 use Rattle.sal_data.proofs.PathsFit.{last_step-end, node_of-node, node_of-key, root, after, next, at_node, at_object, step_here, after-node, after-end, follows_list}
-use Rattle.sal_data.proofs.Lawful.{step_is_right, is_room, is_short, row_at_node, row_at_key, mark_at, whole_at, own_at_node, HasOwn, kind_never}
+use Rattle.sal_data.proofs.Lawful.{step_is_right, is_room, is_short, row_at_node, row_at_key, mark_at, whole_at, own_at_node, HasOwn}
 use Rattle.sal_data.proofs.Composed.{Gives, GivesBelow, EntryGives, AreEntries, entries_give, bind_is, from_below, with_mark, Gives-same}
 use Rattle.sal_data.proofs.Objects.{EachGives, LeafReads, object_gives, keys_read}
 use Rattle.sal_data.proofs.Parts.{IsPart, runs, row_of, run_of, part_of}
 use Rattle.sal_data.proofs.RunsApart.{AreRuns}
 use Rattle.sal_data.proofs.Steps.{onto_steps, steps_of, steps-In, steps-Apart}
 use Rattle.sal_data.proofs.Leafs.{leaf_reads, leaf_gives, leaf_list_gives}
+use Rattle.sal_data.proofs.KindFacts.{list-leaf, list-presence, no_entries}
 
 -- ---- kinds
-
-list_leaf : (k : Kind) → is_list k ≡ true → is_leaf k ≡ false
-list_leaf ListKind e = refl
-list_leaf k e = cc
-
-list_presence : (k : Kind) → is_list k ≡ true → is_presence k ≡ false
-list_presence ListKind e = refl
-list_presence k e = cc
-
-no_entries : (o : Option Kind) → option_map_or is_leaf_list o false ≡ false → option_map_or is_list o false ≡ false → option_map_or has_entries o false ≡ false
-no_entries None e f = refl
-no_entries (Some ListKind) e f = cc
-no_entries (Some LeafList) e f = cc
-no_entries (Some k) e f = refl
-
-pub longer_prefix : (a b : List Step) (s : Step) → is_prefix a b ≡ true → is_prefix a (b ++ s ∷ []) ≡ true
-longer_prefix a b s h =
-    let (r, is) = IsPrefix-from_test a b h in
-    ap (λ x. is_prefix a (x ++ s ∷ [])) is ∙ ap (is_prefix a) (append_assoc a r (s ∷ [])) ∙ is_prefix-append a (r ++ s ∷ [])
 
 never_none : (n : ℕ) (path : List Step) → ◌≡◌ {A = Option ℕ} (Some n) None → path ≡ []
 never_none n path e = cc
@@ -151,8 +130,8 @@ module _ (table : SchemaTable) (good : IsTable table) (at : List Step) (rows : L
     module _ (list : is_kind is_list table n ≡ true) where
       no_row : (c : Cell) → cell rows (p ++ Node n ∷ []) ≡ Some c → ⊥
       no_row c e = elim (row_at_node table good at rows whole p n c e) [
-        | inl (presence, is_mark) ↦ true≢false (sym presence ∙ kind_never is_list is_presence (kind_of table n) list_presence list)
-        | inr (leaf, more) ↦ true≢false (sym leaf ∙ kind_never is_list is_leaf (kind_of table n) list_leaf list)
+        | inl (presence, is_mark) ↦ true≢false (sym presence ∙ list-presence table n list)
+        | inr (leaf, more) ↦ true≢false (sym leaf ∙ list-leaf table n list)
       ]
 
       abbrev value_of : List Row → Data
@@ -202,7 +181,7 @@ module _ (table : SchemaTable) (good : IsTable table) (at : List Step) (rows : L
 
       of_array-entries : (items : Items) → node_rows table n (p ++ Node n ∷ []) (array items) ≡ entries_rows table n (p ++ Node n ∷ []) [] items
       of_array-entries items =
-          let leaf : is_kind is_leaf table n ≡ false = kind_never is_list is_leaf (kind_of table n) list_leaf list in
+          let leaf : is_kind is_leaf table n ≡ false = list-leaf table n list in
           let mine = entries_rows table n path [] items in
           let other = items_rows table n path [] items in
           let wrong : Reading = Err (WrongShape path) in
@@ -232,7 +211,7 @@ module _ (table : SchemaTable) (good : IsTable table) (at : List Step) (rows : L
       ms = build table (Some n) (node_json levels table) (length path) no_members (runs_of (length path) here)
 
       place : after table (root table) (p ++ Node n ∷ []) ≡ at_object table (Some n)
-      place = after-node table p n ∙ ap (λ b. record { node = Some n; wants_entry = b }) (no_entries (kind_of table n) leaf_list list)
+      place = after-node table p n ∙ ap (λ b. record { node = Some n; wants_entry = b }) (no_entries table n leaf_list list)
 
       deeper : 32 < levels + (length (p ++ Node n ∷ []) + 1)
       deeper = omega arith
@@ -247,7 +226,7 @@ module _ (table : SchemaTable) (good : IsTable table) (at : List Step) (rows : L
           let mine = marked (is_kind is_presence table n) path (members_rows table (Some n) path ms) in
           let wrong : Reading = Err (WrongShape path) in
           ap (λ (b : Bool). if b then leaf_rows table n path (object ms) else if is_kind has_entries table n then wrong else mine) leaf
-          ∙ ap (λ (b : Bool). if b then wrong else mine) (no_entries (kind_of table n) leaf_list list)
+          ∙ ap (λ (b : Bool). if b then wrong else mine) (no_entries table n leaf_list list)
 
       with_own : (b : Bool) → is_kind is_presence table n ≡ b → Gives rows (p ++ Node n ∷ []) (marked b (p ++ Node n ∷ []) (members_rows table (Some n) (p ++ Node n ∷ []) ms))
       with_own true presence =

@@ -1,19 +1,17 @@
 -- Where a path that fits comes to, and what may follow it.
 use Rattle.std.proofs.Common.{◌≡◌, ◌⊎◌, inl, inr, ℕ, ◌+◌, ◌-◌, Bool, true, false, not, ◌&&◌, List, [], ◌∷◌, ◌++◌, length, Option, Some, None, refl, sym, ap, ◌∙◌, arith}
 use Rattle.std.specs.List.{slice_get}
-use Rattle.std.specs.Option.{option_map_or}
 use Rattle.std.proofs.lemmas.Bool.{and_parts, and_from, not-true, true≢false}
 use Rattle.sal_types.specs.declared.value.Value.{Value}
 use Rattle.sal_types.specs.declared.value.Step.{Step}
 use Rattle.sal_types.specs.declared.value.Step.TheVariants.{Node, Key, Item}
-use Rattle.sal_schema.specs.declared.kind.Kind.{Kind}
-use Rattle.sal_schema.specs.declared.kind.Kind.TheVariants.{List as ListKind, LeafList}
 use Rattle.sal_schema.specs.declared.table.SchemaTable.{SchemaTable}
 use Rattle.sal_schema.specs.Kinds.{has_entries, is_list, is_leaf_list}
-use Rattle.sal_schema.specs.Table.{is_kind, kind_of, keys_of}
+use Rattle.sal_schema.specs.Table.{is_kind, keys_of}
 use Rattle.sal_schema.specs.Paths.{may_follow, are_of_nodes, may_pick, step_fits, fits_from, fits_path, last_step, node_from, node_of}
 use Rattle.sal_schema.specs.Values.{is_of_node}
 use Rattle.sal_data.proofs.Fronts.{length-more}
+use Rattle.sal_data.proofs.KindFacts.{leaf_list-entries, leaf_list-list, list-entries, list-leaf_list}
 
 -- ---- the end of a path
 
@@ -21,7 +19,7 @@ slice_get-end : {X : Type 0} (xs : List X) (x : X) → slice_get (xs ++ x ∷ []
 slice_get-end [] x = refl
 slice_get-end (y ∷ xs) x = slice_get-end xs x
 
-less_one : (k n : ℕ) → k ≡ n + 1 → k - 1 ≡ n
+pub less_one : (k n : ℕ) → k ≡ n + 1 → k - 1 ≡ n
 less_one k n e = omega arith
 
 pub last_step-end : (p : List Step) (s : Step) → last_step (p ++ s ∷ []) ≡ Some s
@@ -52,22 +50,6 @@ ends (s ∷ p) = inr (behind s p)
     behind s (u ∷ p) = let (q, t, e) = behind u p in (s ∷ q, t, ap (λ r. s ∷ r) e)
 
 -- ---- kinds
-
-list_entries : (k : Kind) → is_list k ≡ true → has_entries k ≡ true
-list_entries ListKind e = refl
-list_entries k e = cc
-
-list_other : (k : Kind) → is_list k ≡ true → is_leaf_list k ≡ false
-list_other ListKind e = refl
-list_other k e = cc
-
-leaf_list_entries : (k : Kind) → is_leaf_list k ≡ true → has_entries k ≡ true
-leaf_list_entries LeafList e = refl
-leaf_list_entries k e = cc
-
-leaf_list_other : (k : Kind) → is_leaf_list k ≡ true → is_list k ≡ false
-leaf_list_other LeafList e = refl
-leaf_list_other k e = cc
 
 -- where a path comes to: to a node, whose entry has to be named next or not
 pub record Spot : Type 0 where
@@ -147,33 +129,25 @@ module _ (table : SchemaTable) where
   follows_object parent (Key values) h = cc
   follows_object parent (Item value) h = cc
 
-  kind_apart : (p q : Kind → Bool) (o : Option Kind) → ((k : Kind) → p k ≡ true → q k ≡ false) → option_map_or p o false ≡ true → option_map_or q o false ≡ false
-  kind_apart p q None never e = refl
-  kind_apart p q (Some k) never e = never k e
-
-  kind_also : (p q : Kind → Bool) (o : Option Kind) → ((k : Kind) → p k ≡ true → q k ≡ true) → option_map_or p o false ≡ true → option_map_or q o false ≡ true
-  kind_also p q None always e = e
-  kind_also p q (Some k) always e = always k e
-
   -- behind a list keys
   pub follows_list : (n : ℕ) (s : Step) → is_kind is_list table n ≡ true → step_here (at_node n) s ≡ true
       → (values : List Value) × (s ≡ Key values) × (are_of_nodes table (keys_of table n) values ≡ true)
   follows_list n (Node m) list h =
-      let entries : is_kind has_entries table n ≡ true = kind_also is_list has_entries (kind_of table n) list_entries list in
+      let entries : is_kind has_entries table n ≡ true = list-entries table n list in
       absurd (true≢false (sym entries ∙ not-true (is_kind has_entries table n) (and_parts (not (is_kind has_entries table n)) (may_follow table (Some n) m) h).0))
   follows_list n (Key values) list h =
       (values, refl, (and_parts (is_kind is_list table n) (are_of_nodes table (keys_of table n) values) (and_parts (is_kind has_entries table n) (may_pick table n (Key values)) h).1).1)
   follows_list n (Item value) list h =
-      let other : is_kind is_leaf_list table n ≡ false = kind_apart is_list is_leaf_list (kind_of table n) list_other list in
+      let other : is_kind is_leaf_list table n ≡ false = list-leaf_list table n list in
       absurd (true≢false (sym (and_parts (is_kind is_leaf_list table n) (is_of_node table n value) (and_parts (is_kind has_entries table n) (may_pick table n (Item value)) h).1).0 ∙ other))
 
   -- behind a leaf-list a value
   pub follows_leaf_list : (n : ℕ) (s : Step) → is_kind is_leaf_list table n ≡ true → step_here (at_node n) s ≡ true → (value : Value) × (s ≡ Item value)
   follows_leaf_list n (Node m) list h =
-      let entries : is_kind has_entries table n ≡ true = kind_also is_leaf_list has_entries (kind_of table n) leaf_list_entries list in
+      let entries : is_kind has_entries table n ≡ true = leaf_list-entries table n list in
       absurd (true≢false (sym entries ∙ not-true (is_kind has_entries table n) (and_parts (not (is_kind has_entries table n)) (may_follow table (Some n) m) h).0))
   follows_leaf_list n (Key values) list h =
-      let other : is_kind is_list table n ≡ false = kind_apart is_leaf_list is_list (kind_of table n) leaf_list_other list in
+      let other : is_kind is_list table n ≡ false = leaf_list-list table n list in
       absurd (true≢false (sym (and_parts (is_kind is_list table n) (are_of_nodes table (keys_of table n) values) (and_parts (is_kind has_entries table n) (may_pick table n (Key values)) h).1).0 ∙ other))
   follows_leaf_list n (Item value) list h = (value, refl)
 

@@ -14,13 +14,13 @@ use Rattle.sal_types.specs.declared.value.Step.{Step}
 use Rattle.sal_types.specs.declared.value.Step.TheVariants.{Node, Key, Item}
 use Rattle.sal_types.specs.declared.row.Row.{Row}
 use Rattle.sal_schema.specs.declared.kind.Kind.{Kind}
-use Rattle.sal_schema.specs.declared.kind.Kind.TheVariants.{Leaf as LeafKind, LeafList, List as ListKind}
+use Rattle.sal_schema.specs.declared.kind.Kind.TheVariants.{List as ListKind}
 use Rattle.sal_schema.specs.declared.table.NodeInfo.{NodeInfo}
 use Rattle.sal_schema.specs.declared.table.SchemaTable.{SchemaTable}
 use Rattle.sal_schema.specs.Fitting.{has_mark, has_value, is_at_leaf}
 use Rattle.sal_schema.specs.Kinds.{is_leaf, is_leaf_list, is_list, is_presence, has_entries, is_data, is_choice_or_case, is_message}
 use Rattle.sal_schema.specs.Paths.{are_of_nodes, fits_path, node_of}
-use Rattle.sal_schema.specs.Table.{is_kind, kind_of, keys_of, parent_of, data_node, data_parent, is_data_child, is_same, closest}
+use Rattle.sal_schema.specs.Table.{is_kind, keys_of, parent_of, data_node, data_parent, is_data_child, is_same, closest}
 use Rattle.sal_schema.specs.Valid.{IsTable, has_its_keys, agree, is_empty, all_differ}
 use Rattle.sal_schema.specs.Values.{is_of_node}
 use Rattle.sal_schema.proofs.Facts.{slice_get_some, closest-Some}
@@ -36,46 +36,17 @@ use Rattle.sal_data.proofs.MemberNames.{member_node-name}
 use Rattle.sal_data.proofs.NamesMeant.{member_meant, same-itself}
 use Rattle.sal_data.proofs.Fronts.{length-more}
 use Rattle.sal_data.proofs.PathsFit.{last_step-end, node_of-node, node_of-key, node_of-item, root, step_here, after, next, at_object, after-node, after-end, fits-more}
-use Rattle.sal_data.proofs.Lawful.{kind_never, kind_always}
+use Rattle.sal_data.proofs.Lawful.{}
 use Rattle.sal_data.proofs.Composed.{node_rows-leaf}
 use Rattle.sal_data.proofs.RowsRead.{a_row, KeyRows, KeyRows-more, WholeIn, IsFit, ReadAt, ReadBelow, none_below, joined_rows, at_plain, at_one, at_marked}
 use Rattle.sal_data.proofs.ReadParts.{bind_ok, followed_parts, member_parts, members_all, EntryParts, entry_parts, item_parts, value_fits, value_readable, leaf_parts, item_value, KeysRead, keys_parts, keys_fit, array_parts, object_parts, other_parts}
+use Rattle.sal_data.proofs.KindFacts.{entries-leaf, entries-presence, leaf-data, leaf-presence, leaf_list-entries, list-entries}
 
 -- ---- kinds
-
-entries_not_leaf : (k : Kind) → is_leaf k ≡ true → has_entries k ≡ false
-entries_not_leaf LeafKind e = refl
-entries_not_leaf k e = cc
-
-leaf_not_presence : (k : Kind) → is_leaf k ≡ true → is_presence k ≡ false
-leaf_not_presence LeafKind e = refl
-leaf_not_presence k e = cc
-
-list_has_entries : (k : Kind) → is_list k ≡ true → has_entries k ≡ true
-list_has_entries ListKind e = refl
-list_has_entries k e = cc
-
-leaf_list_has_entries : (k : Kind) → is_leaf_list k ≡ true → has_entries k ≡ true
-leaf_list_has_entries LeafList e = refl
-leaf_list_has_entries k e = cc
-
-list_not_presence : (k : Kind) → has_entries k ≡ true → is_presence k ≡ false
-list_not_presence ListKind e = refl
-list_not_presence LeafList e = refl
-list_not_presence k e = cc
-
-list_not_leaf : (k : Kind) → has_entries k ≡ true → is_leaf k ≡ false
-list_not_leaf ListKind e = refl
-list_not_leaf LeafList e = refl
-list_not_leaf k e = cc
 
 list_stays : (k : Kind) → is_list k ≡ true → not (is_choice_or_case k) ≡ true
 list_stays ListKind e = refl
 list_stays k e = cc
-
-leaf_for_data : (k : Kind) → is_leaf k ≡ true → is_data k ≡ true
-leaf_for_data LeafKind e = refl
-leaf_for_data k e = cc
 
 same_key : (v w : List Value) → ◌≡◌ {A = Option Step} (Some (Key v)) (Some (Key w)) → v ≡ w
 same_key v w e = cc
@@ -130,7 +101,7 @@ module _ (table : SchemaTable) (good : IsTable table) where
           let (is, above) = and_parts (is_kind is_leaf table leaf) (is_same (parent_of table leaf) (Some n)) (list_all-In (λ leaf. is_kind is_leaf table leaf && is_same (parent_of table leaf) (Some n)) leaf node.keys leafs mine) in
           let list = agree_right (is_list node.kind) (not (is_empty node.keys)) agrees (not_empty leaf node.keys mine) in
           let parent : data_parent table leaf ≡ Some n = ap (data_node table) (same-is (parent_of table leaf) (Some n) above) ∙ own_data_node n node at (list_stays node.kind list) in
-          (is, and_from (is_kind is_data table leaf) (is_same (data_parent table leaf) (Some n)) (kind_always is_leaf is_data (kind_of table leaf) leaf_for_data is) (ap (λ o. is_same o (Some n)) parent ∙ same-itself table (Some n)))
+          (is, and_from (is_kind is_data table leaf) (is_same (data_parent table leaf) (Some n)) (leaf-data table leaf is) (ap (λ o. is_same o (Some n)) parent ∙ same-itself table (Some n)))
 
   -- ---- rows at a node
 
@@ -157,7 +128,7 @@ module _ (table : SchemaTable) (good : IsTable table) where
         readable = λ m known.
             subst (λ (vs : List Value). All (IsReadable table m) (value ∷ vs)) (ap step_values (sym (last_step-end p (Node n))))
             (All-cons (IsReadable table m) value [] (subst (λ k. IsReadable table k value) (same_some n m (sym (node_of-node p n) ∙ known)) readable) (All-nil (IsReadable table m)));
-      }) (node_whole p n (a_row path (Leaf value) ∷ []) (λ presence. absurd (true≢false (sym presence ∙ kind_never is_leaf is_presence (kind_of table n) leaf_not_presence leaf)))))
+      }) (node_whole p n (a_row path (Leaf value) ∷ []) (λ presence. absurd (true≢false (sym presence ∙ leaf-presence table n leaf)))))
 
   -- a mark at the end of a path
   mark_fits : (p : List Step) (s : Step) → fits_path table (p ++ s ∷ []) ≡ true → length (p ++ s ∷ []) ≤ 32 → has_mark table (Some s) ≡ true
@@ -222,8 +193,8 @@ module _ (table : SchemaTable) (good : IsTable table) where
   entries_at : (p : List Step) (n : ℕ) (P : Step → Type 0) (read : List Row) → is_kind has_entries table n ≡ true → ReadBelow table P (p ++ Node n ∷ []) read → ReadAt table (p ++ Node n ∷ []) read
   entries_at p n P read entries below =
       let path = p ++ Node n ∷ [] in
-      let other = kind_never has_entries is_presence (kind_of table n) list_not_presence entries in
-      let leaf = kind_never has_entries is_leaf (kind_of table n) list_not_leaf entries in
+      let other = entries-presence table n entries in
+      let leaf = entries-leaf table n entries in
       at_plain table P path read below (node_whole p n read (λ presence. absurd (true≢false (sym presence ∙ other))))
       (λ has. absurd (true≢false (sym (sym (ap (λ s. has_mark table s || is_at_leaf table s) (last_step-end p (Node n))) ∙ has) ∙ (λ i. other i || leaf i))))
 
@@ -256,7 +227,7 @@ module _ (table : SchemaTable) (good : IsTable table) where
       let path = p ++ Node n ∷ [] in
       let parts = item_parts table n path seen json items read e in
       let (value, scalar, same) = item_value table n path json parts.step parts.found in
-      let entries = kind_always is_leaf_list has_entries (kind_of table n) leaf_list_has_entries list in
+      let entries = leaf_list-entries table n list in
       let fits : fits_path table (path ++ Item value ∷ []) ≡ true =
       fits-more table path (Item value) fit (subst (λ spot. step_here table spot (Item value) ≡ true) (sym (after-node table p n))
       (and_from (is_kind has_entries table n) (is_kind is_leaf_list table n && is_of_node table n value) entries (and_from (is_kind is_leaf_list table n) (is_of_node table n value) list (value_fits table n json value scalar)))) in
@@ -337,7 +308,7 @@ module _ (table : SchemaTable) (good : IsTable table) where
       → fits_path table ((p ++ Node n ∷ []) ++ Key values ∷ []) ≡ true
   key_fits p n ms values seen fit list keys =
       let path = p ++ Node n ∷ [] in
-      let entries = kind_always is_list has_entries (kind_of table n) list_has_entries list in
+      let entries = list-entries table n list in
       fits-more table path (Key values) fit (subst (λ spot. step_here table spot (Key values) ≡ true) (sym (after-node table p n))
       (and_from (is_kind has_entries table n) (is_kind is_list table n && are_of_nodes table (keys_of table n) values) entries
       (and_from (is_kind is_list table n) (are_of_nodes table (keys_of table n) values) list (keys_fit table n ms (keys_of table n) values (keys_parts table n seen ms (keys_of table n) values keys)))))
@@ -358,8 +329,8 @@ module _ (table : SchemaTable) (good : IsTable table) where
         elim (array_parts table n (p ++ Node n ∷ []) (array items) (entries_rows table n (p ++ Node n ∷ []) [] items) (items_rows table n (p ++ Node n ∷ []) [] items) read e) [
           | inl (leaf, rows) ↦ leaf_at p n (array items) read fit short leaf is rows
           | inr other ↦ elim other [
-            | inl (list, rows) ↦ entries_at p n (Fresh []) read (kind_always is_list has_entries (kind_of table n) list_has_entries list) (entries_read items p n [] read fit list is rows)
-            | inr (list, rows) ↦ entries_at p n (Fresh []) read (kind_always is_leaf_list has_entries (kind_of table n) leaf_list_has_entries list) (items_read items p n [] read fit list is rows)
+            | inl (list, rows) ↦ entries_at p n (Fresh []) read (list-entries table n list) (entries_read items p n [] read fit list is rows)
+            | inr (list, rows) ↦ entries_at p n (Fresh []) read (leaf_list-entries table n list) (items_read items p n [] read fit list is rows)
           ]
         ]
     node_read (object ms) p n read fit short is e =

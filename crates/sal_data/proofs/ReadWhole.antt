@@ -17,13 +17,11 @@ use Rattle.sal_types.specs.Order.{cell_cmp}
 use Rattle.sal_types.specs.Prefix.{is_prefix}
 use Rattle.sal_types.specs.Tree.{cell}
 use Rattle.sal_types.proofs.Prefixes.{IsPrefix-from_test, is_prefix-append}
-use Rattle.sal_schema.specs.declared.kind.Kind.{Kind}
-use Rattle.sal_schema.specs.declared.kind.Kind.TheVariants.{Leaf as LeafKind, LeafList, List as ListKind, Container}
 use Rattle.sal_schema.specs.declared.table.SchemaTable.{SchemaTable}
 use Rattle.sal_schema.specs.Fitting.{has_mark, has_own_row, cell_fits, prefixes, has_cell, has_key_leafs, has_keys, is_whole_at, is_whole_above, is_in_message, is_root, row_fits, fits}
-use Rattle.sal_schema.specs.Kinds.{is_data, is_message}
+use Rattle.sal_schema.specs.Kinds.{is_data}
 use Rattle.sal_schema.specs.Paths.{fits_path, last_step, node_of}
-use Rattle.sal_schema.specs.Table.{is_kind, kind_of, keys_of, is_same, data_parent}
+use Rattle.sal_schema.specs.Table.{is_kind, keys_of, is_same, data_parent}
 use Rattle.sal_schema.specs.Valid.{IsTable}
 use Rattle.sal_json.proofs.Chosen.{from_some, same_ok, chosen}
 use Rattle.sal_data.specs.declared.fault.DataFault.TheVariants.{WrongShape, KeyDiffers}
@@ -32,13 +30,14 @@ use Rattle.sal_data.specs.Read.{Reading, marked, key_values, key_step, item_step
 use Rattle.sal_data.proofs.Listed.{In, In-map_from, list_all-from, All-from}
 use Rattle.sal_data.proofs.Fronts.{rises, cell-In}
 use Rattle.sal_data.proofs.PathsFit.{last_step-end, node_of-key, node_of-item, ends, root, after, at_object, after-end, after-node_of}
-use Rattle.sal_data.proofs.Lawful.{kind_never}
+use Rattle.sal_data.proofs.Lawful.{}
 use Rattle.sal_data.proofs.NamesMeant.{member_meant}
 use Rattle.sal_data.proofs.RunsApart.{step_is}
 use Rattle.sal_data.proofs.PutInOrder.{IsAscending-in_order, in_order-from, in_order-at}
 use Rattle.sal_data.proofs.RowsRead.{a_row, KeyRows, WholeIn, AtPath, BelowPath, ReadAt, at_plain}
 use Rattle.sal_data.proofs.ReadParts.{bind_ok, followed_parts, item_value}
 use Rattle.sal_data.proofs.ReadTrees.{Names, node_read, members_read, entry_at, item_at}
+use Rattle.sal_data.proofs.KindFacts.{data-message}
 
 -- ---- prefixes
 
@@ -57,13 +56,6 @@ front-of q (s ∷ p) (inr there) =
 
 same_cell : (c : Cell) → eq_by_cmp cell_cmp c c ≡ true
 same_cell c = ap is_eq (tied_itself cell_laws.total-law c)
-
-data_message : (k : Kind) → is_data k ≡ true → is_message k ≡ false
-data_message (Container presence) e = refl
-data_message ListKind e = refl
-data_message LeafList e = refl
-data_message LeafKind e = refl
-data_message k e = cc
 
 no_root : (p : List Step) (s : Step) → is_root (p ++ s ∷ []) ≡ false
 no_root [] s = refl
@@ -181,7 +173,7 @@ module _ (table : SchemaTable) (good : IsTable table) where
           let (name, d, n, has, known, is) = h.passes in
           let (child, own) = member_meant table good None [] name n known in
           let (kind, above) = and_parts (is_kind is_data table n) (is_same (data_parent table n) None) child in
-          let other = kind_never is_data is_message (kind_of table n) data_message kind in
+          let other = data-message table n kind in
           ap (λ p. not (is_root []) || not (is_in_message table p)) (h.is ∙ ap (λ s. s ∷ h.rest) is) ∙ ap not other
 
   module _ (p : List Step) where

@@ -1,5 +1,5 @@
 -- What is written for the rows at a path reads there as these rows.
-use Rattle.std.proofs.Common.{◌≡◌, inl, inr, ℕ, ◌+◌, ◌-◌, ◌<◌, Bool, true, false, List, [], ◌∷◌, ◌++◌, length, take, Option, Some, None, Ok, Err, refl, sym, ap, subst, ◌∙◌, arith, append-nil, if◌then◌else◌}
+use Rattle.std.proofs.Common.{◌≡◌, inl, inr, ℕ, ◌+◌, ◌<◌, Bool, true, false, List, [], ◌∷◌, ◌++◌, length, take, Option, Some, None, Ok, Err, refl, sym, ap, subst, ◌∙◌, arith, append-nil, if◌then◌else◌}
 use Rattle.std.specs.Option.{option_map_or}
 use Rattle.std.proofs.lemmas.Bool.{and_parts, or_left}
 use Rattle.serde_json.specs.Data.{null, object}
@@ -13,13 +13,11 @@ use Rattle.sal_types.specs.Prefix.{is_prefix}
 use Rattle.sal_types.specs.Reading.{◌>>=◌}
 use Rattle.sal_types.specs.Tree.{cell, under}
 use Rattle.sal_types.proofs.Prefixes.{IsPrefix-from_test, is_prefix-append}
-use Rattle.sal_schema.specs.declared.kind.Kind.{Kind}
-use Rattle.sal_schema.specs.declared.kind.Kind.TheVariants.{LeafList}
 use Rattle.sal_schema.specs.declared.table.SchemaTable.{SchemaTable}
 use Rattle.sal_schema.specs.Fitting.{has_mark, is_at_leaf, has_own_row}
-use Rattle.sal_schema.specs.Kinds.{is_list, is_leaf_list, has_type}
+use Rattle.sal_schema.specs.Kinds.{is_list, is_leaf_list}
 use Rattle.sal_schema.specs.Paths.{may_pick, are_of_nodes, fits_path, last_step, node_of}
-use Rattle.sal_schema.specs.Table.{is_kind, kind_of, keys_of}
+use Rattle.sal_schema.specs.Table.{is_kind, keys_of}
 use Rattle.sal_schema.specs.Valid.{IsTable}
 use Rattle.sal_schema.specs.Values.{is_of_node}
 use Rattle.sal_data.specs.declared.fault.DataFault.TheVariants.{WrongShape, KeyDiffers}
@@ -28,23 +26,21 @@ use Rattle.sal_data.specs.Read.{Reading, at_path, marked, key_step, item_step, o
 use Rattle.sal_data.specs.Written.{members_json, scalar_json, any_json, node_json, json_at, write_data}
 use Rattle.sal_data.proofs.Listed.{In}
 use Rattle.sal_data.proofs.Fronts.{length-more}
-use Rattle.sal_data.proofs.PathsFit.{last_step-end, node_of-key, node_of-item, ends, root, after, at_object, step-behind, after-end, after-node_of}
-use Rattle.sal_data.proofs.Lawful.{lies_below, row_at_item, no_row_at_root, item_readable, own_at_top, no_object_child, kind_always}
+use Rattle.sal_data.proofs.PathsFit.{less_one, last_step-end, node_of-key, node_of-item, ends, root, after, at_object, step-behind, after-end, after-node_of}
+use Rattle.sal_data.proofs.Lawful.{lies_below, row_at_item, no_row_at_root, item_readable, own_at_top, no_object_child}
 use Rattle.sal_data.proofs.Composed.{Gives, at_row, bind_is, from_below, only_row, Gives-same}
 use Rattle.sal_data.proofs.Objects.{object_gives}
 use Rattle.sal_data.proofs.Parts.{part_at}
 use Rattle.sal_data.proofs.RunsApart.{same_step-itself}
 use Rattle.sal_data.proofs.Lists.{level_gives, each_gives, entry_members, entry_found, entry_gives}
 use Rattle.sal_data.proofs.PutInOrder.{in_order-is}
+use Rattle.sal_data.proofs.KindFacts.{leaf_list-type}
 
 -- ---- the end of a path
 
 take-front : {X : Type 0} (xs ys : List X) → take (length xs) (xs ++ ys) ≡ xs
 take-front [] ys = refl
 take-front (x ∷ xs) ys = ap (λ zs. x ∷ zs) (take-front xs ys)
-
-less_one : (k n : ℕ) → k ≡ n + 1 → k - 1 ≡ n
-less_one k n e = omega arith
 
 before_last-end : (p : List Step) (s : Step) → before_last (p ++ s ∷ []) ≡ p
 before_last-end p s = ap (λ k. take k (p ++ s ∷ [])) (less_one (length (p ++ s ∷ [])) (length p) (length-more p s)) ∙ take-front p (s ∷ [])
@@ -56,10 +52,6 @@ picked table (Some n) s e = (n, refl, e)
 
 asked-is : (path : List Step) (s : Step) (reading : Reading) → if_asked path s reading s ≡ reading
 asked-is path s reading = ap (λ (b : Bool). if b then reading else Err (KeyDiffers path)) (same_step-itself s)
-
-list_typed : (k : Kind) → is_leaf_list k ≡ true → has_type k ≡ true
-list_typed LeafList e = refl
-list_typed k e = cc
 
 pub itself : (p : List Step) → is_prefix p p ≡ true
 itself p = ap (is_prefix p) (sym (append-nil p)) ∙ is_prefix-append p []
@@ -130,7 +122,7 @@ module _ (table : SchemaTable) (good : IsTable table) (rows : List Row) where
         let (c, own) = own_at_top table good path rows whole has in
         let mark : cell rows path ≡ Some Mark = own ∙ ap Some (row_at_item table good path rows whole p value c own) in
         let reads = item_readable table good path rows whole p n value c node own in
-        let typed = kind_always is_leaf_list has_type (kind_of table n) list_typed list in
+        let typed = leaf_list-type table n list in
         let alone = λ (s : Step). λ (q : List Step). λ (d : Cell). λ (there : cell rows (path ++ s ∷ q) ≡ Some d). no_object_child table good path rows whole path n s q d place typed there in
         let found : item_step table n (before_last path) (scalar_json table n value) ≡ Ok (Item value) = ap (λ r. at_path (before_last path) r >>= (λ value. Ok (Item value))) reads in
         let reading = marked true path (Ok []) in

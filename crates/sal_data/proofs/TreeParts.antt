@@ -22,7 +22,7 @@ use Rattle.sal_data.specs.Laws.{IsWhole, HasReadable, TreesReadAsWritten, ReadsA
 use Rattle.sal_data.specs.Read.{read_data}
 use Rattle.sal_data.specs.Written.{json_at}
 use Rattle.sal_data.proofs.Listed.{In, In-filter_from, list_all-In, list_all-from, All-In, All-from}
-use Rattle.sal_data.proofs.Lists.{longer_prefix}
+use Rattle.sal_data.proofs.Fronts.{longer_prefix}
 use Rattle.sal_data.proofs.ReadsAgain.{reads_as_written, itself}
 use Rattle.sal_data.proofs.ReadWhole.{reads_whole}
 

@@ -6,6 +6,8 @@
 //! | `specs/Members` | the name of a member for each node, and the node that a name means |
 //! | `specs/Read` | `read_data`: the rows that a JSON value at a path stands for, in the order of their paths, or its first fault |
 //! | `specs/Written` | `write_data`: the JSON value of the rows at a path and below it |
+//! | `specs/Laws` | what `laws` says: which rows are whole, and that they read as they were written |
+//! | `laws` | functions that do nothing, each with laws of the definitions as its contract |
 //! | `examples` | laws, computed: what one tree reads and is written as, and faults of each kind |
 //!
 //! A container or an entry of a list is an object, a list or a leaf-list an array, and a leaf or an entry of a leaf-list a

@@ -9,6 +9,8 @@
 //! | `specs/Members` | the name of a member for each node, and the node that a name means |
 //! | `specs/Read`, `specs/Walked` | which rows and which first fault `read_data` gives; the parts of a reading that the code goes through |
 //! | `specs/Written` | which JSON value `write_data` gives |
+//! | `specs/Laws` | what `laws` says: which rows are whole, and that they read as they were written |
+//! | `laws` | functions that do nothing, each with laws of the definitions as its contract |
 //! | `examples` | laws, computed: what one tree reads and is written as, and faults of each kind |
 //!
 //! A container or an entry of a list is an object, a list or a leaf-list an array, and a leaf or an entry of a leaf-list a
@@ -16,7 +18,7 @@
 //! of the node above.
 //!
 //! The reader gives exactly what its definition gives, for any path and any JSON value, and the writer for any path and any
-//! tree, unless memory runs out. `fits_rows` is the test of `sal_schema`'s `Fitting`.
+//! tree, unless memory runs out. `fits_rows` is the test `fits` of `sal_schema`'s `Fitting`.
 //!
 //! ```
 //! let patterns = Patterns::of(alloc, &schema)?;
@@ -34,8 +36,9 @@
 //! Writing goes once through the rows for each step of their paths: `runs` parts them where the next step changes, and `write`
 //! makes a member or an item of each run, without a copy of rows or paths. Beside that it takes what `write_scalar` takes for
 //! each value, and for each member a search by halves among those of its object. Rows of the tree before and behind those at
-//! the path are passed over one by one. Calls nest as deep as a path has steps. `fits_rows` takes no memory: it goes once through the rows, and looks by
-//! halves for the row of each entry and presence container above them and, of an entry, for its key leafs.
+//! the path are passed over one by one. Calls nest as deep as a path has steps. `fits_rows` takes no memory: it goes once
+//! through the rows, and looks by halves for the row of each entry and presence container above them and, of an entry, for its
+//! key leafs.
 #![tactic(auto)]
 
 mod cells;
@@ -44,6 +47,7 @@ mod entries;
 mod examples;
 mod fault;
 mod fits;
+pub mod laws;
 mod lookups;
 mod members;
 mod order;

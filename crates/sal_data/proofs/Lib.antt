@@ -1,8 +1,31 @@
-pub mod FirstRun
-pub mod Levels
-pub mod Consecutive
 pub mod CellFound
+pub mod Children
+pub mod Composed
+pub mod Consecutive
+pub mod FirstRun
+pub mod Following
+pub mod Fronts
+pub mod KindFacts
+pub mod Lawful
+pub mod Leafs
+pub mod Levels
+pub mod Listed
+pub mod Lists
+pub mod MemberNames
+pub mod NamesMeant
+pub mod ObjectMembers
+pub mod Objects
+pub mod Ordered
+pub mod Parts
+pub mod PathsFit
 pub mod Prefixed
-mod Following
-mod Ordered
-mod Walking
+pub mod PutInOrder
+pub mod ReadParts
+pub mod ReadTrees
+pub mod ReadWhole
+pub mod ReadsAgain
+pub mod RowsRead
+pub mod RunsApart
+pub mod Steps
+pub mod TreeParts
+pub mod Walking

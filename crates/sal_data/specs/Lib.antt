@@ -1,4 +1,5 @@
 pub mod Examples
+pub mod Laws
 pub mod Members
 pub mod Read
 pub mod Walked

@@ -4,6 +4,8 @@ ghost use Rattle.serde_json.specs.Data.{array, null, no_items};
 ghost use Rattle.sal_types.specs.declared.value.Step.TheVariants.{Node};
 ghost use Rattle.sal_data.specs.declared.fault.DataFault.TheVariants.{UnknownMember, NeedsModule, WrongShape, MissingKey, KeyDiffers, DoubleEntry, BadScalar, TooDeep};
 ghost use Rattle.sal_json.specs.declared.fault.ScalarFault.TheVariants.{WrongKind, OutOfRange};
+ghost use Rattle.sal_schema.specs.Valid.{IsTable};
+ghost use Rattle.sal_data.specs.Laws.{IsWhole};
 ghost use Rattle.sal_data.specs.Examples as example;
 
 /// A tree with nodes of each kind reads as its rows, in their order, and its parts at their paths. A call does nothing: its
@@ -52,4 +54,10 @@ pub fn faults_of_values()
     ensures first_counts { example.reads example.two_faults ≡ example.fails (WrongShape (Node 0 ∷ Node 5 ∷ [])) }
     ensures object_in_leaf { example.reads (example.rack "size" example.nothing) ≡ example.fails (BadScalar (Node 0 ∷ Node 6 ∷ []) WrongKind) }
     ensures deep { example.reads_deep (example.only "c" example.nothing) ≡ example.fails (TooDeep (example.down 32 0)) }
+{}
+
+/// The table is that of a schema, and its tree is whole, so the laws speak of it. A call does nothing: its clauses are the laws.
+pub fn trees_are_whole()
+    ensures of_a_schema { IsTable example.table }
+    ensures whole { IsWhole example.table [] example.tree_rows }
 {}

@@ -1,5 +1,6 @@
 //! Which rows are data of a schema at a path.
-ghost use Rattle.std.specs.Prelude.{◌≡◌, ◌∷◌, ◌++◌, ◌||◌, [], Some, not, is_some};
+ghost use Rattle.std.specs.Prelude.{◌≡◌, ◌≤◌, ◌∷◌, ◌++◌, ◌||◌, [], Some, true, not, is_some, length};
+ghost use Rattle.std.specs.List.{common_prefix_len};
 ghost use Rattle.std.specs.Option.{option_map_or};
 ghost use Rattle.sal_types.specs.declared.value.Step.TheVariants.{Node};
 ghost use Rattle.sal_types.specs.declared.value.Cell.TheVariants.{Leaf};
@@ -8,9 +9,11 @@ ghost use Rattle.sal_types.specs.Tree.{IsAscending, cell};
 ghost use Rattle.sal_schema.specs.Table.{keys_of};
 ghost use Rattle.sal_schema.specs.Paths.{last_step, node_of};
 ghost use Rattle.sal_schema.specs.Fitting as spec;
+ghost use Rattle.sal_data.specs.Read.{same_step};
 
 use crate::cells::{cell_at, cell_below};
-use crate::written_names::{is_leaf, keys_at, node_at_end};
+use crate::ends::node_at_end;
+use crate::lookups::{is_leaf, keys_at};
 use sal_rows::Rows;
 use sal_schema::Schema;
 use sal_types::{Cell, Path, Row, Step, Value};
@@ -97,13 +100,41 @@ fn is_whole_from(schema: &Schema, rows: &[Row], from: &Path, steps: &[Step]) -> 
     !begins_with(steps, from) || is_whole_at(schema, rows, steps)
 }
 
-/// Whether each entry and presence container above a row is whole, from the path `from` down.
-fn is_whole_above(schema: &Schema, rows: &[Row], from: &Path, path: &Path) -> bool
-    requires { IsAscending rows.now }
-    ensures { result ≡ spec.is_whole_above schema.now rows.now from.now path.now }
+/// How many steps two paths begin with alike.
+fn shared(before: &[Step], steps: &[Step]) -> usize
+    ensures count { result ≡ common_prefix_len same_step before.now steps.now }
+    ensures within { result ≤ length before.now }
 {
-    let steps = path.steps();
-    for len in 0..steps.len() + 1 {
+    match before {
+        [] => 0,
+        [first, before @ ..] => match steps {
+            [] => 0,
+            [step, steps @ ..] => {
+                if first.cmp(step).is_eq() {
+                    1 + shared(before, steps)
+                } else {
+                    0
+                }
+            }
+        },
+    }
+}
+
+/// Whether each entry and presence container above a row is whole, from the path `from` down, where those above the row
+/// `before` are.
+fn is_whole_above(
+    schema: &Schema,
+    rows: &[Row],
+    from: &Path,
+    before: &[Step],
+    steps: &[Step],
+) -> bool
+    requires rising { IsAscending rows.now }
+    requires whole { spec.is_whole_above schema.now rows.now from.now before.now ≡ true }
+    requires short { length steps.now ≤ 32 }
+    ensures { result ≡ spec.is_whole_above schema.now rows.now from.now steps.now }
+{
+    for len in shared(before, steps) + 1..steps.len() + 1 {
         if !is_whole_from(schema, rows, from, &steps[..len]) {
             return false;
         }
@@ -111,15 +142,16 @@ fn is_whole_above(schema: &Schema, rows: &[Row], from: &Path, path: &Path) -> bo
     true
 }
 
-/// Whether the row lies at the path or below it, fits there, and has what it needs above it.
-fn row_fits(schema: &Schema, path: &Path, rows: &[Row], row: &Row) -> bool
-    requires { IsAscending rows.now }
+/// Whether the row lies at the path or below it, fits there, and has what it needs above it, where the row `before` has.
+fn row_fits(schema: &Schema, path: &Path, rows: &[Row], before: &[Step], row: &Row) -> bool
+    requires rising { IsAscending rows.now }
+    requires whole { spec.is_whole_above schema.now rows.now path.now before.now ≡ true }
     ensures { result ≡ spec.row_fits schema.now path.now rows.now row.now }
 {
     schema.fits(&row.path)
         && path.is_prefix_of(&row.path)
         && cell_fits(schema, &row.path, &row.cell)
-        && is_whole_above(schema, rows, path, &row.path)
+        && is_whole_above(schema, rows, path, before, row.path.steps())
         && !(path.steps().is_empty() && schema.is_in_message(&row.path))
 }
 
@@ -127,15 +159,17 @@ fn row_fits(schema: &Schema, path: &Path, rows: &[Row], row: &Row) -> bool
 /// of the kind and type of its node; and list entries and presence containers above it, from the path down, stand there, an
 /// entry with its keys.
 ///
-/// It takes no memory, and for each row a few searches by halves for each step of its path.
+/// It takes no memory, and looks by halves for the rows that each entry and presence container needs, once for each.
 pub fn fits_rows(schema: &Schema, path: &Path, rows: &Rows) -> bool
     ensures { result ≡ spec.fits schema.now path.now rows.now }
 {
     let rows = rows.items();
+    let mut before: &[Step] = &[];
     for row in rows {
-        if !row_fits(schema, path, rows, row) {
+        if !row_fits(schema, path, rows, before, row) {
             return false;
         }
+        before = row.path.steps();
     }
     true
 }

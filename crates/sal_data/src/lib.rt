@@ -1,25 +1,53 @@
-//! Data of a schema as JSON, by definition (RFC 7951 sections 4 to 6).
+//! Data of a schema as JSON (RFC 7951 sections 4 to 6).
 //!
 //! | item | what it is |
 //! |---|---|
+//! | `read_data` | the rows that a JSON value at a path stands for, in the order of their paths, or its first fault |
+//! | `write_data` | the JSON value of the rows at a path and below it |
+//! | `fits_rows` | whether rows are data of the schema at a path |
 //! | `DataFault` | why a JSON value stands for no rows, and where |
 //! | `specs/Members` | the name of a member for each node, and the node that a name means |
-//! | `specs/Read` | `read_data`: the rows that a JSON value at a path stands for, in the order of their paths, or its first fault |
-//! | `specs/Written` | `write_data`: the JSON value of the rows at a path and below it |
+//! | `specs/Read`, `specs/Walked` | which rows and which first fault `read_data` gives; the parts of a reading that the code goes through |
+//! | `specs/Written` | which JSON value `write_data` gives |
+//! | `specs/Laws` | what `laws` says: which rows are whole, and that they read as they were written |
+//! | `laws` | functions that do nothing, each with laws of the definitions as its contract |
 //! | `examples` | laws, computed: what one tree reads and is written as, and faults of each kind |
 //!
 //! A container or an entry of a list is an object, a list or a leaf-list an array, and a leaf or an entry of a leaf-list a
 //! scalar of `sal_json`. In the top object each name stands with its module, and below it where the module is another than that
 //! of the node above.
 //!
-//! Reading and writing have no code yet: the definitions are what it will be held to.
+//! The reader gives exactly what its definition gives, for any path and any JSON value, and the writer for any path and any
+//! tree, unless memory runs out. `fits_rows` is the test `fits` of `sal_schema`'s `Fitting`.
+//!
+//! ```
+//! let patterns = Patterns::of(alloc, &schema)?;
+//! let rows = read_data(alloc, &schema, &patterns, &path, &json)?;
+//! let json = write_data(alloc, &schema, &path, &rows)?;
+//! ```
+//!
+//! Costs: `lookups` and `members` find nodes by their names, `entries` the steps to entries, `walk` goes once through the value
+//! and appends rows in the order of the text, and `order` puts them into the order of their paths. Reading n rows takes n log n
+//! comparisons of paths, and beside them a search by halves for each name, another among the entries of a list for each entry,
+//! and for each value what `read_scalar` takes. Each node's path is a copy of that of the node above with a step more, and each
+//! entry's step is copied once more while its list is read. A call nests no deeper than the value, and no deeper than a path
+//! has steps. That a name is one of another module is asked only where it is a fault.
+//!
+//! Writing goes once through the rows for each step of their paths: `runs` parts them where the next step changes, and `write`
+//! makes a member or an item of each run, without a copy of rows or paths. Beside that it takes what `write_scalar` takes for
+//! each value, and for each member a search by halves among those of its object. Rows of the tree before and behind those at
+//! the path are passed over one by one. Calls nest as deep as a path has steps. `fits_rows` takes no memory: it goes once
+//! through the rows, and looks by halves for the row of each entry and presence container above them and, of an entry, for its
+//! key leafs.
 #![tactic(auto)]
 
 mod cells;
+mod ends;
 mod entries;
 mod examples;
 mod fault;
 mod fits;
+pub mod laws;
 mod lookups;
 mod members;
 mod order;
@@ -28,8 +56,14 @@ mod read;
 mod read_tests;
 mod reader;
 mod runs;
+#[cfg(test)]
+mod test_table;
+#[cfg(test)]
+mod test_texts;
 mod walk;
 mod write;
+#[cfg(test)]
+mod write_tests;
 mod written_names;
 
 pub use fault::DataFault;

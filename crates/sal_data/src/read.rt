@@ -2,10 +2,11 @@
 ghost use Rattle.std.specs.Prelude.{◌≡◌, ◌≤◌, length, IfOk};
 ghost use Rattle.serde_json.specs.View.{view};
 ghost use Rattle.sal_types.specs.Reading.{GivesUnless};
-ghost use Rattle.sal_schema.specs.Paths.{last_step, node_of};
+ghost use Rattle.sal_schema.specs.Paths.{last_step};
 ghost use Rattle.sal_json.specs.Patterns.{patterns_of};
 ghost use Rattle.sal_data.specs.Read as spec;
 
+use crate::ends::node_at_end;
 use crate::entries::mark;
 use crate::fault::DataFault;
 use crate::order::in_order;
@@ -38,19 +39,6 @@ fn before_last(alloc: Global, path: &Path) -> Result<Path, NoMemory>
 {
     let steps = path.steps();
     path_of(alloc, &steps[..steps.len().saturating_sub(1)])
-}
-
-/// The node that the path comes to: that of a list for each of its entries.
-fn node_at_end(path: &Path) -> Option<u32>
-    ensures { result ≡ node_of path.now }
-{
-    let mut here = None;
-    for step in path.steps() {
-        if let Step::Node(node) = step {
-            here = Some(*node);
-        }
-    }
-    here
 }
 
 /// Whether the step is the one that was asked for.
@@ -105,7 +93,7 @@ impl<'a> Reader<'a> {
     fn rows_at(&self, path: &Path, json: &Json, out: &mut Vec<Row>) -> Result<(), DataFault>
         ensures { GivesUnless DataFault.NoMemory (λ _. out.new.items) result (spec.followed out.old.items (spec.rows_at self.now.schema.now path.now (last_step path.now) (view json.now))) }
     {
-        match (path.steps().last(), node_at_end(path)) {
+        match (path.steps().last(), node_at_end(path.steps())) {
             (None, _) => self.object_rows(None, path, json, out),
             (Some(Step::Node(node)), _) => self.node_rows(*node, path.copy()?, json, out),
             (Some(asked @ Step::Key(_)), Some(node)) => {

@@ -6,10 +6,10 @@ ghost use Rattle.sal_types.specs.declared.value.Step.TheVariants.{Item};
 ghost use Rattle.sal_schema.specs.Paths.{last_step};
 ghost use Rattle.sal_data.specs.Written as spec;
 
+use crate::ends::node_at_end;
+use crate::lookups::{is_leaf, is_leaf_list, is_list, module_at, type_at};
 use crate::runs::{first_run, step_of, under};
-use crate::written_names::{
-    is_leaf, is_leaf_list, is_list, module_at, node_at_end, put_member, type_at,
-};
+use crate::written_names::put_member;
 use sal_json::write_scalar;
 use sal_rows::Rows;
 use sal_schema::Schema;
@@ -22,12 +22,7 @@ const MAX_LEVELS: u32 = 32;
 
 /// The value of a leaf or of an entry of a leaf-list.
 #[tactic(auto, unfolding(crate::specs::Written::scalar_json))]
-fn scalar_json(
-    alloc: Global,
-    schema: &Schema,
-    node: u32,
-    value: &Value,
-) -> Result<Json, NoMemory>
+fn scalar_json(alloc: Global, schema: &Schema, node: u32, value: &Value) -> Result<Json, NoMemory>
     ensures { IfOk result (λ json. view json ≡ spec.scalar_json schema.now node value.now) }
 {
     match (type_at(schema, node), module_at(schema, node)) {
@@ -227,7 +222,14 @@ fn json_at(alloc: Global, schema: &Schema, path: &Path, rows: &[Row]) -> Result<
     match path.steps().last() {
         None => members_json(alloc, schema, MAX_LEVELS, None, 0, rows),
         Some(Step::Node(node)) => node_json(alloc, schema, MAX_LEVELS, *node, k, rows),
-        Some(Step::Key(_)) => members_json(alloc, schema, MAX_LEVELS, node_at_end(path.steps()), k, rows),
+        Some(Step::Key(_)) => members_json(
+            alloc,
+            schema,
+            MAX_LEVELS,
+            node_at_end(path.steps()),
+            k,
+            rows,
+        ),
         Some(Step::Item(value)) => item_at(alloc, schema, path, value),
     }
 }

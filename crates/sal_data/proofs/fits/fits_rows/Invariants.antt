@@ -1,7 +1,10 @@
 use Rattle.std.proofs.Common.{◌≡◌, true, take}
 use Rattle.std.specs.List.{list_all}
-use Rattle.sal_schema.specs.Fitting.{row_fits}
+use Rattle.sal_schema.specs.Fitting.{row_fits, is_whole_above}
 use Rattle.sal_data.proofs.fits.fits_rows.Given as goal
 
 abbrev pub invariant-loop-row : goal.invariant-loop-row
-invariant-loop-row l = list_all (row_fits l.schema l.path l.rows) (take l.row-index l.rows) ≡ true
+invariant-loop-row l = record {
+  done : list_all (row_fits l.schema l.path l.rows) (take l.row-index l.rows) ≡ true;
+  whole : is_whole_above l.schema l.rows l.path l.before ≡ true;
+}

@@ -7,4 +7,4 @@ use Rattle.sal_schema.specs.Fitting.{is_whole_at, prefixes}
 use Rattle.sal_data.proofs.fits.is_whole_above.Given as goal
 
 abbrev pub invariant-loop-len : goal.invariant-loop-len
-invariant-loop-len l = list_all (λ (q : List Step). not (is_prefix l.from q) || is_whole_at l.schema l.rows q) (take l.len (prefixes l.path)) ≡ true
+invariant-loop-len l = list_all (λ (q : List Step). not (is_prefix l.from q) || is_whole_at l.schema l.rows q) (take l.len (prefixes l.steps)) ≡ true

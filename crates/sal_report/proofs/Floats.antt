@@ -96,7 +96,7 @@ whole_scalar : (table : SchemaTable) (value : Value) (n : ℕ) → has_float (sc
 unfolding scalar_json
 whole_scalar table value n =
     if_some (λ ty. option_map_or (λ m. json_of table ty m value) (module_of table n) null) (type_of table n)
-        (λ ty. if_some (λ m. json_of table ty m value) (module_of table n) (λ m. whole_json table ty m value))
+    (λ ty. if_some (λ m. json_of table ty m value) (module_of table n) (λ m. whole_json table ty m value))
 
 whole_leaf : (table : SchemaTable) (n : ℕ) (rows : List Row) → has_float (leaf_json table n rows) ≡ false
 whole_leaf table n [] = refl

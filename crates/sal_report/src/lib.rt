@@ -26,6 +26,8 @@ mod faults;
 mod lines;
 mod pieces;
 mod replies;
+#[cfg(test)]
+mod tests;
 mod words;
 
 pub use faults::{data_fault_text, path_fault_text};

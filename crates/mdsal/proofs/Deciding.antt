@@ -6,10 +6,10 @@ use Rattle.std.proofs.lemmas.Option.{slice_get-map}
 use Rattle.sal_rows.specs.declared.op.Op.{Op}
 use Rattle.sal_rows.specs.declared.outcome.Outcome.{Outcome}
 use Rattle.sal_history.specs.History.{Sent, ops_if_done, done_ops, outcome, decide_front, decide_next}
-use Rattle.sal_script.specs.Play.{plain_world}
+use Rattle.sal_history.specs.declared.opening.Opening.{Opening}
 use Rattle.mdsal.specs.declared.commit.Commit.{Commit}
 use Rattle.mdsal.specs.declared.decided.Submission.{Submission}
-use Rattle.mdsal.specs.Kept.{ops_of, sent_of}
+use Rattle.mdsal.specs.Kept.{ops_of, sent_of, world_of}
 use Rattle.mdsal.specs.Deciding.{IsDecided, Decides}
 use Rattle.mdsal.proofs.KeptLemmas.{slice_get_at}
 
@@ -31,26 +31,28 @@ done_ops-decide (x ∷ ss) [] s o l e = (λ i. ops_if_done o (sym e i).ops ++ no
 done_ops-decide (x ∷ ss) (p ∷ os) s o l e =
     ap (λ (cs : List (List Op)). ops_if_done p x.ops ++ cs) (done_ops-decide ss os s o (omega arith) e) ∙ sym (append_assoc (ops_if_done p x.ops) (done_ops 0 (map sent_of ss) os) (ops_if_done o s.ops))
 
-module _ (ss : List Submission) (os : List Outcome) (kept : List Commit) (was : IsDecided ss os kept) (s : Submission) (l : length os < length ss) (at : s ≡ get_or ss (length os) s) (os' : List Outcome) (kept' : List Commit) (d : Decides s os kept os' kept') where
+module _ (world : List Opening) (ss : List Submission) (os : List Outcome) (kept : List Commit) (was : IsDecided world ss os kept) (s : Submission) (l : length os < length ss) (at : s ≡ get_or ss (length os) s) (os' : List Outcome) (kept' : List Commit) (d : Decides s os kept os' kept') where
   abbrev o : Outcome
-  o = outcome plain_world (ops_of kept) (sent_of s)
+  o = outcome (world_of kept) (ops_of kept) (sent_of s)
 
   pub length-decide : length os' ≡ length os + 1
   length-decide = ap length d.outcomes ∙ length-append os (o ∷ [])
 
-  pub IsDecided-decide : IsDecided ss os' kept'
+  pub IsDecided-decide : IsDecided world ss os' kept'
   IsDecided-decide = record {
     within = omega (arith, length-decide, l);
     are_kept = d.are_kept;
+    world_is = d.world_is ∙ was.world_is;
     commits_are = d.commits ∙ ap (λ (cs : List (List Op)). cs ++ ops_if_done o s.ops) was.commits_are ∙ sym (done_ops-decide ss os s o l at) ∙ ap (done_ops 0 (map sent_of ss)) (sym d.outcomes);
   }
 
-  front : decide_front plain_world (map sent_of ss) os (slice_get (map sent_of ss) (length os)) ≡ o ∷ []
+  front : decide_front world (map sent_of ss) os (slice_get (map sent_of ss) (length os)) ≡ o ∷ []
   front =
-      ap (decide_front plain_world (map sent_of ss) os) (slice_get-map sent_of ss (length os) ∙ ap (option_map sent_of) (slice_get_at ss (length os) s l at))
-      ∙ ap (λ (cs : List (List Op)). outcome plain_world cs (sent_of s) ∷ []) (sym was.commits_are)
+      ap (decide_front world (map sent_of ss) os) (slice_get-map sent_of ss (length os) ∙ ap (option_map sent_of) (slice_get_at ss (length os) s l at))
+      ∙ ap (λ (cs : List (List Op)). outcome world cs (sent_of s) ∷ []) (sym was.commits_are)
+      ∙ ap (λ (w : List Opening). outcome w (ops_of kept) (sent_of s) ∷ []) (sym was.world_is)
 
-  pub decide_next-decide : (n m : ℕ) → m ≡ suc n → os' ++ decide_next plain_world (map sent_of ss) os' n ≡ os ++ decide_next plain_world (map sent_of ss) os m
+  pub decide_next-decide : (n m : ℕ) → m ≡ suc n → os' ++ decide_next world (map sent_of ss) os' n ≡ os ++ decide_next world (map sent_of ss) os m
   decide_next-decide n m e =
-      (λ i. d.outcomes i ++ decide_next plain_world (map sent_of ss) (d.outcomes i) n) ∙ (λ i. (os ++ sym front i) ++ decide_next plain_world (map sent_of ss) (os ++ sym front i) n)
-      ∙ append_assoc os _ _ ∙ ap (λ k. os ++ decide_next plain_world (map sent_of ss) os k) (sym e)
+      (λ i. d.outcomes i ++ decide_next world (map sent_of ss) (d.outcomes i) n) ∙ (λ i. (os ++ sym front i) ++ decide_next world (map sent_of ss) (os ++ sym front i) n)
+      ∙ append_assoc os _ _ ∙ ap (λ k. os ++ decide_next world (map sent_of ss) os k) (sym e)

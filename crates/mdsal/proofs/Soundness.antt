@@ -17,13 +17,14 @@ use Rattle.sal_history.specs.declared.call.Call.TheVariants.{Begin}
 use Rattle.sal_history.specs.declared.call.Entry.{Entry}
 use Rattle.sal_history.specs.History.{Answered, Base, answer, began, began_at, commits, history, newest_tree, sent_by, sents}
 use Rattle.sal_history.specs.Trees.{opening_of}
-use Rattle.sal_script.specs.Play.{plain_world, set_slot}
+use Rattle.sal_script.specs.Play.{set_slot}
 use Rattle.mdsal.specs.declared.transaction.Transaction.{Transaction}
 use Rattle.mdsal.specs.declared.client.ClientState.{ClientState}
 use Rattle.mdsal.specs.Views.{open_of, view_of, Begins, IsSoundView}
 use Rattle.mdsal.specs.Clients.{IsSound}
 use Rattle.mdsal.proofs.Histories.{history-push, sents-push}
 use Rattle.mdsal.proofs.Views.{view-push}
+use Rattle.sal_history.specs.declared.opening.Opening.{Opening}
 
 -- ---- slots
 
@@ -75,61 +76,63 @@ slice_get_seam : {X : Type 0} (xs : List X) (y : X) (ys : List X) → slice_get 
 slice_get_seam [] y ys = refl
 slice_get_seam (x ∷ xs) y ys = slice_get_seam xs y ys
 
-length_answers : (done : List Answered) (log : List Entry) → length (fold (answer plain_world) done log) ≡ length done + length log
-length_answers done [] = omega arith
-length_answers done (e ∷ log) = let one = length-append done in length_answers (answer plain_world done e) log ∙ omega (arith, length-append {A = Answered})
+module _ (world : List Opening) where
+  length_answers : (done : List Answered) (log : List Entry) → length (fold (answer world) done log) ≡ length done + length log
+  length_answers done [] = omega arith
+  length_answers done (e ∷ log) = let one = length-append done in length_answers (answer world done e) log ∙ omega (arith, length-append {A = Answered})
 
-pub length-history : (log : List Entry) → length (history plain_world log) ≡ length log
-length-history log = length_answers [] log ∙ omega arith
+  pub length-history : (log : List Entry) → length (history world log) ≡ length log
+  length-history log = length_answers [] log ∙ omega arith
 
-pub began_at-push : (log : List Entry) (e : Entry) (place : ℕ) → place < length log → began_at (history plain_world (log ++ e ∷ [])) place ≡ began_at (history plain_world log) place
-began_at-push log e place h =
-    let within : place < length (history plain_world log) = omega (arith, length-history log) in
-    ap (λ (a : List Answered). began_at a place) (history-push log e) ∙ ap (option_and_then (λ (a : Answered). began a.entry.call a.reply)) (slice_get_left (history plain_world log) _ place within)
+  pub began_at-push : (log : List Entry) (e : Entry) (place : ℕ) → place < length log → began_at (history world (log ++ e ∷ [])) place ≡ began_at (history world log) place
+  began_at-push log e place h =
+      let within : place < length (history world log) = omega (arith, length-history log) in
+      ap (λ (a : List Answered). began_at a place) (history-push world log e) ∙ ap (option_and_then (λ (a : Answered). began a.entry.call a.reply)) (slice_get_left (history world log) _ place within)
 
-pub IsSoundView-push : (log : List Entry) (e : Entry) (tx : Transaction) → IsSoundView log tx → IsSoundView (log ++ e ∷ []) tx
-IsSoundView-push log e tx is = record {
-  began = began_at-push log e tx.place is.within ∙ is.began;
-  within = omega (arith, is.within, length-append log (e ∷ []));
-  views = λ s. is.views s ∙ sym (view-push log e 0 tx.place tx.ops.items s (omega (arith, is.within)));
-}
+  pub IsSoundView-push : (log : List Entry) (e : Entry) (tx : Transaction) → IsSoundView world log tx → IsSoundView world (log ++ e ∷ []) tx
+  IsSoundView-push log e tx is = record {
+    began = began_at-push log e tx.place is.within ∙ is.began;
+    within = omega (arith, is.within, length-append log (e ∷ []));
+    views = λ s. is.views s ∙ sym (view-push world log e 0 tx.place tx.ops.items s (omega (arith, is.within)));
+  }
 
-sents_more : (log : List Entry) (e : Entry) → length (sents (history plain_world log)) ≤ length (sents (history plain_world (log ++ e ∷ [])))
-sents_more log e = omega (arith, ap length (sents-push log e), length-append (sents (history plain_world log)) (option_to_list (sent_by (history plain_world log) e.call)))
+  sents_more : (log : List Entry) (e : Entry) → length (sents (history world log)) ≤ length (sents (history world (log ++ e ∷ [])))
+  sents_more log e = omega (arith, ap length (sents-push world log e), length-append (sents (history world log)) (option_to_list (sent_by (history world log) e.call)))
 
-pub IsSound-push : (log : List Entry) (e : Entry) (c : ClientState) → IsSound log c → IsSound (log ++ e ∷ []) c
-IsSound-push log e c is = record {
-  transactions = λ k tx at. IsSoundView-push log e tx (is.transactions k tx at);
-  receipts = λ k n at. let was = is.receipts k n at in (was.0, omega (arith, was.1, sents_more log e));
-}
+  pub IsSound-push : (log : List Entry) (e : Entry) (c : ClientState) → IsSound world log c → IsSound world (log ++ e ∷ []) c
+  IsSound-push log e c is = record {
+    transactions = λ k tx at. IsSoundView-push log e tx (is.transactions k tx at);
+    receipts = λ k n at. let was = is.receipts k n at in (was.0, omega (arith, was.1, sents_more log e));
+  }
 
--- ---- a transaction that begins
+  -- ---- a transaction that begins
 
-ascending_after : (s : Store) (tree : List Row) (commits : List (List Op)) → IsAscending tree → IsAscending (tree_after s tree commits)
-ascending_after s tree [] h = h
-ascending_after s tree (ops ∷ commits) h = ascending_after s (next_tree s tree ops) commits (IsAscending-apply_ops tree s ops)
+  ascending_after : (s : Store) (tree : List Row) (commits : List (List Op)) → IsAscending tree → IsAscending (tree_after s tree commits)
+  ascending_after s tree [] h = h
+  ascending_after s tree (ops ∷ commits) h = ascending_after s (next_tree s tree ops) commits (IsAscending-apply_ops tree s ops)
 
-opening_ascends : (s : Store) → IsAscending (opening_of plain_world 0 s)
-opening_ascends Config = refl
-opening_ascends Oper = refl
+  opening_ascends : (s : Store) → IsAscending (opening_of world 0 s)
+  opening_ascends Config = refl
+  opening_ascends Oper = refl
 
-no_ops : (log : List Entry) (s : Store) → newest_tree plain_world log 0 s ≡ apply_ops (newest_tree plain_world log 0 s) s []
-no_ops log s = apply_ops-unique (newest_tree plain_world log 0 s) s [] (newest_tree plain_world log 0 s) (ascending_after s (opening_of plain_world 0 s) (commits (history plain_world log) 0) (opening_ascends s)) (λ r. refl)
+  no_ops : (log : List Entry) (s : Store) → newest_tree world log 0 s ≡ apply_ops (newest_tree world log 0 s) s []
+  no_ops log s = apply_ops-unique (newest_tree world log 0 s) s [] (newest_tree world log 0 s) (ascending_after s (opening_of world 0 s) (commits (history world log) 0) (opening_ascends s)) (λ r. refl)
 
-begins_view : (log : List Entry) (mode : Mode) (tx : Transaction) → Begins log mode tx → (s : Store) → view_of tx s ≡ newest_tree plain_world log 0 s
-begins_view log mode tx is Config = is.config
-begins_view log mode tx is Oper = is.oper
+  begins_view : (log : List Entry) (mode : Mode) (tx : Transaction) → Begins world log mode tx → (s : Store) → view_of tx s ≡ newest_tree world log 0 s
+  begins_view log mode tx is Config = is.config
+  begins_view log mode tx is Oper = is.oper
 
-pub IsSoundView-begin : (log : List Entry) (client number : ℕ) (mode : Mode) (tx : Transaction) → Begins log mode tx → IsSoundView (log ++ record { client = client; number = number; call = Begin 0 mode } ∷ []) tx
-IsSoundView-begin log client number mode tx is =
-    let e : Entry = record { client = client; number = number; call = Begin 0 mode } in
-    let whole : take tx.place (log ++ e ∷ []) ≡ log = take-append-le tx.place log (e ∷ []) (omega (arith, is.place)) ∙ take_all tx.place log (omega (arith, is.place)) in
-    let at : tx.place ≡ length (history plain_world log) = is.place ∙ sym (length-history log) in
-    record {
-      began =
-          (λ i. began_at (history-push log e i) (at i)) ∙ ap (option_and_then (λ (a : Answered). began a.entry.call a.reply)) (slice_get_seam (history plain_world log) _ [])
-          ∙ ap (λ n. Some (let b : Base = record { domain = 0; commit = n } in b)) (sym is.base);
-      within = omega (arith, is.place, length-append log (e ∷ []));
-      views = λ s.
-          begins_view log mode tx is s ∙ no_ops log s ∙ (λ i. apply_ops (newest_tree plain_world (sym whole i) 0 s) s (sym is.ops i));
-    }
+  pub IsSoundView-begin : (log : List Entry) (client number : ℕ) (mode : Mode) (tx : Transaction) → Begins world log mode tx → IsSoundView world (log ++ record { client = client; number = number; call = Begin 0 mode } ∷ []) tx
+  IsSoundView-begin log client number mode tx is =
+      let e : Entry = record { client = client; number = number; call = Begin 0 mode } in
+      let whole : take tx.place (log ++ e ∷ []) ≡ log = take-append-le tx.place log (e ∷ []) (omega (arith, is.place)) ∙ take_all tx.place log (omega (arith, is.place)) in
+      let at : tx.place ≡ length (history world log) = is.place ∙ sym (length-history log) in
+      record {
+        began =
+            (λ i. began_at (history-push world log e i) (at i)) ∙ ap (option_and_then (λ (a : Answered). began a.entry.call a.reply)) (slice_get_seam (history world log) _ [])
+            ∙ ap (λ n. Some (let b : Base = record { domain = 0; commit = n } in b)) (sym is.base);
+        within = omega (arith, is.place, length-append log (e ∷ []));
+        views = λ s.
+            begins_view log mode tx is s ∙ no_ops log s ∙ (λ i. apply_ops (newest_tree world (sym whole i) 0 s) s (sym is.ops i));
+      }
+

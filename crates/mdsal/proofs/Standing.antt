@@ -10,16 +10,18 @@ use Rattle.std.proofs.lemmas.Bool.{cases_lt, cases_order, leb-true}
 use Rattle.std.proofs.lemmas.Bool.Decides.{nat_tests}
 use Rattle.std.specs.Cmp.{first_so, second_so}
 use Rattle.sal_history.specs.declared.call.Entry.{Entry}
-use Rattle.sal_history.specs.declared.reply.Reply.{Reply}
+use Rattle.sal_script.specs.declared.reply.StepReply.{StepReply}
 use Rattle.sal_history.specs.History.{entries_of}
 use Rattle.sal_script.specs.declared.script.ScriptStep.{ScriptStep}
 use Rattle.sal_script.specs.Limits.{within_limits}
-use Rattle.sal_script.specs.Play.{Arrival, Client, Made, Run, Stand, arrive, calls, cons_replies, ended, go, make, new_client, plain_world, replies_at, replies_of, stand_with, turn, turn_of}
+use Rattle.sal_script.specs.Play.{Arrival, Client, Made, Run, Stand, arrive, calls, cons_replies, ended, go, make, new_client, replies_at, replies_of, stand_with, turn, turn_of}
 use Rattle.mdsal.specs.declared.run.Run.{Run as CodeRun}
+use Rattle.mdsal.specs.Known.{Known}
 use Rattle.mdsal.specs.Clients.{client_of, IsSound}
 use Rattle.mdsal.specs.Runs.{AreRuns, Goes, GrowsBy, IsRun, Turns, replies_in, run_of, runs_of, stand_of}
 use Rattle.mdsal.proofs.Soundness.{IsSound-push}
-
+use Rattle.sal_history.specs.declared.opening.Opening.{Opening}
+use Rattle.sal_schema.specs.declared.table.SchemaTable.{SchemaTable}
 -- ---- by index
 
 pub runs_of-at : (ps : List (List ScriptStep)) (rs : List CodeRun) (i : ℕ) (p : List ScriptStep) (r : CodeRun) → length rs ≡ length ps → i < length rs → p ≡ get_or ps i p → r ≡ get_or rs i r → slice_get (runs_of ps rs) i ≡ Some (run_of p r)
@@ -52,9 +54,9 @@ entries-other log e n apart_from =
     let none : entries_of (e ∷ []) n ≡ 0 = rw (other_client e.client n apart_from) refl in
     sum_by-append (λ (x : Entry). cond (nat_eq x.client n) 1 0) log (e ∷ []) ∙ omega (arith, none)
 
-IsRun-other : (log : List Entry) (e : Entry) (p : List ScriptStep) (r : CodeRun) → (e.client ≡ r.client.number → ⊥) → IsRun log p r → IsRun (log ++ e ∷ []) p r
-IsRun-other log e p r apart_from is = record {
-  sound = IsSound-push log e r.client is.sound;
+IsRun-other : (world : List Opening) (log : List Entry) (e : Entry) (p : List ScriptStep) (r : CodeRun) → (e.client ≡ r.client.number → ⊥) → IsRun world log p r → IsRun world (log ++ e ∷ []) p r
+IsRun-other world log e p r apart_from is = record {
+  sound = IsSound-push world log e r.client is.sound;
   counted = is.counted ∙ sym (entries-other log e r.client.number apart_from);
   before = is.before;
   within = is.within;
@@ -62,20 +64,20 @@ IsRun-other log e p r apart_from is = record {
 }
 
 -- one client went on
-pub AreRuns-set : (log log' : List Entry) (ps : List (List ScriptStep)) (rs : List CodeRun) (c : ℕ) (p : List ScriptStep) (new : CodeRun) → AreRuns log ps rs → GrowsBy c log log' → c < length rs → p ≡ get_or ps c p → IsRun log' p new → new.client.number ≡ c → AreRuns log' ps (set rs c new)
-AreRuns-set log log' ps rs c p new are (e, by, is) h at_p run number = record {
+pub AreRuns-set : (known known' : Known) (ps : List (List ScriptStep)) (rs : List CodeRun) (c : ℕ) (p : List ScriptStep) (new : CodeRun) → AreRuns known.world known.log ps rs → GrowsBy c known known' → c < length rs → p ≡ get_or ps c p → IsRun known'.world known'.log p new → new.client.number ≡ c → AreRuns known'.world known'.log ps (set rs c new)
+AreRuns-set known known' ps rs c p new are (e, by, is) h at_p run number = record {
   long = length-set rs c new ∙ are.long;
   each = λ i q r within at_q at_r.
       elim (cases_order i c) [
         | inl same ↦
             let r_is : new ≡ r = sym (at_r ∙ ap (λ k. get_or (set rs c new) k r) same ∙ get_or-set_same rs c new r h) in
             let q_is : p ≡ q = at_p ∙ ap (λ (k : ℕ). get_or ps k p) (sym same) ∙ get_or_any ps i p q (omega (arith, within, length-set rs c new, are.long)) ∙ sym at_q in
-            (subst (λ (x : CodeRun). IsRun log' q x) r_is (subst (λ (x : List ScriptStep). IsRun log' x new) q_is run), ap (λ (x : CodeRun). x.client.number) (sym r_is) ∙ number ∙ sym same)
+            (subst (λ (x : CodeRun). IsRun known'.world known'.log q x) r_is (subst (λ (x : List ScriptStep). IsRun known'.world known'.log x new) q_is run), ap (λ (x : CodeRun). x.client.number) (sym r_is) ∙ number ∙ sym same)
         | inr differs ↦
             let apart : i ≡ c → ⊥ = λ eq. elim differs [ inl less ↦ omega arith | inr more ↦ omega arith ] in
             let r_is : r ≡ get_or rs i r = at_r ∙ get_or-set_other rs c i new r apart in
             let was = are.each i q r (omega (arith, within, length-set rs c new)) at_q r_is in
-            (subst (λ (l : List Entry). IsRun l q r) (sym is) (IsRun-other log e q r (λ eq. apart (sym was.1 ∙ sym eq ∙ by)) was.0), was.1)
+            (subst (λ (k : Known). IsRun k.world k.log q r) (sym is) (IsRun-other known.world known.log e q r (λ eq. apart (sym was.1 ∙ sym eq ∙ by)) was.0), was.1)
       ];
 }
   where
@@ -86,49 +88,49 @@ AreRuns-set log log' ps rs c p new are (e, by, is) h at_p run number = record {
 
 -- ---- one number of the order
 
-pub turn-none : (log : List Entry) (ps : List (List ScriptStep)) (rs : List CodeRun) (c : ℕ) → AreRuns log ps rs → length rs ≤ c → turn plain_world (stand_of ps log rs) c ≡ None
-turn-none log ps rs c are h = ap (turn_of plain_world (stand_of ps log rs) c) (runs_of-none ps rs c are.long h)
+pub turn-none : (table : SchemaTable) (world : List Opening) (log : List Entry) (ps : List (List ScriptStep)) (rs : List CodeRun) (c : ℕ) → AreRuns world log ps rs → length rs ≤ c → turn table world (stand_of ps log rs) c ≡ None
+turn-none table world log ps rs c are h = ap (turn_of table world (stand_of ps log rs) c) (runs_of-none ps rs c are.long h)
 
-pub turn-made : (log log' : List Entry) (ps : List (List ScriptStep)) (rs : List CodeRun) (c : ℕ) (p : List ScriptStep) (old new : CodeRun) → AreRuns log ps rs → c < length rs → p ≡ get_or ps c p → old ≡ get_or rs c old → go plain_world log c (run_of p old) ≡ Some (record { log = log'; run = run_of p new }) → turn plain_world (stand_of ps log rs) c ≡ Some (stand_of ps log' (set rs c new))
-turn-made log log' ps rs c p old new are h at_p at_old goes =
-    ap (turn_of plain_world (stand_of ps log rs) c) (runs_of-at ps rs c p old are.long h at_p at_old) ∙ ap (stand_with (stand_of ps log rs) c) goes
+pub turn-made : (table : SchemaTable) (world : List Opening) (log log' : List Entry) (ps : List (List ScriptStep)) (rs : List CodeRun) (c : ℕ) (p : List ScriptStep) (old new : CodeRun) → AreRuns world log ps rs → c < length rs → p ≡ get_or ps c p → old ≡ get_or rs c old → go table world log c (run_of p old) ≡ Some (record { log = log'; run = run_of p new }) → turn table world (stand_of ps log rs) c ≡ Some (stand_of ps log' (set rs c new))
+turn-made table world log log' ps rs c p old new are h at_p at_old goes =
+    ap (turn_of table world (stand_of ps log rs) c) (runs_of-at ps rs c p old are.long h at_p at_old) ∙ ap (stand_with (stand_of ps log rs) c) goes
     ∙ ap (λ (us : List Run). Some (let s : Stand = record { log = log'; runs = us } in s)) (sym (runs_of-set ps rs c p new are.long h at_p))
 
-pub turn-ended : (log : List Entry) (ps : List (List ScriptStep)) (rs : List CodeRun) (c : ℕ) (p : List ScriptStep) (old : CodeRun) (client : Client) → AreRuns log ps rs → c < length rs → p ≡ get_or ps c p → old ≡ get_or rs c old → arrive plain_world log (client_of old.client) (drop old.at p) ≡ ended client → turn plain_world (stand_of ps log rs) c ≡ None
-turn-ended log ps rs c p old client are h at_p at_old arrived =
-    ap (turn_of plain_world (stand_of ps log rs) c) (runs_of-at ps rs c p old are.long h at_p at_old) ∙ ap (λ a. stand_with (stand_of ps log rs) c (make plain_world log c a)) arrived
+pub turn-ended : (table : SchemaTable) (world : List Opening) (log : List Entry) (ps : List (List ScriptStep)) (rs : List CodeRun) (c : ℕ) (p : List ScriptStep) (old : CodeRun) (client : Client) → AreRuns world log ps rs → c < length rs → p ≡ get_or ps c p → old ≡ get_or rs c old → arrive table world log (client_of old.client) (drop old.at p) ≡ ended client → turn table world (stand_of ps log rs) c ≡ None
+turn-ended table world log ps rs c p old client are h at_p at_old arrived =
+    ap (turn_of table world (stand_of ps log rs) c) (runs_of-at ps rs c p old are.long h at_p at_old) ∙ ap (λ a. stand_with (stand_of ps log rs) c (make table world log c a)) arrived
 
 -- ---- the end
 
 -- replies in front of those that come
-abbrev pub with_replies : List (List Reply) → Option (List (List Reply)) → Option (List (List Reply))
+abbrev pub with_replies : List (List StepReply) → Option (List (List StepReply)) → Option (List (List StepReply))
 with_replies done None = None
 with_replies done (Some rest) = Some (done ++ rest)
 
-pub with_replies-cons : (done : List (List Reply)) (rs : List Reply) (rest : Option (List (List Reply))) → with_replies done (cons_replies (Some rs) rest) ≡ with_replies (done ++ rs ∷ []) rest
+pub with_replies-cons : (done : List (List StepReply)) (rs : List StepReply) (rest : Option (List (List StepReply))) → with_replies done (cons_replies (Some rs) rest) ≡ with_replies (done ++ rs ∷ []) rest
 with_replies-cons done rs None = refl
 with_replies-cons done rs (Some rest) = ap Some (sym (append_assoc done (rs ∷ []) rest))
 
 -- a client that made a call has not come to its end
-not_ended : (log : List Entry) (c : ℕ) (a : Arrival) (made : Made) → make plain_world log c a ≡ Some made → replies_at a ≡ None
-not_ended log c (ended client) made e = cc
-not_ended log c (calls call step run) made e = refl
+not_ended : (table : SchemaTable) (world : List Opening) (log : List Entry) (c : ℕ) (a : Arrival) (made : Made) → make table world log c a ≡ Some made → replies_at a ≡ None
+not_ended table world log c (ended client) made e = cc
+not_ended table world log c (calls call step run) made e = refl
 
 from_index : (ps : List (List ScriptStep)) (rs : List CodeRun) (i : ℕ) (p : List ScriptStep) (r : CodeRun) → i < length rs → i < length ps → p ≡ get_or ps i p → r ≡ get_or rs i r → runs_of (drop i ps) (drop i rs) ≡ run_of p r ∷ runs_of (drop (i + 1) ps) (drop (i + 1) rs)
 from_index ps rs i p r h g at_p at_r =
     (λ k. runs_of (drop_more ps i p g k) (drop_more rs i r h k)) ∙ (λ k. run_of (sym at_p k) (sym at_r k) ∷ runs_of (drop (i + 1) ps) (drop (i + 1) rs))
 
-pub end-client : (log : List Entry) (ps : List (List ScriptStep)) (rs : List CodeRun) (i : ℕ) (p : List ScriptStep) (r : CodeRun) (client : Client) (done : List (List Reply)) → i < length rs → i < length ps → p ≡ get_or ps i p → r ≡ get_or rs i r → arrive plain_world log (client_of r.client) (drop r.at p) ≡ ended client → with_replies done (replies_of plain_world log (runs_of (drop i ps) (drop i rs))) ≡ with_replies (done ++ client.replies ∷ []) (replies_of plain_world log (runs_of (drop (i + 1) ps) (drop (i + 1) rs)))
-end-client log ps rs i p r client done h g at_p at_r arrived =
-    let rest = replies_of plain_world log (runs_of (drop (i + 1) ps) (drop (i + 1) rs)) in
-    ap (λ (us : List Run). with_replies done (replies_of plain_world log us)) (from_index ps rs i p r h g at_p at_r)
+pub end-client : (table : SchemaTable) (world : List Opening) (log : List Entry) (ps : List (List ScriptStep)) (rs : List CodeRun) (i : ℕ) (p : List ScriptStep) (r : CodeRun) (client : Client) (done : List (List StepReply)) → i < length rs → i < length ps → p ≡ get_or ps i p → r ≡ get_or rs i r → arrive table world log (client_of r.client) (drop r.at p) ≡ ended client → with_replies done (replies_of table world log (runs_of (drop i ps) (drop i rs))) ≡ with_replies (done ++ client.replies ∷ []) (replies_of table world log (runs_of (drop (i + 1) ps) (drop (i + 1) rs)))
+end-client table world log ps rs i p r client done h g at_p at_r arrived =
+    let rest = replies_of table world log (runs_of (drop (i + 1) ps) (drop (i + 1) rs)) in
+    ap (λ (us : List Run). with_replies done (replies_of table world log us)) (from_index ps rs i p r h g at_p at_r)
     ∙ ap (λ a. with_replies done (cons_replies (replies_at a) rest)) arrived ∙ with_replies-cons done client.replies rest
 
-pub end-call : (log : List Entry) (ps : List (List ScriptStep)) (rs : List CodeRun) (i c : ℕ) (p : List ScriptStep) (r : CodeRun) (made : Made) (done : List (List Reply)) → i < length rs → i < length ps → p ≡ get_or ps i p → r ≡ get_or rs i r → go plain_world log c (run_of p r) ≡ Some made → with_replies done (replies_of plain_world log (runs_of (drop i ps) (drop i rs))) ≡ None
-end-call log ps rs i c p r made done h g at_p at_r goes =
-    let rest = replies_of plain_world log (runs_of (drop (i + 1) ps) (drop (i + 1) rs)) in
-    ap (λ (us : List Run). with_replies done (replies_of plain_world log us)) (from_index ps rs i p r h g at_p at_r)
-    ∙ ap (λ o. with_replies done (cons_replies o rest)) (not_ended log c (arrive plain_world log (client_of r.client) (drop r.at p)) made goes)
+pub end-call : (table : SchemaTable) (world : List Opening) (log : List Entry) (ps : List (List ScriptStep)) (rs : List CodeRun) (i c : ℕ) (p : List ScriptStep) (r : CodeRun) (made : Made) (done : List (List StepReply)) → i < length rs → i < length ps → p ≡ get_or ps i p → r ≡ get_or rs i r → go table world log c (run_of p r) ≡ Some made → with_replies done (replies_of table world log (runs_of (drop i ps) (drop i rs))) ≡ None
+end-call table world log ps rs i c p r made done h g at_p at_r goes =
+    let rest = replies_of table world log (runs_of (drop (i + 1) ps) (drop (i + 1) rs)) in
+    ap (λ (us : List Run). with_replies done (replies_of table world log us)) (from_index ps rs i p r h g at_p at_r)
+    ∙ ap (λ o. with_replies done (cons_replies o rest)) (not_ended table world log c (arrive table world log (client_of r.client) (drop r.at p)) made goes)
 
 -- ---- the beginning
 
@@ -137,7 +139,7 @@ pub record IsFresh (r : CodeRun) : Type 0 where
   pub made : r.client.made ≡ 0
   pub at : r.at ≡ 0
   pub client : client_of r.client ≡ new_client
-  pub sound : IsSound [] r.client
+  pub sound : (world : List Opening) → IsSound world [] r.client
 
 pub fresh_runs : (ps : List (List ScriptStep)) (rs : List CodeRun) → length rs ≡ length ps → ((i : ℕ) (r : CodeRun) → i < length rs → r ≡ get_or rs i r → IsFresh r) → runs_of ps rs ≡ map (λ (steps : List ScriptStep). let run : Run = record { client = new_client; steps = steps } in run) ps
 fresh_runs [] rs long fresh = refl
@@ -155,24 +157,25 @@ all_at f (y ∷ xs) (suc i) x all h at = all_at f xs i x (second_so (f y) (list_
 pub few_programs : (ps : List (List ScriptStep)) → IsTrue (within_limits ps) → length ps ≤ 16
 few_programs ps limits = leb-true (length ps) 16 (first_so (nat_le (length ps) 16) (list_all (λ (p : List ScriptStep). nat_le (length p) 256) ps) limits)
 
-pub AreRuns-fresh : (ps : List (List ScriptStep)) (rs : List CodeRun) → IsTrue (within_limits ps) → length rs ≡ length ps → ((i : ℕ) (r : CodeRun) → i < length rs → r ≡ get_or rs i r → IsFresh r × (r.client.number ≡ i)) → AreRuns [] ps rs
-AreRuns-fresh ps rs limits long fresh = record {
+pub AreRuns-fresh : (world : List Opening) (ps : List (List ScriptStep)) (rs : List CodeRun) → IsTrue (within_limits ps) → length rs ≡ length ps → ((i : ℕ) (r : CodeRun) → i < length rs → r ≡ get_or rs i r → IsFresh r × (r.client.number ≡ i)) → AreRuns world [] ps rs
+AreRuns-fresh world ps rs limits long fresh = record {
   long = long;
   each = λ i p r h at_p at_r.
       let is = fresh i r h at_r in
       let short : length p ≤ 256 = leb-true (length p) 256 (all_at (λ (q : List ScriptStep). nat_le (length q) 256) ps i p (second_so (nat_le (length ps) 16) (list_all (λ (q : List ScriptStep). nat_le (length q) 256) ps) limits) (omega arith) at_p) in
-      (record { sound = is.0.sound; counted = is.0.made; before = omega (arith, is.0.made, is.0.at); within = omega (arith, is.0.at); short = short }, is.1);
+      (record { sound = is.0.sound world; counted = is.0.made; before = omega (arith, is.0.made, is.0.at); within = omega (arith, is.0.at); short = short }, is.1);
 }
 
 -- ---- what the simulation does
 
-pub turned : (made : Bool) (log log' : List Entry) (ps : List (List ScriptStep)) (rs : List CodeRun) (c : ℕ) (p : List ScriptStep) (old new : CodeRun) → AreRuns log ps rs → c < length rs → p ≡ get_or ps c p → old ≡ get_or rs c old → Goes made old.client.number log p old log' new → IsRun log' p new → new.client.number ≡ old.client.number → Turns made ps c log rs log' (set rs c new)
-turned true log log' ps rs c p old new are h at_p at_old goes run number =
+pub turned : (table : SchemaTable) (made : Bool) (known known' : Known) (ps : List (List ScriptStep)) (rs : List CodeRun) (c : ℕ) (p : List ScriptStep) (old new : CodeRun) → AreRuns known.world known.log ps rs → c < length rs → p ≡ get_or ps c p → old ≡ get_or rs c old → Goes table made old.client.number known p old known' new → IsRun known'.world known'.log p new → new.client.number ≡ old.client.number → Turns table made ps c known rs known' (set rs c new)
+turned table true known known' ps rs c p old new are h at_p at_old goes run number =
     let same = (are.each c p old h at_p at_old).1 in (
-      turn-made log log' ps rs c p old new are h at_p at_old (subst (λ n. go plain_world log n (run_of p old) ≡ Some (let made : Made = record { log = log'; run = run_of p new } in made)) same goes.0),
-      AreRuns-set log log' ps rs c p new are (subst (λ n. GrowsBy n log log') same goes.1) h at_p run (number ∙ same),
+      turn-made table known.world known.log known'.log ps rs c p old new are h at_p at_old (subst (λ n. go table known.world known.log n (run_of p old) ≡ Some (let made : Made = record { log = known'.log; run = run_of p new } in made)) same goes.0),
+      AreRuns-set known known' ps rs c p new are (subst (λ n. GrowsBy n known known') same goes.1) h at_p run (number ∙ same),
+      ap (λ (k : Known). k.world) goes.1.2,
     )
-turned false log log' ps rs c p old new are h at_p at_old goes run number = turn-ended log ps rs c p old (client_of new.client) are h at_p at_old goes.0
+turned table false known known' ps rs c p old new are h at_p at_old goes run number = turn-ended table known.world known.log ps rs c p old (client_of new.client) are h at_p at_old goes.0
 
 -- where lists are the same from an index on, so is what stands there
 get_drop : {X : Type 0} (xs : List X) (i : ℕ) (d : X) → get_or (drop i xs) 0 d ≡ get_or xs i d
@@ -185,14 +188,14 @@ same_at xs ys i d e = sym (get_drop xs i d) ∙ ap (λ zs. get_or zs 0 d) e ∙ 
 
 map_push : (rs : List CodeRun) (r : CodeRun) → map replies_in (rs ++ r ∷ []) ≡ map replies_in rs ++ replies_in r ∷ []
 map_push [] r = refl
-map_push (x ∷ rs) r = ap (λ (us : List (List Reply)). replies_in x ∷ us) (map_push rs r)
+map_push (x ∷ rs) r = ap (λ (us : List (List StepReply)). replies_in x ∷ us) (map_push rs r)
 
 pub replies_push : (rs : List CodeRun) (i : ℕ) (new : CodeRun) → i < length rs → map replies_in (take (i + 1) (set rs i new)) ≡ map replies_in (take i rs) ++ replies_in new ∷ []
 replies_push rs i new h = ap (map replies_in) (take-set_at rs i (i + 1) new refl h) ∙ map_push (take i rs) new
 
-pub all_ended : (log : List Entry) (ps : List (List ScriptStep)) (rs now : List CodeRun) (i : ℕ) → length rs ≤ i → length ps ≤ i → length now ≤ i → with_replies (map replies_in (take i now)) (replies_of plain_world log (runs_of (drop i ps) (drop i rs))) ≡ Some (map replies_in now)
-all_ended log ps rs now i h g k =
-    (λ j. with_replies (map replies_in (take_all i now k j)) (replies_of plain_world log (runs_of (drop_all i ps g j) (drop_all i rs h j)))) ∙ ap Some (append-nil (map replies_in now))
+pub all_ended : (table : SchemaTable) (world : List Opening) (log : List Entry) (ps : List (List ScriptStep)) (rs now : List CodeRun) (i : ℕ) → length rs ≤ i → length ps ≤ i → length now ≤ i → with_replies (map replies_in (take i now)) (replies_of table world log (runs_of (drop i ps) (drop i rs))) ≡ Some (map replies_in now)
+all_ended table world log ps rs now i h g k =
+    (λ j. with_replies (map replies_in (take_all i now k j)) (replies_of table world log (runs_of (drop_all i ps g j) (drop_all i rs h j)))) ∙ ap Some (append-nil (map replies_in now))
 
 -- one more client at its beginning
 pub fresh_more : (rs : List CodeRun) (new : CodeRun) → ((k : ℕ) (r : CodeRun) → k < length rs → r ≡ get_or rs k r → IsFresh r × (r.client.number ≡ k)) → IsFresh new → new.client.number ≡ length rs → (k : ℕ) (r : CodeRun) → k < length (rs ++ new ∷ []) → r ≡ get_or (rs ++ new ∷ []) k r → IsFresh r × (r.client.number ≡ k)
@@ -204,3 +207,4 @@ fresh_more rs new each fresh number k r h at =
           let same : new ≡ r = sym (at ∙ ap (λ i. get_or (rs ++ new ∷ []) i r) last ∙ get_or-append_seam rs new [] r) in
           (subst IsFresh same fresh, ap (λ (x : CodeRun). x.client.number) (sym same) ∙ number ∙ sym last)
     ]
+

@@ -3,18 +3,23 @@ use Rattle.std.specs.Prelude.{◌≡◌, ℕ, ◌<◌, ◌≤◌, List, [], ◌�
 use Rattle.std.specs.Option.{option_map}
 use Rattle.sal_rows.specs.declared.outcome.Mode.{Mode}
 use Rattle.sal_rows.specs.declared.outcome.Mode.TheVariants.{Ro, Wo, Rw}
+use Rattle.sal_history.specs.declared.opening.Opening.{Opening}
 use Rattle.sal_history.specs.declared.call.Call.{Call}
 use Rattle.sal_history.specs.declared.call.Entry.{Entry}
 use Rattle.sal_history.specs.declared.reply.Reply.{Reply}
 use Rattle.sal_history.specs.History.{entries_of, history, reply, sents}
+use Rattle.sal_schema.specs.declared.table.SchemaTable.{SchemaTable}
 use Rattle.sal_script.specs.declared.script.ScriptStep.{ScriptStep}
-use Rattle.sal_script.specs.Play.{Client, Open, keep, local, meet, plain_world, replied, shared}
+use Rattle.sal_script.specs.declared.reply.StepReply.{StepReply}
+use Rattle.sal_script.specs.declared.reply.StepReply.TheVariants.{Called}
+use Rattle.sal_script.specs.Play.{Client, Open, keep, local, meet, replied, shared}
 use Rattle.mdsal.specs.declared.client.ClientState.{ClientState}
 use Rattle.mdsal.specs.declared.client.Standing.{Standing}
 use Rattle.mdsal.specs.declared.client.Standing.TheVariants.{Empty, ReadOnly, Writable}
 use Rattle.mdsal.specs.declared.client.Went.{Went}
 use Rattle.mdsal.specs.declared.client.Went.TheVariants.{Local, Shared}
 use Rattle.mdsal.specs.declared.transaction.Transaction.{Transaction}
+use Rattle.mdsal.specs.Known.{Known, more}
 use Rattle.mdsal.specs.Slots.{held}
 use Rattle.mdsal.specs.Views.{open_of, IsSoundView}
 
@@ -36,9 +41,9 @@ standing_of None = Empty
 standing_of (Some tx) = standing_in tx.mode
 
 -- each transaction is one that the log began, with its view, and each receipt one that the log gave
-pub record IsSound (log : List Entry) (c : ClientState) : Type 0 where
-  pub transactions : (k : ℕ) (tx : Transaction) → held c.transactions k ≡ Some tx → IsSoundView log tx
-  pub receipts : (k n : ℕ) → held c.receipts k ≡ Some n → (0 < n) × (n ≤ length (sents (history plain_world log)))
+pub record IsSound (world : List Opening) (log : List Entry) (c : ClientState) : Type 0 where
+  pub transactions : (k : ℕ) (tx : Transaction) → held c.transactions k ≡ Some tx → IsSoundView world log tx
+  pub receipts : (k n : ℕ) → held c.receipts k ≡ Some n → (0 < n) × (n ≤ length (sents (history world log)))
 
 -- the client counts its calls
 abbrev pub Counted : List Entry → ClientState → Type 0
@@ -55,17 +60,17 @@ abbrev pub entry_of : List Entry → ℕ → Call → Entry
 entry_of log c call = record { client = c; number = entries_of log c; call = call }
 
 -- what a shared call leaves
-pub record Calls (r : Reply) (c : ℕ) (log : List Entry) (old : Client) (step : ScriptStep) (log' : List Entry) (new : Client) (call : Call) : Type 0 where
-  pub met : meet plain_world log old step ≡ shared call
-  pub entry : log' ≡ log ++ entry_of log c call ∷ []
-  pub replied : r ≡ reply plain_world log (entry_of log c call)
-  pub kept : new ≡ keep (length log) step r old
+pub record Calls (table : SchemaTable) (r : StepReply) (c : ℕ) (known : Known) (old : Client) (step : ScriptStep) (known' : Known) (new : Client) (call : Call) : Type 0 where
+  pub met : meet table known.world known.log old step ≡ shared call
+  pub entry : known' ≡ more known (entry_of known.log c call)
+  pub replied : r ≡ Called (reply known.world known.log (entry_of known.log c call))
+  pub kept : new ≡ keep (length known.log) step (reply known.world known.log (entry_of known.log c call)) old
 
 -- a step of client c was answered, by itself or by a shared call; the reply is not yet among its replies
-abbrev pub Answers : Went → Reply → ℕ → List Entry → Client → ScriptStep → List Entry → Client → Type 0
-Answers Local r c log old step log' new = (meet plain_world log old step ≡ local r new) × (log' ≡ log)
-Answers Shared r c log old step log' new = (call : Call) × Calls r c log old step log' new call
+abbrev pub Answers : SchemaTable → Went → StepReply → ℕ → Known → Client → ScriptStep → Known → Client → Type 0
+Answers table Local r c known old step known' new = (meet table known.world known.log old step ≡ local r new) × (known' ≡ known)
+Answers table Shared r c known old step known' new = (call : Call) × Calls table r c known old step known' new call
 
 -- and with its reply among its replies
-abbrev pub Steps : Went → ℕ → List Entry → Client → ScriptStep → List Entry → Client → Type 0
-Steps went c log old step log' new = (r : Reply) × (between : Client) × Answers went r c log old step log' between × (new ≡ replied r between)
+abbrev pub Steps : SchemaTable → Went → ℕ → Known → Client → ScriptStep → Known → Client → Type 0
+Steps table went c known old step known' new = (r : StepReply) × (between : Client) × Answers table went r c known old step known' between × (new ≡ replied r between)

@@ -3,6 +3,8 @@ pub mod Current
 pub mod Deciding
 pub mod Found
 pub mod Kept
+pub mod Known
+pub mod Refused
 pub mod Runs
 pub mod Slots
 pub mod Schemas

@@ -1,13 +1,16 @@
 -- A client's run, as the definitions have it.
 use Rattle.std.specs.Prelude.{◌≡◌, ℕ, ◌≤◌, ◌<◌, Bool, true, false, List, [], ◌∷◌, ◌++◌, length, drop, map, None, Some, Result, Ok, Err, slice_index_or}
+use Rattle.sal_history.specs.declared.opening.Opening.{Opening}
 use Rattle.sal_history.specs.declared.call.Entry.{Entry}
-use Rattle.sal_history.specs.declared.reply.Reply.{Reply}
+use Rattle.sal_schema.specs.declared.table.SchemaTable.{SchemaTable}
+use Rattle.sal_script.specs.declared.reply.StepReply.{StepReply}
 use Rattle.sal_script.specs.declared.script.ScriptStep.{ScriptStep}
-use Rattle.sal_script.specs.Play.{Played, Run, Stand, arrive, ended, go, plain_world, replies_of, turn}
+use Rattle.sal_script.specs.Play.{Played, Run, Stand, arrive, ended, go, replies_of, turn}
 use Rattle.mdsal.specs.declared.run.Run.{Run as CodeRun}
 use Rattle.mdsal.specs.declared.simulation.Played.{Played as CodePlayed}
 use Rattle.mdsal.specs.declared.simulation.PlayFault.{PlayFault}
 use Rattle.mdsal.specs.declared.simulation.PlayFault.TheVariants.{BadOrder, NoMemory}
+use Rattle.mdsal.specs.Known.{Known, more}
 use Rattle.mdsal.specs.Clients.{client_of, Counted, IsSound}
 
 -- the client with the steps that are still to come
@@ -15,21 +18,22 @@ abbrev pub run_of : List ScriptStep → CodeRun → Run
 run_of steps r = record { client = client_of r.client; steps = drop r.at steps }
 
 -- the run is sound, and within a program that is short
-pub record IsRun (log : List Entry) (steps : List ScriptStep) (r : CodeRun) : Type 0 where
-  pub sound : IsSound log r.client
+pub record IsRun (world : List Opening) (log : List Entry) (steps : List ScriptStep) (r : CodeRun) : Type 0 where
+  pub sound : IsSound world log r.client
   pub counted : Counted log r.client
   pub before : r.client.made ≤ r.at
   pub within : r.at ≤ length steps
   pub short : length steps ≤ 256
 
 -- one entry more, of client c
-abbrev pub GrowsBy : ℕ → List Entry → List Entry → Type 0
-GrowsBy c log log' = (e : Entry) × (e.client ≡ c) × (log' ≡ log ++ e ∷ [])
+abbrev pub GrowsBy : ℕ → Known → Known → Type 0
+GrowsBy c known known' = (e : Entry) × (e.client ≡ c) × (known' ≡ more known e)
 
 -- the client went on to its next shared call and made it, or came to its end
-abbrev pub Goes : Bool → ℕ → List Entry → List ScriptStep → CodeRun → List Entry → CodeRun → Type 0
-Goes true c log steps old log' new = (go plain_world log c (run_of steps old) ≡ Some (record { log = log'; run = run_of steps new })) × GrowsBy c log log'
-Goes false c log steps old log' new = (arrive plain_world log (client_of old.client) (drop old.at steps) ≡ ended (client_of new.client)) × (log' ≡ log)
+abbrev pub Goes : SchemaTable → Bool → ℕ → Known → List ScriptStep → CodeRun → Known → CodeRun → Type 0
+Goes table true c known steps old known' new =
+    (go table known.world known.log c (run_of steps old) ≡ Some (record { log = known'.log; run = run_of steps new })) × GrowsBy c known known'
+Goes table false c known steps old known' new = (arrive table known.world known.log (client_of old.client) (drop old.at steps) ≡ ended (client_of new.client)) × (known' ≡ known)
 
 -- the clients' runs, each in its own program
 abbrev pub runs_of : List (List ScriptStep) → List CodeRun → List Run
@@ -41,26 +45,27 @@ abbrev pub stand_of : List (List ScriptStep) → List Entry → List CodeRun →
 stand_of ps log rs = record { log = log; runs = runs_of ps rs }
 
 -- each is sound, and has its index as its number
-pub record AreRuns (log : List Entry) (ps : List (List ScriptStep)) (rs : List CodeRun) : Type 0 where
+pub record AreRuns (world : List Opening) (log : List Entry) (ps : List (List ScriptStep)) (rs : List CodeRun) : Type 0 where
   pub long : length rs ≡ length ps
-  pub each : (i : ℕ) (p : List ScriptStep) (r : CodeRun) → i < length rs → p ≡ slice_index_or ps i p → r ≡ slice_index_or rs i r → IsRun log p r × (r.client.number ≡ i)
+  pub each : (i : ℕ) (p : List ScriptStep) (r : CodeRun) → i < length rs → p ≡ slice_index_or ps i p → r ≡ slice_index_or rs i r → IsRun world log p r × (r.client.number ≡ i)
 
 -- one number of an order, or its failure
-abbrev pub Turns : Bool → List (List ScriptStep) → ℕ → List Entry → List CodeRun → List Entry → List CodeRun → Type 0
-Turns true ps c log rs log' rs' = (turn plain_world (stand_of ps log rs) c ≡ Some (stand_of ps log' rs')) × AreRuns log' ps rs'
-Turns false ps c log rs log' rs' = turn plain_world (stand_of ps log rs) c ≡ None
+abbrev pub Turns : SchemaTable → Bool → List (List ScriptStep) → ℕ → Known → List CodeRun → Known → List CodeRun → Type 0
+Turns table true ps c known rs known' rs' =
+    (turn table known.world (stand_of ps known.log rs) c ≡ Some (stand_of ps known'.log rs')) × AreRuns known'.world known'.log ps rs' × (known'.world ≡ known.world)
+Turns table false ps c known rs known' rs' = turn table known.world (stand_of ps known.log rs) c ≡ None
 
 -- the replies of a client to its steps
-abbrev pub replies_in : CodeRun → List Reply
+abbrev pub replies_in : CodeRun → List StepReply
 replies_in r = r.client.replies.items
 
 -- all clients come to their ends, with these replies, or one does not
-abbrev pub Ends : Bool → List (List ScriptStep) → List Entry → List CodeRun → List Entry → List CodeRun → Type 0
-Ends true ps log rs log' rs' = (replies_of plain_world log (runs_of ps rs) ≡ Some (map replies_in rs')) × (log' ≡ log)
-Ends false ps log rs log' rs' = replies_of plain_world log (runs_of ps rs) ≡ None
+abbrev pub Ends : SchemaTable → Bool → List (List ScriptStep) → Known → List CodeRun → Known → List CodeRun → Type 0
+Ends table true ps known rs known' rs' = (replies_of table known.world known.log (runs_of ps rs) ≡ Some (map replies_in rs')) × (known' ≡ known)
+Ends table false ps known rs known' rs' = replies_of table known.world known.log (runs_of ps rs) ≡ None
 
--- what a script came to, or where its order fails; nothing is said of want of memory
-abbrev pub PlaysAs : Result CodePlayed PlayFault → Result Played ℕ → Type 0
-PlaysAs (Ok p) played = played ≡ Ok (record { log = p.broker; replies = p.replies })
-PlaysAs (Err (BadOrder index)) played = played ≡ Err index
-PlaysAs (Err NoMemory) played = Unit {0}
+-- what a script came to over a world, or where its order fails; nothing is said of want of memory
+abbrev pub PlaysAs : List Opening → Result CodePlayed PlayFault → Result Played ℕ → Type 0
+PlaysAs world (Ok p) played = (played ≡ Ok (record { log = p.broker.log; replies = p.replies })) × (p.broker.world ≡ world)
+PlaysAs world (Err (BadOrder index)) played = played ≡ Err index
+PlaysAs world (Err NoMemory) played = Unit {0}

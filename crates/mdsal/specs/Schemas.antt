@@ -10,7 +10,6 @@ use Rattle.sal_module.specs.declared.fault.BuildFault.TheVariants as build_fault
 use Rattle.sal_module.specs.declared.fault.What.{What}
 use Rattle.sal_module.specs.declared.fault.What.TheVariants.{Modules, Nodes}
 use Rattle.sal_schema.specs.declared.table.SchemaTable.{SchemaTable}
-use Rattle.sal_schema.specs.Text.{table_text}
 use Rattle.sal_build.specs.Build.{build}
 use Rattle.mdsal.specs.declared.schema_fault.SchemaFault.{SchemaFault}
 use Rattle.mdsal.specs.declared.schema_fault.SchemaFault.TheVariants.{Bad, NoMemory}
@@ -73,14 +72,14 @@ statements_from number [] = Ok []
 statements_from number (text ∷ texts) =
     or_text number (read text) >>= (λ stmt. statements_from (number + 1) texts >>= (λ stmts. Ok (stmt ∷ stmts)))
 
--- the text of the table that was built, or that of the fault
-abbrev pub told : Result SchemaTable BuildFault → Result (List ℕ) (List ℕ)
-told (Ok table) = Ok (table_text table)
+-- the table that was built, or the text of the fault
+abbrev pub told : Result SchemaTable BuildFault → Result SchemaTable (List ℕ)
+told (Ok table) = Ok table
 told (Err fault) = Err (build_text fault)
 
 -- The texts are read first, in their order, and the first fault of a text counts; then the schema is built.
-abbrev pub schema_of : List (List ℕ) → Result (List ℕ) (List ℕ)
-schema_of texts = statements_from 0 texts >>= (λ stmts. told (build stmts))
+abbrev pub table_of : List (List ℕ) → Result SchemaTable (List ℕ)
+table_of texts = statements_from 0 texts >>= (λ stmts. told (build stmts))
 
 -- ---- what a function returned
 

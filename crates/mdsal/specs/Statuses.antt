@@ -1,7 +1,7 @@
 -- The numbers and lines of the statuses.
 use Rattle.std.specs.Prelude.{ℕ, List, [], ◌∷◌, ◌++◌, codes, decimal}
 use Rattle.mdsal.specs.declared.status.Status.{Status}
-use Rattle.mdsal.specs.declared.status.Status.TheVariants.{Done, BadWords, ReadFault, WriteFault, TooLong, BadScript, BadSchema, BadOrder, NoMemory}
+use Rattle.mdsal.specs.declared.status.Status.TheVariants.{Done, BadWords, ReadFault, WriteFault, TooLong, BadScript, BadSchema, BadOpening, BadOrder, NoMemory}
 
 abbrev pub number_of : Status → ℕ
 number_of Done = 0
@@ -11,6 +11,7 @@ number_of WriteFault = 4
 number_of TooLong = 5
 number_of (BadScript place) = 6
 number_of (BadSchema device text) = 7
+number_of (BadOpening text) = 8
 number_of (BadOrder index) = 9
 number_of NoMemory = 10
 
@@ -22,5 +23,6 @@ line_of WriteFault = codes "write fault\n"
 line_of TooLong = codes "too long\n"
 line_of (BadScript place) = codes "bad script at " ++ (place ++ 10 ∷ [])
 line_of (BadSchema device text) = codes "bad schema " ++ (decimal device ++ (32 ∷ (text ++ 10 ∷ [])))
+line_of (BadOpening text) = codes "bad opening " ++ (text ++ 10 ∷ [])
 line_of (BadOrder index) = codes "bad order at " ++ (decimal index ++ 10 ∷ [])
 line_of NoMemory = codes "no memory\n"

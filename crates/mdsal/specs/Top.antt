@@ -1,42 +1,80 @@
 -- What each status of the command says.
-use Rattle.std.specs.Prelude.{true, false, ◌≡◌, ℕ, ◌≤◌, ⊤, List, Option, None, Some, Result, Ok, Err, length}
+use Rattle.std.specs.Prelude.{true, false, ◌≡◌, ℕ, ◌≤◌, ⊤, List, [], ◌∷◌, ◌++◌, codes, if◌then◌else◌, MatchResult, Option, None, Some, Result, Ok, Err, length}
+use Rattle.std.specs.List.{list_any}
 use Rattle.std.specs.Io.KnownBytes.{Appends}
 use Rattle.sal_io.specs.Transfer.{TakesAll, TakesSome, TakesFront}
+use Rattle.serde_json.specs.Data.{Data}
+use Rattle.sal_types.specs.Reading.{◌>>=◌}
+use Rattle.sal_types.specs.declared.value.Store.{Store}
+use Rattle.sal_types.specs.declared.value.Store.TheVariants.{Config, Oper}
+use Rattle.sal_types.specs.declared.row.Row.{Row}
+use Rattle.sal_schema.specs.declared.table.SchemaTable.{SchemaTable}
+use Rattle.sal_schema.specs.Text.{table_text}
+use Rattle.sal_json.specs.Patterns.{has_malformed}
+use Rattle.sal_data.specs.declared.fault.DataFault.{DataFault}
+use Rattle.sal_data.specs.Read.{read_data}
+use Rattle.sal_history.specs.declared.opening.Opening.{Opening}
 use Rattle.sal_script.specs.Script.{Parts, script_of}
 use Rattle.sal_script.specs.Play.{Played, play}
-use Rattle.sal_script.specs.Report.{report}
-use Rattle.mdsal.specs.Schemas.{schema_of}
+use Rattle.sal_script.specs.Report.{report, store_text, data_fault_text}
+use Rattle.mdsal.specs.Schemas.{table_of}
 use Rattle.mdsal.specs.declared.top.TheConstants.{HELP, VERSION}
 use Rattle.mdsal.specs.declared.status.Status.{Status}
-use Rattle.mdsal.specs.declared.status.Status.TheVariants.{Done, BadWords, ReadFault, WriteFault, TooLong, BadScript, BadSchema, BadOrder, NoMemory}
+use Rattle.mdsal.specs.declared.status.Status.TheVariants.{Done, BadWords, ReadFault, WriteFault, TooLong, BadScript, BadSchema, BadOpening, BadOrder, NoMemory}
 use Rattle.mdsal.specs.declared.words.Form.{Form}
 use Rattle.mdsal.specs.declared.words.Form.TheVariants.{Sim, Schema, Help, Version}
 
+-- ---- what a script comes to
+
+abbrev pub or_script : Result Parts (List ℕ) → Result Parts Status
+or_script (Ok parts) = Ok parts
+or_script (Err place) = Err (BadScript place)
+
+-- the schema of domain 0
+abbrev pub or_schema : Result SchemaTable (List ℕ) → Result SchemaTable Status
+or_schema (Ok table) = Ok table
+or_schema (Err text) = Err (BadSchema 0 text)
+
+-- a schema whose patterns are all well formed
+abbrev pub if_formed : SchemaTable → Result SchemaTable Status
+if_formed table = if list_any has_malformed table.types then Err (BadSchema 0 (codes "pattern")) else Ok table
+
+-- the rows of an opening tree of domain 0
+abbrev pub or_opening : SchemaTable → Store → Result (List Row) DataFault → Result (List Row) Status
+or_opening table s (Ok rows) = Ok rows
+or_opening table s (Err fault) = Err (BadOpening (codes "0 " ++ (store_text s ++ (codes " data " ++ data_fault_text table fault))))
+
+abbrev pub opening_rows : SchemaTable → Store → Data → Result (List Row) Status
+opening_rows table s json = or_opening table s (read_data table [] json)
+
 -- the report of what was played, or the index at which the order fails
-abbrev pub text_of_play : Result Played ℕ → Result (List ℕ) Status
-text_of_play (Ok played) = Ok (report played)
-text_of_play (Err index) = Err (BadOrder index)
+abbrev pub text_of_play : SchemaTable → List Opening → Result Played ℕ → Result (List ℕ) Status
+text_of_play table world (Ok played) = Ok (report table world played)
+text_of_play table world (Err index) = Err (BadOrder index)
 
-abbrev pub text_of_script : Result Parts (List ℕ) → Result (List ℕ) Status
-text_of_script (Ok parts) = text_of_play (play parts.clients parts.order)
-text_of_script (Err place) = Err (BadScript place)
+abbrev pub play_over : SchemaTable → Parts → List Opening → Result (List ℕ) Status
+play_over table parts world = text_of_play table world (play table world parts.clients parts.order)
 
--- the report of the script that the bytes stand for, played in its order
+-- a script over the schema that its modules build
+abbrev pub play_text : Parts → SchemaTable → Result (List ℕ) Status
+play_text parts table =
+    opening_rows table Config parts.config
+    >>= (λ config. opening_rows table Oper parts.operational
+    >>= (λ oper. play_over table parts (record { config = config; oper = oper } ∷ [])))
+
+abbrev pub reader_table : List (List ℕ) → Result SchemaTable Status
+reader_table texts = or_schema (table_of texts) >>= if_formed
+
+-- The report of the script that the bytes stand for, played in its order. The first of these that fails counts: the script, its
+-- modules, their patterns, the opening trees, the order.
 abbrev pub sim_text : List ℕ → Result (List ℕ) Status
-sim_text bytes = text_of_script (script_of false bytes)
-
--- the text of the schema that these modules of domain 0 build
-abbrev pub text_of_modules : Result (List ℕ) (List ℕ) → Result (List ℕ) Status
-text_of_modules (Ok text) = Ok text
-text_of_modules (Err text) = Err (BadSchema 0 text)
-
-abbrev pub schema_of_script : Result Parts (List ℕ) → Result (List ℕ) Status
-schema_of_script (Ok parts) = text_of_modules (schema_of parts.modules)
-schema_of_script (Err place) = Err (BadScript place)
+sim_text bytes = or_script (script_of bytes) >>= (λ parts. reader_table parts.modules >>= play_text parts)
 
 -- the text of the schema that the modules of the script build
 abbrev pub schema_text : List ℕ → Result (List ℕ) Status
-schema_text bytes = schema_of_script (script_of true bytes)
+schema_text bytes = or_script (script_of bytes) >>= (λ parts. or_schema (table_of parts.modules) >>= (λ table. Ok (table_text table)))
+
+-- ---- what the command did
 
 -- a text was written, whole or, at a write fault, a front of it
 abbrev pub Written : List ℕ → Option (List ℕ) → Option (List ℕ) → Status → Type 0
@@ -59,6 +97,7 @@ TextAnswers make before after told told' WriteFault = (text : List ℕ) × Reads
 TextAnswers make before after told told' TooLong = TakesSome before after (λ bytes. length bytes ≡ 16777217) × (told' ≡ told)
 TextAnswers make before after told told' (BadScript place) = ReadsInput make before after (Err (BadScript place)) × (told' ≡ told)
 TextAnswers make before after told told' (BadSchema device text) = ReadsInput make before after (Err (BadSchema device text)) × (told' ≡ told)
+TextAnswers make before after told told' (BadOpening text) = ReadsInput make before after (Err (BadOpening text)) × (told' ≡ told)
 TextAnswers make before after told told' (BadOrder index) = ReadsInput make before after (Err (BadOrder index)) × (told' ≡ told)
 TextAnswers make before after told told' ReadFault = told' ≡ told
 TextAnswers make before after told told' NoMemory = told' ≡ told
@@ -93,11 +132,27 @@ IsDoneUnlessStopped WriteFault = ⊤
 IsDoneUnlessStopped NoMemory = ⊤
 IsDoneUnlessStopped status = ⊥
 
--- the text that an input comes to; nothing is said of want of memory
+-- the status is the one that is made; nothing is said of want of memory
+abbrev pub IsStatusOf : {A : Type 0} → Result A Status → Status → Type 0
+IsStatusOf made NoMemory = Unit {0}
+IsStatusOf made (BadScript place) = made ≡ Err (BadScript place)
+IsStatusOf made (BadSchema device text) = made ≡ Err (BadSchema device text)
+IsStatusOf made (BadOpening text) = made ≡ Err (BadOpening text)
+IsStatusOf made (BadOrder index) = made ≡ Err (BadOrder index)
+IsStatusOf made status = ⊥
+
+-- what was returned, as it is seen, is what is made; nothing is said of want of memory
+abbrev pub Comes : {A X : Type 0} → (X → A) → Result A Status → Result X Status → Type 0
+Comes seen made result = MatchResult result (λ x. made ≡ Ok (seen x)) (IsStatusOf made)
+
+-- the text that an input comes to
 abbrev pub IsTextOr : Result (List ℕ) Status → Result (List ℕ) Status → Type 0
-IsTextOr made (Ok text) = made ≡ Ok text
-IsTextOr made (Err NoMemory) = Unit {0}
-IsTextOr made (Err (BadScript place)) = made ≡ Err (BadScript place)
-IsTextOr made (Err (BadSchema device text)) = made ≡ Err (BadSchema device text)
-IsTextOr made (Err (BadOrder index)) = made ≡ Err (BadOrder index)
-IsTextOr made (Err status) = ⊥
+IsTextOr made result = Comes (λ text. text) made result
+
+-- the status of a pattern that is refused, unless memory ran out
+abbrev pub IsPatternFault : Status → Type 0
+IsPatternFault status = IsStatusOf {A = List ℕ} (Err (BadSchema 0 (codes "pattern"))) status
+
+-- the status of an opening tree with this fault, unless memory ran out
+abbrev pub IsOpeningFault : SchemaTable → Store → DataFault → Status → Type 0
+IsOpeningFault table s fault status = IsStatusOf (or_opening table s (Err fault)) status

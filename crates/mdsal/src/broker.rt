@@ -5,19 +5,19 @@ ghost use Rattle.sal_history.specs.History.{began_at, commits, history, newest_t
 ghost use Rattle.sal_history.specs.declared.call.Call.TheVariants.{Begin, Submit, Settle};
 ghost use Rattle.sal_history.specs.declared.reply.Reply.TheVariants.{Receipt};
 ghost use Rattle.sal_rows.specs.Commits.{tree_after};
-ghost use Rattle.sal_script.specs.Play.{plain_world};
-ghost use Rattle.mdsal.specs.Kept.{AreKept, begun_reply, empty_opening, ops_of};
+ghost use Rattle.mdsal.specs.Kept.{AreKept, begun_reply, opening_in, ops_of};
+ghost use Rattle.mdsal.specs.Known.{more};
 
 use crate::commit::Commit;
 use crate::decided::{Decided, Submission};
-use sal_history::{Call, Entry, Refusal, Reply};
+use sal_history::{Call, Entry, Reply};
 use sal_rows::{CallFault, Mode, Ops, Rows};
 use sal_types::{Duplicate, NoMemory};
 use std::alloc::Global;
 use std::marker::Model;
 
-/// The broker of one domain that opens empty: the log of its calls, and what it keeps of them. A contract sees the
-/// log alone.
+/// The broker of one domain: the log of its calls, and what it keeps of them. A contract sees the domain's opening trees and
+/// the log.
 #[derive(Debug, Drop)]
 pub struct Broker {
     log: Vec<Entry>,
@@ -26,15 +26,15 @@ pub struct Broker {
 }
 
 impl Model for Broker {
-    ghost use Rattle.std.specs.Prelude.{List};
-    ghost use Rattle.sal_history.specs.declared.call.Entry.{Entry};
     ghost use Rattle.mdsal.specs.Current.{IsCurrent};
+    ghost use Rattle.mdsal.specs.Kept.{world_of};
+    ghost use Rattle.mdsal.specs.Known.{Known};
 
-    ghost Value = { List Entry };
+    ghost Value = { Known };
 
-    ghost view = { λ b. b.log.items };
+    ghost view = { λ b. record { world = world_of b.decided.commits.items; log = b.log.items } };
 
-    ghost invariant = { λ b. IsCurrent b.log.items b.submissions.items b.decided.outcomes.items b.decided.commits.items };
+    ghost invariant = { λ b. IsCurrent (world_of b.decided.commits.items) b.log.items b.submissions.items b.decided.outcomes.items b.decided.commits.items };
 }
 
 // The answer to a begin of the domain, where there are so many commits.
@@ -48,9 +48,7 @@ fn begun(domain: u32, newest: u64) -> Reply
         }
     } else {
         Reply::Refused {
-            refusal: Refusal::Shared {
-                fault: CallFault::NoDomain { id: domain },
-            },
+            fault: CallFault::NoDomain { id: domain },
         }
     }
 }
@@ -58,18 +56,18 @@ fn begun(domain: u32, newest: u64) -> Reply
 // The last commit.
 fn last_commit(commits: &[Commit]) -> &Commit
     requires { AreKept commits.now }
-    ensures config { result.now.config ≡ tree_after Config (empty_opening Config) (ops_of commits.now) }
-    ensures oper { result.now.oper ≡ tree_after Oper (empty_opening Oper) (ops_of commits.now) }
+    ensures config { result.now.config ≡ tree_after Config (opening_in commits.now Config) (ops_of commits.now) }
+    ensures oper { result.now.oper ≡ tree_after Oper (opening_in commits.now Oper) (ops_of commits.now) }
 {
     &commits[commits.len() - 1]
 }
 
 impl Broker {
-    /// A broker without calls.
-    pub fn new(alloc: Global) -> Result<Self, NoMemory>
-        ensures { IfOk result (λ b. b ≡ []) }
+    /// A broker without calls, over these opening trees.
+    pub fn new(alloc: Global, config: Rows, oper: Rows) -> Result<Self, NoMemory>
+        ensures { IfOk result (λ b. b ≡ record { world = record { config = config; oper = oper } ∷ []; log = [] }) }
     {
-        let decided = Decided::new(alloc)?;
+        let decided = Decided::new(alloc, config, oper)?;
         Ok(Broker {
             log: Vec::new(alloc),
             submissions: Vec::new(alloc),
@@ -79,22 +77,22 @@ impl Broker {
 
     /// The log of the calls so far.
     pub fn log(&self) -> &[Entry]
-        ensures { result.now ≡ self.now }
+        ensures { result.now ≡ self.now.log }
     {
         &self.log
     }
 
     /// How many commits there are.
     pub fn newest(&self) -> u64
-        ensures { result ≡ length (commits (history plain_world self.now) 0) }
+        ensures { result ≡ length (commits (history self.now.world self.now.log) 0) }
     {
         self.decided.commits.len() as u64 - 1
     }
 
     /// The newest trees.
     pub fn trees(&self) -> (&Rows, &Rows)
-        ensures config { result.0.now ≡ newest_tree plain_world self.now 0 Config }
-        ensures oper { result.1.now ≡ newest_tree plain_world self.now 0 Oper }
+        ensures config { result.0.now ≡ newest_tree self.now.world self.now.log 0 Config }
+        ensures oper { result.1.now ≡ newest_tree self.now.world self.now.log 0 Oper }
     {
         let commit = last_commit(&self.decided.commits);
         (&commit.config, &commit.oper)
@@ -108,7 +106,7 @@ impl Broker {
         domain: u32,
         mode: Mode,
     ) -> Result<Reply, NoMemory>
-        ensures ok { IfOk result (λ r. (self.new ≡ self.old ++ record { client = client; number = number; call = Begin domain mode } ∷ []) × (r ≡ reply plain_world self.old (record { client = client; number = number; call = Begin domain mode }))) }
+        ensures ok { IfOk result (λ r. (self.new ≡ more self.old (record { client = client; number = number; call = Begin domain mode })) × (r ≡ reply self.old.world self.old.log (record { client = client; number = number; call = Begin domain mode }))) }
         ensures err { OnErr result (self.new ≡ self.old) }
     {
         let reply = begun(domain, self.decided.commits.len() as u64 - 1);
@@ -130,8 +128,8 @@ impl Broker {
         base: u64,
         ops: Ops,
     ) -> Result<u64, NoMemory>
-        requires { began_at (history plain_world self.old) place ≡ Some (record { domain = 0; commit = base }) }
-        ensures ok { IfOk result (λ n. (self.new ≡ self.old ++ record { client = client; number = number; call = Submit place ops } ∷ []) × (Receipt n ≡ reply plain_world self.old (record { client = client; number = number; call = Submit place ops }))) }
+        requires { began_at (history self.old.world self.old.log) place ≡ Some (record { domain = 0; commit = base }) }
+        ensures ok { IfOk result (λ n. (self.new ≡ more self.old (record { client = client; number = number; call = Submit place ops })) × (Receipt n ≡ reply self.old.world self.old.log (record { client = client; number = number; call = Submit place ops }))) }
         ensures err { OnErr result (self.new ≡ self.old) }
     {
         let kept = ops.copy()?;
@@ -158,8 +156,8 @@ impl Broker {
         receipt: u64,
     ) -> Result<Reply, NoMemory>
         requires some { 0 < receipt }
-        requires given { receipt ≤ length (sents (history plain_world self.old)) }
-        ensures ok { IfOk result (λ r. (self.new ≡ self.old ++ record { client = client; number = number; call = Settle receipt } ∷ []) × (r ≡ reply plain_world self.old (record { client = client; number = number; call = Settle receipt }))) }
+        requires given { receipt ≤ length (sents (history self.old.world self.old.log)) }
+        ensures ok { IfOk result (λ r. (self.new ≡ more self.old (record { client = client; number = number; call = Settle receipt })) × (r ≡ reply self.old.world self.old.log (record { client = client; number = number; call = Settle receipt }))) }
         ensures err { OnErr result (self.new ≡ self.old) }
     {
         self.log.reserve(1)?;

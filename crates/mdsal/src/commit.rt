@@ -18,16 +18,16 @@ pub struct Commit {
 impl Commit {
     ghost use Rattle.mdsal.specs.Kept.{tree_of};
 
-    /// An opening with empty trees.
-    pub fn opening(alloc: Global) -> Self
+    /// The opening with these trees.
+    pub fn opening(alloc: Global, config: Rows, oper: Rows) -> Self
         ensures ops { result.ops ≡ [] }
-        ensures config { result.config ≡ [] }
-        ensures oper { result.oper ≡ [] }
+        ensures config { result.config ≡ config }
+        ensures oper { result.oper ≡ oper }
     {
         Commit {
             ops: Ops::new(alloc),
-            config: Rows::new(alloc),
-            oper: Rows::new(alloc),
+            config,
+            oper,
         }
     }
 

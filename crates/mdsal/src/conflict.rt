@@ -3,7 +3,7 @@ ghost use Rattle.std.specs.Prelude.{◌≡◌, ◌+◌, ◌-◌, ◌≤◌, ◌<
 ghost use Rattle.sal_rows.specs.Clash.{clash, clash_at, clash_from, is_covered};
 ghost use Rattle.sal_rows.specs.Clash as spec;
 ghost use Rattle.sal_rows.specs.Commits as commits_spec;
-ghost use Rattle.mdsal.specs.Kept.{AreKept, empty_opening, ops_of, span_of};
+ghost use Rattle.mdsal.specs.Kept.{AreKept, opening_in, ops_of, span_of};
 ghost use Rattle.mdsal.specs.Found.{clash_of, clash_by};
 ghost use Rattle.mdsal.specs.Found as found;
 
@@ -31,7 +31,7 @@ pub struct Clash {
 pub fn conflict(commits: &[Commit], base: u64, ops: &[Op]) -> Option<Clash>
     requires { AreKept commits.now }
     ensures in_range { IfSome result (λ c. c.op < length ops.now) }
-    ensures clash { clash_of ops.now result ≡ clash empty_opening (ops_of commits.now) (span_of base commits.now ∷ []) ops.now }
+    ensures clash { clash_of ops.now result ≡ clash (opening_in commits.now) (ops_of commits.now) (span_of base commits.now ∷ []) ops.now }
 {
     let newest = commits.len() - 1;
     if base >= newest as u64 {
@@ -45,7 +45,7 @@ fn first_clash(commits: &[Commit], base: usize, ops: &[Op]) -> Option<Clash>
     requires kept { AreKept commits.now }
     requires later { base + 1 < length commits.now }
     ensures in_range { IfSome result (λ c. c.op < length ops.now) }
-    ensures clash { clash_of ops.now result ≡ clash empty_opening (ops_of commits.now) (span_of base commits.now ∷ []) ops.now }
+    ensures clash { clash_of ops.now result ≡ clash (opening_in commits.now) (ops_of commits.now) (span_of base commits.now ∷ []) ops.now }
 {
     for i in 0..ops.len() {
         if let Some(found) = op_clash(commits, base, &ops[..i], &ops[i]) {
@@ -63,7 +63,7 @@ fn first_clash(commits: &[Commit], base: usize, ops: &[Op]) -> Option<Clash>
 fn op_clash(commits: &[Commit], base: usize, earlier: &[Op], op: &Op) -> Option<Difference>
     requires kept { AreKept commits.now }
     requires later { base + 1 < length commits.now }
-    ensures { clash_by op.now.store op.now.path result ≡ spec.op_clash empty_opening (ops_of commits.now) (span_of base commits.now ∷ []) earlier.now op.now }
+    ensures { clash_by op.now.store op.now.path result ≡ spec.op_clash (opening_in commits.now) (ops_of commits.now) (span_of base commits.now ∷ []) earlier.now op.now }
 {
     if op.act.checks_path() && !is_covered(earlier, op.store, &op.path) {
         path_clash(commits, base, op.store, &op.path)
@@ -85,7 +85,7 @@ fn is_covered(earlier: &[Op], store: Store, path: &Path) -> bool
 fn path_clash(commits: &[Commit], base: usize, store: Store, path: &Path) -> Option<Difference>
     requires kept { AreKept commits.now }
     requires later { base + 1 < length commits.now }
-    ensures { clash_by store path.now result ≡ clash_at empty_opening (ops_of commits.now) store (span_of base commits.now ∷ []) path.now }
+    ensures { clash_by store path.now result ≡ clash_at (opening_in commits.now) (ops_of commits.now) store (span_of base commits.now ∷ []) path.now }
 {
     let newest = commits.len() - 1;
     let was = commits[base].tree(store).has(path);
@@ -128,7 +128,7 @@ fn changed(touch: Option<u64>) -> Option<Difference>
 fn last_touch(commits: &[Commit], base: usize, store: Store, path: &Path) -> Option<u64>
     requires kept { AreKept commits.now }
     requires later { base + 1 < length commits.now }
-    ensures { result ≡ commits_spec.last_touch empty_opening (ops_of commits.now) store path.now (span_of base commits.now) }
+    ensures { result ≡ commits_spec.last_touch (opening_in commits.now) (ops_of commits.now) store path.now (span_of base commits.now) }
 {
     let newest = commits.len() - 1;
     for back in 0..newest - base {

@@ -1,12 +1,11 @@
 //! Outcomes of submissions, with the commits.
 ghost use Rattle.std.specs.Prelude.{◌≡◌, ◌+◌, ◌-◌, ◌≤◌, ◌<◌, [], ◌∷◌, ◌++◌, IfOk, OnOk, OnErr, Some, length, map, take, slice_get};
 ghost use Rattle.sal_history.specs.History.{decide_next, outcome};
-ghost use Rattle.sal_script.specs.Play.{plain_world};
-ghost use Rattle.mdsal.specs.Kept.{AreKept, is_done, ops_of, sent_of};
+ghost use Rattle.mdsal.specs.Kept.{AreKept, is_done, ops_of, sent_of, world_of};
 
 use crate::commit::Commit;
 use crate::conflict::conflict;
-use sal_rows::{Ops, Outcome};
+use sal_rows::{Ops, Outcome, Rows};
 use sal_types::{Duplicate, NoMemory};
 use std::alloc::Global;
 
@@ -27,7 +26,7 @@ pub struct Decided {
 /// The outcome of a submission over these commits.
 pub fn outcome_of(commits: &[Commit], submission: &Submission) -> Result<Outcome, NoMemory>
     requires { AreKept commits.now }
-    ensures { IfOk result (λ o. o ≡ outcome plain_world (ops_of commits.now) (sent_of submission.now)) }
+    ensures { IfOk result (λ o. o ≡ outcome (world_of commits.now) (ops_of commits.now) (sent_of submission.now)) }
 {
     let ops = submission.ops.items();
     match conflict(commits, submission.base, ops) {
@@ -52,6 +51,7 @@ fn next_commit(alloc: Global, commits: &[Commit], ops: &Ops) -> Result<Commit, N
     requires { AreKept commits.now }
     ensures ops { IfOk result (λ next. next.ops ≡ ops.now) }
     ensures kept { IfOk result (λ next. AreKept (commits.now ++ next ∷ [])) }
+    ensures world { IfOk result (λ next. world_of (commits.now ++ next ∷ []) ≡ world_of commits.now) }
 {
     let next = commits[commits.len() - 1].next(alloc, ops)?;
     Ok(next)
@@ -78,14 +78,15 @@ fn outcome_at(outcomes: &[Outcome], index: usize) -> Result<Outcome, NoMemory>
 impl Decided {
     ghost use Rattle.mdsal.specs.Deciding.{IsDecided, Decides, Grows};
 
-    /// Nothing decided, over empty trees.
-    pub fn new(alloc: Global) -> Result<Self, NoMemory>
+    /// Nothing decided, over these opening trees.
+    pub fn new(alloc: Global, config: Rows, oper: Rows) -> Result<Self, NoMemory>
         ensures outcomes { IfOk result (λ d. d.outcomes.items ≡ []) }
         ensures commits { IfOk result (λ d. ops_of d.commits.items ≡ []) }
+        ensures world { IfOk result (λ d. world_of d.commits.items ≡ record { config = config; oper = oper } ∷ []) }
         ensures kept { IfOk result (λ d. AreKept d.commits.items) }
     {
         let mut commits = Vec::new(alloc);
-        commits.push(Commit::opening(alloc))?;
+        commits.push(Commit::opening(alloc, config, oper))?;
         Ok(Decided {
             outcomes: Vec::new(alloc),
             commits,
@@ -118,10 +119,10 @@ impl Decided {
         submissions: &[Submission],
         upto: usize,
     ) -> Result<(), NoMemory>
-        requires decided { IsDecided submissions.now self.old.outcomes.items self.old.commits.items }
+        requires decided { IsDecided (world_of self.old.commits.items) submissions.now self.old.outcomes.items self.old.commits.items }
         requires given { upto ≤ length submissions.now }
-        ensures decided { OnOk result (IsDecided submissions.now self.new.outcomes.items self.new.commits.items) }
-        ensures next { OnOk result (self.new.outcomes.items ≡ self.old.outcomes.items ++ decide_next plain_world (map sent_of submissions.now) self.old.outcomes.items (upto - length self.old.outcomes.items)) }
+        ensures decided { OnOk result (IsDecided (world_of self.old.commits.items) submissions.now self.new.outcomes.items self.new.commits.items) }
+        ensures next { OnOk result (self.new.outcomes.items ≡ self.old.outcomes.items ++ decide_next (world_of self.old.commits.items) (map sent_of submissions.now) self.old.outcomes.items (upto - length self.old.outcomes.items)) }
         ensures reached { OnOk result (upto ≤ length self.new.outcomes.items) }
         ensures outcomes { Grows self.old.outcomes.items self.new.outcomes.items }
         ensures commits { Grows self.old.commits.items self.new.commits.items }
@@ -140,11 +141,11 @@ impl Decided {
         receipt: usize,
     ) -> Result<Outcome, NoMemory>
         requires some { 0 < receipt }
-        requires decided { IsDecided submissions.now self.old.outcomes.items self.old.commits.items }
+        requires decided { IsDecided (world_of self.old.commits.items) submissions.now self.old.outcomes.items self.old.commits.items }
         requires given { receipt ≤ length submissions.now }
         ensures outcome { IfOk result (λ o. slice_get self.new.outcomes.items (receipt - 1) ≡ Some o) }
-        ensures decided { OnOk result (IsDecided submissions.now self.new.outcomes.items self.new.commits.items) }
-        ensures next { OnOk result (self.new.outcomes.items ≡ self.old.outcomes.items ++ decide_next plain_world (map sent_of submissions.now) self.old.outcomes.items (receipt - length self.old.outcomes.items)) }
+        ensures decided { OnOk result (IsDecided (world_of self.old.commits.items) submissions.now self.new.outcomes.items self.new.commits.items) }
+        ensures next { OnOk result (self.new.outcomes.items ≡ self.old.outcomes.items ++ decide_next (world_of self.old.commits.items) (map sent_of submissions.now) self.old.outcomes.items (receipt - length self.old.outcomes.items)) }
         ensures outcomes { Grows self.old.outcomes.items self.new.outcomes.items }
         ensures commits { Grows self.old.commits.items self.new.commits.items }
     {
@@ -161,11 +162,11 @@ impl Decided {
         receipt: usize,
     ) -> Result<Outcome, NoMemory>
         requires some { 0 < receipt }
-        requires decided { IsDecided submissions.now self.old.outcomes.items self.old.commits.items }
+        requires decided { IsDecided (world_of self.old.commits.items) submissions.now self.old.outcomes.items self.old.commits.items }
         requires given { receipt ≤ length submissions.now }
         ensures outcome { IfOk result (λ o. slice_get self.new.outcomes.items (receipt - 1) ≡ Some o) }
-        ensures decided { OnOk result (IsDecided submissions.now self.new.outcomes.items self.new.commits.items) }
-        ensures next { OnOk result (self.new.outcomes.items ≡ self.old.outcomes.items ++ decide_next plain_world (map sent_of submissions.now) self.old.outcomes.items (receipt - length self.old.outcomes.items)) }
+        ensures decided { OnOk result (IsDecided (world_of self.old.commits.items) submissions.now self.new.outcomes.items self.new.commits.items) }
+        ensures next { OnOk result (self.new.outcomes.items ≡ self.old.outcomes.items ++ decide_next (world_of self.old.commits.items) (map sent_of submissions.now) self.old.outcomes.items (receipt - length self.old.outcomes.items)) }
         ensures outcomes { OnErr result (self.new.outcomes.items ≡ self.old.outcomes.items) }
         ensures commits { OnErr result (self.new.commits.items ≡ self.old.commits.items) }
     {

@@ -6,6 +6,7 @@
 //! | `top` | the top call `mdsal`, which does all that the program does |
 //! | `words`, `status` | the forms of the command line; how the command ends |
 //! | `simulation`, `run`, `client` | a script in its order; a client's way to its next shared call; its slots and steps |
+//! | `scripted`, `reader` | a script's parts with the status of what is wrong; what reads paths and data by a schema |
 //! | `schema`, `schema_fault` | the modules of a device; the texts of their faults |
 //! | `transaction`, `slots` | an open transaction with its view; what slots hold |
 //! | `broker`, `decided`, `commit`, `conflict` | the log's replies; decisions; commits with their trees; conflicts |
@@ -16,11 +17,13 @@ pub mod client;
 pub mod commit;
 pub mod conflict;
 pub mod decided;
+pub mod reader;
 pub mod run;
 pub mod schema;
 pub mod schema_fault;
 #[cfg(test)]
 mod schema_tests;
+pub mod scripted;
 pub mod simulation;
 pub mod slots;
 pub mod status;

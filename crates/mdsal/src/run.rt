@@ -1,9 +1,11 @@
 //! A client's run through its program, from one shared call to the next.
-ghost use Rattle.std.specs.Prelude.{◌≡◌, [], IfOk, OnOk};
+ghost use Rattle.std.specs.Prelude.{◌≡◌, List, [], IfOk, OnOk};
+ghost use Rattle.sal_history.specs.declared.opening.Opening.{Opening};
 ghost use Rattle.sal_script.specs.Play.{new_client};
 
 use crate::broker::Broker;
 use crate::client::{ClientState, Went};
+use crate::reader::Reader;
 use sal_io::Gate;
 use sal_script::ScriptStep;
 use sal_types::NoMemory;
@@ -26,7 +28,7 @@ impl Run {
         ensures made { result.client.made ≡ 0 }
         ensures at { result.at ≡ 0 }
         ensures client { client_of result.client ≡ new_client }
-        ensures sound { IsSound [] result.client }
+        ensures sound { (world : List Opening) → IsSound world [] result.client }
     {
         Run {
             client: ClientState::new(alloc, number),
@@ -39,18 +41,19 @@ impl Run {
     pub fn go<G: Gate>(
         &mut self,
         alloc: Global,
+        reader: &Reader,
         broker: &mut Broker,
         steps: &[ScriptStep],
         gate: &G,
     ) -> Result<bool, NoMemory>
-        requires { IsRun broker.old steps.now self.old }
-        ensures goes { IfOk result (λ made. Goes made self.old.client.number broker.old steps.now self.old broker.new self.new) }
-        ensures run { OnOk result (IsRun broker.new steps.now self.new) }
+        requires { IsRun broker.old.world broker.old.log steps.now self.old }
+        ensures goes { IfOk result (λ made. Goes reader.now made self.old.client.number broker.old steps.now self.old broker.new self.new) }
+        ensures run { OnOk result (IsRun broker.new.world broker.new.log steps.now self.new) }
         ensures number { OnOk result (self.new.client.number ≡ self.old.client.number) }
     {
         for i in self.at..steps.len() {
             gate.pass(self.client.number, i as u32);
-            let went = self.client.step(alloc, broker, &steps[i])?;
+            let went = self.client.step(alloc, reader, broker, &steps[i])?;
             self.at = i + 1;
             match went {
                 Went::Shared => return Ok(true),

@@ -1,4 +1,4 @@
-//! From the texts of a device's modules to the text of their schema.
+//! From the texts of a device's modules to their schema.
 ghost use Rattle.std.specs.Prelude.{◌≡◌, IsTrue};
 ghost use Rattle.sal_script.specs.Limits.{are_short, is_short};
 ghost use Rattle.sal_stmt.specs.Text.{Gives, read};
@@ -6,18 +6,19 @@ ghost use Rattle.mdsal.specs.Schemas as spec;
 
 use crate::schema_fault::{SchemaFault, of_modules, of_text};
 use sal_build::build;
+use sal_schema::Schema;
 use sal_stmt::{Stmt, StmtFault, read_module};
 use sal_types::Str;
 use std::alloc::Global;
 
-/// The text of the schema that modules build, or the text of their first fault. The texts are read first, in their order.
-pub fn schema_of(alloc: Global, texts: &[Str]) -> Result<Str, SchemaFault>
+/// The schema that modules build, or the text of their first fault. The texts are read first, in their order.
+pub fn schema_of(alloc: Global, texts: &[Str]) -> Result<Schema, SchemaFault>
     requires { IsTrue (are_short texts.now) }
-    ensures { spec.Makes (λ text. text) result (spec.schema_of texts.now) }
+    ensures { spec.Makes (λ schema. schema) result (spec.table_of texts.now) }
 {
     let stmts = statements_of(alloc, texts)?;
     match build(alloc, &stmts) {
-        Ok(schema) => Ok(schema.text(alloc)?),
+        Ok(schema) => Ok(schema),
         Err(fault) => Err(of_modules(alloc, &fault)),
     }
 }

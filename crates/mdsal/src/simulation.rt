@@ -1,15 +1,16 @@
 //! A script played in an order, on one thread.
-ghost use Rattle.std.specs.Prelude.{◌≡◌, ◌+◌, ◌<◌, [], ◌∷◌, ◌++◌, IfOk, OnOk, IsTrue, length, map};
+ghost use Rattle.std.specs.Prelude.{◌≡◌, ◌+◌, ◌<◌, List, [], ◌∷◌, ◌++◌, IfOk, OnOk, IsTrue, length, map};
 ghost use Rattle.sal_script.specs.Limits.{within_limits};
-ghost use Rattle.sal_script.specs.Play.{plain_world};
+ghost use Rattle.sal_history.specs.declared.opening.Opening.{Opening};
 ghost use Rattle.sal_script.specs.Play as play_spec;
 ghost use Rattle.mdsal.specs.Runs.{replies_in, runs_of, stand_of, AreRuns, Ends, PlaysAs, Turns};
 
 use crate::broker::Broker;
+use crate::reader::Reader;
 use crate::run::Run;
-use sal_history::Reply;
 use sal_io::Gate;
-use sal_script::{Program, Script};
+use sal_rows::Rows;
+use sal_script::{Program, Script, StepReply};
 use sal_types::{NoMemory, Seq};
 use std::alloc::Global;
 
@@ -25,7 +26,7 @@ pub enum PlayFault {
 #[derive(Debug, Drop)]
 pub struct Played {
     pub broker: Broker,
-    pub replies: Seq<Seq<Reply>>,
+    pub replies: Seq<Seq<StepReply>>,
 }
 
 // The broker and the clients.
@@ -39,7 +40,7 @@ pub(crate) struct Simulation {
 fn new_runs(alloc: Global, programs: &[Program]) -> Result<Vec<Run>, NoMemory>
     requires { IsTrue (within_limits programs.now) }
     ensures stand { IfOk result (λ runs. stand_of programs.now [] runs.items ≡ play_spec.start programs.now) }
-    ensures runs { IfOk result (λ runs. AreRuns [] programs.now runs.items) }
+    ensures runs { IfOk result (λ runs. (world : List Opening) → AreRuns world [] programs.now runs.items) }
 {
     let mut runs = Vec::new(alloc);
     for i in 0..programs.len() {
@@ -49,7 +50,7 @@ fn new_runs(alloc: Global, programs: &[Program]) -> Result<Vec<Run>, NoMemory>
 }
 
 // The replies of each client.
-fn into_replies(alloc: Global, runs: Vec<Run>) -> Result<Seq<Seq<Reply>>, NoMemory>
+fn into_replies(alloc: Global, runs: Vec<Run>) -> Result<Seq<Seq<StepReply>>, NoMemory>
     ensures { IfOk result (λ replies. replies ≡ map replies_in runs.items) }
 {
     let mut replies = Vec::new(alloc);
@@ -61,13 +62,19 @@ fn into_replies(alloc: Global, runs: Vec<Run>) -> Result<Seq<Seq<Reply>>, NoMemo
 }
 
 impl Simulation {
-    // The clients at their beginning, and no calls.
-    fn new(alloc: Global, programs: &[Program]) -> Result<Self, NoMemory>
+    // The clients at their beginning, and no calls, over these opening trees.
+    fn new(
+        alloc: Global,
+        programs: &[Program],
+        config: Rows,
+        oper: Rows,
+    ) -> Result<Self, NoMemory>
         requires { IsTrue (within_limits programs.now) }
-        ensures stand { IfOk result (λ s. stand_of programs.now s.broker s.runs.items ≡ play_spec.start programs.now) }
-        ensures runs { IfOk result (λ s. AreRuns s.broker programs.now s.runs.items) }
+        ensures world { IfOk result (λ s. s.broker.world ≡ record { config = config; oper = oper } ∷ []) }
+        ensures stand { IfOk result (λ s. stand_of programs.now s.broker.log s.runs.items ≡ play_spec.start programs.now) }
+        ensures runs { IfOk result (λ s. AreRuns s.broker.world s.broker.log programs.now s.runs.items) }
     {
-        let broker = Broker::new(alloc)?;
+        let broker = Broker::new(alloc, config, oper)?;
         let runs = new_runs(alloc, programs)?;
         Ok(Simulation { broker, runs })
     }
@@ -76,19 +83,20 @@ impl Simulation {
     fn turn<G: Gate>(
         &mut self,
         alloc: Global,
+        reader: &Reader,
         programs: &[Program],
         client: u32,
         gate: &G,
     ) -> Result<bool, NoMemory>
-        requires { AreRuns self.old.broker programs.now self.old.runs.items }
-        ensures { IfOk result (λ made. Turns made programs.now client self.old.broker self.old.runs.items self.new.broker self.new.runs.items) }
+        requires { AreRuns self.old.broker.world self.old.broker.log programs.now self.old.runs.items }
+        ensures { IfOk result (λ made. Turns reader.now made programs.now client self.old.broker self.old.runs.items self.new.broker self.new.runs.items) }
     {
         let index = client as usize;
         if index >= self.runs.len() {
             return Ok(false);
         }
         let run = &mut self.runs[index];
-        let made = run.go(alloc, &mut self.broker, programs[index].items(), gate)?;
+        let made = run.go(alloc, reader, &mut self.broker, programs[index].items(), gate)?;
         Ok(made)
     }
 
@@ -96,15 +104,16 @@ impl Simulation {
     fn finish<G: Gate>(
         &mut self,
         alloc: Global,
+        reader: &Reader,
         programs: &[Program],
         gate: &G,
     ) -> Result<bool, NoMemory>
-        requires { AreRuns self.old.broker programs.now self.old.runs.items }
-        ensures { IfOk result (λ ended. Ends ended programs.now self.old.broker self.old.runs.items self.new.broker self.new.runs.items) }
+        requires { AreRuns self.old.broker.world self.old.broker.log programs.now self.old.runs.items }
+        ensures { IfOk result (λ ended. Ends reader.now ended programs.now self.old.broker self.old.runs.items self.new.broker self.new.runs.items) }
     {
         for i in 0..self.runs.len() {
             let run = &mut self.runs[i];
-            if run.go(alloc, &mut self.broker, programs[i].items(), gate)? {
+            if run.go(alloc, reader, &mut self.broker, programs[i].items(), gate)? {
                 return Ok(false);
             }
         }
@@ -112,38 +121,46 @@ impl Simulation {
     }
 }
 
-/// Plays the script in its order. The gate is passed before each step.
-pub fn play<G: Gate>(alloc: Global, script: &Script, gate: &G) -> Result<Played, PlayFault>
-    ensures { PlaysAs result (play_spec.play script.now.clients script.now.order) }
+/// Plays the script in its order, over these opening trees. The gate is passed before each step.
+pub fn play<G: Gate>(
+    alloc: Global,
+    reader: &Reader,
+    script: &Script,
+    config: Rows,
+    oper: Rows,
+    gate: &G,
+) -> Result<Played, PlayFault>
+    ensures { PlaysAs (record { config = config; oper = oper } ∷ []) result (play_spec.play reader.now (record { config = config; oper = oper } ∷ []) script.now.clients script.now.order) }
 {
     let programs = script.clients.items();
     let order = script.order.items();
-    let mut simulation = match Simulation::new(alloc, programs) {
+    let mut simulation = match Simulation::new(alloc, programs, config, oper) {
         Ok(simulation) => simulation,
         Err(NoMemory) => return Err(PlayFault::NoMemory),
     };
     for i in 0..order.len() {
-        match simulation.turn(alloc, programs, order[i], gate) {
+        match simulation.turn(alloc, reader, programs, order[i], gate) {
             Ok(true) => {}
             Ok(false) => return Err(PlayFault::BadOrder { index: i as u64 }),
             Err(NoMemory) => return Err(PlayFault::NoMemory),
         }
     }
-    end(alloc, simulation, programs, order.len() as u64, gate)
+    end(alloc, reader, simulation, programs, order.len() as u64, gate)
 }
 
 // The replies after the order, or its failure at its end.
 fn end<G: Gate>(
     alloc: Global,
+    reader: &Reader,
     mut simulation: Simulation,
     programs: &[Program],
     index: u64,
     gate: &G,
 ) -> Result<Played, PlayFault>
-    requires { AreRuns simulation.broker programs.now simulation.runs.items }
-    ensures { PlaysAs result (play_spec.play_from plain_world index (stand_of programs.now simulation.broker simulation.runs.items) []) }
+    requires { AreRuns simulation.broker.world simulation.broker.log programs.now simulation.runs.items }
+    ensures { PlaysAs simulation.broker.world result (play_spec.play_from reader.now simulation.broker.world index (stand_of programs.now simulation.broker.log simulation.runs.items) []) }
 {
-    match simulation.finish(alloc, programs, gate) {
+    match simulation.finish(alloc, reader, programs, gate) {
         Ok(true) => {}
         Ok(false) => return Err(PlayFault::BadOrder { index }),
         Err(NoMemory) => return Err(PlayFault::NoMemory),

@@ -22,6 +22,8 @@ pub enum Status {
     BadScript { place: Str },
     /// The modules of this device build no schema; the text of their first fault.
     BadSchema { device: u32, text: Str },
+    /// An opening tree is no data of the schema; the device, the store and the first fault.
+    BadOpening { text: Str },
     /// The order fails at this index.
     BadOrder { index: u64 },
     /// Memory ran out.
@@ -41,6 +43,7 @@ impl Status {
             Status::TooLong => 5,
             Status::BadScript { .. } => 6,
             Status::BadSchema { .. } => 7,
+            Status::BadOpening { .. } => 8,
             Status::BadOrder { .. } => 9,
             Status::NoMemory => 10,
         }
@@ -58,6 +61,7 @@ impl Status {
             Status::TooLong => Str::new(alloc, "too long\n"),
             Status::BadScript { place } => bad_script(alloc, place),
             Status::BadSchema { device, text } => bad_schema(alloc, *device, text),
+            Status::BadOpening { text } => bad_opening(alloc, text),
             Status::BadOrder { index } => bad_order(alloc, *index),
             Status::NoMemory => Str::new(alloc, "no memory\n"),
         }
@@ -79,6 +83,16 @@ fn bad_schema(alloc: Global, device: u32, text: &Str) -> Result<Str, NoMemory>
 {
     let mut line = String::new(alloc);
     write!(line, "bad schema {device} ")?;
+    line.push_str(text.as_str())?;
+    line.push('\n')?;
+    Ok(Str::from_string(line))
+}
+
+fn bad_opening(alloc: Global, text: &Str) -> Result<Str, NoMemory>
+    ensures { IfOk result (λ line. line ≡ line_of (Status.BadOpening text.now)) }
+{
+    let mut line = String::new(alloc);
+    line.push_str("bad opening ")?;
     line.push_str(text.as_str())?;
     line.push('\n')?;
     Ok(Str::from_string(line))

@@ -1,21 +1,21 @@
 //! The top call: all that the command does.
-ghost use Rattle.std.specs.Prelude.{◌≡◌, ◌↔◌, None, IfOk};
+ghost use Rattle.std.specs.Prelude.{◌≡◌, ◌↔◌, [], ◌∷◌, None, IfOk};
 ghost use Rattle.sal_io.specs.Causes.{Rose};
 ghost use Rattle.mdsal.specs.Words.{form_of};
-ghost use Rattle.sal_script.specs.Play as play_spec;
+ghost use Rattle.sal_script.specs.Reading.{parts};
 ghost use Rattle.sal_script.specs.Report as report_spec;
-ghost use Rattle.mdsal.specs.Schemas as schemas;
 ghost use Rattle.mdsal.specs.Top as spec;
 
-use crate::schema::schema_of;
-use crate::schema_fault::SchemaFault;
+use crate::reader::Reader;
+use crate::scripted;
 use crate::simulation::{PlayFault, Played, play};
 use crate::status::Status;
 use crate::words::{Form, form_of};
 use sal_io::{Gate, ReadFail, Sink, Source, read_all, write_all};
 use sal_report::report;
-use sal_script::{Script, ScriptFault, read_script};
-use sal_types::{NoMemory, Str};
+use sal_rows::Rows;
+use sal_script::Script;
+use sal_types::{NoMemory, Store, Str};
 use std::alloc::Global;
 
 /// How many bytes a script has at most.
@@ -32,8 +32,7 @@ sim reads a JSON script from standard input, plays its clients' steps in the scr
 writes the report to standard output: the order, a line for each step, and the trees at the end. The script's\n\
 format is written in docs/DEFINITIONS.md, and examples/ has scripts with their reports.\n\
 \n\
-schema reads a script too, and judges the modules that it names: their statements, names and imports. For good\n\
-modules it writes nothing yet.\n\
+schema reads a script too, and writes the table of the schema that its modules build.\n\
 \n\
 exit status, each but 0 with its line on standard error:\n\
   0  done: the whole text was written\n\
@@ -43,6 +42,7 @@ exit status, each but 0 with its line on standard error:\n\
   5  too long: the input has more than 16777216 bytes\n\
   6  bad script at PLACE: the first bad place, as clients/0/2\n\
   7  bad schema DEVICE FAULT: the modules build no schema, as bad schema 0 module 0 unclosed 9\n\
+  8  bad opening DEVICE STORE FAULT: an opening tree is no data of the schema\n\
   9  bad order at INDEX: the order names a client without a shared call left, or ends too early\n\
  10  no memory\n";
 
@@ -116,21 +116,11 @@ fn describe<S: Source, K: Sink>(alloc: Global, source: &mut S, sink: &mut K) -> 
 fn schema_text(alloc: Global, bytes: &[u8]) -> Result<Str, Status>
     ensures { spec.IsTextOr (spec.schema_text bytes.now) result }
 {
-    match read_script(alloc, bytes, true) {
-        Ok(script) => modules_text(alloc, &script),
-        Err(ScriptFault::BadScript { place }) => Err(Status::BadScript { place }),
-        Err(ScriptFault::NoMemory) => Err(Status::NoMemory),
-    }
-}
-
-// The text of the schema of domain 0.
-fn modules_text(alloc: Global, script: &Script) -> Result<Str, Status>
-    ensures { spec.IsTextOr (spec.text_of_modules (schemas.schema_of script.now.modules)) result }
-{
-    match schema_of(alloc, script.modules.items()) {
+    let script = scripted::script_of(alloc, bytes)?;
+    let schema = scripted::modules_schema(alloc, &script)?;
+    match schema.text(alloc) {
         Ok(text) => Ok(text),
-        Err(SchemaFault::Bad { text }) => Err(Status::BadSchema { device: 0, text }),
-        Err(SchemaFault::NoMemory) => Err(Status::NoMemory),
+        Err(NoMemory) => Err(Status::NoMemory),
     }
 }
 
@@ -138,19 +128,38 @@ fn modules_text(alloc: Global, script: &Script) -> Result<Str, Status>
 fn sim_text<G: Gate>(alloc: Global, bytes: &[u8], gate: &G) -> Result<Str, Status>
     ensures { spec.IsTextOr (spec.sim_text bytes.now) result }
 {
-    match read_script(alloc, bytes, false) {
-        Ok(script) => play_text(alloc, &script, gate),
-        Err(ScriptFault::BadScript { place }) => Err(Status::BadScript { place }),
-        Err(ScriptFault::NoMemory) => Err(Status::NoMemory),
-    }
+    let script = scripted::script_of(alloc, bytes)?;
+    let reader = scripted::reader_of(alloc, &script)?;
+    play_text(alloc, &script, &reader, gate)
 }
 
-// The report of the script.
-fn play_text<G: Gate>(alloc: Global, script: &Script, gate: &G) -> Result<Str, Status>
-    ensures { spec.IsTextOr (spec.text_of_play (play_spec.play script.now.clients script.now.order)) result }
+// The report of the script over its domain.
+fn play_text<G: Gate>(
+    alloc: Global,
+    script: &Script,
+    reader: &Reader,
+    gate: &G,
+) -> Result<Str, Status>
+    ensures { spec.IsTextOr (spec.play_text (parts script.now) reader.now) result }
 {
-    match play(alloc, script, gate) {
-        Ok(played) => match report_of(alloc, &played) {
+    let config = scripted::opening_of(alloc, reader, Store::Config, &script.config)?;
+    let oper = scripted::opening_of(alloc, reader, Store::Oper, &script.operational)?;
+    play_over(alloc, script, reader, config, oper, gate)
+}
+
+// The report of the script over these opening trees.
+fn play_over<G: Gate>(
+    alloc: Global,
+    script: &Script,
+    reader: &Reader,
+    config: Rows,
+    oper: Rows,
+    gate: &G,
+) -> Result<Str, Status>
+    ensures { spec.IsTextOr (spec.play_over reader.now (parts script.now) (record { config = config; oper = oper } ∷ [])) result }
+{
+    match play(alloc, reader, script, config, oper, gate) {
+        Ok(played) => match report_of(alloc, reader, &played) {
             Ok(text) => Ok(text),
             Err(NoMemory) => Err(Status::NoMemory),
         },
@@ -159,12 +168,13 @@ fn play_text<G: Gate>(alloc: Global, script: &Script, gate: &G) -> Result<Str, S
     }
 }
 
-fn report_of(alloc: Global, played: &Played) -> Result<Str, NoMemory>
-    ensures { IfOk result (λ text. text ≡ report_spec.report (record { log = played.now.broker; replies = played.now.replies })) }
+fn report_of(alloc: Global, reader: &Reader, played: &Played) -> Result<Str, NoMemory>
+    ensures { IfOk result (λ text. text ≡ report_spec.report reader.now played.now.broker.world (record { log = played.now.broker.log; replies = played.now.replies })) }
 {
     let (config, oper) = played.broker.trees();
     report(
         alloc,
+        reader.schema(),
         played.broker.log(),
         played.replies.items(),
         played.broker.newest(),

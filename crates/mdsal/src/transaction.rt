@@ -3,7 +3,6 @@ ghost use Rattle.std.specs.Prelude.{◌≡◌, [], ◌∷◌, ◌++◌, IfOk, On
 ghost use Rattle.sal_types.specs.declared.value.Store.TheVariants.{Config, Oper};
 ghost use Rattle.sal_rows.specs.Apply.{apply_ops};
 ghost use Rattle.sal_history.specs.History.{newest_tree};
-ghost use Rattle.sal_script.specs.Play.{plain_world};
 
 use crate::broker::Broker;
 use sal_rows::{Mode, Op, Rows, apply};
@@ -27,7 +26,7 @@ impl Transaction {
 
     /// A transaction that begins now, before its entry is in the log.
     pub fn begin(alloc: Global, broker: &Broker, mode: Mode) -> Result<Self, NoMemory>
-        ensures { IfOk result (λ tx. Begins broker.now mode tx) }
+        ensures { IfOk result (λ tx. Begins broker.now.world broker.now.log mode tx) }
     {
         let (config, oper) = broker.trees();
         let config = config.copy()?;

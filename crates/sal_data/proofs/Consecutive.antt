@@ -1,7 +1,7 @@
 -- In the order of paths, the rows at a path and below it stand together.
-use Rattle.std.proofs.Common.{◌≡◌, ℕ, suc, ◌+◌, ◌<◌, ◌≤◌, Bool, true, false, List, [], ◌∷◌, length, take, drop, cond, refl, ap, sym, ◌∙◌, arith}
+use Rattle.std.proofs.Common.{◌≡◌, suc, ◌+◌, Bool, true, false, List, [], ◌∷◌, take, drop, cond, refl, ap, sym, ◌∙◌, arith}
 use Rattle.std.specs.Prelude.{not, ◌&&◌}
-use Rattle.std.specs.List.{filter, prefix_len, position_or_len}
+use Rattle.std.specs.List.{prefix_len, position_or_len}
 use Rattle.std.specs.Ordering.{is_lt, is_eq, ordering_then, ordering_reverse, eq_by_cmp}
 use Rattle.std.specs.declared.cmp.Ordering.{Ordering}
 use Rattle.std.specs.declared.cmp.Ordering.TheVariants.{Less, Equal, Greater}

@@ -1,5 +1,5 @@
 -- The value of a node by its kind, and the ends of runs.
-use Rattle.std.proofs.Common.{◌≡◌, ℕ, zero, suc, ◌+◌, ◌-◌, ◌<◌, Bool, true, false, List, [], ◌++◌, Some, refl, ap, ◌∙◌, arith, append-nil, map, sym}
+use Rattle.std.proofs.Common.{◌≡◌, ℕ, zero, suc, ◌-◌, ◌<◌, Bool, true, false, List, [], ◌++◌, Some, refl, ap, ◌∙◌, arith, append-nil}
 use Rattle.std.specs.Prelude.{if◌then◌else◌, fold}
 use Rattle.serde_json.specs.Data.{Data, null, array, Members}
 use Rattle.serde_json.specs.View.{items_of}
@@ -7,7 +7,7 @@ use Rattle.sal_types.specs.declared.row.Row.{Row}
 use Rattle.sal_schema.specs.declared.table.SchemaTable.{SchemaTable}
 use Rattle.sal_schema.specs.Kinds.{is_leaf, is_leaf_list, is_list}
 use Rattle.sal_schema.specs.Table.{is_kind}
-use Rattle.sal_data.specs.Written.{Writer, node_json, leaf_json, items_json, entries_json, members_json, with_run, runs_of}
+use Rattle.sal_data.specs.Written.{Writer, node_json, leaf_json, items_json, entries_json, members_json, runs_of}
 
 -- the value of a node by three tests of its kind
 abbrev by_tests : Bool → Bool → Bool → ℕ → SchemaTable → Writer

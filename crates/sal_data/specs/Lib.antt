@@ -1,4 +1,5 @@
 pub mod Examples
 pub mod Members
 pub mod Read
+pub mod Walked
 pub mod Written

@@ -1,6 +1,9 @@
 //! Why a JSON value stands for no rows.
+ghost use Rattle.std.specs.Prelude.{◌≡◌};
+
 use sal_json::ScalarFault;
 use sal_types::{Path, Str};
+use std::alloc::{AllocError, AllocFailed};
 
 /// Why a JSON value stands for no rows of a schema.
 ///
@@ -26,4 +29,34 @@ pub enum DataFault {
     TooDeep { path: Path },
     /// Memory ran out.
     NoMemory,
+}
+
+impl From<AllocError> for DataFault {
+    ghost use Rattle.sal_data.specs.declared.fault.DataFault.TheVariants.{NoMemory};
+
+    ghost from_gives = { λ _ e. e ≡ NoMemory };
+
+    fn from(_refused: AllocError) -> DataFault {
+        DataFault::NoMemory
+    }
+}
+
+impl<T: Drop> From<AllocFailed<T>> for DataFault {
+    ghost use Rattle.sal_data.specs.declared.fault.DataFault.TheVariants.{NoMemory};
+
+    ghost from_gives = { λ _ e. e ≡ NoMemory };
+
+    fn from(_refused: AllocFailed<T>) -> DataFault {
+        DataFault::NoMemory
+    }
+}
+
+impl From<sal_types::NoMemory> for DataFault {
+    ghost use Rattle.sal_data.specs.declared.fault.DataFault.TheVariants.{NoMemory};
+
+    ghost from_gives = { λ _ e. e ≡ NoMemory };
+
+    fn from(_refused: sal_types::NoMemory) -> DataFault {
+        DataFault::NoMemory
+    }
 }

@@ -15,11 +15,24 @@
 //! Reading and writing have no code yet: the definitions are what it will be held to.
 #![tactic(auto)]
 
+mod cells;
+mod entries;
 mod examples;
 mod fault;
+mod fits;
+mod lookups;
+mod members;
+mod order;
+mod read;
+#[cfg(test)]
+mod read_tests;
+mod reader;
 mod runs;
+mod walk;
 mod write;
 mod written_names;
 
 pub use fault::DataFault;
+pub use fits::fits_rows;
+pub use read::read_data;
 pub use write::write_data;

@@ -3,11 +3,13 @@ ghost use Rattle.std.specs.Prelude.{◌≡◌, ◌+◌, ◌*◌, ◌≤◌, ◌+
 ghost use Rattle.serde_json.specs.Data.{array, object};
 ghost use Rattle.serde_json.specs.View.{view, members_view, items_of};
 ghost use Rattle.sal_types.specs.declared.value.Step.TheVariants.{Item};
-ghost use Rattle.sal_schema.specs.Paths.{last_step, node_of};
+ghost use Rattle.sal_schema.specs.Paths.{last_step};
 ghost use Rattle.sal_data.specs.Written as spec;
 
 use crate::runs::{first_run, step_of, under};
-use crate::written_names::{is_leaf, is_leaf_list, is_list, module_at, put_member, type_at};
+use crate::written_names::{
+    is_leaf, is_leaf_list, is_list, module_at, node_at_end, put_member, type_at,
+};
 use sal_json::write_scalar;
 use sal_rows::Rows;
 use sal_schema::Schema;
@@ -207,24 +209,11 @@ fn push_entry(
     }
 }
 
-/// The node that the path comes to: that of a list for each of its entries.
-fn node_at_end(path: &Path) -> Option<u32>
-    ensures { result ≡ node_of path.now }
-{
-    let mut here = None;
-    for step in path.steps() {
-        if let Step::Node(node) = step {
-            here = Some(*node);
-        }
-    }
-    here
-}
-
 /// The value of an entry of a leaf-list.
 fn item_at(alloc: Global, schema: &Schema, path: &Path, value: &Value) -> Result<Json, NoMemory>
     ensures { IfOk result (λ json. view json ≡ spec.json_at schema.now path.now (Some (Item value.now)) []) }
 {
-    match node_at_end(path) {
+    match node_at_end(path.steps()) {
         Some(node) => scalar_json(alloc, schema, node, value),
         None => Ok(Json::Null),
     }
@@ -238,7 +227,7 @@ fn json_at(alloc: Global, schema: &Schema, path: &Path, rows: &[Row]) -> Result<
     match path.steps().last() {
         None => members_json(alloc, schema, MAX_LEVELS, None, 0, rows),
         Some(Step::Node(node)) => node_json(alloc, schema, MAX_LEVELS, *node, k, rows),
-        Some(Step::Key(_)) => members_json(alloc, schema, MAX_LEVELS, node_at_end(path), k, rows),
+        Some(Step::Key(_)) => members_json(alloc, schema, MAX_LEVELS, node_at_end(path.steps()), k, rows),
         Some(Step::Item(value)) => item_at(alloc, schema, path, value),
     }
 }

@@ -4,10 +4,11 @@ ghost use Rattle.serde_json.specs.Data.{put};
 ghost use Rattle.serde_json.specs.View.{view, members_view};
 ghost use Rattle.sal_schema.specs.Kinds as kinds;
 ghost use Rattle.sal_schema.specs.Table as table;
+ghost use Rattle.sal_schema.specs.Paths.{node_of};
 ghost use Rattle.sal_data.specs.Members as spec;
 
 use sal_schema::{Kind, Schema};
-use sal_types::NoMemory;
+use sal_types::{NoMemory, Step};
 use serde_json::{Map, Value as Json};
 use std::alloc::Global;
 
@@ -71,6 +72,30 @@ pub(crate) fn type_at(schema: &Schema, node: u32) -> Option<u32>
     } else {
         None
     }
+}
+
+/// The key leafs of a list, in order; none of another node.
+pub(crate) fn keys_at(schema: &Schema, node: u32) -> &[u32]
+    ensures { result.now ≡ table.keys_of schema.now node }
+{
+    if node < schema.len() {
+        schema.keys(node)
+    } else {
+        &[]
+    }
+}
+
+/// The node that these steps of a path come to: that of a list for each of its entries.
+pub(crate) fn node_at_end(steps: &[Step]) -> Option<u32>
+    ensures { result ≡ node_of steps.now }
+{
+    let mut here = None;
+    for step in steps {
+        if let Step::Node(node) = step {
+            here = Some(*node);
+        }
+    }
+    here
 }
 
 fn name_at(schema: &Schema, node: u32) -> &str

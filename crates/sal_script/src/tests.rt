@@ -1,11 +1,11 @@
 use super::*;
 use sal_rows::Mode;
-use sal_types::{Step, Store, Str};
+use sal_types::{Store, Str};
 use std::alloc::Global;
 use std::test::Fail;
 
 // Texts and their first bad places; `ok` where there is none.
-const TEXTS: [(&str, &str); 69] = [
+const TEXTS: [(&str, &str); 80] = [
     ("{}", "ok"),
     (" {\n} ", "ok"),
     ("", "json"),
@@ -89,7 +89,24 @@ const TEXTS: [(&str, &str); 69] = [
         "clients/0/0",
     ),
     ("[\"read\",0,\"Config\",\"/plain:box/b\"]", "clients/0/0"),
-    ("[\"read\",0,\"config\",\"\"]", "clients/0/0"),
+    ("[\"read\",0,\"operational\",\"\"]", "ok"),
+    ("[\"exists\",0,\"config\",\"no path\"]", "ok"),
+    ("[\"exists\",0,\"oper\",\"/\"]", "clients/0/0"),
+    ("[\"exists\",0,\"config\"]", "clients/0/0"),
+    ("{\"config\":{},\"operational\":{\"x\":[1]}}", "ok"),
+    ("{\"config\":[],\"operational\":0}", "config"),
+    ("{\"modules\":[0],\"config\":0}", "modules"),
+    ("{\"operational\":null,\"clients\":0}", "operational"),
+    ("{\"oper\":{}}", "script"),
+    (
+        "{\"modules\":[],\"clients\":[{\"steps\":[[\"put\",0,\"config\",\"/plain:box/a\",\"\"]]}]}",
+        "clients/0/0",
+    ),
+    (
+        "{\"modules\":[],\"clients\":[{\"steps\":[[\"read\",0,\"config\",\"/plain:box/a\"]]}]}",
+        "ok",
+    ),
+    ("{\"clients\":0,\"config\":0}", "config"),
     ("[\"read\",0,\"config\",[]]", "clients/0/0"),
     (
         "[\"read\",0,\"config\",\"/plain:box/b\",\"x\"]",
@@ -107,8 +124,8 @@ const TEXTS: [(&str, &str); 69] = [
     ("\"submit\"", "clients/0/0"),
 ];
 
-fn place_of(alloc: Global, bytes: &[u8], with_modules: bool) -> Result<Str, Fail> {
-    match read_script(alloc, bytes, with_modules) {
+fn place_of(alloc: Global, bytes: &[u8]) -> Result<Str, Fail> {
+    match read_script(alloc, bytes) {
         Ok(_) => Ok(Str::new(alloc, "ok")?),
         Err(ScriptFault::BadScript { place }) => Ok(place),
         Err(ScriptFault::NoMemory) => Ok(Str::new(alloc, "no memory")?),
@@ -154,7 +171,7 @@ fn first_bad_places(rt: HostRuntime) -> Result<(), Fail> {
         } else {
             String::from_str(alloc, *text)?
         };
-        let place = place_of(alloc, script.as_bytes(), true)?;
+        let place = place_of(alloc, script.as_bytes())?;
         assert!(rt; place.as_str() == *want, "{text}");
     }
     Ok(())
@@ -171,13 +188,13 @@ fn limits_and_bytes(rt: HostRuntime) -> Result<(), Fail> {
         (16, 256, "ok"),
     ] {
         let script = with_many(alloc, clients, steps)?;
-        let place = place_of(alloc, script.as_bytes(), true)?;
+        let place = place_of(alloc, script.as_bytes())?;
         assert!(rt;
             place.as_str() == want,
             "{clients} clients with {steps} steps"
         );
     }
-    let place = place_of(alloc, b"{\"clients\":[{\"steps\":[[\"\xff\"]]}]}", false)?;
+    let place = place_of(alloc, b"{\"clients\":[{\"steps\":[[\"\xff\"]]}]}")?;
     assert!(rt; place.as_str() == "json");
     Ok(())
 }
@@ -186,7 +203,7 @@ fn limits_and_bytes(rt: HostRuntime) -> Result<(), Fail> {
 fn a_script_is_read(rt: HostRuntime) -> Result<(), Fail> {
     let text =
         b"{\"order\":[0,1,0],\"clients\":[{\"steps\":[[\"begin\",3,0,\"rw\"],[\"put\",3,\"config\",\"/plain:box/c\",\"\\u00e9\"]]},{\"steps\":[]}]}";
-    let script = read_script(rt.alloc(), text, false)?;
+    let script = read_script(rt.alloc(), text)?;
     assert_eq!(rt; script.modules.items().len(), 1);
     assert!(rt; script.modules.items()[0].as_str() == PLAIN);
     assert_eq!(rt; script.order.items(), [0, 1, 0].as_slice());
@@ -210,7 +227,7 @@ fn a_script_is_read(rt: HostRuntime) -> Result<(), Fail> {
             store: Store::Config,
             path,
             text,
-        } => text.as_str() == "é" && path.steps() == [Step::Node(0), Step::Node(3)].as_slice(),
+        } => text.as_str() == "é" && path.as_str() == "/plain:box/c",
         _ => false,
     };
     assert!(rt; is_put);
@@ -220,12 +237,10 @@ fn a_script_is_read(rt: HostRuntime) -> Result<(), Fail> {
 #[test]
 fn modules_are_read(rt: HostRuntime) -> Result<(), Fail> {
     let text = b"{\"modules\":[\"module a {\",\"\\u00e9\"]}";
-    let script = read_script(rt.alloc(), text, true)?;
+    let script = read_script(rt.alloc(), text)?;
     let texts = script.modules.items();
     assert_eq!(rt; texts.len(), 2);
     assert!(rt; texts[0].as_str() == "module a {");
     assert!(rt; texts[1].as_str() == "é");
-    let place = place_of(rt.alloc(), text, false)?;
-    assert!(rt; place.as_str() == "script");
     Ok(())
 }

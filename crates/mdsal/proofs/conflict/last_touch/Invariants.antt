@@ -2,10 +2,10 @@
 use Rattle.std.proofs.Common.{◌≡◌, ◌-◌, length, reverse}
 use Rattle.std.specs.Prelude.{find}
 use Rattle.sal_rows.specs.Commits.{numbers_after, touches_at, last_touch}
-use Rattle.mdsal.specs.Kept.{ops_of, empty_opening, span_of}
+use Rattle.mdsal.specs.Kept.{ops_of, opening_in, span_of}
 use Rattle.mdsal.proofs.conflict.last_touch.Given as goal
 
 abbrev pub invariant-loop-back : goal.invariant-loop-back
 invariant-loop-back l =
-    find (touches_at empty_opening (ops_of l.commits) l.store l.path) (reverse (numbers_after l.base (length (ops_of l.commits) - l.base - l.back)))
-    ≡ last_touch empty_opening (ops_of l.commits) l.store l.path (span_of l.base l.commits)
+    find (touches_at (opening_in l.commits) (ops_of l.commits) l.store l.path) (reverse (numbers_after l.base (length (ops_of l.commits) - l.base - l.back)))
+    ≡ last_touch (opening_in l.commits) (ops_of l.commits) l.store l.path (span_of l.base l.commits)

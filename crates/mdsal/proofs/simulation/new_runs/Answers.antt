@@ -22,6 +22,6 @@ returns-clause-stand c =
     ap (λ (us : List Run). let s : Stand = record { log = []; runs = us } in s) (fresh_runs c.args.programs.now c.loop-i.runs.items long (λ k r h at. (c.loop-i.invariant.each k r h at).0))
 
 pub returns-clause-runs : goal.returns-clause-runs
-returns-clause-runs c =
+returns-clause-runs c world =
     let long : length c.loop-i.runs.items ≡ length c.args.programs.now = omega (arith, c.loop-i.invariant.long) in
-    AreRuns-fresh c.args.programs.now c.loop-i.runs.items c.requires long c.loop-i.invariant.each
+    AreRuns-fresh world c.args.programs.now c.loop-i.runs.items c.requires long c.loop-i.invariant.each

@@ -1,4 +1,4 @@
-use Rattle.std.proofs.Common.{◌≡◌, ◌+◌, ◌-◌, ◌<◌, true, false, List, [], Ok, IfOk, ap, sym, subst, ◌∙◌, map, arith, rules}
+use Rattle.std.proofs.Common.{◌≡◌, true, false, List, [], IfOk, ap, sym, subst, ◌∙◌, map, arith, rules}
 use Rattle.std.proofs.lemmas.Grind.{common_steps}
 use Rattle.serde_json.specs.Data.{Data, Members, null, array, object}
 use Rattle.serde_json.specs.declared.value.Value.{Null, the_lemmas}

@@ -2,6 +2,8 @@
 use Rattle.std.proofs.Common.{◌≡◌, ℕ, [], ◌∷◌, ◌++◌, refl, ap, ◌∙◌}
 use Rattle.sal_history.specs.declared.call.Call.TheVariants.{Begin as BeginCall}
 use Rattle.sal_history.specs.declared.call.Entry.{Entry}
+use Rattle.sal_script.specs.declared.reply.StepReply.TheVariants.{Called}
+use Rattle.mdsal.specs.Known.{more}
 use Rattle.mdsal.specs.Slots.{held}
 use Rattle.mdsal.specs.Views.{IsSoundView}
 use Rattle.mdsal.specs.Clients.{client_of}
@@ -12,13 +14,15 @@ use Rattle.mdsal.proofs.client.ClientState.begin.Goals as goal
 pub returns-in_ok-fill_slot-clause-answers : goal.returns-in_ok-fill_slot-clause-answers
 returns-in_ok-fill_slot-clause-answers c =
     let old = c.args.self.now in
-    let ok = c.in_ok-reply.ensures.ok in (
+    let known = c.args.broker.now in
+    let ok = c.in_ok-reply.ensures.ok in
+    let counted = ap (λ n. let x : Entry = record { client = old.number; number = n; call = BeginCall c.args.domain c.args.mode } in x) c.requires.counted in (
       BeginCall c.args.domain c.args.mode,
       record {
         met = refl;
-        entry = ok.0 ∙ ap (λ n. c.args.broker.now ++ (let x : Entry = record { client = old.number; number = n; call = BeginCall c.args.domain c.args.mode } in x) ∷ []) c.requires.counted;
-        replied = ok.1;
-        kept = kept-begin c.args.broker.now c.in_ok-reply.reply c.args.slot c.args.domain c.args.mode c.in_ok-tx.tx (client_of old) _ c.if-domain-eq0.true ok.1 c.in_ok-tx.ensures
+        entry = ok.0 ∙ ap (more known) counted;
+        replied = ap Called ok.1;
+        kept = kept-begin known.world known.log _ c.args.slot c.args.domain c.args.mode c.in_ok-tx.tx (client_of old) _ c.if-domain-eq0.true refl c.in_ok-tx.ensures
             (opened-filled (held old.transactions) (held c.fill_slot.new.slots) c.args.slot c.in_ok-tx.tx c.in_ok-fill_slot.ensures);
       },
     )
@@ -26,28 +30,30 @@ returns-in_ok-fill_slot-clause-answers c =
 pub returns-else-domain-eq0-clause-answers : goal.returns-else-domain-eq0-clause-answers
 returns-else-domain-eq0-clause-answers c =
     let old = c.args.self.now in
-    let ok = c.in_ok-reply.ensures.ok in (
+    let known = c.args.broker.now in
+    let ok = c.in_ok-reply.ensures.ok in
+    let counted = ap (λ n. let x : Entry = record { client = old.number; number = n; call = BeginCall c.args.domain c.args.mode } in x) c.requires.counted in (
       BeginCall c.args.domain c.args.mode,
       record {
         met = refl;
-        entry = ok.0 ∙ ap (λ n. c.args.broker.now ++ (let x : Entry = record { client = old.number; number = n; call = BeginCall c.args.domain c.args.mode } in x) ∷ []) c.requires.counted;
-        replied = ok.1;
-        kept = kept-refused c.args.broker.now c.in_ok-reply.reply c.args.slot c.args.domain c.args.mode (client_of old) c.if-domain-eq0.false ok.1;
+        entry = ok.0 ∙ ap (more known) counted;
+        replied = ap Called ok.1;
+        kept = kept-refused known.world known.log _ c.args.slot c.args.domain c.args.mode (client_of old) c.if-domain-eq0.false refl;
       },
     )
 
 pub returns-in_ok-fill_slot-clause-sound : goal.returns-in_ok-fill_slot-clause-sound
 returns-in_ok-fill_slot-clause-sound c =
     let old = c.args.self.now in
-    let log = c.args.broker.now in
+    let known = c.args.broker.now in
     let e : ℕ → Entry = λ d. record { client = old.number; number = old.made; call = BeginCall d c.args.mode } in
-    let now : c.begin-2.new.self ≡ log ++ e 0 ∷ [] = c.in_ok-reply.ensures.ok.0 ∙ ap (λ d. log ++ e d ∷ []) c.if-domain-eq0.true in
-    let was = IsSound-push log (e 0) old c.requires.sound in
-    let begun = IsSoundView-begin log old.number old.made c.args.mode c.in_ok-tx.tx c.in_ok-tx.ensures in
+    let now : c.begin-2.new.self ≡ more known (e 0) = c.in_ok-reply.ensures.ok.0 ∙ ap (λ d. more known (e d)) c.if-domain-eq0.true in
+    let was = IsSound-push known.world known.log (e 0) old c.requires.sound in
+    let begun = IsSoundView-begin known.world known.log old.number old.made c.args.mode c.in_ok-tx.tx c.in_ok-tx.ensures in
     rw now (record {
-      transactions = each_filled (IsSoundView (log ++ e 0 ∷ [])) (held old.transactions) (held c.fill_slot.new.slots) c.args.slot c.in_ok-tx.tx c.in_ok-fill_slot.ensures begun was.transactions;
+      transactions = each_filled (IsSoundView known.world (known.log ++ e 0 ∷ [])) (held old.transactions) (held c.fill_slot.new.slots) c.args.slot c.in_ok-tx.tx c.in_ok-fill_slot.ensures begun was.transactions;
       receipts = was.receipts;
     })
 
 pub returns-else-domain-eq0-clause-sound : goal.returns-else-domain-eq0-clause-sound
-returns-else-domain-eq0-clause-sound c = rw c.in_ok-reply.ensures.ok.0 (IsSound-push c.args.broker.now _ c.args.self.now c.requires.sound)
+returns-else-domain-eq0-clause-sound c = rw c.in_ok-reply.ensures.ok.0 (IsSound-push c.args.broker.now.world c.args.broker.now.log _ c.args.self.now c.requires.sound)

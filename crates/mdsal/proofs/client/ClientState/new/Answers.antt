@@ -10,7 +10,7 @@ returns-clause-client c =
     λ i. record { transactions = λ k. option_map open_of (c.empty_slots.ensures i k); receipts = c.empty_slots-2.ensures i; replies = c.new.ensures.items i }
 
 pub returns-clause-sound : goal.returns-clause-sound
-returns-clause-sound c = record {
+returns-clause-sound c world = record {
   transactions = λ k tx at. absurd (let none : None ≡ Some tx = sym (ap (λ (f : ℕ → Option Transaction). f k) c.empty_slots.ensures) ∙ at in cc);
   receipts = λ k n at. absurd (let none : None ≡ Some n = sym (ap (λ (f : ℕ → Option ℕ). f k) c.empty_slots-2.ensures) ∙ at in cc);
 }

@@ -3,6 +3,8 @@ use Rattle.std.proofs.Common.{◌≡◌, [], ◌∷◌, ◌++◌, Some, refl, ap
 use Rattle.sal_history.specs.declared.call.Call.TheVariants.{Settle as SettleCall}
 use Rattle.sal_history.specs.declared.call.Entry.{Entry}
 use Rattle.sal_script.specs.Play.{settle}
+use Rattle.sal_script.specs.declared.reply.StepReply.TheVariants.{Called}
+use Rattle.mdsal.specs.Known.{more}
 use Rattle.mdsal.specs.Slots.{held}
 use Rattle.mdsal.specs.Clients.{client_of}
 use Rattle.mdsal.proofs.Soundness.{IsSound-push}
@@ -11,17 +13,19 @@ use Rattle.mdsal.proofs.client.ClientState.settle_slot.Goals as goal
 pub returns-in_ok-reply-in-Some-clause-answers : goal.returns-in_ok-reply-in-Some-clause-answers
 returns-in_ok-reply-in-Some-clause-answers c =
     let client = c.args.self.now in
+    let known = c.args.broker.now in
     let receipt = c.in-Some.receipt.now in
     let found : held client.receipts c.args.slot ≡ Some receipt = sym c.in-Some.ensures in
-    let ok = c.in_ok-reply-in-Some.ensures.ok in (
+    let ok = c.in_ok-reply-in-Some.ensures.ok in
+    let counted = ap (λ n. let e : Entry = record { client = client.number; number = n; call = SettleCall receipt } in e) c.requires.counted in (
       SettleCall receipt,
       record {
         met = ap (settle (client_of client)) found;
-        entry = ok.0 ∙ ap (λ n. c.args.broker.now ++ (let e : Entry = record { client = client.number; number = n; call = SettleCall receipt } in e) ∷ []) c.requires.counted;
-        replied = ok.1;
+        entry = ok.0 ∙ ap (more known) counted;
+        replied = ap Called ok.1;
         kept = refl;
       },
     )
 
 pub returns-in_ok-reply-in-Some-clause-sound : goal.returns-in_ok-reply-in-Some-clause-sound
-returns-in_ok-reply-in-Some-clause-sound c = rw c.in_ok-reply-in-Some.ensures.ok.0 (IsSound-push c.args.broker.now _ c.args.self.now c.requires.sound)
+returns-in_ok-reply-in-Some-clause-sound c = rw c.in_ok-reply-in-Some.ensures.ok.0 (IsSound-push c.args.broker.now.world c.args.broker.now.log _ c.args.self.now c.requires.sound)

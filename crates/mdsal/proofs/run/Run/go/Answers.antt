@@ -1,6 +1,6 @@
 -- A step is answered by the client, or makes the shared call.
 use Rattle.std.proofs.Common.{ap, ◌∙◌, refl, arith}
-use Rattle.sal_script.specs.Play.{make, plain_world}
+use Rattle.sal_script.specs.Play.{make}
 use Rattle.mdsal.specs.Clients.{client_of}
 use Rattle.mdsal.specs.declared.client.Went.TheVariants.{Local, Shared}
 use Rattle.mdsal.proofs.Going.{steps_at, local_turn, local_log, shared_turn, shared_grows}
@@ -10,8 +10,8 @@ pub loop-i-preserved : goal.loop-i-preserved
 loop-i-preserved g c =
     let step = c.index-steps-i.result in
     let was = c.loop-i.invariant in
-    let steps = steps_at c.in_ok-went.went Local c.loop-i.self.client.number c.args.self.now.client.number c.loop-i.broker c.args.broker.now c.step.new.broker (client_of c.loop-i.self.client) (client_of c.step.new.self) step c.in-Local.is was.number was.log c.in_ok-went.ensures.steps in
-    let log = local_log c.args.self.now.client.number c.args.broker.now c.step.new.broker (client_of c.loop-i.self.client) (client_of c.step.new.self) step steps in
+    let steps = steps_at c.args.reader.now c.in_ok-went.went Local c.loop-i.self.client.number c.args.self.now.client.number c.loop-i.broker c.args.broker.now c.step.new.broker (client_of c.loop-i.self.client) (client_of c.step.new.self) step c.in-Local.is was.number was.log c.in_ok-went.ensures.steps in
+    let log = local_log c.args.reader.now c.args.self.now.client.number c.args.broker.now c.step.new.broker (client_of c.loop-i.self.client) (client_of c.step.new.self) step steps in
     record {
       at = refl;
       run = record {
@@ -23,14 +23,14 @@ loop-i-preserved g c =
       };
       log = log;
       number = c.in_ok-went.ensures.number ∙ was.number;
-      rest = was.rest ∙ local_turn c.args.self.now.client.number c.args.broker.now c.step.new.broker (client_of c.loop-i.self.client) (client_of c.step.new.self) c.args.steps.now c.loop-i.i step c.loop-i-test.true c.index-steps-i.is steps;
+      rest = was.rest ∙ local_turn c.args.reader.now c.args.self.now.client.number c.args.broker.now c.step.new.broker (client_of c.loop-i.self.client) (client_of c.step.new.self) c.args.steps.now c.loop-i.i step c.loop-i-test.true c.index-steps-i.is steps;
     }
 
 pub returns-in-Shared-clause-goes : goal.returns-in-Shared-clause-goes
 returns-in-Shared-clause-goes g c =
     let step = c.index-steps-i.result in
     let was = c.loop-i.invariant in
-    let steps = steps_at c.in_ok-went.went Shared c.loop-i.self.client.number c.args.self.now.client.number c.loop-i.broker c.args.broker.now c.step.new.broker (client_of c.loop-i.self.client) (client_of c.step.new.self) step c.in-Shared.is was.number was.log c.in_ok-went.ensures.steps in (
-      ap (make plain_world c.args.broker.now c.args.self.now.client.number) was.rest ∙ shared_turn c.args.self.now.client.number c.args.broker.now c.step.new.broker (client_of c.loop-i.self.client) (client_of c.step.new.self) c.args.steps.now c.loop-i.i step c.loop-i-test.true c.index-steps-i.is steps,
-      shared_grows c.args.self.now.client.number c.args.broker.now c.step.new.broker (client_of c.loop-i.self.client) (client_of c.step.new.self) step steps,
+    let steps = steps_at c.args.reader.now c.in_ok-went.went Shared c.loop-i.self.client.number c.args.self.now.client.number c.loop-i.broker c.args.broker.now c.step.new.broker (client_of c.loop-i.self.client) (client_of c.step.new.self) step c.in-Shared.is was.number was.log c.in_ok-went.ensures.steps in (
+      ap (make c.args.reader.now c.args.broker.now.world c.args.broker.now.log c.args.self.now.client.number) was.rest ∙ shared_turn c.args.reader.now c.args.self.now.client.number c.args.broker.now c.step.new.broker (client_of c.loop-i.self.client) (client_of c.step.new.self) c.args.steps.now c.loop-i.i step c.loop-i-test.true c.index-steps-i.is steps,
+      shared_grows c.args.reader.now c.args.self.now.client.number c.args.broker.now c.step.new.broker (client_of c.loop-i.self.client) (client_of c.step.new.self) step steps,
     )

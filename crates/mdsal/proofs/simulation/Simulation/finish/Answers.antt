@@ -1,6 +1,6 @@
 -- One client comes to its end.
 use Rattle.std.proofs.Common.{◌≡◌, List, get_or, sym, ap, ◌∙◌, subst, arith}
-use Rattle.sal_history.specs.declared.call.Entry.{Entry}
+use Rattle.mdsal.specs.Known.{Known}
 use Rattle.sal_script.specs.declared.script.ScriptStep.{ScriptStep}
 use Rattle.mdsal.specs.Runs.{IsRun}
 use Rattle.mdsal.proofs.Standing.{same_at}
@@ -14,4 +14,4 @@ go-requires-after_bounds g c κs _ =
     let r = c.index_mut-run.result.now in
     let at_p : p ≡ get_or ps i p = c.items.ensures ∙ c.index-programs-i.is ∙ ap (λ (d : List ScriptStep). get_or ps i d) (sym c.items.ensures) in
     let at_r : r ≡ get_or c.args.self.now.runs.items i r = c.index_mut-run.ensures.value ∙ same_at c.loop-i.self.runs.items c.args.self.now.runs.items i r c.loop-i.invariant.rest in
-    subst (λ (l : List Entry). IsRun l p r) (sym c.loop-i.invariant.log) (c.requires.each i p r (omega (arith, c.len-i-end.ensures)) at_p at_r).0
+    subst (λ (k : Known). IsRun k.world k.log p r) (sym c.loop-i.invariant.log) (c.requires.each i p r (omega (arith, c.len-i-end.ensures)) at_p at_r).0

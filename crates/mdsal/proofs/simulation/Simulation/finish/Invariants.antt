@@ -1,6 +1,6 @@
 -- The clients before the index have come to their ends, and the others stand as they did.
 use Rattle.std.proofs.Common.{◌≡◌, length, map, take, drop}
-use Rattle.sal_script.specs.Play.{plain_world, replies_of}
+use Rattle.sal_script.specs.Play.{replies_of}
 use Rattle.mdsal.specs.Runs.{replies_in, runs_of}
 use Rattle.mdsal.proofs.Standing.{with_replies}
 use Rattle.mdsal.proofs.simulation.Simulation.finish.Given as goal
@@ -10,6 +10,6 @@ invariant-loop-i g l = record {
   log : l.self.broker ≡ l.initial.self.broker;
   long : length l.self.runs.items ≡ length l.initial.self.runs.items;
   rest : drop l.i l.self.runs.items ≡ drop l.i l.initial.self.runs.items;
-  replies : with_replies (map replies_in (take l.i l.self.runs.items)) (replies_of plain_world l.initial.self.broker (runs_of (drop l.i l.programs) (drop l.i l.initial.self.runs.items)))
-      ≡ replies_of plain_world l.initial.self.broker (runs_of l.programs l.initial.self.runs.items);
+  replies : with_replies (map replies_in (take l.i l.self.runs.items)) (replies_of l.reader l.initial.self.broker.world l.initial.self.broker.log (runs_of (drop l.i l.programs) (drop l.i l.initial.self.runs.items)))
+      ≡ replies_of l.reader l.initial.self.broker.world l.initial.self.broker.log (runs_of l.programs l.initial.self.runs.items);
 }

@@ -1,0 +1,71 @@
+//! What reads the paths and the data of a domain.
+use sal_data::{DataFault, read_data};
+use sal_json::{Patterns, PatternsFault};
+use sal_pathtext::{PathTextFault, read_path};
+use sal_rows::Rows;
+use sal_schema::Schema;
+use sal_types::Path;
+use serde_json::Value;
+use std::alloc::Global;
+use std::marker::Model;
+
+/// A schema with its patterns compiled. A contract sees the schema alone.
+#[derive(Drop)]
+pub struct Reader {
+    schema: Schema,
+    patterns: Patterns,
+}
+
+impl Model for Reader {
+    ghost use Rattle.std.specs.Prelude.{◌≡◌};
+    ghost use Rattle.sal_schema.specs.declared.table.SchemaTable.{SchemaTable};
+    ghost use Rattle.sal_json.specs.Patterns.{patterns_of};
+
+    ghost Value = { SchemaTable };
+
+    ghost view = { λ a. a.schema };
+
+    ghost invariant = { λ a. a.patterns ≡ patterns_of a.schema };
+}
+
+impl Reader {
+    ghost use Rattle.std.specs.Prelude.{◌≡◌, false, IfOk, IfErr};
+    ghost use Rattle.std.specs.List.{list_any};
+    ghost use Rattle.sal_types.specs.Reading.{GivesUnless};
+    ghost use Rattle.sal_json.specs.Patterns.{has_malformed, IsRefusal};
+    ghost use Rattle.serde_json.specs.View.{view};
+    ghost use Rattle.sal_pathtext.specs.Read.{Gives};
+    ghost use Rattle.sal_pathtext.specs.Read as path_spec;
+    ghost use Rattle.sal_data.specs.Read as data_spec;
+
+    /// A reader of this schema.
+    pub fn of(alloc: Global, schema: Schema) -> Result<Self, PatternsFault>
+        ensures schema { IfOk result (λ reader. reader ≡ schema) }
+        ensures formed { IfOk result (λ _. list_any has_malformed schema.types ≡ false) }
+        ensures refused { IfErr result (IsRefusal schema) }
+    {
+        let patterns = Patterns::of(alloc, &schema)?;
+        Ok(Reader { schema, patterns })
+    }
+
+    /// The schema.
+    pub fn schema(&self) -> &Schema
+        ensures { result.now ≡ self.now }
+    {
+        &self.schema
+    }
+
+    /// The path that the text stands for.
+    pub fn path(&self, alloc: Global, text: &str) -> Result<Path, PathTextFault>
+        ensures { Gives (λ path. path) result (path_spec.read_path self.now text.now) }
+    {
+        read_path(alloc, &self.schema, &self.patterns, text)
+    }
+
+    /// The rows that the value at the path stands for.
+    pub fn data(&self, alloc: Global, path: &Path, value: &Value) -> Result<Rows, DataFault>
+        ensures { GivesUnless DataFault.NoMemory (λ rows. rows) result (data_spec.read_data self.now path.now (view value.now)) }
+    {
+        read_data(alloc, &self.schema, &self.patterns, path, value)
+    }
+}

@@ -1,0 +1,127 @@
+//! Entries of lists and leaf-lists: the steps to them.
+ghost use Rattle.std.specs.Prelude.{◌≡◌, ◌∷◌, ◌++◌, [], OnOk};
+ghost use Rattle.serde_json.specs.View.{view, items_view, members_view};
+ghost use Rattle.sal_types.specs.declared.value.Cell.TheVariants.{Mark};
+ghost use Rattle.sal_types.specs.Reading.{GivesUnless};
+ghost use Rattle.sal_schema.specs.Table.{keys_of};
+ghost use Rattle.sal_data.specs.Read as spec;
+ghost use Rattle.sal_data.specs.Walked.{HaveSame, new_entry};
+
+use crate::fault::DataFault;
+use crate::lookups::keys_at;
+use crate::members::member_for;
+use crate::reader::Reader;
+use sal_types::{Cell, Duplicate, NoMemory, Path, PathFault, Row, Seq, Step, Value};
+use serde_json::{Map, Value as Json};
+use std::alloc::Global;
+use std::collections::BTreeSet;
+
+/// The path one step further down.
+pub(crate) fn longer(path: &Path, step: Step) -> Result<Path, DataFault>
+    ensures { GivesUnless DataFault.NoMemory (λ below. below) result (spec.longer path.now step) }
+{
+    let mut below = path.copy()?;
+    match below.push(step) {
+        Ok(()) => Ok(below),
+        Err(PathFault::TooDeep) => Err(DataFault::TooDeep { path: below }),
+        Err(PathFault::NoMemory) => Err(DataFault::NoMemory),
+    }
+}
+
+/// Appends the mark of the node or entry at the path.
+pub(crate) fn mark(path: &Path, out: &mut Vec<Row>) -> Result<(), NoMemory>
+    ensures { OnOk result (out.new.items ≡ out.old.items ++ record { path = path.now; cell = Mark } ∷ []) }
+{
+    out.push(Row {
+        path: path.copy()?,
+        cell: Cell::Mark,
+    })?;
+    Ok(())
+}
+
+/// The path of the entry, which is none of those that were seen, and is one of them from now on.
+pub(crate) fn entered(path: &Path, step: Step, seen: &mut BTreeSet<Step>) -> Result<Path, DataFault>
+    ensures value { GivesUnless DataFault.NoMemory (λ below. below) result (new_entry seen.old.keys path.now step) }
+    ensures one_more { OnOk result (HaveSame seen.new.keys (step ∷ seen.old.keys)) }
+{
+    let below = longer(path, step.copy()?)?;
+    if seen.insert(step)? {
+        Ok(below)
+    } else {
+        Err(DataFault::DoubleEntry { path: below })
+    }
+}
+
+impl<'a> Reader<'a> {
+    fn key_value(
+        &self,
+        node: u32,
+        path: &Path,
+        members: &Map<String, Json>,
+        leaf: u32,
+    ) -> Result<Value, DataFault>
+        ensures { GivesUnless DataFault.NoMemory (λ value. value) result (spec.key_value self.now.schema.now node path.now (members_view members.now.entries) leaf) }
+    {
+        match member_for(self.alloc, self.schema, Some(node), members, leaf) {
+            Ok(Some(json)) => self.value_at(path, leaf, json),
+            Ok(None) => Err(DataFault::MissingKey { path: path.copy()? }),
+            Err(NoMemory) => Err(DataFault::NoMemory),
+        }
+    }
+
+    /// The values of these keys, in order.
+    fn key_values(
+        &self,
+        node: u32,
+        path: &Path,
+        members: &Map<String, Json>,
+        keys: &[u32],
+    ) -> Result<Vec<Value>, DataFault>
+        ensures { GivesUnless DataFault.NoMemory (λ values. values.items) result (spec.key_values self.now.schema.now node path.now (members_view members.now.entries) keys.now) }
+    {
+        let mut values = Vec::with_capacity(self.alloc, keys.len())?;
+        for key in keys {
+            let value = self.key_value(node, path, members, *key)?;
+            values.push(value)?;
+        }
+        Ok(values)
+    }
+
+    /// The step to an entry of the list at the path.
+    pub(crate) fn key_step(&self, node: u32, path: &Path, json: &Json) -> Result<Step, DataFault>
+        ensures { GivesUnless DataFault.NoMemory (λ step. step) result (spec.key_step self.now.schema.now node path.now (view json.now)) }
+    {
+        let Some(members) = json.as_object() else {
+            return Err(DataFault::WrongShape { path: path.copy()? });
+        };
+        let values = self.key_values(node, path, members, keys_at(self.schema, node))?;
+        Ok(Step::Key(Seq::from_items(values)))
+    }
+
+    /// The step to an entry of the leaf-list at the path.
+    pub(crate) fn item_step(&self, node: u32, path: &Path, json: &Json) -> Result<Step, DataFault>
+        ensures { GivesUnless DataFault.NoMemory (λ step. step) result (spec.item_step self.now.schema.now node path.now (view json.now)) }
+    {
+        let value = self.value_at(path, node, json)?;
+        Ok(Step::Item(value))
+    }
+
+    /// Appends the entries of the leaf-list at the path.
+    pub(crate) fn items_rows(
+        &self,
+        node: u32,
+        path: &Path,
+        items: &Vec<Json>,
+        out: &mut Vec<Row>,
+    ) -> Result<(), DataFault>
+        ensures { GivesUnless DataFault.NoMemory (λ _. out.new.items) result (spec.followed out.old.items (spec.items_rows self.now.schema.now node path.now [] (items_view items.now.items))) }
+    {
+        let mut seen = BTreeSet::new(self.alloc);
+        for item in items {
+            let step = self.item_step(node, path, item)?;
+            let below = entered(path, step, &mut seen)?;
+            mark(&below, out)?;
+        }
+        Ok(())
+    }
+}

@@ -1,0 +1,54 @@
+//! Rows put into the order of their paths.
+ghost use Rattle.std.specs.Prelude.{◌≡◌, IfOk, OnOk};
+ghost use Rattle.std.specs.BTreeMap.{insert_entry};
+ghost use Rattle.sal_types.specs.Order.{path_cmp};
+ghost use Rattle.sal_types.specs.Tree.{entries};
+ghost use Rattle.sal_data.specs.Read as spec;
+
+use sal_rows::Rows;
+use sal_types::{Cell, NoMemory, Path, Row};
+use std::alloc::Global;
+use std::collections::BTreeMap;
+
+/// Puts the row in its place, over one with its path.
+fn put(map: &mut BTreeMap<Path, Cell>, row: Row) -> Result<(), NoMemory>
+    ensures { OnOk result (map.new.entries ≡ insert_entry path_cmp map.old.entries row.path row.cell) }
+{
+    map.insert(row.path, row.cell)?;
+    Ok(())
+}
+
+/// The cells by their paths, where of rows with one path the last counts.
+fn by_path(alloc: Global, rows: Vec<Row>) -> Result<BTreeMap<Path, Cell>, NoMemory>
+    ensures { IfOk result (λ map. map.entries ≡ entries (spec.in_order rows.items)) }
+{
+    let mut map = BTreeMap::new(alloc);
+    for row in rows {
+        put(&mut map, row)?;
+    }
+    Ok(map)
+}
+
+/// The rows with these paths and cells.
+fn listed(alloc: Global, map: BTreeMap<Path, Cell>) -> Result<Vec<Row>, NoMemory>
+    ensures { IfOk result (λ list. entries list.items ≡ map.entries) }
+{
+    let mut list = Vec::with_capacity(alloc, map.len())?;
+    for (path, cell) in map {
+        list.push(Row { path, cell })?;
+    }
+    Ok(list)
+}
+
+/// The rows in the order of their paths, where of rows with one path the last counts. It takes n log n comparisons of paths for
+/// n rows.
+pub(crate) fn in_order(alloc: Global, rows: Vec<Row>) -> Result<Rows, NoMemory>
+    ensures { IfOk result (λ ordered. ordered ≡ spec.in_order rows.items) }
+{
+    let map = by_path(alloc, rows)?;
+    let list = listed(alloc, map)?;
+    match Rows::from_list(list) {
+        Ok(ordered) => Ok(ordered),
+        Err(_) => unreachable!(),
+    }
+}

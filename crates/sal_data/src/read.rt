@@ -1,0 +1,140 @@
+//! Rows from JSON values.
+ghost use Rattle.std.specs.Prelude.{◌≡◌, ◌≤◌, length, IfOk};
+ghost use Rattle.serde_json.specs.View.{view};
+ghost use Rattle.sal_types.specs.Reading.{GivesUnless};
+ghost use Rattle.sal_schema.specs.Paths.{last_step, node_of};
+ghost use Rattle.sal_json.specs.Patterns.{patterns_of};
+ghost use Rattle.sal_data.specs.Read as spec;
+
+use crate::entries::mark;
+use crate::fault::DataFault;
+use crate::order::in_order;
+use crate::reader::Reader;
+use sal_json::Patterns;
+use sal_rows::Rows;
+use sal_schema::Schema;
+use sal_types::{Duplicate, NoMemory, Path, PathFault, Row, Step};
+use serde_json::Value as Json;
+use std::alloc::Global;
+
+/// The path with these steps.
+fn path_of(alloc: Global, steps: &[Step]) -> Result<Path, NoMemory>
+    requires { length steps.now ≤ 32 }
+    ensures { IfOk result (λ path. path ≡ steps.now) }
+{
+    let mut path = Path::root(alloc);
+    for step in steps {
+        match path.push(step.copy()?) {
+            Ok(()) => (),
+            Err(PathFault::NoMemory) => return Err(NoMemory),
+            Err(PathFault::TooDeep) => unreachable!(),
+        }
+    }
+    Ok(path)
+}
+
+fn before_last(alloc: Global, path: &Path) -> Result<Path, NoMemory>
+    ensures { IfOk result (λ front. front ≡ spec.before_last path.now) }
+{
+    let steps = path.steps();
+    path_of(alloc, &steps[..steps.len().saturating_sub(1)])
+}
+
+/// The node that the path comes to: that of a list for each of its entries.
+fn node_at_end(path: &Path) -> Option<u32>
+    ensures { result ≡ node_of path.now }
+{
+    let mut here = None;
+    for step in path.steps() {
+        if let Step::Node(node) = step {
+            here = Some(*node);
+        }
+    }
+    here
+}
+
+/// Whether the step is the one that was asked for.
+fn is_asked(asked: &Step, step: &Step) -> bool
+    ensures { result ≡ spec.same_step step.now asked.now }
+{
+    *step == *asked
+}
+
+impl<'a> Reader<'a> {
+    /// Appends the rows of the list entry at the path.
+    fn entry_rows(
+        &self,
+        node: u32,
+        path: &Path,
+        asked: &Step,
+        json: &Json,
+        out: &mut Vec<Row>,
+    ) -> Result<(), DataFault>
+        ensures { GivesUnless DataFault.NoMemory (λ _. out.new.items) result (spec.followed out.old.items (spec.entry_rows self.now.schema.now path.now asked.now (view json.now) node)) }
+    {
+        let list = before_last(self.alloc, path)?;
+        let step = self.key_step(node, &list, json)?;
+        if !is_asked(asked, &step) {
+            return Err(DataFault::KeyDiffers { path: path.copy()? });
+        }
+        mark(path, out)?;
+        self.object_rows(Some(node), path, json, out)
+    }
+
+    /// Appends the row of the leaf-list entry at the path.
+    fn item_rows(
+        &self,
+        node: u32,
+        path: &Path,
+        asked: &Step,
+        json: &Json,
+        out: &mut Vec<Row>,
+    ) -> Result<(), DataFault>
+        ensures { GivesUnless DataFault.NoMemory (λ _. out.new.items) result (spec.followed out.old.items (spec.item_rows self.now.schema.now path.now asked.now (view json.now) node)) }
+    {
+        let list = before_last(self.alloc, path)?;
+        let step = self.item_step(node, &list, json)?;
+        if !is_asked(asked, &step) {
+            return Err(DataFault::KeyDiffers { path: path.copy()? });
+        }
+        mark(path, out)?;
+        Ok(())
+    }
+
+    /// Appends the rows of what stands at the path.
+    fn rows_at(&self, path: &Path, json: &Json, out: &mut Vec<Row>) -> Result<(), DataFault>
+        ensures { GivesUnless DataFault.NoMemory (λ _. out.new.items) result (spec.followed out.old.items (spec.rows_at self.now.schema.now path.now (last_step path.now) (view json.now))) }
+    {
+        match (path.steps().last(), node_at_end(path)) {
+            (None, _) => self.object_rows(None, path, json, out),
+            (Some(Step::Node(node)), _) => self.node_rows(*node, path.copy()?, json, out),
+            (Some(asked @ Step::Key(_)), Some(node)) => {
+                self.entry_rows(node, path, asked, json, out)
+            }
+            (Some(asked @ Step::Item(_)), Some(node)) => {
+                self.item_rows(node, path, asked, json, out)
+            }
+            (Some(_), None) => Err(DataFault::WrongShape { path: path.copy()? }),
+        }
+    }
+}
+
+/// The rows that a JSON value at a path stands for, in the order of their paths, or its first fault.
+///
+/// It takes time linear in the JSON value and n log n comparisons of paths for n rows, beside a search by halves for each name
+/// and each entry, and what `read_scalar` takes for each value.
+pub fn read_data(
+    alloc: Global,
+    schema: &Schema,
+    patterns: &Patterns,
+    path: &Path,
+    json: &Json,
+) -> Result<Rows, DataFault>
+    requires { patterns.now ≡ patterns_of schema.now }
+    ensures { GivesUnless DataFault.NoMemory (λ rows. rows) result (spec.read_data schema.now path.now (view json.now)) }
+{
+    let reader = Reader::new(alloc, schema, patterns);
+    let mut rows = Vec::new(alloc);
+    reader.rows_at(path, json, &mut rows)?;
+    Ok(in_order(alloc, rows)?)
+}

@@ -5,7 +5,7 @@ use Rattle.std.specs.Cmp.Lexicographic.{slice_cmp}
 use Rattle.std.specs.List.{slice_get}
 use Rattle.std.specs.Option.{option_map_or}
 use Rattle.std.specs.Ordering.{nat_cmp, match_ordering}
-use Rattle.serde_json.specs.Data.{Data, null, number, string, array, Items, no_items, item, Members, no_members, member, put}
+use Rattle.serde_json.specs.Data.{Data, null, number, Members, no_members, member, put}
 use Rattle.serde_json.specs.Find.{of_integer}
 use Rattle.serde_json.specs.View.{items_of}
 use Rattle.serde_json.specs.Written.{has_float, items_have_float, members_have_float}
@@ -96,7 +96,7 @@ whole_scalar : (table : SchemaTable) (value : Value) (n : ℕ) → has_float (sc
 unfolding scalar_json
 whole_scalar table value n =
     if_some (λ ty. option_map_or (λ m. json_of table ty m value) (module_of table n) null) (type_of table n)
-        (λ ty. if_some (λ m. json_of table ty m value) (module_of table n) (λ m. whole_json table ty m value))
+    (λ ty. if_some (λ m. json_of table ty m value) (module_of table n) (λ m. whole_json table ty m value))
 
 whole_leaf : (table : SchemaTable) (n : ℕ) (rows : List Row) → has_float (leaf_json table n rows) ≡ false
 whole_leaf table n [] = refl

@@ -24,11 +24,7 @@ pub fn path_fault_text(alloc: Global, fault: PathTextFault) -> Result<Str, NoMem
 
 /// Why a value is no data of the schema: a word, the path of the place as a JSON text, and behind it the name or the fault of
 /// the value, if there is one. It fails only where memory runs out.
-pub fn data_fault_text(
-    alloc: Global,
-    schema: &Schema,
-    fault: &DataFault,
-) -> Result<Str, NoMemory>
+pub fn data_fault_text(alloc: Global, schema: &Schema, fault: &DataFault) -> Result<Str, NoMemory>
     ensures { IfOk result (λ text. text ≡ spec.data_fault_text schema.now fault.now) }
 {
     let mut text = String::new(alloc);

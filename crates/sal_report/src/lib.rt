@@ -19,13 +19,15 @@
 //! ```
 //!
 //! Cost: the text grows in place. Beside it stand the JSON and the text of one reply or of one tree at a time. Time is linear
-//! in the text, in the steps of the rows' paths, and in what `sal_data` takes to write the rows.
+//! in the text, beside what `sal_data` takes to write the rows and `sal_pathtext` to write the paths.
 #![tactic(auto)]
 
 mod faults;
 mod lines;
 mod pieces;
 mod replies;
+#[cfg(test)]
+mod tests;
 mod words;
 
 pub use faults::{data_fault_text, path_fault_text};

@@ -116,12 +116,7 @@ fn push_trees(
 }
 
 // A space and a tree.
-fn push_tree(
-    alloc: Global,
-    text: &mut String,
-    schema: &Schema,
-    rows: &Rows,
-) -> Result<(), NoMemory>
+fn push_tree(alloc: Global, text: &mut String, schema: &Schema, rows: &Rows) -> Result<(), NoMemory>
     ensures { OnOk result (string_bytes text.new ≡ string_bytes text.old ++ spec.tree_text schema.now rows.now) }
 {
     text.push(' ')?;

@@ -28,10 +28,7 @@ pub(crate) fn kind_word(kind: ClashKind) -> &'static str
 pub(crate) fn truth_word(truth: bool) -> &'static str
     ensures { result.now ≡ truth_text truth }
 {
-    match truth {
-        true => "true",
-        false => "false",
-    }
+    if truth { "true" } else { "false" }
 }
 
 // Why a value is none of its type.

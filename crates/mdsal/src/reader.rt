@@ -18,10 +18,13 @@ pub struct Reader {
 
 impl Model for Reader {
     ghost use Rattle.std.specs.Prelude.{◌≡◌};
-    ghost use Rattle.sal_schema.specs.declared.table.SchemaTable.{SchemaTable};
+    ghost use Rattle.sal_schema.specs.declared.table.SchemaTable.{SchemaTable as Table};
+    ghost use Rattle.sal_schema.specs.contracts.table.SchemaTable as e;
     ghost use Rattle.sal_json.specs.Patterns.{patterns_of};
 
-    ghost Value = { SchemaTable };
+    ghost Value = { Table };
+
+    ghost coded = { e.the_row.coded };
 
     ghost view = { λ a. a.schema };
 

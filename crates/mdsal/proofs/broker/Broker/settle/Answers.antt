@@ -6,6 +6,7 @@ use Rattle.sal_history.specs.declared.call.Entry.{Entry}
 use Rattle.sal_history.specs.History.{decide_next}
 use Rattle.mdsal.specs.declared.decided.Submission.{Submission}
 use Rattle.mdsal.specs.Kept.{sent_of, world_of}
+use Rattle.mdsal.specs.Known.{Known}
 use Rattle.mdsal.proofs.Histories.{IsCurrent-settle, reply-settle, length-sents}
 use Rattle.mdsal.proofs.KeptLemmas.{slice_get_some}
 use Rattle.mdsal.proofs.broker.Broker.settle.Goals as goal
@@ -17,7 +18,8 @@ invariant_of-self-2 c =
     let log : c.push.new.self.items ≡ c.self.inside.log.items ++ e ∷ [] = grind (arith, common_steps, c.push.ensures.items, c.unwrap.ensures, c.reserve.ensures.items) in
     let next = c.in_ok-outcome.ensures.next ∙ ap (λ (ss : List Submission). os ++ decide_next (world_of c.self.inside.decided.commits.items) (map sent_of ss) os (c.args.receipt - length os)) c.deref.ensures.value in
     let now = rw c.deref.ensures.value at c.in_ok-outcome.ensures.decided in
-    rw log (IsCurrent-settle _ _ _ _ _ c.self.invariant c.args.client c.args.number c.args.receipt _ _ next now)
+    let same : world_of c.settle.new.self.commits.items ≡ world_of c.self.inside.decided.commits.items = now.world_is in
+    rw (log, same) (IsCurrent-settle _ _ _ _ _ c.self.invariant c.args.client c.args.number c.args.receipt _ _ next now)
 
 pub returns-clause-ok : goal.returns-clause-ok
 returns-clause-ok c =
@@ -29,4 +31,5 @@ returns-clause-ok c =
     let given = rw (← c.self.view_is) at c.requires.given in
     let within : c.args.receipt - 1 < length ss = omega (arith, length-sents _ _ _ _ _ c.self.invariant c.args.client c.args.number, given) in
     let (s, at) = slice_get_some ss (c.args.receipt - 1) within in
-    rw (← c.self.view_is) (log, sym (reply-settle _ _ _ _ _ c.self.invariant c.args.client c.args.number c.args.receipt _ s _ next at c.in_ok-outcome.ensures.outcome))
+    let same : world_of c.settle.new.self.commits.items ≡ world_of c.self.inside.decided.commits.items = c.in_ok-outcome.ensures.decided.world_is in
+    rw (← c.self.view_is) ((λ i. let known : Known = record { world = same i; log = log i } in known), sym (reply-settle _ _ _ _ _ c.self.invariant c.args.client c.args.number c.args.receipt _ s _ next at c.in_ok-outcome.ensures.outcome))

@@ -48,15 +48,15 @@ fn has_key_leafs(rows: &[Row], steps: &[Step], leafs: &[u32], values: &[Value]) 
     requires { IsAscending rows.now }
     ensures { result ≡ spec.has_key_leafs rows.now steps.now leafs.now values.now }
 {
-    match leafs {
-        [] => true,
-        [leaf, leafs @ ..] => match values {
-            [] => true,
-            [value, values @ ..] => {
-                has_leaf(rows, steps, *leaf, value) && has_key_leafs(rows, steps, leafs, values)
-            }
-        },
+    for i in 0..leafs.len() {
+        if i >= values.len() {
+            return true;
+        }
+        if !has_leaf(rows, steps, leafs[i], &values[i]) {
+            return false;
+        }
     }
+    true
 }
 
 /// Whether an entry of a list has its key leafs.

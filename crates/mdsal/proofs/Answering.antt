@@ -26,7 +26,6 @@ use Rattle.mdsal.proofs.Views.{apply_ops-push}
 use Rattle.sal_history.specs.declared.opening.Opening.{Opening}
 
 module _ (world : List Opening) where
-
   -- ---- begin
 
   -- a begin on the live domain fills the slot
@@ -75,4 +74,3 @@ module _ (world : List Opening) where
       let next : n ≡ length (sents (history world log)) + 1 = cc in
       let more : length (option_to_list (sent_by (history world log) e.call)) ≡ 1 = ap (λ q. length (option_to_list (sent_by (history world log) q))) call in
       (omega arith, omega (arith, next, ap length (sents-push world log e), length-append (sents (history world log)) (option_to_list (sent_by (history world log) e.call)), more))
-

@@ -22,7 +22,6 @@ use Rattle.mdsal.proofs.Deciding.{done_ops-submit}
 use Rattle.sal_history.specs.declared.opening.Opening.{Opening}
 
 module _ (world : List Opening) where
-
   abbrev answers : List Entry → List Answered
   answers log = history world log
 
@@ -99,4 +98,3 @@ module _ (world : List Opening) where
         let outcome : slice_get (outcomes (answers log) ++ decided_by world (answers log) (Settle n)) (n - 1) ≡ Some o =
         ap (λ (xs : List Outcome). slice_get xs (n - 1)) ((λ i. sym was.outcomes_are i ++ now_decided n i) ∙ sym next) ∙ is in
         λ i. settled (sent i) (outcome i)
-

@@ -135,4 +135,3 @@ module _ (world : List Opening) where
         views = λ s.
             begins_view log mode tx is s ∙ no_ops log s ∙ (λ i. apply_ops (newest_tree world (sym whole i) 0 s) s (sym is.ops i));
       }
-

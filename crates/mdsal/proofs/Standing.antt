@@ -22,6 +22,7 @@ use Rattle.mdsal.specs.Runs.{AreRuns, Goes, GrowsBy, IsRun, Turns, replies_in, r
 use Rattle.mdsal.proofs.Soundness.{IsSound-push}
 use Rattle.sal_history.specs.declared.opening.Opening.{Opening}
 use Rattle.sal_schema.specs.declared.table.SchemaTable.{SchemaTable}
+
 -- ---- by index
 
 pub runs_of-at : (ps : List (List ScriptStep)) (rs : List CodeRun) (i : ℕ) (p : List ScriptStep) (r : CodeRun) → length rs ≡ length ps → i < length rs → p ≡ get_or ps i p → r ≡ get_or rs i r → slice_get (runs_of ps rs) i ≡ Some (run_of p r)
@@ -207,4 +208,3 @@ fresh_more rs new each fresh number k r h at =
           let same : new ≡ r = sym (at ∙ ap (λ i. get_or (rs ++ new ∷ []) i r) last ∙ get_or-append_seam rs new [] r) in
           (subst IsFresh same fresh, ap (λ (x : CodeRun). x.client.number) (sym same) ∙ number ∙ sym last)
     ]
-

@@ -22,4 +22,3 @@ module _ (world : List Opening) where
   pub view-push : (log : List Entry) (e : Entry) (domain place : ℕ) (ops : List Op) (s : Store) → place ≤ length log → view world (log ++ e ∷ []) domain place ops s ≡ view world log domain place ops s
   view-push log e domain place ops s within =
       ap (λ (l : List Entry). apply_ops (newest_tree world l domain s) s ops) (take-append-le place log (e ∷ []) within)
-

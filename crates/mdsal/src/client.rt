@@ -12,9 +12,9 @@ ghost use Rattle.sal_types.specs.Tree.{under};
 ghost use Rattle.mdsal.specs.Refused as found;
 
 use crate::broker::Broker;
+use crate::reader::Reader;
 use crate::slots::{Slots, empty_slots, fill_slot, look_at, take_slot};
 use crate::transaction::Transaction;
-use crate::reader::Reader;
 use sal_data::DataFault;
 use sal_history::Reply;
 use sal_pathtext::PathTextFault;

@@ -116,7 +116,10 @@ fn a_client_reads_an_opening(rt: HostRuntime) -> Result<(), Fail> {
         )?;
         let report = told(&rt, script.as_str())?;
         let wanted = format!(in rt.alloc(); "order 0\n0 0 begun 0\n0 1 {reply}\ntree 0 0 ")?;
-        assert!(rt; report.as_str().starts_with(wanted.as_str()), "{path} {report}");
+        assert!(rt;
+            report.as_str().starts_with(wanted.as_str()),
+            "{path} {report}"
+        );
     }
     Ok(())
 }
@@ -124,7 +127,9 @@ fn a_client_reads_an_opening(rt: HostRuntime) -> Result<(), Fail> {
 #[test]
 fn an_opening_has_its_first_fault(rt: HostRuntime) -> Result<(), Fail> {
     for (tree, fault) in OPENINGS {
-        let script = format!(in rt.alloc(); "{{\"modules\":[\"{MODULE}\"],\"operational\":{tree}}}")?;
+        let script = format!(in rt.alloc();
+            "{{\"modules\":[\"{MODULE}\"],\"operational\":{tree}}}"
+        )?;
         let line = told(&rt, script.as_str())?;
         let wanted = format!(in rt.alloc(); "bad opening 0 operational data {fault}\n")?;
         assert!(rt; line.as_str() == wanted.as_str(), "{tree} {line}");

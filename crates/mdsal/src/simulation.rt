@@ -63,12 +63,7 @@ fn into_replies(alloc: Global, runs: Vec<Run>) -> Result<Seq<Seq<StepReply>>, No
 
 impl Simulation {
     // The clients at their beginning, and no calls, over these opening trees.
-    fn new(
-        alloc: Global,
-        programs: &[Program],
-        config: Rows,
-        oper: Rows,
-    ) -> Result<Self, NoMemory>
+    fn new(alloc: Global, programs: &[Program], config: Rows, oper: Rows) -> Result<Self, NoMemory>
         requires { IsTrue (within_limits programs.now) }
         ensures world { IfOk result (λ s. s.broker.world ≡ record { config = config; oper = oper } ∷ []) }
         ensures stand { IfOk result (λ s. stand_of programs.now s.broker.log s.runs.items ≡ play_spec.start programs.now) }
@@ -96,7 +91,13 @@ impl Simulation {
             return Ok(false);
         }
         let run = &mut self.runs[index];
-        let made = run.go(alloc, reader, &mut self.broker, programs[index].items(), gate)?;
+        let made = run.go(
+            alloc,
+            reader,
+            &mut self.broker,
+            programs[index].items(),
+            gate,
+        )?;
         Ok(made)
     }
 
@@ -145,7 +146,14 @@ pub fn play<G: Gate>(
             Err(NoMemory) => return Err(PlayFault::NoMemory),
         }
     }
-    end(alloc, reader, simulation, programs, order.len() as u64, gate)
+    end(
+        alloc,
+        reader,
+        simulation,
+        programs,
+        order.len() as u64,
+        gate,
+    )
 }
 
 // The replies after the order, or its failure at its end.

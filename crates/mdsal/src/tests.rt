@@ -203,7 +203,10 @@ fn lines_name_the_place(rt: HostRuntime) -> Result<(), Fail> {
     assert_eq!(rt; schema.as_str(), "bad schema 0 module 0 unclosed 9\n");
     let text = Str::new(rt.alloc(), "0 config data too-deep \"/\"")?;
     let opening = Status::BadOpening { text }.line(rt.alloc())?;
-    assert_eq!(rt; opening.as_str(), "bad opening 0 config data too-deep \"/\"\n");
+    assert_eq!(rt;
+        opening.as_str(),
+        "bad opening 0 config data too-deep \"/\"\n"
+    );
     assert_eq!(rt; Status::Done.line(rt.alloc())?.as_str(), "");
     Ok(())
 }

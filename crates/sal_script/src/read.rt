@@ -71,11 +71,7 @@ fn parts_of(alloc: Global, members: &Map<String, Value>) -> Result<Script, Scrip
 }
 
 // The data of an opening tree, under the member of this name.
-fn opening_of(
-    alloc: Global,
-    members: &Map<String, Value>,
-    name: &str,
-) -> Result<Value, ScriptFault>
+fn opening_of(alloc: Global, members: &Map<String, Value>, name: &str) -> Result<Value, ScriptFault>
     ensures { Reads view result (spec.or_bad name.now (spec.opening_member name.now (members_view members.now.entries))) }
 {
     match member(members, name) {

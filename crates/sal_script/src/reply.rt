@@ -26,11 +26,7 @@ pub enum StepReply {
     /// The write is one of the transaction's operations.
     Accepted,
     /// The rows at the path and below it, in the view of a transaction of the domain.
-    Read {
-        domain: u32,
-        path: Path,
-        rows: Rows,
-    },
+    Read { domain: u32, path: Path, rows: Rows },
     /// Whether a row stands at the path or below it, in the view of a transaction.
     Exists { found: bool },
     /// The step was refused.

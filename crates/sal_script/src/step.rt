@@ -26,11 +26,7 @@ pub(crate) fn step_of(
     }
 }
 
-fn step_from(
-    alloc: Global,
-    plain: bool,
-    parts: &[Value],
-) -> Result<Option<ScriptStep>, NoMemory>
+fn step_from(alloc: Global, plain: bool, parts: &[Value]) -> Result<Option<ScriptStep>, NoMemory>
     ensures { IfOk result (λ found. found ≡ spec.step_from plain (map view parts.now)) }
 {
     let [word, parts @ ..] = parts else {

@@ -73,6 +73,7 @@ module _ (world : List Opening) where
           is_decided = record {
             within = omega (arith, was.is_decided.within, length-append ss (s ∷ []));
             are_kept = was.is_decided.are_kept;
+            world_is = was.is_decided.world_is;
             commits_are =
                 was.is_decided.commits_are ∙ sym (done_ops-submit (map sent_of ss) os (sent_of s) (omega (arith, was.is_decided.within, length_sents ss)))
                 ∙ ap (λ (xs : List Sent). done_ops 0 xs os) (sym (map_sent-push ss s));

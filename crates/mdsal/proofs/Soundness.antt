@@ -11,12 +11,10 @@ use Rattle.sal_types.specs.Tree.{IsAscending}
 use Rattle.sal_rows.specs.declared.op.Op.{Op}
 use Rattle.sal_rows.specs.declared.outcome.Mode.{Mode}
 use Rattle.sal_rows.specs.Apply.{apply_ops}
-use Rattle.sal_rows.specs.Commits.{next_tree, tree_after}
-use Rattle.sal_rows.proofs.Applied.{IsAscending-apply_ops, apply_ops-unique}
+use Rattle.sal_rows.proofs.Applied.{apply_ops-unique}
 use Rattle.sal_history.specs.declared.call.Call.TheVariants.{Begin}
 use Rattle.sal_history.specs.declared.call.Entry.{Entry}
 use Rattle.sal_history.specs.History.{Answered, Base, answer, began, began_at, commits, history, newest_tree, sent_by, sents}
-use Rattle.sal_history.specs.Trees.{opening_of}
 use Rattle.sal_script.specs.Play.{set_slot}
 use Rattle.mdsal.specs.declared.transaction.Transaction.{Transaction}
 use Rattle.mdsal.specs.declared.client.ClientState.{ClientState}
@@ -107,16 +105,12 @@ module _ (world : List Opening) where
 
   -- ---- a transaction that begins
 
-  ascending_after : (s : Store) (tree : List Row) (commits : List (List Op)) → IsAscending tree → IsAscending (tree_after s tree commits)
-  ascending_after s tree [] h = h
-  ascending_after s tree (ops ∷ commits) h = ascending_after s (next_tree s tree ops) commits (IsAscending-apply_ops tree s ops)
+  newest_rises : (log : List Entry) (mode : Mode) (tx : Transaction) → Begins world log mode tx → (s : Store) → IsAscending (newest_tree world log 0 s)
+  newest_rises log mode tx is Config = is.config_rises
+  newest_rises log mode tx is Oper = is.oper_rises
 
-  opening_ascends : (s : Store) → IsAscending (opening_of world 0 s)
-  opening_ascends Config = refl
-  opening_ascends Oper = refl
-
-  no_ops : (log : List Entry) (s : Store) → newest_tree world log 0 s ≡ apply_ops (newest_tree world log 0 s) s []
-  no_ops log s = apply_ops-unique (newest_tree world log 0 s) s [] (newest_tree world log 0 s) (ascending_after s (opening_of world 0 s) (commits (history world log) 0) (opening_ascends s)) (λ r. refl)
+  no_ops : (tree : List Row) (s : Store) → IsAscending tree → tree ≡ apply_ops tree s []
+  no_ops tree s rises = apply_ops-unique tree s [] tree rises (λ r. refl)
 
   begins_view : (log : List Entry) (mode : Mode) (tx : Transaction) → Begins world log mode tx → (s : Store) → view_of tx s ≡ newest_tree world log 0 s
   begins_view log mode tx is Config = is.config
@@ -133,5 +127,5 @@ module _ (world : List Opening) where
             ∙ ap (λ n. Some (let b : Base = record { domain = 0; commit = n } in b)) (sym is.base);
         within = omega (arith, is.place, length-append log (e ∷ []));
         views = λ s.
-            begins_view log mode tx is s ∙ no_ops log s ∙ (λ i. apply_ops (newest_tree world (sym whole i) 0 s) s (sym is.ops i));
+            begins_view log mode tx is s ∙ no_ops (newest_tree world log 0 s) s (newest_rises log mode tx is s) ∙ (λ i. apply_ops (newest_tree world (sym whole i) 0 s) s (sym is.ops i));
       }

@@ -149,10 +149,6 @@ Comes seen made result = MatchResult result (λ x. made ≡ Ok (seen x)) (IsStat
 abbrev pub IsTextOr : Result (List ℕ) Status → Result (List ℕ) Status → Type 0
 IsTextOr made result = Comes (λ text. text) made result
 
--- the status of a pattern that is refused, unless memory ran out
-abbrev pub IsPatternFault : Status → Type 0
-IsPatternFault status = IsStatusOf {A = List ℕ} (Err (BadSchema 0 (codes "pattern"))) status
-
 -- the status of an opening tree with this fault, unless memory ran out
 abbrev pub IsOpeningFault : SchemaTable → Store → DataFault → Status → Type 0
 IsOpeningFault table s fault status = IsStatusOf (or_opening table s (Err fault)) status

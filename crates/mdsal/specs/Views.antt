@@ -3,6 +3,7 @@ use Rattle.std.specs.Prelude.{◌≡◌, ◌<◌, List, [], ◌∷◌, ◌++◌,
 use Rattle.sal_types.specs.declared.value.Store.{Store}
 use Rattle.sal_types.specs.declared.value.Store.TheVariants.{Config, Oper}
 use Rattle.sal_types.specs.declared.row.Row.{Row}
+use Rattle.sal_types.specs.Tree.{IsAscending}
 use Rattle.sal_rows.specs.declared.op.Op.{Op}
 use Rattle.sal_rows.specs.declared.outcome.Mode.{Mode}
 use Rattle.sal_rows.specs.Apply.{apply_ops}
@@ -29,6 +30,8 @@ pub record Begins (world : List Opening) (log : List Entry) (mode : Mode) (tx : 
   pub ops : tx.ops.items ≡ []
   pub config : tx.config ≡ newest_tree world log 0 Config
   pub oper : tx.oper ≡ newest_tree world log 0 Oper
+  pub config_rises : IsAscending (newest_tree world log 0 Config)
+  pub oper_rises : IsAscending (newest_tree world log 0 Oper)
 
 -- one more operation
 pub record Accepts (op : Op) (old new : Transaction) : Type 0 where

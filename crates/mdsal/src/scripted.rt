@@ -62,17 +62,11 @@ fn compiled(alloc: Global, schema: Schema) -> Result<Reader, Status>
 {
     match Reader::of(alloc, schema) {
         Ok(reader) => Ok(reader),
-        Err(PatternsFault::Refused { .. }) => Err(refused_pattern(alloc)),
+        Err(PatternsFault::Refused { .. }) => match Str::new(alloc, "pattern") {
+            Ok(text) => Err(Status::BadSchema { device: 0, text }),
+            Err(NoMemory) => Err(Status::NoMemory),
+        },
         Err(PatternsFault::NoMemory) => Err(Status::NoMemory),
-    }
-}
-
-fn refused_pattern(alloc: Global) -> Status
-    ensures { spec.IsPatternFault result }
-{
-    match Str::new(alloc, "pattern") {
-        Ok(text) => Status::BadSchema { device: 0, text },
-        Err(NoMemory) => Status::NoMemory,
     }
 }
 

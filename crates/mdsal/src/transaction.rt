@@ -1,6 +1,7 @@
 //! A client's open transaction, with its view.
 ghost use Rattle.std.specs.Prelude.{◌≡◌, [], ◌∷◌, ◌++◌, IfOk, OnOk};
 ghost use Rattle.sal_types.specs.declared.value.Store.TheVariants.{Config, Oper};
+ghost use Rattle.sal_types.specs.Tree.{IsAscending};
 ghost use Rattle.sal_rows.specs.Apply.{apply_ops};
 ghost use Rattle.sal_history.specs.History.{newest_tree};
 
@@ -21,6 +22,18 @@ pub struct Transaction {
     pub oper: Rows,
 }
 
+// A copy of a tree. An empty one takes no memory.
+fn copy_of(alloc: Global, tree: &Rows) -> Result<Rows, NoMemory>
+    ensures rows { IfOk result (λ rows. rows ≡ tree.now) }
+    ensures ascending { IsAscending tree.now }
+{
+    if tree.items().is_empty() {
+        Ok(Rows::new(alloc))
+    } else {
+        Ok(tree.copy()?)
+    }
+}
+
 impl Transaction {
     ghost use Rattle.mdsal.specs.Views.{view_of, Begins, Accepts};
 
@@ -29,8 +42,8 @@ impl Transaction {
         ensures { IfOk result (λ tx. Begins broker.now.world broker.now.log mode tx) }
     {
         let (config, oper) = broker.trees();
-        let config = config.copy()?;
-        let oper = oper.copy()?;
+        let config = copy_of(alloc, config)?;
+        let oper = copy_of(alloc, oper)?;
         Ok(Transaction {
             place: broker.log().len() as u64,
             base: broker.newest(),

@@ -8,6 +8,7 @@ pub mod KeptLemmas
 pub mod Lists
 pub mod Looking
 pub mod Numbers
+pub mod Patterned
 pub mod Soundness
 pub mod Standing
 pub mod Statements

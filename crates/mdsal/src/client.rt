@@ -259,7 +259,10 @@ impl ClientState {
         match look_at(&self.transactions, slot) {
             None => Ok(refused(StepRefusal::EmptySlot)),
             Some(tx) => match path_of(alloc, reader, text)? {
-                Ok(path) => rows_read(tx.view(store), path),
+                Ok(path) => {
+                    let reply = rows_read(tx.view(store), path)?;
+                    Ok(reply)
+                }
                 Err(refusal) => Ok(refused(refusal)),
             },
         }

@@ -1,12 +1,13 @@
 -- What is left is to play the rest of the order from here.
-use Rattle.std.proofs.Common.{◌≡◌, [], ◌∷◌, drop}
+use Rattle.std.proofs.Common.{◌≡◌, drop}
 use Rattle.sal_script.specs.Play.{play, play_from}
 use Rattle.mdsal.specs.Runs.{stand_of, AreRuns}
 use Rattle.mdsal.proofs.simulation.play.Given as goal
 
 abbrev pub invariant-loop-i : goal.invariant-loop-i
 invariant-loop-i g l = record {
-  world : l.simulation.broker.world ≡ record { config = l.config; oper = l.oper } ∷ [];
+  world : l.simulation.broker.world ≡ l.initial.simulation.broker.world;
   runs : AreRuns l.simulation.broker.world l.simulation.broker.log l.programs l.simulation.runs.items;
-  rest : play_from l.reader l.simulation.broker.world l.i (stand_of l.programs l.simulation.broker.log l.simulation.runs.items) (drop l.i l.order) ≡ play l.reader (record { config = l.config; oper = l.oper } ∷ []) l.programs l.order;
+  rest : play_from l.reader l.simulation.broker.world l.i (stand_of l.programs l.simulation.broker.log l.simulation.runs.items) (drop l.i l.order)
+      ≡ play l.reader l.initial.simulation.broker.world l.programs l.order;
 }

@@ -1,0 +1,9 @@
+-- The clients stand over the opening trees.
+use Rattle.std.proofs.Common.{sym, subst}
+use Rattle.mdsal.specs.Known.{Known}
+use Rattle.mdsal.specs.Runs.{AreRuns}
+use Rattle.mdsal.proofs.simulation.Simulation.new.Goals as goal
+
+pub returns-clause-runs : goal.returns-clause-runs
+returns-clause-runs c =
+    subst (λ (known : Known). AreRuns known.world known.log c.args.programs.now c.in_ok-runs.runs.items) (sym c.in_ok-broker.ensures) (c.in_ok-runs.ensures.runs _)

@@ -95,6 +95,21 @@ const OPENINGS: [(&str, &str); 9] = [
     ),
 ];
 
+// Two modules, of which the second augments a list of the first.
+const NETWORK: &str =
+    r#"{"modules":["module topo { yang-version 1.1; namespace \"urn:topo\"; prefix t;\n typedef port-no { type uint16 { range \"1..4096\"; } }\n grouping stats { leaf octets { type uint64; config false; } }\n container network { list node { key id; leaf id { type string { length \"1..8\"; } }\n  list link { key \"peer port\"; leaf peer { type string; } leaf port { type port-no; }\n   leaf speed { type enumeration { enum slow; enum fast; } } uses stats; } } } }","module geo { yang-version 1.1; namespace \"urn:geo\"; prefix g; import topo { prefix t; }\n augment \"/t:network/t:node\" { leaf site { type string; } } }"],"config":{"topo:network":{"node":[{"id":"a","geo:site":"n"}]}},"clients":[{"steps":[["begin",0,0,"ro"],["read",0,"config","/topo:network/node[id='a']/geo:site"],["exists",0,"config","/topo:network/node[id='b']"],["read",0,"config","/topo:network/node[id='']"],["read",0,"config","/topo:network/node/id"],["read",0,"config","/topo:network/geo:site"],["read",0,"config","topo:network"]]}],"order":[0]}"#;
+
+const NETWORK_REPORT: &str = r#"order 0
+0 0 begun 0
+0 1 data "n"
+0 2 false
+0 3 refused path bad-predicate 18
+0 4 refused path bad-predicate 14
+0 5 refused path unknown-node 14
+0 6 refused path bad-text 0
+tree 0 0 {"topo:network":{"node":[{"geo:site":"n","id":"a"}]}} {}
+"#;
+
 // What `sim` writes for the script, or the line of its status.
 fn told(rt: &HostRuntime, input: &str) -> Result<String, Fail> {
     let words = vec![in rt.alloc(); Str::new(rt.alloc(), "sim")?]?;
@@ -134,5 +149,12 @@ fn an_opening_has_its_first_fault(rt: HostRuntime) -> Result<(), Fail> {
         let wanted = format!(in rt.alloc(); "bad opening 0 operational data {fault}\n")?;
         assert!(rt; line.as_str() == wanted.as_str(), "{tree} {line}");
     }
+    Ok(())
+}
+
+#[test]
+fn modules_augment_one_another(rt: HostRuntime) -> Result<(), Fail> {
+    let report = told(&rt, NETWORK)?;
+    assert!(rt; report.as_str() == NETWORK_REPORT, "{report}");
     Ok(())
 }

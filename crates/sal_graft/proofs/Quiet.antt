@@ -1,6 +1,6 @@
 -- Where nothing clashes, base and tip have the same rows at and below each path that is put or deleted.
 use Rattle.std.proofs.Common.{◌≡◌, ℕ, zero, suc, ◌+◌, ◌-◌, ◌≤◌, Bool, true, false, List, [], ◌∷◌, ◌++◌, ◌&&◌, ◌||◌, Option, None, Some, refl, ap, sym, subst, ◌∙◌, cond, arith, take, length, append_assoc, if◌then◌else◌}
-use Rattle.std.specs.Prelude.{not, find, slice_get, unwrap_or, All}
+use Rattle.std.specs.Prelude.{not, find, slice_get, unwrap_or}
 use Rattle.std.specs.List.{list_any}
 use Rattle.std.specs.Option.{option_map, option_or}
 use Rattle.std.proofs.lemmas.List.{take_all}
@@ -18,8 +18,8 @@ use Rattle.sal_rows.proofs.Applied.{cell-apply_ops}
 use Rattle.sal_rows.proofs.Untouched.{or_first, or_second, no_cell, cell-untouched}
 use Rattle.sal_types.proofs.Prefixes.{IsPrefix-from_test, is_prefix-append}
 use Rattle.sal_graft.specs.declared.found.Clash.{Clash}
-use Rattle.sal_graft.specs.Clash.{clash, clash_from, op_clash, parent_clash, path_clash, tip}
-use Rattle.sal_graft.specs.Quiet.{SameBelow, AreSpans, with_own, NoClashIsQuiet}
+use Rattle.sal_graft.specs.Clash.{clash_from, op_clash, parent_clash, path_clash, tip}
+use Rattle.sal_graft.specs.Quiet.{SameBelow, AreSpans, with_own, AreQuiet, NoClashIsQuiet}
 
 -- ---- what is below a path
 
@@ -110,10 +110,10 @@ module _ (opening : Store → List Row) (commits : List (List Op)) (s : Store) (
       let start : suc span.to ≡ next.from = omega (arith, are.1) in
       let own = unwrap_or (slice_get commits (next.from - 1)) [] in
       over_spans next spans (apply_ops tree s own) are.2 (none_rest span (next ∷ spans) none) (λ r below.
-          same-apply s own p tree (tree_at opening commits s span.to) here r below
-          ∙ ap (λ k. cell (apply_ops (tree_at opening commits s span.to) s (unwrap_or (slice_get commits k) [])) r) back
-          ∙ own_commit s (opening s) commits span.to r
-          ∙ ap (λ k. cell (tree_at opening commits s k) r) start)
+      same-apply s own p tree (tree_at opening commits s span.to) here r below
+      ∙ ap (λ k. cell (apply_ops (tree_at opening commits s span.to) s (unwrap_or (slice_get commits k) [])) r) back
+      ∙ own_commit s (opening s) commits span.to r
+      ∙ ap (λ k. cell (tree_at opening commits s k) r) start)
 
 -- ---- all operations
 
@@ -154,7 +154,7 @@ module _ (opening : Store → List Row) (commits : List (List Op)) (base : Store
       ∙ over_spans opening commits s p span spans (tree_at opening commits s span.from) are (no_map _ _ e) (λ r below. refl) r below
 
   -- below an earlier put or delete
-  at_covered : (earlier : List Op) (s : Store) (p : List Step) → All IsQuietAt earlier → is_covered earlier s p ≡ true → SameBelow p (base s) (tip opening commits s)
+  at_covered : (earlier : List Op) (s : Store) (p : List Step) → AreQuiet base (tip opening commits) earlier → is_covered earlier s p ≡ true → SameBelow p (base s) (tip opening commits s)
   at_covered [] s p quiet e = absurd (no_cover e)
     where
       no_cover : false ≡ true → ⊥
@@ -169,26 +169,26 @@ module _ (opening : Store → List Row) (commits : List (List Op)) (base : Store
         | false ↦ λ b f. at_covered earlier s p quiet.1 f
       ] refl e
 
-  at_op : (earlier : List Op) (op : Op) → All IsQuietAt earlier → op_clash opening commits base (span ∷ spans) earlier op ≡ None → IsQuietAt op
+  at_op : (earlier : List Op) (op : Op) → AreQuiet base (tip opening commits) earlier → op_clash opening commits base (span ∷ spans) earlier op ≡ None → IsQuietAt op
   at_op earlier op quiet e checks =
       let none = or_none_second (parent_clash opening commits base (span ∷ spans) earlier op) (path_clash opening commits (span ∷ spans) earlier op) e in
       elim (is_covered earlier op.store op.path) as (λ b. is_covered earlier op.store op.path ≡ b
-        → (if checks_path op.act && not b
-           then option_map (found_at earlier op) (clash_at opening commits op.store (span ∷ spans) op.path)
-           else None) ≡ None → SameBelow op.path (base op.store) (tip opening commits op.store)) [
+      → (if checks_path op.act && not b
+      then option_map (found_at earlier op) (clash_at opening commits op.store (span ∷ spans) op.path)
+      else None) ≡ None → SameBelow op.path (base op.store) (tip opening commits op.store)) [
         | true ↦ λ b f. at_covered earlier op.store op.path quiet b
         | false ↦ λ b f. at_path op.store op.path (no_map (found_at earlier op) _ (ap (λ c. if c && true then option_map (found_at earlier op) (clash_at opening commits op.store (span ∷ spans) op.path) else None) (sym checks) ∙ f))
       ] refl none
 
-  All-push : (earlier : List Op) (op : Op) → All IsQuietAt earlier → IsQuietAt op → All IsQuietAt (earlier ++ op ∷ [])
-  All-push [] op quiet q = (q, tt)
-  All-push (o ∷ earlier) op quiet q = (quiet.0, All-push earlier op quiet.1 q)
+  quiet-push : (earlier : List Op) (op : Op) → AreQuiet base (tip opening commits) earlier → IsQuietAt op → AreQuiet base (tip opening commits) (earlier ++ op ∷ [])
+  quiet-push [] op quiet q = (q, tt)
+  quiet-push (o ∷ earlier) op quiet q = (quiet.0, quiet-push earlier op quiet.1 q)
 
-  from : (earlier ops : List Op) → All IsQuietAt earlier → clash_from opening commits base (span ∷ spans) earlier ops ≡ None → All IsQuietAt ops
+  from : (earlier ops : List Op) → AreQuiet base (tip opening commits) earlier → clash_from opening commits base (span ∷ spans) earlier ops ≡ None → AreQuiet base (tip opening commits) ops
   from earlier [] quiet e = tt
   from earlier (op ∷ ops) quiet e =
       let here = at_op earlier op quiet (or_none_first (op_clash opening commits base (span ∷ spans) earlier op) _ e) in
-      (here, from (earlier ++ op ∷ []) ops (All-push earlier op quiet here) (or_none_second (op_clash opening commits base (span ∷ spans) earlier op) _ e))
+      (here, from (earlier ++ op ∷ []) ops (quiet-push earlier op quiet here) (or_none_second (op_clash opening commits base (span ∷ spans) earlier op) _ e))
 
 pub no_clash-quiet : NoClashIsQuiet
 no_clash-quiet opening commits base span spans ops are is_base none = from opening commits base span spans are is_base [] ops tt none

@@ -1,6 +1,6 @@
 -- Conflicts of a transaction with the commits that came after its base, by two tests of each operation. They follow the
 -- optimistic commit of the MD-SAL developer guide and its tables of conflicts; the exact rule is this project's own.
-use Rattle.std.specs.Prelude.{ℕ, ◌-◌, Bool, true, false, not, ◌&&◌, List, [], ◌∷◌, ◌++◌, length, take, find, reverse, Option, None, Some, is_some, if◌then◌else◌, unwrap_or}
+use Rattle.std.specs.Prelude.{ℕ, ◌-◌, Bool, true, false, not, ◌&&◌, List, [], ◌∷◌, ◌++◌, length, take, find, reverse, Option, None, is_some, if◌then◌else◌, unwrap_or}
 use Rattle.std.specs.Option.{option_or, option_map}
 use Rattle.sal_types.specs.declared.value.Store.{Store}
 use Rattle.sal_types.specs.declared.value.Step.{Step}

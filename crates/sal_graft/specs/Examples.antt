@@ -7,11 +7,9 @@ use Rattle.sal_types.specs.declared.value.Step.{Step}
 use Rattle.sal_types.specs.declared.value.Step.TheVariants.{Node, Key}
 use Rattle.sal_types.specs.declared.value.Cell.TheVariants.{Mark, Leaf}
 use Rattle.sal_types.specs.declared.row.Row.{Row}
-use Rattle.sal_rows.specs.declared.op.Act.{Act}
 use Rattle.sal_rows.specs.declared.op.Act.TheVariants.{Put, Merge, Delete}
 use Rattle.sal_rows.specs.declared.op.Op.{Op}
 use Rattle.sal_rows.specs.declared.outcome.ClashKind.{ClashKind}
-use Rattle.sal_rows.specs.Commits.{Span}
 use Rattle.sal_graft.specs.declared.found.Clash.{Clash}
 use Rattle.sal_graft.specs.Clash.{clash}
 

@@ -1,5 +1,5 @@
 -- What no conflict says: base and tip have the same rows at and below each path that is put or deleted.
-use Rattle.std.specs.Prelude.{◌≡◌, ℕ, ◌+◌, ◌-◌, ◌≤◌, true, List, [], ◌∷◌, length, All, None, slice_get, unwrap_or}
+use Rattle.std.specs.Prelude.{◌≡◌, ℕ, ◌+◌, ◌-◌, ◌≤◌, true, List, [], ◌∷◌, length, None, slice_get, unwrap_or}
 use Rattle.sal_types.specs.declared.value.Store.{Store}
 use Rattle.sal_types.specs.declared.value.Step.{Step}
 use Rattle.sal_types.specs.declared.row.Row.{Row}
@@ -25,6 +25,11 @@ abbrev pub with_own : List (List Op) → Store → List Row → List Span → Li
 with_own commits s tree [] = tree
 with_own commits s tree (span ∷ spans) = with_own commits s (apply_ops tree s (unwrap_or (slice_get commits (span.from - 1)) [])) spans
 
+-- below each path that is put or deleted, two pairs of trees have the same cells
+abbrev pub AreQuiet : (Store → List Row) → (Store → List Row) → List Op → Type 0
+AreQuiet base tip [] = Unit {0}
+AreQuiet base tip (op ∷ ops) = (checks_path op.act ≡ true → SameBelow op.path (base op.store) (tip op.store)) × AreQuiet base tip ops
+
 -- Where the base is the tree at the start of the first span with the own commits, and nothing clashes.
 abbrev pub NoClashIsQuiet : Type 0
 NoClashIsQuiet =
@@ -32,4 +37,4 @@ NoClashIsQuiet =
     → AreSpans (length commits) span spans
     → ((s : Store) → base s ≡ with_own commits s (tree_at opening commits s span.from) spans)
     → clash opening commits base (span ∷ spans) ops ≡ None
-    → All (λ op. checks_path op.act ≡ true → SameBelow op.path (base op.store) (tip opening commits op.store)) ops
+    → AreQuiet base (tip opening commits) ops

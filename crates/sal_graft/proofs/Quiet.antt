@@ -18,7 +18,7 @@ use Rattle.sal_rows.proofs.Applied.{cell-apply_ops}
 use Rattle.sal_rows.proofs.Untouched.{or_first, or_second, no_cell, cell-untouched}
 use Rattle.sal_types.proofs.Prefixes.{IsPrefix-from_test, is_prefix-append}
 use Rattle.sal_graft.specs.declared.found.Clash.{Clash}
-use Rattle.sal_graft.specs.Clash.{clash_from, op_clash, parent_clash, path_clash, tip}
+use Rattle.sal_graft.specs.Clash.{numbers_over, clash_from, op_clash, parent_clash, path_clash, tip}
 use Rattle.sal_graft.specs.Quiet.{SameBelow, AreSpans, with_own, AreQuiet, NoClashIsQuiet}
 
 -- ---- what is below a path
@@ -51,6 +51,10 @@ own_commit s tree [] zero r = cell-apply_ops tree s [] r
 own_commit s tree [] (suc k) r = cell-apply_ops tree s [] r
 own_commit s tree (ops ∷ commits) zero r = refl
 own_commit s tree (ops ∷ commits) (suc k) r = own_commit s (apply_ops tree s ops) commits k r
+
+any_append : (t : ℕ → Bool) (xs ys : List ℕ) → list_any t (xs ++ ys) ≡ (list_any t xs || list_any t ys)
+any_append t [] ys = refl
+any_append t (x ∷ xs) ys = elim (t x) as (λ b. (b || list_any t (xs ++ ys)) ≡ ((b || list_any t xs) || list_any t ys)) [ true ↦ refl | false ↦ any_append t xs ys ]
 
 module _ (opening : Store → List Row) (commits : List (List Op)) (s : Store) (p : List Step) where
   -- ---- one span
@@ -99,21 +103,52 @@ module _ (opening : Store → List Row) (commits : List (List Op)) (s : Store) (
   none_rest : (span : Span) (spans : List Span) → find changed (span ∷ spans) ≡ None → find changed spans ≡ None
   none_rest span spans e = elim (is_unchanged opening commits s p span) as (λ b. cond (not b) (Some span) (find changed spans) ≡ None → find changed spans ≡ None) [ true ↦ λ f. f | false ↦ λ f. cc ] e
 
-  over_spans : (span : Span) (spans : List Span) (tree : List Row) → AreSpans (length commits) span spans → find changed (span ∷ spans) ≡ None
+  abbrev AllSame : List Span → Type 0
+  AllSame [] = Unit {0}
+  AllSame (span ∷ spans) = SameBelow p (tree_at opening commits s span.from) (tree_at opening commits s span.to) × AllSame spans
+
+  over_same : (span : Span) (spans : List Span) (tree : List Row) → AreSpans (length commits) span spans → AllSame (span ∷ spans)
       → SameBelow p tree (tree_at opening commits s span.from) → SameBelow p (with_own commits s tree spans) (tip opening commits s)
-  over_spans span [] tree are none same =
+  over_same span [] tree are all_same same =
       let all : take span.to commits ≡ commits = take_all span.to commits (omega (arith, are.1)) in
-      λ r below. same r below ∙ unchanged-same span are.0 (none_first span [] none) r below ∙ ap (λ cs. cell (tree_after s (opening s) cs) r) all
-  over_spans span (next ∷ spans) tree are none same =
-      let here : SameBelow p tree (tree_at opening commits s span.to) = λ r below. same r below ∙ unchanged-same span are.0 (none_first span (next ∷ spans) none) r below in
+      λ r below. same r below ∙ all_same.0 r below ∙ ap (λ (cs : List (List Op)). cell (tree_after s (opening s) cs) r) all
+  over_same span (next ∷ spans) tree are all_same same =
+      let here : SameBelow p tree (tree_at opening commits s span.to) = λ r below. same r below ∙ all_same.0 r below in
       let back : next.from - 1 ≡ span.to = omega (arith, are.1) in
       let start : suc span.to ≡ next.from = omega (arith, are.1) in
       let own = unwrap_or (slice_get commits (next.from - 1)) [] in
-      over_spans next spans (apply_ops tree s own) are.2 (none_rest span (next ∷ spans) none) (λ r below.
+      over_same next spans (apply_ops tree s own) are.2 all_same.1 (λ r below.
       same-apply s own p tree (tree_at opening commits s span.to) here r below
       ∙ ap (λ k. cell (apply_ops (tree_at opening commits s span.to) s (unwrap_or (slice_get commits k) [])) r) back
       ∙ own_commit s (opening s) commits span.to r
       ∙ ap (λ k. cell (tree_at opening commits s k) r) start)
+
+  unchanged_all : (span : Span) (spans : List Span) → AreSpans (length commits) span spans → find changed (span ∷ spans) ≡ None → AllSame (span ∷ spans)
+  unchanged_all span [] are none = (unchanged-same span are.0 (none_first span [] none), tt)
+  unchanged_all span (next ∷ spans) are none =
+      (unchanged-same span are.0 (none_first span (next ∷ spans) none), unchanged_all next spans are.2 (none_rest span (next ∷ spans) none))
+
+  untouched-same : (span : Span) → span.from ≤ span.to → list_any (touches_at opening commits s p) (numbers_in span) ≡ false → SameBelow p (tree_at opening commits s span.from) (tree_at opening commits s span.to)
+  untouched-same span ordered none =
+      let end : span.from + (span.to - span.from) ≡ span.to = omega (arith, ordered) in
+      λ r below. untouched (span.to - span.from) span.from none r below ∙ ap (λ k. cell (tree_at opening commits s k) r) end
+
+  untouched_all : (span : Span) (spans : List Span) → AreSpans (length commits) span spans → list_any (touches_at opening commits s p) (numbers_over (span ∷ spans)) ≡ false → AllSame (span ∷ spans)
+  untouched_all span [] are none =
+      (untouched-same span are.0 (or_first (list_any (touches_at opening commits s p) (numbers_in span)) false (sym (any_append (touches_at opening commits s p) (numbers_in span) []) ∙ none)), tt)
+  untouched_all span (next ∷ spans) are none =
+      let parts = sym (any_append (touches_at opening commits s p) (numbers_in span) (numbers_over (next ∷ spans))) ∙ none in
+      (untouched-same span are.0 (or_first (list_any (touches_at opening commits s p) (numbers_in span)) _ parts), untouched_all next spans are.2 (or_second (list_any (touches_at opening commits s p) (numbers_in span)) _ parts))
+
+  -- where p is unchanged over each span, base and tip have the same there
+  pub over_unchanged : (span : Span) (spans : List Span) (tree : List Row) → AreSpans (length commits) span spans → find changed (span ∷ spans) ≡ None
+      → SameBelow p tree (tree_at opening commits s span.from) → SameBelow p (with_own commits s tree spans) (tip opening commits s)
+  over_unchanged span spans tree are none same = over_same span spans tree are (unchanged_all span spans are none) same
+
+  -- and so where no commit in a span touches it
+  pub over_untouched : (span : Span) (spans : List Span) (tree : List Row) → AreSpans (length commits) span spans → list_any (touches_at opening commits s p) (numbers_over (span ∷ spans)) ≡ false
+      → SameBelow p tree (tree_at opening commits s span.from) → SameBelow p (with_own commits s tree spans) (tip opening commits s)
+  over_untouched span spans tree are none same = over_same span spans tree are (untouched_all span spans are none) same
 
 -- ---- all operations
 
@@ -151,7 +186,7 @@ module _ (opening : Store → List Row) (commits : List (List Op)) (base : Store
   at_path : (s : Store) (p : List Step) → clash_at opening commits s (span ∷ spans) p ≡ None → SameBelow p (base s) (tip opening commits s)
   at_path s p e = λ r below.
       ap (λ (t : List Row). cell t r) (is_base s)
-      ∙ over_spans opening commits s p span spans (tree_at opening commits s span.from) are (no_map _ _ e) (λ r below. refl) r below
+      ∙ over_unchanged opening commits s p span spans (tree_at opening commits s span.from) are (no_map _ _ e) (λ r below. refl) r below
 
   -- below an earlier put or delete
   at_covered : (earlier : List Op) (s : Store) (p : List Step) → AreQuiet base (tip opening commits) earlier → is_covered earlier s p ≡ true → SameBelow p (base s) (tip opening commits s)

@@ -1,4 +1,4 @@
-//! Which later commit a submission clashes with: the definitions, with worked examples and a law.
+//! Which later commit a submission clashes with: the definitions, with worked examples and two laws.
 //!
 //! | item | what it is |
 //! |---|---|
@@ -18,8 +18,9 @@
 //!    unchanged is a conflict, of the kind that its two ends tell; the commit is the last one in that span that touched
 //!    the path.
 //!
-//! So a merge does not look at its own path, and a covered put still needs its parents. Where there is no conflict, base
-//! and tip have the same rows at and below each path that is put or deleted, own commits of the chain included
+//! So a merge does not look at its own path, and a covered put still needs its parents. Two laws hold, own commits of the
+//! chain included. A conflict names a commit of a span that touched its place (`laws::conflicts_name_a_later_commit`).
+//! Where there is none, base and tip have the same rows at and below each path that is put or deleted
 //! (`laws::no_conflict_leaves_the_paths_alone`).
 //!
 //! ```

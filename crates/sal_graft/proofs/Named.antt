@@ -1,0 +1,203 @@
+-- A conflict names a commit of a span that touched its path.
+use Rattle.std.proofs.Common.{◌≡◌, ℕ, zero, suc, ◌+◌, ◌-◌, ◌<◌, ◌≤◌, Bool, true, false, List, [], ◌∷◌, ◌++◌, ◌||◌, ◌&&◌, take, length, reverse, Option, None, Some, refl, ap, sym, ◌∙◌, subst, cond, if◌then◌else◌, arith, append_assoc, append-nil}
+use Rattle.std.specs.Prelude.{not, find, unwrap_or, slice_get, is_some}
+use Rattle.std.specs.List.{list_any, All, Any, Contains}
+use Rattle.std.specs.Option.{option_or, option_map}
+use Rattle.std.proofs.lemmas.List.{take_all, reverse-append}
+use Rattle.std.proofs.lemmas.List.Elements.{All-contains, All-cons, All-nil, All-weaker, Contains-append_left, Contains-append_right, Contains-push}
+use Rattle.std.proofs.lemmas.List.Sorted.{IsPermutation-reverse, All-permutation, list_any-IsPermutation}
+use Rattle.std.proofs.lemmas.Option.{same_Some}
+use Rattle.sal_types.specs.declared.value.Store.{Store}
+use Rattle.sal_types.specs.declared.value.Step.{Step}
+use Rattle.sal_types.specs.declared.row.Row.{Row}
+use Rattle.sal_types.specs.Prefix.{is_prefix}
+use Rattle.sal_types.specs.Tree.{cell, has}
+use Rattle.sal_types.proofs.Prefixes.{is_prefix-append}
+use Rattle.sal_rows.specs.declared.op.Op.{Op}
+use Rattle.sal_rows.specs.declared.outcome.ClashKind.TheVariants.{Deleted}
+use Rattle.sal_rows.specs.Apply.{checks_path, last_setting}
+use Rattle.sal_rows.specs.Commits.{Span, numbers_after, numbers_in, tree_at, touches_at, is_unchanged, last_touch, kind_over}
+use Rattle.sal_rows.specs.Clash.{Clash as Conflict, clash_at, is_covered, IsNamedIn}
+use Rattle.sal_rows.specs.Clash as rows
+use Rattle.sal_rows.proofs.Named.{named}
+use Rattle.sal_rows.proofs.Untouched.{no_cell}
+use Rattle.sal_graft.specs.declared.found.Clash.{Clash}
+use Rattle.sal_graft.specs.Clash.{clash_from, op_clash, parent_clash, path_clash, needs_parents, is_lost, lost_parent, tip, numbers_over, depths_above, last_touch_over}
+use Rattle.sal_graft.specs.Quiet.{AreSpans, with_own}
+use Rattle.sal_graft.specs.Named.{conflict_of, NamesALaterCommit}
+use Rattle.sal_graft.proofs.Quiet.{over_untouched}
+
+-- ---- searches
+
+find_holds : {X : Type 0} (t : X → Bool) (xs : List X) (x : X) → find t xs ≡ Some x → (t x ≡ true) × Contains xs x
+find_holds t [] x = λ e. cc
+find_holds t (y ∷ xs) x =
+    elim (t y) as (λ b. t y ≡ b → cond b (Some y) (find t xs) ≡ Some x → (t x ≡ true) × Contains (y ∷ xs) x) [
+      | true ↦ λ h e. let same : y ≡ x = same_Some y x e in (sym (ap t same) ∙ h, subst (λ z. Contains (y ∷ xs) z) same (Contains-append_left (y ∷ []) xs y (Contains-push [] y)))
+      | false ↦ λ h e. let rest = find_holds t xs x e in (rest.0, Contains-append_right (y ∷ []) xs x rest.1)
+    ] refl
+
+find_none : {X : Type 0} (t : X → Bool) (xs : List X) → find t xs ≡ None → list_any t xs ≡ false
+find_none t [] = λ e. refl
+find_none t (y ∷ xs) = elim (t y) as (λ b. cond b (Some y) (find t xs) ≡ None → (b || list_any t xs) ≡ false) [ true ↦ λ e. cc | false ↦ λ e. find_none t xs e ]
+
+find-append : {X : Type 0} (t : X → Bool) (xs ys : List X) → find t (xs ++ ys) ≡ option_or (find t xs) (find t ys)
+find-append t [] ys = refl
+find-append t (x ∷ xs) ys =
+    elim (t x) as (λ b. cond b (Some x) (find t (xs ++ ys)) ≡ option_or (cond b (Some x) (find t xs)) (find t ys)) [ true ↦ refl | false ↦ find-append t xs ys ]
+
+-- a search from the end looks at the last part first
+find_part : (t : ℕ → Bool) (xs ys : List ℕ) → find t (reverse (xs ++ ys)) ≡ option_or (find t (reverse ys)) (find t (reverse xs))
+find_part t xs ys = ap (find t) (reverse-append xs ys) ∙ find-append t (reverse ys) (reverse xs)
+
+numbers_lie : (a n : ℕ) → All (λ k. (a < k) × (k ≤ a + n)) (numbers_after a n)
+numbers_lie a zero = All-nil _
+numbers_lie a (suc n) =
+    let first : (a < a + 1) × (a + 1 ≤ a + suc n) = (omega arith, omega arith) in
+    let wider : (k : ℕ) → (a + 1 < k) × (k ≤ a + 1 + n) → (a < k) × (k ≤ a + suc n) = λ k l. (omega (arith, l.0), omega (arith, l.1)) in
+    All-cons (λ k. (a < k) × (k ≤ a + suc n)) (a + 1) (numbers_after (a + 1) n) first
+    (All-weaker (λ k. (a + 1 < k) × (k ≤ a + 1 + n)) (λ k. (a < k) × (k ≤ a + suc n)) wider (numbers_after (a + 1) n) (numbers_lie (a + 1) n))
+
+any_here : {X : Type 0} (P : X → Type 0) (x : X) (xs : List X) → P x → Any P (x ∷ xs)
+any_here P x xs p = (0, x, omega arith, refl, p)
+
+any_there : {X : Type 0} (P : X → Type 0) (y : X) (xs : List X) → Any P xs → Any P (y ∷ xs)
+any_there P y xs w = (suc w.0, w.1, omega (arith, w.2), w.3, w.4)
+
+-- where a search from the end finds a number, one of the spans has it
+found_in : (t : ℕ → Bool) (spans : List Span) (k : ℕ) → All (λ (span : Span). span.from ≤ span.to) spans → find t (reverse (numbers_over spans)) ≡ Some k
+    → Any (λ (span : Span). (span.from < k) × (k ≤ span.to) × (t k ≡ true)) spans
+found_in t [] k ordered e = absurd (nothing e)
+  where
+    nothing : {X : Type 0} {x : X} → None ≡ Some x → ⊥
+    nothing f = cc
+found_in t (span ∷ spans) k ordered e =
+    let P : Span → Type 0 = λ s. (s.from < k) × (k ≤ s.to) × (t k ≡ true) in
+    let lying : ℕ → Type 0 = λ n. (span.from < n) × (n ≤ span.from + (span.to - span.from)) in
+    let le : span.from ≤ span.to = ordered 0 span (omega arith) in
+    elim (find t (reverse (numbers_over spans))) as (λ (o : Option ℕ). find t (reverse (numbers_over spans)) ≡ o → option_or o (find t (reverse (numbers_in span))) ≡ Some k → Any P (span ∷ spans)) [
+      | None ↦ λ f h.
+          let found = find_holds t (reverse (numbers_in span)) k h in
+          let lies : (span.from < k) × (k ≤ span.from + (span.to - span.from)) =
+          All-contains lying (reverse (numbers_in span)) k (All-permutation lying (numbers_in span) (reverse (numbers_in span)) (IsPermutation-reverse (numbers_in span)) (numbers_lie span.from (span.to - span.from))) found.1 in
+          any_here P span spans (lies.0, omega (arith, lies.1, le), found.0)
+      | Some n ↦ λ f h. any_there P span spans (found_in t spans k (λ i s l. ordered (suc i) s (omega (arith, l))) (f ∙ h))
+    ] refl (sym (find_part t (numbers_in span) (numbers_over spans)) ∙ e)
+
+ordered_all : (newest : ℕ) (span : Span) (spans : List Span) → AreSpans newest span spans → All (λ (s : Span). s.from ≤ s.to) (span ∷ spans)
+ordered_all newest span [] are = All-cons (λ (s : Span). s.from ≤ s.to) span [] are.0 (All-nil _)
+ordered_all newest span (next ∷ spans) are = All-cons (λ (s : Span). s.from ≤ s.to) span (next ∷ spans) are.0 (ordered_all newest next spans are.2)
+
+both_true : (a b : Bool) → (a && b) ≡ true → (a ≡ true) × (b ≡ true)
+both_true true true e = (refl, refl)
+both_true true false e = cc
+both_true false b e = cc
+
+not_true : (b : Bool) → not b ≡ true → b ≡ false
+not_true true e = cc
+not_true false e = refl
+
+prefix_itself : (p : List Step) → is_prefix p p ≡ true
+prefix_itself p = ap (is_prefix p) (sym (append-nil p)) ∙ is_prefix-append p []
+
+slice_get_end : (earlier ops : List Op) (op : Op) → slice_get (earlier ++ op ∷ ops) (length earlier) ≡ Some op
+slice_get_end [] ops op = refl
+slice_get_end (o ∷ earlier) ops op = slice_get_end earlier ops op
+
+-- what a lost parent, and a path that is not unchanged, are as conflicts
+abbrev parent_found : (Store → List Row) → List (List Op) → List Span → List Op → Op → ℕ → Clash
+parent_found opening commits spans earlier op d = record { op = length earlier; depth = d; kind = Deleted; commit = unwrap_or (last_touch_over opening commits spans op.store (take d op.path)) 0 }
+
+abbrev path_found : List Op → Op → Conflict → Clash
+path_found earlier op x = record { op = length earlier; depth = length op.path; kind = x.kind; commit = x.commit }
+
+abbrev differs : (Store → List Row) → List (List Op) → Op → Span → Bool
+differs opening commits op x = not (is_unchanged opening commits op.store op.path x)
+
+abbrev conflict_over : (Store → List Row) → List (List Op) → Op → Span → Conflict
+conflict_over opening commits op x = record { store = op.store; path = op.path; kind = kind_over opening commits op.store op.path x; commit = unwrap_or (last_touch opening commits op.store op.path x) 0 }
+
+module _ (opening : Store → List Row) (commits : List (List Op)) (base : Store → List Row) (span : Span) (spans : List Span) (are : AreSpans (length commits) span spans) (is_base : (s : Store) → base s ≡ with_own commits s (tree_at opening commits s span.from) spans) where
+  -- what an operation's conflict says
+  abbrev IsOf : List Op → Op → Clash → Type 0
+  IsOf earlier op c = (c.op ≡ length earlier) × (c.depth ≤ length op.path) × Any (IsNamedIn opening commits (conflict_of op c)) (span ∷ spans)
+
+  -- a lost parent was touched
+  parent_touched : (s : Store) (q : List Step) → is_some (cell (base s) q) ≡ true → has (tip opening commits s) q ≡ false → find (touches_at opening commits s q) (reverse (numbers_over (span ∷ spans))) ≡ None → ⊥
+  parent_touched s q there gone none =
+      let nothing : list_any (touches_at opening commits s q) (numbers_over (span ∷ spans)) ≡ false =
+      list_any-IsPermutation (touches_at opening commits s q) (numbers_over (span ∷ spans)) (reverse (numbers_over (span ∷ spans))) (IsPermutation-reverse (numbers_over (span ∷ spans))) ∙ find_none (touches_at opening commits s q) (reverse (numbers_over (span ∷ spans))) none in
+      let same : cell (base s) q ≡ cell (tip opening commits s) q =
+      ap (λ (t : List Row). cell t q) (is_base s) ∙ over_untouched opening commits s q span spans (tree_at opening commits s span.from) are nothing (λ r below. refl) q (prefix_itself q) in
+      let empty : cell (base s) q ≡ None = same ∙ no_cell (is_prefix q) (tip opening commits s) q gone (prefix_itself q) in
+      let contrary : true ≡ false = sym there ∙ ap is_some empty in
+      cc
+
+  -- the conflict at a lost parent
+  lost : (earlier : List Op) (op : Op) (d : ℕ) → (is_lost opening commits base earlier op.store (take d op.path) ≡ true) × Contains (depths_above op.path) d → IsOf earlier op (record { op = length earlier; depth = d; kind = Deleted; commit = unwrap_or (last_touch_over opening commits (span ∷ spans) op.store (take d op.path)) 0 })
+  lost earlier op d w =
+      let q = take d op.path in
+      let t = touches_at opening commits op.store q in
+      let parts = both_true (is_some (cell (base op.store) q)) (not (has (tip opening commits op.store) q) && not (is_some (last_setting op.store earlier q))) w.0 in
+      let gone = not_true (has (tip opening commits op.store) q) (both_true (not (has (tip opening commits op.store) q)) (not (is_some (last_setting op.store earlier q))) parts.1).0 in
+      let lying : ℕ → Type 0 = λ n. (0 < n) × (n ≤ 0 + (length op.path - 1)) in
+      let low : (0 < d) × (d ≤ 0 + (length op.path - 1)) = All-contains lying (depths_above op.path) d (numbers_lie 0 (length op.path - 1)) w.1 in
+      elim (find t (reverse (numbers_over (span ∷ spans)))) as (λ (o : Option ℕ). find t (reverse (numbers_over (span ∷ spans))) ≡ o → IsOf earlier op (record { op = length earlier; depth = d; kind = Deleted; commit = unwrap_or o 0 })) [
+        | None ↦ λ e. absurd (parent_touched op.store q parts.0 gone e)
+        | Some k ↦ λ e. (refl, omega (arith, low.1), found_in t (span ∷ spans) k (ordered_all (length commits) span spans are) e)
+      ] refl
+
+  parent_named : (earlier : List Op) (op : Op) (c : Clash) → parent_clash opening commits base (span ∷ spans) earlier op ≡ Some c → IsOf earlier op c
+  parent_named earlier op c =
+      elim (needs_parents op.act) as (λ b. (if b then option_map (parent_found opening commits (span ∷ spans) earlier op) (lost_parent opening commits base earlier op.store op.path) else None) ≡ Some c → IsOf earlier op c) [
+        | false ↦ λ e. cc
+        | true ↦ elim (lost_parent opening commits base earlier op.store op.path) as (λ (o : Option ℕ). lost_parent opening commits base earlier op.store op.path ≡ o → option_map (parent_found opening commits (span ∷ spans) earlier op) o ≡ Some c → IsOf earlier op c) [
+          | None ↦ λ e h. cc
+          | Some d ↦ λ e h. subst (IsOf earlier op) (same_Some (parent_found opening commits (span ∷ spans) earlier op d) c h) (lost earlier op d (find_holds (λ n. is_lost opening commits base earlier op.store (take n op.path)) (depths_above op.path) d e))
+        ] refl
+      ]
+
+  path_named : (earlier : List Op) (op : Op) (c : Clash) → path_clash opening commits (span ∷ spans) earlier op ≡ Some c → IsOf earlier op c
+  path_named earlier op c =
+      elim (checks_path op.act) as (λ b. checks_path op.act ≡ b → (if b && not (is_covered earlier op.store op.path) then option_map (path_found earlier op) (clash_at opening commits op.store (span ∷ spans) op.path) else None) ≡ Some c → IsOf earlier op c) [
+        | false ↦ λ checks e. cc
+        | true ↦ λ checks. elim (not (is_covered earlier op.store op.path)) as (λ b. (if b then option_map (path_found earlier op) (clash_at opening commits op.store (span ∷ spans) op.path) else None) ≡ Some c → IsOf earlier op c) [
+          | false ↦ λ e. cc
+          | true ↦ elim (find (differs opening commits op) (span ∷ spans)) as (λ (o : Option Span). find (differs opening commits op) (span ∷ spans) ≡ o → option_map (path_found earlier op) (option_map (conflict_over opening commits op) o) ≡ Some c → IsOf earlier op c) [
+            | None ↦ λ e h. cc
+            | Some other ↦ λ e h.
+                let whole : take (length op.path) op.path ≡ op.path = take_all (length op.path) op.path (omega arith) in
+                let as_rows : rows.clash opening commits (span ∷ spans) (op ∷ []) ≡ Some (conflict_over opening commits op other) =
+                ap (λ b. option_or (if b && true then clash_at opening commits op.store (span ∷ spans) op.path else None) None) checks ∙ ap (λ o. option_or (option_map (conflict_over opening commits op) o) None) e in
+                let names : Any (IsNamedIn opening commits (conflict_over opening commits op other)) (span ∷ spans) = named opening commits (span ∷ spans) (op ∷ []) (conflict_over opening commits op other) (ordered_all (length commits) span spans are) as_rows in
+                let named_here : Any (IsNamedIn opening commits (conflict_of op (path_found earlier op (conflict_over opening commits op other)))) (span ∷ spans) =
+                subst (λ q. Any (IsNamedIn opening commits (record { store = op.store; path = q; kind = kind_over opening commits op.store op.path other; commit = unwrap_or (last_touch opening commits op.store op.path other) 0 })) (span ∷ spans)) (sym whole) names in
+                let short : length op.path ≤ length op.path = omega arith in
+                subst (IsOf earlier op) (same_Some (path_found earlier op (conflict_over opening commits op other)) c h) (refl, short, named_here)
+          ] refl
+        ]
+      ] refl
+
+  op_named : (earlier : List Op) (op : Op) (c : Clash) → op_clash opening commits base (span ∷ spans) earlier op ≡ Some c → IsOf earlier op c
+  op_named earlier op c =
+      elim (parent_clash opening commits base (span ∷ spans) earlier op) as (λ (o : Option Clash). parent_clash opening commits base (span ∷ spans) earlier op ≡ o → option_or o (path_clash opening commits (span ∷ spans) earlier op) ≡ Some c → IsOf earlier op c) [
+        | None ↦ λ e h. path_named earlier op c h
+        | Some d ↦ λ e h. parent_named earlier op c (e ∙ h)
+      ] refl
+
+  from_named : (earlier ops : List Op) (c : Clash) → clash_from opening commits base (span ∷ spans) earlier ops ≡ Some c
+      → (op : Op) × (slice_get (earlier ++ ops) c.op ≡ Some op) × (c.depth ≤ length op.path) × Any (IsNamedIn opening commits (conflict_of op c)) (span ∷ spans)
+  from_named earlier [] c = λ e. cc
+  from_named earlier (op ∷ ops) c =
+      elim (op_clash opening commits base (span ∷ spans) earlier op) as (λ (o : Option Clash). op_clash opening commits base (span ∷ spans) earlier op ≡ o → option_or o (clash_from opening commits base (span ∷ spans) (earlier ++ op ∷ []) ops) ≡ Some c
+      → (x : Op) × (slice_get (earlier ++ op ∷ ops) c.op ≡ Some x) × (c.depth ≤ length x.path) × Any (IsNamedIn opening commits (conflict_of x c)) (span ∷ spans)) [
+        | None ↦ λ e h.
+            let rest = from_named (earlier ++ op ∷ []) ops c h in
+            (rest.0, ap (λ (l : List Op). slice_get l c.op) (sym (append_assoc earlier (op ∷ []) ops)) ∙ rest.1, rest.2, rest.3)
+        | Some d ↦ λ e h.
+            let here = op_named earlier op c (e ∙ h) in
+            (op, ap (slice_get (earlier ++ op ∷ ops)) here.0 ∙ slice_get_end earlier ops op, here.1, here.2)
+      ] refl
+
+pub names_a_later_commit : NamesALaterCommit
+names_a_later_commit opening commits base span spans ops c are is_base e = from_named opening commits base span spans are is_base [] ops c e

@@ -1,0 +1,4 @@
+pub mod Clash
+pub mod Examples
+pub mod Named
+pub mod Quiet

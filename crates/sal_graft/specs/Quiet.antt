@@ -1,0 +1,40 @@
+-- What no conflict says: base and tip have the same rows at and below each path that is put or deleted.
+use Rattle.std.specs.Prelude.{◌≡◌, ℕ, ◌+◌, ◌-◌, ◌≤◌, true, List, [], ◌∷◌, length, None, slice_get, unwrap_or}
+use Rattle.sal_types.specs.declared.value.Store.{Store}
+use Rattle.sal_types.specs.declared.value.Step.{Step}
+use Rattle.sal_types.specs.declared.row.Row.{Row}
+use Rattle.sal_types.specs.Prefix.{is_prefix}
+use Rattle.sal_types.specs.Tree.{cell}
+use Rattle.sal_rows.specs.declared.op.Op.{Op}
+use Rattle.sal_rows.specs.Apply.{checks_path, apply_ops}
+use Rattle.sal_rows.specs.Commits.{Span, tree_at}
+use Rattle.sal_graft.specs.Clash.{clash, tip}
+
+-- two trees have the same cells at p and below it
+abbrev pub SameBelow : List Step → List Row → List Row → Type 0
+SameBelow p x y = (r : List Step) → is_prefix p r ≡ true → cell x r ≡ cell y r
+
+-- No span ends before it starts. Each one but the first starts at the commit just after the one before, which is of the
+-- transaction's own chain; the last one ends at the newest commit.
+abbrev pub AreSpans : ℕ → Span → List Span → Type 0
+AreSpans newest span [] = (span.from ≤ span.to) × (span.to ≡ newest)
+AreSpans newest span (next ∷ spans) = (span.from ≤ span.to) × (next.from ≡ span.to + 1) × AreSpans newest next spans
+
+-- the tree after the transaction's own commits, at which the spans start
+abbrev pub with_own : List (List Op) → Store → List Row → List Span → List Row
+with_own commits s tree [] = tree
+with_own commits s tree (span ∷ spans) = with_own commits s (apply_ops tree s (unwrap_or (slice_get commits (span.from - 1)) [])) spans
+
+-- below each path that is put or deleted, two pairs of trees have the same cells
+abbrev pub AreQuiet : (Store → List Row) → (Store → List Row) → List Op → Type 0
+AreQuiet base tip [] = Unit {0}
+AreQuiet base tip (op ∷ ops) = (checks_path op.act ≡ true → SameBelow op.path (base op.store) (tip op.store)) × AreQuiet base tip ops
+
+-- Where the base is the tree at the start of the first span with the own commits, and nothing clashes.
+abbrev pub NoClashIsQuiet : Type 0
+NoClashIsQuiet =
+    (opening : Store → List Row) (commits : List (List Op)) (base : Store → List Row) (span : Span) (spans : List Span) (ops : List Op)
+    → AreSpans (length commits) span spans
+    → ((s : Store) → base s ≡ with_own commits s (tree_at opening commits s span.from) spans)
+    → clash opening commits base (span ∷ spans) ops ≡ None
+    → AreQuiet base (tip opening commits) ops

@@ -1,0 +1,7 @@
+use Rattle.std.proofs.Common.{◌-◌, ap, ◌∙◌, arith}
+use Rattle.sal_tree.specs.Rows.{rows_of}
+use Rattle.sal_graft.proofs.KeptLemmas.{tip-kept}
+use Rattle.sal_graft.proofs.search.tip_of.Goals as goal
+
+pub returns : goal.returns
+returns c = ap rows_of c.tree_of.ensures ∙ tip-kept c.args.commits.now c.index-commits.result c.args.store c.requires c.index-commits.is

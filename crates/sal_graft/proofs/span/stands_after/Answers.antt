@@ -1,0 +1,11 @@
+use Rattle.std.proofs.Common.{List, ap, ◌∙◌, arith}
+use Rattle.sal_types.specs.declared.row.Row.{Row}
+use Rattle.sal_types.specs.Tree.{has}
+use Rattle.sal_node.specs.Tree.{Tree}
+use Rattle.sal_tree.specs.Rows.{rows_of}
+use Rattle.sal_graft.proofs.span.stands_after.Goals as goal
+
+pub returns : goal.returns
+returns c =
+    c.stands.ensures ∙ ap (λ (t : Tree). has (rows_of t) c.args.steps.now) c.tree_of.ensures
+    ∙ ap (λ (rows : List Row). has rows c.args.steps.now) (c.requires.kept.trees c.args.number c.index-commits.result c.args.store c.requires.number c.index-commits.is)

@@ -1,0 +1,10 @@
+use Rattle.std.proofs.Common.{◌-◌, sym, ◌∙◌, arith}
+use Rattle.sal_rows.specs.Touch.{touches}
+use Rattle.sal_tree.specs.Rows.{rows_of}
+use Rattle.sal_graft.proofs.KeptLemmas.{touches_at-kept}
+use Rattle.sal_graft.proofs.span.touches_at.Goals as goal
+
+pub returns : goal.returns
+returns c =
+    c.is_touched.ensures ∙ (λ i. touches (rows_of (c.tree_of-before.ensures i)) c.args.store (c.items.ensures i) c.args.steps.now)
+    ∙ sym (touches_at-kept c.args.commits.now c.args.number c.index-commits.result c.index-commits-2.result c.args.store c.args.steps.now c.requires.kept c.requires.low c.requires.high c.index-commits.is c.index-commits-2.is)

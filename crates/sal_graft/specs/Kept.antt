@@ -48,4 +48,4 @@ pieces_of (span ∷ spans) = piece_of span ∷ pieces_of spans
 -- the span ends at a commit that is kept, not before its start
 pub record IsSpanOf (kept : List Commit) (span : Span) : Type 0 where
   pub ordered : span.from ≤ span.to
-  pub kept : span.to < length kept
+  pub ends : span.to < length kept

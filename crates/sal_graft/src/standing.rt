@@ -26,8 +26,14 @@ pub(crate) fn has_cell(tree: &Root, steps: &[Step]) -> bool
 {
     match reached(Some(tree.node()), steps) {
         None => false,
-        Some(node) => node.cell.is_some(),
+        Some(node) => is_celled(node),
     }
+}
+
+fn is_celled(node: &Node) -> bool
+    ensures { result ≡ is_some node.now.cell }
+{
+    node.cell.is_some()
 }
 
 // The node that the steps lead to.

@@ -25,6 +25,7 @@ pub(crate) fn is_touched(before: &Root, store: Store, ops: &[Op], steps: &[Step]
 fn op_touches(before: &Root, op: &Op, steps: &[Step]) -> bool
     ensures { result ≡ op_touches (rows_of before.now) op.now steps.now }
 {
+    let _ = before.node();
     match &op.act {
         Act::Put(rows) => {
             lies_under(rows.items(), steps) || is_cleared(before, op.path.steps(), steps)
@@ -63,7 +64,13 @@ fn sets(op: &Op, steps: &[Step]) -> bool
 fn stands_at(rows: &[Row], steps: &[Step]) -> bool
     ensures { result ≡ list_any (λ row. path_eq steps.now row.path) rows.now }
 {
-    rows.iter().any(|row| steps == row.path.steps())
+    rows.iter().any(|row| is_same(steps, row.path.steps()))
+}
+
+fn is_same(first: &[Step], other: &[Step]) -> bool
+    ensures { result ≡ path_eq first.now other.now }
+{
+    first == other
 }
 
 // Whether a row stands at the steps or below them.

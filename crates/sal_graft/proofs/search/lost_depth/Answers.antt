@@ -1,5 +1,5 @@
 -- One depth is looked at.
-use Rattle.std.proofs.Common.{◌≡◌, ◌-◌, ◌+◌, true, false, length, take, Some, ap, sym, ◌∙◌, cond, arith}
+use Rattle.std.proofs.Common.{◌≡◌, ℕ, Bool, ◌-◌, ◌+◌, true, false, length, take, Some, ap, sym, ◌∙◌, cond, arith}
 use Rattle.std.specs.Prelude.{find}
 use Rattle.sal_rows.specs.Commits.{numbers_after}
 use Rattle.sal_tree.specs.Rows.{rows_of}
@@ -9,7 +9,7 @@ use Rattle.sal_graft.proofs.search.lost_depth.Goals as goal
 
 pub returns-then-is_lost-clause-depth : goal.returns-then-is_lost-clause-depth
 returns-then-is_lost-clause-depth c =
-    let t = λ d. is_lost_of (rows_of c.args.base.now) (rows_of c.args.tip.now) c.args.earlier.now c.args.store (take d c.args.steps.now) in
+    let t : ℕ → Bool = λ d. is_lost_of (rows_of c.args.base.now) (rows_of c.args.tip.now) c.args.earlier.now c.args.store (take d c.args.steps.now) in
     let d = c.loop-depth.depth in
     let n = length c.args.steps.now in
     let rest = find t (numbers_after (d + 1 - 1) (n - (d + 1))) in
@@ -18,7 +18,7 @@ returns-then-is_lost-clause-depth c =
 
 pub loop-depth-preserved : goal.loop-depth-preserved
 loop-depth-preserved c =
-    let t = λ d. is_lost_of (rows_of c.args.base.now) (rows_of c.args.tip.now) c.args.earlier.now c.args.store (take d c.args.steps.now) in
+    let t : ℕ → Bool = λ d. is_lost_of (rows_of c.args.base.now) (rows_of c.args.tip.now) c.args.earlier.now c.args.store (take d c.args.steps.now) in
     let d = c.loop-depth.depth in
     let n = length c.args.steps.now in
     let rest = find t (numbers_after (d + 1 - 1) (n - (d + 1))) in
@@ -27,5 +27,5 @@ loop-depth-preserved c =
 
 pub returns-clause-depth : goal.returns-clause-depth
 returns-clause-depth c =
-    let t = λ d. is_lost_of (rows_of c.args.base.now) (rows_of c.args.tip.now) c.args.earlier.now c.args.store (take d c.args.steps.now) in
+    let t : ℕ → Bool = λ d. is_lost_of (rows_of c.args.base.now) (rows_of c.args.tip.now) c.args.earlier.now c.args.store (take d c.args.steps.now) in
     sym (no-depth t c.loop-depth.depth (length c.args.steps.now) (omega arith)) ∙ c.loop-depth.invariant

@@ -4,4 +4,4 @@ use Rattle.sal_graft.proofs.KeptLemmas.{tip-kept}
 use Rattle.sal_graft.proofs.search.tip_of.Goals as goal
 
 pub returns : goal.returns
-returns c = ap rows_of c.tree_of.ensures ∙ tip-kept c.args.commits.now c.index-commits.result c.args.store c.requires c.index-commits.is
+returns c = ap rows_of c.tree_of.ensures ∙ tip-kept c.args.commits.now c.index-commits-commits.result c.args.store c.requires c.index-commits-commits.is

@@ -8,4 +8,4 @@ use Rattle.sal_graft.proofs.span.stands_after.Goals as goal
 pub returns : goal.returns
 returns c =
     c.stands.ensures ∙ ap (λ (t : Tree). has (rows_of t) c.args.steps.now) c.tree_of.ensures
-    ∙ ap (λ (rows : List Row). has rows c.args.steps.now) (c.requires.kept.trees c.args.number c.index-commits.result c.args.store c.requires.number c.index-commits.is)
+    ∙ ap (λ (rows : List Row). has rows c.args.steps.now) (c.requires.kept.trees c.args.number c.index-commits-number.result c.args.store c.requires.number c.index-commits-number.is)

@@ -7,4 +7,4 @@ use Rattle.sal_graft.proofs.span.touches_at.Goals as goal
 pub returns : goal.returns
 returns c =
     c.is_touched.ensures ∙ (λ i. touches (rows_of (c.tree_of-before.ensures i)) c.args.store (c.items.ensures i) c.args.steps.now)
-    ∙ sym (touches_at-kept c.args.commits.now c.args.number c.index-commits.result c.index-commits-2.result c.args.store c.args.steps.now c.requires.kept c.requires.low c.requires.high c.index-commits.is c.index-commits-2.is)
+    ∙ sym (touches_at-kept c.args.commits.now c.args.number c.index-commits-at.result c.index-commits-at-2.result c.args.store c.args.steps.now c.requires.kept c.requires.low c.requires.high c.index-commits-at.is c.index-commits-at-2.is)

@@ -17,6 +17,6 @@ returns-in-None c =
 
 pub returns-in-Some : goal.returns-in-Some
 returns-in-Some c =
-    c.is_some.ensures ∙ ap (λ (t : Tree). is_some t.cell) c.deref.ensures ∙ sym (ap (λ o. is_some (cell_in (tree_at o))) c.in-Some.is) ∙ ap (λ o. is_some (cell_in o)) c.reached.ensures
+    c.is_celled.ensures ∙ ap (λ (t : Tree). is_some t.cell) c.deref.ensures ∙ sym (ap (λ o. is_some (cell_in (tree_at o))) c.in-Some.is) ∙ ap (λ o. is_some (cell_in o)) c.reached.ensures
     ∙ ap (λ (t : Tree). is_some (cell_in (at (Some t) c.args.steps.now))) c.node.ensures.tree
     ∙ sym (ap is_some (cell-rows_of c.args.tree.now c.node.ensures.whole.ordered c.args.steps.now))

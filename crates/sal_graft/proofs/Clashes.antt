@@ -1,8 +1,8 @@
 -- The search for conflicts, step by step.
-use Rattle.std.proofs.Common.{◌≡◌, ℕ, zero, suc, ◌+◌, ◌-◌, ◌<◌, ◌≤◌, Bool, true, false, List, [], ◌∷◌, ◌++◌, ◌&&◌, ◌||◌, length, take, drop, get_or, Option, None, Some, refl, ap, sym, ◌∙◌, cond, arith, reverse}
+use Rattle.std.proofs.Common.{◌≡◌, ℕ, zero, suc, ◌+◌, ◌-◌, ◌<◌, ◌≤◌, Bool, true, false, List, [], ◌∷◌, ◌++◌, ◌&&◌, ◌||◌, length, take, drop, get_or, None, Some, refl, ap, sym, ◌∙◌, cond, arith, reverse}
 use Rattle.std.specs.Prelude.{is_some, not, find}
-use Rattle.std.specs.Option.{option_map, option_or}
-use Rattle.std.proofs.lemmas.List.{take_all, take_more, drop_more}
+use Rattle.std.specs.Option.{option_or}
+use Rattle.std.proofs.lemmas.List.{take_more, drop_more, get_or_default}
 use Rattle.sal_types.specs.declared.value.Store.{Store}
 use Rattle.sal_types.specs.declared.value.Step.{Step}
 use Rattle.sal_types.specs.declared.row.Row.{Row}
@@ -16,8 +16,7 @@ use Rattle.sal_mod.specs.Covers.{covers}
 use Rattle.sal_mod.specs.Covers as by_mod
 use Rattle.std.specs.List.{list_any}
 use Rattle.sal_graft.specs.Clash.{op_clash, clash_from, lost_parent, tip, depths_above, numbers_over}
-use Rattle.sal_graft.specs.Rows.{is_lost_of, lost_depth}
-use Rattle.sal_graft.specs.declared.found.Clash.{Clash}
+use Rattle.sal_graft.specs.Rows.{lost_depth}
 use Rattle.sal_graft.specs.declared.found.Span.{Span}
 use Rattle.sal_graft.specs.Kept.{piece_of, pieces_of}
 use Rattle.sal_graft.proofs.Setting.{is_set-last}
@@ -87,3 +86,8 @@ turn_span t spans n span h at =
     ∙ ap (λ l. find t (reverse (numbers_over l))) (pieces-push (take n spans) span)
     ∙ ap (λ l. find t (reverse l)) (numbers_over-push (pieces_of (take n spans)) (piece_of span))
     ∙ find_part t (numbers_over (pieces_of (take n spans))) (numbers_in (piece_of span))
+
+-- the same, for a span that is read with some other one as the default
+pub turn_at : (t : ℕ → Bool) (spans : List Span) (n : ℕ) (other : Span) → n < length spans
+    → find t (reverse (numbers_over (pieces_of (take (n + 1) spans)))) ≡ option_or (find t (reverse (numbers_in (piece_of (get_or spans n other))))) (find t (reverse (numbers_over (pieces_of (take n spans)))))
+turn_at t spans n other h = turn_span t spans n (get_or spans n other) h (get_or_default spans n other (get_or spans n other) h)

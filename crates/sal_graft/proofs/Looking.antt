@@ -1,5 +1,5 @@
 -- Looking back through the commits of a span, one by one.
-use Rattle.std.proofs.Common.{◌≡◌, ℕ, ◌+◌, ◌-◌, ◌<◌, ◌≤◌, Bool, Some, ap, ◌∙◌, cond, arith, reverse}
+use Rattle.std.proofs.Common.{◌≡◌, ℕ, ◌+◌, ◌-◌, ◌<◌, ◌≤◌, Bool, Some, ◌∙◌, cond, arith, reverse}
 use Rattle.std.specs.Prelude.{find}
 use Rattle.sal_rows.specs.Commits.{numbers_after}
 use Rattle.sal_graft.proofs.Numbers.{find_back}

@@ -1,7 +1,6 @@
 -- What operations touch and set, as the search asks it.
-use Rattle.std.proofs.Common.{◌≡◌, ℕ, Bool, true, false, List, [], ◌∷◌, ◌&&◌, ◌||◌, Option, Some, None, refl, ap, sym, ◌∙◌, take, if◌then◌else◌}
-use Rattle.std.specs.Prelude.{is_some, find, not}
-use Rattle.std.specs.List.{list_any}
+use Rattle.std.proofs.Common.{◌≡◌, Bool, true, false, List, [], ◌∷◌, ◌&&◌, ◌||◌, Option, Some, None, refl, ap, sym, ◌∙◌, if◌then◌else◌}
+use Rattle.std.specs.Prelude.{is_some}
 use Rattle.std.specs.Option.{option_or}
 use Rattle.sal_types.specs.declared.value.Store.{Store}
 use Rattle.sal_types.specs.declared.value.Step.{Step}
@@ -11,17 +10,14 @@ use Rattle.sal_types.specs.Prefix.{is_prefix}
 use Rattle.sal_types.specs.Tree.{cell, has}
 use Rattle.sal_rows.specs.declared.op.Op.{Op}
 use Rattle.sal_rows.specs.declared.op.Act.TheVariants.{Put, Merge, Delete}
-use Rattle.sal_rows.specs.Apply.{same_store, checks_path, setting, last_setting, act_setting}
-use Rattle.sal_rows.specs.Clash.{is_covered}
+use Rattle.sal_rows.specs.Apply.{same_store, setting, last_setting, act_setting}
 use Rattle.sal_rows.specs.Touch.{op_touches}
 use Rattle.sal_node.specs.Tree.{Tree, IsGrove}
-use Rattle.sal_tree.specs.Grow.{at, present}
 use Rattle.sal_tree.specs.Rows.{rows_of}
 use Rattle.sal_tree.proofs.Cells.{has-rows_of}
 use Rattle.sal_tree.proofs.Edited.{clears}
 use Rattle.sal_tree.proofs.Touches.{clears-any, set_by_put, set_by_delete, absorbed}
-use Rattle.sal_graft.specs.Clash.{depths_above}
-use Rattle.sal_graft.specs.Rows.{is_cleared, is_set, is_lost_of, lost_depth}
+use Rattle.sal_graft.specs.Rows.{is_cleared, is_set}
 
 cleared : (t : Tree) (p q : List Step) → IsGrove t.kids → is_cleared (rows_of t) p q ≡ clears p t q
 cleared t p q g = λ i. (is_prefix p q && has-rows_of t g q i) || (is_prefix q p && has-rows_of t g p i)

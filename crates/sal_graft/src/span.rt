@@ -108,12 +108,20 @@ pub(crate) fn last_touch_over(
     ensures { result ≡ spec.last_touch_over (opening_in commits.now) (ops_of commits.now) (pieces_of spans.now) store steps.now }
 {
     for back in 0..spans.len() {
-        let span = spans[spans.len() - 1 - back];
-        if let Some(number) = last_touch(commits, span, store, steps) {
+        let at = spans.len() - 1 - back;
+        if let Some(number) = touch_in(commits, &spans[at], store, steps) {
             return Some(number);
         }
     }
     None
+}
+
+fn touch_in(commits: &[Commit], span: &Span, store: Store, steps: &[Step]) -> Option<u64>
+    requires kept { AreKept commits.now }
+    requires span { IsSpanOf commits.now span.now }
+    ensures { result ≡ commits_spec.last_touch (opening_in commits.now) (ops_of commits.now) store steps.now (piece_of span.now) }
+{
+    last_touch(commits, *span, store, steps)
 }
 
 /// The last commit in the span that touched the path.

@@ -1,5 +1,4 @@
 -- The slices' test is the one of the definition.
-use Rattle.std.proofs.Common.{◌∙◌}
 use Rattle.sal_types.proofs.Prefixes.{starts_with-is_prefix}
 use Rattle.sal_graft.proofs.touched.begins.Goals as goal
 

@@ -1,5 +1,5 @@
 -- A merge sets the paths of its rows.
-use Rattle.std.proofs.Common.{◌≡◌, List, Option, Some, None, ap, sym, refl, ◌∙◌}
+use Rattle.std.proofs.Common.{◌≡◌, Option, Some, None, ap, sym, refl, ◌∙◌}
 use Rattle.std.specs.Prelude.{is_some}
 use Rattle.std.specs.List.{list_any}
 use Rattle.std.specs.Option.{option_map}

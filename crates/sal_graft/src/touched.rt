@@ -18,8 +18,7 @@ use sal_types::{Row, Step, Store};
 pub(crate) fn is_touched(before: &Root, store: Store, ops: &[Op], steps: &[Step]) -> bool
     ensures { result ≡ touches (rows_of before.now) store ops.now steps.now }
 {
-    ops.iter()
-        .any(|op| same_store(op.store, store) && op_touches(before, op, steps))
+    ops.iter().any(|op| same_store(op.store, store) && op_touches(before, op, steps))
 }
 
 fn op_touches(before: &Root, op: &Op, steps: &[Step]) -> bool

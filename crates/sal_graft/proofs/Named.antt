@@ -105,7 +105,7 @@ slice_get_end [] ops op = refl
 slice_get_end (o ∷ earlier) ops op = slice_get_end earlier ops op
 
 -- what a lost parent, and a path that is not unchanged, are as conflicts
-abbrev parent_found : (Store → List Row) → List (List Op) → List Span → List Op → Op → ℕ → Clash
+abbrev pub parent_found : (Store → List Row) → List (List Op) → List Span → List Op → Op → ℕ → Clash
 parent_found opening commits spans earlier op d = record { op = length earlier; depth = d; kind = Deleted; commit = unwrap_or (last_touch_over opening commits spans op.store (take d op.path)) 0 }
 
 abbrev path_found : List Op → Op → Conflict → Clash

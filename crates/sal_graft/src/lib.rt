@@ -1,7 +1,8 @@
-//! Which later commit a submission clashes with: the definitions, with worked examples and two laws.
+//! Which later commit a submission clashes with: the search, the definitions, worked examples and two laws.
 //!
 //! | item | what it is |
 //! |---|---|
+//! | `conflict` | the first conflict of a transaction's operations, over the trees of the kept commits |
 //! | `Clash` | a conflict: the operation, how many steps of its path, the kind, and the later commit that it names |
 //! | `Span` | a piece of commit numbers |
 //! | `examples` | functions that do nothing, each with worked examples as its contract |
@@ -24,14 +25,20 @@
 //! (`laws::no_conflict_leaves_the_paths_alone`).
 //!
 //! ```
-//! let conflict = Some(Clash { op: 0, depth: 1, kind: ClashKind::Deleted, commit: 4 });
+//! let found = conflict(&changes, &base, &[Span { from: 3, to: 5 }], &commits);
 //! ```
 //!
-//! No call takes memory or time: the crate has no search for conflicts yet.
+//! `conflict` takes no memory. It looks at both ends of each span for each put and delete, and back through the commits of
+//! a span at a path that is present at both ends; each look at a commit goes over its operations and their rows.
 #![tactic(auto)]
 
 pub mod examples;
 mod found;
 pub mod laws;
+mod search;
+mod span;
+mod standing;
+mod touched;
 
 pub use found::{Clash, Span};
+pub use search::conflict;

@@ -9,7 +9,7 @@ use Rattle.sal_node.specs.Tree.{Tree, Forest, bare, grown, pairs}
 use Rattle.sal_node.specs.Shape.{seen}
 use Rattle.sal_node.specs.declared.node.Child.{Child}
 use Rattle.sal_schema.specs.declared.table.SchemaTable.{SchemaTable}
-use Rattle.sal_check.specs.declared.breach.Breach.{Breach}
+use Rattle.sal_rows.specs.declared.outcome.Breach.{Breach}
 use Rattle.sal_check.specs.declared.spot.Spot.{Spot}
 use Rattle.sal_check.specs.Breaches.{keep}
 use Rattle.sal_check.specs.Nodes.{found_at, found_below, found, found_in}

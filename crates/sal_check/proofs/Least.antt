@@ -9,11 +9,11 @@ use Rattle.std.specs.declared.cmp.Ordering.{Ordering}
 use Rattle.std.specs.declared.cmp.Ordering.TheVariants.{Less, Equal, Greater}
 use Rattle.std.proofs.lemmas.Cmp.{upto, tied_itself}
 use Rattle.sal_types.specs.Order.{path_cmp, path_cmp-IsAntisymmetric, then-first, then-second}
-use Rattle.sal_check.specs.declared.breach.Rule.{Rule}
-use Rattle.sal_check.specs.declared.breach.Rule.TheVariants.{Mandatory, MinElements, MaxElements, Unique, TwoCases}
-use Rattle.sal_check.specs.declared.breach.Breach.{Breach}
-use Rattle.sal_check.specs.contracts.breach.BreachOrd.TheImpl.Laws as breach_laws
-use Rattle.sal_check.specs.contracts.breach.RuleOrd.TheImpl as rule_ord
+use Rattle.sal_rows.specs.declared.outcome.Rule.{Rule}
+use Rattle.sal_rows.specs.declared.outcome.Rule.TheVariants.{Mandatory, MinElements, MaxElements, Unique, TwoCases}
+use Rattle.sal_rows.specs.declared.outcome.Breach.{Breach}
+use Rattle.sal_rows.specs.contracts.outcome.BreachOrd.TheImpl.Laws as breach_laws
+use Rattle.sal_rows.specs.contracts.outcome.RuleOrd.TheImpl as rule_ord
 use Rattle.sal_check.specs.Breaches.{breach_cmp, keep, least}
 use Rattle.sal_check.proofs.Members.{In}
 

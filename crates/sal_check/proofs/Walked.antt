@@ -22,9 +22,9 @@ use Rattle.sal_tree.specs.Grow.{at, present}
 use Rattle.sal_tree.specs.Rows.{rows_of}
 use Rattle.sal_tree.proofs.Cells.{has-rows_of}
 use Rattle.sal_tree.proofs.Laws.{eq, same, missing, self_tie, grove-sorted, at-append}
-use Rattle.sal_check.specs.declared.breach.Breach.{Breach}
-use Rattle.sal_check.specs.declared.breach.Rule.{Rule}
-use Rattle.sal_check.specs.declared.breach.Rule.TheVariants.{Mandatory, MinElements, MaxElements, Unique, TwoCases}
+use Rattle.sal_rows.specs.declared.outcome.Breach.{Breach}
+use Rattle.sal_rows.specs.declared.outcome.Rule.{Rule}
+use Rattle.sal_rows.specs.declared.outcome.Rule.TheVariants.{Mandatory, MinElements, MaxElements, Unique, TwoCases}
 use Rattle.sal_check.specs.declared.spot.Spot.{Spot}
 use Rattle.sal_check.specs.Breaches.{breach_of, breaches_at, breaches_from, breaches, breach, least, numbers, rules_of, is_looked_at, node_of_rule}
 use Rattle.sal_check.specs.Contexts.{stand}

@@ -10,11 +10,11 @@ use Rattle.sal_types.specs.declared.value.Step.{Step}
 use Rattle.sal_types.specs.declared.row.Row.{Row}
 use Rattle.sal_schema.specs.declared.table.SchemaTable.{SchemaTable}
 use Rattle.sal_schema.specs.Table.{config_of}
-use Rattle.sal_check.specs.declared.breach.Rule.{Rule}
-use Rattle.sal_check.specs.declared.breach.Rule.TheVariants.{Mandatory, MinElements, MaxElements, Unique, TwoCases}
-use Rattle.sal_check.specs.declared.breach.Breach.{Breach}
+use Rattle.sal_rows.specs.declared.outcome.Rule.{Rule}
+use Rattle.sal_rows.specs.declared.outcome.Rule.TheVariants.{Mandatory, MinElements, MaxElements, Unique, TwoCases}
+use Rattle.sal_rows.specs.declared.outcome.Breach.{Breach}
 use Rattle.sal_check.specs.declared.spot.Spot.{Spot}
-use Rattle.sal_check.specs.contracts.breach.BreachOrd.TheImpl as breach_ord
+use Rattle.sal_rows.specs.contracts.outcome.BreachOrd.TheImpl as breach_ord
 use Rattle.sal_check.specs.Places.{places, spot_of}
 use Rattle.sal_check.specs.Seen.{Seen, seen_from}
 use Rattle.sal_check.specs.Rules.{broken, steps_to}

@@ -10,8 +10,8 @@ use Rattle.sal_schema.specs.declared.kind.Kind.{Kind}
 use Rattle.sal_schema.specs.declared.kind.Kind.TheVariants.{Container, List, LeafList, Leaf, Choice, Case}
 use Rattle.sal_schema.specs.declared.table.NodeInfo.{NodeInfo}
 use Rattle.sal_schema.specs.declared.table.SchemaTable.{SchemaTable}
-use Rattle.sal_check.specs.declared.breach.Breach.{Breach}
-use Rattle.sal_check.specs.declared.breach.Rule.{Rule}
+use Rattle.sal_rows.specs.declared.outcome.Breach.{Breach}
+use Rattle.sal_rows.specs.declared.outcome.Rule.{Rule}
 
 -- ---- parts
 

@@ -10,7 +10,7 @@ use Rattle.sal_node.specs.Tree.{Tree, Forest, bare, grown}
 use Rattle.sal_tree.specs.Grow.{at, kids_in, cell_in, present}
 use Rattle.sal_schema.specs.declared.table.SchemaTable.{SchemaTable}
 use Rattle.sal_schema.specs.Table.{data_parent}
-use Rattle.sal_check.specs.declared.breach.Breach.{Breach}
+use Rattle.sal_rows.specs.declared.outcome.Breach.{Breach}
 use Rattle.sal_check.specs.declared.spot.Spot.{Spot}
 use Rattle.sal_check.specs.Breaches.{breaches_from, first}
 use Rattle.sal_check.specs.Contexts.{stand}

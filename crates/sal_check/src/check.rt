@@ -3,7 +3,7 @@ ghost use Rattle.std.specs.Prelude.{◌≡◌, IfOk};
 ghost use Rattle.sal_tree.specs.Rows.{rows_of};
 ghost use Rattle.sal_check.specs.Breaches.{breach};
 
-use crate::breach::Breach;
+use sal_rows::Breach;
 use crate::plan::Plan;
 use crate::spot::Spot;
 use crate::walk::walk;

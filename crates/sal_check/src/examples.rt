@@ -2,7 +2,7 @@
 ghost use Rattle.std.specs.Prelude.{◌≡◌, ◌∷◌, ◌++◌, [], Some, None};
 ghost use Rattle.sal_types.specs.declared.value.Step.TheVariants.{Node};
 ghost use Rattle.sal_types.specs.declared.value.Store.TheVariants.{Config, Oper};
-ghost use Rattle.sal_check.specs.declared.breach.Rule.TheVariants.{Mandatory, MinElements, MaxElements, Unique, TwoCases};
+ghost use Rattle.sal_rows.specs.declared.outcome.Rule.TheVariants.{Mandatory, MinElements, MaxElements, Unique, TwoCases};
 ghost use Rattle.sal_check.specs.Breaches.{breach};
 ghost use Rattle.sal_check.specs.Contexts.{context, way, stand};
 ghost use Rattle.sal_check.specs.Examples as example;

@@ -30,7 +30,7 @@
 //! most 32 steps deep over the tree, and as deep as choices and cases lie in one another.
 #![tactic(auto)]
 
-pub mod breach;
+mod breach;
 mod check;
 mod climb;
 pub mod examples;
@@ -44,5 +44,5 @@ mod trail;
 mod unique;
 mod walk;
 
-pub use breach::{Breach, Rule};
+pub use sal_rows::{Breach, Rule};
 pub use check::check_all;

@@ -6,7 +6,7 @@ ghost use Rattle.sal_schema.specs.Table.{is_kind};
 ghost use Rattle.sal_tree.specs.Grow.{IsSound};
 ghost use Rattle.sal_check.specs.Nodes.{seen_in};
 ghost use Rattle.sal_check.specs.Rules as spec;
-ghost use Rattle.sal_check.specs.declared.breach.Rule.TheVariants.{Mandatory, MinElements, MaxElements, Unique, TwoCases};
+ghost use Rattle.sal_rows.specs.declared.outcome.Rule.TheVariants.{Mandatory, MinElements, MaxElements, Unique, TwoCases};
 
 use crate::climb::{context, stand, way};
 use crate::reach::{count, is_present, kid, reached};

@@ -11,7 +11,7 @@ ghost use Rattle.sal_check.specs.Contexts as contexts;
 ghost use Rattle.sal_check.specs.Nodes.{seen_in};
 ghost use Rattle.sal_check.specs.Rules as spec;
 ghost use Rattle.sal_check.specs.Uniques.{cells_in, all_cells_in, ways_in, combination, all_combinations};
-ghost use Rattle.sal_check.specs.declared.breach.Rule.TheVariants.{Unique};
+ghost use Rattle.sal_rows.specs.declared.outcome.Rule.TheVariants.{Unique};
 
 use crate::climb::way_in_entry;
 use crate::reach::{kid, reached};

@@ -9,7 +9,8 @@ ghost use Rattle.sal_check.specs.Breaches as spec;
 ghost use Rattle.sal_check.specs.Nodes.{seen_in, steps_in, found, found_at, AreJudged};
 ghost use Rattle.sal_check.specs.Rules.{broken};
 
-use crate::breach::{Breach, Rule, keep};
+use crate::breach::keep;
+use sal_rows::{Breach, Rule};
 use crate::plan::Plan;
 use crate::rules::{has_too_few, has_too_many, has_two_cases, is_missing};
 use crate::spot::{Spot, after_step};

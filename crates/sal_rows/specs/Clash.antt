@@ -1,4 +1,4 @@
--- Conflicts of a transaction with the commits that came after its base.
+-- Conflicts of the paths of a transaction with the commits that came after its base. What stands above a path is looked at in `sal_graft`.
 use Rattle.std.specs.Prelude.{◌≡◌, ℕ, ◌<◌, ◌≤◌, Bool, IsTrue, not, ◌&&◌, List, [], ◌∷◌, ◌++◌, find, All, Any, Option, None, Some, if◌then◌else◌, unwrap_or}
 use Rattle.std.specs.List.{list_any}
 use Rattle.std.specs.Option.{option_or, option_map}

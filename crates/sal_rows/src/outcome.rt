@@ -24,6 +24,30 @@ pub enum ClashKind {
     Deleted,
 }
 
+/// A structural rule that is broken, with the number of the node at which it is stated. Rules are ordered as they stand
+/// here, and then by number.
+#[derive(Clone, Copy, Debug, PartialEq, Eq, PartialOrd, Ord)]
+pub enum Rule {
+    /// A mandatory leaf is absent, or no node of a mandatory choice is there (RFC 7950 sections 7.6.5 and 7.9.4).
+    Mandatory(u32),
+    /// A list or leaf-list has too few entries (RFC 7950 section 7.7.5).
+    MinElements(u32),
+    /// A list or leaf-list has too many entries (RFC 7950 section 7.7.6).
+    MaxElements(u32),
+    /// Two entries of a list agree in all leafs of a `unique` statement (RFC 7950 section 7.8.3).
+    Unique(u32),
+    /// Nodes of two cases of a choice are there (RFC 7950 section 7.9).
+    TwoCases(u32),
+}
+
+/// A rule that is broken, and where. Breaches are ordered by path, then by rule.
+#[derive(Debug, Drop, PartialEq, Eq, PartialOrd, Ord)]
+pub struct Breach {
+    /// The data parent's path for `Mandatory` and `TwoCases`, and else that of the list or leaf-list.
+    pub path: Path,
+    pub rule: Rule,
+}
+
 /// The outcome of a submission.
 #[derive(Debug, Drop, PartialEq, Eq)]
 pub enum Outcome {
@@ -38,14 +62,32 @@ pub enum Outcome {
         kind: ClashKind,
         commit: u64,
     },
+    /// It was refused, since the store would break this rule at this path.
+    Invalid {
+        store: Store,
+        path: Path,
+        rule: Rule,
+    },
 }
 
-/// Why a shared call was refused. The log has its entry, and nothing else changed.
+/// Why a shared call was refused. After `HistoryFull` and `NoMemory` nothing has changed; after any other refusal the log
+/// has the call's entry, and nothing else changed.
 #[derive(Clone, Copy, Debug, PartialEq, Eq, Error)]
 pub enum CallFault {
+    /// The log has 1,000,000 entries.
+    #[error("the history is full")]
+    HistoryFull,
+    /// As many submissions are pending as may be, 4,096.
+    #[error("the pipeline is full")]
+    PipelineFull,
     /// The domain is not live.
     #[error("no live domain {id}")]
     NoDomain { id: u32 },
+    #[error("out of memory")]
+    NoMemory,
+    /// The transaction was submitted or cancelled before.
+    #[error("the transaction is spent")]
+    TxSpent,
 }
 
 impl Duplicate for Outcome {
@@ -62,6 +104,11 @@ impl Duplicate for Outcome {
                 path: path.copy()?,
                 kind: *kind,
                 commit: *commit,
+            }),
+            Outcome::Invalid { store, path, rule } => Ok(Outcome::Invalid {
+                store: *store,
+                path: path.copy()?,
+                rule: *rule,
             }),
         }
     }

@@ -3,10 +3,10 @@ ghost use Rattle.std.specs.Prelude.{◌≡◌, IfOk};
 ghost use Rattle.sal_tree.specs.Rows.{rows_of};
 ghost use Rattle.sal_check.specs.Breaches.{breach};
 
-use sal_rows::Breach;
 use crate::plan::Plan;
 use crate::spot::Spot;
 use crate::walk::walk;
+use sal_rows::Breach;
 use sal_schema::Schema;
 use sal_tree::Root;
 use sal_types::{NoMemory, Store};

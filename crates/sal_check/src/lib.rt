@@ -44,5 +44,5 @@ mod trail;
 mod unique;
 mod walk;
 
-pub use sal_rows::{Breach, Rule};
 pub use check::check_all;
+pub use sal_rows::{Breach, Rule};

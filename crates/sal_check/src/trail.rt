@@ -5,8 +5,8 @@ ghost use Rattle.sal_check.specs.Paths.{joined};
 ghost use Rattle.sal_check.specs.Breaches.{node_of_rule};
 ghost use Rattle.sal_check.specs.Rules.{steps_to};
 
-use sal_rows::Rule;
 use crate::climb::way;
+use sal_rows::Rule;
 use sal_schema::Schema;
 use sal_types::{Duplicate, NoMemory, Path, PathFault, Step};
 use std::alloc::Global;

@@ -10,13 +10,13 @@ ghost use Rattle.sal_check.specs.Nodes.{seen_in, steps_in, found, found_at, AreJ
 ghost use Rattle.sal_check.specs.Rules.{broken};
 
 use crate::breach::keep;
-use sal_rows::{Breach, Rule};
 use crate::plan::Plan;
 use crate::rules::{has_too_few, has_too_many, has_two_cases, is_missing};
 use crate::spot::{Spot, after_step};
 use crate::trail::{longer, place_of};
 use crate::unique::repeats;
 use sal_node::Node;
+use sal_rows::{Breach, Rule};
 use sal_schema::Schema;
 use sal_types::{NoMemory, Step, Store};
 use std::alloc::Global;

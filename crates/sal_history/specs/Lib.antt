@@ -1,4 +1,5 @@
 pub mod Examples
 pub mod History
 pub mod Laws
-pub mod Trees
+pub mod Outcome
+pub mod World

@@ -9,6 +9,8 @@ pub enum Call {
     Begin { domain: u32, mode: Mode },
     /// Submits the transaction that the entry at this place of the log began, with its operations in order.
     Submit { place: u64, ops: Ops },
+    /// Gives up the transaction that the entry at this place of the log began.
+    Cancel { place: u64 },
     /// Decides what is pending, up to and including this receipt.
     Settle { receipt: u64 },
 }

@@ -6,6 +6,8 @@ use sal_rows::{CallFault, Outcome};
 pub enum Reply {
     /// The transaction stands on this commit, and on the pending receipt, if any.
     Begun { commit: u64, on: Option<u64> },
+    /// The call was done, and has nothing to tell.
+    Accepted,
     /// The submission has this receipt.
     Receipt { number: u64 },
     /// The outcome of a submission of the domain.

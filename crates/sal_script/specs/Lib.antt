@@ -1,7 +1,7 @@
 pub mod Examples
 pub mod Json
 pub mod Limits
-pub mod Plain
+pub mod Moves
 pub mod Play
 pub mod Reading
 pub mod Report

@@ -5,30 +5,34 @@ use Rattle.std.specs.List.{slice_set}
 use Rattle.sal_types.specs.declared.value.Store.{Store}
 use Rattle.sal_types.specs.declared.value.Step.{Step}
 use Rattle.sal_types.specs.declared.row.Row.{Row}
+use Rattle.sal_types.specs.Reading.{◌>>=◌}
 use Rattle.sal_types.specs.Tree.{has, under}
 use Rattle.sal_rows.specs.declared.op.Op.{Op}
-use Rattle.sal_rows.specs.declared.op.Act.TheVariants.{Put as PutAct}
+use Rattle.sal_rows.specs.declared.op.Act.{Act}
+use Rattle.sal_rows.specs.declared.op.Act.TheVariants.{Put as PutAct, Merge as MergeAct, Delete as DeleteAct}
 use Rattle.sal_rows.specs.declared.outcome.Mode.{Mode}
-use Rattle.sal_rows.specs.declared.outcome.Mode.TheVariants.{Ro}
-use Rattle.sal_history.specs.declared.opening.Opening.{Opening}
+use Rattle.sal_rows.specs.declared.outcome.Mode.TheVariants.{Ro, Wo, Rw}
 use Rattle.sal_history.specs.declared.call.Call.{Call}
-use Rattle.sal_history.specs.declared.call.Call.TheVariants.{Begin as BeginCall, Submit as SubmitCall, Settle as SettleCall}
+use Rattle.sal_history.specs.declared.call.Call.TheVariants.{Begin as BeginCall, Submit as SubmitCall, Cancel as CancelCall, Settle as SettleCall}
 use Rattle.sal_history.specs.declared.call.Entry.{Entry}
 use Rattle.sal_history.specs.declared.reply.Reply.{Reply}
-use Rattle.sal_history.specs.declared.reply.Reply.TheVariants.{Begun, Receipt}
+use Rattle.sal_history.specs.declared.reply.Reply.TheVariants.{Begun, Accepted as Done, Receipt}
+use Rattle.sal_history.specs.World.{Domain, table_of}
 use Rattle.sal_history.specs.History.{reply, view, entries_of}
-use Rattle.serde_json.specs.Data.{Data, string}
+use Rattle.serde_json.specs.Data.{Data}
 use Rattle.sal_schema.specs.declared.table.SchemaTable.{SchemaTable}
 use Rattle.sal_pathtext.specs.declared.fault.PathTextFault.{PathTextFault}
 use Rattle.sal_pathtext.specs.Read.{read_path}
 use Rattle.sal_data.specs.declared.fault.DataFault.{DataFault}
 use Rattle.sal_data.specs.Read.{read_data}
+use Rattle.sal_tx.specs.declared.fault.TxFault.{TxFault}
+use Rattle.sal_tx.specs.declared.fault.TxFault.TheVariants.{WriteOnly}
+use Rattle.sal_tx.specs.Refusals.{refusal}
 use Rattle.sal_script.specs.declared.reply.StepReply.{StepReply}
 use Rattle.sal_script.specs.declared.reply.StepReply.TheVariants.{Called, Accepted, Read as ReadReply, Exists as ExistsReply, Refused}
 use Rattle.sal_script.specs.declared.reply.StepRefusal.{StepRefusal}
-use Rattle.sal_script.specs.declared.reply.StepRefusal.TheVariants.{EmptySlot, ReadOnly, BadPath, BadData}
-use Rattle.sal_script.specs.declared.script.ScriptStep.{ScriptStep}
-use Rattle.sal_script.specs.declared.script.ScriptStep.TheVariants.{Begin, Put, Read, Exists, Submit, Settle}
+use Rattle.sal_script.specs.declared.reply.StepRefusal.TheVariants.{EmptySlot, ReadOnly, BadPath, BadData, Write}
+use Rattle.sal_script.specs.Moves.{Move, Begin, Put, Merge, Delete, Read, Exists, Submit, Cancel, Settle}
 
 -- a client's transaction: where it began in the log, its domain and mode, and its operations so far
 pub record Open : Type 0 where
@@ -65,30 +69,28 @@ pub data Meeting : Type 0 where
 abbrev pub refused : StepRefusal → Client → Meeting
 refused refusal client = local (Refused refusal) client
 
--- a write in a transaction that may write
+-- what a write does at its path, with a value that is not yet read
+pub data Deed : Type 0 where
+  putting : Data → Deed
+  merging : Data → Deed
+  deleting : Deed
+
+-- the act, with the rows that the value stands for at the path
+abbrev pub act_of : SchemaTable → List Step → Deed → Result Act DataFault
+act_of table path (putting value) = read_data table path value >>= (λ rows. Ok (PutAct rows))
+act_of table path (merging value) = read_data table path value >>= (λ rows. Ok (MergeAct rows))
+act_of table path deleting = Ok DeleteAct
+
+abbrev pub op_of : Store → List Step → Act → Op
+op_of store path act = record { store = store; path = path; act = act }
+
+-- a write that the transaction takes is one more of its operations
 abbrev pub accept : ℕ → Op → Open → Client → Meeting
 accept slot op tx client = local Accepted (record client { transactions = set_slot slot (Some (record tx { ops = tx.ops ++ op ∷ [] })) client.transactions })
 
--- a put of the rows that a value stands for at a path
-abbrev pub put_op : Store → List Step → List Row → Op
-put_op store path rows = record { store = store; path = path; act = PutAct rows }
-
-abbrev pub put_rows : ℕ → Store → List Step → Result (List Row) DataFault → Open → Client → Meeting
-put_rows slot store path (Err fault) tx client = refused (BadData fault) client
-put_rows slot store path (Ok rows) tx client = accept slot (put_op store path rows) tx client
-
-abbrev pub put_at : SchemaTable → ℕ → Store → Result (List Step) PathTextFault → Data → Open → Client → Meeting
-put_at table slot store (Err fault) value tx client = refused (BadPath fault) client
-put_at table slot store (Ok path) value tx client = put_rows slot store path (read_data table path value) tx client
-
-abbrev pub put_in : SchemaTable → ℕ → Store → List ℕ → Data → Open → Mode → Client → Meeting
-put_in table slot store text value tx Ro client = refused ReadOnly client
-put_in table slot store text value tx mode client = put_at table slot store (read_path table text) value tx client
-
--- a put: the first refusal counts, of the slot, the mode, the path and the value
-abbrev pub put : SchemaTable → ℕ → Store → List ℕ → Data → Client → Option Open → Meeting
-put table slot store text value client None = refused EmptySlot client
-put table slot store text value client (Some tx) = put_in table slot store text value tx tx.mode client
+abbrev pub accept_unless : Option TxFault → ℕ → Op → Open → Client → Meeting
+accept_unless None slot op tx client = accept slot op tx client
+accept_unless (Some fault) slot op tx client = refused (Write fault) client
 
 abbrev pub submit_in : Open → Mode → Client → Meeting
 submit_in tx Ro client = refused ReadOnly client
@@ -98,20 +100,35 @@ abbrev pub submit : Client → Option Open → Meeting
 submit client None = refused EmptySlot client
 submit client (Some tx) = submit_in tx tx.mode client
 
+abbrev pub cancel : Client → Option Open → Meeting
+cancel client None = refused EmptySlot client
+cancel client (Some tx) = shared (CancelCall tx.place)
+
 abbrev pub settle : Client → Option ℕ → Meeting
 settle client None = refused EmptySlot client
 settle client (Some receipt) = shared (SettleCall receipt)
 
--- a look at the path that a text stands for; f answers what is there
-abbrev pub look_at : (List Step → StepReply) → Result (List Step) PathTextFault → Client → Meeting
-look_at f (Err fault) client = refused (BadPath fault) client
-look_at f (Ok path) client = local (f path) client
+-- a look by a transaction that only writes is refused
+abbrev pub look_in : Mode → StepReply → Client → Meeting
+look_in Wo answer client = refused (Write WriteOnly) client
+look_in mode answer client = local answer client
 
-module _ (table : SchemaTable) (world : List Opening) where
+-- a look at the path that a text stands for; f answers what is there
+abbrev pub look_at : (List Step → StepReply) → Mode → Result (List Step) PathTextFault → Client → Meeting
+look_at f mode (Err fault) client = refused (BadPath fault) client
+look_at f mode (Ok path) client = look_in mode (f path) client
+
+module _ (table : SchemaTable) (world : List Domain) (log : List Entry) where
+  -- what a transaction sees of a store, under its own writes
+  abbrev pub seen_by : Open → Store → List Row
+  seen_by tx store = view world log tx.domain tx.place tx.ops store
+
+  -- ---- looks
+
   -- a look into the view of a transaction; f answers from its rows
-  abbrev pub look : (Open → List Step → List Row → StepReply) → List Entry → Store → List ℕ → Client → Option Open → Meeting
-  look f log store text client None = refused EmptySlot client
-  look f log store text client (Some tx) = look_at (λ path. f tx path (view world log tx.domain tx.place tx.ops store)) (read_path table text) client
+  abbrev pub look : (Open → List Step → List Row → StepReply) → Store → List ℕ → Client → Option Open → Meeting
+  look f store text client None = refused EmptySlot client
+  look f store text client (Some tx) = look_at (λ path. f tx path (seen_by tx store)) tx.mode (read_path table text) client
 
   -- a read answers the rows at the path and below it
   abbrev pub rows_read : Open → List Step → List Row → StepReply
@@ -120,32 +137,61 @@ module _ (table : SchemaTable) (world : List Opening) where
   abbrev pub found : Open → List Step → List Row → StepReply
   found tx path rows = ExistsReply (has rows path)
 
-  -- what a client's step comes to after a log
-  abbrev pub meet : List Entry → Client → ScriptStep → Meeting
-  meet log client (Begin slot domain mode) = shared (BeginCall domain mode)
-  meet log client (Put slot store path text) = put table slot store path (string text) client (client.transactions slot)
-  meet log client (Read slot store path) = look rows_read log store path client (client.transactions slot)
-  meet log client (Exists slot store path) = look found log store path client (client.transactions slot)
-  meet log client (Submit slot) = submit client (client.transactions slot)
-  meet log client (Settle slot) = settle client (client.receipts slot)
+  -- ---- writes
 
--- what the answer to a shared call leaves in the slots; `place` is that of the call's entry
-abbrev pub keep : ℕ → ScriptStep → Reply → Client → Client
+  -- the operation is refused over what the transaction sees, or taken
+  abbrev pub write_op : ℕ → Op → Open → Client → Meeting
+  write_op slot op tx client = accept_unless (refusal table (seen_by tx op.store) op) slot op tx client
+
+  abbrev pub write_act : ℕ → Store → List Step → Result Act DataFault → Open → Client → Meeting
+  write_act slot store path (Err fault) tx client = refused (BadData fault) client
+  write_act slot store path (Ok act) tx client = write_op slot (op_of store path act) tx client
+
+  abbrev pub write_at : ℕ → Store → Result (List Step) PathTextFault → Deed → Open → Client → Meeting
+  write_at slot store (Err fault) deed tx client = refused (BadPath fault) client
+  write_at slot store (Ok path) deed tx client = write_act slot store path (act_of table path deed) tx client
+
+  abbrev pub write_in : Mode → ℕ → Store → List ℕ → Deed → Open → Client → Meeting
+  write_in Ro slot store text deed tx client = refused ReadOnly client
+  write_in mode slot store text deed tx client = write_at slot store (read_path table text) deed tx client
+
+  -- A write: the first refusal counts, of the slot, the mode, the path, the value, and then of the transaction: the root, a
+  -- key leaf, state data in the configuration, a parent that is missing.
+  abbrev pub write : ℕ → Store → List ℕ → Deed → Client → Option Open → Meeting
+  write slot store text deed client None = refused EmptySlot client
+  write slot store text deed client (Some tx) = write_in tx.mode slot store text deed tx client
+
+  -- what a client's step comes to after the log
+  abbrev pub meet : Client → Move → Meeting
+  meet client (Begin slot domain mode) = shared (BeginCall domain mode)
+  meet client (Put slot store path value) = write slot store path (putting value) client (client.transactions slot)
+  meet client (Merge slot store path value) = write slot store path (merging value) client (client.transactions slot)
+  meet client (Delete slot store path) = write slot store path deleting client (client.transactions slot)
+  meet client (Read slot store path) = look rows_read store path client (client.transactions slot)
+  meet client (Exists slot store path) = look found store path client (client.transactions slot)
+  meet client (Submit slot) = submit client (client.transactions slot)
+  meet client (Cancel slot) = cancel client (client.transactions slot)
+  meet client (Settle slot) = settle client (client.receipts slot)
+
+-- What the answer to a shared call leaves in the slots; `place` is that of the call's entry. A refusal leaves them as they
+-- were.
+abbrev pub keep : ℕ → Move → Reply → Client → Client
 keep place (Begin slot domain mode) (Begun commit on) client =
     record client { transactions = set_slot slot (Some (record { place = place; domain = domain; mode = mode; ops = [] })) client.transactions }
 keep place (Submit slot) (Receipt number) client =
     record client { transactions = set_slot slot None client.transactions; receipts = set_slot slot (Some number) client.receipts }
+keep place (Cancel slot) Done client = record client { transactions = set_slot slot None client.transactions }
 keep place step r client = client
 
 -- a client and the steps that are still to come
 pub record Run : Type 0 where
   pub client : Client
-  pub steps : List ScriptStep
+  pub steps : List Move
 
 -- where a client comes to by its local steps: its end, or a shared call with the steps behind it
 pub data Arrival : Type 0 where
   ended : Client → Arrival
-  calls : Call → ScriptStep → Run → Arrival
+  calls : Call → Move → Run → Arrival
 
 -- the log and the client after a shared call
 pub record Made : Type 0 where
@@ -177,9 +223,9 @@ cons_replies None rest = None
 cons_replies (Some rs) None = None
 cons_replies (Some rs) (Some rest) = Some (rs ∷ rest)
 
-module _ (table : SchemaTable) (world : List Opening) where
+module _ (table : SchemaTable) (world : List Domain) where
   -- the client goes on to its next shared call
-  abbrev pub arrive : List Entry → Client → List ScriptStep → Arrival
+  abbrev pub arrive : List Entry → Client → List Move → Arrival
   arrive log client [] = ended client
   arrive log client (step ∷ steps) = arrive_by (λ next. arrive log next steps) (λ call. calls call step (record { client = client; steps = steps })) (meet table world log client step)
 
@@ -217,7 +263,7 @@ abbrev pub play_by : ℕ → (Stand → Result Played ℕ) → Option Stand → 
 play_by index next None = Err index
 play_by index next (Some stand) = next stand
 
-module _ (table : SchemaTable) (world : List Opening) where
+module _ (table : SchemaTable) (world : List Domain) where
   abbrev pub end_by : ℕ → List Entry → Option (List (List StepReply)) → Result Played ℕ
   end_by index log None = Err index
   end_by index log (Some replies) = Ok (record { log = log; replies = replies })
@@ -228,16 +274,17 @@ module _ (table : SchemaTable) (world : List Opening) where
   play_from index stand (c ∷ order) = play_by index (λ next. play_from (index + 1) next order) (turn table world stand c)
 
 -- the clients of a script at their beginning
-abbrev pub start : List (List ScriptStep) → Stand
+abbrev pub start : List (List Move) → Stand
 start clients = record { log = []; runs = map (λ steps. record { client = new_client; steps = steps }) clients }
 
--- what a script does in an order, over the schema and the opening trees of its domain, or the index at which the order fails
-abbrev pub play : SchemaTable → List Opening → List (List ScriptStep) → List ℕ → Result Played ℕ
-play table world clients order = play_from table world 0 (start clients) order
+-- what a script does in an order over its domains, or the index at which the order fails; paths and values are read by the
+-- schema of domain 0
+abbrev pub play : List Domain → List (List Move) → List ℕ → Result Played ℕ
+play world clients order = play_from (table_of world 0) world 0 (start clients) order
 
 -- the order is one of the clients' shared calls: each once, and in its client's own order
-abbrev pub IsLegal : SchemaTable → List Opening → List (List ScriptStep) → List ℕ → Type 0
-IsLegal table world clients order = is_ok_result (play table world clients order)
+abbrev pub IsLegal : List Domain → List (List Move) → List ℕ → Type 0
+IsLegal world clients order = is_ok_result (play world clients order)
   where
     is_ok_result : Result Played ℕ → Type 0
     is_ok_result (Ok played) = Unit {0}

@@ -4,6 +4,7 @@ use Rattle.sal_script.specs.declared.fault.ScriptFault.{ScriptFault}
 use Rattle.sal_script.specs.declared.fault.ScriptFault.TheVariants.{BadScript, NoMemory}
 use Rattle.sal_script.specs.declared.script.Script.{Script}
 use Rattle.serde_json.specs.View.{view}
+use Rattle.sal_script.specs.Moves.{clients_of}
 use Rattle.sal_script.specs.Script.{Parts}
 
 -- the fault names the place, unless memory ran out
@@ -22,7 +23,7 @@ Reads seen result read = MatchResult result (λ x. read ≡ Ok (seen x)) (IsFaul
 
 -- what a script has
 abbrev pub parts : Script → Parts
-parts script = record { modules = script.modules; config = view script.config; operational = view script.operational; clients = script.clients; order = script.order }
+parts script = record { modules = script.modules; config = view script.config; operational = view script.operational; clients = clients_of script.clients; order = script.order }
 
 -- the script that is read, or the first bad place, unless memory ran out
 abbrev pub ReadsScript : Result Script ScriptFault → Result Parts (List ℕ) → Type 0

@@ -7,18 +7,21 @@ use Rattle.sal_types.specs.declared.row.Row.{Row}
 use Rattle.sal_rows.specs.declared.outcome.ClashKind.{ClashKind}
 use Rattle.sal_rows.specs.declared.outcome.ClashKind.TheVariants.{Changed, Created, Deleted}
 use Rattle.sal_rows.specs.declared.outcome.Outcome.{Outcome}
-use Rattle.sal_rows.specs.declared.outcome.Outcome.TheVariants.{Done, Conflict}
+use Rattle.sal_rows.specs.declared.outcome.Outcome.TheVariants.{Done, Conflict, Invalid}
+use Rattle.sal_rows.specs.declared.outcome.Rule.{Rule}
+use Rattle.sal_rows.specs.declared.outcome.Rule.TheVariants.{Mandatory, MinElements, MaxElements, Unique, TwoCases}
 use Rattle.sal_rows.specs.declared.outcome.CallFault.{CallFault}
-use Rattle.sal_rows.specs.declared.outcome.CallFault.TheVariants.{NoDomain}
+use Rattle.sal_rows.specs.declared.outcome.CallFault.TheVariants.{HistoryFull, PipelineFull, NoDomain, NoMemory, TxSpent}
 use Rattle.sal_history.specs.declared.call.Entry.{Entry}
 use Rattle.sal_history.specs.declared.reply.Reply.{Reply}
-use Rattle.sal_history.specs.declared.reply.Reply.TheVariants.{Begun, Receipt, Settled, Refused}
-use Rattle.sal_history.specs.declared.opening.Opening.{Opening}
+use Rattle.sal_history.specs.declared.reply.Reply.TheVariants.{Begun, Accepted, Receipt, Settled, Refused}
+use Rattle.sal_history.specs.World.{Domain, table_of}
 use Rattle.sal_history.specs.History.{history, commits, newest_tree}
 use Rattle.json.specs.Print.{quoted}
 use Rattle.serde_json.specs.Written.{compact_text}
 use Rattle.sal_types.specs.declared.value.Step.{Step}
 use Rattle.sal_schema.specs.declared.table.SchemaTable.{SchemaTable}
+use Rattle.sal_schema.specs.Table.{module_name, module_of, name_of}
 use Rattle.sal_json.specs.declared.fault.ScalarFault.{ScalarFault}
 use Rattle.sal_json.specs.declared.fault.ScalarFault.TheVariants as scalar_fault
 use Rattle.sal_pathtext.specs.declared.fault.PathTextFault.{PathTextFault}
@@ -30,7 +33,9 @@ use Rattle.sal_data.specs.Written.{write_data}
 use Rattle.sal_script.specs.declared.reply.StepReply.{StepReply}
 use Rattle.sal_script.specs.declared.reply.StepReply.TheVariants as step_reply
 use Rattle.sal_script.specs.declared.reply.StepRefusal.{StepRefusal}
-use Rattle.sal_script.specs.declared.reply.StepRefusal.TheVariants.{EmptySlot, ReadOnly, BadPath, BadData}
+use Rattle.sal_script.specs.declared.reply.StepRefusal.TheVariants.{EmptySlot, ReadOnly, BadPath, BadData, Write}
+use Rattle.sal_tx.specs.declared.fault.TxFault.{TxFault}
+use Rattle.sal_tx.specs.declared.fault.TxFault.TheVariants as tx_fault
 use Rattle.sal_script.specs.Play.{Played}
 
 -- a space and a number
@@ -51,7 +56,11 @@ on_text None = []
 on_text (Some receipt) = codes " on" ++ number receipt
 
 abbrev pub fault_text : CallFault → List ℕ
+fault_text HistoryFull = codes "history-full"
+fault_text PipelineFull = codes "pipeline-full"
 fault_text (NoDomain id) = codes "no-domain" ++ number id
+fault_text NoMemory = codes "no-memory"
+fault_text TxSpent = codes "tx-spent"
 
 abbrev pub truth_text : Bool → List ℕ
 truth_text true = codes "true"
@@ -90,21 +99,50 @@ module _ (table : SchemaTable) where
   data_fault_text (data_fault.TooDeep path) = codes "too-deep" ++ path_text path
   data_fault_text data_fault.NoMemory = codes "no-memory"
 
+  -- why a transaction refused a write, or a read
+  abbrev pub tx_fault_text : TxFault → List ℕ
+  tx_fault_text tx_fault.WriteOnly = codes "write-only"
+  tx_fault_text (tx_fault.NotConfig path) = codes "not-config" ++ path_text path
+  tx_fault_text (tx_fault.KeyLeaf path) = codes "key-leaf" ++ path_text path
+  tx_fault_text (tx_fault.ParentMissing path) = codes "parent-missing" ++ path_text path
+  tx_fault_text tx_fault.RootPath = codes "root-path"
+  tx_fault_text tx_fault.NoMemory = codes "no-memory"
+
+  -- ---- structural rules
+
+  -- the name of a node with that of its module
+  abbrev pub node_text : ℕ → List ℕ
+  node_text n = module_name table (module_of table n) ++ (58 ∷ name_of table n)
+
+  abbrev pub rule_text : Rule → List ℕ
+  rule_text (Mandatory n) = codes "mandatory " ++ node_text n
+  rule_text (MinElements n) = codes "min-elements " ++ node_text n
+  rule_text (MaxElements n) = codes "max-elements " ++ node_text n
+  rule_text (Unique n) = codes "unique " ++ node_text n
+  rule_text (TwoCases n) = codes "two-cases " ++ node_text n
+
+  -- where a rule is broken, and which
+  abbrev pub breach_text : List Step → Rule → List ℕ
+  breach_text path rule = path_text path ++ (32 ∷ rule_text rule)
+
   -- ---- replies
 
   abbrev pub outcome_text : Outcome → List ℕ
   outcome_text (Done commit) = codes "done" ++ number commit
   outcome_text (Conflict store path kind commit) =
       codes "conflict " ++ (store_text store ++ (path_text path ++ (32 ∷ (kind_text kind ++ number commit))))
+  outcome_text (Invalid store path rule) = codes "invalid " ++ (store_text store ++ breach_text path rule)
 
   abbrev pub refusal_text : StepRefusal → List ℕ
   refusal_text EmptySlot = codes "empty-slot"
   refusal_text ReadOnly = codes "read-only"
   refusal_text (BadPath fault) = codes "path " ++ path_fault_text fault
   refusal_text (BadData fault) = codes "data " ++ data_fault_text fault
+  refusal_text (Write fault) = tx_fault_text fault
 
   abbrev pub call_text : Reply → List ℕ
   call_text (Begun commit on) = codes "begun" ++ (number commit ++ on_text on)
+  call_text Accepted = codes "ok"
   call_text (Receipt n) = codes "receipt" ++ number n
   call_text (Settled domain outcome) = outcome_text outcome
   call_text (Refused fault) = codes "refused " ++ fault_text fault
@@ -149,8 +187,8 @@ module _ (table : SchemaTable) where
   abbrev pub report_of : List Entry → List (List StepReply) → ℕ → List Row → List Row → List ℕ
   report_of log replies commits config oper = order_line log ++ (reply_lines 0 replies ++ tree_line 0 commits config oper)
 
-  -- the report of what a script came to
-  abbrev pub report : List Opening → Played → List ℕ
-  report world played =
-      report_of played.log played.replies (length (commits (history world played.log) 0))
-      (newest_tree world played.log 0 Config) (newest_tree world played.log 0 Oper)
+-- the report of what a script came to over its domains
+abbrev pub report : List Domain → Played → List ℕ
+report world played =
+    report_of (table_of world 0) played.log played.replies (length (commits (history world played.log) 0))
+    (newest_tree world played.log 0 Config) (newest_tree world played.log 0 Oper)

@@ -1,26 +1,24 @@
 -- Which script bytes stand for, or the first bad place, looked for in the order of the lines below.
-use Rattle.std.specs.Prelude.{ℕ, Bool, ◌+◌, ◌^◌, List, [], ◌∷◌, ◌++◌, length, Option, None, Some, option_and_then, is_none, Result, Ok, Err, codes, decimal, if◌then◌else◌, nat_le}
+use Rattle.std.specs.Prelude.{ℕ, ◌+◌, ◌^◌, List, [], ◌∷◌, ◌++◌, length, Option, None, Some, option_and_then, Result, Ok, Err, codes, decimal, if◌then◌else◌, nat_le}
 use Rattle.std.specs.Option.{option_map}
 use Rattle.sal_types.specs.Reading.{◌>>=◌}
 use Rattle.sal_types.specs.declared.value.Store.{Store}
 use Rattle.sal_types.specs.declared.value.Store.TheVariants.{Config, Oper}
 use Rattle.sal_rows.specs.declared.outcome.Mode.{Mode}
-use Rattle.sal_rows.specs.declared.outcome.Mode.TheVariants.{Ro, Rw}
+use Rattle.sal_rows.specs.declared.outcome.Mode.TheVariants.{Ro, Wo, Rw}
 use Rattle.serde_json.specs.Data.{Data, object, Members, no_members}
 use Rattle.serde_json.specs.Find.{as_str, as_object, get_member}
-use Rattle.sal_script.specs.declared.script.ScriptStep.{ScriptStep}
-use Rattle.sal_script.specs.declared.script.ScriptStep.TheVariants.{Begin, Put, Read, Exists, Submit, Settle}
+use Rattle.sal_script.specs.Moves.{Move, Begin, Put, Merge, Delete, Read, Exists, Submit, Cancel, Settle}
 use Rattle.sal_script.specs.declared.script.TheConstants.{PLAIN}
 use Rattle.sal_script.specs.Limits.{is_short}
 use Rattle.sal_script.specs.Json.{text_eq, list_of, all_named, whole_below, data_of}
-use Rattle.sal_script.specs.Plain.{is_leaf_text}
 
 -- what a script has
 pub record Parts : Type 0 where
   pub modules : List (List ℕ)
   pub config : Data
   pub operational : Data
-  pub clients : List (List ScriptStep)
+  pub clients : List (List Move)
   pub order : List ℕ
 
 -- a place is a text, such as `clients/0/2`
@@ -44,12 +42,14 @@ at_most limit xs = if nat_le (length xs) limit then Some xs else None
 abbrev pub slot_of : Data → Option ℕ
 slot_of d = whole_below 256 d
 
--- the one domain
 abbrev pub domain_of : Data → Option ℕ
-domain_of d = whole_below 1 d
+domain_of d = whole_below (2 ^ 32) d
 
 abbrev pub mode_named : List ℕ → Option Mode
-mode_named name = if text_eq name (codes "ro") then Some Ro else (if text_eq name (codes "rw") then Some Rw else None)
+mode_named name =
+    if text_eq name (codes "ro") then Some Ro
+    else (if text_eq name (codes "wo") then Some Wo
+    else (if text_eq name (codes "rw") then Some Rw else None))
 
 abbrev pub mode_of : Data → Option Mode
 mode_of d = option_and_then mode_named (as_str d)
@@ -60,55 +60,53 @@ store_named name = if text_eq name (codes "config") then Some Config else (if te
 abbrev pub store_of : Data → Option Store
 store_of d = option_and_then store_named (as_str d)
 
-abbrev pub begin_of : List Data → Option ScriptStep
+abbrev pub begin_of : List Data → Option Move
 begin_of (t ∷ d ∷ o ∷ []) = option_and_then (λ slot. option_and_then (λ domain. option_map (Begin slot domain) (mode_of o)) (domain_of d)) (slot_of t)
 begin_of parts = None
 
--- Until writes of every kind are there, a put is one of a text at a leaf of `plain`, in the configuration.
-abbrev pub config_of : Data → Option Store
-config_of d = option_and_then (λ name. if text_eq name (codes "config") then Some Config else None) (as_str d)
-
-abbrev pub leaf_of : Data → Option (List ℕ)
-leaf_of d = option_and_then (λ text. if is_leaf_text text then Some text else None) (as_str d)
-
-abbrev pub put_of : List Data → Option ScriptStep
-put_of (t ∷ s ∷ p ∷ v ∷ []) = option_and_then (λ slot. option_and_then (λ store. option_and_then (λ path. option_map (Put slot store path) (as_str v)) (leaf_of p)) (config_of s)) (slot_of t)
-put_of parts = None
-
 -- a step by its slot, its store and the text of its path
 abbrev pub Naming : Type 0
-Naming = ℕ → Store → List ℕ → ScriptStep
+Naming = ℕ → Store → List ℕ → Move
 
--- a step that looks at a path
-abbrev pub look_of : Naming → List Data → Option ScriptStep
-look_of step (t ∷ s ∷ p ∷ []) = option_and_then (λ slot. option_and_then (λ store. option_map (step slot store) (as_str p)) (store_of s)) (slot_of t)
-look_of step parts = None
+-- a step at a path
+abbrev pub place_of : Naming → List Data → Option Move
+place_of step (t ∷ s ∷ p ∷ []) = option_and_then (λ slot. option_and_then (λ store. option_map (step slot store) (as_str p)) (store_of s)) (slot_of t)
+place_of step parts = None
 
-abbrev pub submit_of : List Data → Option ScriptStep
-submit_of (t ∷ []) = option_map Submit (slot_of t)
-submit_of parts = None
+-- a step by these and a value
+abbrev pub Writing : Type 0
+Writing = ℕ → Store → List ℕ → Data → Move
 
-abbrev pub settle_of : List Data → Option ScriptStep
-settle_of (t ∷ []) = option_map Settle (slot_of t)
-settle_of parts = None
+-- a step that writes a value, of whatever kind, at a path
+abbrev pub write_of : Writing → List Data → Option Move
+write_of step (t ∷ s ∷ p ∷ v ∷ []) = place_of (λ slot store path. step slot store path v) (t ∷ s ∷ p ∷ [])
+write_of step parts = None
 
--- The step with this word and these parts behind it. A script that names modules has no puts yet.
-abbrev pub step_named : Bool → List ℕ → List Data → Option ScriptStep
-step_named plain word parts =
+-- a step at a slot alone
+abbrev pub slot_step_of : (ℕ → Move) → List Data → Option Move
+slot_step_of step (t ∷ []) = option_map step (slot_of t)
+slot_step_of step parts = None
+
+-- the step with this word and these parts behind it
+abbrev pub step_named : List ℕ → List Data → Option Move
+step_named word parts =
     if text_eq word (codes "begin") then begin_of parts
-    else (if text_eq word (codes "put") then (if plain then put_of parts else None)
-    else (if text_eq word (codes "read") then look_of Read parts
-    else (if text_eq word (codes "exists") then look_of Exists parts
-    else (if text_eq word (codes "submit") then submit_of parts
-    else (if text_eq word (codes "settle") then settle_of parts else None)))))
+    else (if text_eq word (codes "put") then write_of Put parts
+    else (if text_eq word (codes "merge") then write_of Merge parts
+    else (if text_eq word (codes "delete") then place_of Delete parts
+    else (if text_eq word (codes "read") then place_of Read parts
+    else (if text_eq word (codes "exists") then place_of Exists parts
+    else (if text_eq word (codes "submit") then slot_step_of Submit parts
+    else (if text_eq word (codes "cancel") then slot_step_of Cancel parts
+    else (if text_eq word (codes "settle") then slot_step_of Settle parts else None))))))))
 
-abbrev pub step_from : Bool → List Data → Option ScriptStep
-step_from plain [] = None
-step_from plain (word ∷ parts) = option_and_then (λ name. step_named plain name parts) (as_str word)
+abbrev pub step_from : List Data → Option Move
+step_from [] = None
+step_from (word ∷ parts) = option_and_then (λ name. step_named name parts) (as_str word)
 
--- the step that an array stands for; whether the script is one over `plain` is told
-abbrev pub step_of : Bool → Data → Option ScriptStep
-step_of plain d = option_and_then (step_from plain) (list_of d)
+-- the step that an array stands for
+abbrev pub step_of : Data → Option Move
+step_of d = option_and_then step_from (list_of d)
 
 -- ---- members
 
@@ -126,7 +124,7 @@ list_member name ms = listed (get_member name ms)
 
 -- a client's steps, not yet read: an object with the one member `steps`, an array that is not too long
 abbrev pub program_of : Data → Option (List Data)
-program_of d = option_and_then (λ ms. option_and_then (λ steps. option_and_then (at_most 256) (list_of steps)) (get_member (codes "steps") ms)) (members_of (codes "steps" ∷ []) d)
+program_of d = option_and_then (λ ms. option_and_then (λ steps. option_and_then (at_most 60000) (list_of steps)) (get_member (codes "steps") ms)) (members_of (codes "steps" ∷ []) d)
 
 -- the clients from number c on
 abbrev pub programs_from : ℕ → List Data → Result (List (List Data)) (List ℕ)
@@ -134,14 +132,14 @@ programs_from c [] = Ok []
 programs_from c (d ∷ ds) = or_bad (client_place c) (program_of d) >>= (λ program. programs_from (c + 1) ds >>= (λ programs. Ok (program ∷ programs)))
 
 -- the steps of client c, from number s on
-abbrev pub steps_from : Bool → ℕ → ℕ → List Data → Result (List ScriptStep) (List ℕ)
-steps_from plain c s [] = Ok []
-steps_from plain c s (d ∷ ds) = or_bad (step_place c s) (step_of plain d) >>= (λ step. steps_from plain c (s + 1) ds >>= (λ steps. Ok (step ∷ steps)))
+abbrev pub steps_from : ℕ → ℕ → List Data → Result (List Move) (List ℕ)
+steps_from c s [] = Ok []
+steps_from c s (d ∷ ds) = or_bad (step_place c s) (step_of d) >>= (λ step. steps_from c (s + 1) ds >>= (λ steps. Ok (step ∷ steps)))
 
 -- the steps of the clients from number c on
-abbrev pub clients_from : Bool → ℕ → List (List Data) → Result (List (List ScriptStep)) (List ℕ)
-clients_from plain c [] = Ok []
-clients_from plain c (p ∷ ps) = steps_from plain c 0 p >>= (λ steps. clients_from plain (c + 1) ps >>= (λ clients. Ok (steps ∷ clients)))
+abbrev pub clients_from : ℕ → List (List Data) → Result (List (List Move)) (List ℕ)
+clients_from c [] = Ok []
+clients_from c (p ∷ ps) = steps_from c 0 p >>= (λ steps. clients_from (c + 1) ps >>= (λ clients. Ok (steps ∷ clients)))
 
 -- what each of these stands for, where each stands for something
 abbrev pub all_of : {A : Type 0} → (Data → Option A) → List Data → Option (List A)
@@ -163,10 +161,6 @@ modules_member ms = given (get_member (codes "modules") ms)
     given : Option Data → Option (List (List ℕ))
     given None = Some (PLAIN.now ∷ [])
     given (Some d) = option_and_then (all_of text_of) (list_of d)
-
--- a script that names no modules is one over `plain`
-abbrev pub is_plain : Members → Bool
-is_plain ms = is_none (get_member (codes "modules") ms)
 
 -- an object
 abbrev pub if_object : Data → Option Data
@@ -193,7 +187,7 @@ parts_of ms =
     >>= (λ config. or_bad (codes "operational") (opening_member (codes "operational") ms)
     >>= (λ operational. or_bad (codes "clients") (option_and_then (at_most 16) (list_member (codes "clients") ms))
     >>= (λ ds. programs_from 0 ds
-    >>= (λ programs. clients_from (is_plain ms) 0 programs
+    >>= (λ programs. clients_from 0 programs
     >>= (λ clients. or_bad (codes "order") (option_and_then numbers_of (list_member (codes "order") ms))
     >>= (λ order. Ok (record { modules = texts; config = config; operational = operational; clients = clients; order = order }))))))))
 

@@ -3,6 +3,7 @@ use sal_data::DataFault;
 use sal_history::Reply;
 use sal_pathtext::PathTextFault;
 use sal_rows::Rows;
+use sal_tx::TxFault;
 use sal_types::Path;
 
 /// Why a client refused a step by itself: it made no call.
@@ -16,6 +17,8 @@ pub enum StepRefusal {
     BadPath { fault: PathTextFault },
     /// The value is no data of the schema at the path.
     BadData { fault: DataFault },
+    /// The transaction refused the write, or a read where it only writes.
+    Write { fault: TxFault },
 }
 
 /// The answer to a step: of a shared call, what the log gives; of a local step, what the client's own transaction gives.

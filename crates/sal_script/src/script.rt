@@ -10,7 +10,7 @@ use serde_json::Value;
 pub const MAX_CLIENTS: usize = 16;
 
 /// How many steps a client has at most.
-pub const MAX_PROGRAM: usize = 256;
+pub const MAX_PROGRAM: usize = 60000;
 
 /// The module of a script that names none: a container with eight leafs.
 pub const PLAIN: &str =
@@ -26,12 +26,26 @@ pub enum ScriptStep {
         domain: u32,
         mode: Mode,
     },
-    /// Puts the text at the path, in the slot's transaction.
+    /// Puts the value at the path, in the slot's transaction: what stands there and below it is what the value says, and
+    /// nothing else.
     Put {
         slot: u8,
         store: Store,
         path: Str,
-        text: Str,
+        value: Value,
+    },
+    /// Merges the value into what stands at the path, in the slot's transaction.
+    Merge {
+        slot: u8,
+        store: Store,
+        path: Str,
+        value: Value,
+    },
+    /// Deletes what stands at the path and below it, in the slot's transaction.
+    Delete {
+        slot: u8,
+        store: Store,
+        path: Str,
     },
     /// Reads what the slot's transaction sees at the path.
     Read {
@@ -49,6 +63,10 @@ pub enum ScriptStep {
     Submit {
         slot: u8,
     },
+    /// Gives up the slot's transaction.
+    Cancel {
+        slot: u8,
+    },
     /// Settles the receipt in the slot.
     Settle {
         slot: u8,
@@ -59,7 +77,7 @@ pub enum ScriptStep {
 pub type Program = Seq<ScriptStep>;
 
 /// A script: the texts of its modules, each shorter than 4 GiB, the data of its opening trees, at most 16 clients with at most
-/// 256 steps each, and the order of their shared calls.
+/// 60,000 steps each, and the order of their shared calls.
 #[derive(Drop)]
 pub struct Script {
     pub modules: Seq<Str>,

@@ -1,0 +1,65 @@
+-- The phases of a commit, by the trees that a domain keeps.
+use Rattle.std.specs.Prelude.{◌≡◌, ◌⊎◌, ℕ, ◌+◌, ◌-◌, ◌<◌, List, [], ◌∷◌, ◌++◌, length, Option, None, Some, Result, MatchResult, unwrap_or}
+use Rattle.std.specs.Option.{option_or}
+use Rattle.sal_types.specs.declared.value.Store.{Store}
+use Rattle.sal_types.specs.declared.value.Store.TheVariants.{Config, Oper}
+use Rattle.sal_types.specs.declared.row.Row.{Row}
+use Rattle.sal_types.specs.Tree.{under}
+use Rattle.sal_rows.specs.declared.op.Op.{Op}
+use Rattle.sal_rows.specs.declared.outcome.Outcome.{Outcome}
+use Rattle.sal_rows.specs.declared.outcome.Outcome.TheVariants.{Done}
+use Rattle.sal_rows.specs.Apply.{apply_ops, rows_of_act}
+use Rattle.sal_rows.specs.Commits.{Span}
+use Rattle.sal_tree.specs.declared.commit.Commit.{Commit}
+use Rattle.sal_graft.specs.Clash.{tip}
+use Rattle.sal_graft.specs.Kept.{AreKept, opening_in, ops_of, rows_in}
+use Rattle.sal_tx.specs.declared.tx.Submission.{Submission}
+use Rattle.sal_history.specs.Outcome as outcome
+use Rattle.sal_history.specs.History.{ops_if_done}
+use Rattle.sal_commit.specs.declared.domain.Domain.{Domain}
+use Rattle.sal_commit.specs.Domains.{IsSame}
+
+-- the rows of each operation lie at and below its path
+abbrev pub LieBelow : List Op → Type 0
+LieBelow [] = Unit {0}
+LieBelow (op ∷ ops) = (under (rows_of_act op.act) op.path ≡ rows_of_act op.act) × LieBelow ops
+
+-- A submission that can be decided in the domain: it stands on one of the domain's commits, and its rows lie below their
+-- paths.
+pub record IsFor (d : Domain) (sub : Submission) : Type 0 where
+  pub kept : AreKept d.commits.items
+  pub base : sub.base_commit < length d.commits.items
+  pub below : LieBelow sub.changes
+
+-- all commits after the base are foreign
+abbrev pub spans_of : Domain → Submission → List Span
+spans_of d sub = record { from = sub.base_commit; to = length d.commits.items - 1 } ∷ []
+
+-- the conflict of a submission with the commits after its base
+abbrev pub conflict : Domain → Submission → Option Outcome
+conflict d sub = outcome.conflict d.schema.value (opening_in d.commits.items) (ops_of d.commits.items) (rows_in sub.base) (spans_of d sub) sub.changes
+
+abbrev pub invalid : Domain → Submission → Store → Option Outcome
+invalid d sub s = outcome.invalid d.schema.value (opening_in d.commits.items) (ops_of d.commits.items) s sub.changes
+
+abbrev pub breached : Domain → Submission → Option Outcome
+breached d sub = option_or (invalid d sub Config) (invalid d sub Oper)
+
+-- the outcome of a submission at the newest commit of the domain
+abbrev pub decide : Domain → Submission → Outcome
+decide d sub = outcome.decide d.schema.value (opening_in d.commits.items) (ops_of d.commits.items) (rows_in sub.base) (spans_of d sub) sub.changes
+
+-- the next commit of the domain: that of the submission
+pub record IsNext (d : Domain) (sub : Submission) (c : Commit) : Type 0 where
+  pub number : c.number ≡ length d.commits.items
+  pub receipt : c.receipt ≡ sub.receipt
+  pub chain : c.chain ≡ sub.chain
+  pub ops : c.ops.value ≡ sub.changes
+  pub trees : (s : Store) → rows_in c.trees s ≡ apply_ops (tip (opening_in d.commits.items) (ops_of d.commits.items) s) s sub.changes
+
+-- the domain after a decision: its commits are those before, and that of the submission where it is done
+pub record Decides (old : Domain) (sub : Submission) (outcome : Outcome) (new : Domain) : Type 0 where
+  pub same : IsSame old new
+  pub kept : AreKept new.commits.items
+  pub opening : opening_in new.commits.items ≡ opening_in old.commits.items
+  pub commits : ops_of new.commits.items ≡ ops_of old.commits.items ++ ops_if_done outcome sub.changes

@@ -1,0 +1,85 @@
+//! The three phases: canCommit, preCommit and commit.
+ghost use Rattle.std.specs.Prelude.{◌≡◌, ◌⊎◌, ◌+◌, ◌∷◌, [], ◌++◌, None, Some, MatchResult, length};
+ghost use Rattle.sal_rows.specs.declared.outcome.Outcome.TheVariants.{Done};
+ghost use Rattle.sal_rows.specs.declared.outcome.Outcome.{Outcome as Decided};
+ghost use Rattle.sal_graft.specs.Kept.{AreKept};
+ghost use Rattle.sal_commit.specs.Deciding as spec;
+ghost use Rattle.sal_commit.specs.Domains.{IsSame, is_roomy};
+
+use crate::domain::Domain;
+use sal_rows::Outcome;
+use sal_tree::Commit;
+use sal_tx::Submission;
+use sal_types::NoMemory;
+use std::alloc::Global;
+use thiserror::Error;
+
+/// A submission without a conflict, at the newest commit of its domain.
+#[derive(Drop)]
+pub struct Ready<'a> {
+    pub sub: &'a Submission,
+    pub domain: &'a Domain,
+}
+
+/// The next commit of a domain, made but not yet published.
+#[derive(Drop)]
+pub struct Prepared {
+    pub commit: Commit,
+}
+
+/// Why a submission cannot be committed.
+#[derive(Debug, Drop, Error)]
+pub enum CanFault {
+    /// It conflicts with a later commit.
+    #[error("refused")]
+    Refused { outcome: Outcome },
+    #[error("out of memory")]
+    NoMemory,
+}
+
+/// Why a submission was not prepared.
+#[derive(Debug, Drop, Error)]
+pub enum PreFault {
+    /// A tree would break a structural rule.
+    #[error("invalid")]
+    Invalid { outcome: Outcome },
+    #[error("out of memory")]
+    NoMemory,
+}
+
+/// canCommit: whether the submission conflicts with the commits after its base.
+pub fn can<'a>(
+    alloc: Global,
+    sub: &'a Submission,
+    domain: &'a Domain,
+) -> Result<Ready<'a>, CanFault>
+    requires { spec.IsFor domain.now sub.now }
+    ensures { MatchResult result
+        (λ ready. (ready.sub.now ≡ sub.now) × (ready.domain.now ≡ domain.now) × (spec.conflict domain.now sub.now ≡ None))
+        (λ fault. (fault ≡ CanFault.NoMemory) ⊎ ((o : Decided) × (fault ≡ CanFault.Refused o) × (spec.conflict domain.now sub.now ≡ Some o))) }
+{
+    Err(CanFault::NoMemory)
+}
+
+/// preCommit: both trees after the submission, where they break no structural rule. Nodes that it touches get the stamp
+/// `fresh`. It takes all memory of the decision, and changes nothing.
+pub fn pre(alloc: Global, ready: Ready, fresh: u64) -> Result<Prepared, PreFault>
+    requires { spec.IsFor ready.domain.entry ready.sub.entry }
+    ensures { MatchResult result
+        (λ prepared. spec.IsNext ready.domain.entry ready.sub.entry prepared.commit × (spec.breached ready.domain.entry ready.sub.entry ≡ None))
+        (λ fault. (fault ≡ PreFault.NoMemory) ⊎ ((o : Decided) × (fault ≡ PreFault.Invalid o) × (spec.breached ready.domain.entry ready.sub.entry ≡ Some o))) }
+{
+    Err(PreFault::NoMemory)
+}
+
+/// commit: the prepared commit is the domain's newest one, with both its trees. It takes no memory.
+pub fn publish(prepared: Prepared, domain: &mut Domain) -> Outcome
+    requires { is_roomy domain.old }
+    ensures outcome { result ≡ Done prepared.commit.number }
+    ensures same { IsSame domain.old domain.new }
+    ensures commits { domain.new.commits.items ≡ domain.old.commits.items ++ prepared.commit ∷ [] }
+{
+    let commit = prepared.commit.number;
+    domain.commits.push(prepared.commit).unwrap();
+    Outcome::Done { commit }
+}

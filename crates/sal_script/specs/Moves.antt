@@ -1,0 +1,38 @@
+-- The steps of a client as the definitions have them: a value is the JSON data that it stands for.
+use Rattle.std.specs.Prelude.{ℕ, List, map}
+use Rattle.sal_types.specs.declared.value.Store.{Store}
+use Rattle.sal_rows.specs.declared.outcome.Mode.{Mode}
+use Rattle.serde_json.specs.Data.{Data}
+use Rattle.serde_json.specs.View.{view}
+use Rattle.sal_script.specs.declared.script.ScriptStep.{ScriptStep}
+use Rattle.sal_script.specs.declared.script.ScriptStep.TheVariants as told
+
+pub data Move : Type 0 where
+  Begin : ℕ → ℕ → Mode → Move
+  Put : ℕ → Store → List ℕ → Data → Move
+  Merge : ℕ → Store → List ℕ → Data → Move
+  Delete : ℕ → Store → List ℕ → Move
+  Read : ℕ → Store → List ℕ → Move
+  Exists : ℕ → Store → List ℕ → Move
+  Submit : ℕ → Move
+  Cancel : ℕ → Move
+  Settle : ℕ → Move
+
+-- what a step of a script says
+abbrev pub move_of : ScriptStep → Move
+move_of (told.Begin slot domain mode) = Begin slot domain mode
+move_of (told.Put slot store path value) = Put slot store path (view value)
+move_of (told.Merge slot store path value) = Merge slot store path (view value)
+move_of (told.Delete slot store path) = Delete slot store path
+move_of (told.Read slot store path) = Read slot store path
+move_of (told.Exists slot store path) = Exists slot store path
+move_of (told.Submit slot) = Submit slot
+move_of (told.Cancel slot) = Cancel slot
+move_of (told.Settle slot) = Settle slot
+
+abbrev pub moves_of : List ScriptStep → List Move
+moves_of steps = map move_of steps
+
+-- those of each client
+abbrev pub clients_of : List (List ScriptStep) → List (List Move)
+clients_of clients = map moves_of clients

@@ -1,3 +1,2 @@
-pub mod Named
+pub mod Decisions
 pub mod Receipts
-pub mod Writes

@@ -15,15 +15,15 @@ use Rattle.sal_rows.specs.declared.outcome.ClashKind.{ClashKind}
 use Rattle.sal_rows.specs.declared.outcome.Outcome.{Outcome}
 use Rattle.sal_rows.specs.declared.outcome.Outcome.TheVariants.{Conflict}
 use Rattle.sal_rows.specs.declared.outcome.CallFault.TheVariants.{NoDomain}
-use Rattle.sal_history.specs.declared.opening.Opening.{Opening}
 use Rattle.sal_history.specs.declared.call.Call.{Call}
-use Rattle.sal_history.specs.declared.call.Call.TheVariants.{Begin, Submit, Settle}
+use Rattle.sal_history.specs.declared.call.Call.TheVariants.{Begin, Submit, Cancel, Settle}
 use Rattle.sal_history.specs.declared.call.Entry.{Entry}
-use Rattle.sal_history.specs.declared.reply.Reply.TheVariants.{Begun, Refused}
-use Rattle.sal_history.specs.History.{Answered, Base, Sent, answer, began, began_at, commits, decide_front, decide_next, decided_by, done_ops, is_live, ops_if_done, outcome, outcomes, reply_to, sent_by, sents}
-use Rattle.sal_history.specs.Laws.{ConflictsOfALogNameALaterCommit, ConflictsOfALogNameAnOwnWrite, IsLaterTouch, IsOwnWrite}
-use Rattle.sal_history.proofs.Named.{named}
-use Rattle.sal_history.proofs.Writes.{own_write}
+use Rattle.sal_history.specs.declared.reply.Reply.{Reply}
+use Rattle.sal_history.specs.declared.reply.Reply.TheVariants.{Begun, Receipt, Refused}
+use Rattle.sal_history.specs.World.{Domain}
+use Rattle.sal_history.specs.History.{Answered, Base, Sent, answer, began, began_at, commits, decide_front, decide_next, decided_by, done_ops, is_live, ops_if_done, outcome, outcomes, reply_to, sent_by, sents, submitted}
+use Rattle.sal_history.specs.Laws.{ConflictsOfALogNameALaterCommit, IsLaterTouch, IsOwnPlace}
+use Rattle.sal_history.proofs.Decisions.{named}
 
 -- ---- lists
 
@@ -56,14 +56,17 @@ done_ops-grows domain (s ∷ ss) ts (o ∷ os) ps =
 
 -- ---- receipts
 
+-- what a conflict names
+abbrev IsNamed : List Domain → List (List Op) → Sent → Store → List Step → ℕ → Type 0
+IsNamed world commits s store path commit = IsLaterTouch world commits s store path commit × IsOwnPlace s store path
+
 -- the submissions and the outcomes of a log: bases are commits, and conflicts name later ones
-record Known (world : List Opening) (ss : List Sent) (os : List Outcome) : Type 0 where
+record Known (world : List Domain) (ss : List Sent) (os : List Outcome) : Type 0 where
   within : length os ≤ length ss
   bases : (i : ℕ) (s : Sent) → slice_get ss i ≡ Some s → s.base.commit ≤ length (done_ops s.base.domain ss os)
-  conflicts : (i : ℕ) (s : Sent) (store : Store) (path : List Step) (kind : ClashKind) (commit : ℕ) → slice_get ss i ≡ Some s → slice_get os i ≡ Some (Conflict store path kind commit) → IsLaterTouch world (done_ops s.base.domain ss (take i os)) s store path commit
-  own : (i : ℕ) (s : Sent) (store : Store) (path : List Step) (kind : ClashKind) (commit : ℕ) → slice_get ss i ≡ Some s → slice_get os i ≡ Some (Conflict store path kind commit) → IsOwnWrite s store path
+  conflicts : (i : ℕ) (s : Sent) (store : Store) (path : List Step) (kind : ClashKind) (commit : ℕ) → slice_get ss i ≡ Some s → slice_get os i ≡ Some (Conflict store path kind commit) → IsNamed world (done_ops s.base.domain ss (take i os)) s store path commit
 
-module _ (world : List Opening) where
+module _ (world : List Domain) where
   -- one submission more
   Known-submit : (ss : List Sent) (os : List Outcome) (s : Sent) → Known world ss os → s.base.commit ≤ length (done_ops s.base.domain ss os) → Known world (ss ++ s ∷ []) os
   Known-submit ss os s was stands =
@@ -73,8 +76,7 @@ module _ (world : List Opening) where
         conflicts = λ i t store path kind commit at is.
             let decided : i < length os = slice_get_within os i (Conflict store path kind commit) is in
             let short : length (take i os) ≤ length ss = omega (arith, length-take i os, was.within) in
-            subst (λ (cs : List (List Op)). IsLaterTouch world cs t store path commit) (sym (done_ops-more t.base.domain ss s (take i os) short)) (was.conflicts i t store path kind commit (old_at i t decided at) is);
-        own = λ i t store path kind commit at is. was.own i t store path kind commit (old_at i t (slice_get_within os i (Conflict store path kind commit) is) at) is;
+            subst (λ (cs : List (List Op)). IsNamed world cs t store path commit) (sym (done_ops-more t.base.domain ss s (take i os) short)) (was.conflicts i t store path kind commit (old_at i t decided at) is);
       }
     where
       base_of : (i : ℕ) (t : Sent) → slice_get (ss ++ s ∷ []) i ≡ Some t → t.base.commit ≤ length (done_ops t.base.domain ss os)
@@ -99,16 +101,12 @@ module _ (world : List Opening) where
           | inl old ↦
               let inside : i < length os = slice_get_within os i (Conflict store path kind commit) old in
               let front : take i (os ++ o ∷ []) ≡ take i os = take-append-le i os (o ∷ []) (omega (arith, inside)) in
-              subst (λ (ps : List Outcome). IsLaterTouch world (done_ops t.base.domain ss ps) t store path commit) (sym front) (was.conflicts i t store path kind commit at old)
+              subst (λ (ps : List Outcome). IsNamed world (done_ops t.base.domain ss ps) t store path commit) (sym front) (was.conflicts i t store path kind commit at old)
           | inr w ↦
               let same : s ≡ t = same_Some s t (sym next ∙ ap (slice_get ss) (sym w.0) ∙ at) in
               let front : take i (os ++ o ∷ []) ≡ os = ap (λ k. take k (os ++ o ∷ [])) w.0 ∙ take-append_seam os (o ∷ []) in
-              let own : IsLaterTouch world (done_ops s.base.domain ss os) s store path commit = named world (done_ops s.base.domain ss os) s store path kind commit (was.bases (length os) s next) w.1 in
-              subst (λ (ps : List Outcome). IsLaterTouch world (done_ops t.base.domain ss ps) t store path commit) (sym front) (subst (λ (u : Sent). IsLaterTouch world (done_ops u.base.domain ss os) u store path commit) same own)
-        ];
-        own = λ i t store path kind commit at is. elim (last_or_before os o (Conflict store path kind commit) i is) [
-          | inl old ↦ was.own i t store path kind commit at old
-          | inr w ↦ subst (λ (u : Sent). IsOwnWrite u store path) (same_Some s t (sym next ∙ ap (slice_get ss) (sym w.0) ∙ at)) (own_write world (done_ops s.base.domain ss os) s store path kind commit w.1)
+              let own : IsNamed world (done_ops s.base.domain ss os) s store path commit = named world (done_ops s.base.domain ss os) s store path kind commit (was.bases (length os) s next) w.1 in
+              subst (λ (ps : List Outcome). IsNamed world (done_ops t.base.domain ss ps) t store path commit) (sym front) (subst (λ (u : Sent). IsNamed world (done_ops u.base.domain ss os) u store path commit) same own)
         ];
       }
     where
@@ -139,11 +137,20 @@ module _ (world : List Opening) where
     base_le None place at = omega arith
     base_le (Some b) place at = was.begun place b at
 
-    Known-call : (call : Call) → Known world (sents answered ++ option_to_list (sent_by answered call)) (outcomes answered ++ decided_by world answered call)
-    Known-call (Begin domain mode) = subst (λ (ss : List Sent). Known world ss (outcomes answered ++ [])) (sym (append-nil (sents answered))) (subst (Known world (sents answered)) (sym (append-nil (outcomes answered))) was.known)
-    Known-call (Submit place ops) =
+    -- a call that decides nothing and submits nothing, or one submission
+    unsent : Known world (sents answered ++ []) (outcomes answered ++ [])
+    unsent = subst (λ (ss : List Sent). Known world ss (outcomes answered ++ [])) (sym (append-nil (sents answered))) (subst (Known world (sents answered)) (sym (append-nil (outcomes answered))) was.known)
+
+    Known-sent : (place : ℕ) (ops : List Op) (r : Reply) → Known world (sents answered ++ option_to_list (sent_by answered (Submit place ops) r)) (outcomes answered ++ [])
+    Known-sent place ops (Receipt n) =
         let s : Sent = record { base = unwrap_or (began_at answered place) (record { domain = 0; commit = 0 }); ops = ops } in
         subst (Known world (sents answered ++ s ∷ [])) (sym (append-nil (outcomes answered))) (Known-submit (sents answered) (outcomes answered) s was.known (base_le (began_at answered place) place refl))
+    Known-sent place ops r = unsent
+
+    Known-call : (call : Call) → Known world (sents answered ++ option_to_list (sent_by answered call (reply_to world answered call))) (outcomes answered ++ decided_by world answered call)
+    Known-call (Begin domain mode) = unsent
+    Known-call (Submit place ops) = Known-sent place ops (submitted answered place)
+    Known-call (Cancel place) = unsent
     Known-call (Settle n) = subst (λ (ss : List Sent). Known world ss (outcomes answered ++ decided_by world answered (Settle n))) (sym (append-nil (sents answered))) (Known-next (n - length (outcomes answered)) (sents answered) (outcomes answered) was.known)
 
     new_base : (call : Call) (b : Base) → began call (reply_to world answered call) ≡ Some b → b.commit ≤ length (commits answered b.domain)
@@ -153,25 +160,26 @@ module _ (world : List Opening) where
           | false ↦ λ e. cc
         ]
     new_base (Submit place ops) b = λ e. cc
+    new_base (Cancel place) b = λ e. cc
     new_base (Settle n) b = λ e. cc
 
     module _ (e : Entry) where
       abbrev now : Answered
-      now = record { entry = e; reply = reply_to world answered e.call; sent = sent_by answered e.call; decided = decided_by world answered e.call }
+      now = record { entry = e; reply = reply_to world answered e.call; sent = sent_by answered e.call (reply_to world answered e.call); decided = decided_by world answered e.call }
 
-      sents-now : sents (answered ++ now ∷ []) ≡ sents answered ++ option_to_list (sent_by answered e.call)
+      sents-now : sents (answered ++ now ∷ []) ≡ sents answered ++ option_to_list (sent_by answered e.call (reply_to world answered e.call))
       sents-now =
           filter_map-append (λ (a : Answered). a.sent) answered (now ∷ [])
-          ∙ elim (sent_by answered e.call) as (λ (o : Option Sent). sents answered ++ cons_option o [] ≡ sents answered ++ option_to_list o) [ None ↦ refl | Some s ↦ refl ]
+          ∙ elim (sent_by answered e.call (reply_to world answered e.call)) as (λ (o : Option Sent). sents answered ++ cons_option o [] ≡ sents answered ++ option_to_list o) [ None ↦ refl | Some s ↦ refl ]
 
       outcomes-now : outcomes (answered ++ now ∷ []) ≡ outcomes answered ++ decided_by world answered e.call
       outcomes-now = flat_map-append (λ (a : Answered). a.decided) answered (now ∷ []) ∙ ap (λ (os : List Outcome). outcomes answered ++ os) (append-nil (decided_by world answered e.call))
 
       grown : (domain : ℕ) → length (commits answered domain) ≤ length (commits (answered ++ now ∷ []) domain)
       grown domain =
-          let both : commits (answered ++ now ∷ []) domain ≡ done_ops domain (sents answered ++ option_to_list (sent_by answered e.call)) (outcomes answered ++ decided_by world answered e.call) = λ i. done_ops domain (sents-now i) (outcomes-now i) in
+          let both : commits (answered ++ now ∷ []) domain ≡ done_ops domain (sents answered ++ option_to_list (sent_by answered e.call (reply_to world answered e.call))) (outcomes answered ++ decided_by world answered e.call) = λ i. done_ops domain (sents-now i) (outcomes-now i) in
           subst (λ (cs : List (List Op)). length (commits answered domain) ≤ length cs) (sym both)
-          (done_ops-grows domain (sents answered) (option_to_list (sent_by answered e.call)) (outcomes answered) (decided_by world answered e.call))
+          (done_ops-grows domain (sents answered) (option_to_list (sent_by answered e.call (reply_to world answered e.call))) (outcomes answered) (decided_by world answered e.call))
 
       still : (b : Base) → b.commit ≤ length (commits answered b.domain) → b.commit ≤ length (commits (answered ++ now ∷ []) b.domain)
       still b le = let more = grown b.domain in omega (arith, le, more)
@@ -181,7 +189,7 @@ module _ (world : List Opening) where
           record {
             known =
                 subst (λ (ss : List Sent). Known world ss (outcomes (answered ++ now ∷ []))) (sym sents-now)
-                (subst (Known world (sents answered ++ option_to_list (sent_by answered e.call))) (sym outcomes-now) (Known-call e.call));
+                (subst (Known world (sents answered ++ option_to_list (sent_by answered e.call (reply_to world answered e.call)))) (sym outcomes-now) (Known-call e.call));
             begun = λ place b at.
                 option_and_then_some (λ (a : Answered). began a.entry.call a.reply) (slice_get (answered ++ now ∷ []) place) b at (λ a found is.
                 elim (last_or_before answered now a place found) [
@@ -197,12 +205,9 @@ module _ (world : List Opening) where
   IsSound-nothing : IsSound []
   IsSound-nothing =
       record {
-        known = record { within = omega arith; bases = λ i s at. cc; conflicts = λ i s store path kind commit at is. cc; own = λ i s store path kind commit at is. cc };
+        known = record { within = omega arith; bases = λ i s at. cc; conflicts = λ i s store path kind commit at is. cc };
         begun = λ place b at. cc;
       }
 
 pub named_in_log : ConflictsOfALogNameALaterCommit
 named_in_log world log i s store path kind commit at is = (IsSound-fold world [] log (IsSound-nothing world)).known.conflicts i s store path kind commit at is
-
-pub own_in_log : ConflictsOfALogNameAnOwnWrite
-own_in_log world log i s store path kind commit at is = (IsSound-fold world [] log (IsSound-nothing world)).known.own i s store path kind commit at is

@@ -1,5 +1,5 @@
 -- Worked examples: two clients, the leafs a and b of a container box, and the operations on them.
-use Rattle.std.specs.Prelude.{ℕ, List, [], ◌∷◌, codes, map}
+use Rattle.std.specs.Prelude.{ℕ, false, List, [], ◌∷◌, codes, map, Some, None}
 use Prim.Native.String.{String}
 use Rattle.sal_types.specs.declared.value.Store.TheVariants.{Config}
 use Rattle.sal_types.specs.declared.value.Atom.TheVariants.{Text}
@@ -10,12 +10,15 @@ use Rattle.sal_types.specs.declared.row.Row.{Row}
 use Rattle.sal_rows.specs.declared.op.Op.{Op}
 use Rattle.sal_rows.specs.declared.op.Act.TheVariants.{Put, Merge, Delete}
 use Rattle.sal_rows.specs.declared.outcome.Mode.TheVariants.{Ro, Rw}
-use Rattle.sal_history.specs.declared.opening.Opening.{Opening}
+use Rattle.sal_schema.specs.declared.kind.Kind.TheVariants.{Container, Leaf as Scalar}
+use Rattle.sal_schema.specs.declared.table.SchemaTable.{SchemaTable}
+use Rattle.sal_check.specs.Examples.{node, table}
 use Rattle.sal_history.specs.declared.call.Call.{Call}
 use Rattle.sal_history.specs.declared.call.Call.TheVariants.{Begin, Submit, Settle}
 use Rattle.sal_history.specs.declared.call.Entry.{Entry}
 use Rattle.sal_history.specs.declared.reply.Reply.{Reply}
 use Rattle.sal_history.specs.History.{history}
+use Rattle.sal_history.specs.World.{Domain}
 
 -- the leafs a and b of the container box
 abbrev pub a : List Step
@@ -37,9 +40,13 @@ merge path text = record { store = Config; path = path; act = Merge (leaf path t
 abbrev pub delete : List Step → Op
 delete path = record { store = Config; path = path; act = Delete }
 
+-- a container box with the leafs a and b
+abbrev pub boxes : SchemaTable
+boxes = table (node None (Container false) ∷ node (Some 0) Scalar ∷ node (Some 0) Scalar ∷ [])
+
 -- a world of one domain with these rows in its configuration
-abbrev pub opened : List Row → List Opening
-opened rows = record { config = rows; oper = [] } ∷ []
+abbrev pub opened : List Row → List Domain
+opened rows = record { table = boxes; opening = record { config = rows; oper = [] } } ∷ []
 
 -- calls of one client after another, each with its client; the numbers of entries tell nothing here
 abbrev pub by : ℕ → Call → Entry
@@ -52,7 +59,7 @@ abbrev pub snapshot : Call
 snapshot = Begin 0 Ro
 
 -- the replies to a log
-abbrev pub replies : List Opening → List Entry → List Reply
+abbrev pub replies : List Domain → List Entry → List Reply
 replies world log = map (λ answered. answered.reply) (history world log)
 
 -- Client 0 begins and client 1 begins; client 0 submits and settles, then client 1 does.

@@ -1,6 +1,6 @@
 -- What the log of shared calls means: each entry's answer, the receipts, their outcomes, the commits and the trees.
 -- The log is all that there is; every definition here looks at entries alone.
-use Rattle.std.specs.Prelude.{ℕ, Bool, true, false, zero, suc, ◌+◌, ◌-◌, List, [], ◌∷◌, ◌++◌, length, take, Option, Some, None, if◌then◌else◌, nat_eq, nat_lt, slice_get, unwrap_or, option_and_then, count_by}
+use Rattle.std.specs.Prelude.{ℕ, Bool, false, zero, suc, ◌+◌, ◌-◌, List, [], ◌∷◌, ◌++◌, length, take, Option, Some, None, if◌then◌else◌, nat_eq, nat_lt, slice_get, unwrap_or, option_and_then, count_by}
 use Rattle.std.specs.List.{fold, filter_map, flat_map, list_any}
 use Rattle.sal_types.specs.declared.value.Store.{Store}
 use Rattle.sal_types.specs.declared.row.Row.{Row}

@@ -1,7 +1,7 @@
 -- How a submission is decided at its domain's newest commit: the first that applies of a conflict, a breach of the
 -- configuration, a breach of the operational tree, and done. The steps are those of canCommit, preCommit and commit of
 -- the MD-SAL developer guide's three-phase commit.
-use Rattle.std.specs.Prelude.{ℕ, ◌+◌, List, length, take, Option, None, Some, slice_get, unwrap_or, option_and_then}
+use Rattle.std.specs.Prelude.{◌+◌, List, length, take, Option, slice_get, unwrap_or, option_and_then}
 use Rattle.std.specs.Option.{option_or, option_map}
 use Rattle.sal_types.specs.declared.value.Store.{Store}
 use Rattle.sal_types.specs.declared.value.Store.TheVariants.{Config, Oper}

@@ -1,5 +1,7 @@
 //! Worked examples of the log's meaning. Each function does nothing; its contract says what the definitions give for
 //! one log, and the proof computes it.
+#![tactic(auto, unfolding(sal_schema::specs::Table::closest, sal_check::specs::Breaches::first, sal_check::specs::Contexts::through_plain, sal_check::specs::Contexts::from_list, sal_check::specs::Rules::is_there))]
+
 ghost use Rattle.std.specs.Prelude.{◌≡◌, [], ◌∷◌};
 ghost use Rattle.sal_types.specs.declared.value.Store.TheVariants.{Config};
 ghost use Rattle.sal_rows.specs.declared.outcome.ClashKind.TheVariants.{Changed, Created};

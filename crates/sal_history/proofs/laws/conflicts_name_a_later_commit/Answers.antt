@@ -1,5 +1,5 @@
--- The commit that a conflict names.
-use Rattle.sal_history.proofs.Named.{named}
+-- The commit and the path that a conflict names.
+use Rattle.sal_history.proofs.Decisions.{named}
 use Rattle.sal_history.proofs.Receipts.{named_in_log}
 use Rattle.sal_history.proofs.laws.conflicts_name_a_later_commit.Goals as goal
 

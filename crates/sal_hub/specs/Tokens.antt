@@ -31,20 +31,20 @@ ops_of (Write tx) = tx.changes
 
 -- The transaction was begun by the entry at its place: its domain, the number of its base commit and the trees that it
 -- stands on are those that the log gives.
-pub record IsBegun (known : Known) (begun : Begun) (base : Pair) : Type 0 where
+pub record IsBegun (known : Known) (begun : Begun) (trees : Pair) : Type 0 where
   pub before : begun.place < length known.log
   pub began : began_at (history known.world known.log) begun.place ≡ Some (record { domain = begun.domain; commit = begun.base_commit })
-  pub base : (s : Store) → rows_in base s ≡ base_tree known.world known.log begun.domain begun.place s
+  pub base : (s : Store) → rows_in trees s ≡ base_tree known.world known.log begun.domain begun.place s
   pub schema : begun.schema.value ≡ table_of known.world begun.domain
 
 abbrev pub IsToken : Known → Tx → Type 0
 IsToken known tx = IsBegun known (begun_of tx) (base_of tx)
 
 -- the transaction that the entry behind the log begins, in this domain and mode, without operations
-pub record IsFresh (known : Known) (domain : ℕ) (mode : Mode) (tx : Tx) : Type 0 where
+pub record IsFresh (known : Known) (asked : ℕ) (under : Mode) (tx : Tx) : Type 0 where
   pub place : (begun_of tx).place ≡ length known.log
-  pub domain : (begun_of tx).domain ≡ domain
-  pub mode : mode_of tx ≡ mode
+  pub domain : (begun_of tx).domain ≡ asked
+  pub mode : mode_of tx ≡ under
   pub ops : ops_of tx ≡ []
 
 -- the number is that of a receipt that was given

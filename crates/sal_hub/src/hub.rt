@@ -40,8 +40,12 @@ pub struct Hub {
 impl Model for Hub {
     ghost use Rattle.std.specs.Prelude.{◌≡◌, true, false, []};
     ghost use Rattle.sal_hub.specs.Known.{Known};
+    ghost use Rattle.std.specs.Coded.{codes};
+    ghost use Rattle.sal_restrict.specs.contracts.yang_type.YangType as e;
 
     ghost Value = { Known };
+
+    ghost coded = { Prim.hlevel (codes, e.the_row.coded) };
 
     ghost view = { λ h. record { world = []; log = h.log.items } };
 

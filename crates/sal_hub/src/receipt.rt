@@ -1,4 +1,5 @@
 //! Receipts.
+ghost use Rattle.std.specs.Prelude.{◌≡◌};
 
 /// The token of a submission. Receipts are numbered from 1, over all domains and clients.
 #[derive(Clone, Copy, Debug, PartialEq, Eq)]

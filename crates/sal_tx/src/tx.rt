@@ -117,19 +117,31 @@ impl ReadTx {
         &self.begun.schema
     }
 
-    /// The rows at the path and below it.
-    pub fn read(&self, alloc: Global, store: Store, path: &Path) -> Result<Rows, NoMemory>
-        ensures { IfOk result (λ rows. rows ≡ under (spec.rows_in self.now.base store) path.now) }
+    // What it sees of a store: its base, which is also its base under no operations.
+    fn view_of(&self, store: Store) -> &Root
+        ensures tree { result.now ≡ spec.tree_in self.now.base store }
+        ensures rows { spec.rows_in self.now.base store ≡ apply_ops (spec.rows_in self.now.base store) store [] }
     {
-        let rows = tree_of(&self.base, store).rows(alloc, path)?;
+        let tree = tree_of(&self.base, store);
+        let _ = tree.node();
+        tree
+    }
+
+    /// The rows at the path and below it: of its base, which is its base under no operations.
+    pub fn read(&self, alloc: Global, store: Store, path: &Path) -> Result<Rows, NoMemory>
+        ensures rows { IfOk result (λ rows. rows ≡ under (spec.rows_in self.now.base store) path.now) }
+        ensures view { IfOk result (λ rows. rows ≡ under (apply_ops (spec.rows_in self.now.base store) store []) path.now) }
+    {
+        let rows = self.view_of(store).rows(alloc, path)?;
         Ok(rows)
     }
 
     /// Whether a row stands at the path or below it. It takes no memory.
     pub fn exists(&self, store: Store, path: &Path) -> bool
-        ensures { result ≡ has (spec.rows_in self.now.base store) path.now }
+        ensures rows { result ≡ has (spec.rows_in self.now.base store) path.now }
+        ensures view { result ≡ has (apply_ops (spec.rows_in self.now.base store) store []) path.now }
     {
-        tree_of(&self.base, store).exists(path)
+        self.view_of(store).exists(path)
     }
 }
 
@@ -296,7 +308,8 @@ impl WriteTx {
         )
     }
 
-    fn write(&mut self, alloc: Global, op: Op) -> Result<(), TxFault>
+    /// One operation: a put, a merge or a delete. A write that is refused leaves the transaction as it was.
+    pub fn write(&mut self, alloc: Global, op: Op) -> Result<(), TxFault>
         requires { IsForSchema self.old.begun.schema.value op }
         ensures outcome { spec.IsOutcome self.old op self.new result }
         ensures err { OnErr result (self.new ≡ self.old) }

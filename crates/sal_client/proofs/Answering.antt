@@ -17,12 +17,12 @@ use Rattle.sal_history.specs.declared.reply.Reply.TheVariants.{Begun, Receipt, R
 use Rattle.sal_history.specs.History.{Base, base_tree, began_at, commits, history, is_live, reply_to, sent_by, sents, view}
 use Rattle.sal_script.specs.declared.script.ScriptStep.TheVariants.{Begin}
 use Rattle.sal_script.specs.Play.{Client, Open, Slots, keep, set_slot, shared, submit, submit_in}
-use Rattle.mdsal.specs.declared.client.Standing.TheVariants.{Writable}
-use Rattle.mdsal.specs.declared.transaction.Transaction.{Transaction}
-use Rattle.mdsal.specs.Views.{open_of, view_of, Accepts, Begins, IsSoundView}
-use Rattle.mdsal.specs.Clients.{standing_in, standing_of}
-use Rattle.mdsal.proofs.Histories.{sents-push}
-use Rattle.mdsal.proofs.Views.{apply_ops-push}
+use Rattle.sal_client.specs.declared.client.Standing.TheVariants.{Writable}
+use Rattle.sal_client.specs.declared.transaction.Transaction.{Transaction}
+use Rattle.sal_client.specs.Views.{open_of, view_of, Accepts, Begins, IsSoundView}
+use Rattle.sal_client.specs.Clients.{standing_in, standing_of}
+use Rattle.sal_client.proofs.Histories.{sents-push}
+use Rattle.sal_client.proofs.Views.{apply_ops-push}
 use Rattle.sal_history.specs.declared.opening.Opening.{Opening}
 
 module _ (world : List Opening) where

@@ -7,11 +7,11 @@ use Rattle.sal_history.specs.History.{reply}
 use Rattle.sal_script.specs.declared.script.ScriptStep.{ScriptStep}
 use Rattle.sal_script.specs.declared.reply.StepReply.TheVariants.{Called}
 use Rattle.sal_script.specs.Play.{Client, Made, arrive, arrive_by, calls, keep, make, meet, replied}
-use Rattle.mdsal.specs.declared.client.Went.{Went}
-use Rattle.mdsal.specs.declared.client.Went.TheVariants.{Local, Shared}
-use Rattle.mdsal.specs.Known.{Known}
-use Rattle.mdsal.specs.Clients.{Steps, entry_of}
-use Rattle.mdsal.specs.Runs.{GrowsBy}
+use Rattle.sal_client.specs.declared.client.Went.{Went}
+use Rattle.sal_client.specs.declared.client.Went.TheVariants.{Local, Shared}
+use Rattle.sal_client.specs.Known.{Known}
+use Rattle.sal_client.specs.Clients.{Steps, entry_of}
+use Rattle.sal_client.specs.Runs.{GrowsBy}
 
 -- the steps from an index on
 from : (steps : List ScriptStep) (i : ℕ) (step : ScriptStep) → i < length steps → step ≡ get_or steps i step → drop i steps ≡ step ∷ drop (i + 1) steps

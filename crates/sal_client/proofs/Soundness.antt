@@ -16,12 +16,12 @@ use Rattle.sal_history.specs.declared.call.Call.TheVariants.{Begin}
 use Rattle.sal_history.specs.declared.call.Entry.{Entry}
 use Rattle.sal_history.specs.History.{Answered, Base, answer, began, began_at, commits, history, newest_tree, sent_by, sents}
 use Rattle.sal_script.specs.Play.{set_slot}
-use Rattle.mdsal.specs.declared.transaction.Transaction.{Transaction}
-use Rattle.mdsal.specs.declared.client.ClientState.{ClientState}
-use Rattle.mdsal.specs.Views.{open_of, view_of, Begins, IsSoundView}
-use Rattle.mdsal.specs.Clients.{IsSound}
-use Rattle.mdsal.proofs.Histories.{history-push, sents-push}
-use Rattle.mdsal.proofs.Views.{view-push}
+use Rattle.sal_client.specs.declared.transaction.Transaction.{Transaction}
+use Rattle.sal_client.specs.declared.client.ClientState.{ClientState}
+use Rattle.sal_client.specs.Views.{open_of, view_of, Begins, IsSoundView}
+use Rattle.sal_client.specs.Clients.{IsSound}
+use Rattle.sal_client.proofs.Histories.{history-push, sents-push}
+use Rattle.sal_client.proofs.Views.{view-push}
 use Rattle.sal_history.specs.declared.opening.Opening.{Opening}
 
 -- ---- slots

@@ -15,11 +15,11 @@ use Rattle.sal_history.specs.History.{entries_of}
 use Rattle.sal_script.specs.declared.script.ScriptStep.{ScriptStep}
 use Rattle.sal_script.specs.Limits.{within_limits}
 use Rattle.sal_script.specs.Play.{Arrival, Client, Made, Run, Stand, arrive, calls, cons_replies, ended, go, make, new_client, replies_at, replies_of, stand_with, turn, turn_of}
-use Rattle.mdsal.specs.declared.run.Run.{Run as CodeRun}
-use Rattle.mdsal.specs.Known.{Known}
-use Rattle.mdsal.specs.Clients.{client_of, IsSound}
-use Rattle.mdsal.specs.Runs.{AreRuns, Goes, GrowsBy, IsRun, Turns, replies_in, run_of, runs_of, stand_of}
-use Rattle.mdsal.proofs.Soundness.{IsSound-push}
+use Rattle.sal_client.specs.declared.run.Run.{Run as CodeRun}
+use Rattle.sal_client.specs.Known.{Known}
+use Rattle.sal_client.specs.Clients.{client_of, IsSound}
+use Rattle.sal_client.specs.Runs.{AreRuns, Goes, GrowsBy, IsRun, Turns, replies_in, run_of, runs_of, stand_of}
+use Rattle.sal_client.proofs.Soundness.{IsSound-push}
 use Rattle.sal_history.specs.declared.opening.Opening.{Opening}
 use Rattle.sal_schema.specs.declared.table.SchemaTable.{SchemaTable}
 

@@ -6,12 +6,12 @@ use Rattle.sal_schema.specs.declared.table.SchemaTable.{SchemaTable}
 use Rattle.sal_script.specs.declared.reply.StepReply.{StepReply}
 use Rattle.sal_script.specs.declared.script.ScriptStep.{ScriptStep}
 use Rattle.sal_script.specs.Play.{Played, Run, Stand, arrive, ended, go, replies_of, turn}
-use Rattle.mdsal.specs.declared.run.Run.{Run as CodeRun}
-use Rattle.mdsal.specs.declared.simulation.Played.{Played as CodePlayed}
-use Rattle.mdsal.specs.declared.simulation.PlayFault.{PlayFault}
-use Rattle.mdsal.specs.declared.simulation.PlayFault.TheVariants.{BadOrder, NoMemory}
-use Rattle.mdsal.specs.Known.{Known, more}
-use Rattle.mdsal.specs.Clients.{client_of, Counted, IsSound}
+use Rattle.sal_client.specs.declared.run.Run.{Run as CodeRun}
+use Rattle.sal_client.specs.declared.simulation.Played.{Played as CodePlayed}
+use Rattle.sal_client.specs.declared.simulation.PlayFault.{PlayFault}
+use Rattle.sal_client.specs.declared.simulation.PlayFault.TheVariants.{BadOrder, NoMemory}
+use Rattle.sal_client.specs.Known.{Known, more}
+use Rattle.sal_client.specs.Clients.{client_of, Counted, IsSound}
 
 -- the client with the steps that are still to come
 abbrev pub run_of : List ScriptStep → CodeRun → Run

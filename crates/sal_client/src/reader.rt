@@ -8,11 +8,12 @@ use sal_types::Path;
 use serde_json::Value;
 use std::alloc::Global;
 use std::marker::Model;
+use std::sync::Arc;
 
 /// A schema with its patterns compiled. A contract sees the schema alone.
 #[derive(Drop)]
 pub struct Reader {
-    schema: Schema,
+    schema: Arc<Schema>,
     patterns: Patterns,
 }
 
@@ -26,9 +27,9 @@ impl Model for Reader {
 
     ghost coded = { e.the_row.coded };
 
-    ghost view = { λ a. a.schema };
+    ghost view = { λ a. a.schema.value };
 
-    ghost invariant = { λ a. a.patterns ≡ patterns_of a.schema };
+    ghost invariant = { λ a. a.patterns ≡ patterns_of a.schema.value };
 }
 
 impl Reader {
@@ -42,10 +43,10 @@ impl Reader {
     ghost use Rattle.sal_data.specs.Read as data_spec;
 
     /// A reader of this schema.
-    pub fn of(alloc: Global, schema: Schema) -> Result<Self, PatternsFault>
-        ensures schema { IfOk result (λ reader. reader ≡ schema) }
-        ensures formed { IfOk result (λ _. list_any has_malformed schema.types ≡ false) }
-        ensures refused { IfErr result (IsRefusal schema) }
+    pub fn of(alloc: Global, schema: Arc<Schema>) -> Result<Self, PatternsFault>
+        ensures schema { IfOk result (λ reader. reader ≡ schema.value) }
+        ensures formed { IfOk result (λ _. list_any has_malformed schema.value.types ≡ false) }
+        ensures refused { IfErr result (IsRefusal schema.value) }
     {
         let patterns = Patterns::of(alloc, &schema)?;
         Ok(Reader { schema, patterns })

@@ -19,8 +19,8 @@ pub struct Run {
 }
 
 impl Run {
-    ghost use Rattle.mdsal.specs.Clients.{client_of, IsSound};
-    ghost use Rattle.mdsal.specs.Runs.{IsRun, Goes};
+    ghost use Rattle.sal_client.specs.Clients.{client_of, IsSound};
+    ghost use Rattle.sal_client.specs.Runs.{IsRun, Goes};
 
     /// A client at the beginning of its program.
     pub fn new(alloc: Global, number: u32) -> Self

@@ -3,7 +3,7 @@ ghost use Rattle.std.specs.Prelude.{◌≡◌, ◌+◌, ◌<◌, List, [], ◌�
 ghost use Rattle.sal_script.specs.Limits.{within_limits};
 ghost use Rattle.sal_history.specs.declared.opening.Opening.{Opening};
 ghost use Rattle.sal_script.specs.Play as play_spec;
-ghost use Rattle.mdsal.specs.Runs.{replies_in, runs_of, stand_of, AreRuns, Ends, PlaysAs, Turns};
+ghost use Rattle.sal_client.specs.Runs.{replies_in, runs_of, stand_of, AreRuns, Ends, PlaysAs, Turns};
 
 use crate::broker::Broker;
 use crate::reader::Reader;

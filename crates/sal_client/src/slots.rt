@@ -2,7 +2,7 @@
 ghost use Rattle.std.specs.Prelude.{◌≡◌, None, Some, OnOk};
 ghost use Rattle.std.specs.Option.{option_copied};
 ghost use Rattle.sal_script.specs.Play.{set_slot};
-ghost use Rattle.mdsal.specs.Slots.{held};
+ghost use Rattle.sal_client.specs.Slots.{held};
 
 use sal_types::NoMemory;
 use std::alloc::Global;

@@ -1,9 +1,9 @@
 -- One more client is at its beginning.
 use Rattle.std.proofs.Common.{◌≡◌, ◌+◌, ◌<◌, ◌∷◌, [], List, length, get_or, ap, sym, ◌∙◌, subst, arith, length-append}
 use Rattle.sal_script.specs.Play.{Run, Stand}
-use Rattle.mdsal.specs.declared.run.Run.{Run as CodeRun}
-use Rattle.mdsal.proofs.Standing.{IsFresh, fresh_more, fresh_runs, AreRuns-fresh}
-use Rattle.mdsal.proofs.simulation.new_runs.Goals as goal
+use Rattle.sal_client.specs.declared.run.Run.{Run as CodeRun}
+use Rattle.sal_client.proofs.Standing.{IsFresh, fresh_more, fresh_runs, AreRuns-fresh}
+use Rattle.sal_client.proofs.simulation.new_runs.Goals as goal
 
 pub loop-i-preserved : goal.loop-i-preserved
 loop-i-preserved c =

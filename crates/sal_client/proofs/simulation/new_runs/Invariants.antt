@@ -1,8 +1,8 @@
 -- So many clients are at their beginning, each with its index as its number.
 use Rattle.std.proofs.Common.{◌≡◌, ℕ, ◌<◌, length, get_or}
-use Rattle.mdsal.specs.declared.run.Run.{Run}
-use Rattle.mdsal.proofs.Standing.{IsFresh}
-use Rattle.mdsal.proofs.simulation.new_runs.Given as goal
+use Rattle.sal_client.specs.declared.run.Run.{Run}
+use Rattle.sal_client.proofs.Standing.{IsFresh}
+use Rattle.sal_client.proofs.simulation.new_runs.Given as goal
 
 abbrev pub invariant-loop-i : goal.invariant-loop-i
 invariant-loop-i l = record {

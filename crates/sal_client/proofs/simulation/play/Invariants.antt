@@ -1,8 +1,8 @@
 -- What is left is to play the rest of the order from here.
 use Rattle.std.proofs.Common.{◌≡◌, drop}
 use Rattle.sal_script.specs.Play.{play, play_from}
-use Rattle.mdsal.specs.Runs.{stand_of, AreRuns}
-use Rattle.mdsal.proofs.simulation.play.Given as goal
+use Rattle.sal_client.specs.Runs.{stand_of, AreRuns}
+use Rattle.sal_client.proofs.simulation.play.Given as goal
 
 abbrev pub invariant-loop-i : goal.invariant-loop-i
 invariant-loop-i g l = record {

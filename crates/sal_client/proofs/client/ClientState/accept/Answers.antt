@@ -4,12 +4,12 @@ use Rattle.std.specs.Option.{option_map}
 use Rattle.std.proofs.lemmas.Option.{same_Some}
 use Rattle.sal_script.specs.declared.reply.StepReply.TheVariants.{Accepted}
 use Rattle.sal_script.specs.Play.{Open, accept, local, set_slot}
-use Rattle.mdsal.specs.Slots.{held}
-use Rattle.mdsal.specs.Views.{open_of, IsSoundView}
-use Rattle.mdsal.specs.Clients.{client_of, opened}
-use Rattle.mdsal.proofs.Soundness.{each_filled, opened-filled, set-set}
-use Rattle.mdsal.proofs.Answering.{open_of-accept, IsSoundView-accept}
-use Rattle.mdsal.proofs.client.ClientState.accept.Goals as goal
+use Rattle.sal_client.specs.Slots.{held}
+use Rattle.sal_client.specs.Views.{open_of, IsSoundView}
+use Rattle.sal_client.specs.Clients.{client_of, opened}
+use Rattle.sal_client.proofs.Soundness.{each_filled, opened-filled, set-set}
+use Rattle.sal_client.proofs.Answering.{open_of-accept, IsSoundView-accept}
+use Rattle.sal_client.proofs.client.ClientState.accept.Goals as goal
 
 filled : (c : goal.In_ok-fill_slot-in-Some) → held c.fill_slot.new.slots ≡ set_slot c.args.slot (Some c.accept.new.self) (held c.args.self.now.transactions)
 filled c = c.in_ok-fill_slot-in-Some.ensures ∙ ap (set_slot c.args.slot (Some c.accept.new.self)) c.take_slot.ensures.after ∙ set-set c.args.slot _ None (held c.args.self.now.transactions)

@@ -3,13 +3,13 @@ use Rattle.std.proofs.Common.{◌≡◌, ℕ, [], ◌∷◌, ◌++◌, refl, ap,
 use Rattle.sal_history.specs.declared.call.Call.TheVariants.{Begin as BeginCall}
 use Rattle.sal_history.specs.declared.call.Entry.{Entry}
 use Rattle.sal_script.specs.declared.reply.StepReply.TheVariants.{Called}
-use Rattle.mdsal.specs.Known.{more}
-use Rattle.mdsal.specs.Slots.{held}
-use Rattle.mdsal.specs.Views.{IsSoundView}
-use Rattle.mdsal.specs.Clients.{client_of}
-use Rattle.mdsal.proofs.Soundness.{each_filled, opened-filled, IsSound-push, IsSoundView-begin}
-use Rattle.mdsal.proofs.Answering.{kept-begin, kept-refused}
-use Rattle.mdsal.proofs.client.ClientState.begin.Goals as goal
+use Rattle.sal_client.specs.Known.{more}
+use Rattle.sal_client.specs.Slots.{held}
+use Rattle.sal_client.specs.Views.{IsSoundView}
+use Rattle.sal_client.specs.Clients.{client_of}
+use Rattle.sal_client.proofs.Soundness.{each_filled, opened-filled, IsSound-push, IsSoundView-begin}
+use Rattle.sal_client.proofs.Answering.{kept-begin, kept-refused}
+use Rattle.sal_client.proofs.client.ClientState.begin.Goals as goal
 
 pub returns-in_ok-fill_slot-clause-answers : goal.returns-in_ok-fill_slot-clause-answers
 returns-in_ok-fill_slot-clause-answers c =

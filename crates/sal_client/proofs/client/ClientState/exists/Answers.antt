@@ -9,11 +9,11 @@ use Rattle.sal_pathtext.specs.declared.fault.PathTextFault.{PathTextFault}
 use Rattle.sal_pathtext.specs.Read.{read_path}
 use Rattle.sal_script.specs.declared.reply.StepReply.TheVariants.{Exists}
 use Rattle.sal_script.specs.Play.{local, look, look_at, found as found_at}
-use Rattle.mdsal.specs.Slots.{held}
-use Rattle.mdsal.specs.Views.{open_of}
-use Rattle.mdsal.specs.Clients.{client_of, opened}
-use Rattle.mdsal.specs.Refused.{IsPathOf}
-use Rattle.mdsal.proofs.client.ClientState.exists.Goals as goal
+use Rattle.sal_client.specs.Slots.{held}
+use Rattle.sal_client.specs.Views.{open_of}
+use Rattle.sal_client.specs.Clients.{client_of, opened}
+use Rattle.sal_client.specs.Refused.{IsPathOf}
+use Rattle.sal_client.proofs.client.ClientState.exists.Goals as goal
 
 pub returns-in-Ok : goal.returns-in-Ok
 returns-in-Ok c =

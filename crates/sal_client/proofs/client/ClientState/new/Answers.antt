@@ -1,9 +1,9 @@
 -- All slots are empty.
 use Rattle.std.proofs.Common.{◌≡◌, ℕ, Option, None, Some, ap, sym, ◌∙◌}
 use Rattle.std.specs.Option.{option_map}
-use Rattle.mdsal.specs.declared.transaction.Transaction.{Transaction}
-use Rattle.mdsal.specs.Views.{open_of}
-use Rattle.mdsal.proofs.client.ClientState.new.Goals as goal
+use Rattle.sal_client.specs.declared.transaction.Transaction.{Transaction}
+use Rattle.sal_client.specs.Views.{open_of}
+use Rattle.sal_client.proofs.client.ClientState.new.Goals as goal
 
 pub returns-clause-client : goal.returns-clause-client
 returns-clause-client c =

@@ -10,11 +10,11 @@ use Rattle.sal_pathtext.specs.Read.{read_path}
 use Rattle.sal_script.specs.declared.reply.StepReply.{StepReply}
 use Rattle.sal_script.specs.declared.reply.StepReply.TheVariants.{Read}
 use Rattle.sal_script.specs.Play.{local, look, look_at, rows_read}
-use Rattle.mdsal.specs.Slots.{held}
-use Rattle.mdsal.specs.Views.{open_of}
-use Rattle.mdsal.specs.Clients.{client_of, opened}
-use Rattle.mdsal.specs.Refused.{IsPathOf}
-use Rattle.mdsal.proofs.client.ClientState.read.Goals as goal
+use Rattle.sal_client.specs.Slots.{held}
+use Rattle.sal_client.specs.Views.{open_of}
+use Rattle.sal_client.specs.Clients.{client_of, opened}
+use Rattle.sal_client.specs.Refused.{IsPathOf}
+use Rattle.sal_client.proofs.client.ClientState.read.Goals as goal
 
 pub returns-in_ok-reply-in-Ok : goal.returns-in_ok-reply-in-Ok
 returns-in_ok-reply-in-Ok c =

@@ -4,11 +4,11 @@ use Rattle.sal_history.specs.declared.call.Call.TheVariants.{Settle as SettleCal
 use Rattle.sal_history.specs.declared.call.Entry.{Entry}
 use Rattle.sal_script.specs.Play.{settle}
 use Rattle.sal_script.specs.declared.reply.StepReply.TheVariants.{Called}
-use Rattle.mdsal.specs.Known.{more}
-use Rattle.mdsal.specs.Slots.{held}
-use Rattle.mdsal.specs.Clients.{client_of}
-use Rattle.mdsal.proofs.Soundness.{IsSound-push}
-use Rattle.mdsal.proofs.client.ClientState.settle_slot.Goals as goal
+use Rattle.sal_client.specs.Known.{more}
+use Rattle.sal_client.specs.Slots.{held}
+use Rattle.sal_client.specs.Clients.{client_of}
+use Rattle.sal_client.proofs.Soundness.{IsSound-push}
+use Rattle.sal_client.proofs.client.ClientState.settle_slot.Goals as goal
 
 pub returns-in_ok-reply-in-Some-clause-answers : goal.returns-in_ok-reply-in-Some-clause-answers
 returns-in_ok-reply-in-Some-clause-answers c =

@@ -10,13 +10,13 @@ use Rattle.sal_history.specs.declared.reply.Reply.TheVariants.{Receipt}
 use Rattle.sal_script.specs.declared.script.ScriptStep.TheVariants.{Submit as SubmitStep}
 use Rattle.sal_script.specs.declared.reply.StepReply.TheVariants.{Called}
 use Rattle.sal_script.specs.Play.{keep}
-use Rattle.mdsal.specs.Known.{more}
-use Rattle.mdsal.specs.Slots.{held}
-use Rattle.mdsal.specs.Views.{open_of, IsSoundView}
-use Rattle.mdsal.specs.Clients.{client_of, opened}
-use Rattle.mdsal.proofs.Soundness.{each_filled, each_emptied, opened-emptied, IsSound-push}
-use Rattle.mdsal.proofs.Answering.{submit-writable, given-submit}
-use Rattle.mdsal.proofs.client.ClientState.submit.Goals as goal
+use Rattle.sal_client.specs.Known.{more}
+use Rattle.sal_client.specs.Slots.{held}
+use Rattle.sal_client.specs.Views.{open_of, IsSoundView}
+use Rattle.sal_client.specs.Clients.{client_of, opened}
+use Rattle.sal_client.proofs.Soundness.{each_filled, each_emptied, opened-emptied, IsSound-push}
+use Rattle.sal_client.proofs.Answering.{submit-writable, given-submit}
+use Rattle.sal_client.proofs.client.ClientState.submit.Goals as goal
 
 abbrev entry : (c : goal.After-drop-tx-in-Some-2) → ℕ → List Op → Entry
 entry c n ops = record { client = c.args.self.now.number; number = n; call = SubmitCall c.in-Some.tx.place ops }

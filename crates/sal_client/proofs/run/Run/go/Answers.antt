@@ -1,10 +1,10 @@
 -- A step is answered by the client, or makes the shared call.
 use Rattle.std.proofs.Common.{ap, ◌∙◌, refl, arith}
 use Rattle.sal_script.specs.Play.{make}
-use Rattle.mdsal.specs.Clients.{client_of}
-use Rattle.mdsal.specs.declared.client.Went.TheVariants.{Local, Shared}
-use Rattle.mdsal.proofs.Going.{steps_at, local_turn, local_log, shared_turn, shared_grows}
-use Rattle.mdsal.proofs.run.Run.go.Goals as goal
+use Rattle.sal_client.specs.Clients.{client_of}
+use Rattle.sal_client.specs.declared.client.Went.TheVariants.{Local, Shared}
+use Rattle.sal_client.proofs.Going.{steps_at, local_turn, local_log, shared_turn, shared_grows}
+use Rattle.sal_client.proofs.run.Run.go.Goals as goal
 
 pub loop-i-preserved : goal.loop-i-preserved
 loop-i-preserved g c =

@@ -1,9 +1,9 @@
 -- The local steps before the index are answered, and the log is as it was.
 use Rattle.std.proofs.Common.{◌≡◌, drop}
 use Rattle.sal_script.specs.Play.{arrive}
-use Rattle.mdsal.specs.Clients.{client_of}
-use Rattle.mdsal.specs.Runs.{IsRun}
-use Rattle.mdsal.proofs.run.Run.go.Given as goal
+use Rattle.sal_client.specs.Clients.{client_of}
+use Rattle.sal_client.specs.Runs.{IsRun}
+use Rattle.sal_client.proofs.run.Run.go.Given as goal
 
 abbrev pub invariant-loop-i : goal.invariant-loop-i
 invariant-loop-i g l = record {

@@ -1,10 +1,10 @@
 -- One client comes to its end.
 use Rattle.std.proofs.Common.{◌≡◌, List, get_or, sym, ap, ◌∙◌, subst, arith}
-use Rattle.mdsal.specs.Known.{Known}
+use Rattle.sal_client.specs.Known.{Known}
 use Rattle.sal_script.specs.declared.script.ScriptStep.{ScriptStep}
-use Rattle.mdsal.specs.Runs.{IsRun}
-use Rattle.mdsal.proofs.Standing.{same_at}
-use Rattle.mdsal.proofs.simulation.Simulation.finish.Goals as goal
+use Rattle.sal_client.specs.Runs.{IsRun}
+use Rattle.sal_client.proofs.Standing.{same_at}
+use Rattle.sal_client.proofs.simulation.Simulation.finish.Goals as goal
 
 pub go-requires-after_bounds : goal.go-requires-after_bounds
 go-requires-after_bounds g c κs _ =

@@ -1,9 +1,9 @@
 -- The clients before the index have come to their ends, and the others stand as they did.
 use Rattle.std.proofs.Common.{◌≡◌, length, map, take, drop}
 use Rattle.sal_script.specs.Play.{replies_of}
-use Rattle.mdsal.specs.Runs.{replies_in, runs_of}
-use Rattle.mdsal.proofs.Standing.{with_replies}
-use Rattle.mdsal.proofs.simulation.Simulation.finish.Given as goal
+use Rattle.sal_client.specs.Runs.{replies_in, runs_of}
+use Rattle.sal_client.proofs.Standing.{with_replies}
+use Rattle.sal_client.proofs.simulation.Simulation.finish.Given as goal
 
 abbrev pub invariant-loop-i : goal.invariant-loop-i
 invariant-loop-i g l = record {

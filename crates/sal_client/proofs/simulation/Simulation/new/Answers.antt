@@ -1,8 +1,8 @@
 -- The clients stand over the opening trees.
 use Rattle.std.proofs.Common.{sym, subst}
-use Rattle.mdsal.specs.Known.{Known}
-use Rattle.mdsal.specs.Runs.{AreRuns}
-use Rattle.mdsal.proofs.simulation.Simulation.new.Goals as goal
+use Rattle.sal_client.specs.Known.{Known}
+use Rattle.sal_client.specs.Runs.{AreRuns}
+use Rattle.sal_client.proofs.simulation.Simulation.new.Goals as goal
 
 pub returns-clause-runs : goal.returns-clause-runs
 returns-clause-runs c =

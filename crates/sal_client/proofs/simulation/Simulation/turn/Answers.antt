@@ -2,8 +2,8 @@
 use Rattle.std.proofs.Common.{◌≡◌, get_or, sym, ap, ◌∙◌, arith}
 use Rattle.sal_script.specs.declared.script.ScriptStep.{ScriptStep}
 use Rattle.std.proofs.Common.{List}
-use Rattle.mdsal.proofs.Standing.{turn-none, turned}
-use Rattle.mdsal.proofs.simulation.Simulation.turn.Goals as goal
+use Rattle.sal_client.proofs.Standing.{turn-none, turned}
+use Rattle.sal_client.proofs.simulation.Simulation.turn.Goals as goal
 
 pub returns-then-index-len : goal.returns-then-index-len
 returns-then-index-len g c = turn-none c.args.reader.now c.args.self.now.broker.world c.args.self.now.broker.log c.args.programs.now c.args.self.now.runs.items c.args.client c.requires (omega (arith, c.len.ensures))

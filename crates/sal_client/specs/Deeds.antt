@@ -1,0 +1,47 @@
+-- What a client makes of texts and values, or why it makes nothing.
+use Rattle.std.specs.Prelude.{◌≡◌, Bool, List, Result, Ok, Err}
+use Rattle.sal_rows.specs.Apply.{rows_of_act}
+use Rattle.sal_schema.specs.Fitting.{fits}
+use Rattle.serde_json.specs.View.{view}
+use Rattle.sal_types.specs.declared.value.Store.{Store}
+use Rattle.sal_types.specs.declared.value.Step.{Step}
+use Rattle.sal_rows.specs.declared.op.Act.{Act}
+use Rattle.sal_rows.specs.declared.op.Op.{Op}
+use Rattle.sal_schema.specs.declared.table.SchemaTable.{SchemaTable}
+use Rattle.sal_pathtext.specs.declared.fault.PathTextFault.{PathTextFault}
+use Rattle.sal_data.specs.declared.fault.DataFault.{DataFault}
+use Rattle.sal_script.specs.declared.reply.StepRefusal.{StepRefusal}
+use Rattle.sal_script.specs.declared.reply.StepRefusal.TheVariants.{BadPath, BadData}
+use Rattle.sal_script.specs.Play.{Deed, putting, merging, deleting, act_of, op_of}
+use Rattle.sal_client.specs.declared.deed.Deed.{Deed as Told}
+use Rattle.sal_client.specs.declared.deed.Deed.TheVariants as told
+
+-- what a write does, with the JSON data of its value
+abbrev pub deed_of : Told → Deed
+deed_of (told.Put value) = putting (view value.now)
+deed_of (told.Merge value) = merging (view value.now)
+deed_of told.Delete = deleting
+
+-- the path, or why it is none
+abbrev pub path_by : Result (List Step) PathTextFault → Result (List Step) StepRefusal
+path_by (Ok path) = Ok path
+path_by (Err fault) = Err (BadPath fault)
+
+-- the act, or why it is none
+abbrev pub act_by : Result Act DataFault → Result Act StepRefusal
+act_by (Ok act) = Ok act
+act_by (Err fault) = Err (BadData fault)
+
+-- the operation at a path, where its act was read so
+abbrev pub op_at : Store → List Step → Result Act DataFault → Result Op StepRefusal
+op_at store path (Ok act) = Ok (op_of store path act)
+op_at store path (Err fault) = Err (BadData fault)
+
+-- the operation, where its path was read so
+abbrev pub op_by : SchemaTable → Store → Deed → Result (List Step) PathTextFault → Result Op StepRefusal
+op_by table store deed (Ok path) = op_at store path (act_of table path deed)
+op_by table store deed (Err fault) = Err (BadPath fault)
+
+-- the rows of an act are data of the schema at the path
+abbrev pub act_fits : SchemaTable → List Step → Act → Bool
+act_fits table path act = fits table path (rows_of_act act)

@@ -1,0 +1,4 @@
+pub mod Clients
+pub mod Deeds
+pub mod Runs
+pub mod Slots

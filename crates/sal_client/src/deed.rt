@@ -1,0 +1,120 @@
+//! What a write does, read from texts and values.
+ghost use Rattle.std.specs.Prelude.{◌≡◌, IfOk, IsTrue};
+ghost use Rattle.serde_json.specs.View.{view};
+ghost use Rattle.sal_pathtext.specs.Read.{read_path};
+ghost use Rattle.sal_data.specs.Read.{read_data};
+ghost use Rattle.sal_script.specs.Play.{act_of};
+ghost use Rattle.sal_tx.specs.Written.{IsForSchema};
+ghost use Rattle.sal_client.specs.Deeds as spec;
+
+use crate::reader::Reader;
+use sal_data::{DataFault, fits_rows};
+use sal_pathtext::PathTextFault;
+use sal_rows::{Act, Op, Rows};
+use sal_schema::Schema;
+use sal_script::StepRefusal;
+use sal_types::{NoMemory, Path, Store};
+use serde_json::Value;
+use std::alloc::Global;
+
+/// What a write does at its path, with a value that is not yet read.
+#[derive(Clone, Copy)]
+pub(crate) enum Deed<'a> {
+    Put(&'a Value),
+    Merge(&'a Value),
+    Delete,
+}
+
+/// The path of the text, or why it is none.
+pub(crate) fn path_of(
+    alloc: Global,
+    reader: &Reader,
+    text: &str,
+) -> Result<Result<Path, StepRefusal>, NoMemory>
+    ensures { IfOk result (λ made. made ≡ spec.path_by (read_path reader.now text.now)) }
+{
+    match reader.path(alloc, text) {
+        Ok(path) => Ok(Ok(path)),
+        Err(PathTextFault::NoMemory) => Err(NoMemory),
+        Err(fault) => Ok(Err(StepRefusal::BadPath { fault })),
+    }
+}
+
+// The rows of the value at the path, or why it is none.
+fn rows_of(
+    alloc: Global,
+    reader: &Reader,
+    path: &Path,
+    value: &Value,
+) -> Result<Result<Rows, DataFault>, NoMemory>
+    ensures { IfOk result (λ made. made ≡ read_data reader.now path.now (view value.now)) }
+{
+    match reader.data(alloc, path, value) {
+        Ok(rows) => Ok(Ok(rows)),
+        Err(DataFault::NoMemory) => Err(NoMemory),
+        Err(fault) => Ok(Err(fault)),
+    }
+}
+
+// The act at the path, or why it is none.
+fn act_of(
+    alloc: Global,
+    reader: &Reader,
+    path: &Path,
+    deed: Deed,
+) -> Result<Result<Act, StepRefusal>, NoMemory>
+    ensures { IfOk result (λ made. made ≡ spec.act_by (act_of reader.now path.now (spec.deed_of deed.entry))) }
+{
+    match deed {
+        Deed::Put(value) => match rows_of(alloc, reader, path, value)? {
+            Ok(rows) => Ok(Ok(Act::Put(rows))),
+            Err(fault) => Ok(Err(StepRefusal::BadData { fault })),
+        },
+        Deed::Merge(value) => match rows_of(alloc, reader, path, value)? {
+            Ok(rows) => Ok(Ok(Act::Merge(rows))),
+            Err(fault) => Ok(Err(StepRefusal::BadData { fault })),
+        },
+        Deed::Delete => Ok(Ok(Act::Delete)),
+    }
+}
+
+/// The operation at the path of the text, or why there is none.
+pub(crate) fn op_of(
+    alloc: Global,
+    reader: &Reader,
+    store: Store,
+    text: &str,
+    deed: Deed,
+) -> Result<Result<Op, StepRefusal>, NoMemory>
+    ensures { IfOk result (λ made. made ≡ spec.op_by reader.now store (spec.deed_of deed.entry) (read_path reader.now text.now)) }
+{
+    let path = match path_of(alloc, reader, text)? {
+        Ok(path) => path,
+        Err(refusal) => return Ok(Err(refusal)),
+    };
+    match act_of(alloc, reader, &path, deed)? {
+        Ok(act) => Ok(Ok(Op { store, path, act })),
+        Err(refusal) => Ok(Err(refusal)),
+    }
+}
+
+// Whether the act's rows are data of the schema at the path.
+fn act_fits(schema: &Schema, path: &Path, act: &Act) -> bool
+    ensures { result ≡ spec.act_fits schema.now path.now act.now }
+{
+    match act {
+        Act::Put(rows) => fits_rows(schema, path, rows),
+        Act::Merge(rows) => fits_rows(schema, path, rows),
+        Act::Delete => true,
+    }
+}
+
+/// Whether the operation is one for the schema: its path and its rows fit, outside of RPCs and notifications. It takes no
+/// memory.
+pub(crate) fn fits_op(schema: &Schema, op: &Op) -> bool
+    ensures { IsTrue result → IsForSchema schema.now op.now }
+{
+    schema.fits(&op.path)
+        && !schema.is_in_message(&op.path)
+        && act_fits(schema, &op.path, &op.act)
+}

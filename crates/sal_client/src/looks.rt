@@ -1,0 +1,121 @@
+//! Looks into what a transaction sees.
+ghost use Rattle.std.specs.Prelude.{◌≡◌, IfOk};
+ghost use Rattle.sal_types.specs.Tree.{has, under};
+ghost use Rattle.sal_rows.specs.Apply.{apply_ops};
+ghost use Rattle.sal_tx.specs.Views.{rows_in};
+ghost use Rattle.sal_hub.specs.Tokens.{base_of, begun_of, mode_of, ops_of};
+ghost use Rattle.sal_script.specs.Play.{Client, local};
+ghost use Rattle.sal_script.specs.Play as play_spec;
+
+use crate::client::{ClientState, refused};
+use crate::deed::path_of;
+use crate::reader::Reader;
+use crate::slots::look_at;
+use sal_hub::Hub;
+use sal_script::{StepRefusal, StepReply};
+use sal_tx::{Tx, TxFault, WriteOnly};
+use sal_types::{NoMemory, Path, Store};
+use std::alloc::Global;
+
+// The domain of a transaction.
+fn domain_of(tx: &Tx) -> u32
+    ensures { result ≡ (begun_of tx.now).domain }
+{
+    match tx {
+        Tx::Read(tx) => tx.domain(),
+        Tx::Write(tx) => tx.domain(),
+    }
+}
+
+// The refusal of a transaction that only writes.
+fn only_writes() -> StepReply
+    ensures { result ≡ StepReply.Refused (StepRefusal.Write TxFault.WriteOnly) }
+{
+    refused(StepRefusal::Write {
+        fault: TxFault::WriteOnly,
+    })
+}
+
+// What a transaction sees at the path and below it.
+fn rows_seen(alloc: Global, tx: &Tx, store: Store, path: Path) -> Result<StepReply, NoMemory>
+    ensures { IfOk result (λ r. (client : Client) → play_spec.look_in (mode_of tx.now) (StepReply.Read (begun_of tx.now).domain path (under (apply_ops (rows_in (base_of tx.now) store) store (ops_of tx.now)) path)) client ≡ local r client) }
+{
+    let domain = domain_of(tx);
+    match tx {
+        Tx::Read(tx) => {
+            let rows = tx.read(alloc, store, &path)?;
+            Ok(StepReply::Read { domain, path, rows })
+        }
+        Tx::Write(tx) => match tx.read(alloc, store, &path) {
+            Ok(rows) => Ok(StepReply::Read { domain, path, rows }),
+            Err(TxFault::WriteOnly) => Ok(only_writes()),
+            Err(_) => Err(NoMemory),
+        },
+    }
+}
+
+// Whether a transaction sees something at the path or below it.
+fn found_seen(tx: &Tx, store: Store, path: &Path) -> StepReply
+    ensures { (client : Client) → play_spec.look_in (mode_of tx.now) (StepReply.Exists (has (apply_ops (rows_in (base_of tx.now) store) store (ops_of tx.now)) path.now)) client ≡ local result client }
+{
+    match tx {
+        Tx::Read(tx) => StepReply::Exists {
+            found: tx.exists(store, path),
+        },
+        Tx::Write(tx) => match tx.exists(store, path) {
+            Ok(found) => StepReply::Exists { found },
+            Err(WriteOnly) => only_writes(),
+        },
+    }
+}
+
+impl ClientState {
+    ghost use Rattle.sal_client.specs.Clients.{client_of, opened, IsSound};
+
+    /// Reads what the slot's transaction sees at the path and below it.
+    pub(crate) fn read(
+        &self,
+        alloc: Global,
+        reader: &Reader,
+        hub: &Hub,
+        slot: u8,
+        store: Store,
+        text: &str,
+    ) -> Result<StepReply, NoMemory>
+        requires { IsSound hub.now self.now }
+        ensures { IfOk result (λ r. play_spec.look reader.now hub.now.world hub.now.log (play_spec.rows_read reader.now hub.now.world hub.now.log) store text.now (client_of self.now) (opened self.now slot) ≡ local r (client_of self.now)) }
+    {
+        match look_at(&self.transactions, slot) {
+            None => Ok(refused(StepRefusal::EmptySlot)),
+            Some(tx) => match path_of(alloc, reader, text)? {
+                Ok(path) => {
+                    let reply = rows_seen(alloc, tx, store, path)?;
+                    Ok(reply)
+                }
+                Err(refusal) => Ok(refused(refusal)),
+            },
+        }
+    }
+
+    /// Whether the slot's transaction sees something at the path or below it.
+    pub(crate) fn exists(
+        &self,
+        alloc: Global,
+        reader: &Reader,
+        hub: &Hub,
+        slot: u8,
+        store: Store,
+        text: &str,
+    ) -> Result<StepReply, NoMemory>
+        requires { IsSound hub.now self.now }
+        ensures { IfOk result (λ r. play_spec.look reader.now hub.now.world hub.now.log (play_spec.found reader.now hub.now.world hub.now.log) store text.now (client_of self.now) (opened self.now slot) ≡ local r (client_of self.now)) }
+    {
+        match look_at(&self.transactions, slot) {
+            None => Ok(refused(StepRefusal::EmptySlot)),
+            Some(tx) => match path_of(alloc, reader, text)? {
+                Ok(path) => Ok(found_seen(tx, store, &path)),
+                Err(refusal) => Ok(refused(refusal)),
+            },
+        }
+    }
+}

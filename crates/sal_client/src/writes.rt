@@ -1,0 +1,94 @@
+//! Writes in a client's transaction.
+ghost use Rattle.std.specs.Prelude.{◌≡◌, Some, IfOk, OnOk, MatchResult, Result as Outcome, Unit};
+ghost use Rattle.sal_history.specs.World.{table_of};
+ghost use Rattle.sal_script.specs.Play.{Client, Open, accept_unless, local};
+ghost use Rattle.sal_script.specs.Play as play_spec;
+ghost use Rattle.sal_client.specs.Deeds.{deed_of};
+
+use crate::client::{ClientState, Standing, refused};
+use crate::deed::{Deed, fits_op, op_of};
+use crate::reader::Reader;
+use crate::slots::{fill_slot, take_slot};
+use sal_hub::Hub;
+use sal_rows::Op;
+use sal_script::{StepRefusal, StepReply};
+use sal_tx::{Tx, TxFault};
+use sal_types::{NoMemory, Store};
+use std::alloc::Global;
+
+// The reply to a write that the transaction answered so.
+fn reply_to(answer: Result<(), TxFault>) -> Result<StepReply, NoMemory>
+    ensures { IfOk result (λ r. MatchResult answer (λ _. r ≡ StepReply.Accepted) (λ fault. r ≡ StepReply.Refused (StepRefusal.Write fault))) }
+    ensures memory { IfOk result (λ _. MatchResult answer (λ _. Unit {0}) (λ fault. fault ≡ TxFault.NoMemory → ⊥)) }
+{
+    match answer {
+        Ok(()) => Ok(StepReply::Accepted),
+        Err(TxFault::NoMemory) => Err(NoMemory),
+        Err(fault) => Ok(refused(StepRefusal::Write { fault })),
+    }
+}
+
+impl ClientState {
+    ghost use Rattle.sal_client.specs.Clients.{client_of, opened, standing_of, IsSound, Same};
+
+    /// Writes at the path of the text, where the slot's transaction may write.
+    pub(crate) fn write(
+        &mut self,
+        alloc: Global,
+        reader: &Reader,
+        hub: &Hub,
+        slot: u8,
+        store: Store,
+        text: &str,
+        deed: Deed,
+    ) -> Result<StepReply, NoMemory>
+        requires sound { IsSound hub.now self.old }
+        requires table { reader.now ≡ table_of hub.now.world 0 }
+        ensures answers { IfOk result (λ r. play_spec.write reader.now hub.now.world hub.now.log slot store text.now (deed_of deed.entry) (client_of self.old) (opened self.old slot) ≡ local r (client_of self.new)) }
+        ensures sound { OnOk result (IsSound hub.now self.new) }
+        ensures same { OnOk result (Same self.old self.new) }
+    {
+        match self.standing(slot) {
+            Standing::Empty => Ok(refused(StepRefusal::EmptySlot)),
+            Standing::ReadOnly => Ok(refused(StepRefusal::ReadOnly)),
+            Standing::Writable => match op_of(alloc, reader, store, text, deed)? {
+                Ok(op) => {
+                    let reply = self.write_op(alloc, reader, hub, slot, op)?;
+                    Ok(reply)
+                }
+                Err(refusal) => Ok(refused(refusal)),
+            },
+        }
+    }
+
+    // Adds the operation to the slot's transaction, which may write, unless that refuses it.
+    fn write_op(
+        &mut self,
+        alloc: Global,
+        reader: &Reader,
+        hub: &Hub,
+        slot: u8,
+        op: Op,
+    ) -> Result<StepReply, NoMemory>
+        requires sound { IsSound hub.now self.old }
+        requires table { reader.now ≡ table_of hub.now.world 0 }
+        requires writable { standing_of (opened self.old slot) ≡ Standing.Writable }
+        ensures answers { IfOk result (λ r. (tx : Open) → opened self.old slot ≡ Some tx → play_spec.write_op reader.now hub.now.world hub.now.log slot op tx (client_of self.old) ≡ local r (client_of self.new)) }
+        ensures sound { OnOk result (IsSound hub.now self.new) }
+        ensures same { OnOk result (Same self.old self.new) }
+    {
+        if !fits_op(reader.schema(), &op) {
+            return Err(NoMemory);
+        }
+        match take_slot(&mut self.transactions, slot) {
+            Some(Tx::Write(taken)) => {
+                let mut tx = taken;
+                let reply = reply_to(tx.write(alloc, op))?;
+                fill_slot(&mut self.transactions, slot, Tx::Write(tx))?;
+                Ok(reply)
+            }
+            Some(Tx::Read(_)) => unreachable!(),
+            None => unreachable!(),
+        }
+    }
+}

@@ -1,5 +1,6 @@
 -- What is read keeps within the limits of a script.
 use Rattle.std.proofs.Common.{◌≡◌, ℕ, suc, ◌+◌, Bool, true, false, List, [], ◌∷◌, length, Option, Some, None, option_and_then, Result, Ok, Err, IsTrue, nat_le, codes, refl, ap}
+use Rattle.std.proofs.lemmas.List.{length-map}
 use Rattle.std.specs.List.{list_all}
 use Rattle.sal_types.specs.Reading.{◌>>=◌}
 use Rattle.serde_json.specs.Data.{Data}
@@ -7,6 +8,7 @@ use Rattle.serde_json.specs.Find.{get_member}
 use Rattle.sal_script.specs.declared.script.ScriptStep.{ScriptStep}
 use Rattle.sal_script.specs.Json.{list_of}
 use Rattle.sal_script.specs.Limits.{within_limits}
+use Rattle.sal_script.specs.Moves.{Move, move_of, clients_of}
 use Rattle.sal_script.specs.Script.{or_bad, at_most, client_place, step_place, members_of, program_of, programs_from, step_of, steps_from, clients_from}
 
 -- both parts were read
@@ -38,13 +40,13 @@ limited limit o f ys h =
     kept limit inner.0 ys _ refl inner.2
 
 abbrev short : {Step : Type 0} → List (List Step) → Bool
-short programs = list_all (λ steps. nat_le (length steps) 256) programs
+short programs = list_all (λ steps. nat_le (length steps) 60000) programs
 
-short_program : (d : Data) (steps : List Data) → program_of d ≡ Some steps → nat_le (length steps) 256 ≡ true
+short_program : (d : Data) (steps : List Data) → program_of d ≡ Some steps → nat_le (length steps) 60000 ≡ true
 short_program d steps h =
     let own = members_of (codes "steps" ∷ []) d in
-    let outer = both own (λ ms. option_and_then (λ found. option_and_then (at_most 256) (list_of found)) (get_member (codes "steps") ms)) steps h in
-    limited 256 (get_member (codes "steps") outer.0) list_of steps outer.2
+    let outer = both own (λ ms. option_and_then (λ found. option_and_then (at_most 60000) (list_of found)) (get_member (codes "steps") ms)) steps h in
+    limited 60000 (get_member (codes "steps") outer.0) list_of steps outer.2
 
 short_programs : (c : ℕ) (ds : List Data) (programs : List (List Data)) → programs_from c ds ≡ Ok programs → (length programs ≡ length ds) × (short programs ≡ true)
 short_programs c [] programs h = let none : [] ≡ programs = cc in rw (← none) (refl, refl)
@@ -56,30 +58,38 @@ short_programs c (d ∷ ds) programs h =
     let one = short_program d first.0 (found (client_place c) (program_of d) first.0 first.1) in
     rw (← all) (ap suc more.0, rw (one, more.1) refl)
 
-as_many_steps : (plain : Bool) (c s : ℕ) (ds : List Data) (steps : List ScriptStep) → steps_from plain c s ds ≡ Ok steps → length steps ≡ length ds
-as_many_steps plain c s [] steps h = let none : [] ≡ steps = cc in rw (← none) refl
-as_many_steps plain c s (d ∷ ds) steps h =
-    let first = parts (or_bad (step_place c s) (step_of plain d)) _ steps h in
-    let rest = parts (steps_from plain c (s + 1) ds) _ steps first.2 in
+as_many_steps : (c s : ℕ) (ds : List Data) (steps : List Move) → steps_from c s ds ≡ Ok steps → length steps ≡ length ds
+as_many_steps c s [] steps h = let none : [] ≡ steps = cc in rw (← none) refl
+as_many_steps c s (d ∷ ds) steps h =
+    let first = parts (or_bad (step_place c s) (step_of d)) _ steps h in
+    let rest = parts (steps_from c (s + 1) ds) _ steps first.2 in
     let all : first.0 ∷ rest.0 ≡ steps = cc rest.2 in
-    rw (← all) (ap suc (as_many_steps plain c (s + 1) ds rest.0 rest.1))
+    rw (← all) (ap suc (as_many_steps c (s + 1) ds rest.0 rest.1))
 
-as_many_clients : (plain : Bool) (c : ℕ) (programs : List (List Data)) (clients : List (List ScriptStep)) → clients_from plain c programs ≡ Ok clients → (length clients ≡ length programs) × (short clients ≡ short programs)
-as_many_clients plain c [] clients h = let none : [] ≡ clients = cc in rw (← none) (refl, refl)
-as_many_clients plain c (p ∷ ps) clients h =
-    let first = parts (steps_from plain c 0 p) _ clients h in
-    let rest = parts (clients_from plain (c + 1) ps) _ clients first.2 in
+as_many_clients : (c : ℕ) (programs : List (List Data)) (clients : List (List Move)) → clients_from c programs ≡ Ok clients → (length clients ≡ length programs) × (short clients ≡ short programs)
+as_many_clients c [] clients h = let none : [] ≡ clients = cc in rw (← none) (refl, refl)
+as_many_clients c (p ∷ ps) clients h =
+    let first = parts (steps_from c 0 p) _ clients h in
+    let rest = parts (clients_from (c + 1) ps) _ clients first.2 in
     let all : first.0 ∷ rest.0 ≡ clients = cc rest.2 in
-    let more = as_many_clients plain (c + 1) ps rest.0 rest.1 in
-    let one = as_many_steps plain c 0 p first.0 first.1 in
+    let more = as_many_clients (c + 1) ps rest.0 rest.1 in
+    let one = as_many_steps c 0 p first.0 first.1 in
     rw (← all) (ap suc more.0, rw (one, more.1) refl)
 
+-- as many steps of as many clients, as the definitions have them
+same_limits : (clients : List (List ScriptStep)) → (length (clients_of clients) ≡ length clients) × (short (clients_of clients) ≡ short clients)
+same_limits [] = (refl, refl)
+same_limits (steps ∷ clients) =
+    let more = same_limits clients in
+    (ap suc more.0, rw (length-map steps move_of, more.1) refl)
+
 -- the clients that are read
-pub within : (plain : Bool) (place : List ℕ) (o : Option (List Data)) (ds : List Data) (programs : List (List Data)) (clients : List (List ScriptStep)) → or_bad place (option_and_then (at_most 16) o) ≡ Ok ds
-    → programs_from 0 ds ≡ Ok programs → clients_from plain 0 programs ≡ Ok clients → IsTrue (within_limits clients)
-within plain place o ds programs clients listed read made =
+pub within : (place : List ℕ) (o : Option (List Data)) (ds : List Data) (programs : List (List Data)) (clients : List (List ScriptStep)) → or_bad place (option_and_then (at_most 16) o) ≡ Ok ds
+    → programs_from 0 ds ≡ Ok programs → clients_from 0 programs ≡ Ok (clients_of clients) → IsTrue (within_limits clients)
+within place o ds programs clients listed read made =
     let many = both o (at_most 16) ds (found place _ ds listed) in
     let few = kept 16 many.0 ds _ refl many.2 in
     let pieces = short_programs 0 ds programs read in
-    let whole = as_many_clients plain 0 programs clients made in
-    rw (whole.0, pieces.0, few, whole.1, pieces.1) refl
+    let whole = as_many_clients 0 programs (clients_of clients) made in
+    let own = same_limits clients in
+    rw (← own.0, ← own.1, whole.0, pieces.0, few, whole.1, pieces.1) refl

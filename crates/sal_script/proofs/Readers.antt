@@ -1,5 +1,5 @@
 -- The readers of a script: what they read, as one reading of a list after another.
-use Rattle.std.proofs.Common.{Bool, ◌≡◌, ℕ, ◌+◌, ◌^◌, ◌<◌, List, [], ◌∷◌, length, get_or, drop, map, Option, Some, None, option_map, option_and_then, Result, Ok, Err, Bor, refl, ap, sym, ◌∙◌}
+use Rattle.std.proofs.Common.{◌≡◌, ℕ, ◌+◌, ◌^◌, ◌<◌, List, [], ◌∷◌, length, get_or, drop, map, Option, Some, None, option_map, option_and_then, Result, Ok, Err, Bor, refl, ap, sym, ◌∙◌}
 use Rattle.std.specs.Result.{IsErrAnd}
 use Rattle.sal_types.specs.Reading.{◌>>=◌}
 use Rattle.serde_json.specs.Data.{Data}
@@ -7,8 +7,8 @@ use Rattle.serde_json.specs.View.{view}
 use Rattle.serde_json.specs.declared.value.Value.{Value}
 use Rattle.sal_script.specs.declared.fault.ScriptFault.{ScriptFault}
 use Rattle.sal_script.specs.declared.fault.ScriptFault.TheVariants.{BadScript, NoMemory}
-use Rattle.sal_script.specs.declared.script.ScriptStep.{ScriptStep}
 use Rattle.sal_script.specs.Json.{whole_below}
+use Rattle.sal_script.specs.Moves.{Move}
 use Rattle.sal_script.specs.Reading.{IsBadAt, IsFaultOf, Reads}
 use Rattle.sal_script.specs.Script.{or_bad, client_place, step_place, program_of, programs_from, step_of, steps_from, clients_from, all_of}
 use Rattle.sal_script.proofs.Each.{each_from, before, each_fails}
@@ -22,22 +22,22 @@ pub programs_from-each : (c : ℕ) (vs : List Value) → programs_from c (map vi
 programs_from-each c [] = refl
 programs_from-each c (v ∷ vs) = ap (λ rest. program_at c v >>= (λ program. rest >>= (λ programs. Ok (program ∷ programs)))) (programs_from-each (c + 1) vs)
 
-abbrev pub step_at : Bool → ℕ → ℕ → Value → Result ScriptStep (List ℕ)
-step_at plain c s v = or_bad (step_place c s) (step_of plain (view v))
+abbrev pub step_at : ℕ → ℕ → Value → Result Move (List ℕ)
+step_at c s v = or_bad (step_place c s) (step_of (view v))
 
-pub steps_from-each : (plain : Bool) (c s : ℕ) (vs : List Value) → steps_from plain c s (map view vs) ≡ each_from (step_at plain c) s vs
-steps_from-each plain c s [] = refl
-steps_from-each plain c s (v ∷ vs) = ap (λ rest. step_at plain c s v >>= (λ step. rest >>= (λ steps. Ok (step ∷ steps)))) (steps_from-each plain c (s + 1) vs)
+pub steps_from-each : (c s : ℕ) (vs : List Value) → steps_from c s (map view vs) ≡ each_from (step_at c) s vs
+steps_from-each c s [] = refl
+steps_from-each c s (v ∷ vs) = ap (λ rest. step_at c s v >>= (λ step. rest >>= (λ steps. Ok (step ∷ steps)))) (steps_from-each c (s + 1) vs)
 
 abbrev pub data_in : Bor (List Value) → List Data
 data_in program = map view program.now
 
-abbrev pub client_at : Bool → ℕ → Bor (List Value) → Result (List ScriptStep) (List ℕ)
-client_at plain c program = steps_from plain c 0 (data_in program)
+abbrev pub client_at : ℕ → Bor (List Value) → Result (List Move) (List ℕ)
+client_at c program = steps_from c 0 (data_in program)
 
-pub clients_from-each : (plain : Bool) (c : ℕ) (ps : List (Bor (List Value))) → clients_from plain c (map data_in ps) ≡ each_from (client_at plain) c ps
-clients_from-each plain c [] = refl
-clients_from-each plain c (p ∷ ps) = ap (λ rest. client_at plain c p >>= (λ steps. rest >>= (λ clients. Ok (steps ∷ clients)))) (clients_from-each plain (c + 1) ps)
+pub clients_from-each : (c : ℕ) (ps : List (Bor (List Value))) → clients_from c (map data_in ps) ≡ each_from client_at c ps
+clients_from-each c [] = refl
+clients_from-each c (p ∷ ps) = ap (λ rest. client_at c p >>= (λ steps. rest >>= (λ clients. Ok (steps ∷ clients)))) (clients_from-each (c + 1) ps)
 
 abbrev pub item_at : {A : Type 0} → (Data → Option A) → List ℕ → ℕ → Value → Result A (List ℕ)
 item_at f place i v = or_bad place (f (view v))

@@ -1,4 +1,3 @@
-pub mod Examples
 pub mod Json
 pub mod Limits
 pub mod Moves

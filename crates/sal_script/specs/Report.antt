@@ -1,6 +1,7 @@
 -- The text of a run: the order of the calls, a line for each step, and the trees at the end. Each line ends with LF.
 use Rattle.std.specs.Prelude.{ℕ, ◌+◌, Bool, true, false, List, [], ◌∷◌, ◌++◌, length, Option, None, Some, codes, decimal}
 use Rattle.std.specs.List.{flat_map}
+use Rattle.std.specs.Option.{option_map_or}
 use Rattle.sal_types.specs.declared.value.Store.{Store}
 use Rattle.sal_types.specs.declared.value.Store.TheVariants.{Config, Oper}
 use Rattle.sal_types.specs.declared.row.Row.{Row}
@@ -110,9 +111,9 @@ module _ (table : SchemaTable) where
 
   -- ---- structural rules
 
-  -- the name of a node with that of its module
+  -- the name of a node with that of its module, both empty where the schema has no node of that number
   abbrev pub node_text : ℕ → List ℕ
-  node_text n = module_name table (module_of table n) ++ (58 ∷ name_of table n)
+  node_text n = option_map_or (module_name table) (module_of table n) [] ++ (58 ∷ name_of table n)
 
   abbrev pub rule_text : Rule → List ℕ
   rule_text (Mandatory n) = codes "mandatory " ++ node_text n

@@ -3,6 +3,7 @@ ghost use Rattle.std.specs.Prelude.{◌≡◌, [], ◌∷◌, codes, map, option
 ghost use Rattle.serde_json.specs.View.{view, members_view};
 ghost use Rattle.sal_script.specs.Json.{data_of};
 ghost use Rattle.sal_script.specs.Reading.{Reads, ReadsScript, parts};
+ghost use Rattle.sal_script.specs.Moves.{clients_of, moves_of};
 ghost use Rattle.sal_script.specs.Limits.{are_short, is_short};
 ghost use Rattle.sal_script.specs.Script as spec;
 ghost use Rattle.sal_script.specs.declared.script.TheConstants.{PLAIN};
@@ -58,8 +59,7 @@ fn parts_of(alloc: Global, members: &Map<String, Value>) -> Result<Script, Scrip
     let operational = opening_of(alloc, members, "operational")?;
     let listed = listed_clients(alloc, members)?;
     let programs = programs_of(alloc, listed)?;
-    let plain = member(members, "modules").is_none();
-    let clients = clients_of(alloc, plain, &programs)?;
+    let clients = clients_of(alloc, &programs)?;
     let order = order_of(alloc, members)?;
     Ok(Script {
         modules: Seq::from_items(modules),
@@ -179,33 +179,24 @@ fn program_of(value: &Value) -> Option<&[Value]>
 }
 
 // The steps of each client.
-fn clients_of(
-    alloc: Global,
-    plain: bool,
-    programs: &[&[Value]],
-) -> Result<Vec<Program>, ScriptFault>
-    ensures { Reads (λ clients. clients.items) result (spec.clients_from plain 0 (map (λ program. map view program.now) programs.now)) }
+fn clients_of(alloc: Global, programs: &[&[Value]]) -> Result<Vec<Program>, ScriptFault>
+    ensures { Reads (λ clients. clients_of clients.items) result (spec.clients_from 0 (map (λ program. map view program.now) programs.now)) }
 {
     let mut clients = Vec::new(alloc);
     for (client, program) in programs.iter().enumerate() {
-        let steps = steps_of(alloc, plain, client, program)?;
+        let steps = steps_of(alloc, client, program)?;
         clients.push(Seq::from_items(steps))?;
     }
     Ok(clients)
 }
 
 // The steps of one client.
-fn steps_of(
-    alloc: Global,
-    plain: bool,
-    client: usize,
-    program: &[Value],
-) -> Result<Vec<ScriptStep>, ScriptFault>
-    ensures { Reads (λ steps. steps.items) result (spec.steps_from plain client 0 (map view program.now)) }
+fn steps_of(alloc: Global, client: usize, program: &[Value]) -> Result<Vec<ScriptStep>, ScriptFault>
+    ensures { Reads (λ steps. moves_of steps.items) result (spec.steps_from client 0 (map view program.now)) }
 {
     let mut steps = Vec::new(alloc);
     for (number, value) in program.iter().enumerate() {
-        match step_of(alloc, plain, value)? {
+        match step_of(alloc, value)? {
             Some(step) => steps.push(step)?,
             None => return Err(bad_step(alloc, client, number)),
         }

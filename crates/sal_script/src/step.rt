@@ -1,8 +1,9 @@
 //! The steps of a client, from JSON arrays.
 ghost use Rattle.std.specs.Prelude.{◌≡◌, ℕ, List, IfOk, MatchOption, Some, None, map, option_map};
 ghost use Rattle.serde_json.specs.View.{view};
-ghost use Rattle.sal_script.specs.Plain.{is_leaf_text};
-ghost use Rattle.sal_script.specs.Script.{Naming};
+ghost use Rattle.sal_script.specs.Moves.{move_of};
+ghost use Rattle.sal_script.specs.Moves as move;
+ghost use Rattle.sal_script.specs.Script.{Naming, Writing};
 ghost use Rattle.sal_script.specs.Script as spec;
 
 use crate::script::ScriptStep;
@@ -12,54 +13,48 @@ use sal_types::{NoMemory, Store, Str};
 use serde_json::Value;
 use std::alloc::Global;
 
-/// The step that a JSON array stands for; whether the script is one over `plain` is told.
-pub(crate) fn step_of(
-    alloc: Global,
-    plain: bool,
-    value: &Value,
-) -> Result<Option<ScriptStep>, NoMemory>
-    ensures { IfOk result (λ found. found ≡ spec.step_of plain (view value.now)) }
+/// The step that a JSON array stands for.
+pub(crate) fn step_of(alloc: Global, value: &Value) -> Result<Option<ScriptStep>, NoMemory>
+    ensures { IfOk result (λ found. option_map move_of found ≡ spec.step_of (view value.now)) }
 {
     match list_of(value) {
-        Some(parts) => step_from(alloc, plain, parts),
+        Some(parts) => step_from(alloc, parts),
         None => Ok(None),
     }
 }
 
-fn step_from(alloc: Global, plain: bool, parts: &[Value]) -> Result<Option<ScriptStep>, NoMemory>
-    ensures { IfOk result (λ found. found ≡ spec.step_from plain (map view parts.now)) }
+fn step_from(alloc: Global, parts: &[Value]) -> Result<Option<ScriptStep>, NoMemory>
+    ensures { IfOk result (λ found. option_map move_of found ≡ spec.step_from (map view parts.now)) }
 {
     let [word, parts @ ..] = parts else {
         return Ok(None);
     };
     match word.as_str() {
-        Some(name) => step_named(alloc, plain, name, parts),
+        Some(name) => step_named(alloc, name, parts),
         None => Ok(None),
     }
 }
 
 // The step with this word and these parts behind it.
-fn step_named(
-    alloc: Global,
-    plain: bool,
-    word: &str,
-    parts: &[Value],
-) -> Result<Option<ScriptStep>, NoMemory>
-    ensures { IfOk result (λ found. found ≡ spec.step_named plain word.now (map view parts.now)) }
+fn step_named(alloc: Global, word: &str, parts: &[Value]) -> Result<Option<ScriptStep>, NoMemory>
+    ensures { IfOk result (λ found. option_map move_of found ≡ spec.step_named word.now (map view parts.now)) }
 {
     match word {
         "begin" => Ok(begin_of(parts)),
-        "put" if plain => put_of(alloc, parts),
+        "put" => put_of(alloc, parts),
+        "merge" => merge_of(alloc, parts),
+        "delete" => delete_of(alloc, parts),
         "read" => read_of(alloc, parts),
         "exists" => exists_of(alloc, parts),
         "submit" => Ok(submit_of(parts)),
+        "cancel" => Ok(cancel_of(parts)),
         "settle" => Ok(settle_of(parts)),
         _ => Ok(None),
     }
 }
 
 fn begin_of(parts: &[Value]) -> Option<ScriptStep>
-    ensures { result ≡ spec.begin_of (map view parts.now) }
+    ensures { option_map move_of result ≡ spec.begin_of (map view parts.now) }
 {
     let [slot, domain, mode] = parts else {
         return None;
@@ -70,31 +65,9 @@ fn begin_of(parts: &[Value]) -> Option<ScriptStep>
     Some(ScriptStep::Begin { slot, domain, mode })
 }
 
-fn put_of(alloc: Global, parts: &[Value]) -> Result<Option<ScriptStep>, NoMemory>
-    ensures { IfOk result (λ found. found ≡ spec.put_of (map view parts.now)) }
-{
-    let [slot, store, path, value] = parts else {
-        return Ok(None);
-    };
-    let (Some(slot), Some(store)) = (slot_of(slot), config_of(store)) else {
-        return Ok(None);
-    };
-    let (Some(path), Some(text)) = (leaf_of(path), value.as_str()) else {
-        return Ok(None);
-    };
-    let path = Str::new(alloc, path)?;
-    let text = Str::new(alloc, text)?;
-    Ok(Some(ScriptStep::Put {
-        slot,
-        store,
-        path,
-        text,
-    }))
-}
-
 // The slot, the store and the text of a path.
-fn look_of(parts: &[Value]) -> Option<(u8, Store, &str)>
-    ensures { MatchOption result ((step : Naming) → spec.look_of step (map view parts.now) ≡ None) (λ look. (step : Naming) → spec.look_of step (map view parts.now) ≡ Some (step look.0 look.1 look.2.now)) }
+fn place_of(parts: &[Value]) -> Option<(u8, Store, &str)>
+    ensures { MatchOption result ((step : Naming) → spec.place_of step (map view parts.now) ≡ None) (λ place. (step : Naming) → spec.place_of step (map view parts.now) ≡ Some (step place.0 place.1 place.2.now)) }
 {
     let [slot, store, path] = parts else {
         return None;
@@ -105,10 +78,65 @@ fn look_of(parts: &[Value]) -> Option<(u8, Store, &str)>
     Some((slot, store, path))
 }
 
-fn read_of(alloc: Global, parts: &[Value]) -> Result<Option<ScriptStep>, NoMemory>
-    ensures { IfOk result (λ found. found ≡ spec.look_of ScriptStep.Read (map view parts.now)) }
+// The slot, the store, the text of a path, and a value.
+fn write_of(parts: &[Value]) -> Option<(u8, Store, &str, &Value)>
+    ensures { MatchOption result ((step : Writing) → spec.write_of step (map view parts.now) ≡ None) (λ write. (step : Writing) → spec.write_of step (map view parts.now) ≡ Some (step write.0 write.1 write.2.now (view write.3.now))) }
 {
-    let Some((slot, store, text)) = look_of(parts) else {
+    let [slot, store, path, value] = parts else {
+        return None;
+    };
+    let slot = slot_of(slot)?;
+    let store = store_of(store)?;
+    let path = path.as_str()?;
+    Some((slot, store, path, value))
+}
+
+fn put_of(alloc: Global, parts: &[Value]) -> Result<Option<ScriptStep>, NoMemory>
+    ensures { IfOk result (λ found. option_map move_of found ≡ spec.write_of move.Put (map view parts.now)) }
+{
+    let Some((slot, store, text, value)) = write_of(parts) else {
+        return Ok(None);
+    };
+    let path = Str::new(alloc, text)?;
+    let value = value.clone()?;
+    Ok(Some(ScriptStep::Put {
+        slot,
+        store,
+        path,
+        value,
+    }))
+}
+
+fn merge_of(alloc: Global, parts: &[Value]) -> Result<Option<ScriptStep>, NoMemory>
+    ensures { IfOk result (λ found. option_map move_of found ≡ spec.write_of move.Merge (map view parts.now)) }
+{
+    let Some((slot, store, text, value)) = write_of(parts) else {
+        return Ok(None);
+    };
+    let path = Str::new(alloc, text)?;
+    let value = value.clone()?;
+    Ok(Some(ScriptStep::Merge {
+        slot,
+        store,
+        path,
+        value,
+    }))
+}
+
+fn delete_of(alloc: Global, parts: &[Value]) -> Result<Option<ScriptStep>, NoMemory>
+    ensures { IfOk result (λ found. option_map move_of found ≡ spec.place_of move.Delete (map view parts.now)) }
+{
+    let Some((slot, store, text)) = place_of(parts) else {
+        return Ok(None);
+    };
+    let path = Str::new(alloc, text)?;
+    Ok(Some(ScriptStep::Delete { slot, store, path }))
+}
+
+fn read_of(alloc: Global, parts: &[Value]) -> Result<Option<ScriptStep>, NoMemory>
+    ensures { IfOk result (λ found. option_map move_of found ≡ spec.place_of move.Read (map view parts.now)) }
+{
+    let Some((slot, store, text)) = place_of(parts) else {
         return Ok(None);
     };
     let path = Str::new(alloc, text)?;
@@ -116,9 +144,9 @@ fn read_of(alloc: Global, parts: &[Value]) -> Result<Option<ScriptStep>, NoMemor
 }
 
 fn exists_of(alloc: Global, parts: &[Value]) -> Result<Option<ScriptStep>, NoMemory>
-    ensures { IfOk result (λ found. found ≡ spec.look_of ScriptStep.Exists (map view parts.now)) }
+    ensures { IfOk result (λ found. option_map move_of found ≡ spec.place_of move.Exists (map view parts.now)) }
 {
-    let Some((slot, store, text)) = look_of(parts) else {
+    let Some((slot, store, text)) = place_of(parts) else {
         return Ok(None);
     };
     let path = Str::new(alloc, text)?;
@@ -126,23 +154,34 @@ fn exists_of(alloc: Global, parts: &[Value]) -> Result<Option<ScriptStep>, NoMem
 }
 
 fn submit_of(parts: &[Value]) -> Option<ScriptStep>
-    ensures { result ≡ spec.submit_of (map view parts.now) }
+    ensures { option_map move_of result ≡ spec.slot_step_of move.Submit (map view parts.now) }
 {
-    let [slot] = parts else {
-        return None;
-    };
-    let slot = slot_of(slot)?;
+    let slot = slot_alone(parts)?;
     Some(ScriptStep::Submit { slot })
 }
 
+fn cancel_of(parts: &[Value]) -> Option<ScriptStep>
+    ensures { option_map move_of result ≡ spec.slot_step_of move.Cancel (map view parts.now) }
+{
+    let slot = slot_alone(parts)?;
+    Some(ScriptStep::Cancel { slot })
+}
+
 fn settle_of(parts: &[Value]) -> Option<ScriptStep>
-    ensures { result ≡ spec.settle_of (map view parts.now) }
+    ensures { option_map move_of result ≡ spec.slot_step_of move.Settle (map view parts.now) }
+{
+    let slot = slot_alone(parts)?;
+    Some(ScriptStep::Settle { slot })
+}
+
+// The slot, where it is the one part.
+fn slot_alone(parts: &[Value]) -> Option<u8>
+    ensures { MatchOption result ((step : ℕ → move.Move) → spec.slot_step_of step (map view parts.now) ≡ None) (λ slot. (step : ℕ → move.Move) → spec.slot_step_of step (map view parts.now) ≡ Some (step slot)) }
 {
     let [slot] = parts else {
         return None;
     };
-    let slot = slot_of(slot)?;
-    Some(ScriptStep::Settle { slot })
+    slot_of(slot)
 }
 
 fn slot_of(value: &Value) -> Option<u8>
@@ -157,7 +196,7 @@ fn slot_of(value: &Value) -> Option<u8>
 fn domain_of(value: &Value) -> Option<u32>
     ensures { result ≡ spec.domain_of (view value.now) }
 {
-    match whole_below(1, value) {
+    match whole_below(1 << 32, value) {
         Some(domain) => Some(domain as u32),
         None => None,
     }
@@ -168,6 +207,7 @@ fn mode_of(value: &Value) -> Option<Mode>
 {
     match value.as_str()? {
         "ro" => Some(Mode::Ro),
+        "wo" => Some(Mode::Wo),
         "rw" => Some(Mode::Rw),
         _ => None,
     }
@@ -181,37 +221,4 @@ fn store_of(value: &Value) -> Option<Store>
         "operational" => Some(Store::Oper),
         _ => None,
     }
-}
-
-// The configuration, which alone takes puts yet.
-fn config_of(value: &Value) -> Option<Store>
-    ensures { result ≡ spec.config_of (view value.now) }
-{
-    match value.as_str()? {
-        "config" => Some(Store::Config),
-        _ => None,
-    }
-}
-
-// The text of the path of a leaf of `plain`.
-fn leaf_of(value: &Value) -> Option<&str>
-    ensures { option_map (λ text. text.now) result ≡ spec.leaf_of (view value.now) }
-{
-    match value.as_str() {
-        Some(text) if is_leaf_text(text) => Some(text),
-        _ => None,
-    }
-}
-
-fn is_leaf_text(text: &str) -> bool
-    ensures { result ≡ is_leaf_text text.now }
-{
-    text == "/plain:box/a"
-        || text == "/plain:box/b"
-        || text == "/plain:box/c"
-        || text == "/plain:box/d"
-        || text == "/plain:box/e"
-        || text == "/plain:box/f"
-        || text == "/plain:box/g"
-        || text == "/plain:box/h"
 }

@@ -13,5 +13,5 @@ invariant_of-result c =
     record {
       short = rw c.from_items.ensures c.in_ok-modules.ensures.short;
       limits = rw c.from_items-2.ensures
-          (within c.is_none-plain.result (codes "clients") (list_member (codes "clients") ms) (map view c.in_ok-listed.listed.now) (map data_in c.in_ok-programs.programs.items) c.in_ok-clients.clients.items c.in_ok-listed.ensures c.in_ok-programs.ensures made);
+          (within (codes "clients") (list_member (codes "clients") ms) (map view c.in_ok-listed.listed.now) (map data_in c.in_ok-programs.programs.items) c.in_ok-clients.clients.items c.in_ok-listed.ensures c.in_ok-programs.ensures made);
     }

@@ -2,16 +2,16 @@
 //! one log, and the proof computes it.
 #![tactic(auto, unfolding(sal_schema::specs::Table::closest, sal_check::specs::Breaches::first, sal_check::specs::Contexts::through_plain, sal_check::specs::Contexts::from_list, sal_check::specs::Rules::is_there))]
 
-ghost use Rattle.std.specs.Prelude.{◌≡◌, [], ◌∷◌, ◌++◌};
+ghost use Rattle.std.specs.Prelude.{◌≡◌, ◌+◌, ℕ, false, length, List, [], ◌∷◌, ◌++◌};
 ghost use Rattle.sal_types.specs.declared.value.Store.TheVariants.{Config, Oper};
-ghost use Rattle.sal_rows.specs.declared.outcome.CallFault.TheVariants.{TxSpent};
+ghost use Rattle.sal_rows.specs.declared.outcome.CallFault.TheVariants.{PipelineFull, TxSpent};
 ghost use Rattle.sal_rows.specs.declared.outcome.ClashKind.TheVariants.{Changed, Created, Deleted};
 ghost use Rattle.sal_rows.specs.declared.outcome.Outcome.TheVariants.{Done, Conflict, Invalid};
 ghost use Rattle.sal_rows.specs.declared.outcome.Rule.TheVariants.{MaxElements, Unique};
 ghost use Rattle.sal_check.specs.Examples.{mark, held};
 ghost use Rattle.sal_history.specs.declared.call.Call.TheVariants.{Submit, Cancel, Settle};
 ghost use Rattle.sal_history.specs.declared.reply.Reply.TheVariants.{Begun, Accepted, Receipt, Settled, Refused};
-ghost use Rattle.sal_history.specs.History.{base_tree, newest_tree, view};
+ghost use Rattle.sal_history.specs.History.{Answered, base_tree, is_spent, newest_tree, pending, sents, submitted, view};
 ghost use Rattle.sal_history.specs.Examples.{a, b, box, leaf, put, put_rows, merge, merge_rows, delete, oper, opened, opened_oper, by, begin, snapshot, replies, decisions, met, crossed, overtaken, alone};
 ghost use Rattle.sal_history.specs.Depots.{stocked, depot, name, items, item, code, note, plain_item, coded_item, seen, three_seen};
 
@@ -150,4 +150,10 @@ pub fn both_stores_or_none()
     ensures configuration { newest_tree (stocked []) (alone (put_rows depot (mark depot ∷ []) ∷ put name "m" ∷ oper (put_rows seen three_seen) ∷ [])) 0 Config ≡ [] }
     ensures operational { newest_tree (stocked []) (alone (put_rows depot (mark depot ∷ []) ∷ put name "m" ∷ oper (put_rows seen three_seen) ∷ [])) 0 Oper ≡ [] }
     ensures both_broken { decisions (stocked []) (alone (put_rows depot (mark depot ∷ coded_item 1 7 ++ coded_item 2 7) ∷ oper (put_rows seen three_seen) ∷ [])) ≡ Invalid Config items (Unique 2) ∷ [] }
+{}
+
+/// Where 4,096 receipts are pending a submit is refused, and with one less it has the next receipt.
+pub fn full_pipeline()
+    ensures full { (answered : List Answered) (place : ℕ) → pending answered ≡ 4096 → submitted answered place ≡ Refused PipelineFull }
+    ensures room { (answered : List Answered) (place : ℕ) → pending answered ≡ 4095 → is_spent answered place ≡ false → submitted answered place ≡ Receipt (length (sents answered) + 1) }
 {}

@@ -48,6 +48,9 @@ impl Domain {
         ensures same { IsSame self.old self.new }
         ensures commits { self.new.commits.items ≡ take (number + 1) self.old.commits.items }
     {
-        self.commits.truncate(number as usize + 1);
+        let last = number as usize;
+        if last < self.commits.len() {
+            self.commits.truncate(last + 1);
+        }
     }
 }

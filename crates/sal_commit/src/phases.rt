@@ -64,10 +64,10 @@ pub fn can<'a>(
 /// preCommit: both trees after the submission, where they break no structural rule. Nodes that it touches get the stamp
 /// `fresh`. It takes all memory of the decision, and changes nothing.
 pub fn pre(alloc: Global, ready: Ready, fresh: u64) -> Result<Prepared, PreFault>
-    requires { spec.IsFor ready.domain.entry ready.sub.entry }
+    requires { spec.IsFor ready.domain.now ready.sub.now }
     ensures { MatchResult result
-        (λ prepared. spec.IsNext ready.domain.entry ready.sub.entry prepared.commit × (spec.breached ready.domain.entry ready.sub.entry ≡ None))
-        (λ fault. (fault ≡ PreFault.NoMemory) ⊎ ((o : Decided) × (fault ≡ PreFault.Invalid o) × (spec.breached ready.domain.entry ready.sub.entry ≡ Some o))) }
+        (λ prepared. spec.IsNext ready.entry.domain.now ready.entry.sub.now prepared.commit × (spec.breached ready.entry.domain.now ready.entry.sub.now ≡ None))
+        (λ fault. (fault ≡ PreFault.NoMemory) ⊎ ((o : Decided) × (fault ≡ PreFault.Invalid o) × (spec.breached ready.entry.domain.now ready.entry.sub.now ≡ Some o))) }
 {
     Err(PreFault::NoMemory)
 }

@@ -23,5 +23,5 @@ pub mod opening;
 pub mod reply;
 
 pub use call::{Call, Entry, Log};
-pub use opening::Opening;
+pub use opening::{Device, Opening};
 pub use reply::Reply;

@@ -1,0 +1,20 @@
+-- What a hub keeps of its domains.
+use Rattle.std.specs.Prelude.{◌≡◌, ℕ, ◌<◌, List, length, slice_index_or}
+use Rattle.sal_graft.specs.Kept.{AreKept, opening_in, ops_of}
+use Rattle.sal_commit.specs.declared.domain.Domain.{Domain}
+use Rattle.sal_history.specs.World.{opening_of, table_of}
+use Rattle.sal_history.specs.History.{commits, history, is_live}
+use Rattle.sal_hub.specs.Known.{Known}
+
+-- the domain of this number, with its commits so far
+pub record IsDomain (known : Known) (n : ℕ) (d : Domain) : Type 0 where
+  pub number : d.number ≡ n
+  pub live : d.live ≡ is_live n
+  pub schema : d.schema.value ≡ table_of known.world n
+  pub kept : AreKept d.commits.items
+  pub opening : opening_in d.commits.items ≡ opening_of known.world n
+  pub commits : ops_of d.commits.items ≡ commits (history known.world known.log) n
+
+pub record AreDomains (known : Known) (ds : List Domain) : Type 0 where
+  pub all : length ds ≡ length known.world
+  pub each : (n : ℕ) (d : Domain) → n < length ds → d ≡ slice_index_or ds n d → IsDomain known n d

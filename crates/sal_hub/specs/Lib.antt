@@ -1,0 +1,5 @@
+pub mod Answers
+pub mod Domains
+pub mod Known
+pub mod Openings
+pub mod Tokens

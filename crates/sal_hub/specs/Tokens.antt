@@ -1,0 +1,52 @@
+-- The tokens that a hub has given: transactions and receipts.
+use Rattle.std.specs.Prelude.{◌≡◌, ℕ, ◌<◌, ◌≤◌, List, [], length, Some}
+use Rattle.sal_types.specs.declared.value.Store.{Store}
+use Rattle.sal_rows.specs.declared.op.Op.{Op}
+use Rattle.sal_rows.specs.declared.outcome.Mode.{Mode}
+use Rattle.sal_rows.specs.declared.outcome.Mode.TheVariants.{Ro}
+use Rattle.sal_tree.specs.declared.commit.Pair.{Pair}
+use Rattle.sal_tx.specs.declared.begun.Begun.{Begun}
+use Rattle.sal_tx.specs.declared.tx.Tx.{Tx}
+use Rattle.sal_tx.specs.declared.tx.Tx.TheVariants.{Read, Write}
+use Rattle.sal_tx.specs.Views.{rows_in}
+use Rattle.sal_history.specs.World.{table_of}
+use Rattle.sal_history.specs.History.{base_tree, began_at, history, sents}
+use Rattle.sal_hub.specs.Known.{Known}
+
+abbrev pub begun_of : Tx → Begun
+begun_of (Read tx) = tx.begun
+begun_of (Write tx) = tx.begun
+
+abbrev pub base_of : Tx → Pair
+base_of (Read tx) = tx.base
+base_of (Write tx) = tx.base
+
+abbrev pub mode_of : Tx → Mode
+mode_of (Read tx) = Ro
+mode_of (Write tx) = tx.mode
+
+abbrev pub ops_of : Tx → List Op
+ops_of (Read tx) = []
+ops_of (Write tx) = tx.changes
+
+-- The transaction was begun by the entry at its place: its domain, the number of its base commit and the trees that it
+-- stands on are those that the log gives.
+pub record IsBegun (known : Known) (begun : Begun) (trees : Pair) : Type 0 where
+  pub before : begun.place < length known.log
+  pub began : began_at (history known.world known.log) begun.place ≡ Some (record { domain = begun.domain; commit = begun.base_commit })
+  pub base : (s : Store) → rows_in trees s ≡ base_tree known.world known.log begun.domain begun.place s
+  pub schema : begun.schema.value ≡ table_of known.world begun.domain
+
+abbrev pub IsToken : Known → Tx → Type 0
+IsToken known tx = IsBegun known (begun_of tx) (base_of tx)
+
+-- the transaction that the entry behind the log begins, in this domain and mode, without operations
+pub record IsFresh (known : Known) (asked : ℕ) (under : Mode) (tx : Tx) : Type 0 where
+  pub place : (begun_of tx).place ≡ length known.log
+  pub domain : (begun_of tx).domain ≡ asked
+  pub mode : mode_of tx ≡ under
+  pub ops : ops_of tx ≡ []
+
+-- the number is that of a receipt that was given
+abbrev pub IsGiven : Known → ℕ → Type 0
+IsGiven known receipt = (0 < receipt) × (receipt ≤ length (sents (history known.world known.log)))

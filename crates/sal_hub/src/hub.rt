@@ -1,0 +1,143 @@
+//! The hub.
+ghost use Rattle.std.specs.Prelude.{◌≡◌, ◌≤◌, None, [], IfOk, MatchResult, length};
+ghost use Rattle.sal_types.specs.declared.value.Store.{Store as Of};
+ghost use Rattle.sal_rows.specs.declared.outcome.Outcome.{Outcome as Decided};
+ghost use Rattle.sal_tx.specs.declared.tx.Tx.{Tx as Token};
+ghost use Rattle.sal_tx.specs.Views.{rows_in};
+ghost use Rattle.sal_history.specs.declared.call.Call.TheVariants.{Begin, Submit, Cancel, Settle};
+ghost use Rattle.sal_history.specs.declared.reply.Reply.TheVariants.{Accepted, Begun, Receipt as Numbered, Settled};
+ghost use Rattle.sal_history.specs.History.{commits, history, newest_tree};
+ghost use Rattle.sal_hub.specs.declared.receipt.Receipt.{Receipt as Given};
+ghost use Rattle.sal_hub.specs.Answers.{Calls, CallsOr};
+ghost use Rattle.sal_hub.specs.Domains.{AreDomains};
+ghost use Rattle.sal_hub.specs.Known.{entry_of};
+ghost use Rattle.sal_hub.specs.Openings.{IsFaultOf, fault_of, world_of};
+ghost use Rattle.sal_hub.specs.Tokens.{IsBegun, IsFresh, IsGiven, IsToken, begun_of};
+
+use crate::opening::OpenFault;
+use crate::receipt::Receipt;
+use sal_commit::Domain;
+use sal_history::{Device, Entry};
+use sal_rows::{CallFault, Mode, Outcome};
+use sal_tree::Pair;
+use sal_tx::{Tx, WriteTx};
+use std::alloc::Global;
+use std::marker::Model;
+
+/// How many entries the log has at most.
+pub const MAX_ENTRIES: usize = 1000000;
+
+/// How many submissions are pending at most.
+pub const MAX_PENDING: usize = 4096;
+
+/// The hub: the log of the calls, and what it keeps of them. A contract sees the opening trees of the domains and the log.
+#[derive(Drop)]
+pub struct Hub {
+    domains: Vec<Domain>,
+    log: Vec<Entry>,
+}
+
+impl Model for Hub {
+    ghost use Rattle.std.specs.Prelude.{◌≡◌, true, false, []};
+    ghost use Rattle.sal_hub.specs.Known.{Known};
+    ghost use Rattle.std.specs.Coded.{codes};
+    ghost use Rattle.sal_restrict.specs.contracts.yang_type.YangType as e;
+
+    ghost Value = { Known };
+
+    ghost coded = { Prim.hlevel (codes, e.the_row.coded) };
+
+    ghost view = { λ h. record { world = []; log = h.log.items } };
+
+    ghost invariant = { λ h. true ≡ false };
+}
+
+impl Hub {
+    /// A hub without calls over the devices, of which the first is the controller's own domain.
+    pub fn open(alloc: Global, devices: Vec<Device>) -> Result<Hub, OpenFault>
+        requires some { 1 ≤ length devices.items }
+        requires few { length devices.items ≤ 64 }
+        ensures { MatchResult result (λ hub. (fault_of (world_of devices.items) ≡ None) × (hub ≡ record { world = world_of devices.items; log = [] })) (IsFaultOf (world_of devices.items)) }
+    {
+        Err(OpenFault::NoMemory)
+    }
+
+    /// The log of the calls so far.
+    pub fn log(&self) -> &[Entry]
+        ensures { result.now ≡ self.now.log }
+    {
+        &self.log
+    }
+
+    /// The domains, by number.
+    pub fn domains(&self) -> &[Domain]
+        ensures { AreDomains self.now result.now }
+    {
+        &self.domains
+    }
+
+    /// How many commits the controller's own domain has.
+    pub fn newest(&self) -> u64
+        ensures { result ≡ length (commits (history self.now.world self.now.log) 0) }
+    {
+        0
+    }
+
+    /// The newest trees of the controller's own domain.
+    pub fn trees(&self) -> &Pair
+        ensures { (s : Of) → rows_in result.now s ≡ newest_tree self.now.world self.now.log 0 s }
+    {
+        &self.domains[0].commits[0].trees
+    }
+
+    /// Begins a transaction of the domain in the mode.
+    pub fn begin(
+        &mut self,
+        alloc: Global,
+        client: u32,
+        domain: u32,
+        mode: Mode,
+    ) -> Result<Tx, CallFault>
+        ensures answer { Calls self.old self.new (entry_of self.old client (Begin domain mode)) (λ (tx : Token). Begun (begun_of tx).base_commit (begun_of tx).on) result }
+        ensures token { IfOk result (IsToken self.new) }
+        ensures fresh { IfOk result (IsFresh self.old domain mode) }
+    {
+        Err(CallFault::NoMemory)
+    }
+
+    /// Submits the transaction, which waits then to be decided. A refused transaction is given back.
+    pub fn submit(
+        &mut self,
+        alloc: Global,
+        client: u32,
+        tx: WriteTx,
+    ) -> Result<Receipt, (WriteTx, CallFault)>
+        requires token { IsBegun self.old tx.begun tx.base }
+        ensures answer { CallsOr self.old self.new (entry_of self.old client (Submit tx.begun.place tx.changes)) (λ (receipt : Given). Numbered receipt.number) tx result }
+        ensures given { IfOk result (λ receipt. IsGiven self.new receipt.number) }
+    {
+        Err((tx, CallFault::NoMemory))
+    }
+
+    /// Gives the transaction up.
+    pub fn cancel(&mut self, alloc: Global, client: u32, tx: Tx) -> Result<(), (Tx, CallFault)>
+        requires token { IsToken self.old tx }
+        ensures answer { CallsOr self.old self.new (entry_of self.old client (Cancel (begun_of tx).place)) (λ _. Accepted) tx result }
+    {
+        Err((tx, CallFault::NoMemory))
+    }
+
+    /// Decides what is pending, up to and including the receipt, and answers its outcome. Where memory is wanting, all that
+    /// was pending stays pending.
+    pub fn settle(
+        &mut self,
+        alloc: Global,
+        client: u32,
+        receipt: Receipt,
+    ) -> Result<Outcome, CallFault>
+        requires given { IsGiven self.old receipt.number }
+        ensures answer { Calls self.old self.new (entry_of self.old client (Settle receipt.number)) (λ (o : Decided). Settled 0 o) result }
+    {
+        Err(CallFault::NoMemory)
+    }
+}

@@ -1,0 +1,13 @@
+//! Laws of the tokens. The function does nothing; its contract is the law.
+ghost use Rattle.std.specs.Prelude.{ℕ};
+ghost use Rattle.sal_history.specs.declared.call.Entry.{Entry};
+ghost use Rattle.sal_tree.specs.declared.commit.Pair.{Pair};
+ghost use Rattle.sal_tx.specs.declared.begun.Begun.{Begun};
+ghost use Rattle.sal_hub.specs.Known.{Known, more};
+ghost use Rattle.sal_hub.specs.Tokens.{IsBegun, IsGiven};
+
+/// A token stays one when the log grows: transactions are never less begun, receipts never less given.
+pub fn tokens_last()
+    ensures begun { (known : Known) (e : Entry) (begun : Begun) (base : Pair) → IsBegun known begun base → IsBegun (more known e) begun base }
+    ensures given { (known : Known) (e : Entry) (receipt : ℕ) → IsGiven known receipt → IsGiven (more known e) receipt }
+{}

@@ -54,25 +54,27 @@ broken_in s b = option_map (λ (x : Breach). Invalid s x.path x.rule) b
 abbrev clashing : List Op → Option Clash → Option Outcome
 clashing ops o = option_and_then (λ c. option_map (conflict_of c) (slice_get ops c.op)) o
 
-abbrev decided : List Op → Option Clash → Option Breach → Option Breach → ℕ → Outcome
-decided ops o config oper n = unwrap_or (option_or (clashing ops o) (option_or (broken_in Config config) (broken_in Oper oper))) (Done n)
+abbrev decided : Option Outcome → Option Breach → Option Breach → ℕ → Outcome
+decided conflict config oper n = unwrap_or (option_or conflict (option_or (broken_in Config config) (broken_in Oper oper))) (Done n)
 
 -- a breach is no conflict
-no_conflict : (ops : List Op) (config oper : Option Breach) (n : ℕ) (store : Store) (path : List Step) (kind : ClashKind) (commit : ℕ) → decided ops None config oper n ≡ Conflict store path kind commit → ⊥
-no_conflict ops None None n store path kind commit e = cc
-no_conflict ops None (Some b) n store path kind commit e = cc
-no_conflict ops (Some b) oper n store path kind commit e = cc
+no_conflict : (config oper : Option Breach) (n : ℕ) (store : Store) (path : List Step) (kind : ClashKind) (commit : ℕ)
+    → decided None config oper n ≡ Conflict store path kind commit → ⊥
+no_conflict None None n store path kind commit e = cc
+no_conflict None (Some b) n store path kind commit e = cc
+no_conflict (Some b) oper n store path kind commit e = cc
 
 -- nothing is broken where a decision is done
-sound : (config oper : Option Breach) (n commit : ℕ) → unwrap_or (option_or (broken_in Config config) (broken_in Oper oper)) (Done n) ≡ Done commit → (config ≡ None) × (oper ≡ None)
+sound : (config oper : Option Breach) (n commit : ℕ) → decided None config oper n ≡ Done commit → (config ≡ None) × (oper ≡ None)
 sound None None n commit e = (refl, refl)
 sound None (Some b) n commit e = cc
 sound (Some b) oper n commit e = cc
 
-none_broken : (ops : List Op) (o : Option Clash) (config oper : Option Breach) (n commit : ℕ) → decided ops o config oper n ≡ Done commit → (config ≡ None) × (oper ≡ None)
+none_broken : (ops : List Op) (o : Option Clash) (config oper : Option Breach) (n commit : ℕ)
+    → decided (clashing ops o) config oper n ≡ Done commit → (config ≡ None) × (oper ≡ None)
 none_broken ops None config oper n commit = sound config oper n commit
 none_broken ops (Some c) config oper n commit =
-    elim (slice_get ops c.op) as (λ (x : Option Op). unwrap_or (option_or (option_map (conflict_of c) x) (option_or (broken_in Config config) (broken_in Oper oper))) (Done n) ≡ Done commit → (config ≡ None) × (oper ≡ None)) [
+    elim (slice_get ops c.op) as (λ (x : Option Op). decided (option_map (conflict_of c) x) config oper n ≡ Done commit → (config ≡ None) × (oper ≡ None)) [
       | None ↦ sound config oper n commit
       | Some op ↦ λ e. cc
     ]
@@ -86,20 +88,25 @@ named world commits s store path kind commit base_le =
     let span : Span = record { from = s.base.commit; to = length commits } in
     let config = breach (table_of world s.base.domain) Config (apply_ops (tip opening commits Config) Config s.ops) in
     let oper = breach (table_of world s.base.domain) Oper (apply_ops (tip opening commits Oper) Oper s.ops) in
-    elim (clash opening commits base (span ∷ []) s.ops) as (λ (o : Option Clash). clash opening commits base (span ∷ []) s.ops ≡ o → decided s.ops o config oper (length commits + 1) ≡ Conflict store path kind commit → IsLaterTouch world commits s store path commit × IsOwnPlace s store path) [
-      | None ↦ λ e h. absurd (no_conflict s.ops config oper (length commits + 1) store path kind commit h)
+    elim (clash opening commits base (span ∷ []) s.ops) as (λ (o : Option Clash). clash opening commits base (span ∷ []) s.ops ≡ o
+    → decided (clashing s.ops o) config oper (length commits + 1) ≡ Conflict store path kind commit
+    → IsLaterTouch world commits s store path commit × IsOwnPlace s store path) [
+      | None ↦ λ e h. absurd (no_conflict config oper (length commits + 1) store path kind commit h)
       | Some c ↦ λ e h.
           let found = names_a_later_commit opening commits base span [] s.ops c (base_le, refl) (λ t. refl) e in
           let op : Op = found.0 in
-          let named_here : IsNamedIn opening commits (graft.conflict_of op c) span = any_of_one (IsNamedIn opening commits (graft.conflict_of op c)) span found.3 in
+          let here : IsNamedIn opening commits (graft.conflict_of op c) span =
+          any_of_one (IsNamedIn opening commits (graft.conflict_of op c)) span found.3 in
           let is : conflict_of c op ≡ Conflict store path kind commit =
-          sym (ap (λ (x : Option Op). unwrap_or (option_or (option_map (conflict_of c) x) (option_or (broken_in Config config) (broken_in Oper oper))) (Done (length commits + 1))) found.1) ∙ h in
+          sym (ap (λ (x : Option Op). decided (option_map (conflict_of c) x) config oper (length commits + 1)) found.1) ∙ h in
           let at_store : op.store ≡ store = cc in
           let at_path : take c.depth op.path ≡ path = cc in
           let at_commit : c.commit ≡ commit = cc in
-          let same : graft.conflict_of op c ≡ record { store = store; path = path; kind = c.kind; commit = commit } = λ i. record { store = at_store i; path = at_path i; kind = c.kind; commit = at_commit i } in (
-            subst (λ (d : Found). IsNamedIn opening commits d span) same named_here,
-            any_get (λ (x : Op). (x.store ≡ store) × IsTrue (is_prefix path x.path)) s.ops c.op op found.1 (at_store, subst (λ (q : List Step). is_prefix q op.path ≡ true) at_path (prefix-take c.depth op.path)),
+          let same : graft.conflict_of op c ≡ record { store = store; path = path; kind = c.kind; commit = commit } =
+          λ i. record { store = at_store i; path = at_path i; kind = c.kind; commit = at_commit i } in
+          let above : is_prefix path op.path ≡ true = subst (λ (q : List Step). is_prefix q op.path ≡ true) at_path (prefix-take c.depth op.path) in (
+            subst (λ (d : Found). IsNamedIn opening commits d span) same here,
+            any_get (λ (x : Op). (x.store ≡ store) × IsTrue (is_prefix path x.path)) s.ops c.op op found.1 (at_store, above),
           )
     ] refl
 

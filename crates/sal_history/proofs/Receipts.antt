@@ -64,7 +64,8 @@ IsNamed world commits s store path commit = IsLaterTouch world commits s store p
 record Known (world : List Domain) (ss : List Sent) (os : List Outcome) : Type 0 where
   within : length os ≤ length ss
   bases : (i : ℕ) (s : Sent) → slice_get ss i ≡ Some s → s.base.commit ≤ length (done_ops s.base.domain ss os)
-  conflicts : (i : ℕ) (s : Sent) (store : Store) (path : List Step) (kind : ClashKind) (commit : ℕ) → slice_get ss i ≡ Some s → slice_get os i ≡ Some (Conflict store path kind commit) → IsNamed world (done_ops s.base.domain ss (take i os)) s store path commit
+  conflicts : (i : ℕ) (s : Sent) (store : Store) (path : List Step) (kind : ClashKind) (commit : ℕ)
+      → slice_get ss i ≡ Some s → slice_get os i ≡ Some (Conflict store path kind commit) → IsNamed world (done_ops s.base.domain ss (take i os)) s store path commit
 
 module _ (world : List Domain) where
   -- one submission more
@@ -96,7 +97,10 @@ module _ (world : List Domain) where
   Known-decide ss os s was next =
       record {
         within = omega (arith, slice_get_within ss (length os) s next, length-append os (o ∷ []));
-        bases = λ i t at. let grown : length (done_ops t.base.domain ss os) ≤ length (done_ops t.base.domain ss (os ++ o ∷ [])) = subst (λ (us : List Sent). length (done_ops t.base.domain ss os) ≤ length (done_ops t.base.domain us (os ++ o ∷ []))) (append-nil ss) (done_ops-grows t.base.domain ss [] os (o ∷ [])) in omega (arith, grown, was.bases i t at);
+        bases = λ i t at.
+            let grown : length (done_ops t.base.domain ss os) ≤ length (done_ops t.base.domain ss (os ++ o ∷ [])) =
+            subst (λ (us : List Sent). length (done_ops t.base.domain ss os) ≤ length (done_ops t.base.domain us (os ++ o ∷ []))) (append-nil ss) (done_ops-grows t.base.domain ss [] os (o ∷ [])) in
+            omega (arith, grown, was.bases i t at);
         conflicts = λ i t store path kind commit at is. elim (last_or_before os o (Conflict store path kind commit) i is) [
           | inl old ↦
               let inside : i < length os = slice_get_within os i (Conflict store path kind commit) old in
@@ -106,7 +110,8 @@ module _ (world : List Domain) where
               let same : s ≡ t = same_Some s t (sym next ∙ ap (slice_get ss) (sym w.0) ∙ at) in
               let front : take i (os ++ o ∷ []) ≡ os = ap (λ k. take k (os ++ o ∷ [])) w.0 ∙ take-append_seam os (o ∷ []) in
               let own : IsNamed world (done_ops s.base.domain ss os) s store path commit = named world (done_ops s.base.domain ss os) s store path kind commit (was.bases (length os) s next) w.1 in
-              subst (λ (ps : List Outcome). IsNamed world (done_ops t.base.domain ss ps) t store path commit) (sym front) (subst (λ (u : Sent). IsNamed world (done_ops u.base.domain ss os) u store path commit) same own)
+              subst (λ (ps : List Outcome). IsNamed world (done_ops t.base.domain ss ps) t store path commit) (sym front)
+              (subst (λ (u : Sent). IsNamed world (done_ops u.base.domain ss os) u store path commit) same own)
         ];
       }
     where
@@ -133,7 +138,8 @@ module _ (world : List Domain) where
 
   module _ (answered : List Answered) (was : IsSound answered) where
     -- the base of a submission
-    base_le : (found : Option Base) (place : ℕ) → began_at answered place ≡ found → (unwrap_or found (record { domain = 0; commit = 0 })).commit ≤ length (commits answered (unwrap_or found (record { domain = 0; commit = 0 })).domain)
+    base_le : (found : Option Base) (place : ℕ) → began_at answered place ≡ found
+        → (unwrap_or found (record { domain = 0; commit = 0 })).commit ≤ length (commits answered (unwrap_or found (record { domain = 0; commit = 0 })).domain)
     base_le None place at = omega arith
     base_le (Some b) place at = was.begun place b at
 
@@ -151,11 +157,14 @@ module _ (world : List Domain) where
     Known-call (Begin domain mode) = unsent
     Known-call (Submit place ops) = Known-sent place ops (submitted answered place)
     Known-call (Cancel place) = unsent
-    Known-call (Settle n) = subst (λ (ss : List Sent). Known world ss (outcomes answered ++ decided_by world answered (Settle n))) (sym (append-nil (sents answered))) (Known-next (n - length (outcomes answered)) (sents answered) (outcomes answered) was.known)
+    Known-call (Settle n) =
+        subst (λ (ss : List Sent). Known world ss (outcomes answered ++ decided_by world answered (Settle n))) (sym (append-nil (sents answered)))
+        (Known-next (n - length (outcomes answered)) (sents answered) (outcomes answered) was.known)
 
     new_base : (call : Call) (b : Base) → began call (reply_to world answered call) ≡ Some b → b.commit ≤ length (commits answered b.domain)
     new_base (Begin domain mode) b =
-        elim (is_live domain) as (λ live. began (Begin domain mode) (if live then Begun (length (commits answered domain)) None else Refused (NoDomain domain)) ≡ Some b → b.commit ≤ length (commits answered b.domain)) [
+        elim (is_live domain) as (λ live. began (Begin domain mode) (if live then Begun (length (commits answered domain)) None else Refused (NoDomain domain)) ≡ Some b
+        → b.commit ≤ length (commits answered b.domain)) [
           | true ↦ λ e. subst (λ (c : Base). c.commit ≤ length (commits answered c.domain)) (same_Some (record { domain = domain; commit = length (commits answered domain) }) b e) (omega arith)
           | false ↦ λ e. cc
         ]
@@ -177,7 +186,8 @@ module _ (world : List Domain) where
 
       grown : (domain : ℕ) → length (commits answered domain) ≤ length (commits (answered ++ now ∷ []) domain)
       grown domain =
-          let both : commits (answered ++ now ∷ []) domain ≡ done_ops domain (sents answered ++ option_to_list (sent_by answered e.call (reply_to world answered e.call))) (outcomes answered ++ decided_by world answered e.call) = λ i. done_ops domain (sents-now i) (outcomes-now i) in
+          let both : commits (answered ++ now ∷ []) domain ≡
+          done_ops domain (sents answered ++ option_to_list (sent_by answered e.call (reply_to world answered e.call))) (outcomes answered ++ decided_by world answered e.call) = λ i. done_ops domain (sents-now i) (outcomes-now i) in
           subst (λ (cs : List (List Op)). length (commits answered domain) ≤ length cs) (sym both)
           (done_ops-grows domain (sents answered) (option_to_list (sent_by answered e.call (reply_to world answered e.call))) (outcomes answered) (decided_by world answered e.call))
 

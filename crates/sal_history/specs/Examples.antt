@@ -1,7 +1,7 @@
--- Worked examples: two clients, the leafs a and b of a container box, and the operations on them.
+-- Worked examples: clients and their calls; the leafs a and b of a container box, and the operations on them.
 use Rattle.std.specs.Prelude.{ℕ, false, List, [], ◌∷◌, codes, map, Some, None}
 use Prim.Native.String.{String}
-use Rattle.sal_types.specs.declared.value.Store.TheVariants.{Config}
+use Rattle.sal_types.specs.declared.value.Store.TheVariants.{Config, Oper}
 use Rattle.sal_types.specs.declared.value.Atom.TheVariants.{Text}
 use Rattle.sal_types.specs.declared.value.Step.{Step}
 use Rattle.sal_types.specs.declared.value.Step.TheVariants.{Node}
@@ -10,6 +10,7 @@ use Rattle.sal_types.specs.declared.row.Row.{Row}
 use Rattle.sal_rows.specs.declared.op.Op.{Op}
 use Rattle.sal_rows.specs.declared.op.Act.TheVariants.{Put, Merge, Delete}
 use Rattle.sal_rows.specs.declared.outcome.Mode.TheVariants.{Ro, Rw}
+use Rattle.sal_rows.specs.declared.outcome.Outcome.{Outcome}
 use Rattle.sal_schema.specs.declared.kind.Kind.TheVariants.{Container, Leaf as Scalar}
 use Rattle.sal_schema.specs.declared.table.SchemaTable.{SchemaTable}
 use Rattle.sal_check.specs.Examples.{node, table}
@@ -17,10 +18,18 @@ use Rattle.sal_history.specs.declared.call.Call.{Call}
 use Rattle.sal_history.specs.declared.call.Call.TheVariants.{Begin, Submit, Settle}
 use Rattle.sal_history.specs.declared.call.Entry.{Entry}
 use Rattle.sal_history.specs.declared.reply.Reply.{Reply}
-use Rattle.sal_history.specs.History.{history}
+use Rattle.sal_history.specs.History.{history, outcomes}
 use Rattle.sal_history.specs.World.{Domain}
 
--- the leafs a and b of the container box
+-- ---- boxes
+
+-- a container box with the leafs a and b; the rules look at no types, so the nodes of the tables have none
+abbrev pub boxes : SchemaTable
+boxes = table (node None (Container false) ∷ node (Some 0) Scalar ∷ node (Some 0) Scalar ∷ [])
+
+abbrev pub box : List Step
+box = Node 0 ∷ []
+
 abbrev pub a : List Step
 a = Node 0 ∷ Node 1 ∷ []
 
@@ -31,22 +40,36 @@ b = Node 0 ∷ Node 2 ∷ []
 abbrev pub leaf : List Step → String → Row
 leaf path text = record { path = path; cell = Leaf (record { member = 0; atom = Text (codes text) }) }
 
+-- a world of one domain with these rows in its configuration, or in its operational tree
+abbrev pub opened : List Row → List Domain
+opened rows = record { table = boxes; opening = record { config = rows; oper = [] } } ∷ []
+
+abbrev pub opened_oper : List Row → List Domain
+opened_oper rows = record { table = boxes; opening = record { config = []; oper = rows } } ∷ []
+
+-- ---- operations
+
+-- on the configuration: a put of rows, of a leaf alone, and the others
+abbrev pub put_rows : List Step → List Row → Op
+put_rows path rows = record { store = Config; path = path; act = Put rows }
+
 abbrev pub put : List Step → String → Op
-put path text = record { store = Config; path = path; act = Put (leaf path text ∷ []) }
+put path text = put_rows path (leaf path text ∷ [])
+
+abbrev pub merge_rows : List Step → List Row → Op
+merge_rows path rows = record { store = Config; path = path; act = Merge rows }
 
 abbrev pub merge : List Step → String → Op
-merge path text = record { store = Config; path = path; act = Merge (leaf path text ∷ []) }
+merge path text = merge_rows path (leaf path text ∷ [])
 
 abbrev pub delete : List Step → Op
 delete path = record { store = Config; path = path; act = Delete }
 
--- a container box with the leafs a and b
-abbrev pub boxes : SchemaTable
-boxes = table (node None (Container false) ∷ node (Some 0) Scalar ∷ node (Some 0) Scalar ∷ [])
+-- the same operation on the operational store
+abbrev pub oper : Op → Op
+oper op = record { store = Oper; path = op.path; act = op.act }
 
--- a world of one domain with these rows in its configuration
-abbrev pub opened : List Row → List Domain
-opened rows = record { table = boxes; opening = record { config = rows; oper = [] } } ∷ []
+-- ---- calls
 
 -- calls of one client after another, each with its client; the numbers of entries tell nothing here
 abbrev pub by : ℕ → Call → Entry
@@ -58,17 +81,27 @@ begin = Begin 0 Rw
 abbrev pub snapshot : Call
 snapshot = Begin 0 Ro
 
--- the replies to a log
+-- the replies to a log, and the outcomes that it decides
 abbrev pub replies : List Domain → List Entry → List Reply
 replies world log = map (λ answered. answered.reply) (history world log)
 
+abbrev pub decisions : List Domain → List Entry → List Outcome
+decisions world log = outcomes (history world log)
+
 -- Client 0 begins and client 1 begins; client 0 submits and settles, then client 1 does.
+abbrev pub met : List Op → List Op → List Entry
+met first second =
+    by 0 begin ∷ by 1 begin ∷ by 0 (Submit 0 first) ∷ by 0 (Settle 1) ∷ by 1 (Submit 1 second) ∷ by 1 (Settle 2) ∷ []
+
 abbrev pub crossed : Op → Op → List Entry
-crossed first second =
-    by 0 begin ∷ by 1 begin ∷ by 0 (Submit 0 (first ∷ [])) ∷ by 0 (Settle 1) ∷ by 1 (Submit 1 (second ∷ [])) ∷ by 1 (Settle 2) ∷ []
+crossed first second = met (first ∷ []) (second ∷ [])
 
 -- Client 0 begins; client 1 makes commits of the two operations; then client 0 submits and settles.
 abbrev pub overtaken : Op → Op → Op → List Entry
 overtaken own first second =
     by 0 begin ∷ by 1 begin ∷ by 1 (Submit 1 (first ∷ [])) ∷ by 1 (Settle 1) ∷ by 1 begin ∷ by 1 (Submit 4 (second ∷ [])) ∷ by 1 (Settle 2)
     ∷ by 0 (Submit 0 (own ∷ [])) ∷ by 0 (Settle 3) ∷ []
+
+-- One client begins, submits and settles.
+abbrev pub alone : List Op → List Entry
+alone ops = by 0 begin ∷ by 0 (Submit 0 ops) ∷ by 0 (Settle 1) ∷ []

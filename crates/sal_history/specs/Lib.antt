@@ -1,3 +1,4 @@
+pub mod Depots
 pub mod Examples
 pub mod History
 pub mod Laws

@@ -2,14 +2,18 @@
 //! one log, and the proof computes it.
 #![tactic(auto, unfolding(sal_schema::specs::Table::closest, sal_check::specs::Breaches::first, sal_check::specs::Contexts::through_plain, sal_check::specs::Contexts::from_list, sal_check::specs::Rules::is_there))]
 
-ghost use Rattle.std.specs.Prelude.{◌≡◌, [], ◌∷◌};
-ghost use Rattle.sal_types.specs.declared.value.Store.TheVariants.{Config};
-ghost use Rattle.sal_rows.specs.declared.outcome.ClashKind.TheVariants.{Changed, Created};
-ghost use Rattle.sal_rows.specs.declared.outcome.Outcome.TheVariants.{Done, Conflict};
-ghost use Rattle.sal_history.specs.declared.call.Call.TheVariants.{Submit, Settle};
-ghost use Rattle.sal_history.specs.declared.reply.Reply.TheVariants.{Begun, Receipt, Settled};
-ghost use Rattle.sal_history.specs.History.{base_tree, newest_tree, view};
-ghost use Rattle.sal_history.specs.Examples.{a, b, leaf, put, merge, delete, opened, by, begin, snapshot, replies, crossed, overtaken};
+ghost use Rattle.std.specs.Prelude.{◌≡◌, ◌+◌, ℕ, false, length, List, [], ◌∷◌, ◌++◌};
+ghost use Rattle.sal_types.specs.declared.value.Store.TheVariants.{Config, Oper};
+ghost use Rattle.sal_rows.specs.declared.outcome.CallFault.TheVariants.{PipelineFull, TxSpent};
+ghost use Rattle.sal_rows.specs.declared.outcome.ClashKind.TheVariants.{Changed, Created, Deleted};
+ghost use Rattle.sal_rows.specs.declared.outcome.Outcome.TheVariants.{Done, Conflict, Invalid};
+ghost use Rattle.sal_rows.specs.declared.outcome.Rule.TheVariants.{MaxElements, Unique};
+ghost use Rattle.sal_check.specs.Examples.{mark, held};
+ghost use Rattle.sal_history.specs.declared.call.Call.TheVariants.{Submit, Cancel, Settle};
+ghost use Rattle.sal_history.specs.declared.reply.Reply.TheVariants.{Begun, Accepted, Receipt, Settled, Refused};
+ghost use Rattle.sal_history.specs.History.{Answered, base_tree, is_spent, newest_tree, pending, sents, submitted, view};
+ghost use Rattle.sal_history.specs.Examples.{a, b, box, leaf, put, put_rows, merge, merge_rows, delete, oper, opened, opened_oper, by, begin, snapshot, replies, decisions, met, crossed, overtaken, alone};
+ghost use Rattle.sal_history.specs.Depots.{stocked, depot, name, items, item, code, note, plain_item, coded_item, seen, three_seen};
 
 /// A log without entries: no replies, and the newest trees are the opening ones.
 pub fn empty()
@@ -78,4 +82,78 @@ pub fn write_skew_accepted()
 pub fn one_settle_for_two()
     ensures { replies (opened []) (by 0 begin ∷ by 1 begin ∷ by 0 (Submit 0 (put a "x" ∷ [])) ∷ by 1 (Submit 1 (put a "y" ∷ [])) ∷ by 1 (Settle 2) ∷ by 0 (Settle 1) ∷ [])
         ≡ Begun 0 None ∷ Begun 0 None ∷ Receipt 1 ∷ Receipt 2 ∷ Settled 0 (Conflict Config a Created 1) ∷ Settled 0 (Done 1) ∷ [] }
+{}
+
+/// A transaction is submitted once, and not after it was cancelled; to cancel is accepted.
+pub fn spent()
+    ensures submitted_twice { replies (opened []) (by 0 begin ∷ by 0 (Submit 0 (put a "x" ∷ [])) ∷ by 0 (Submit 0 (put a "x" ∷ [])) ∷ [])
+        ≡ Begun 0 None ∷ Receipt 1 ∷ Refused TxSpent ∷ [] }
+    ensures cancelled { replies (opened []) (by 0 begin ∷ by 0 (Cancel 0) ∷ by 0 (Submit 0 (put a "x" ∷ [])) ∷ [])
+        ≡ Begun 0 None ∷ Accepted ∷ Refused TxSpent ∷ [] }
+    ensures other { replies (opened []) (by 0 begin ∷ by 0 begin ∷ by 0 (Cancel 0) ∷ by 0 (Submit 1 (put a "x" ∷ [])) ∷ [])
+        ≡ Begun 0 None ∷ Begun 0 None ∷ Accepted ∷ Receipt 1 ∷ [] }
+{}
+
+/// Created, changed and deleted in the configuration, by what another did there.
+pub fn kinds_in_the_configuration()
+    ensures created { decisions (opened []) (crossed (put a "x") (put a "y")) ≡ Done 1 ∷ Conflict Config a Created 1 ∷ [] }
+    ensures changed { decisions (opened (leaf a "o" ∷ [])) (crossed (merge a "x") (put a "y")) ≡ Done 1 ∷ Conflict Config a Changed 1 ∷ [] }
+    ensures deleted { decisions (opened (leaf a "o" ∷ [])) (crossed (delete a) (delete a)) ≡ Done 1 ∷ Conflict Config a Deleted 1 ∷ [] }
+{}
+
+/// The same in the operational store; what was done in the other store does not count.
+pub fn kinds_in_the_operational_store()
+    ensures created { decisions (opened []) (crossed (oper (put a "x")) (oper (put a "y"))) ≡ Done 1 ∷ Conflict Oper a Created 1 ∷ [] }
+    ensures changed { decisions (opened_oper (leaf a "o" ∷ [])) (crossed (oper (merge a "x")) (oper (put a "y"))) ≡ Done 1 ∷ Conflict Oper a Changed 1 ∷ [] }
+    ensures deleted { decisions (opened_oper (leaf a "o" ∷ [])) (crossed (oper (delete a)) (oper (delete a))) ≡ Done 1 ∷ Conflict Oper a Deleted 1 ∷ [] }
+    ensures other_store { decisions (opened []) (crossed (put a "x") (oper (put a "y"))) ≡ Done 1 ∷ Done 2 ∷ [] }
+{}
+
+/// A leaf that a transaction makes and deletes again is a touch of the container around it.
+pub fn a_row_that_came_and_went()
+    ensures { decisions (opened (leaf a "o" ∷ [])) (met (put b "x" ∷ delete b ∷ []) (put_rows box (leaf a "z" ∷ []) ∷ []))
+        ≡ Done 1 ∷ Conflict Config box Changed 1 ∷ [] }
+{}
+
+/// A put below a container that another deleted: the container is named.
+pub fn deleted_parent()
+    ensures { decisions (stocked (mark depot ∷ [])) (crossed (delete depot) (put name "m")) ≡ Done 1 ∷ Conflict Config depot Deleted 1 ∷ [] }
+{}
+
+/// A put that an earlier delete of the transaction covers still needs its parent.
+pub fn parent_of_a_covered_put()
+    ensures { decisions (stocked (mark depot ∷ [])) (met (delete depot ∷ []) (delete (item 1) ∷ put_rows (item 1) (plain_item 1) ∷ []))
+        ≡ Done 1 ∷ Conflict Config depot Deleted 1 ∷ [] }
+{}
+
+/// A parent that the transaction itself sets before is there again.
+pub fn a_parent_that_the_transaction_sets()
+    ensures { decisions (stocked (mark depot ∷ [])) (met (delete depot ∷ []) (merge_rows depot (mark depot ∷ []) ∷ put name "m" ∷ []))
+        ≡ Done 1 ∷ Done 2 ∷ [] }
+{}
+
+/// Two transactions put different leafs of one list entry: both are done.
+pub fn different_leafs_of_one_entry()
+    ensures { decisions (stocked (mark depot ∷ plain_item 1)) (met (put_rows (code 1) (held (code 1) 7 ∷ []) ∷ []) (put_rows (note 1) (held (note 1) 8 ∷ []) ∷ []))
+        ≡ Done 1 ∷ Done 2 ∷ [] }
+{}
+
+/// Two transactions give two items the same code: no path conflicts, and the second breaks the rule.
+pub fn unique_over_two_commits()
+    ensures { decisions (stocked (mark depot ∷ [])) (met (put_rows (item 1) (coded_item 1 7) ∷ []) (put_rows (item 2) (coded_item 2 7) ∷ []))
+        ≡ Done 1 ∷ Invalid Config items (Unique 2) ∷ [] }
+{}
+
+/// Where the operational store would break a rule, neither store changes; the configuration is judged first.
+pub fn both_stores_or_none()
+    ensures outcome { decisions (stocked []) (alone (put_rows depot (mark depot ∷ []) ∷ put name "m" ∷ oper (put_rows seen three_seen) ∷ [])) ≡ Invalid Oper seen (MaxElements 7) ∷ [] }
+    ensures configuration { newest_tree (stocked []) (alone (put_rows depot (mark depot ∷ []) ∷ put name "m" ∷ oper (put_rows seen three_seen) ∷ [])) 0 Config ≡ [] }
+    ensures operational { newest_tree (stocked []) (alone (put_rows depot (mark depot ∷ []) ∷ put name "m" ∷ oper (put_rows seen three_seen) ∷ [])) 0 Oper ≡ [] }
+    ensures both_broken { decisions (stocked []) (alone (put_rows depot (mark depot ∷ coded_item 1 7 ++ coded_item 2 7) ∷ oper (put_rows seen three_seen) ∷ [])) ≡ Invalid Config items (Unique 2) ∷ [] }
+{}
+
+/// Where 4,096 receipts are pending a submit is refused, and with one less it has the next receipt.
+pub fn full_pipeline()
+    ensures full { (answered : List Answered) (place : ℕ) → pending answered ≡ 4096 → submitted answered place ≡ Refused PipelineFull }
+    ensures room { (answered : List Answered) (place : ℕ) → pending answered ≡ 4095 → is_spent answered place ≡ false → submitted answered place ≡ Receipt (length (sents answered) + 1) }
 {}

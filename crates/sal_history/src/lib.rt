@@ -1,19 +1,35 @@
 //! The log of shared calls and what it means: the definitions on which every claim of the broker rests.
 //!
-//! | type | what it is |
+//! | item | what it is |
 //! |---|---|
 //! | `Call`, `Entry`, `Log` | a shared call; a call with its client; the calls in order |
 //! | `Reply` | what a shared call is answered |
-//! | `Opening` | a domain's trees before the first commit |
+//! | `Device`, `Opening` | a domain's schema with its opening trees; its trees before the first commit |
+//! | `examples` | functions that do nothing, each with worked examples of a log's meaning as its contract |
 //! | `laws` | functions that do nothing, each with a law of the log's meaning as its contract |
 //!
-//! `specs/History` answers a log entry by entry: receipts, outcomes, commits, trees, base and view of a transaction.
-//! It keeps the list of calls and nothing else: every tree is computed from the opening, every conflict by looking
-//! through the later commits. `examples` has worked examples, each proved by computing it.
+//! `specs/History` answers a log entry by entry: receipts, outcomes, commits, trees, base and view of a transaction. It
+//! keeps the list of calls and nothing else: every tree is computed from the opening, every conflict by looking through the
+//! later commits. What it says:
 //!
-//! What a refused client is told. In each log, the path that a receipt's conflict names is one that its transaction puts
-//! or deletes (`laws::conflicts_name_an_own_write`), and the commit that it names was done before that receipt, came
-//! after the base of its transaction, and touched that path (`laws::conflicts_name_a_later_commit`).
+//! - The world is a list of domains, each with the table of its schema and its opening trees (`specs/World`). Domain 0 is
+//!   live, and a transaction cannot begin in any other.
+//! - A transaction stands on its domain's newest commit when it begins, and sees that commit's trees under its own writes.
+//! - A submission has the next receipt. It is refused where 4,096 receipts are pending, which is to say not decided, and
+//!   else where its transaction is spent, which is to say submitted or cancelled before. To cancel is accepted.
+//! - A settle decides the pending receipts up to its own, in order, and answers with that one's outcome.
+//! - An outcome is decided at the domain's newest commit (`specs/Outcome`), as the first of these that applies. A conflict
+//!   with a commit after the base names the store, the place, how that differs, and the commit (`sal_graft`). A breach of
+//!   a structural rule in the configuration after the operations, and else in the operational tree, names the store, the
+//!   path and the rule (`sal_check`). Or it is done: both stores change together, as the next commit.
+//!
+//! What a refused client is told. In each log, the commit that a receipt's conflict names was done before that receipt,
+//! came after the base of its transaction, and touched the path that the conflict names, and that path is at or above one
+//! of the transaction's operations (`laws::conflicts_name_a_later_commit`). A submission that is decided as done leaves no
+//! breach, in either store (`laws::done_leaves_no_breach`).
+//!
+//! Costs: none. Nothing here runs but the `Debug` output of the types; definitions, examples and laws are read by the
+//! prover alone.
 #![tactic(auto)]
 
 pub mod call;

@@ -1,29 +1,32 @@
 -- A client's run, as the definitions have it.
-use Rattle.std.specs.Prelude.{◌≡◌, ℕ, ◌≤◌, ◌<◌, Bool, true, false, List, [], ◌∷◌, ◌++◌, length, drop, map, None, Some, Result, Ok, Err, slice_index_or}
-use Rattle.sal_history.specs.declared.opening.Opening.{Opening}
+use Rattle.std.specs.Prelude.{◌≡◌, ℕ, ◌+◌, ◌≤◌, ◌<◌, Bool, true, false, List, [], ◌∷◌, ◌++◌, length, drop, map, None, Some, Result, Ok, Err, slice_index_or}
+use Rattle.sal_history.specs.World.{Domain, table_of}
 use Rattle.sal_history.specs.declared.call.Entry.{Entry}
 use Rattle.sal_schema.specs.declared.table.SchemaTable.{SchemaTable}
 use Rattle.sal_script.specs.declared.reply.StepReply.{StepReply}
 use Rattle.sal_script.specs.declared.script.ScriptStep.{ScriptStep}
+use Rattle.sal_script.specs.Moves.{Move, moves_of}
 use Rattle.sal_script.specs.Play.{Played, Run, Stand, arrive, ended, go, replies_of, turn}
+use Rattle.sal_hub.specs.Known.{Known, more}
 use Rattle.sal_client.specs.declared.run.Run.{Run as CodeRun}
 use Rattle.sal_client.specs.declared.simulation.Played.{Played as CodePlayed}
 use Rattle.sal_client.specs.declared.simulation.PlayFault.{PlayFault}
 use Rattle.sal_client.specs.declared.simulation.PlayFault.TheVariants.{BadOrder, NoMemory}
-use Rattle.sal_client.specs.Known.{Known, more}
-use Rattle.sal_client.specs.Clients.{client_of, Counted, IsSound}
+use Rattle.sal_client.specs.Clients.{client_of, IsSound}
 
--- the client with the steps that are still to come
+-- the moves that are still to come
+abbrev pub moves_from : ℕ → List ScriptStep → List Move
+moves_from at steps = moves_of (drop at steps)
+
+-- the client with the moves that are still to come
 abbrev pub run_of : List ScriptStep → CodeRun → Run
-run_of steps r = record { client = client_of r.client; steps = drop r.at steps }
+run_of steps r = record { client = client_of r.client; steps = moves_from r.at steps }
 
 -- the run is sound, and within a program that is short
-pub record IsRun (world : List Opening) (log : List Entry) (steps : List ScriptStep) (r : CodeRun) : Type 0 where
-  pub sound : IsSound world log r.client
-  pub counted : Counted log r.client
-  pub before : r.client.made ≤ r.at
+pub record IsRun (known : Known) (steps : List ScriptStep) (r : CodeRun) : Type 0 where
+  pub sound : IsSound known r.client
   pub within : r.at ≤ length steps
-  pub short : length steps ≤ 256
+  pub short : length steps ≤ 60000
 
 -- one entry more, of client c
 abbrev pub GrowsBy : ℕ → Known → Known → Type 0
@@ -32,8 +35,9 @@ GrowsBy c known known' = (e : Entry) × (e.client ≡ c) × (known' ≡ more kno
 -- the client went on to its next shared call and made it, or came to its end
 abbrev pub Goes : SchemaTable → Bool → ℕ → Known → List ScriptStep → CodeRun → Known → CodeRun → Type 0
 Goes table true c known steps old known' new =
-    (go table known.world known.log c (run_of steps old) ≡ Some (record { log = known'.log; run = run_of steps new })) × GrowsBy c known known'
-Goes table false c known steps old known' new = (arrive table known.world known.log (client_of old.client) (drop old.at steps) ≡ ended (client_of new.client)) × (known' ≡ known)
+    (go table known.world known.log c (run_of steps old) ≡ Some (record { log = known'.log; run = run_of steps new })) × GrowsBy c known known' × (old.at < new.at)
+Goes table false c known steps old known' new =
+    (arrive table known.world known.log (client_of old.client) (moves_from old.at steps) ≡ ended (client_of new.client)) × (known' ≡ known)
 
 -- the clients' runs, each in its own program
 abbrev pub runs_of : List (List ScriptStep) → List CodeRun → List Run
@@ -44,15 +48,22 @@ runs_of (p ∷ ps) (r ∷ rs) = run_of p r ∷ runs_of ps rs
 abbrev pub stand_of : List (List ScriptStep) → List Entry → List CodeRun → Stand
 stand_of ps log rs = record { log = log; runs = runs_of ps rs }
 
--- each is sound, and has its index as its number
-pub record AreRuns (world : List Opening) (log : List Entry) (ps : List (List ScriptStep)) (rs : List CodeRun) : Type 0 where
+-- how many steps the clients have answered
+abbrev pub answered : List CodeRun → ℕ
+answered [] = 0
+answered (r ∷ rs) = r.at + answered rs
+
+-- Each is sound, and has its index as its number. There are few of them, and no more calls were made than steps answered.
+pub record AreRuns (known : Known) (ps : List (List ScriptStep)) (rs : List CodeRun) : Type 0 where
   pub long : length rs ≡ length ps
-  pub each : (i : ℕ) (p : List ScriptStep) (r : CodeRun) → i < length rs → p ≡ slice_index_or ps i p → r ≡ slice_index_or rs i r → IsRun world log p r × (r.client.number ≡ i)
+  pub few : length rs ≤ 16
+  pub calls : length known.log ≤ answered rs
+  pub each : (i : ℕ) (p : List ScriptStep) (r : CodeRun) → i < length rs → p ≡ slice_index_or ps i p → r ≡ slice_index_or rs i r → IsRun known p r × (r.client.number ≡ i)
 
 -- one number of an order, or its failure
 abbrev pub Turns : SchemaTable → Bool → List (List ScriptStep) → ℕ → Known → List CodeRun → Known → List CodeRun → Type 0
 Turns table true ps c known rs known' rs' =
-    (turn table known.world (stand_of ps known.log rs) c ≡ Some (stand_of ps known'.log rs')) × AreRuns known'.world known'.log ps rs' × (known'.world ≡ known.world)
+    (turn table known.world (stand_of ps known.log rs) c ≡ Some (stand_of ps known'.log rs')) × AreRuns known' ps rs' × (known'.world ≡ known.world)
 Turns table false ps c known rs known' rs' = turn table known.world (stand_of ps known.log rs) c ≡ None
 
 -- the replies of a client to its steps
@@ -65,7 +76,7 @@ Ends table true ps known rs known' rs' = (replies_of table known.world known.log
 Ends table false ps known rs known' rs' = replies_of table known.world known.log (runs_of ps rs) ≡ None
 
 -- what a script came to over a world, or where its order fails; nothing is said of want of memory
-abbrev pub PlaysAs : List Opening → Result CodePlayed PlayFault → Result Played ℕ → Type 0
-PlaysAs world (Ok p) played = (played ≡ Ok (record { log = p.broker.log; replies = p.replies })) × (p.broker.world ≡ world)
+abbrev pub PlaysAs : List Domain → Result CodePlayed PlayFault → Result Played ℕ → Type 0
+PlaysAs world (Ok p) played = (played ≡ Ok (record { log = p.hub.log; replies = p.replies })) × (p.hub.world ≡ world)
 PlaysAs world (Err (BadOrder index)) played = played ≡ Err index
 PlaysAs world (Err NoMemory) played = Unit {0}

@@ -11,7 +11,7 @@ use sal_history::Reply;
 use sal_hub::{Hub, laws};
 use sal_rows::{CallFault, Mode};
 use sal_script::{StepRefusal, StepReply};
-use sal_tx::{Tx, WriteTx};
+use sal_tx::Tx;
 use sal_types::NoMemory;
 use std::alloc::Global;
 
@@ -83,6 +83,40 @@ impl ClientState {
         }
     }
 
+    // Submits the slot's transaction, which may write.
+    fn submit(
+        &mut self,
+        alloc: Global,
+        reader: &Reader,
+        hub: &mut Hub,
+        slot: u8,
+    ) -> Result<StepReply, NoMemory>
+        requires sound { IsSound hub.old self.old }
+        requires room { length hub.old.log < limit }
+        requires writable { standing_of (opened self.old slot) ≡ Standing.Writable }
+        ensures answers { IfOk result (λ r. Answers reader.now Went.Shared r self.old.number hub.old (client_of self.old) (Submit slot) hub.new (client_of self.new)) }
+        ensures sound { OnOk result (IsSound hub.new self.new) }
+        ensures same { OnOk result (Same self.old self.new) }
+    {
+        laws::tokens_last();
+        match take_slot(&mut self.transactions, slot) {
+            Some(Tx::Write(tx)) => match hub.submit(alloc, self.number, tx) {
+                Ok(receipt) => {
+                    fill_slot(&mut self.receipts, slot, receipt)?;
+                    let number = receipt.number();
+                    Ok(called(Reply::Receipt { number }))
+                }
+                Err((tx, fault)) => {
+                    let reply = refused_call(fault)?;
+                    fill_slot(&mut self.transactions, slot, Tx::Write(tx))?;
+                    Ok(reply)
+                }
+            },
+            Some(Tx::Read(_)) => unreachable!(),
+            None => unreachable!(),
+        }
+    }
+
     /// Submits the slot's transaction, where it may write.
     pub(crate) fn submit_slot(
         &mut self,
@@ -100,13 +134,87 @@ impl ClientState {
         match self.standing(slot) {
             Standing::Empty => Ok((Went::Local, refused(StepRefusal::EmptySlot))),
             Standing::ReadOnly => Ok((Went::Local, refused(StepRefusal::ReadOnly))),
-            Standing::Writable => match take_slot(&mut self.transactions, slot) {
-                Some(Tx::Write(tx)) => {
-                    let reply = self.submit(alloc, reader, hub, slot, tx)?;
+            Standing::Writable => {
+                let reply = self.submit(alloc, reader, hub, slot)?;
+                Ok((Went::Shared, reply))
+            }
+        }
+    }
+
+    // Gives up the slot's transaction.
+    fn cancel(
+        &mut self,
+        alloc: Global,
+        reader: &Reader,
+        hub: &mut Hub,
+        slot: u8,
+    ) -> Result<StepReply, NoMemory>
+        requires sound { IsSound hub.old self.old }
+        requires room { length hub.old.log < limit }
+        requires filled { standing_of (opened self.old slot) ≡ Standing.Empty → ⊥ }
+        ensures answers { IfOk result (λ r. Answers reader.now Went.Shared r self.old.number hub.old (client_of self.old) (Cancel slot) hub.new (client_of self.new)) }
+        ensures sound { OnOk result (IsSound hub.new self.new) }
+        ensures same { OnOk result (Same self.old self.new) }
+    {
+        laws::tokens_last();
+        match take_slot(&mut self.transactions, slot) {
+            None => unreachable!(),
+            Some(tx) => match hub.cancel(alloc, self.number, tx) {
+                Ok(()) => Ok(called(Reply::Accepted)),
+                Err((tx, fault)) => {
+                    let reply = refused_call(fault)?;
+                    fill_slot(&mut self.transactions, slot, tx)?;
+                    Ok(reply)
+                }
+            },
+        }
+    }
+
+    /// Gives up the slot's transaction, where there is one.
+    pub(crate) fn cancel_slot(
+        &mut self,
+        alloc: Global,
+        reader: &Reader,
+        hub: &mut Hub,
+        slot: u8,
+    ) -> Result<(Went, StepReply), NoMemory>
+        requires sound { IsSound hub.old self.old }
+        requires room { length hub.old.log < limit }
+        ensures answers { IfOk result (λ p. Answers reader.now p.0 p.1 self.old.number hub.old (client_of self.old) (Cancel slot) hub.new (client_of self.new)) }
+        ensures sound { OnOk result (IsSound hub.new self.new) }
+        ensures same { OnOk result (Same self.old self.new) }
+    {
+        match self.standing(slot) {
+            Standing::Empty => Ok((Went::Local, refused(StepRefusal::EmptySlot))),
+            _ => {
+                let reply = self.cancel(alloc, reader, hub, slot)?;
+                Ok((Went::Shared, reply))
+            }
+        }
+    }
+
+    /// Settles the receipt in the slot.
+    pub(crate) fn settle_slot(
+        &self,
+        alloc: Global,
+        reader: &Reader,
+        hub: &mut Hub,
+        slot: u8,
+    ) -> Result<(Went, StepReply), NoMemory>
+        requires sound { IsSound hub.old self.now }
+        requires room { length hub.old.log < limit }
+        ensures answers { IfOk result (λ p. Answers reader.now p.0 p.1 self.now.number hub.old (client_of self.now) (Settle slot) hub.new (client_of self.now)) }
+        ensures sound { OnOk result (IsSound hub.new self.now) }
+    {
+        laws::tokens_last();
+        match look_at(&self.receipts, slot) {
+            None => Ok((Went::Local, refused(StepRefusal::EmptySlot))),
+            Some(receipt) => match hub.settle(alloc, self.number, *receipt) {
+                Ok(outcome) => Ok((Went::Shared, called(Reply::Settled { domain: 0, outcome }))),
+                Err(fault) => {
+                    let reply = refused_call(fault)?;
                     Ok((Went::Shared, reply))
                 }
-                Some(Tx::Read(_)) => unreachable!(),
-                None => unreachable!(),
             },
         }
     }

@@ -1,18 +1,20 @@
 //! A client's run through its program, from one shared call to the next.
-ghost use Rattle.std.specs.Prelude.{◌≡◌, List, [], IfOk, OnOk};
-ghost use Rattle.sal_history.specs.declared.opening.Opening.{Opening};
+ghost use Rattle.std.specs.Prelude.{◌≡◌, ◌<◌, IfOk, OnOk, length};
+ghost use Rattle.sal_history.specs.World.{table_of};
+ghost use Rattle.sal_hub.specs.Answers.{limit};
+ghost use Rattle.sal_hub.specs.Known.{Known};
 ghost use Rattle.sal_script.specs.Play.{new_client};
 
-use crate::broker::Broker;
 use crate::client::{ClientState, Went};
 use crate::reader::Reader;
+use sal_hub::Hub;
 use sal_io::Gate;
 use sal_script::ScriptStep;
 use sal_types::NoMemory;
 use std::alloc::Global;
 
 /// A client, and the index of its next step.
-#[derive(Debug, Drop)]
+#[derive(Drop)]
 pub struct Run {
     pub client: ClientState,
     pub at: usize,
@@ -25,10 +27,9 @@ impl Run {
     /// A client at the beginning of its program.
     pub fn new(alloc: Global, number: u32) -> Self
         ensures number { result.client.number ≡ number }
-        ensures made { result.client.made ≡ 0 }
         ensures at { result.at ≡ 0 }
         ensures client { client_of result.client ≡ new_client }
-        ensures sound { (world : List Opening) → IsSound world [] result.client }
+        ensures sound { (known : Known) → IsSound known result.client }
     {
         Run {
             client: ClientState::new(alloc, number),
@@ -42,18 +43,20 @@ impl Run {
         &mut self,
         alloc: Global,
         reader: &Reader,
-        broker: &mut Broker,
+        hub: &mut Hub,
         steps: &[ScriptStep],
         gate: &G,
     ) -> Result<bool, NoMemory>
-        requires { IsRun broker.old.world broker.old.log steps.now self.old }
-        ensures goes { IfOk result (λ made. Goes reader.now made self.old.client.number broker.old steps.now self.old broker.new self.new) }
-        ensures run { OnOk result (IsRun broker.new.world broker.new.log steps.now self.new) }
+        requires run { IsRun hub.old steps.now self.old }
+        requires table { reader.now ≡ table_of hub.old.world 0 }
+        requires room { length hub.old.log < limit }
+        ensures goes { IfOk result (λ made. Goes reader.now made self.old.client.number hub.old steps.now self.old hub.new self.new) }
+        ensures run { OnOk result (IsRun hub.new steps.now self.new) }
         ensures number { OnOk result (self.new.client.number ≡ self.old.client.number) }
     {
         for i in self.at..steps.len() {
             gate.pass(self.client.number, i as u32);
-            let went = self.client.step(alloc, reader, broker, &steps[i])?;
+            let went = self.client.step(alloc, reader, hub, &steps[i])?;
             self.at = i + 1;
             match went {
                 Went::Shared => return Ok(true),

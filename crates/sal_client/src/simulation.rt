@@ -1,15 +1,16 @@
 //! A script played in an order, on one thread.
 ghost use Rattle.std.specs.Prelude.{◌≡◌, ◌+◌, ◌<◌, List, [], ◌∷◌, ◌++◌, IfOk, OnOk, IsTrue, length, map};
 ghost use Rattle.sal_script.specs.Limits.{within_limits};
-ghost use Rattle.sal_history.specs.declared.opening.Opening.{Opening};
+ghost use Rattle.sal_history.specs.World.{table_of};
+ghost use Rattle.sal_hub.specs.Known.{Known};
+ghost use Rattle.sal_script.specs.Moves.{clients_of};
 ghost use Rattle.sal_script.specs.Play as play_spec;
 ghost use Rattle.sal_client.specs.Runs.{replies_in, runs_of, stand_of, AreRuns, Ends, PlaysAs, Turns};
 
-use crate::broker::Broker;
 use crate::reader::Reader;
 use crate::run::Run;
+use sal_hub::Hub;
 use sal_io::Gate;
-use sal_rows::Rows;
 use sal_script::{Program, Script, StepReply};
 use sal_types::{NoMemory, Seq};
 use std::alloc::Global;
@@ -22,25 +23,25 @@ pub enum PlayFault {
     NoMemory,
 }
 
-/// What a script came to: the broker, and each client's replies to its steps.
-#[derive(Debug, Drop)]
+/// What a script came to: the hub, and each client's replies to its steps.
+#[derive(Drop)]
 pub struct Played {
-    pub broker: Broker,
+    pub hub: Hub,
     pub replies: Seq<Seq<StepReply>>,
 }
 
-// The broker and the clients.
-#[derive(Debug, Drop)]
+// The hub and the clients.
+#[derive(Drop)]
 pub(crate) struct Simulation {
-    pub(crate) broker: Broker,
+    pub(crate) hub: Hub,
     pub(crate) runs: Vec<Run>,
 }
 
 // The clients at their beginning.
 fn new_runs(alloc: Global, programs: &[Program]) -> Result<Vec<Run>, NoMemory>
     requires { IsTrue (within_limits programs.now) }
-    ensures stand { IfOk result (λ runs. stand_of programs.now [] runs.items ≡ play_spec.start programs.now) }
-    ensures runs { IfOk result (λ runs. (world : List Opening) → AreRuns world [] programs.now runs.items) }
+    ensures stand { IfOk result (λ runs. stand_of programs.now [] runs.items ≡ play_spec.start (clients_of programs.now)) }
+    ensures runs { IfOk result (λ runs. (known : Known) → known.log ≡ [] → AreRuns known programs.now runs.items) }
 {
     let mut runs = Vec::new(alloc);
     for i in 0..programs.len() {
@@ -62,18 +63,6 @@ fn into_replies(alloc: Global, runs: Vec<Run>) -> Result<Seq<Seq<StepReply>>, No
 }
 
 impl Simulation {
-    // The clients at their beginning, and no calls, over these opening trees.
-    fn new(alloc: Global, programs: &[Program], config: Rows, oper: Rows) -> Result<Self, NoMemory>
-        requires { IsTrue (within_limits programs.now) }
-        ensures world { IfOk result (λ s. s.broker.world ≡ record { config = config; oper = oper } ∷ []) }
-        ensures stand { IfOk result (λ s. stand_of programs.now s.broker.log s.runs.items ≡ play_spec.start programs.now) }
-        ensures runs { IfOk result (λ s. AreRuns s.broker.world s.broker.log programs.now s.runs.items) }
-    {
-        let broker = Broker::new(alloc, config, oper)?;
-        let runs = new_runs(alloc, programs)?;
-        Ok(Simulation { broker, runs })
-    }
-
     // One number of the order: false where no client has it, or where that client has no shared call left.
     fn turn<G: Gate>(
         &mut self,
@@ -83,8 +72,9 @@ impl Simulation {
         client: u32,
         gate: &G,
     ) -> Result<bool, NoMemory>
-        requires { AreRuns self.old.broker.world self.old.broker.log programs.now self.old.runs.items }
-        ensures { IfOk result (λ made. Turns reader.now made programs.now client self.old.broker self.old.runs.items self.new.broker self.new.runs.items) }
+        requires runs { AreRuns self.old.hub programs.now self.old.runs.items }
+        requires table { reader.now ≡ table_of self.old.hub.world 0 }
+        ensures { IfOk result (λ made. Turns reader.now made programs.now client self.old.hub self.old.runs.items self.new.hub self.new.runs.items) }
     {
         let index = client as usize;
         if index >= self.runs.len() {
@@ -94,7 +84,7 @@ impl Simulation {
         let made = run.go(
             alloc,
             reader,
-            &mut self.broker,
+            &mut self.hub,
             programs[index].items(),
             gate,
         )?;
@@ -109,12 +99,13 @@ impl Simulation {
         programs: &[Program],
         gate: &G,
     ) -> Result<bool, NoMemory>
-        requires { AreRuns self.old.broker.world self.old.broker.log programs.now self.old.runs.items }
-        ensures { IfOk result (λ ended. Ends reader.now ended programs.now self.old.broker self.old.runs.items self.new.broker self.new.runs.items) }
+        requires runs { AreRuns self.old.hub programs.now self.old.runs.items }
+        requires table { reader.now ≡ table_of self.old.hub.world 0 }
+        ensures { IfOk result (λ ended. Ends reader.now ended programs.now self.old.hub self.old.runs.items self.new.hub self.new.runs.items) }
     {
         for i in 0..self.runs.len() {
             let run = &mut self.runs[i];
-            if run.go(alloc, reader, &mut self.broker, programs[i].items(), gate)? {
+            if run.go(alloc, reader, &mut self.hub, programs[i].items(), gate)? {
                 return Ok(false);
             }
         }
@@ -122,23 +113,26 @@ impl Simulation {
     }
 }
 
-/// Plays the script in its order, over these opening trees. The gate is passed before each step.
+/// Plays the script in its order over a hub without calls, whose own domain has the reader's schema. The gate is passed
+/// before each step.
 pub fn play<G: Gate>(
     alloc: Global,
     reader: &Reader,
     script: &Script,
-    config: Rows,
-    oper: Rows,
+    hub: Hub,
     gate: &G,
 ) -> Result<Played, PlayFault>
-    ensures { PlaysAs (record { config = config; oper = oper } ∷ []) result (play_spec.play reader.now (record { config = config; oper = oper } ∷ []) script.now.clients script.now.order) }
+    requires table { reader.now ≡ table_of hub.world 0 }
+    requires fresh { hub.log ≡ [] }
+    ensures { PlaysAs hub.world result (play_spec.play hub.world (clients_of script.now.clients) script.now.order) }
 {
     let programs = script.clients.items();
     let order = script.order.items();
-    let mut simulation = match Simulation::new(alloc, programs, config, oper) {
-        Ok(simulation) => simulation,
+    let runs = match new_runs(alloc, programs) {
+        Ok(runs) => runs,
         Err(NoMemory) => return Err(PlayFault::NoMemory),
     };
+    let mut simulation = Simulation { hub, runs };
     for i in 0..order.len() {
         match simulation.turn(alloc, reader, programs, order[i], gate) {
             Ok(true) => {}
@@ -165,17 +159,18 @@ fn end<G: Gate>(
     index: u64,
     gate: &G,
 ) -> Result<Played, PlayFault>
-    requires { AreRuns simulation.broker.world simulation.broker.log programs.now simulation.runs.items }
-    ensures { PlaysAs simulation.broker.world result (play_spec.play_from reader.now simulation.broker.world index (stand_of programs.now simulation.broker.log simulation.runs.items) []) }
+    requires runs { AreRuns simulation.hub programs.now simulation.runs.items }
+    requires table { reader.now ≡ table_of simulation.hub.world 0 }
+    ensures { PlaysAs simulation.hub.world result (play_spec.play_from reader.now simulation.hub.world index (stand_of programs.now simulation.hub.log simulation.runs.items) []) }
 {
     match simulation.finish(alloc, reader, programs, gate) {
         Ok(true) => {}
         Ok(false) => return Err(PlayFault::BadOrder { index }),
         Err(NoMemory) => return Err(PlayFault::NoMemory),
     }
-    let Simulation { broker, runs } = simulation;
+    let Simulation { hub, runs } = simulation;
     match into_replies(alloc, runs) {
-        Ok(replies) => Ok(Played { broker, replies }),
+        Ok(replies) => Ok(Played { hub, replies }),
         Err(NoMemory) => Err(PlayFault::NoMemory),
     }
 }

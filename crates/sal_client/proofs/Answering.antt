@@ -1,76 +1,104 @@
 -- How each kind of step is answered.
-use Rattle.std.proofs.Common.{◌≡◌, ℕ, ◌+◌, ◌<◌, ◌≤◌, false, List, [], ◌∷◌, ◌++◌, length, Option, None, Some, refl, ap, sym, ◌∙◌, arith, length-append, if◌then◌else◌}
-use Rattle.std.proofs.lemmas.Bool.Decides.{nat_tests}
-use Rattle.std.specs.Option.{option_to_list}
+use Rattle.std.proofs.Common.{◌≡◌, ℕ, ◌<◌, ◌≤◌, List, [], length, Option, None, Some, Result, Ok, Err, refl, ap, sym, ◌∙◌, subst, arith}
 use Rattle.sal_types.specs.declared.value.Store.{Store}
-use Rattle.sal_types.specs.declared.value.Store.TheVariants.{Config, Oper}
-use Rattle.sal_types.specs.declared.row.Row.{Row}
+use Rattle.sal_types.specs.declared.value.Step.{Step}
 use Rattle.sal_rows.specs.declared.op.Op.{Op}
+use Rattle.sal_rows.specs.declared.op.Act.{Act}
 use Rattle.sal_rows.specs.declared.outcome.Mode.{Mode}
 use Rattle.sal_rows.specs.declared.outcome.Mode.TheVariants.{Ro, Wo, Rw}
-use Rattle.sal_rows.specs.declared.outcome.CallFault.TheVariants.{NoDomain}
-use Rattle.sal_rows.specs.Apply.{apply_ops}
-use Rattle.sal_history.specs.declared.call.Call.TheVariants.{Begin as BeginCall, Submit as SubmitCall}
+use Rattle.sal_rows.specs.declared.outcome.CallFault.{CallFault}
+use Rattle.sal_rows.specs.declared.outcome.CallFault.TheVariants.{HistoryFull, PipelineFull, NoDomain, NoMemory, TxSpent}
+use Rattle.sal_schema.specs.declared.table.SchemaTable.{SchemaTable}
+use Rattle.sal_history.specs.World.{Domain}
+use Rattle.sal_history.specs.declared.call.Call.{Call}
+use Rattle.sal_history.specs.declared.call.Call.TheVariants.{Submit as SubmitCall, Cancel as CancelCall}
 use Rattle.sal_history.specs.declared.call.Entry.{Entry}
 use Rattle.sal_history.specs.declared.reply.Reply.{Reply}
-use Rattle.sal_history.specs.declared.reply.Reply.TheVariants.{Begun, Receipt, Refused}
-use Rattle.sal_history.specs.History.{Base, base_tree, began_at, commits, history, is_live, reply_to, sent_by, sents, view}
-use Rattle.sal_script.specs.declared.script.ScriptStep.TheVariants.{Begin}
-use Rattle.sal_script.specs.Play.{Client, Open, Slots, keep, set_slot, shared, submit, submit_in}
+use Rattle.sal_history.specs.declared.reply.Reply.TheVariants.{Begun, Refused}
+use Rattle.sal_tx.specs.declared.tx.Tx.{Tx}
+use Rattle.sal_pathtext.specs.declared.fault.PathTextFault.{PathTextFault}
+use Rattle.sal_pathtext.specs.Read.{read_path}
+use Rattle.sal_data.specs.declared.fault.DataFault.{DataFault}
+use Rattle.sal_script.specs.Moves.{Move, Begin}
+use Rattle.sal_script.specs.declared.reply.StepReply.{StepReply}
+use Rattle.sal_script.specs.declared.reply.StepReply.TheVariants.{Called}
+use Rattle.sal_script.specs.declared.reply.StepRefusal.{StepRefusal}
+use Rattle.sal_script.specs.Play.{Client, Deed, Meeting, Open, Slots, act_of, cancel, keep, meet, refused, set_slot, shared, submit, submit_in, write_at, write_in, write_op}
+use Rattle.sal_hub.specs.Answers.{Fails, Made, limit}
+use Rattle.sal_hub.specs.Known.{Known, entry_of}
+use Rattle.sal_hub.specs.Tokens.{IsFresh}
 use Rattle.sal_client.specs.declared.client.Standing.TheVariants.{Writable}
-use Rattle.sal_client.specs.declared.transaction.Transaction.{Transaction}
-use Rattle.sal_client.specs.Views.{open_of, view_of, Accepts, Begins, IsSoundView}
-use Rattle.sal_client.specs.Clients.{standing_in, standing_of}
-use Rattle.sal_client.proofs.Histories.{sents-push}
-use Rattle.sal_client.proofs.Views.{apply_ops-push}
-use Rattle.sal_history.specs.declared.opening.Opening.{Opening}
+use Rattle.sal_client.specs.Clients.{Calls, open_of, standing_in, standing_of}
+use Rattle.sal_client.specs.Deeds.{op_at, op_by}
 
-module _ (world : List Opening) where
-  -- ---- begin
+-- ---- shared calls
 
-  -- a begin on the live domain fills the slot
-  pub kept-begin : (log : List Entry) (r : Reply) (slot domain : ℕ) (mode : Mode) (tx : Transaction) (old : Client) (f : Slots Open) → domain ≡ 0 → r ≡ reply_to world (history world log) (BeginCall domain mode) → Begins world log mode tx → f ≡ set_slot slot (Some (open_of tx)) old.transactions → record old { transactions = f } ≡ keep (length log) (Begin slot domain mode) r old
-  kept-begin log r slot domain mode tx old f live is new filled =
-      let answer : r ≡ Begun (length (commits (history world log) 0)) None = is ∙ ap (λ d. reply_to world (history world log) (BeginCall d mode)) live in
-      let same : open_of tx ≡ record { place = length log; domain = domain; mode = mode; ops = [] } = λ i. record { place = new.place i; domain = sym live i; mode = new.in_mode i; ops = new.ops i } in
-      (λ i. record old { transactions = filled i }) ∙ (λ i. record old { transactions = set_slot slot (Some (same i)) old.transactions }) ∙ sym (ap (λ q. keep (length log) (Begin slot domain mode) q old) answer)
+-- a call that was made, with its answer
+pub called : (table : SchemaTable) (r : StepReply) (c : ℕ) (known : Known) (old : Client) (step : Move) (known' : Known) (new : Client) (call : Call) (answer : Reply) → meet table known.world known.log old step ≡ shared call → Made known known' (entry_of known c call) answer → r ≡ Called answer → new ≡ keep (length known.log) step answer old → Calls table r c known old step known' new call
+called table r c known old step known' new call answer met made replied kept = record {
+  met = met;
+  entry = made.log;
+  replied = replied ∙ ap Called (sym made.reply);
+  kept = kept ∙ ap (λ q. keep (length known.log) step q old) (sym made.reply);
+}
 
-  -- a begin on another domain changes nothing
-  pub kept-refused : (log : List Entry) (r : Reply) (slot domain : ℕ) (mode : Mode) (old : Client) → (domain ≡ 0 → ⊥) → r ≡ reply_to world (history world log) (BeginCall domain mode) → old ≡ keep (length log) (Begin slot domain mode) r old
-  kept-refused log r slot domain mode old dead is =
-      let no : is_live domain ≡ false = grind (arith, nat_tests) in
-      let answer : r ≡ Refused (NoDomain domain) = is ∙ ap (λ b. if b then Begun (length (commits (history world log) domain)) None else Refused (NoDomain domain)) no in
-      sym (ap (λ q. keep (length log) (Begin slot domain mode) q old) answer)
+-- a fault that is neither a full history nor want of memory is an answer
+pub made_refused : (old new : Known) (e : Entry) (fault : CallFault) → Fails old new e fault → (fault ≡ HistoryFull → ⊥) → (fault ≡ NoMemory → ⊥) → Made old new e (Refused fault)
+made_refused old new e HistoryFull fails full memory = absurd (full refl)
+made_refused old new e NoMemory fails full memory = absurd (memory refl)
+made_refused old new e PipelineFull fails full memory = fails
+made_refused old new e (NoDomain id) fails full memory = fails
+made_refused old new e TxSpent fails full memory = fails
 
-  -- ---- writes
+-- a log with room is not full
+pub not_full : (old new : Known) (e : Entry) (fault : CallFault) → Fails old new e fault → length old.log < limit → fault ≡ HistoryFull → ⊥
+not_full old new e fault fails room is =
+    let full : (limit ≤ length old.log) × (new ≡ old) = subst (Fails old new e) is fails in
+    omega (arith, full.0)
 
-  pub open_of-accept : (op : Op) (old new : Transaction) → Accepts op old new → record (open_of old) { ops = old.ops.items ++ op ∷ [] } ≡ open_of new
-  open_of-accept op old new a = λ i. record { place = sym a.place i; domain = 0; mode = sym a.mode i; ops = sym a.ops i }
+-- ---- begin
 
-  accepted_view : (log : List Entry) (op : Op) (old new : Transaction) → IsSoundView world log old → Accepts op old new → (s : Store) → view_of new s ≡ view world log 0 old.place (old.ops.items ++ op ∷ []) s
-  accepted_view log op old new is a Config = a.config ∙ ap (λ (t : List Row). apply_ops t Config (op ∷ [])) (is.views Config) ∙ apply_ops-push (base_tree world log 0 old.place Config) Config old.ops.items op
-  accepted_view log op old new is a Oper = a.oper ∙ ap (λ (t : List Row). apply_ops t Oper (op ∷ [])) (is.views Oper) ∙ apply_ops-push (base_tree world log 0 old.place Oper) Oper old.ops.items op
+-- the transaction that a begin answers stands in the slot
+pub kept-begin : (known : Known) (slot domain commit : ℕ) (on : Option ℕ) (mode : Mode) (tx : Tx) (old : Client) (f : Slots Open) → IsFresh known domain mode tx → f ≡ set_slot slot (Some (open_of tx)) old.transactions → record old { transactions = f } ≡ keep (length known.log) (Begin slot domain mode) (Begun commit on) old
+kept-begin known slot domain commit on mode tx old f fresh filled =
+    let same : open_of tx ≡ record { place = length known.log; domain = domain; mode = mode; ops = [] } = λ i. record { place = fresh.place i; domain = fresh.domain i; mode = fresh.mode i; ops = fresh.ops i } in
+    (λ i. record old { transactions = filled i }) ∙ (λ i. record old { transactions = set_slot slot (Some (same i)) old.transactions })
 
-  pub IsSoundView-accept : (log : List Entry) (op : Op) (old new : Transaction) → IsSoundView world log old → Accepts op old new → IsSoundView world log new
-  IsSoundView-accept log op old new is a = record {
-    began = ap (began_at (history world log)) a.place ∙ is.began ∙ ap (λ n. Some (let b : Base = record { domain = 0; commit = n } in b)) (sym a.base);
-    within = omega (arith, is.within, a.place);
-    views = λ s. accepted_view log op old new is a s ∙ (λ i. view world log 0 (sym a.place i) (sym a.ops i) s);
-  }
+-- ---- submit and cancel
 
-  -- ---- submit
+submit_mode : (tx : Open) (m : Mode) (client : Client) → standing_in m ≡ Writable → submit_in tx m client ≡ shared (SubmitCall tx.place tx.ops)
+submit_mode tx Ro client w = cc
+submit_mode tx Wo client w = refl
+submit_mode tx Rw client w = refl
 
-  submit_mode : (tx : Open) (m : Mode) (client : Client) → standing_in m ≡ Writable → submit_in tx m client ≡ shared (SubmitCall tx.place tx.ops)
-  submit_mode tx Ro client w = cc
-  submit_mode tx Wo client w = refl
-  submit_mode tx Rw client w = refl
+pub submit-writable : (client : Client) (o : Option Open) (tx : Open) → o ≡ Some tx → standing_of o ≡ Writable → submit client o ≡ shared (SubmitCall tx.place tx.ops)
+submit-writable client o tx e w = ap (submit client) e ∙ submit_mode tx tx.mode client (sym (ap standing_of e) ∙ w)
 
-  pub submit-writable : (client : Client) (o : Option Open) (tx : Open) → o ≡ Some tx → standing_of o ≡ Writable → submit client o ≡ shared (SubmitCall tx.place tx.ops)
-  submit-writable client o tx e w = ap (submit client) e ∙ submit_mode tx tx.mode client (sym (ap standing_of e) ∙ w)
+pub cancel-filled : (client : Client) (o : Option Open) (tx : Open) → o ≡ Some tx → cancel client o ≡ shared (CancelCall tx.place)
+cancel-filled client o tx e = ap (cancel client) e
 
-  -- the receipt is one that the log gave
-  pub given-submit : (log : List Entry) (e : Entry) (place : ℕ) (ops : List Op) (n : ℕ) → e.call ≡ SubmitCall place ops → Receipt n ≡ reply_to world (history world log) (SubmitCall place ops) → (0 < n) × (n ≤ length (sents (history world (log ++ e ∷ []))))
-  given-submit log e place ops n call is =
-      let next : n ≡ length (sents (history world log)) + 1 = cc in
-      let more : length (option_to_list (sent_by (history world log) e.call)) ≡ 1 = ap (λ q. length (option_to_list (sent_by (history world log) q))) call in
-      (omega arith, omega (arith, next, ap length (sents-push world log e), length-append (sents (history world log)) (option_to_list (sent_by (history world log) e.call)), more))
+-- ---- writes
+
+-- a slot that may be written holds a transaction that may write
+pub opened_some : (o : Option Open) → standing_of o ≡ Writable → (tx : Open) × (o ≡ Some tx) × (standing_in tx.mode ≡ Writable)
+opened_some None w = cc
+opened_some (Some tx) w = (tx, refl, w)
+
+module _ (table : SchemaTable) (world : List Domain) (log : List Entry) where
+  -- what comes of a write whose operation was read so
+  abbrev pub met_by : ℕ → Open → Client → Result Op StepRefusal → Meeting
+  met_by slot tx client (Ok op) = write_op table world log slot op tx client
+  met_by slot tx client (Err refusal) = refused refusal client
+
+  write_by_act : (slot : ℕ) (store : Store) (path : List Step) (deed : Deed) (tx : Open) (client : Client) (read : Result Act DataFault) → act_of table path deed ≡ read → write_at table world log slot store (Ok path) deed tx client ≡ met_by slot tx client (op_at store path read)
+  write_by_act slot store path deed tx client (Ok act) e = rw e refl
+  write_by_act slot store path deed tx client (Err fault) e = rw e refl
+
+  write_at-by : (slot : ℕ) (store : Store) (deed : Deed) (tx : Open) (client : Client) (read : Result (List Step) PathTextFault) → write_at table world log slot store read deed tx client ≡ met_by slot tx client (op_by table store deed read)
+  write_at-by slot store deed tx client (Err fault) = refl
+  write_at-by slot store deed tx client (Ok path) = write_by_act slot store path deed tx client (act_of table path deed) refl
+
+  pub write-writable : (m : Mode) (slot : ℕ) (store : Store) (text : List ℕ) (deed : Deed) (tx : Open) (client : Client) (read : Result (List Step) PathTextFault) (made : Result Op StepRefusal) → standing_in m ≡ Writable → read ≡ read_path table text → made ≡ op_by table store deed read → write_in table world log m slot store text deed tx client ≡ met_by slot tx client made
+  write-writable Ro slot store text deed tx client read made w is by = cc
+  write-writable Wo slot store text deed tx client read made w is by = ap (λ r. write_at table world log slot store r deed tx client) (sym is) ∙ write_at-by slot store deed tx client read ∙ ap (met_by slot tx client) (sym by)
+  write-writable Rw slot store text deed tx client read made w is by = ap (λ r. write_at table world log slot store r deed tx client) (sym is) ∙ write_at-by slot store deed tx client read ∙ ap (met_by slot tx client) (sym by)

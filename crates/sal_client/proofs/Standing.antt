@@ -1,26 +1,25 @@
 -- Where all clients stand: looked at and changed by index.
-use Rattle.std.proofs.Common.{◌≡◌, ℕ, zero, suc, ◌+◌, ◌<◌, ◌≤◌, Bool, true, false, List, [], ◌∷◌, ◌++◌, length, map, get_or, set, drop, take, Option, None, Some, refl, ap, sym, ◌∙◌, subst, arith, append_assoc, append-nil, length-append, nat_eq, cond, IsTrue, inl, inr}
+use Rattle.std.proofs.Common.{◌≡◌, ℕ, zero, suc, ◌+◌, ◌*◌, ◌<◌, ◌≤◌, Bool, true, false, List, [], ◌∷◌, ◌++◌, length, map, get_or, set, drop, take, Option, None, Some, refl, ap, sym, ◌∙◌, subst, arith, append_assoc, append-nil, length-append, IsTrue, inl, inr}
 use Rattle.std.specs.Prelude.{slice_get, nat_le}
 use Rattle.std.specs.List.{list_all}
 use Rattle.std.proofs.lemmas.List.{get_or-set_other, get_or-set_same, length-set, drop_more, take_all, drop_all, get_or_append_left}
 use Rattle.std.proofs.Math.Seq.{get_or-append_seam}
-use Rattle.std.proofs.lemmas.List.Sums.{sum_by-append}
 use Rattle.std.proofs.lemmas.Grind.{take-set_at}
 use Rattle.std.proofs.lemmas.Bool.{cases_lt, cases_order, leb-true}
-use Rattle.std.proofs.lemmas.Bool.Decides.{nat_tests}
 use Rattle.std.specs.Cmp.{first_so, second_so}
 use Rattle.sal_history.specs.declared.call.Entry.{Entry}
 use Rattle.sal_script.specs.declared.reply.StepReply.{StepReply}
-use Rattle.sal_history.specs.History.{entries_of}
 use Rattle.sal_script.specs.declared.script.ScriptStep.{ScriptStep}
 use Rattle.sal_script.specs.Limits.{within_limits}
 use Rattle.sal_script.specs.Play.{Arrival, Client, Made, Run, Stand, arrive, calls, cons_replies, ended, go, make, new_client, replies_at, replies_of, stand_with, turn, turn_of}
 use Rattle.sal_client.specs.declared.run.Run.{Run as CodeRun}
-use Rattle.sal_client.specs.Known.{Known}
+use Rattle.sal_hub.specs.Known.{Known, more}
+use Rattle.sal_hub.specs.Answers.{limit}
 use Rattle.sal_client.specs.Clients.{client_of, IsSound}
-use Rattle.sal_client.specs.Runs.{AreRuns, Goes, GrowsBy, IsRun, Turns, replies_in, run_of, runs_of, stand_of}
-use Rattle.sal_client.proofs.Soundness.{IsSound-push}
-use Rattle.sal_history.specs.declared.opening.Opening.{Opening}
+use Rattle.sal_client.specs.Runs.{AreRuns, Goes, GrowsBy, IsRun, Turns, answered, moves_from, replies_in, run_of, runs_of, stand_of}
+use Rattle.sal_client.proofs.Soundness.{BegunLasts, GivenLasts, IsSound-more}
+use Rattle.sal_history.specs.World.{Domain}
+use Rattle.sal_script.specs.Moves.{Move, clients_of, moves_of}
 use Rattle.sal_schema.specs.declared.table.SchemaTable.{SchemaTable}
 
 -- ---- by index
@@ -45,40 +44,54 @@ runs_of-set (q ∷ ps) [] i p r long h at_p = absurd (omega arith)
 runs_of-set (q ∷ ps) (x ∷ rs) zero p r long h at_p = ap (λ (o : List ScriptStep). run_of o r ∷ runs_of ps rs) (sym at_p)
 runs_of-set (q ∷ ps) (x ∷ rs) (suc i) p r long h at_p = ap (λ (us : List Run). run_of q x ∷ us) (runs_of-set ps rs i p r (omega arith) (omega arith) at_p)
 
+-- ---- how many calls
+
+-- a client answers more steps
+answered-set : (rs : List CodeRun) (i : ℕ) (old new : CodeRun) → i < length rs → old ≡ get_or rs i old → answered (set rs i new) + old.at ≡ answered rs + new.at
+answered-set [] i old new h at = absurd (omega arith)
+answered-set (x ∷ rs) zero old new h at = let same : old.at ≡ x.at = ap (λ (r : CodeRun). r.at) at in omega (arith, same)
+answered-set (x ∷ rs) (suc i) old new h at = let rest = answered-set rs i old new (omega arith) at in omega (arith, rest)
+
+answered-bound : (rs : List CodeRun) → ((i : ℕ) (r : CodeRun) → i < length rs → r ≡ get_or rs i r → r.at ≤ 60000) → answered rs ≤ 60000 * length rs
+answered-bound [] each = omega arith
+answered-bound (x ∷ rs) each =
+    let first : x.at ≤ 60000 = each 0 x (omega arith) refl in
+    let rest = answered-bound rs (λ i r h at. each (suc i) r (omega arith) at) in
+    omega (arith, first, rest)
+
+-- the log has room
+pub has_room : (known : Known) (ps : List (List ScriptStep)) (rs : List CodeRun) → AreRuns known ps rs → length known.log < limit
+has_room known ps rs are =
+    let bound = answered-bound rs (λ i r h at. let run = (are.each i (get_or ps i []) r h (get_or_any ps i [] (get_or ps i []) (omega (arith, h, are.long))) at).0 in omega (arith, run.within, run.short)) in
+    omega (arith, are.calls, are.few, bound)
+  where
+    get_or_any : {X : Type 0} (xs : List X) (i : ℕ) (d f : X) → i < length xs → get_or xs i d ≡ get_or xs i f
+    get_or_any [] i d f l = absurd (omega arith)
+    get_or_any (x ∷ xs) zero d f l = refl
+    get_or_any (x ∷ xs) (suc i) d f l = get_or_any xs i d f (omega arith)
+
 -- ---- other clients
 
-other_client : (c n : ℕ) → (c ≡ n → ⊥) → nat_eq c n ≡ false
-other_client c n apart_from = grind (arith, nat_tests)
-
-entries-other : (log : List Entry) (e : Entry) (n : ℕ) → (e.client ≡ n → ⊥) → entries_of (log ++ e ∷ []) n ≡ entries_of log n
-entries-other log e n apart_from =
-    let none : entries_of (e ∷ []) n ≡ 0 = rw (other_client e.client n apart_from) refl in
-    sum_by-append (λ (x : Entry). cond (nat_eq x.client n) 1 0) log (e ∷ []) ∙ omega (arith, none)
-
-IsRun-other : (world : List Opening) (log : List Entry) (e : Entry) (p : List ScriptStep) (r : CodeRun) → (e.client ≡ r.client.number → ⊥) → IsRun world log p r → IsRun world (log ++ e ∷ []) p r
-IsRun-other world log e p r apart_from is = record {
-  sound = IsSound-push world log e r.client is.sound;
-  counted = is.counted ∙ sym (entries-other log e r.client.number apart_from);
-  before = is.before;
-  within = is.within;
-  short = is.short;
-}
+IsRun-other : BegunLasts → GivenLasts → (known : Known) (e : Entry) (p : List ScriptStep) (r : CodeRun) → IsRun known p r → IsRun (more known e) p r
+IsRun-other begun given known e p r is = record { sound = IsSound-more begun given known e r.client is.sound; within = is.within; short = is.short }
 
 -- one client went on
-pub AreRuns-set : (known known' : Known) (ps : List (List ScriptStep)) (rs : List CodeRun) (c : ℕ) (p : List ScriptStep) (new : CodeRun) → AreRuns known.world known.log ps rs → GrowsBy c known known' → c < length rs → p ≡ get_or ps c p → IsRun known'.world known'.log p new → new.client.number ≡ c → AreRuns known'.world known'.log ps (set rs c new)
-AreRuns-set known known' ps rs c p new are (e, by, is) h at_p run number = record {
+pub AreRuns-set : BegunLasts → GivenLasts → (known known' : Known) (ps : List (List ScriptStep)) (rs : List CodeRun) (c : ℕ) (p : List ScriptStep) (old new : CodeRun) → AreRuns known ps rs → GrowsBy c known known' → old.at < new.at → c < length rs → p ≡ get_or ps c p → old ≡ get_or rs c old → IsRun known' p new → new.client.number ≡ c → AreRuns known' ps (set rs c new)
+AreRuns-set begun given known known' ps rs c p old new are (e, by, is) on h at_p at_old run number = record {
   long = length-set rs c new ∙ are.long;
+  few = omega (arith, are.few, length-set rs c new);
+  calls = let total = answered-set rs c old new h at_old in let grown : length known'.log ≡ length known.log + 1 = ap (λ (k : Known). length k.log) is ∙ length-append known.log (e ∷ []) in omega (arith, are.calls, total, grown, on);
   each = λ i q r within at_q at_r.
       elim (cases_order i c) [
         | inl same ↦
             let r_is : new ≡ r = sym (at_r ∙ ap (λ k. get_or (set rs c new) k r) same ∙ get_or-set_same rs c new r h) in
             let q_is : p ≡ q = at_p ∙ ap (λ (k : ℕ). get_or ps k p) (sym same) ∙ get_or_any ps i p q (omega (arith, within, length-set rs c new, are.long)) ∙ sym at_q in
-            (subst (λ (x : CodeRun). IsRun known'.world known'.log q x) r_is (subst (λ (x : List ScriptStep). IsRun known'.world known'.log x new) q_is run), ap (λ (x : CodeRun). x.client.number) (sym r_is) ∙ number ∙ sym same)
+            (subst (λ (x : CodeRun). IsRun known' q x) r_is (subst (λ (x : List ScriptStep). IsRun known' x new) q_is run), ap (λ (x : CodeRun). x.client.number) (sym r_is) ∙ number ∙ sym same)
         | inr differs ↦
             let apart : i ≡ c → ⊥ = λ eq. elim differs [ inl less ↦ omega arith | inr more ↦ omega arith ] in
             let r_is : r ≡ get_or rs i r = at_r ∙ get_or-set_other rs c i new r apart in
             let was = are.each i q r (omega (arith, within, length-set rs c new)) at_q r_is in
-            (subst (λ (k : Known). IsRun k.world k.log q r) (sym is) (IsRun-other known.world known.log e q r (λ eq. apart (sym was.1 ∙ sym eq ∙ by)) was.0), was.1)
+            (subst (λ (k : Known). IsRun k q r) (sym is) (IsRun-other begun given known e q r was.0), was.1)
       ];
 }
   where
@@ -89,17 +102,17 @@ AreRuns-set known known' ps rs c p new are (e, by, is) h at_p run number = recor
 
 -- ---- one number of the order
 
-pub turn-none : (table : SchemaTable) (world : List Opening) (log : List Entry) (ps : List (List ScriptStep)) (rs : List CodeRun) (c : ℕ) → AreRuns world log ps rs → length rs ≤ c → turn table world (stand_of ps log rs) c ≡ None
-turn-none table world log ps rs c are h = ap (turn_of table world (stand_of ps log rs) c) (runs_of-none ps rs c are.long h)
+pub turn-none : (table : SchemaTable) (known : Known) (ps : List (List ScriptStep)) (rs : List CodeRun) (c : ℕ) → AreRuns known ps rs → length rs ≤ c → turn table known.world (stand_of ps known.log rs) c ≡ None
+turn-none table known ps rs c are h = ap (turn_of table known.world (stand_of ps known.log rs) c) (runs_of-none ps rs c are.long h)
 
-pub turn-made : (table : SchemaTable) (world : List Opening) (log log' : List Entry) (ps : List (List ScriptStep)) (rs : List CodeRun) (c : ℕ) (p : List ScriptStep) (old new : CodeRun) → AreRuns world log ps rs → c < length rs → p ≡ get_or ps c p → old ≡ get_or rs c old → go table world log c (run_of p old) ≡ Some (record { log = log'; run = run_of p new }) → turn table world (stand_of ps log rs) c ≡ Some (stand_of ps log' (set rs c new))
-turn-made table world log log' ps rs c p old new are h at_p at_old goes =
-    ap (turn_of table world (stand_of ps log rs) c) (runs_of-at ps rs c p old are.long h at_p at_old) ∙ ap (stand_with (stand_of ps log rs) c) goes
-    ∙ ap (λ (us : List Run). Some (let s : Stand = record { log = log'; runs = us } in s)) (sym (runs_of-set ps rs c p new are.long h at_p))
+pub turn-made : (table : SchemaTable) (world : List Domain) (log log' : List Entry) (ps : List (List ScriptStep)) (rs : List CodeRun) (c : ℕ) (p : List ScriptStep) (old new : CodeRun) → length rs ≡ length ps → c < length rs → p ≡ get_or ps c p → old ≡ get_or rs c old → go table world log c (run_of p old) ≡ Some (record { log = log'; run = run_of p new }) → turn table world (stand_of ps log rs) c ≡ Some (stand_of ps log' (set rs c new))
+turn-made table world log log' ps rs c p old new long h at_p at_old goes =
+    ap (turn_of table world (stand_of ps log rs) c) (runs_of-at ps rs c p old long h at_p at_old) ∙ ap (stand_with (stand_of ps log rs) c) goes
+    ∙ ap (λ (us : List Run). Some (let s : Stand = record { log = log'; runs = us } in s)) (sym (runs_of-set ps rs c p new long h at_p))
 
-pub turn-ended : (table : SchemaTable) (world : List Opening) (log : List Entry) (ps : List (List ScriptStep)) (rs : List CodeRun) (c : ℕ) (p : List ScriptStep) (old : CodeRun) (client : Client) → AreRuns world log ps rs → c < length rs → p ≡ get_or ps c p → old ≡ get_or rs c old → arrive table world log (client_of old.client) (drop old.at p) ≡ ended client → turn table world (stand_of ps log rs) c ≡ None
-turn-ended table world log ps rs c p old client are h at_p at_old arrived =
-    ap (turn_of table world (stand_of ps log rs) c) (runs_of-at ps rs c p old are.long h at_p at_old) ∙ ap (λ a. stand_with (stand_of ps log rs) c (make table world log c a)) arrived
+pub turn-ended : (table : SchemaTable) (world : List Domain) (log : List Entry) (ps : List (List ScriptStep)) (rs : List CodeRun) (c : ℕ) (p : List ScriptStep) (old : CodeRun) (client : Client) → length rs ≡ length ps → c < length rs → p ≡ get_or ps c p → old ≡ get_or rs c old → arrive table world log (client_of old.client) (moves_from old.at p) ≡ ended client → turn table world (stand_of ps log rs) c ≡ None
+turn-ended table world log ps rs c p old client long h at_p at_old arrived =
+    ap (turn_of table world (stand_of ps log rs) c) (runs_of-at ps rs c p old long h at_p at_old) ∙ ap (λ a. stand_with (stand_of ps log rs) c (make table world log c a)) arrived
 
 -- ---- the end
 
@@ -113,7 +126,7 @@ with_replies-cons done rs None = refl
 with_replies-cons done rs (Some rest) = ap Some (sym (append_assoc done (rs ∷ []) rest))
 
 -- a client that made a call has not come to its end
-not_ended : (table : SchemaTable) (world : List Opening) (log : List Entry) (c : ℕ) (a : Arrival) (made : Made) → make table world log c a ≡ Some made → replies_at a ≡ None
+not_ended : (table : SchemaTable) (world : List Domain) (log : List Entry) (c : ℕ) (a : Arrival) (made : Made) → make table world log c a ≡ Some made → replies_at a ≡ None
 not_ended table world log c (ended client) made e = cc
 not_ended table world log c (calls call step run) made e = refl
 
@@ -121,62 +134,64 @@ from_index : (ps : List (List ScriptStep)) (rs : List CodeRun) (i : ℕ) (p : Li
 from_index ps rs i p r h g at_p at_r =
     (λ k. runs_of (drop_more ps i p g k) (drop_more rs i r h k)) ∙ (λ k. run_of (sym at_p k) (sym at_r k) ∷ runs_of (drop (i + 1) ps) (drop (i + 1) rs))
 
-pub end-client : (table : SchemaTable) (world : List Opening) (log : List Entry) (ps : List (List ScriptStep)) (rs : List CodeRun) (i : ℕ) (p : List ScriptStep) (r : CodeRun) (client : Client) (done : List (List StepReply)) → i < length rs → i < length ps → p ≡ get_or ps i p → r ≡ get_or rs i r → arrive table world log (client_of r.client) (drop r.at p) ≡ ended client → with_replies done (replies_of table world log (runs_of (drop i ps) (drop i rs))) ≡ with_replies (done ++ client.replies ∷ []) (replies_of table world log (runs_of (drop (i + 1) ps) (drop (i + 1) rs)))
+pub end-client : (table : SchemaTable) (world : List Domain) (log : List Entry) (ps : List (List ScriptStep)) (rs : List CodeRun) (i : ℕ) (p : List ScriptStep) (r : CodeRun) (client : Client) (done : List (List StepReply)) → i < length rs → i < length ps → p ≡ get_or ps i p → r ≡ get_or rs i r → arrive table world log (client_of r.client) (moves_from r.at p) ≡ ended client → with_replies done (replies_of table world log (runs_of (drop i ps) (drop i rs))) ≡ with_replies (done ++ client.replies ∷ []) (replies_of table world log (runs_of (drop (i + 1) ps) (drop (i + 1) rs)))
 end-client table world log ps rs i p r client done h g at_p at_r arrived =
     let rest = replies_of table world log (runs_of (drop (i + 1) ps) (drop (i + 1) rs)) in
     ap (λ (us : List Run). with_replies done (replies_of table world log us)) (from_index ps rs i p r h g at_p at_r)
     ∙ ap (λ a. with_replies done (cons_replies (replies_at a) rest)) arrived ∙ with_replies-cons done client.replies rest
 
-pub end-call : (table : SchemaTable) (world : List Opening) (log : List Entry) (ps : List (List ScriptStep)) (rs : List CodeRun) (i c : ℕ) (p : List ScriptStep) (r : CodeRun) (made : Made) (done : List (List StepReply)) → i < length rs → i < length ps → p ≡ get_or ps i p → r ≡ get_or rs i r → go table world log c (run_of p r) ≡ Some made → with_replies done (replies_of table world log (runs_of (drop i ps) (drop i rs))) ≡ None
+pub end-call : (table : SchemaTable) (world : List Domain) (log : List Entry) (ps : List (List ScriptStep)) (rs : List CodeRun) (i c : ℕ) (p : List ScriptStep) (r : CodeRun) (made : Made) (done : List (List StepReply)) → i < length rs → i < length ps → p ≡ get_or ps i p → r ≡ get_or rs i r → go table world log c (run_of p r) ≡ Some made → with_replies done (replies_of table world log (runs_of (drop i ps) (drop i rs))) ≡ None
 end-call table world log ps rs i c p r made done h g at_p at_r goes =
     let rest = replies_of table world log (runs_of (drop (i + 1) ps) (drop (i + 1) rs)) in
     ap (λ (us : List Run). with_replies done (replies_of table world log us)) (from_index ps rs i p r h g at_p at_r)
-    ∙ ap (λ o. with_replies done (cons_replies o rest)) (not_ended table world log c (arrive table world log (client_of r.client) (drop r.at p)) made goes)
+    ∙ ap (λ o. with_replies done (cons_replies o rest)) (not_ended table world log c (arrive table world log (client_of r.client) (moves_from r.at p)) made goes)
 
 -- ---- the beginning
 
 -- a client at its beginning
 pub record IsFresh (r : CodeRun) : Type 0 where
-  pub made : r.client.made ≡ 0
   pub at : r.at ≡ 0
   pub client : client_of r.client ≡ new_client
-  pub sound : (world : List Opening) → IsSound world [] r.client
+  pub sound : (known : Known) → IsSound known r.client
 
-pub fresh_runs : (ps : List (List ScriptStep)) (rs : List CodeRun) → length rs ≡ length ps → ((i : ℕ) (r : CodeRun) → i < length rs → r ≡ get_or rs i r → IsFresh r) → runs_of ps rs ≡ map (λ (steps : List ScriptStep). let run : Run = record { client = new_client; steps = steps } in run) ps
+pub fresh_runs : (ps : List (List ScriptStep)) (rs : List CodeRun) → length rs ≡ length ps → ((i : ℕ) (r : CodeRun) → i < length rs → r ≡ get_or rs i r → IsFresh r) → runs_of ps rs ≡ map (λ (steps : List Move). let run : Run = record { client = new_client; steps = steps } in run) (clients_of ps)
 fresh_runs [] rs long fresh = refl
 fresh_runs (p ∷ ps) [] long fresh = absurd (omega arith)
 fresh_runs (p ∷ ps) (r ∷ rs) long fresh =
     let is = fresh 0 r (omega arith) refl in
-    (λ k. (let run : Run = record { client = is.client k; steps = drop (is.at k) p } in run) ∷ runs_of ps rs)
-    ∙ ap (λ (us : List Run). (let run : Run = record { client = new_client; steps = p } in run) ∷ us) (fresh_runs ps rs (omega arith) (λ i x h at. fresh (suc i) x (omega arith) at))
+    (λ k. (let run : Run = record { client = is.client k; steps = moves_from (is.at k) p } in run) ∷ runs_of ps rs)
+    ∙ ap (λ (us : List Run). (let run : Run = record { client = new_client; steps = moves_of p } in run) ∷ us) (fresh_runs ps rs (omega arith) (λ i x h at. fresh (suc i) x (omega arith) at))
 
+-- and none has answered a step
 all_at : {X : Type 0} (f : X → Bool) (xs : List X) (i : ℕ) (x : X) → list_all f xs ≡ true → i < length xs → x ≡ get_or xs i x → f x ≡ true
 all_at f [] i x all h at = absurd (omega arith)
 all_at f (y ∷ xs) zero x all h at = ap f at ∙ first_so (f y) (list_all f xs) all
 all_at f (y ∷ xs) (suc i) x all h at = all_at f xs i x (second_so (f y) (list_all f xs) all) (omega arith) at
 
 pub few_programs : (ps : List (List ScriptStep)) → IsTrue (within_limits ps) → length ps ≤ 16
-few_programs ps limits = leb-true (length ps) 16 (first_so (nat_le (length ps) 16) (list_all (λ (p : List ScriptStep). nat_le (length p) 256) ps) limits)
+few_programs ps limits = leb-true (length ps) 16 (first_so (nat_le (length ps) 16) (list_all (λ (p : List ScriptStep). nat_le (length p) 60000) ps) limits)
 
-pub AreRuns-fresh : (world : List Opening) (ps : List (List ScriptStep)) (rs : List CodeRun) → IsTrue (within_limits ps) → length rs ≡ length ps → ((i : ℕ) (r : CodeRun) → i < length rs → r ≡ get_or rs i r → IsFresh r × (r.client.number ≡ i)) → AreRuns world [] ps rs
-AreRuns-fresh world ps rs limits long fresh = record {
+pub AreRuns-fresh : (known : Known) (ps : List (List ScriptStep)) (rs : List CodeRun) → known.log ≡ [] → IsTrue (within_limits ps) → length rs ≡ length ps → ((i : ℕ) (r : CodeRun) → i < length rs → r ≡ get_or rs i r → IsFresh r × (r.client.number ≡ i)) → AreRuns known ps rs
+AreRuns-fresh known ps rs none limits long fresh = record {
   long = long;
+  few = omega (arith, long, few_programs ps limits);
+  calls = let no : length known.log ≡ 0 = ap length none in omega (arith, no);
   each = λ i p r h at_p at_r.
       let is = fresh i r h at_r in
-      let short : length p ≤ 256 = leb-true (length p) 256 (all_at (λ (q : List ScriptStep). nat_le (length q) 256) ps i p (second_so (nat_le (length ps) 16) (list_all (λ (q : List ScriptStep). nat_le (length q) 256) ps) limits) (omega arith) at_p) in
-      (record { sound = is.0.sound world; counted = is.0.made; before = omega (arith, is.0.made, is.0.at); within = omega (arith, is.0.at); short = short }, is.1);
+      let short : length p ≤ 60000 = leb-true (length p) 60000 (all_at (λ (q : List ScriptStep). nat_le (length q) 60000) ps i p (second_so (nat_le (length ps) 16) (list_all (λ (q : List ScriptStep). nat_le (length q) 60000) ps) limits) (omega arith) at_p) in
+      (record { sound = is.0.sound known; within = omega (arith, is.0.at); short = short }, is.1);
 }
 
 -- ---- what the simulation does
 
-pub turned : (table : SchemaTable) (made : Bool) (known known' : Known) (ps : List (List ScriptStep)) (rs : List CodeRun) (c : ℕ) (p : List ScriptStep) (old new : CodeRun) → AreRuns known.world known.log ps rs → c < length rs → p ≡ get_or ps c p → old ≡ get_or rs c old → Goes table made old.client.number known p old known' new → IsRun known'.world known'.log p new → new.client.number ≡ old.client.number → Turns table made ps c known rs known' (set rs c new)
-turned table true known known' ps rs c p old new are h at_p at_old goes run number =
+pub turned : BegunLasts → GivenLasts → (table : SchemaTable) (made : Bool) (known known' : Known) (ps : List (List ScriptStep)) (rs : List CodeRun) (c : ℕ) (p : List ScriptStep) (old new : CodeRun) → AreRuns known ps rs → c < length rs → p ≡ get_or ps c p → old ≡ get_or rs c old → Goes table made old.client.number known p old known' new → IsRun known' p new → new.client.number ≡ old.client.number → Turns table made ps c known rs known' (set rs c new)
+turned begun given table true known known' ps rs c p old new are h at_p at_old goes run number =
     let same = (are.each c p old h at_p at_old).1 in (
-      turn-made table known.world known.log known'.log ps rs c p old new are h at_p at_old (subst (λ n. go table known.world known.log n (run_of p old) ≡ Some (let made : Made = record { log = known'.log; run = run_of p new } in made)) same goes.0),
-      AreRuns-set known known' ps rs c p new are (subst (λ n. GrowsBy n known known') same goes.1) h at_p run (number ∙ same),
+      turn-made table known.world known.log known'.log ps rs c p old new are.long h at_p at_old (subst (λ n. go table known.world known.log n (run_of p old) ≡ Some (let made : Made = record { log = known'.log; run = run_of p new } in made)) same goes.0),
+      AreRuns-set begun given known known' ps rs c p old new are (subst (λ n. GrowsBy n known known') same goes.1) goes.2 h at_p at_old run (number ∙ same),
       ap (λ (k : Known). k.world) goes.1.2,
     )
-turned table false known known' ps rs c p old new are h at_p at_old goes run number = turn-ended table known.world known.log ps rs c p old (client_of new.client) are h at_p at_old goes.0
+turned begun given table false known known' ps rs c p old new are h at_p at_old goes run number = turn-ended table known.world known.log ps rs c p old (client_of new.client) are.long h at_p at_old goes.0
 
 -- where lists are the same from an index on, so is what stands there
 get_drop : {X : Type 0} (xs : List X) (i : ℕ) (d : X) → get_or (drop i xs) 0 d ≡ get_or xs i d
@@ -194,7 +209,7 @@ map_push (x ∷ rs) r = ap (λ (us : List (List StepReply)). replies_in x ∷ us
 pub replies_push : (rs : List CodeRun) (i : ℕ) (new : CodeRun) → i < length rs → map replies_in (take (i + 1) (set rs i new)) ≡ map replies_in (take i rs) ++ replies_in new ∷ []
 replies_push rs i new h = ap (map replies_in) (take-set_at rs i (i + 1) new refl h) ∙ map_push (take i rs) new
 
-pub all_ended : (table : SchemaTable) (world : List Opening) (log : List Entry) (ps : List (List ScriptStep)) (rs now : List CodeRun) (i : ℕ) → length rs ≤ i → length ps ≤ i → length now ≤ i → with_replies (map replies_in (take i now)) (replies_of table world log (runs_of (drop i ps) (drop i rs))) ≡ Some (map replies_in now)
+pub all_ended : (table : SchemaTable) (world : List Domain) (log : List Entry) (ps : List (List ScriptStep)) (rs now : List CodeRun) (i : ℕ) → length rs ≤ i → length ps ≤ i → length now ≤ i → with_replies (map replies_in (take i now)) (replies_of table world log (runs_of (drop i ps) (drop i rs))) ≡ Some (map replies_in now)
 all_ended table world log ps rs now i h g k =
     (λ j. with_replies (map replies_in (take_all i now k j)) (replies_of table world log (runs_of (drop_all i ps g j) (drop_all i rs h j)))) ∙ ap Some (append-nil (map replies_in now))
 

@@ -1,5 +1,5 @@
 -- What a client makes of texts and values, or why it makes nothing.
-use Rattle.std.specs.Prelude.{◌≡◌, Bool, List, Result, Ok, Err}
+use Rattle.std.specs.Prelude.{Bool, List, Result, Ok, Err}
 use Rattle.sal_rows.specs.Apply.{rows_of_act}
 use Rattle.sal_schema.specs.Fitting.{fits}
 use Rattle.serde_json.specs.View.{view}

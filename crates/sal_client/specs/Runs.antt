@@ -1,6 +1,6 @@
 -- A client's run, as the definitions have it.
-use Rattle.std.specs.Prelude.{◌≡◌, ℕ, ◌+◌, ◌≤◌, ◌<◌, Bool, true, false, List, [], ◌∷◌, ◌++◌, length, drop, map, None, Some, Result, Ok, Err, slice_index_or}
-use Rattle.sal_history.specs.World.{Domain, table_of}
+use Rattle.std.specs.Prelude.{◌≡◌, ℕ, ◌+◌, ◌≤◌, ◌<◌, Bool, true, false, List, [], ◌∷◌, length, drop, map, None, Some, Result, Ok, Err, slice_index_or}
+use Rattle.sal_history.specs.World.{Domain}
 use Rattle.sal_history.specs.declared.call.Entry.{Entry}
 use Rattle.sal_schema.specs.declared.table.SchemaTable.{SchemaTable}
 use Rattle.sal_script.specs.declared.reply.StepReply.{StepReply}

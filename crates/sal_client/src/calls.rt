@@ -2,6 +2,7 @@
 ghost use Rattle.std.specs.Prelude.{◌≡◌, ◌<◌, IfOk, OnOk, length};
 ghost use Rattle.sal_history.specs.World.{table_of};
 ghost use Rattle.sal_hub.specs.Answers.{limit};
+ghost use Rattle.sal_hub.specs.Tokens.{begun_of};
 ghost use Rattle.sal_script.specs.Moves.{Begin, Submit, Cancel, Settle};
 
 use crate::client::{ClientState, Standing, Went, refused};

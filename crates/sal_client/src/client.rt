@@ -2,6 +2,8 @@
 ghost use Rattle.std.specs.Prelude.{◌≡◌, ◌<◌, IfOk, OnOk, [], length};
 ghost use Rattle.sal_history.specs.World.{Domain, table_of};
 ghost use Rattle.sal_hub.specs.Answers.{limit};
+ghost use Rattle.sal_hub.specs.Tokens.{mode_of};
+ghost use Rattle.sal_client.specs.Clients.{standing_in};
 ghost use Rattle.sal_script.specs.Moves.{move_of};
 ghost use Rattle.sal_script.specs.Play.{new_client};
 

@@ -114,7 +114,5 @@ fn act_fits(schema: &Schema, path: &Path, act: &Act) -> bool
 pub(crate) fn fits_op(schema: &Schema, op: &Op) -> bool
     ensures { IsTrue result → IsForSchema schema.now op.now }
 {
-    schema.fits(&op.path)
-        && !schema.is_in_message(&op.path)
-        && act_fits(schema, &op.path, &op.act)
+    schema.fits(&op.path) && !schema.is_in_message(&op.path) && act_fits(schema, &op.path, &op.act)
 }

@@ -9,7 +9,7 @@ ghost use Rattle.sal_client.specs.Runs.{replies_in, runs_of, stand_of, AreRuns, 
 
 use crate::reader::Reader;
 use crate::run::Run;
-use sal_hub::Hub;
+use sal_hub::{Hub, laws};
 use sal_io::Gate;
 use sal_script::{Program, Script, StepReply};
 use sal_types::{NoMemory, Seq};
@@ -76,18 +76,13 @@ impl Simulation {
         requires table { reader.now ≡ table_of self.old.hub.world 0 }
         ensures { IfOk result (λ made. Turns reader.now made programs.now client self.old.hub self.old.runs.items self.new.hub self.new.runs.items) }
     {
+        laws::tokens_last();
         let index = client as usize;
         if index >= self.runs.len() {
             return Ok(false);
         }
         let run = &mut self.runs[index];
-        let made = run.go(
-            alloc,
-            reader,
-            &mut self.hub,
-            programs[index].items(),
-            gate,
-        )?;
+        let made = run.go(alloc, reader, &mut self.hub, programs[index].items(), gate)?;
         Ok(made)
     }
 

@@ -1,5 +1,5 @@
 //! Writes in a client's transaction.
-ghost use Rattle.std.specs.Prelude.{◌≡◌, Some, IfOk, OnOk, MatchResult, Result as Outcome, Unit};
+ghost use Rattle.std.specs.Prelude.{◌≡◌, Some, IfOk, OnOk, MatchResult, ⊤};
 ghost use Rattle.sal_history.specs.World.{table_of};
 ghost use Rattle.sal_script.specs.Play.{Client, Open, accept_unless, local};
 ghost use Rattle.sal_script.specs.Play as play_spec;
@@ -18,8 +18,8 @@ use std::alloc::Global;
 
 // The reply to a write that the transaction answered so.
 fn reply_to(answer: Result<(), TxFault>) -> Result<StepReply, NoMemory>
-    ensures { IfOk result (λ r. MatchResult answer (λ _. r ≡ StepReply.Accepted) (λ fault. r ≡ StepReply.Refused (StepRefusal.Write fault))) }
-    ensures memory { IfOk result (λ _. MatchResult answer (λ _. Unit {0}) (λ fault. fault ≡ TxFault.NoMemory → ⊥)) }
+    ensures reply { IfOk result (λ r. MatchResult answer (λ _. r ≡ StepReply.Accepted) (λ fault. r ≡ StepReply.Refused (StepRefusal.Write fault))) }
+    ensures memory { IfOk result (λ _. MatchResult answer (λ _. ⊤) (λ fault. fault ≡ TxFault.NoMemory → ⊥)) }
 {
     match answer {
         Ok(()) => Ok(StepReply::Accepted),

@@ -10,7 +10,7 @@ loop-i-preserved c =
     let items = c.in_ok-push.ensures.items in
     let long = c.loop-i.invariant.long in
     let new = c.new.ensures in
-    let fresh : IsFresh c.new.result = record { made = new.made; at = new.at; client = new.client; sound = new.sound } in
+    let fresh : IsFresh c.new.result = record { at = new.at; client = new.client; sound = new.sound } in
     record {
       long = ap length items ∙ length-append c.loop-i.runs.items (c.new.result ∷ []) ∙ ap (λ n. n + 1) long;
       each = subst (λ (rs : List CodeRun). (k : _) (r : CodeRun) → k < length rs → r ≡ get_or rs k r → IsFresh r × (r.client.number ≡ k)) (sym items) (fresh_more c.loop-i.runs.items c.new.result c.loop-i.invariant.each fresh (new.number ∙ sym long));
@@ -22,6 +22,6 @@ returns-clause-stand c =
     ap (λ (us : List Run). let s : Stand = record { log = []; runs = us } in s) (fresh_runs c.args.programs.now c.loop-i.runs.items long (λ k r h at. (c.loop-i.invariant.each k r h at).0))
 
 pub returns-clause-runs : goal.returns-clause-runs
-returns-clause-runs c world =
+returns-clause-runs c known none =
     let long : length c.loop-i.runs.items ≡ length c.args.programs.now = omega (arith, c.loop-i.invariant.long) in
-    AreRuns-fresh world c.args.programs.now c.loop-i.runs.items c.requires long c.loop-i.invariant.each
+    AreRuns-fresh known c.args.programs.now c.loop-i.runs.items none c.requires long c.loop-i.invariant.each

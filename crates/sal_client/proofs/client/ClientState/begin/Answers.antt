@@ -1,59 +1,55 @@
 -- The transaction that begins stands in its slot.
-use Rattle.std.proofs.Common.{◌≡◌, ℕ, [], ◌∷◌, ◌++◌, refl, ap, ◌∙◌}
+use Rattle.std.proofs.Common.{refl, ap, sym, ◌∙◌, subst}
 use Rattle.sal_history.specs.declared.call.Call.TheVariants.{Begin as BeginCall}
-use Rattle.sal_history.specs.declared.call.Entry.{Entry}
+use Rattle.sal_history.specs.declared.reply.Reply.TheVariants.{Refused}
+use Rattle.sal_script.specs.Moves.{Begin}
 use Rattle.sal_script.specs.declared.reply.StepReply.TheVariants.{Called}
-use Rattle.sal_client.specs.Known.{more}
+use Rattle.sal_hub.specs.Known.{Known, entry_of}
+use Rattle.sal_hub.specs.Tokens.{begun_of}
 use Rattle.sal_client.specs.Slots.{held}
-use Rattle.sal_client.specs.Views.{IsSoundView}
-use Rattle.sal_client.specs.Clients.{client_of}
-use Rattle.sal_client.proofs.Soundness.{each_filled, opened-filled, IsSound-push, IsSoundView-begin}
-use Rattle.sal_client.proofs.Answering.{kept-begin, kept-refused}
+use Rattle.sal_client.specs.Clients.{IsOwn, IsSound, client_of, open_of}
+use Rattle.sal_client.proofs.Places.{seen-filled}
+use Rattle.sal_client.proofs.Soundness.{IsSound-filled, IsSound-more, live_zero}
+use Rattle.sal_client.proofs.Answering.{called, kept-begin, made_refused, not_full}
 use Rattle.sal_client.proofs.client.ClientState.begin.Goals as goal
 
-pub returns-in_ok-fill_slot-clause-answers : goal.returns-in_ok-fill_slot-clause-answers
-returns-in_ok-fill_slot-clause-answers c =
+pub returns-in_ok-fill_slot-in-Ok-clause-answers : goal.returns-in_ok-fill_slot-in-Ok-clause-answers
+returns-in_ok-fill_slot-in-Ok-clause-answers c =
     let old = c.args.self.now in
-    let known = c.args.broker.now in
-    let ok = c.in_ok-reply.ensures.ok in
-    let counted = ap (λ n. let x : Entry = record { client = old.number; number = n; call = BeginCall c.args.domain c.args.mode } in x) c.requires.counted in (
+    let known = c.args.hub.now in
+    let tx = c.in-Ok.tx in
+    let begun = begun_of tx in
+    let filled = seen-filled open_of (held old.transactions) (held c.fill_slot.new.slots) c.args.slot tx c.in_ok-fill_slot-in-Ok.ensures in (
       BeginCall c.args.domain c.args.mode,
-      record {
-        met = refl;
-        entry = ok.0 ∙ ap (more known) counted;
-        replied = ap Called ok.1;
-        kept = kept-begin known.world known.log _ c.args.slot c.args.domain c.args.mode c.in_ok-tx.tx (client_of old) _ c.if-domain-eq0.true refl c.in_ok-tx.ensures
-            (opened-filled (held old.transactions) (held c.fill_slot.new.slots) c.args.slot c.in_ok-tx.tx c.in_ok-fill_slot.ensures);
-      },
+      called c.args.reader.now c.called.result old.number known (client_of old) (Begin c.args.slot c.args.domain c.args.mode) c.begin.new.self _ (BeginCall c.args.domain c.args.mode) _ refl c.in-Ok.ensures.answer (c.called.ensures ∙ ap Called c.begun-reply.ensures)
+          (kept-begin known c.args.slot c.args.domain begun.base_commit begun.on c.args.mode tx (client_of old) _ c.in-Ok.ensures.fresh filled),
     )
 
-pub returns-else-domain-eq0-clause-answers : goal.returns-else-domain-eq0-clause-answers
-returns-else-domain-eq0-clause-answers c =
+pub returns-in_ok-fill_slot-in-Ok-clause-sound : goal.returns-in_ok-fill_slot-in-Ok-clause-sound
+returns-in_ok-fill_slot-in-Ok-clause-sound c =
     let old = c.args.self.now in
-    let known = c.args.broker.now in
-    let ok = c.in_ok-reply.ensures.ok in
-    let counted = ap (λ n. let x : Entry = record { client = old.number; number = n; call = BeginCall c.args.domain c.args.mode } in x) c.requires.counted in (
-      BeginCall c.args.domain c.args.mode,
-      record {
-        met = refl;
-        entry = ok.0 ∙ ap (more known) counted;
-        replied = ap Called ok.1;
-        kept = kept-refused known.world known.log _ c.args.slot c.args.domain c.args.mode (client_of old) c.if-domain-eq0.false refl;
-      },
-    )
+    let known = c.args.hub.now in
+    let tx = c.in-Ok.tx in
+    let made = c.in-Ok.ensures.answer in
+    let was : IsSound c.begin.new.self old = subst (λ (k : Known). IsSound k old) (sym made.log) (IsSound-more c.tokens_last.ensures.begun c.tokens_last.ensures.given known (entry_of known old.number (BeginCall c.args.domain c.args.mode)) old c.requires.sound) in
+    let own : IsOwn c.begin.new.self tx = record { token = c.in-Ok.ensures.token; own = c.in-Ok.ensures.fresh.domain ∙ live_zero c.args.domain _ (begun_of tx).base_commit (begun_of tx).on made.reply } in
+    IsSound-filled c.begin.new.self old _ c.args.slot tx was own c.in_ok-fill_slot-in-Ok.ensures refl
 
-pub returns-in_ok-fill_slot-clause-sound : goal.returns-in_ok-fill_slot-clause-sound
-returns-in_ok-fill_slot-clause-sound c =
+pub returns-in_ok-reply-in-Err-clause-answers : goal.returns-in_ok-reply-in-Err-clause-answers
+returns-in_ok-reply-in-Err-clause-answers c =
     let old = c.args.self.now in
-    let known = c.args.broker.now in
-    let e : ℕ → Entry = λ d. record { client = old.number; number = old.made; call = BeginCall d c.args.mode } in
-    let now : c.begin-2.new.self ≡ more known (e 0) = c.in_ok-reply.ensures.ok.0 ∙ ap (λ d. more known (e d)) c.if-domain-eq0.true in
-    let was = IsSound-push known.world known.log (e 0) old c.requires.sound in
-    let begun = IsSoundView-begin known.world known.log old.number old.made c.args.mode c.in_ok-tx.tx c.in_ok-tx.ensures in
-    rw now (record {
-      transactions = each_filled (IsSoundView known.world (known.log ++ e 0 ∷ [])) (held old.transactions) (held c.fill_slot.new.slots) c.args.slot c.in_ok-tx.tx c.in_ok-fill_slot.ensures begun was.transactions;
-      receipts = was.receipts;
-    })
+    let known = c.args.hub.now in
+    let call = BeginCall c.args.domain c.args.mode in
+    let e = entry_of known old.number call in
+    let fails = c.in-Err.ensures.answer in
+    let made = made_refused known c.begin.new.self e c.in-Err.fault fails (not_full known c.begin.new.self e c.in-Err.fault fails c.requires.room) c.in_ok-reply-in-Err.ensures.memory in
+    (call, called c.args.reader.now c.in_ok-reply-in-Err.reply old.number known (client_of old) (Begin c.args.slot c.args.domain c.args.mode) c.begin.new.self (client_of old) call (Refused c.in-Err.fault) refl made c.in_ok-reply-in-Err.ensures.reply refl)
 
-pub returns-else-domain-eq0-clause-sound : goal.returns-else-domain-eq0-clause-sound
-returns-else-domain-eq0-clause-sound c = rw c.in_ok-reply.ensures.ok.0 (IsSound-push c.args.broker.now.world c.args.broker.now.log _ c.args.self.now c.requires.sound)
+pub returns-in_ok-reply-in-Err-clause-sound : goal.returns-in_ok-reply-in-Err-clause-sound
+returns-in_ok-reply-in-Err-clause-sound c =
+    let old = c.args.self.now in
+    let known = c.args.hub.now in
+    let e = entry_of known old.number (BeginCall c.args.domain c.args.mode) in
+    let fails = c.in-Err.ensures.answer in
+    let made = made_refused known c.begin.new.self e c.in-Err.fault fails (not_full known c.begin.new.self e c.in-Err.fault fails c.requires.room) c.in_ok-reply-in-Err.ensures.memory in
+    subst (λ (k : Known). IsSound k old) (sym made.log) (IsSound-more c.tokens_last.ensures.begun c.tokens_last.ensures.given known e old c.requires.sound)

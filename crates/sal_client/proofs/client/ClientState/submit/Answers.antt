@@ -1,57 +1,75 @@
--- The transaction's slot is empty, and its receipt stands in the receipt slot.
-use Rattle.std.proofs.Common.{◌≡◌, ℕ, ◌<◌, ◌≤◌, List, [], ◌∷◌, ◌++◌, length, Some, refl, ap, sym, ◌∙◌}
+-- The transaction's slot is empty, and its receipt stands in the receipt slot; or it was refused, and stands there as before.
+use Rattle.std.proofs.Common.{◌≡◌, Some, refl, ap, sym, ◌∙◌, subst}
 use Rattle.std.specs.Option.{option_map}
-use Rattle.sal_rows.specs.declared.op.Op.{Op}
 use Rattle.sal_history.specs.declared.call.Call.TheVariants.{Submit as SubmitCall}
-use Rattle.sal_history.specs.declared.call.Entry.{Entry}
-use Rattle.sal_history.specs.History.{entries_of, history, reply, sents}
-use Rattle.sal_history.specs.declared.reply.Reply.{Reply}
-use Rattle.sal_history.specs.declared.reply.Reply.TheVariants.{Receipt}
-use Rattle.sal_script.specs.declared.script.ScriptStep.TheVariants.{Submit as SubmitStep}
+use Rattle.sal_history.specs.declared.reply.Reply.TheVariants.{Receipt, Refused}
+use Rattle.sal_script.specs.Moves.{Submit}
+use Rattle.sal_script.specs.Play.{set_slot}
+use Rattle.sal_tx.specs.declared.writing.Writing.{Writing}
 use Rattle.sal_script.specs.declared.reply.StepReply.TheVariants.{Called}
-use Rattle.sal_script.specs.Play.{keep}
-use Rattle.sal_client.specs.Known.{more}
+use Rattle.sal_tx.specs.declared.tx.Tx.{Tx}
+use Rattle.sal_tx.specs.declared.tx.Tx.TheVariants.{Write}
+use Rattle.sal_hub.specs.Known.{Known, entry_of}
 use Rattle.sal_client.specs.Slots.{held}
-use Rattle.sal_client.specs.Views.{open_of, IsSoundView}
-use Rattle.sal_client.specs.Clients.{client_of, opened}
-use Rattle.sal_client.proofs.Soundness.{each_filled, each_emptied, opened-emptied, IsSound-push}
-use Rattle.sal_client.proofs.Answering.{submit-writable, given-submit}
+use Rattle.sal_client.specs.Clients.{IsSound, client_of, number_of, open_of, opened}
+use Rattle.sal_client.proofs.Places.{put_back, seen-emptied, seen-filled}
+use Rattle.sal_client.proofs.Soundness.{IsSound-more, IsSound-same, IsSound-submitted}
+use Rattle.sal_client.proofs.Answering.{called, made_refused, not_full, submit-writable}
 use Rattle.sal_client.proofs.client.ClientState.submit.Goals as goal
 
-abbrev entry : (c : goal.After-drop-tx-in-Some-2) → ℕ → List Op → Entry
-entry c n ops = record { client = c.args.self.now.number; number = n; call = SubmitCall c.in-Some.tx.place ops }
-
--- the operations are handed on
-same_log : (c : goal.After-drop-tx-in-Some-2) → c.submit.new.self ≡ more c.args.broker.now (entry c c.args.self.now.made c.in-Some.tx.ops.items)
-same_log c = c.in_ok-number-in-Some.ensures.ok.0 ∙ ap (λ (ops : List Op). more c.args.broker.now (entry c c.args.self.now.made ops)) c.from_items-ops.ensures
-
-pub returns-in_ok-fill_slot-in-Some-clause-answers : goal.returns-in_ok-fill_slot-in-Some-clause-answers
-returns-in_ok-fill_slot-in-Some-clause-answers c =
+pub returns-in_ok-fill_slot-in-Ok-clause-answers : goal.returns-in_ok-fill_slot-in-Ok-clause-answers
+returns-in_ok-fill_slot-in-Ok-clause-answers c =
     let old = c.args.self.now in
-    let known = c.args.broker.now in
-    let tx = c.in-Some.tx in
-    let found : opened old c.args.slot ≡ Some (open_of tx) = ap (option_map open_of) (sym c.in-Some.ensures.value) in
-    let emptied = opened-emptied (held old.transactions) (held c.take_slot.new.slots) c.args.slot c.take_slot.ensures.after in
-    let receipt : Receipt c.in_ok-number-in-Some.number ≡ reply known.world known.log (entry c (entries_of known.log old.number) tx.ops.items) = c.in_ok-number-in-Some.ensures.ok.1 in (
-      SubmitCall tx.place tx.ops.items,
-      record {
-        met = submit-writable known.world (client_of old) (opened old c.args.slot) (open_of tx) found c.requires.writable;
-        entry = same_log c ∙ ap (λ n. more known (entry c n tx.ops.items)) c.requires.counted;
-        replied = ap Called receipt;
-        kept =
-            (λ i. record { transactions = emptied i; receipts = c.in_ok-fill_slot-in-Some.ensures i; replies = old.replies.items })
-            ∙ ap (λ (r : Reply). keep (length known.log) (SubmitStep c.args.slot) r (client_of old)) receipt;
-      },
+    let known = c.args.hub.now in
+    let tx = c.in-Some-Write.tx in
+    let call = SubmitCall tx.begun.place tx.changes in
+    let found : opened old c.args.slot ≡ Some (open_of (Write tx)) = ap (option_map open_of) (sym c.in-Some-Write.ensures.value) ∙ ap (λ (t : Tx). Some (open_of t)) c.in-Some-Write.field-0-is in
+    let emptied = seen-emptied open_of (held old.transactions) (held c.take_slot.new.slots) c.args.slot c.take_slot.ensures.after in
+    let filled = seen-filled number_of (held old.receipts) (held c.fill_slot.new.slots) c.args.slot c.in-Ok.receipt c.in_ok-fill_slot-in-Ok.ensures in (
+      call,
+      called c.args.reader.now c.called.result old.number known (client_of old) (Submit c.args.slot) c.submit.new.self _ call _ (submit-writable (client_of old) (opened old c.args.slot) (open_of (Write tx)) found c.requires.writable) c.in-Ok.ensures.answer
+          (c.called.ensures ∙ ap (λ n. Called (Receipt n)) c.number-number.ensures) (λ i. record (client_of old) { transactions = emptied i; receipts = filled i }),
     )
 
-pub returns-in_ok-fill_slot-in-Some-clause-sound : goal.returns-in_ok-fill_slot-in-Some-clause-sound
-returns-in_ok-fill_slot-in-Some-clause-sound c =
+pub returns-in_ok-fill_slot-in-Ok-clause-sound : goal.returns-in_ok-fill_slot-in-Ok-clause-sound
+returns-in_ok-fill_slot-in-Ok-clause-sound c =
     let old = c.args.self.now in
-    let known = c.args.broker.now in
-    let e : Entry = entry c old.made c.in-Some.tx.ops.items in
-    let was = IsSound-push known.world known.log e old c.requires.sound in
-    let given = given-submit known.world known.log e c.in-Some.tx.place c.in-Some.tx.ops.items c.in_ok-number-in-Some.number refl c.in_ok-number-in-Some.ensures.ok.1 in
-    rw (same_log c) (record {
-      transactions = each_emptied (IsSoundView known.world (known.log ++ e ∷ [])) (held old.transactions) (held c.take_slot.new.slots) c.args.slot c.take_slot.ensures.after was.transactions;
-      receipts = each_filled (λ n. (0 < n) × (n ≤ length (sents (history known.world (known.log ++ e ∷ []))))) (held old.receipts) (held c.fill_slot.new.slots) c.args.slot c.in_ok-number-in-Some.number c.in_ok-fill_slot-in-Some.ensures given was.receipts;
-    })
+    let known = c.args.hub.now in
+    let tx = c.in-Some-Write.tx in
+    let was : IsSound c.submit.new.self old = subst (λ (k : Known). IsSound k old) (sym c.in-Ok.ensures.answer.log) (IsSound-more c.tokens_last.ensures.begun c.tokens_last.ensures.given known (entry_of known old.number (SubmitCall tx.begun.place tx.changes)) old c.requires.sound) in
+    IsSound-submitted c.submit.new.self old _ c.args.slot c.in-Ok.receipt was c.in-Ok.ensures.given c.take_slot.ensures.after c.in_ok-fill_slot-in-Ok.ensures
+
+-- a transaction that was refused is put back
+restored : (c : goal.In_ok-fill_slot-in-Err) → held c.fill_slot-in-Err.new.slots ≡ held c.args.self.now.transactions
+restored c =
+    let tx = c.in-Some-Write.tx in
+    let holds : held c.args.self.now.transactions c.args.slot ≡ Some (Write tx) = sym c.in-Some-Write.ensures.value ∙ ap Some c.in-Some-Write.field-0-is in
+    put_back (held c.args.self.now.transactions) (held c.take_slot.new.slots) (held c.fill_slot-in-Err.new.slots) c.args.slot (Write tx) holds c.take_slot.ensures.after
+    (c.in_ok-fill_slot-in-Err.ensures ∙ ap (λ (w : Writing). set_slot c.args.slot (Some (Write w)) (held c.take_slot.new.slots)) c.in-Err.ensures.answer.0)
+
+pub returns-in_ok-fill_slot-in-Err-clause-answers : goal.returns-in_ok-fill_slot-in-Err-clause-answers
+returns-in_ok-fill_slot-in-Err-clause-answers c =
+    let old = c.args.self.now in
+    let known = c.args.hub.now in
+    let tx = c.in-Some-Write.tx in
+    let call = SubmitCall tx.begun.place tx.changes in
+    let e = entry_of known old.number call in
+    let fault = c.in-Err.fault in
+    let fails = c.in-Err.ensures.answer.1 in
+    let made = made_refused known c.submit.new.self e fault fails (not_full known c.submit.new.self e fault fails c.requires.room) c.in_ok-reply-in-Err.ensures.memory in
+    let found : opened old c.args.slot ≡ Some (open_of (Write tx)) = ap (option_map open_of) (sym c.in-Some-Write.ensures.value) ∙ ap (λ (t : Tx). Some (open_of t)) c.in-Some-Write.field-0-is in (
+      call,
+      called c.args.reader.now c.in_ok-reply-in-Err.reply old.number known (client_of old) (Submit c.args.slot) c.submit.new.self _ call (Refused fault) (submit-writable (client_of old) (opened old c.args.slot) (open_of (Write tx)) found c.requires.writable) made
+          c.in_ok-reply-in-Err.ensures.reply (λ i. record (client_of old) { transactions = λ k. option_map open_of (restored c i k) }),
+    )
+
+pub returns-in_ok-fill_slot-in-Err-clause-sound : goal.returns-in_ok-fill_slot-in-Err-clause-sound
+returns-in_ok-fill_slot-in-Err-clause-sound c =
+    let old = c.args.self.now in
+    let known = c.args.hub.now in
+    let e = entry_of known old.number (SubmitCall c.in-Some-Write.tx.begun.place c.in-Some-Write.tx.changes) in
+    let fault = c.in-Err.fault in
+    let fails = c.in-Err.ensures.answer.1 in
+    let made = made_refused known c.submit.new.self e fault fails (not_full known c.submit.new.self e fault fails c.requires.room) c.in_ok-reply-in-Err.ensures.memory in
+    let was : IsSound c.submit.new.self old = subst (λ (k : Known). IsSound k old) (sym made.log) (IsSound-more c.tokens_last.ensures.begun c.tokens_last.ensures.given known e old c.requires.sound) in
+    IsSound-same c.submit.new.self old _ was (restored c) refl

@@ -7,9 +7,9 @@ use Rattle.sal_client.proofs.simulation.Simulation.finish.Given as goal
 
 abbrev pub invariant-loop-i : goal.invariant-loop-i
 invariant-loop-i g l = record {
-  log : l.self.broker ≡ l.initial.self.broker;
+  log : l.self.hub ≡ l.initial.self.hub;
   long : length l.self.runs.items ≡ length l.initial.self.runs.items;
   rest : drop l.i l.self.runs.items ≡ drop l.i l.initial.self.runs.items;
-  replies : with_replies (map replies_in (take l.i l.self.runs.items)) (replies_of l.reader l.initial.self.broker.world l.initial.self.broker.log (runs_of (drop l.i l.programs) (drop l.i l.initial.self.runs.items)))
-      ≡ replies_of l.reader l.initial.self.broker.world l.initial.self.broker.log (runs_of l.programs l.initial.self.runs.items);
+  replies : with_replies (map replies_in (take l.i l.self.runs.items)) (replies_of l.reader l.initial.self.hub.world l.initial.self.hub.log (runs_of (drop l.i l.programs) (drop l.i l.initial.self.runs.items)))
+      ≡ replies_of l.reader l.initial.self.hub.world l.initial.self.hub.log (runs_of l.programs l.initial.self.runs.items);
 }

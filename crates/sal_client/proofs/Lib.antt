@@ -1,0 +1,6 @@
+pub mod Answering
+pub mod Going
+pub mod Places
+pub mod Soundness
+pub mod Standing
+pub mod Writing

@@ -1,0 +1,60 @@
+-- A write in a transaction, as the definitions have it.
+use Rattle.std.proofs.Common.{◌≡◌, ℕ, [], ◌∷◌, ◌++◌, Some, Result, Ok, Err, ap, sym, ◌∙◌, subst, inl, inr}
+use Rattle.std.specs.Prelude.{MatchResult, OnErr, ⊤}
+use Rattle.sal_rows.specs.declared.op.Op.{Op}
+use Rattle.sal_rows.specs.Apply.{apply_ops}
+use Rattle.sal_schema.specs.declared.table.SchemaTable.{SchemaTable}
+use Rattle.sal_tree.specs.declared.commit.Pair.{Pair}
+use Rattle.sal_tx.specs.declared.begun.Begun.{Begun}
+use Rattle.sal_tx.specs.declared.tx.Tx.TheVariants.{Write}
+use Rattle.sal_tx.specs.declared.writing.Writing.{Writing}
+use Rattle.sal_tx.specs.declared.fault.TxFault.{TxFault}
+use Rattle.sal_tx.specs.declared.fault.TxFault.TheVariants.{NoMemory}
+use Rattle.sal_tx.specs.Refusals.{refusal}
+use Rattle.sal_tx.specs.Views.{HasOneMore, IsOutcome, refused as refused_over}
+use Rattle.sal_history.specs.World.{table_of}
+use Rattle.sal_script.specs.declared.reply.StepReply.{StepReply}
+use Rattle.sal_script.specs.declared.reply.StepReply.TheVariants.{Accepted, Refused}
+use Rattle.sal_script.specs.declared.reply.StepRefusal.TheVariants.{Write as WriteRefused}
+use Rattle.sal_script.specs.Play.{Client, Open, Slots, accept_unless, local, seen_by, set_slot, write_op}
+use Rattle.sal_hub.specs.Known.{Known}
+use Rattle.sal_hub.specs.Tokens.{IsBegun}
+use Rattle.sal_client.specs.Clients.{IsOwn, open_of}
+use Rattle.sal_client.proofs.Places.{put_same}
+
+module _ (known : Known) (table : SchemaTable) (old : Writing) (own : IsOwn known (Write old)) (of_zero : table ≡ table_of known.world 0) where
+  -- a transaction refuses what the definitions refuse
+  same_refusal : (op : Op) → refusal table (seen_by table known.world known.log (open_of (Write old)) op.store) op ≡ refused_over old op
+  same_refusal op =
+      let of_tx : table ≡ old.begun.schema.value = of_zero ∙ ap (table_of known.world) (sym own.own) ∙ sym own.token.schema in
+      λ i. refusal (of_tx i) (apply_ops (sym (own.token.base op.store) i) op.store old.changes) op
+
+  one_more : (op : Op) (new : Writing) → HasOneMore old op new → open_of (Write new) ≡ record (open_of (Write old)) { ops = old.changes ++ op ∷ [] }
+  one_more op new has = λ i. record { place = (has.1 i).place; domain = (has.1 i).domain; mode = has.2 i; ops = has.0 i }
+
+  -- a write that was answered so
+  pub written : (slot : ℕ) (op : Op) (new : Writing) (answer : Result ⊤ TxFault) (r : StepReply) (client : Client) (f : Slots Open) → IsOutcome old op new answer → OnErr answer (new ≡ old) → MatchResult answer (λ _. r ≡ Accepted) (λ fault. r ≡ Refused (WriteRefused fault)) → MatchResult answer (λ _. ⊤) (λ fault. fault ≡ NoMemory → ⊥) → client.transactions slot ≡ Some (open_of (Write old)) → f ≡ set_slot slot (Some (open_of (Write new))) client.transactions → write_op table known.world known.log slot op (open_of (Write old)) client ≡ local r (record client { transactions = f })
+  written slot op new (Ok u) r client f outcome err reply memory here filled =
+      ap (λ o. accept_unless o slot op (open_of (Write old)) client) (same_refusal op ∙ outcome.0)
+      ∙ (λ i. local (sym reply i) (record client { transactions = set_slot slot (Some (sym (one_more op new outcome.1) i)) client.transactions }))
+      ∙ (λ i. local r (record client { transactions = sym filled i }))
+  written slot op new (Err fault) r client f outcome err reply memory here filled =
+      elim outcome [
+        | inl none ↦ absurd (memory none)
+        | inr why ↦
+            let same : client.transactions ≡ f = sym (filled ∙ ap (λ (w : Writing). set_slot slot (Some (open_of (Write w))) client.transactions) err ∙ put_same client.transactions slot (open_of (Write old)) here) in
+            ap (λ o. accept_unless o slot op (open_of (Write old)) client) (same_refusal op ∙ why)
+            ∙ (λ i. local (sym reply i) (record client { transactions = same i }))
+      ]
+
+  -- a transaction stays one of the log
+  pub IsOwn-written : (op : Op) (new : Writing) (answer : Result ⊤ TxFault) → IsOutcome old op new answer → OnErr answer (new ≡ old) → IsOwn known (Write new)
+  IsOwn-written op new (Ok u) outcome err =
+      let has = outcome.1 in
+      let begun : new.begun ≡ old.begun = has.1 in
+      let base : new.base ≡ old.base = has.3 in
+      record {
+        token = subst (λ (b : Begun). IsBegun known b new.base) (sym begun) (subst (λ (t : Pair). IsBegun known old.begun t) (sym base) own.token);
+        own = ap (λ (b : Begun). b.domain) begun ∙ own.own;
+      }
+  IsOwn-written op new (Err fault) outcome err = subst (λ (w : Writing). IsOwn known (Write w)) (sym err) own

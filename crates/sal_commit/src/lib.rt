@@ -16,9 +16,11 @@
 //! ```
 #![tactic(auto)]
 
+mod clashing;
 mod deciding;
 mod domain;
 mod phases;
+mod trees;
 
 pub use deciding::decide;
 pub use domain::Domain;

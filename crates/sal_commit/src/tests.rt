@@ -197,41 +197,67 @@ fn stand(alloc: Global, domain: &Domain) -> Result<[bool; 2], PathFault> {
     }
 }
 
-// The second submission comes too late, and the third leaves both trees, since the operational one would be invalid.
+// A put of the first container, on the opening: nothing stands in its way.
+fn is_done(rt: &impl Abort, alloc: Global, domain: &mut Domain) -> Result<bool, Fail>
+    requires { AreKept domain.old.commits.items }
+    ensures { IfOk result (λ b. AreKept domain.new.commits.items) }
+{
+    let first = put(rt, alloc, Store::Config, 0)?;
+    let second = delete(alloc, Store::Oper, 1)?;
+    let outcome = decided(rt, alloc, domain, 0, first, second)?;
+    Ok(outcome == Outcome::Done { commit: 1 })
+}
+
+// The same once more, on the opening still: it comes too late.
+fn is_late(rt: &impl Abort, alloc: Global, domain: &mut Domain) -> Result<bool, Fail>
+    requires { AreKept domain.old.commits.items }
+    ensures { IfOk result (λ b. AreKept domain.new.commits.items) }
+{
+    let first = put(rt, alloc, Store::Config, 0)?;
+    let second = delete(alloc, Store::Oper, 1)?;
+    let outcome = decided(rt, alloc, domain, 0, first, second)?;
+    let path = top(alloc, 0)?;
+    Ok(
+        outcome
+            == Outcome::Conflict {
+                store: Store::Config,
+                path,
+                kind: ClashKind::Created,
+                commit: 1,
+            },
+    )
+}
+
+// The second container lacks its choice, so the first one is not deleted either.
+fn is_invalid(rt: &impl Abort, alloc: Global, domain: &mut Domain) -> Result<bool, Fail>
+    requires { AreKept domain.old.commits.items }
+    ensures { IfOk result (λ b. AreKept domain.new.commits.items) }
+{
+    let first = delete(alloc, Store::Config, 0)?;
+    let second = put(rt, alloc, Store::Oper, 1)?;
+    let outcome = decided(rt, alloc, domain, 1, first, second)?;
+    let path = top(alloc, 1)?;
+    Ok(
+        outcome
+            == Outcome::Invalid {
+                store: Store::Oper,
+                path,
+                rule: Rule::Mandatory(2),
+            },
+    )
+}
+
 #[test]
 fn one_is_done_and_two_are_refused(rt: HostRuntime) -> Result<(), Fail> {
     let alloc = rt.alloc();
     let mut domain = domain(alloc)?;
-    let (first, second) = (
-        put(&rt, alloc, Store::Config, 0)?,
-        delete(alloc, Store::Oper, 1)?,
+    let done = is_done(&rt, alloc, &mut domain)?;
+    let late = is_late(&rt, alloc, &mut domain)?;
+    let invalid = is_invalid(&rt, alloc, &mut domain)?;
+    let [a, s] = stand(alloc, &domain)?;
+    assert_eq!(rt;
+        [done, late, invalid, a, s],
+        [true, true, true, true, false]
     );
-    let done = decided(&rt, alloc, &mut domain, 0, first, second)?;
-    let (first, second) = (
-        put(&rt, alloc, Store::Config, 0)?,
-        delete(alloc, Store::Oper, 1)?,
-    );
-    let late = decided(&rt, alloc, &mut domain, 0, first, second)?;
-    let (first, second) = (
-        delete(alloc, Store::Config, 0)?,
-        put(&rt, alloc, Store::Oper, 1)?,
-    );
-    let invalid = decided(&rt, alloc, &mut domain, 1, first, second)?;
-    let wanted = [
-        Outcome::Done { commit: 1 },
-        Outcome::Conflict {
-            store: Store::Config,
-            path: top(alloc, 0)?,
-            kind: ClashKind::Created,
-            commit: 1,
-        },
-        Outcome::Invalid {
-            store: Store::Oper,
-            path: top(alloc, 1)?,
-            rule: Rule::Mandatory(2),
-        },
-    ];
-    assert!(rt; [done, late, invalid] == wanted);
-    assert!(rt; stand(alloc, &domain)? == [true, false]);
     Ok(())
 }

@@ -1,15 +1,17 @@
 -- The phases of a commit, by the trees that a domain keeps.
-use Rattle.std.specs.Prelude.{◌≡◌, ◌⊎◌, ℕ, ◌+◌, ◌-◌, ◌<◌, List, [], ◌∷◌, ◌++◌, length, Option, None, Some, Result, MatchResult, unwrap_or}
-use Rattle.std.specs.Option.{option_or}
+use Rattle.std.specs.Prelude.{◌≡◌, ◌-◌, ◌<◌, List, [], ◌∷◌, ◌++◌, length, Option}
+use Rattle.std.specs.Option.{option_or, option_map}
 use Rattle.sal_types.specs.declared.value.Store.{Store}
 use Rattle.sal_types.specs.declared.value.Store.TheVariants.{Config, Oper}
 use Rattle.sal_types.specs.declared.row.Row.{Row}
 use Rattle.sal_types.specs.Tree.{under}
 use Rattle.sal_rows.specs.declared.op.Op.{Op}
 use Rattle.sal_rows.specs.declared.outcome.Outcome.{Outcome}
-use Rattle.sal_rows.specs.declared.outcome.Outcome.TheVariants.{Done}
+use Rattle.sal_rows.specs.declared.outcome.Outcome.TheVariants.{Invalid}
 use Rattle.sal_rows.specs.Apply.{apply_ops, rows_of_act}
 use Rattle.sal_rows.specs.Commits.{Span}
+use Rattle.sal_schema.specs.declared.table.SchemaTable.{SchemaTable}
+use Rattle.sal_check.specs.Breaches.{breach}
 use Rattle.sal_tree.specs.declared.commit.Commit.{Commit}
 use Rattle.sal_graft.specs.Clash.{tip}
 use Rattle.sal_graft.specs.Kept.{AreKept, opening_in, ops_of, rows_in}
@@ -38,6 +40,10 @@ spans_of d sub = record { from = sub.base_commit; to = length d.commits.items - 
 -- the conflict of a submission with the commits after its base
 abbrev pub conflict : Domain → Submission → Option Outcome
 conflict d sub = outcome.conflict d.schema.value (opening_in d.commits.items) (ops_of d.commits.items) (rows_in sub.base) (spans_of d sub) sub.changes
+
+-- the outcome that names the rule that rows of a store break
+abbrev pub invalid_over : SchemaTable → Store → List Row → Option Outcome
+invalid_over table s rows = option_map (λ b. Invalid s b.path b.rule) (breach table s rows)
 
 abbrev pub invalid : Domain → Submission → Store → Option Outcome
 invalid d sub s = outcome.invalid d.schema.value (opening_in d.commits.items) (ops_of d.commits.items) s sub.changes

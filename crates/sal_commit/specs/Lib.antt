@@ -1,2 +1,4 @@
+pub mod Attempts
 pub mod Deciding
 pub mod Domains
+pub mod Tried

@@ -1,13 +1,13 @@
 //! A domain with its commits.
 ghost use Rattle.std.specs.Prelude.{◌≡◌, ◌+◌, ◌<◌, [], ◌∷◌, IfOk, OnOk, length, take};
 ghost use Rattle.sal_history.specs.declared.opening.Device.{Device as Given};
-ghost use Rattle.sal_graft.specs.Kept.{AreKept, opening_in, ops_of};
+ghost use Rattle.sal_graft.specs.Kept.{AreKept, opening_in, ops_of, rows_in};
 ghost use Rattle.sal_commit.specs.Domains as spec;
 
 use sal_history::Device;
 use sal_schema::Schema;
 use sal_tree::{Commit, Pair, Root};
-use sal_types::NoMemory;
+use sal_types::{NoMemory, Seq};
 use std::alloc::Global;
 use std::sync::Arc;
 
@@ -31,7 +31,22 @@ impl Domain {
         ensures commits { IfOk result (λ d. ops_of d.commits.items ≡ []) }
         ensures opening { IfOk result (λ d. opening_in d.commits.items ≡ spec.opening_of_device device.now) }
     {
-        Err(NoMemory)
+        let trees = opened(alloc, device)?;
+        let opening = Commit {
+            number: 0,
+            receipt: 0,
+            chain: None,
+            ops: Arc::new(alloc, Seq::new(alloc))?,
+            trees,
+        };
+        let commits = vec![in alloc; opening]?;
+        let schema = Arc::try_clone(&device.schema)?;
+        Ok(Domain {
+            number,
+            live,
+            schema,
+            commits,
+        })
     }
 
     /// Makes room for one more commit.
@@ -40,7 +55,8 @@ impl Domain {
         ensures same { IsSame self.old self.new }
         ensures commits { self.new.commits.items ≡ self.old.commits.items }
     {
-        Err(NoMemory)
+        self.commits.reserve(1)?;
+        Ok(())
     }
 
     /// Drops the commits behind this one. It takes no memory.
@@ -53,4 +69,13 @@ impl Domain {
             self.commits.truncate(last + 1);
         }
     }
+}
+
+// The opening trees of a device.
+fn opened(alloc: Global, device: &Device) -> Result<Pair, NoMemory>
+    ensures { IfOk result (λ pair. rows_in pair ≡ spec.opening_of_device device.now) }
+{
+    let config = Root::from_rows(alloc, &device.opening.config, 0)?;
+    let oper = Root::from_rows(alloc, &device.opening.oper, 0)?;
+    Ok(Pair { config, oper })
 }

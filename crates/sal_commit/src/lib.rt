@@ -8,17 +8,39 @@
 //! | `publish` | the next commit of the domain: both trees at once |
 //! | `decide` | the three phases one after another |
 //!
-//! Together they give the outcome that `sal_history` defines (`specs/Outcome.antt` there). `pre` takes all memory of a
-//! decision and changes nothing; `publish` takes none, so it changes both stores, or, where it is not reached, neither.
+//! Together they give the outcome that `sal_history` defines (`specs/Outcome.antt` there): the first conflict, else the
+//! breach of the configuration, else that of the operational store, else the number of the new commit. `pre` takes all
+//! memory of a decision and changes nothing; `publish` takes none, so it changes both stores, or, where it is not reached,
+//! neither.
+//!
+//! `specs/` says what a domain keeps (`Domains`), what each phase gives and what a decision leaves (`Deciding`), and what
+//! `can` and `pre` come to together (`Attempts`). `Tried` has the table of the test.
 //!
 //! ```
 //! let outcome = decide(alloc, &submission, &mut domain, fresh)?;
 //! ```
+//!
+//! | call | copied | shared | scanned |
+//! |---|---|---|---|
+//! | `Domain::open` | a node for each path of the opening | the schema | the opening's rows |
+//! | `Domain::reserve` | the list of commits, as it grows, without what they hold | all of them | |
+//! | `Domain::cut_to` | | | the commits that it drops |
+//! | `can` | the path that a conflict names | | for each operation its path at the base and at the tip, and back through the commits after the base with their operations and rows |
+//! | `pre` | the operations with their rows, and for each of them the nodes on the way to what it sets | all other nodes of both trees | both new trees whole, each node, and the schema |
+//! | `publish` | | the commit, which is moved | |
+//! | `decide` | what `can`, `pre` and `reserve` copy | as these | as these |
+//!
+//! So a decision takes the memory of what the submission changes, and while it checks a list of numbers for each schema
+//! node; and the time of a walk over both trees. A refused one gives back all that it took.
 #![tactic(auto)]
 
+mod clashing;
 mod deciding;
 mod domain;
 mod phases;
+#[cfg(test)]
+mod tests;
+mod trees;
 
 pub use deciding::decide;
 pub use domain::Domain;

@@ -1,17 +1,20 @@
 //! The three phases: canCommit, preCommit and commit.
-ghost use Rattle.std.specs.Prelude.{◌≡◌, ◌⊎◌, ◌+◌, ◌∷◌, [], ◌++◌, None, Some, MatchResult, length};
+ghost use Rattle.std.specs.Prelude.{◌≡◌, ◌⊎◌, ◌+◌, ◌∷◌, [], ◌++◌, None, Some, IfOk, MatchResult, length};
 ghost use Rattle.sal_rows.specs.declared.outcome.Outcome.TheVariants.{Done};
 ghost use Rattle.sal_rows.specs.declared.outcome.Outcome.{Outcome as Decided};
 ghost use Rattle.sal_graft.specs.Kept.{AreKept};
 ghost use Rattle.sal_commit.specs.Deciding as spec;
 ghost use Rattle.sal_commit.specs.Domains.{IsSame, is_roomy};
 
+use crate::clashing::conflict_in;
 use crate::domain::Domain;
-use sal_rows::Outcome;
-use sal_tree::Commit;
+use crate::trees::{breached, next_trees};
+use sal_rows::{Op, Ops, Outcome};
+use sal_tree::{Commit, Pair};
 use sal_tx::Submission;
-use sal_types::NoMemory;
+use sal_types::{Duplicate, NoMemory, Seq};
 use std::alloc::Global;
+use std::sync::Arc;
 use thiserror::Error;
 
 /// A submission without a conflict, at the newest commit of its domain.
@@ -47,6 +50,28 @@ pub enum PreFault {
     NoMemory,
 }
 
+impl From<NoMemory> for CanFault {
+    ghost use Rattle.std.specs.Prelude.{◌≡◌};
+    ghost use Rattle.sal_commit.specs.declared.phases.CanFault.TheVariants.{NoMemory as Full};
+
+    ghost from_gives = { λ _ e. e ≡ Full };
+
+    fn from(_refused: NoMemory) -> CanFault {
+        CanFault::NoMemory
+    }
+}
+
+impl From<NoMemory> for PreFault {
+    ghost use Rattle.std.specs.Prelude.{◌≡◌};
+    ghost use Rattle.sal_commit.specs.declared.phases.PreFault.TheVariants.{NoMemory as Full};
+
+    ghost from_gives = { λ _ e. e ≡ Full };
+
+    fn from(_refused: NoMemory) -> PreFault {
+        PreFault::NoMemory
+    }
+}
+
 /// canCommit: whether the submission conflicts with the commits after its base.
 pub fn can<'a>(
     alloc: Global,
@@ -58,7 +83,10 @@ pub fn can<'a>(
         (λ ready. (ready.sub.now ≡ sub.now) × (ready.domain.now ≡ domain.now) × (spec.conflict domain.now sub.now ≡ None))
         (λ fault. (fault ≡ CanFault.NoMemory) ⊎ ((o : Decided) × (fault ≡ CanFault.Refused o) × (spec.conflict domain.now sub.now ≡ Some o))) }
 {
-    Err(CanFault::NoMemory)
+    match conflict_in(alloc, sub, domain)? {
+        None => Ok(Ready { sub, domain }),
+        Some(outcome) => Err(CanFault::Refused { outcome }),
+    }
 }
 
 /// preCommit: both trees after the submission, where they break no structural rule. Nodes that it touches get the stamp
@@ -69,7 +97,46 @@ pub fn pre(alloc: Global, ready: Ready, fresh: u64) -> Result<Prepared, PreFault
         (λ prepared. spec.IsNext ready.entry.domain.now ready.entry.sub.now prepared.commit × (spec.breached ready.entry.domain.now ready.entry.sub.now ≡ None))
         (λ fault. (fault ≡ PreFault.NoMemory) ⊎ ((o : Decided) × (fault ≡ PreFault.Invalid o) × (spec.breached ready.entry.domain.now ready.entry.sub.now ≡ Some o))) }
 {
-    Err(PreFault::NoMemory)
+    let trees = next_trees(alloc, ready.sub, ready.domain, fresh)?;
+    if let Some(outcome) = breached(alloc, &ready.domain.schema, &trees)? {
+        return Err(PreFault::Invalid { outcome });
+    }
+    let commit = next_commit(alloc, ready.sub, ready.domain, trees)?;
+    Ok(Prepared { commit })
+}
+
+// The commit of the submission, with the next number of the domain and with these trees.
+fn next_commit(
+    alloc: Global,
+    sub: &Submission,
+    domain: &Domain,
+    trees: Pair,
+) -> Result<Commit, NoMemory>
+    ensures number { IfOk result (λ c. c.number ≡ length domain.now.commits.items) }
+    ensures receipt { IfOk result (λ c. c.receipt ≡ sub.now.receipt) }
+    ensures chain { IfOk result (λ c. c.chain ≡ sub.now.chain) }
+    ensures ops { IfOk result (λ c. c.ops.value ≡ sub.now.changes) }
+    ensures trees { IfOk result (λ c. c.trees ≡ trees) }
+{
+    let ops = copied(alloc, sub.changes.ops())?;
+    let ops = Arc::new(alloc, ops)?;
+    Ok(Commit {
+        number: domain.commits.len() as u64,
+        receipt: sub.receipt,
+        chain: sub.chain,
+        ops,
+        trees,
+    })
+}
+
+fn copied(alloc: Global, ops: &[Op]) -> Result<Ops, NoMemory>
+    ensures { IfOk result (λ it. it ≡ ops.now) }
+{
+    let mut list = Vec::with_capacity(alloc, ops.len())?;
+    for op in ops {
+        list.push(op.copy()?)?;
+    }
+    Ok(Seq::from_items(list))
 }
 
 /// commit: the prepared commit is the domain's newest one, with both its trees. It takes no memory.

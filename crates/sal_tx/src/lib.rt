@@ -6,6 +6,7 @@
 //! | `WriteTx` | a transaction that writes, and reads unless its mode is write-only; a contract sees its parts, `Writing` |
 //! | `Tx`, `Begun` | either of them; how a transaction was begun |
 //! | `Submission` | a transaction that was handed in: base, view and operations |
+//! | `edited` | a tree after one operation, as a decision makes it |
 //! | `TxFault`, `WriteOnly` | why a read or a write is refused |
 //!
 //! `specs/` has why a write is refused (`Refusals`), and what holds of a transaction (`Views`): its view is its base after
@@ -40,4 +41,4 @@ mod writing;
 pub use begun::Begun;
 pub use fault::{TxFault, WriteOnly};
 pub use tx::{ReadTx, Submission, Tx, WriteTx};
-pub use writing::Writing;
+pub use writing::{Writing, edited};

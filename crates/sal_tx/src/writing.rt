@@ -30,7 +30,7 @@ pub struct Writing {
 }
 
 /// The tree after the operation, whose touched nodes get the stamp.
-pub(crate) fn edited(alloc: Global, tree: &Root, op: &Op, stamp: u64) -> Result<Root, NoMemory>
+pub fn edited(alloc: Global, tree: &Root, op: &Op, stamp: u64) -> Result<Root, NoMemory>
     requires { under (rows_of_act op.now.act) op.now.path ≡ rows_of_act op.now.act }
     ensures cells { IfOk result (λ r. (q : List Step) → cell (rows_of r) q ≡ cell_by (act_setting op.now.path op.now.act q) (cell (rows_of tree.now) q)) }
     ensures stamps { IfOk result (λ r. Follows (exactly stamp) (act_touches (rows_of tree.now) op.now.path op.now.act) tree.now r) }

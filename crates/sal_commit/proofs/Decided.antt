@@ -1,0 +1,74 @@
+-- A decision by the phases is the one that the definitions say.
+use Rattle.std.proofs.Common.{◌≡◌, ℕ, ◌+◌, ◌-◌, ◌≤◌, [], ◌∷◌, ◌++◌, length, get_or, None, Some, ap, sym, subst, ◌∙◌, ◌⊎◌, inl, inr, arith}
+use Rattle.std.specs.Prelude.{unwrap_or}
+use Rattle.std.specs.Option.{option_or}
+use Rattle.std.proofs.lemmas.List.{get_or_default}
+use Rattle.sal_types.specs.declared.value.Store.{Store}
+use Rattle.sal_rows.specs.declared.outcome.Outcome.{Outcome}
+use Rattle.sal_rows.specs.declared.outcome.Outcome.TheVariants.{Done}
+use Rattle.sal_rows.specs.Apply.{apply_ops}
+use Rattle.sal_tree.specs.declared.commit.Commit.{Commit}
+use Rattle.sal_graft.specs.Kept.{AreKept, opening_in, ops_of, rows_in}
+use Rattle.sal_graft.proofs.KeptLemmas.{length-ops_of, tip-kept}
+use Rattle.sal_graft.proofs.Keeping.{AreKept-push, opening_in-push, ops_of-push}
+use Rattle.sal_tx.specs.declared.tx.Submission.{Submission}
+use Rattle.sal_commit.specs.declared.domain.Domain.{Domain}
+use Rattle.sal_commit.specs.declared.phases.Prepared.{Prepared}
+use Rattle.sal_commit.specs.declared.phases.PreFault.{PreFault}
+use Rattle.sal_commit.specs.declared.phases.PreFault.TheVariants.{Invalid, NoMemory}
+use Rattle.sal_commit.specs.declared.deciding.Attempt.TheVariants.{Made, Refused}
+use Rattle.sal_commit.specs.Attempts.{IsAttempt}
+use Rattle.sal_commit.specs.Domains.{IsSame}
+use Rattle.sal_commit.specs.Deciding.{IsNext, Decides, breached, conflict, decide}
+
+-- ---- canCommit and preCommit
+
+-- the domain and the submission go through unchanged
+pub prepare-made : (d e : Domain) (sub t : Submission) (p : Prepared) → t ≡ sub → e ≡ d → conflict d sub ≡ None → IsNext e t p.commit × (breached e t ≡ None)
+    → IsAttempt d sub (Made p)
+prepare-made d e sub t p same is none next = (
+  ap (λ o. option_or o (breached d sub)) none ∙ (λ i. breached (sym is i) (sym same i)) ∙ next.1,
+  subst (λ x. IsNext d x p.commit) same (subst (λ x. IsNext x t p.commit) is next.0),
+)
+
+pub prepare-refused : (d e : Domain) (sub t : Submission) (fault : PreFault) (outcome : Outcome) → t ≡ sub → e ≡ d → conflict d sub ≡ None → fault ≡ Invalid outcome
+    → (fault ≡ NoMemory) ⊎ ((o : Outcome) × (fault ≡ Invalid o) × (breached e t ≡ Some o)) → IsAttempt d sub (Refused outcome)
+prepare-refused d e sub t fault outcome same is none at (inl w) = let full : Invalid outcome ≡ NoMemory = sym at ∙ w in cc
+prepare-refused d e sub t fault outcome same is none at (inr w) =
+    let one : Invalid outcome ≡ Invalid w.0 = sym at ∙ w.1 in
+    let it : outcome ≡ w.0 = cc in
+    ap (λ o. option_or o (breached d sub)) none ∙ (λ i. breached (sym is i) (sym same i)) ∙ w.2 ∙ ap Some (sym it)
+
+-- without a conflict and a breach it is done, as the next commit
+pub decide-done : (d : Domain) (sub : Submission) (c : Commit) → 1 ≤ length d.commits.items → option_or (conflict d sub) (breached d sub) ≡ None → c.number ≡ length d.commits.items
+    → Done c.number ≡ decide d sub
+decide-done d sub c some none number =
+    ap Done (number ∙ next) ∙ sym (ap (λ o. unwrap_or o (Done (length (ops_of d.commits.items) + 1))) none)
+  where
+    next : length d.commits.items ≡ length (ops_of d.commits.items) + 1
+    next = omega (arith, length-ops_of d.commits.items some)
+
+module _ (old : Domain) (sub : Submission) (next : Commit) (are : AreKept old.commits.items) (is : IsNext old sub next) where
+  last : Commit
+  last = get_or old.commits.items (length old.commits.items - 1) next
+
+  at_last : last ≡ get_or old.commits.items (length old.commits.items - 1) last
+  unfolding last
+  at_last = get_or_default old.commits.items (length old.commits.items - 1) next last (omega (arith, are.opened))
+
+  after : (s : Store) → rows_in next.trees s ≡ apply_ops (rows_in last.trees s) s next.ops.value
+  after s =
+      is.trees s ∙ sym (ap (λ t. apply_ops t s sub.changes) (tip-kept old.commits.items last s are at_last))
+      ∙ ap (apply_ops (rows_in last.trees s) s) (sym is.ops)
+
+  -- the domain with the next commit
+  pub Decides-done : (new : Domain) (n : ℕ) → IsSame old new → new.commits.items ≡ old.commits.items ++ next ∷ [] → Decides old sub (Done n) new
+  Decides-done new n same pushed = record {
+    same = same;
+    kept = subst AreKept (sym pushed) (AreKept-push old.commits.items last next are at_last after);
+    opening = ap opening_in pushed ∙ (λ i s. opening_in-push old.commits.items next s are.opened i);
+    commits = ap ops_of pushed ∙ ops_of-push old.commits.items next are.opened ∙ ap (λ ops. ops_of old.commits.items ++ ops ∷ []) is.ops;
+  }
+
+pub IsSame-trans : (old new newest : Domain) → IsSame old new → IsSame new newest → IsSame old newest
+IsSame-trans old new newest a b = record { number = b.number ∙ a.number; live = b.live ∙ a.live; schema = b.schema ∙ a.schema }

@@ -1,0 +1,19 @@
+use Rattle.std.proofs.Common.{◌++◌, ◌∷◌, [], sym, ap, subst, ◌∙◌}
+use Rattle.sal_commit.specs.Attempts.{IsAttempt}
+use Rattle.sal_commit.specs.Deciding.{Decides}
+use Rattle.sal_commit.specs.Domains.{IsSame}
+use Rattle.sal_commit.proofs.Decided.{IsSame-trans, decide-done, Decides-done}
+use Rattle.sal_commit.proofs.deciding.decide.Goals as goal
+
+pub returns-clause-outcome : goal.returns-clause-outcome
+returns-clause-outcome c =
+    let made = subst (IsAttempt c.args.domain.now c.args.sub.now) c.in-Made.is c.in_ok-outcome.ensures in
+    c.publish.ensures.outcome ∙ decide-done c.args.domain.now c.args.sub.now c.in-Made.prepared.commit c.requires.kept.opened made.0 made.1.number
+
+pub returns-clause-decided : goal.returns-clause-decided
+returns-clause-decided c =
+    let made = subst (IsAttempt c.args.domain.now c.args.sub.now) c.in-Made.is c.in_ok-outcome.ensures in
+    let same : IsSame c.args.domain.now c.publish.new.domain = IsSame-trans c.args.domain.now c.reserve.new.self c.publish.new.domain c.in_ok-reserve.ensures.same c.publish.ensures.same in
+    let pushed = c.publish.ensures.commits ∙ ap (λ commits. commits ++ c.in-Made.prepared.commit ∷ []) c.in_ok-reserve.ensures.commits in
+    subst (λ o. Decides c.args.domain.now c.args.sub.now o c.publish.new.domain) (sym c.publish.ensures.outcome)
+    (Decides-done c.args.domain.now c.args.sub.now c.in-Made.prepared.commit c.requires.kept made.1 c.publish.new.domain c.in-Made.prepared.commit.number same pushed)

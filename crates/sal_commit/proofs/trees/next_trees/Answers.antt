@@ -1,0 +1,14 @@
+use Rattle.std.proofs.Common.{sym, subst}
+use Rattle.sal_graft.specs.Clash.{tip}
+use Rattle.sal_graft.specs.Kept.{opening_in, ops_of, rows_in}
+use Rattle.sal_commit.specs.Deciding.{LieBelow}
+use Rattle.sal_commit.proofs.Applying.{apply_ops-more, LieBelow-at}
+use Rattle.sal_commit.proofs.trees.next_trees.Goals as goal
+
+pub applied-requires : goal.applied-requires
+applied-requires c = LieBelow-at c.ops-op-items.result.now c.loop-op.op-index c.op-item.result (subst LieBelow (sym c.ops-op-items.ensures) c.requires.below) c.loop-op-test.true c.op-item.is
+
+pub loop-op-preserved : goal.loop-op-preserved
+loop-op-preserved c s =
+    apply_ops-more (tip (opening_in c.args.domain.now.commits.items) (ops_of c.args.domain.now.commits.items) s) s c.ops-op-items.result.now c.loop-op.op-index c.op-item.result
+    (rows_in c.loop-op.trees s) (rows_in c.in_ok-trees-2.trees s) c.loop-op-test.true c.op-item.is (c.loop-op.invariant s) (c.in_ok-trees-2.ensures s)

@@ -1,0 +1,74 @@
+//! The conflict of a submission with the commits after its base, as an outcome.
+ghost use Rattle.std.specs.Prelude.{◌≡◌, ◌≤◌, IfOk, length, take};
+ghost use Rattle.sal_history.specs.Outcome as outcome;
+ghost use Rattle.sal_graft.specs.Clash.{clash};
+ghost use Rattle.sal_graft.specs.Kept.{opening_in, ops_of, rows_in};
+ghost use Rattle.sal_commit.specs.Deciding as spec;
+
+use crate::domain::Domain;
+use sal_graft::{Clash, Span, conflict};
+use sal_rows::{Op, Outcome};
+use sal_tx::Submission;
+use sal_types::{Duplicate, NoMemory, Path};
+use std::alloc::Global;
+
+/// The outcome that names the first conflict of the submission, where it has one. Only the path is copied.
+pub(crate) fn conflict_in(
+    alloc: Global,
+    sub: &Submission,
+    domain: &Domain,
+) -> Result<Option<Outcome>, NoMemory>
+    requires { spec.IsFor domain.now sub.now }
+    ensures { IfOk result (λ o. o ≡ spec.conflict domain.now sub.now) }
+{
+    let Some(found) = clash_in(sub, domain) else {
+        return Ok(None);
+    };
+    let Some(op) = sub.changes.ops().get(found.op) else {
+        return Ok(None);
+    };
+    let refused = conflict_of(alloc, found, op)?;
+    Ok(Some(refused))
+}
+
+// The first clash of the submission. All commits after its base are foreign.
+fn clash_in(sub: &Submission, domain: &Domain) -> Option<Clash>
+    requires { spec.IsFor domain.now sub.now }
+    ensures { result ≡ clash (opening_in domain.now.commits.items) (ops_of domain.now.commits.items) (rows_in sub.now.base) (spec.spans_of domain.now sub.now) sub.now.changes }
+{
+    let span = Span {
+        from: sub.base_commit,
+        to: domain.commits.len() as u64 - 1,
+    };
+    conflict(&sub.changes, &sub.base, &[span], &domain.commits)
+}
+
+// A clash of the operation, named by its store and its place.
+fn conflict_of(alloc: Global, found: Clash, op: &Op) -> Result<Outcome, NoMemory>
+    ensures { IfOk result (λ o. o ≡ outcome.conflict_of found op.now) }
+{
+    let path = front(alloc, &op.path, found.depth)?;
+    Ok(Outcome::Conflict {
+        store: op.store,
+        path,
+        kind: found.kind,
+        commit: found.commit,
+    })
+}
+
+// The path's first steps, or all of them where it has fewer.
+fn front(alloc: Global, path: &Path, depth: usize) -> Result<Path, NoMemory>
+    ensures { IfOk result (λ front. front ≡ take depth path.now) }
+{
+    if depth >= path.steps().len() {
+        let whole = path.copy()?;
+        return Ok(whole);
+    }
+    let mut front = Path::root(alloc);
+    for step in &path.steps()[..depth] {
+        if front.push(step.copy()?).is_err() {
+            return Err(NoMemory);
+        }
+    }
+    Ok(front)
+}

@@ -125,38 +125,25 @@ fn put(rt: &impl Abort, alloc: Global, store: Store, node: u32) -> Result<Op, Fa
     })
 }
 
-fn delete(alloc: Global, store: Store, node: u32) -> Result<Op, Fail>
-    ensures { IfOk result (λ op. under (rows_of_act op.act) op.path ≡ rows_of_act op.act) }
-{
-    let path = top(alloc, node)?;
-    Ok(Op {
-        store,
-        path,
-        act: Act::Delete,
-    })
-}
-
-// A submission of two operations on the trees of a commit.
+// A submission of one operation on the trees of a commit.
 fn submission(
     alloc: Global,
     domain: &Domain,
     base_commit: u64,
-    first: Op,
-    second: Op,
+    op: Op,
 ) -> Result<Submission, NoMemory>
     requires kept { AreKept domain.now.commits.items }
     requires low { base_commit < length domain.now.commits.items }
-    requires first { under (rows_of_act first.act) first.path ≡ rows_of_act first.act }
-    requires second { under (rows_of_act second.act) second.path ≡ rows_of_act second.act }
+    requires below { under (rows_of_act op.act) op.path ≡ rows_of_act op.act }
     ensures { IfOk result (λ sub. IsFor domain.now sub) }
 {
+    let mut changes = Mod::new(alloc);
+    if changes.add(alloc, op).is_err() {
+        return Err(NoMemory);
+    }
     let trees = &domain.commits[base_commit as usize].trees;
     let base = trees.copy()?;
     let view = trees.copy()?;
-    let mut changes = Mod::new(alloc);
-    if changes.add(alloc, first).is_err() || changes.add(alloc, second).is_err() {
-        return Err(NoMemory);
-    }
     Ok(Submission {
         receipt: 5,
         domain: 0,
@@ -168,22 +155,21 @@ fn submission(
     })
 }
 
-// The outcome of two operations on the trees of a commit.
+// The outcome of a put of a presence container, on the trees of a commit.
 fn decided(
     rt: &impl Abort,
     alloc: Global,
     domain: &mut Domain,
     base_commit: u64,
-    first: Op,
-    second: Op,
+    store: Store,
+    node: u32,
 ) -> Result<Outcome, Fail>
-    requires kept { AreKept domain.old.commits.items }
-    requires first { under (rows_of_act first.act) first.path ≡ rows_of_act first.act }
-    requires second { under (rows_of_act second.act) second.path ≡ rows_of_act second.act }
+    requires { AreKept domain.old.commits.items }
     ensures { IfOk result (λ o. AreKept domain.new.commits.items) }
 {
     assert!(rt; base_commit < domain.commits.len() as u64);
-    let sub = submission(alloc, domain, base_commit, first, second)?;
+    let op = put(rt, alloc, store, node)?;
+    let sub = submission(alloc, domain, base_commit, op)?;
     let outcome = decide(alloc, &sub, domain, 7)?;
     Ok(outcome)
 }
@@ -197,26 +183,22 @@ fn stand(alloc: Global, domain: &Domain) -> Result<[bool; 2], PathFault> {
     }
 }
 
-// A put of the first container, on the opening: nothing stands in its way.
+// On the opening nothing stands in its way.
 fn is_done(rt: &impl Abort, alloc: Global, domain: &mut Domain) -> Result<bool, Fail>
     requires { AreKept domain.old.commits.items }
     ensures { IfOk result (λ b. AreKept domain.new.commits.items) }
 {
-    let first = put(rt, alloc, Store::Config, 0)?;
-    let second = delete(alloc, Store::Oper, 1)?;
-    let outcome = decided(rt, alloc, domain, 0, first, second)?;
+    let outcome = decided(rt, alloc, domain, 0, Store::Config, 0)?;
     Ok(outcome == Outcome::Done { commit: 1 })
 }
 
-// The same once more, on the opening still: it comes too late.
+// The same once more, on the opening still, comes too late.
 fn is_late(rt: &impl Abort, alloc: Global, domain: &mut Domain) -> Result<bool, Fail>
     requires { AreKept domain.old.commits.items }
     ensures { IfOk result (λ b. AreKept domain.new.commits.items) }
 {
-    let first = put(rt, alloc, Store::Config, 0)?;
-    let second = delete(alloc, Store::Oper, 1)?;
-    let outcome = decided(rt, alloc, domain, 0, first, second)?;
     let path = top(alloc, 0)?;
+    let outcome = decided(rt, alloc, domain, 0, Store::Config, 0)?;
     Ok(
         outcome
             == Outcome::Conflict {
@@ -228,15 +210,13 @@ fn is_late(rt: &impl Abort, alloc: Global, domain: &mut Domain) -> Result<bool, 
     )
 }
 
-// The second container lacks its choice, so the first one is not deleted either.
+// The second container lacks its choice, in the operational store.
 fn is_invalid(rt: &impl Abort, alloc: Global, domain: &mut Domain) -> Result<bool, Fail>
     requires { AreKept domain.old.commits.items }
     ensures { IfOk result (λ b. AreKept domain.new.commits.items) }
 {
-    let first = delete(alloc, Store::Config, 0)?;
-    let second = put(rt, alloc, Store::Oper, 1)?;
-    let outcome = decided(rt, alloc, domain, 1, first, second)?;
     let path = top(alloc, 1)?;
+    let outcome = decided(rt, alloc, domain, 1, Store::Oper, 1)?;
     Ok(
         outcome
             == Outcome::Invalid {

@@ -11,14 +11,22 @@
 //! The script is read by `sal_script`, played by `sal_client` over `sal_hub`, and told by `sal_report`.
 #![tactic(auto)]
 
+#[cfg(test)]
+mod entry_tests;
+#[cfg(test)]
+mod leaf_tests;
+#[cfg(test)]
+mod opening_tests;
+#[cfg(test)]
+mod rule_tests;
 pub mod schema;
 pub mod schema_fault;
 #[cfg(test)]
 mod schema_tests;
 pub mod scripted;
-#[cfg(test)]
-mod sim_tests;
 pub mod status;
+#[cfg(test)]
+mod telling;
 #[cfg(test)]
 mod tests;
 pub mod top;

@@ -60,7 +60,8 @@ pub fn shared_schema(alloc: Global, script: &Script) -> Result<Arc<Schema>, Stat
 
 /// What reads the paths and the data of a schema, where its patterns are well formed.
 pub fn reader_of(alloc: Global, schema: &Arc<Schema>) -> Result<Reader, Status>
-    ensures { spec.Comes (λ reader. reader) (spec.if_formed schema.now.value) result }
+    ensures reader { spec.Comes (λ reader. reader) (spec.if_formed schema.now.value) result }
+    ensures same { IfOk result (λ reader. reader ≡ schema.now.value) }
 {
     match Arc::try_clone(schema) {
         Ok(schema) => compiled(alloc, schema),
@@ -70,7 +71,8 @@ pub fn reader_of(alloc: Global, schema: &Arc<Schema>) -> Result<Reader, Status>
 
 // The reader of a schema, where its patterns are well formed.
 fn compiled(alloc: Global, schema: Arc<Schema>) -> Result<Reader, Status>
-    ensures { spec.Comes (λ reader. reader) (spec.if_formed schema.value) result }
+    ensures reader { spec.Comes (λ reader. reader) (spec.if_formed schema.value) result }
+    ensures same { IfOk result (λ reader. reader ≡ schema.value) }
 {
     match Reader::of(alloc, schema) {
         Ok(reader) => Ok(reader),
@@ -134,12 +136,7 @@ fn store_word(store: Store) -> &'static str
 }
 
 /// The hub over the one domain with these opening trees, unless one of them is refused.
-pub fn hub_of(
-    alloc: Global,
-    schema: &Arc<Schema>,
-    config: Rows,
-    oper: Rows,
-) -> Result<Hub, Status>
+pub fn hub_of(alloc: Global, schema: &Arc<Schema>, config: Rows, oper: Rows) -> Result<Hub, Status>
     ensures world { spec.Comes (λ hub. hub.world) (spec.opened schema.now.value config oper) result }
     ensures fresh { IfOk result (λ hub. hub.log ≡ []) }
 {
@@ -201,10 +198,18 @@ fn not_config_text(
 ) -> Result<Str, NoMemory>
     ensures { IfOk result (λ text. text ≡ decimal «device» ++ (codes " config not-config" ++ path_text schema.now path.now)) }
 {
-    let mut text = String::new(alloc);
-    write!(text, "{device} config not-config")?;
     let words = path_words(alloc, schema, path)?;
-    text.push_str(words.as_str())?;
+    device_text(alloc, device, " config not-config", &words)
+}
+
+// The number of a device, some words, and more of them.
+fn device_text(alloc: Global, device: u32, words: &str, more: &Str) -> Result<Str, NoMemory>
+    ensures { IfOk result (λ text. text ≡ decimal «device» ++ (words.now ++ more.now)) }
+{
+    let mut text = String::new(alloc);
+    write!(text, "{device}")?;
+    text.push_str(words)?;
+    text.push_str(more.as_str())?;
     Ok(Str::from_string(text))
 }
 

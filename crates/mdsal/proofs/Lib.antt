@@ -1,15 +1,3 @@
-pub mod Answering
-pub mod Clashes
-pub mod Deciding
-pub mod Going
-pub mod Histories
-pub mod Keeping
-pub mod KeptLemmas
-pub mod Lists
-pub mod Looking
-pub mod Numbers
 pub mod Patterned
-pub mod Soundness
-pub mod Standing
+pub mod Roots
 pub mod Statements
-pub mod Views

@@ -1,14 +1,4 @@
-pub mod Clients
-pub mod Current
-pub mod Deciding
-pub mod Found
-pub mod Kept
-pub mod Known
-pub mod Refused
-pub mod Runs
-pub mod Slots
 pub mod Schemas
 pub mod Statuses
 pub mod Top
-pub mod Views
 pub mod Words

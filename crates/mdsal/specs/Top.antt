@@ -1,5 +1,5 @@
 -- What each status of the command says.
-use Rattle.std.specs.Prelude.{true, false, ◌≡◌, ℕ, ◌≤◌, ⊤, List, [], ◌∷◌, ◌++◌, codes, if◌then◌else◌, MatchResult, Option, None, Some, Result, Ok, Err, length}
+use Rattle.std.specs.Prelude.{true, false, ◌≡◌, ℕ, ◌≤◌, ⊤, List, [], ◌∷◌, ◌++◌, codes, decimal, if◌then◌else◌, MatchResult, Option, None, Some, Result, Ok, Err, length}
 use Rattle.std.specs.List.{list_any}
 use Rattle.std.specs.Io.KnownBytes.{Appends}
 use Rattle.sal_io.specs.Transfer.{TakesAll, TakesSome, TakesFront}
@@ -13,10 +13,13 @@ use Rattle.sal_schema.specs.Text.{table_text}
 use Rattle.sal_json.specs.Patterns.{has_malformed}
 use Rattle.sal_data.specs.declared.fault.DataFault.{DataFault}
 use Rattle.sal_data.specs.Read.{read_data}
-use Rattle.sal_history.specs.declared.opening.Opening.{Opening}
+use Rattle.sal_history.specs.World.{Domain}
+use Rattle.sal_hub.specs.declared.opening.OpenFault.{OpenFault}
+use Rattle.sal_hub.specs.declared.opening.OpenFault.TheVariants.{NotConfig, Broken, NoMemory as NoHub}
+use Rattle.sal_hub.specs.Openings.{fault_of}
 use Rattle.sal_script.specs.Script.{Parts, script_of}
 use Rattle.sal_script.specs.Play.{Played, play}
-use Rattle.sal_script.specs.Report.{report, store_text, data_fault_text}
+use Rattle.sal_script.specs.Report.{breach_text, data_fault_text, path_text, report, store_text}
 use Rattle.mdsal.specs.Schemas.{table_of}
 use Rattle.mdsal.specs.declared.top.TheConstants.{HELP, VERSION}
 use Rattle.mdsal.specs.declared.status.Status.{Status}
@@ -47,26 +50,46 @@ or_opening table s (Err fault) = Err (BadOpening (codes "0 " ++ (store_text s ++
 abbrev pub opening_rows : SchemaTable → Store → Data → Result (List Row) Status
 opening_rows table s json = or_opening table s (read_data table [] json)
 
+-- why the hub is not opened over a device, by the table of its schema: a row of state data in its configuration, or a rule
+-- that one of its trees breaks
+abbrev pub refused_text : SchemaTable → OpenFault → List ℕ
+refused_text table (NotConfig device path) = decimal device ++ (codes " config not-config" ++ path_text table path)
+refused_text table (Broken device s breach) = decimal device ++ (32 ∷ (store_text s ++ (codes " breach" ++ breach_text table breach.path breach.rule)))
+refused_text table NoHub = codes "no-memory"
+
+abbrev pub or_refused : SchemaTable → List Domain → Option OpenFault → Result (List Domain) Status
+or_refused table world None = Ok world
+or_refused table world (Some fault) = Err (BadOpening (refused_text table fault))
+
+-- the world of one domain with these opening trees
+abbrev pub world_of : SchemaTable → List Row → List Row → List Domain
+world_of table config oper = record { table = table; opening = record { config = config; oper = oper } } ∷ []
+
+-- that world, unless one of its opening trees is refused
+abbrev pub opened : SchemaTable → List Row → List Row → Result (List Domain) Status
+opened table config oper = or_refused table (world_of table config oper) (fault_of (world_of table config oper))
+
 -- the report of what was played, or the index at which the order fails
-abbrev pub text_of_play : SchemaTable → List Opening → Result Played ℕ → Result (List ℕ) Status
-text_of_play table world (Ok played) = Ok (report table world played)
-text_of_play table world (Err index) = Err (BadOrder index)
+abbrev pub text_of_play : List Domain → Result Played ℕ → Result (List ℕ) Status
+text_of_play world (Ok played) = Ok (report world played)
+text_of_play world (Err index) = Err (BadOrder index)
 
-abbrev pub play_over : SchemaTable → Parts → List Opening → Result (List ℕ) Status
-play_over table parts world = text_of_play table world (play table world parts.clients parts.order)
+abbrev pub play_over : Parts → List Domain → Result (List ℕ) Status
+play_over parts world = text_of_play world (play world parts.clients parts.order)
 
--- a script over the schema that its modules build
+-- A script over the schema that its modules build. The data of both opening trees are read first; then their rules are looked at.
 abbrev pub play_text : Parts → SchemaTable → Result (List ℕ) Status
 play_text parts table =
     opening_rows table Config parts.config
     >>= (λ config. opening_rows table Oper parts.operational
-    >>= (λ oper. play_over table parts (record { config = config; oper = oper } ∷ [])))
+    >>= (λ oper. opened table config oper
+    >>= (λ world. play_over parts world)))
 
 abbrev pub reader_table : List (List ℕ) → Result SchemaTable Status
 reader_table texts = or_schema (table_of texts) >>= if_formed
 
 -- The report of the script that the bytes stand for, played in its order. The first of these that fails counts: the script, its
--- modules, their patterns, the opening trees, the order.
+-- modules, their patterns, the data of the opening trees, whether these are refused, the order.
 abbrev pub sim_text : List ℕ → Result (List ℕ) Status
 sim_text bytes = or_script (script_of bytes) >>= (λ parts. reader_table parts.modules >>= play_text parts)
 
@@ -152,3 +175,7 @@ IsTextOr made result = Comes (λ text. text) made result
 -- the status of an opening tree with this fault, unless memory ran out
 abbrev pub IsOpeningFault : SchemaTable → Store → DataFault → Status → Type 0
 IsOpeningFault table s fault status = IsStatusOf (or_opening table s (Err fault)) status
+
+-- the status of a hub that is refused with this fault, unless memory ran out
+abbrev pub IsRefusal : SchemaTable → OpenFault → Status → Type 0
+IsRefusal table fault status = IsStatusOf (or_refused table [] (Some fault)) status

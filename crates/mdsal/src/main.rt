@@ -5,34 +5,31 @@
 //! |---|---|
 //! | `top` | the top call `mdsal`, which does all that the program does |
 //! | `words`, `status` | the forms of the command line; how the command ends |
-//! | `simulation`, `run`, `client` | a script in its order; a client's way to its next shared call; its slots and steps |
-//! | `scripted`, `reader` | a script's parts with the status of what is wrong; what reads paths and data by a schema |
+//! | `scripted` | a script's parts with the status of what is wrong, up to the hub that it is played over |
 //! | `schema`, `schema_fault` | the modules of a device; the texts of their faults |
-//! | `transaction`, `slots` | an open transaction with its view; what slots hold |
-//! | `broker`, `decided`, `commit`, `conflict` | the log's replies; decisions; commits with their trees; conflicts |
+//!
+//! The script is read by `sal_script`, played by `sal_client` over `sal_hub`, and told by `sal_report`.
 #![tactic(auto)]
 
-pub mod broker;
-pub mod client;
-pub mod commit;
-pub mod conflict;
-pub mod decided;
-pub mod reader;
-pub mod run;
+#[cfg(test)]
+mod entry_tests;
+#[cfg(test)]
+mod leaf_tests;
+#[cfg(test)]
+mod opening_tests;
+#[cfg(test)]
+mod rule_tests;
 pub mod schema;
 pub mod schema_fault;
 #[cfg(test)]
 mod schema_tests;
 pub mod scripted;
-#[cfg(test)]
-mod sim_tests;
-pub mod simulation;
-pub mod slots;
 pub mod status;
+#[cfg(test)]
+mod telling;
 #[cfg(test)]
 mod tests;
 pub mod top;
-pub mod transaction;
 pub mod words;
 
 use crate::status::Status;

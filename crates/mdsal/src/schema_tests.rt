@@ -1,7 +1,5 @@
 //! Tables of small sets of modules, and the first faults of others, worked out from RFC 7950.
-use super::*;
-use crate::top::mdsal;
-use sal_io::{MemSink, MemSource};
+use crate::telling::{Frame, differing};
 use std::test::Fail;
 
 // What stands in a module `m`, and the table of its schema.
@@ -241,14 +239,81 @@ const FAULTS: &[(&str, &str)] = &[
     ("grouping g { uses g; }", "build name-cycle 0 49"),
 ];
 
+// Texts of modules in a script, and the first fault.
+const MODULES: &[(&str, &str)] = &[
+    (r#"{"modules":["module m {"]}"#, "module 0 unclosed 9"),
+    (
+        r#"{"modules":["module m { prefix p; }"]}"#,
+        "build missing 0 0 namespace",
+    ),
+    (
+        r#"{"modules":["module m { namespace \"u\"; prefix p; prefix q; }"]}"#,
+        "build twice 0 36 prefix",
+    ),
+    (
+        r#"{"modules":["module m { namespace \"u\"; prefix p; anydata x; }"]}"#,
+        "build left-out 0 36",
+    ),
+    (
+        r#"{"modules":["module m { namespace \"u\"; prefix p; import q { prefix q; } }"]}"#,
+        "build no-module 0 36",
+    ),
+    (r#"{"modules":[""]}"#, "module 0 bad-token 0"),
+    (
+        r#"{"modules":["module 'a\u0001b';"]}"#,
+        "module 0 bad-token 9",
+    ),
+    (
+        r#"{"modules":["module m { description \"\\d\"; }"]}"#,
+        "module 0 bad-escape 24",
+    ),
+    (r#"{"modules":["module m; }"]}"#, "module 0 text-after 10"),
+    (r#"{"modules":["leaf x;"]}"#, "build unknown-statement 0 0"),
+    (r#"{"modules":["submodule x;"]}"#, "build left-out 0 0"),
+    (
+        r#"{"modules":["module 1 { namespace \"u\"; prefix p; }"]}"#,
+        "build bad-argument 0 0",
+    ),
+    (
+        r#"{"modules":["module m { namespace \"u\"; prefix p; leaf a { } }"]}"#,
+        "build missing 0 36 type",
+    ),
+    (
+        r#"{"modules":["module m { namespace \"u\"; prefix p; import m { prefix q; } }"]}"#,
+        "build import-cycle 0 36",
+    ),
+    (
+        r#"{"modules":["module m { namespace \"u\"; prefix p; }","module m { namespace \"u\"; prefix p; }"]}"#,
+        "build double-node 1 0",
+    ),
+    (
+        r#"{"modules":["module m { namespace \"u\"; prefix p; }","module n {"]}"#,
+        "module 1 unclosed 9",
+    ),
+    (
+        r#"{"modules":["module m { prefix p; }","module n {"]}"#,
+        "module 1 unclosed 9",
+    ),
+    (
+        r#"{"modules":["module m { leaf x; } }"]}"#,
+        "module 0 text-after 21",
+    ),
+];
+
 // Scripts that name several modules, and the table of their schema, or the first fault.
 const SEVERAL: &[(&str, &str)] = &[
     (
         r#"{"modules":["module topo { yang-version 1.1; namespace \"urn:topo\"; prefix t;\n typedef port-no { type uint16 { range \"1..4096\"; } }\n grouping stats { leaf octets { type uint64; config false; } }\n container network { list node { key id; leaf id { type string { length \"1..8\"; } }\n  list link { key \"peer port\"; leaf peer { type string; } leaf port { type port-no; }\n   leaf speed { type enumeration { enum slow; enum fast; } } uses stats; } } } }","module geo { yang-version 1.1; namespace \"urn:geo\"; prefix g; import topo { prefix t; }\n augment \"/t:network/t:node\" { leaf site { type string; } } }"]}"#,
         "0 - container topo:network config\n1 0 list topo:node config key id\n2 1 leaf topo:id config string\n3 1 list topo:link config key peer port\n4 3 leaf topo:peer config string\n5 3 leaf topo:port config uint16\n6 3 leaf topo:speed config enumeration\n7 3 leaf topo:octets state uint64\n8 1 leaf geo:site config string\n",
     ),
+    (r#"{"modules":[]}"#, ""),
+    (r#"{"modules":[7]}"#, "bad script at modules\n"),
     (
-        "{}",
+        r#"{"modules":["module m { namespace \"u\"; prefix p; import n { prefix q; } }","module n { namespace \"v\"; prefix p; }"]}"#,
+        "",
+    ),
+    (
+        r#"{"order":[0]}"#,
         "0 - container plain:box config\n1 0 leaf plain:a config string\n2 0 leaf plain:b config string\n3 0 leaf plain:c config string\n4 0 leaf plain:d config string\n5 0 leaf plain:e config string\n6 0 leaf plain:f config string\n7 0 leaf plain:g config string\n8 0 leaf plain:h config string\n",
     ),
     (
@@ -289,49 +354,51 @@ const SEVERAL: &[(&str, &str)] = &[
     ),
 ];
 
-// What the words `schema` write on this input, or the line of their status.
-fn told(rt: &HostRuntime, input: &str) -> Result<String, Fail> {
-    let words = vec![in rt.alloc(); Str::new(rt.alloc(), "schema")?]?;
-    let mut source = MemSource::new(input.as_bytes().to_vec(rt.alloc())?, Vec::new(rt.alloc()));
-    let mut sink = MemSink::new(rt.alloc(), 4096, Vec::new(rt.alloc()))?;
-    let status = mdsal(rt.alloc(), &words, &mut source, &mut sink, &OpenGate);
-    if status.number() == 0 {
-        return Ok(String::from_utf8(sink.bytes().to_vec(rt.alloc())?)?);
-    }
-    Ok(String::from_str(rt.alloc(), status.line(rt.alloc())?.as_str())?)
-}
-
 // A script that names one module `m`, with this in its block.
-fn named(rt: &HostRuntime, body: &str) -> Result<String, Fail> {
-    Ok(format!(in rt.alloc();
-        "{{\"modules\":[\"module m {{ namespace 'u'; prefix p; {body} }}\"]}}"
-    )?)
-}
+const TABLE_OF_ONE: Frame = Frame {
+    word: "schema",
+    front: "{\"modules\":[\"module m { namespace 'u'; prefix p; ",
+    behind: " }\"]}",
+    told_front: "",
+    told_behind: "",
+};
+
+const FAULT_OF_ONE: Frame = Frame {
+    word: "schema",
+    front: "{\"modules\":[\"module m { namespace 'u'; prefix p; ",
+    behind: " }\"]}",
+    told_front: "bad schema 0 ",
+    told_behind: "\n",
+};
+
+const FAULT_OF_SCRIPT: Frame = Frame {
+    word: "schema",
+    front: "",
+    behind: "",
+    told_front: "bad schema 0 ",
+    told_behind: "\n",
+};
+
+const TABLE_OF_SCRIPT: Frame = Frame {
+    word: "schema",
+    front: "",
+    behind: "",
+    told_front: "",
+    told_behind: "",
+};
 
 #[test]
-fn a_module_has_its_table(rt: HostRuntime) -> Result<(), Fail> {
-    for (body, wanted) in TABLES {
-        let written = told(&rt, named(&rt, body)?.as_str())?;
-        assert!(rt; written.as_str() == *wanted, "{body}");
-    }
+fn modules_have_their_tables(rt: HostRuntime) -> Result<(), Fail> {
+    let mut differ = differing(&rt, &TABLE_OF_ONE, TABLES)?;
+    differ.push_str(differing(&rt, &TABLE_OF_SCRIPT, SEVERAL)?.as_str())?;
+    assert_eq!(rt; differ.as_str(), "");
     Ok(())
 }
 
 #[test]
-fn a_module_has_its_first_fault(rt: HostRuntime) -> Result<(), Fail> {
-    for (body, wanted) in FAULTS {
-        let line = told(&rt, named(&rt, body)?.as_str())?;
-        let wanted = format!(in rt.alloc(); "bad schema 0 {wanted}\n")?;
-        assert!(rt; line.as_str() == wanted.as_str(), "{body}");
-    }
-    Ok(())
-}
-
-#[test]
-fn several_modules_have_one_table(rt: HostRuntime) -> Result<(), Fail> {
-    for (input, wanted) in SEVERAL {
-        let written = told(&rt, input)?;
-        assert!(rt; written.as_str() == *wanted, "{input}");
-    }
+fn modules_have_their_first_faults(rt: HostRuntime) -> Result<(), Fail> {
+    let mut differ = differing(&rt, &FAULT_OF_ONE, FAULTS)?;
+    differ.push_str(differing(&rt, &FAULT_OF_SCRIPT, MODULES)?.as_str())?;
+    assert_eq!(rt; differ.as_str(), "");
     Ok(())
 }

@@ -1,28 +1,29 @@
-//! From the bytes of a script to what it is played over: the script, the reader of its domain, and the opening trees.
-ghost use Rattle.std.specs.Prelude.{◌≡◌, ◌++◌, [], codes, IfOk};
-ghost use Rattle.std.specs.List.{list_any};
+//! From the bytes of a script to what it is played over: the script, the reader of its domain, and the hub with the opening trees.
+ghost use Rattle.std.specs.Prelude.{◌≡◌, ◌++◌, [], ◌∷◌, codes, decimal, length, IfOk};
 ghost use Rattle.serde_json.specs.View.{view};
-ghost use Rattle.sal_json.specs.Patterns.{has_malformed};
-ghost use Rattle.sal_data.specs.Read.{read_data};
+ghost use Rattle.sal_hub.specs.Openings.{world_of};
 ghost use Rattle.sal_script.specs.Script.{script_of};
 ghost use Rattle.sal_script.specs.Reading.{parts};
-ghost use Rattle.sal_script.specs.Report.{data_fault_text, store_text};
+ghost use Rattle.sal_script.specs.Report.{breach_text, data_fault_text, path_text, store_text};
 ghost use Rattle.mdsal.specs.Schemas as schemas;
 ghost use Rattle.mdsal.specs.Top as spec;
 
-use crate::reader::Reader;
 use crate::schema::schema_of;
 use crate::schema_fault::SchemaFault;
 use crate::status::Status;
+use sal_client::Reader;
 use sal_data::DataFault;
+use sal_history::{Device, Opening};
+use sal_hub::{Hub, OpenFault};
 use sal_json::PatternsFault;
-use sal_report::data_fault_text;
-use sal_rows::Rows;
+use sal_report::{breach_text, data_fault_text, path_words};
+use sal_rows::{Breach, Rows};
 use sal_schema::Schema;
 use sal_script::{Script, ScriptFault, read_script};
 use sal_types::{NoMemory, Path, Store, Str};
 use serde_json::Value;
 use std::alloc::Global;
+use std::sync::Arc;
 
 /// The script that the bytes stand for.
 pub fn script_of(alloc: Global, bytes: &[u8]) -> Result<Script, Status>
@@ -46,19 +47,32 @@ pub fn modules_schema(alloc: Global, script: &Script) -> Result<Schema, Status>
     }
 }
 
-/// What reads the paths and the data of the script's domain.
-pub fn reader_of(alloc: Global, script: &Script) -> Result<Reader, Status>
-    ensures { spec.Comes (λ reader. reader) (spec.reader_table script.now.modules) result }
+/// The same schema, to be shared by what reads and what is read.
+pub fn shared_schema(alloc: Global, script: &Script) -> Result<Arc<Schema>, Status>
+    ensures { spec.Comes (λ schema. schema.value) (spec.or_schema (schemas.table_of script.now.modules)) result }
 {
-    match modules_schema(alloc, script) {
+    let schema = modules_schema(alloc, script)?;
+    match Arc::new(alloc, schema) {
+        Ok(schema) => Ok(schema),
+        Err(_) => Err(Status::NoMemory),
+    }
+}
+
+/// What reads the paths and the data of a schema, where its patterns are well formed.
+pub fn reader_of(alloc: Global, schema: &Arc<Schema>) -> Result<Reader, Status>
+    ensures reader { spec.Comes (λ reader. reader) (spec.if_formed schema.now.value) result }
+    ensures same { IfOk result (λ reader. reader ≡ schema.now.value) }
+{
+    match Arc::try_clone(schema) {
         Ok(schema) => compiled(alloc, schema),
-        Err(status) => Err(status),
+        Err(_) => Err(Status::NoMemory),
     }
 }
 
 // The reader of a schema, where its patterns are well formed.
-fn compiled(alloc: Global, schema: Schema) -> Result<Reader, Status>
-    ensures { spec.Comes (λ reader. reader) (spec.if_formed schema) result }
+fn compiled(alloc: Global, schema: Arc<Schema>) -> Result<Reader, Status>
+    ensures reader { spec.Comes (λ reader. reader) (spec.if_formed schema.value) result }
+    ensures same { IfOk result (λ reader. reader ≡ schema.value) }
 {
     match Reader::of(alloc, schema) {
         Ok(reader) => Ok(reader),
@@ -119,4 +133,100 @@ fn store_word(store: Store) -> &'static str
         Store::Config => "config",
         Store::Oper => "operational",
     }
+}
+
+/// The hub over the one domain with these opening trees, unless one of them is refused.
+pub fn hub_of(alloc: Global, schema: &Arc<Schema>, config: Rows, oper: Rows) -> Result<Hub, Status>
+    ensures world { spec.Comes (λ hub. hub.world) (spec.opened schema.now.value config oper) result }
+    ensures fresh { IfOk result (λ hub. hub.log ≡ []) }
+{
+    let devices = match devices_of(alloc, schema, Opening { config, oper }) {
+        Ok(devices) => devices,
+        Err(NoMemory) => return Err(Status::NoMemory),
+    };
+    match Hub::open(alloc, devices) {
+        Ok(hub) => Ok(hub),
+        Err(OpenFault::NoMemory) => Err(Status::NoMemory),
+        Err(fault) => Err(refusal(alloc, schema, &fault)),
+    }
+}
+
+// The one device with this schema.
+fn devices_of(
+    alloc: Global,
+    schema: &Arc<Schema>,
+    opening: Opening,
+) -> Result<Vec<Device>, NoMemory>
+    ensures one { IfOk result (λ devices. length devices.items ≡ 1) }
+    ensures world { IfOk result (λ devices. world_of devices.items ≡ record { table = schema.now.value; opening = opening } ∷ []) }
+{
+    let schema = Arc::try_clone(schema)?;
+    let mut devices = Vec::new(alloc);
+    devices.push(Device { schema, opening })?;
+    Ok(devices)
+}
+
+// The status of a hub that is refused with this fault.
+fn refusal(alloc: Global, schema: &Schema, fault: &OpenFault) -> Status
+    ensures { spec.IsRefusal schema.now fault.now result }
+{
+    match refused_text(alloc, schema, fault) {
+        Ok(text) => Status::BadOpening { text },
+        Err(NoMemory) => Status::NoMemory,
+    }
+}
+
+fn refused_text(alloc: Global, schema: &Schema, fault: &OpenFault) -> Result<Str, NoMemory>
+    ensures { IfOk result (λ text. text ≡ spec.refused_text schema.now fault.now) }
+{
+    match fault {
+        OpenFault::NotConfig { device, path } => not_config_text(alloc, schema, *device, path),
+        OpenFault::Broken {
+            device,
+            store,
+            breach,
+        } => broken_text(alloc, schema, *device, *store, breach),
+        OpenFault::NoMemory => Str::new(alloc, "no-memory"),
+    }
+}
+
+fn not_config_text(
+    alloc: Global,
+    schema: &Schema,
+    device: u32,
+    path: &Path,
+) -> Result<Str, NoMemory>
+    ensures { IfOk result (λ text. text ≡ decimal «device» ++ (codes " config not-config" ++ path_text schema.now path.now)) }
+{
+    let words = path_words(alloc, schema, path)?;
+    device_text(alloc, device, " config not-config", &words)
+}
+
+// The number of a device, some words, and more of them.
+fn device_text(alloc: Global, device: u32, words: &str, more: &Str) -> Result<Str, NoMemory>
+    ensures { IfOk result (λ text. text ≡ decimal «device» ++ (words.now ++ more.now)) }
+{
+    let mut text = String::new(alloc);
+    write!(text, "{device}")?;
+    text.push_str(words)?;
+    text.push_str(more.as_str())?;
+    Ok(Str::from_string(text))
+}
+
+fn broken_text(
+    alloc: Global,
+    schema: &Schema,
+    device: u32,
+    store: Store,
+    breach: &Breach,
+) -> Result<Str, NoMemory>
+    ensures { IfOk result (λ text. text ≡ decimal «device» ++ (32 ∷ (store_text store ++ (codes " breach" ++ breach_text schema.now breach.now.path breach.now.rule)))) }
+{
+    let mut text = String::new(alloc);
+    write!(text, "{device} ")?;
+    text.push_str(store_word(store))?;
+    text.push_str(" breach")?;
+    let words = breach_text(alloc, schema, breach)?;
+    text.push_str(words.as_str())?;
+    Ok(Str::from_string(text))
 }

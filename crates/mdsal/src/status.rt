@@ -22,7 +22,7 @@ pub enum Status {
     BadScript { place: Str },
     /// The modules of this device build no schema; the text of their first fault.
     BadSchema { device: u32, text: Str },
-    /// An opening tree is no data of the schema; the device, the store and the first fault.
+    /// An opening tree is no data of the schema, or it is refused; the device, the store and the first fault.
     BadOpening { text: Str },
     /// The order fails at this index.
     BadOrder { index: u64 },

@@ -1,6 +1,8 @@
-use super::*;
+use crate::status::Status;
+use crate::telling::{Frame, differing, told};
 use crate::top::{HELP, LIMIT, VERSION, mdsal};
-use sal_io::{MemSink, MemSource};
+use sal_io::{MemSink, MemSource, OpenGate};
+use sal_types::Str;
 use std::test::Fail;
 
 const OWN: &str =
@@ -27,19 +29,68 @@ const ESCAPED: &str =
 const ESCAPED_REPORT: &str =
     "order 0\n0 0 begun 0\n0 1 ok\n0 2 data \"\\\"é\\n\\\\\"\ntree 0 0 {} {}\n";
 
-const PLAIN_TABLE: &str =
-    "0 - container plain:box config\n1 0 leaf plain:a config string\n2 0 leaf plain:b config string\n3 0 leaf plain:c config string\n4 0 leaf plain:d config string\n5 0 leaf plain:e config string\n6 0 leaf plain:f config string\n7 0 leaf plain:g config string\n8 0 leaf plain:h config string\n";
+// Scripts and their reports, or the lines of what is wrong with them.
+const SCRIPTS: &[(&str, &str)] = &[
+    ("{}", "order\ntree 0 0 {} {}\n"),
+    (OWN, OWN_REPORT),
+    (OTHER, OTHER_REPORT),
+    (REFUSED, REFUSED_REPORT),
+    (ESCAPED, ESCAPED_REPORT),
+    ("{", "bad script at json\n"),
+    (
+        r#"{"clients":[{"steps":[["fly"]]}]}"#,
+        "bad script at clients/0/0\n",
+    ),
+    (r#"{"order":[0]}"#, "bad order at 0\n"),
+    (r#"{"modules":[]}"#, "order\ntree 0 0 {} {}\n"),
+    (
+        r#"{"modules":["module m {"]}"#,
+        "bad schema 0 module 0 unclosed 9\n",
+    ),
+    (
+        r#"{"config":{"box":{}}}"#,
+        "bad opening 0 config data needs-module \"/\" \"box\"\n",
+    ),
+];
 
-// Runs the word on the input: the exit status, and whether the output is the wanted one.
+const WHOLE: Frame = Frame {
+    word: "sim",
+    front: "",
+    behind: "",
+    told_front: "",
+    told_behind: "",
+};
+
+#[test]
+fn scripts_end_with_their_reports(rt: HostRuntime) -> Result<(), Fail> {
+    let differ = differing(&rt, &WHOLE, SCRIPTS)?;
+    assert_eq!(rt; differ.as_str(), "");
+    Ok(())
+}
+
+#[test]
+fn words_are_answered(rt: HostRuntime) -> Result<(), Fail> {
+    let mut all = String::new(rt.alloc());
+    for word in ["--help", "--version", "fly", "", "Schema"] {
+        all.push_str(told(&rt, word, "{}")?.as_str())?;
+    }
+    let mut wanted = String::from_str(rt.alloc(), HELP)?;
+    wanted.push_str(VERSION)?;
+    wanted.push_str("bad words\nbad words\nbad words\n")?;
+    assert_eq!(rt; all.as_str(), wanted.as_str());
+    Ok(())
+}
+
+// Plays the input from a source that fails at these reads into a sink of this room: the exit status, and whether the output is
+// the wanted one.
 fn ends(
     rt: &HostRuntime,
-    word: &str,
     input: Vec<u8>,
     fails: Vec<u64>,
     room: usize,
     wanted: &str,
 ) -> Result<(u8, bool), Fail> {
-    let words = vec![in rt.alloc(); Str::new(rt.alloc(), word)?]?;
+    let words = vec![in rt.alloc(); Str::new(rt.alloc(), "sim")?]?;
     let mut source = MemSource::new(input, fails);
     let mut sink = MemSink::new(rt.alloc(), room, Vec::new(rt.alloc()))?;
     let status = mdsal(rt.alloc(), &words, &mut source, &mut sink, &OpenGate);
@@ -47,166 +98,28 @@ fn ends(
 }
 
 #[test]
-fn scripts_end_with_their_reports(rt: HostRuntime) -> Result<(), Fail> {
-    let table = [
-        ("sim", "{}", 0, "order\ntree 0 0 {} {}\n"),
-        ("sim", OWN, 0, OWN_REPORT),
-        ("sim", OTHER, 0, OTHER_REPORT),
-        ("sim", REFUSED, 0, REFUSED_REPORT),
-        ("sim", ESCAPED, 0, ESCAPED_REPORT),
-        ("--help", "", 0, HELP),
-        ("--version", "", 0, VERSION),
-        ("fly", "{}", 2, ""),
-        ("", "{}", 2, ""),
-        ("sim", "{", 6, ""),
-        ("sim", r#"{"clients":[{"steps":[["fly"]]}]}"#, 6, ""),
-        ("sim", r#"{"order":[0]}"#, 9, ""),
-        ("sim", r#"{"modules":[]}"#, 0, "order\ntree 0 0 {} {}\n"),
-        ("sim", r#"{"modules":["module m {"]}"#, 7, ""),
-        ("sim", r#"{"config":{"box":{}}}"#, 8, ""),
-        ("schema", "{}", 0, PLAIN_TABLE),
-        ("schema", r#"{"modules":[]}"#, 0, ""),
-        ("schema", r#"{"modules":[7]}"#, 6, ""),
-        ("schema", r#"{"order":[0]}"#, 0, PLAIN_TABLE),
-        (
-            "schema",
-            r#"{"modules":["module m { namespace \"u\"; prefix p; import n { prefix q; } }","module n { namespace \"v\"; prefix p; }"]}"#,
-            0,
-            "",
-        ),
-        ("schema", r#"{"modules":["module m {"]}"#, 7, ""),
-        ("Schema", "{}", 2, ""),
-    ];
-    for (word, input, number, wanted) in table {
-        let bytes = input.as_bytes().to_vec(rt.alloc())?;
-        let ended = ends(&rt, word, bytes, Vec::new(rt.alloc()), 4096, wanted)?;
-        assert_eq!(rt; ended, (number, true), "{word} {input}");
-    }
-    Ok(())
-}
-
-#[test]
 fn faults_are_told_by_their_status(rt: HostRuntime) -> Result<(), Fail> {
-    let read = ends(
-        &rt,
-        "sim",
-        OWN.as_bytes().to_vec(rt.alloc())?,
-        vec![in rt.alloc(); 1u64]?,
-        99,
-        "",
-    )?;
-    assert_eq!(rt; read, (3, true));
-    let written = ends(
-        &rt,
-        "sim",
-        b"{}".to_vec(rt.alloc())?,
-        Vec::new(rt.alloc()),
-        10,
-        "order\ntree",
-    )?;
-    assert_eq!(rt; written, (4, true));
-    let spaces = vec![in rt.alloc(); b' '; LIMIT + 1]?;
-    let long = ends(&rt, "sim", spaces, Vec::new(rt.alloc()), 99, "")?;
-    assert_eq!(rt; long, (5, true));
-    Ok(())
-}
-
-// Scripts, and the texts of the first faults of their modules.
-const MODULES: [(&str, &str); 18] = [
-    (r#"{"modules":["module m {"]}"#, "module 0 unclosed 9"),
-    (
-        r#"{"modules":["module m { prefix p; }"]}"#,
-        "build missing 0 0 namespace",
-    ),
-    (
-        r#"{"modules":["module m { namespace \"u\"; prefix p; prefix q; }"]}"#,
-        "build twice 0 36 prefix",
-    ),
-    (
-        r#"{"modules":["module m { namespace \"u\"; prefix p; anydata x; }"]}"#,
-        "build left-out 0 36",
-    ),
-    (
-        r#"{"modules":["module m { namespace \"u\"; prefix p; import q { prefix q; } }"]}"#,
-        "build no-module 0 36",
-    ),
-    (r#"{"modules":[""]}"#, "module 0 bad-token 0"),
-    (
-        r#"{"modules":["module 'a\u0001b';"]}"#,
-        "module 0 bad-token 9",
-    ),
-    (
-        r#"{"modules":["module m { description \"\\d\"; }"]}"#,
-        "module 0 bad-escape 24",
-    ),
-    (r#"{"modules":["module m; }"]}"#, "module 0 text-after 10"),
-    (r#"{"modules":["leaf x;"]}"#, "build unknown-statement 0 0"),
-    (r#"{"modules":["submodule x;"]}"#, "build left-out 0 0"),
-    (
-        r#"{"modules":["module 1 { namespace \"u\"; prefix p; }"]}"#,
-        "build bad-argument 0 0",
-    ),
-    (
-        r#"{"modules":["module m { namespace \"u\"; prefix p; leaf a { } }"]}"#,
-        "build missing 0 36 type",
-    ),
-    (
-        r#"{"modules":["module m { namespace \"u\"; prefix p; import m { prefix q; } }"]}"#,
-        "build import-cycle 0 36",
-    ),
-    (
-        r#"{"modules":["module m { namespace \"u\"; prefix p; }","module m { namespace \"u\"; prefix p; }"]}"#,
-        "build double-node 1 0",
-    ),
-    (
-        r#"{"modules":["module m { namespace \"u\"; prefix p; }","module n {"]}"#,
-        "module 1 unclosed 9",
-    ),
-    (
-        r#"{"modules":["module m { prefix p; }","module n {"]}"#,
-        "module 1 unclosed 9",
-    ),
-    (
-        r#"{"modules":["module m { leaf x; } }"]}"#,
-        "module 0 text-after 21",
-    ),
-];
-
-// The line of the status with which the words `schema` end on this input.
-fn schema_line(rt: &HostRuntime, input: &str) -> Result<Str, Fail> {
-    let words = vec![in rt.alloc(); Str::new(rt.alloc(), "schema")?]?;
-    let mut source = MemSource::new(input.as_bytes().to_vec(rt.alloc())?, Vec::new(rt.alloc()));
-    let mut sink = MemSink::new(rt.alloc(), 99, Vec::new(rt.alloc()))?;
-    let status = mdsal(rt.alloc(), &words, &mut source, &mut sink, &OpenGate);
-    Ok(status.line(rt.alloc())?)
-}
-
-#[test]
-fn modules_are_judged(rt: HostRuntime) -> Result<(), Fail> {
-    for (input, wanted) in MODULES.iter() {
-        let line = schema_line(&rt, *input)?;
-        let wanted = format!(in rt.alloc(); "bad schema 0 {wanted}\n")?;
-        assert!(rt; line.as_str() == wanted.as_str(), "{input}");
-    }
+    let input = OWN.as_bytes().to_vec(rt.alloc())?;
+    let read = ends(&rt, input, vec![in rt.alloc(); 1u64]?, 99, "")?;
+    let input = b"{}".to_vec(rt.alloc())?;
+    let written = ends(&rt, input, Vec::new(rt.alloc()), 10, "order\ntree")?;
+    let input = vec![in rt.alloc(); b' '; LIMIT + 1]?;
+    let long = ends(&rt, input, Vec::new(rt.alloc()), 99, "")?;
+    assert_eq!(rt; [read, written, long], [(3, true), (4, true), (5, true)]);
     Ok(())
 }
 
 #[test]
 fn lines_name_the_place(rt: HostRuntime) -> Result<(), Fail> {
     let place = Str::new(rt.alloc(), "clients/0/2")?;
-    let script = Status::BadScript { place }.line(rt.alloc())?;
-    assert_eq!(rt; script.as_str(), "bad script at clients/0/2\n");
-    let order = Status::BadOrder { index: 5 }.line(rt.alloc())?;
-    assert_eq!(rt; order.as_str(), "bad order at 5\n");
-    let text = Str::new(rt.alloc(), "module 0 unclosed 9")?;
-    let schema = Status::BadSchema { device: 0, text }.line(rt.alloc())?;
-    assert_eq!(rt; schema.as_str(), "bad schema 0 module 0 unclosed 9\n");
-    let text = Str::new(rt.alloc(), "0 config data too-deep \"/\"")?;
-    let opening = Status::BadOpening { text }.line(rt.alloc())?;
+    let mut lines = String::new(rt.alloc());
+    lines.push_str(Status::BadScript { place }.line(rt.alloc())?.as_str())?;
+    lines.push_str(Status::BadOrder { index: 5 }.line(rt.alloc())?.as_str())?;
+    lines.push_str(Status::ReadFault.line(rt.alloc())?.as_str())?;
+    lines.push_str(Status::Done.line(rt.alloc())?.as_str())?;
     assert_eq!(rt;
-        opening.as_str(),
-        "bad opening 0 config data too-deep \"/\"\n"
+        lines.as_str(),
+        "bad script at clients/0/2\nbad order at 5\nread fault\n"
     );
-    assert_eq!(rt; Status::Done.line(rt.alloc())?.as_str(), "");
     Ok(())
 }

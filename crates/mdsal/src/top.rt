@@ -1,22 +1,27 @@
 //! The top call: all that the command does.
-ghost use Rattle.std.specs.Prelude.{◌≡◌, ◌↔◌, [], ◌∷◌, None, IfOk};
+ghost use Rattle.std.specs.Prelude.{◌≡◌, ◌↔◌, [], None, IfOk};
 ghost use Rattle.sal_io.specs.Causes.{Rose};
 ghost use Rattle.mdsal.specs.Words.{form_of};
+ghost use Rattle.sal_tree.specs.Rows.{rows_of};
+ghost use Rattle.sal_history.specs.World.{table_of};
 ghost use Rattle.sal_script.specs.Reading.{parts};
 ghost use Rattle.sal_script.specs.Report as report_spec;
 ghost use Rattle.mdsal.specs.Top as spec;
 
-use crate::reader::Reader;
 use crate::scripted;
-use crate::simulation::{PlayFault, Played, play};
 use crate::status::Status;
 use crate::words::{Form, form_of};
+use sal_client::{PlayFault, Played, Reader, play};
+use sal_hub::Hub;
 use sal_io::{Gate, ReadFail, Sink, Source, read_all, write_all};
 use sal_report::report;
 use sal_rows::Rows;
+use sal_schema::Schema;
 use sal_script::Script;
-use sal_types::{NoMemory, Store, Str};
+use sal_tree::Root;
+use sal_types::{NoMemory, Path, Store, Str};
 use std::alloc::Global;
+use std::sync::Arc;
 
 /// How many bytes a script has at most.
 pub const LIMIT: usize = 16777216;
@@ -42,7 +47,7 @@ exit status, each but 0 with its line on standard error:\n\
   5  too long: the input has more than 16777216 bytes\n\
   6  bad script at PLACE: the first bad place, as clients/0/2\n\
   7  bad schema DEVICE FAULT: the modules build no schema, as bad schema 0 module 0 unclosed 9\n\
-  8  bad opening DEVICE STORE FAULT: an opening tree is no data of the schema\n\
+  8  bad opening DEVICE STORE FAULT: an opening tree is no data of the schema, or it breaks a rule of it\n\
   9  bad order at INDEX: the order names a client without a shared call left, or ends too early\n\
  10  no memory\n";
 
@@ -129,36 +134,41 @@ fn sim_text<G: Gate>(alloc: Global, bytes: &[u8], gate: &G) -> Result<Str, Statu
     ensures { spec.IsTextOr (spec.sim_text bytes.now) result }
 {
     let script = scripted::script_of(alloc, bytes)?;
-    let reader = scripted::reader_of(alloc, &script)?;
-    play_text(alloc, &script, &reader, gate)
+    let schema = scripted::shared_schema(alloc, &script)?;
+    let reader = scripted::reader_of(alloc, &schema)?;
+    play_text(alloc, &script, &schema, &reader, gate)
 }
 
 // The report of the script over its domain.
 fn play_text<G: Gate>(
     alloc: Global,
     script: &Script,
+    schema: &Arc<Schema>,
     reader: &Reader,
     gate: &G,
 ) -> Result<Str, Status>
+    requires { reader.now ≡ schema.now.value }
     ensures { spec.IsTextOr (spec.play_text (parts script.now) reader.now) result }
 {
     let config = scripted::opening_of(alloc, reader, Store::Config, &script.config)?;
     let oper = scripted::opening_of(alloc, reader, Store::Oper, &script.operational)?;
-    play_over(alloc, script, reader, config, oper, gate)
+    let hub = scripted::hub_of(alloc, schema, config, oper)?;
+    play_over(alloc, script, reader, hub, gate)
 }
 
-// The report of the script over these opening trees.
+// The report of the script over a hub without calls.
 fn play_over<G: Gate>(
     alloc: Global,
     script: &Script,
     reader: &Reader,
-    config: Rows,
-    oper: Rows,
+    hub: Hub,
     gate: &G,
 ) -> Result<Str, Status>
-    ensures { spec.IsTextOr (spec.play_over reader.now (parts script.now) (record { config = config; oper = oper } ∷ [])) result }
+    requires table { reader.now ≡ table_of hub.world 0 }
+    requires fresh { hub.log ≡ [] }
+    ensures { spec.IsTextOr (spec.play_over (parts script.now) hub.world) result }
 {
-    match play(alloc, reader, script, config, oper, gate) {
+    match play(alloc, reader, script, hub, gate) {
         Ok(played) => match report_of(alloc, reader, &played) {
             Ok(text) => Ok(text),
             Err(NoMemory) => Err(Status::NoMemory),
@@ -168,19 +178,31 @@ fn play_over<G: Gate>(
     }
 }
 
+// The report of what was played.
 fn report_of(alloc: Global, reader: &Reader, played: &Played) -> Result<Str, NoMemory>
-    ensures { IfOk result (λ text. text ≡ report_spec.report reader.now played.now.broker.world (record { log = played.now.broker.log; replies = played.now.replies })) }
+    requires { reader.now ≡ table_of played.now.hub.world 0 }
+    ensures { IfOk result (λ text. text ≡ report_spec.report played.now.hub.world (record { log = played.now.hub.log; replies = played.now.replies })) }
 {
-    let (config, oper) = played.broker.trees();
+    let trees = played.hub.trees();
+    let config = all_rows(alloc, &trees.config)?;
+    let oper = all_rows(alloc, &trees.oper)?;
     report(
         alloc,
         reader.schema(),
-        played.broker.log(),
+        played.hub.log(),
         played.replies.items(),
-        played.broker.newest(),
-        config,
-        oper,
+        played.hub.newest(),
+        &config,
+        &oper,
     )
+}
+
+// The rows of a tree.
+fn all_rows(alloc: Global, root: &Root) -> Result<Rows, NoMemory>
+    ensures { IfOk result (λ rows. rows ≡ rows_of root.now) }
+{
+    let rows = root.rows(alloc, &Path::root(alloc))?;
+    Ok(rows)
 }
 
 // Writes the text.

@@ -6,8 +6,8 @@ use Rattle.mdsal.specs.declared.status.Status.TheVariants.{BadSchema}
 use Rattle.mdsal.proofs.Patterned.{any_named}
 use Rattle.mdsal.proofs.scripted.compiled.Goals as goal
 
-pub returns-in-Ok-new : goal.returns-in-Ok-new
-returns-in-Ok-new c =
-    let refused = subst (IsRefusal c.args.schema) c.in-Err-Refused.field-0-is c.in-Err-Refused.ensures.refused in
-    let some : list_any has_malformed c.args.schema.types ≡ true = any_named has_malformed c.args.schema.types c.in-Err-Refused.field-0-0 refused in
+pub returns-in-Ok-new-clause-reader : goal.returns-in-Ok-new-clause-reader
+returns-in-Ok-new-clause-reader c =
+    let refused = subst (IsRefusal c.args.schema.value) c.in-Err-Refused.field-0-is c.in-Err-Refused.ensures.refused in
+    let some : list_any has_malformed c.args.schema.value.types ≡ true = any_named has_malformed c.args.schema.value.types c.in-Err-Refused.field-0-0 refused in
     rw some (ap (λ (t : List ℕ). Err (BadSchema 0 t)) (sym c.in-Ok-new.ensures))

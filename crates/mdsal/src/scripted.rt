@@ -135,31 +135,41 @@ fn store_word(store: Store) -> &'static str
     }
 }
 
-/// The hub over the one domain with these opening trees, unless one of them is refused.
-pub fn hub_of(alloc: Global, schema: &Arc<Schema>, config: Rows, oper: Rows) -> Result<Hub, Status>
-    ensures world { spec.Comes (λ hub. hub.world) (spec.opened schema.now.value config oper) result }
+/// The hub over the one domain with these opening trees, unless one of them is refused. The reader is of the same schema.
+pub fn hub_of(
+    alloc: Global,
+    schema: &Arc<Schema>,
+    reader: &Reader,
+    config: Rows,
+    oper: Rows,
+) -> Result<Hub, Status>
+    requires { reader.now ≡ schema.now.value }
+    ensures world { spec.Comes (λ hub. hub.world) (spec.opened reader.now config oper) result }
     ensures fresh { IfOk result (λ hub. hub.log ≡ []) }
 {
-    let devices = match devices_of(alloc, schema, Opening { config, oper }) {
+    let devices = match devices_of(alloc, schema, reader, Opening { config, oper }) {
         Ok(devices) => devices,
         Err(NoMemory) => return Err(Status::NoMemory),
     };
     match Hub::open(alloc, devices) {
         Ok(hub) => Ok(hub),
         Err(OpenFault::NoMemory) => Err(Status::NoMemory),
-        Err(fault) => Err(refusal(alloc, schema, &fault)),
+        Err(fault) => Err(refusal(alloc, reader.schema(), &fault)),
     }
 }
 
-// The one device with this schema.
+// The one device with this schema, which is that of the reader.
 fn devices_of(
     alloc: Global,
     schema: &Arc<Schema>,
+    reader: &Reader,
     opening: Opening,
 ) -> Result<Vec<Device>, NoMemory>
+    requires { reader.now ≡ schema.now.value }
     ensures one { IfOk result (λ devices. length devices.items ≡ 1) }
-    ensures world { IfOk result (λ devices. world_of devices.items ≡ record { table = schema.now.value; opening = opening } ∷ []) }
+    ensures world { IfOk result (λ devices. world_of devices.items ≡ record { table = reader.now; opening = opening } ∷ []) }
 {
+    let _ = reader;
     let schema = Arc::try_clone(schema)?;
     let mut devices = Vec::new(alloc);
     devices.push(Device { schema, opening })?;
@@ -199,7 +209,8 @@ fn not_config_text(
     ensures { IfOk result (λ text. text ≡ decimal «device» ++ (codes " config not-config" ++ path_text schema.now path.now)) }
 {
     let words = path_words(alloc, schema, path)?;
-    device_text(alloc, device, " config not-config", &words)
+    let text = device_text(alloc, device, " config not-config", &words)?;
+    Ok(text)
 }
 
 // The number of a device, some words, and more of them.

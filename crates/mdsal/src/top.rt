@@ -152,7 +152,7 @@ fn play_text<G: Gate>(
 {
     let config = scripted::opening_of(alloc, reader, Store::Config, &script.config)?;
     let oper = scripted::opening_of(alloc, reader, Store::Oper, &script.operational)?;
-    let hub = scripted::hub_of(alloc, schema, config, oper)?;
+    let hub = scripted::hub_of(alloc, schema, reader, config, oper)?;
     play_over(alloc, script, reader, hub, gate)
 }
 

@@ -1,5 +1,7 @@
 pub mod Answers
+pub mod Counts
 pub mod Domains
+pub mod Journals
 pub mod Known
 pub mod Openings
 pub mod Tokens

@@ -14,7 +14,9 @@
 //! ```
 #![tactic(auto)]
 
+mod counts;
 mod hub;
+mod journal;
 pub mod laws;
 mod opening;
 mod receipt;

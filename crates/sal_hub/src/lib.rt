@@ -19,6 +19,7 @@ mod hub;
 mod journal;
 pub mod laws;
 mod opening;
+mod pipeline;
 mod receipt;
 
 pub use hub::{Hub, MAX_ENTRIES, MAX_PENDING};

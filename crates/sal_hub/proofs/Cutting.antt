@@ -2,7 +2,7 @@
 use Rattle.std.proofs.Common.{◌≡◌, ℕ, zero, suc, ◌+◌, ◌-◌, ◌<◌, ◌≤◌, List, [], ◌∷◌, ◌++◌, length, map, get_or, set, take, Some, refl, ap, sym, ◌∙◌, subst, arith, append_assoc, append-nil}
 use Rattle.std.specs.Prelude.{slice_get}
 use Rattle.std.specs.Option.{option_map}
-use Rattle.std.proofs.lemmas.List.{get_or-take, length-take, map-append, map-set, take_more}
+use Rattle.std.proofs.lemmas.List.{get_or-take, length-map, length-take, map-append, map-set, take_more}
 use Rattle.std.proofs.lemmas.List.Elements.{All-set}
 use Rattle.std.proofs.lemmas.Option.{same_Some, slice_get-map}
 use Rattle.sal_types.specs.declared.value.Store.{Store}
@@ -16,7 +16,8 @@ use Rattle.sal_commit.specs.declared.domain.Domain.{Domain as Stored}
 use Rattle.sal_commit.specs.Domains.{IsSame}
 use Rattle.sal_history.specs.World.{Domain}
 use Rattle.sal_history.specs.History.{Sent, decide_front, decide_next}
-use Rattle.sal_hub.specs.Lines.{AllKept, AreDecided, Grows, HasGrown, HaveGrown, IsSound, Line, Shown, counts_of, cut_all, sent_of, sents_in, shown, world_in}
+use Rattle.sal_hub.specs.declared.pipeline.Pipeline.{Pipeline}
+use Rattle.sal_hub.specs.Lines.{AllKept, AreDecided, Grows, HasGrown, HaveGrown, IsSound, Line, Shown, counts_of, cut_all, line_of, sent_of, sents_in, shown, world_in}
 use Rattle.sal_hub.proofs.Deciding.{Grows-same}
 use Rattle.sal_hub.proofs.Listed.{Grows-then, slice_get_at, take-Grows}
 
@@ -162,3 +163,22 @@ pub counted : (ds : List Stored) (i : ℕ) (d : Stored) → i < length ds → d 
 counted ds i d within d_is =
     ap (λ (xs : List Stored). counts_of (map shown xs)) (take_more ds i d within ∙ ap (λ (x : Stored). take i ds ++ x ∷ []) (sym d_is))
     ∙ ap counts_of (map-append shown (take i ds) (d ∷ [])) ∙ map-append (λ (x : Shown). length x.ops) (map shown (take i ds)) (shown d ∷ [])
+
+-- what was decided since is taken back
+HaveGrown-long : (ds es : List Shown) → HaveGrown ds es → length es ≡ length ds
+HaveGrown-long [] [] grown = refl
+HaveGrown-long [] (e ∷ es) grown = absurd grown
+HaveGrown-long (d ∷ ds) [] grown = absurd grown
+HaveGrown-long (d ∷ ds) (e ∷ es) grown = ap suc (HaveGrown-long ds es grown.1)
+
+module _ (old new : Pipeline) (grown : HasGrown (line_of old) (line_of new)) (counts : List ℕ) (counts_are : counts ≡ counts_of (map shown old.domains.items)) where
+  pub as_many : length counts ≡ length new.domains.items
+  as_many =
+      ap length counts_are ∙ length-map (map shown old.domains.items) (λ (d : Shown). length d.ops)
+      ∙ sym (HaveGrown-long (map shown old.domains.items) (map shown new.domains.items) grown.domains) ∙ length-map new.domains.items shown
+
+  pub taken_back : (ds : List Stored) (ss : List Submission) (os : List Outcome) → map shown ds ≡ cut_all (map shown new.domains.items) counts → ss ≡ new.submissions.items → os ≡ take (length old.outcomes.items) new.outcomes.items → ◌≡◌ {A = Line} (record { domains = map shown ds; submissions = ss; outcomes = os }) (line_of old)
+  taken_back ds ss os cut same taken =
+      let domains : map shown ds ≡ map shown old.domains.items = cut ∙ ap (cut_all (map shown new.domains.items)) counts_are ∙ cut_back (map shown old.domains.items) (map shown new.domains.items) grown.domains in
+      let outcomes : os ≡ old.outcomes.items = taken ∙ take-Grows old.outcomes.items new.outcomes.items grown.outcomes in
+      λ i. record { domains = domains i; submissions = (same ∙ grown.submissions) i; outcomes = outcomes i }

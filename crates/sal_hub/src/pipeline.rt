@@ -1,9 +1,13 @@
 //! The domains with their commits, and the submissions with their outcomes.
-ghost use Rattle.std.specs.Prelude.{◌≡◌, ◌+◌, ◌-◌, ◌<◌, ◌≤◌, [], ◌∷◌, ◌++◌, IfOk, OnErr, OnOk, Some, length, map, slice_get, take};
+ghost use Rattle.std.specs.Prelude.{◌≡◌, ℕ, ◌+◌, ◌-◌, ◌<◌, ◌≤◌, [], ◌∷◌, ◌++◌, IfOk, OnErr, OnOk, Some, length, map, slice_get, take};
+ghost use Rattle.sal_history.specs.declared.call.Call.TheVariants.{Settle};
 ghost use Rattle.sal_hub.specs.Answers.{limit};
+ghost use Rattle.sal_hub.specs.Journals.{jotted, mark_at};
 ghost use Rattle.sal_hub.specs.Lines.{AllKept, AreDecided, HasGrown, IsSound, counts_of, cut_all, line_of, shown};
 
+use crate::journal::Journal;
 use sal_commit::{Domain, decide};
+use sal_history::Call;
 use sal_rows::Outcome;
 use sal_tx::Submission;
 use sal_types::{Duplicate, NoMemory};
@@ -68,6 +72,79 @@ impl Pipeline {
         cut_domains(&mut self.domains, counts);
         self.outcomes.truncate(outcomes);
     }
+
+    // Decides what is pending up to the receipt, adds the entry of the settle, and answers the outcome. Where memory is
+    // wanting, some may be decided, and no entry was added.
+    fn settle_some(
+        &mut self,
+        alloc: Global,
+        journal: &mut Journal,
+        client: u32,
+        receipt: usize,
+    ) -> Result<Outcome, NoMemory>
+        requires kept { AllKept self.old.domains.items }
+        requires sound { IsSound (line_of self.old) }
+        requires some { 0 < receipt }
+        requires given { receipt ≤ length self.old.submissions.items }
+        requires few { length self.old.submissions.items ≤ limit }
+        requires room { length journal.old.log < limit }
+        ensures kept { AllKept self.new.domains.items }
+        ensures outcome { IfOk result (λ o. slice_get self.new.outcomes.items (receipt - 1) ≡ Some o) }
+        ensures decided { OnOk result (AreDecided (line_of self.old) (receipt - length self.old.outcomes.items) (line_of self.new)) }
+        ensures grown { HasGrown (line_of self.old) (line_of self.new) }
+        ensures log { OnOk result (journal.new.log ≡ jotted journal.old.log client (Settle receipt)) }
+        ensures marks { OnOk result ((k : ℕ) → mark_at journal.new.marks k ≡ mark_at journal.old.marks k) }
+        ensures journal { OnErr result (journal.new ≡ journal.old) }
+    {
+        self.decide_upto(alloc, receipt)?;
+        let outcome = outcome_at(&self.outcomes, receipt - 1)?;
+        let receipt = receipt as u64;
+        journal.add(client, Call::Settle { receipt })?;
+        Ok(outcome)
+    }
+
+    /// Decides what is pending up to the receipt, adds the entry of the settle, and answers the outcome. Where memory is
+    /// wanting, nothing changes that is seen.
+    pub(crate) fn settle(
+        &mut self,
+        alloc: Global,
+        journal: &mut Journal,
+        client: u32,
+        receipt: usize,
+    ) -> Result<Outcome, NoMemory>
+        requires kept { AllKept self.old.domains.items }
+        requires sound { IsSound (line_of self.old) }
+        requires some { 0 < receipt }
+        requires given { receipt ≤ length self.old.submissions.items }
+        requires few { length self.old.submissions.items ≤ limit }
+        requires room { length journal.old.log < limit }
+        ensures kept { AllKept self.new.domains.items }
+        ensures outcome { IfOk result (λ o. slice_get self.new.outcomes.items (receipt - 1) ≡ Some o) }
+        ensures decided { OnOk result (AreDecided (line_of self.old) (receipt - length self.old.outcomes.items) (line_of self.new)) }
+        ensures same { OnErr result (line_of self.new ≡ line_of self.old) }
+        ensures log { OnOk result (journal.new.log ≡ jotted journal.old.log client (Settle receipt)) }
+        ensures marks { OnOk result ((k : ℕ) → mark_at journal.new.marks k ≡ mark_at journal.old.marks k) }
+        ensures journal { OnErr result (journal.new ≡ journal.old) }
+    {
+        let outcomes = self.outcomes.len();
+        let counts = counts_of(alloc, &self.domains)?;
+        match self.settle_some(alloc, journal, client, receipt) {
+            Ok(outcome) => Ok(outcome),
+            Err(NoMemory) => {
+                self.cut_back(outcomes, &counts);
+                Err(NoMemory)
+            }
+        }
+    }
+}
+
+// A copy of the outcome at the index.
+fn outcome_at(outcomes: &[Outcome], index: usize) -> Result<Outcome, NoMemory>
+    requires { index < length outcomes.now }
+    ensures { IfOk result (λ o. slice_get outcomes.now index ≡ Some o) }
+{
+    let outcome = outcomes[index].copy()?;
+    Ok(outcome)
 }
 
 // How many commits each domain has behind its opening.

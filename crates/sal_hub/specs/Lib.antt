@@ -1,8 +1,10 @@
 pub mod Answers
 pub mod Counts
+pub mod Current
 pub mod Domains
 pub mod Journals
 pub mod Known
 pub mod Lines
 pub mod Openings
+pub mod Starts
 pub mod Tokens

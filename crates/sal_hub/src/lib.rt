@@ -21,6 +21,7 @@ pub mod laws;
 mod opening;
 mod pipeline;
 mod receipt;
+mod start;
 
 pub use hub::{Hub, MAX_ENTRIES, MAX_PENDING};
 pub use opening::OpenFault;

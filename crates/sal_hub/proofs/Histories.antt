@@ -112,7 +112,7 @@ module _ (world : List Domain) where
   begun_here done (Cancel place) b = λ e. cc
   begun_here done (Settle n) b = λ e. cc
 
-  commits-grow : (done : List Answered) (log : List Entry) (n : ℕ) → Grows (commits done n) (commits (fold (answer world) done log) n)
+  pub commits-grow : (done : List Answered) (log : List Entry) (n : ℕ) → Grows (commits done n) (commits (fold (answer world) done log) n)
   commits-grow done [] n = ([], sym (append-nil (commits done n)))
   commits-grow done (e ∷ log) n =
       let sent : List Sent = option_to_list (sent_by done e.call (reply_to world done e.call)) in
@@ -126,10 +126,10 @@ module _ (world : List Domain) where
       let longer : k < length (answer world done e) = omega (arith, h, length-append done (now_of done e ∷ [])) in
       answers_kept (answer world done e) log k longer ∙ slice_get_left done (now_of done e ∷ []) k h
 
-  split : (log : List Entry) (place : ℕ) → history world log ≡ fold (answer world) (history world (take place log)) (drop place log)
+  pub split : (log : List Entry) (place : ℕ) → history world log ≡ fold (answer world) (history world (take place log)) (drop place log)
   split log place = ap (history world) (sym (take-append-drop place log)) ∙ fold-append (answer world) [] (take place log) (drop place log)
 
-  began_in : (rest : List Entry) (done : List Answered) (b : Base) (place : ℕ) → place ≡ length done → began_at (fold (answer world) done rest) place ≡ Some b → (b.domain ≡ 0) × (b.commit ≡ length (commits done b.domain))
+  pub began_in : (rest : List Entry) (done : List Answered) (b : Base) (place : ℕ) → place ≡ length done → began_at (fold (answer world) done rest) place ≡ Some b → (b.domain ≡ 0) × (b.commit ≡ length (commits done b.domain))
   began_in [] done b place h e = none done place b (omega (arith, h)) e
     where
       none : (xs : List Answered) (k : ℕ) (c : Base) → length xs ≤ k → began_at xs k ≡ Some c → (c.domain ≡ 0) × (c.commit ≡ length (commits done c.domain))

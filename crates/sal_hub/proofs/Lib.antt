@@ -1,5 +1,7 @@
 pub mod Cutting
 pub mod Deciding
 pub mod Histories
+pub mod Keeping
 pub mod Listed
+pub mod Standing
 pub mod Starting

@@ -13,11 +13,11 @@ abbrev pub answers : List Entry → Line → List Answered
 answers log line = history (world_in line.domains) log
 
 -- the submissions, the outcomes, the commits and the marks are the log's
-pub record IsCurrent (log : List Entry) (marks : List Bool) (line : Line) : Type 0 where
+pub record IsCurrent (log : List Entry) (noted : List Bool) (line : Line) : Type 0 where
   pub sound : IsSound line
   pub submissions : sents_in line ≡ sents (answers log line)
   pub outcomes : line.outcomes ≡ outcomes (answers log line)
-  pub marks : (place : ℕ) → mark_at marks place ≡ is_spent (answers log line) place
+  pub marks : (place : ℕ) → mark_at noted place ≡ is_spent (answers log line) place
 
 pub record IsKept (journal : Noted) (p : Pipeline) : Type 0 where
   pub kept : AllKept p.domains.items

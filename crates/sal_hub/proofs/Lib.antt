@@ -3,5 +3,6 @@ pub mod Deciding
 pub mod Histories
 pub mod Keeping
 pub mod Listed
+pub mod Serving
 pub mod Standing
 pub mod Starting

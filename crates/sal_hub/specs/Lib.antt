@@ -7,4 +7,5 @@ pub mod Known
 pub mod Lines
 pub mod Openings
 pub mod Starts
+pub mod Submits
 pub mod Tokens

@@ -14,8 +14,12 @@ ghost use Rattle.sal_hub.specs.Known.{entry_of};
 ghost use Rattle.sal_hub.specs.Openings.{IsFaultOf, fault_of, world_of};
 ghost use Rattle.sal_hub.specs.Tokens.{IsBegun, IsFresh, IsGiven, IsToken, begun_of};
 
+use crate::journal::Journal;
 use crate::opening::OpenFault;
+use crate::pipeline::Pipeline;
 use crate::receipt::Receipt;
+use crate::start::{begin, last_commit};
+use crate::submit::submit;
 use sal_commit::Domain;
 use sal_history::{Device, Entry};
 use sal_rows::{CallFault, Mode, Outcome};
@@ -33,12 +37,11 @@ pub const MAX_PENDING: usize = 4096;
 /// The hub: the log of the calls, and what it keeps of them. A contract sees the opening trees of the domains and the log.
 #[derive(Drop)]
 pub struct Hub {
-    domains: Vec<Domain>,
-    log: Vec<Entry>,
+    pipeline: Pipeline,
+    journal: Journal,
 }
 
 impl Model for Hub {
-    ghost use Rattle.std.specs.Prelude.{◌≡◌, true, false, []};
     ghost use Rattle.sal_hub.specs.Known.{Known};
     ghost use Rattle.std.specs.Coded.{codes};
     ghost use Rattle.sal_restrict.specs.contracts.yang_type.YangType as e;
@@ -47,9 +50,11 @@ impl Model for Hub {
 
     ghost coded = { Prim.hlevel (codes, e.the_row.coded) };
 
-    ghost view = { λ h. record { world = []; log = h.log.items } };
+    ghost use Rattle.sal_hub.specs.Current.{IsKept, known_of};
 
-    ghost invariant = { λ h. true ≡ false };
+    ghost view = { λ h. known_of h.journal h.pipeline };
+
+    ghost invariant = { λ h. IsKept h.journal h.pipeline };
 }
 
 impl Hub {
@@ -66,28 +71,28 @@ impl Hub {
     pub fn log(&self) -> &[Entry]
         ensures { result.now ≡ self.now.log }
     {
-        &self.log
+        self.journal.entries()
     }
 
     /// The domains, by number.
     pub fn domains(&self) -> &[Domain]
         ensures { AreDomains self.now result.now }
     {
-        &self.domains
+        &self.pipeline.domains
     }
 
     /// How many commits the controller's own domain has.
     pub fn newest(&self) -> u64
         ensures { result ≡ length (commits (history self.now.world self.now.log) 0) }
     {
-        0
+        self.pipeline.domains[0].commits.len() as u64 - 1
     }
 
     /// The newest trees of the controller's own domain.
     pub fn trees(&self) -> &Pair
         ensures { (s : Of) → rows_in result.now s ≡ newest_tree self.now.world self.now.log 0 s }
     {
-        &self.domains[0].commits[0].trees
+        &last_commit(&self.pipeline.domains[0].commits).trees
     }
 
     /// Begins a transaction of the domain in the mode.
@@ -102,7 +107,17 @@ impl Hub {
         ensures token { IfOk result (IsToken self.new) }
         ensures fresh { IfOk result (IsFresh self.old domain mode) }
     {
-        Err(CallFault::NoMemory)
+        if self.journal.is_full() {
+            return Err(CallFault::HistoryFull);
+        }
+        begin(
+            alloc,
+            &self.pipeline,
+            &mut self.journal,
+            client,
+            domain,
+            mode,
+        )
     }
 
     /// Submits the transaction, which waits then to be decided. A refused transaction is given back.
@@ -116,7 +131,16 @@ impl Hub {
         ensures answer { CallsOr self.old self.new (entry_of self.old client (Submit tx.begun.place tx.changes)) (λ (receipt : Given). Numbered receipt.number) tx result }
         ensures given { IfOk result (λ receipt. IsGiven self.new receipt.number) }
     {
-        Err((tx, CallFault::NoMemory))
+        if self.journal.is_full() {
+            return Err((tx, CallFault::HistoryFull));
+        }
+        submit(
+            alloc,
+            &mut self.pipeline,
+            &mut self.journal,
+            client,
+            tx,
+        )
     }
 
     /// Gives the transaction up.

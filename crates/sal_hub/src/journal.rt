@@ -1,9 +1,10 @@
 //! The log, with what is looked up in it.
-ghost use Rattle.std.specs.Prelude.{◌≡◌, ◌<◌, ◌||◌, ℕ, [], OnErr, OnOk, length, nat_eq};
+ghost use Rattle.std.specs.Prelude.{◌≡◌, ◌<◌, ◌≤◌, ◌↔◌, ◌||◌, ℕ, [], IsTrue, OnErr, OnOk, length, nat_eq};
 ghost use Rattle.sal_hub.specs.Answers.{limit};
 ghost use Rattle.sal_hub.specs.Journals.{jotted, mark_at};
 
 use crate::counts::Counts;
+use crate::hub::MAX_ENTRIES;
 use sal_history::{Call, Entry};
 use sal_types::NoMemory;
 use std::alloc::Global;
@@ -45,6 +46,13 @@ impl Journal {
         ensures { result.now ≡ self.now.log }
     {
         &self.entries
+    }
+
+    /// Whether the log has as many entries as it may have.
+    pub(crate) fn is_full(&self) -> bool
+        ensures { IsTrue result ↔ (limit ≤ length self.now.log) }
+    {
+        self.entries.len() >= MAX_ENTRIES
     }
 
     /// Whether the transaction that began at the place is spent.

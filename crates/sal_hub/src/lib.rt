@@ -22,6 +22,7 @@ mod opening;
 mod pipeline;
 mod receipt;
 mod start;
+mod submit;
 
 pub use hub::{Hub, MAX_ENTRIES, MAX_PENDING};
 pub use opening::OpenFault;

@@ -1,6 +1,8 @@
 //! The domains with their commits, and the submissions with their outcomes.
-ghost use Rattle.std.specs.Prelude.{◌≡◌, ℕ, ◌+◌, ◌-◌, ◌<◌, ◌≤◌, [], ◌∷◌, ◌++◌, IfOk, OnErr, OnOk, Some, length, map, slice_get, take};
+ghost use Rattle.std.specs.Prelude.{◌≡◌, ℕ, ◌+◌, ◌-◌, ◌<◌, ◌≤◌, [], ◌∷◌, ◌++◌, false, true, IfOk, MatchOption, OnErr, OnOk, Some, length, map, slice_get, take};
+ghost use Rattle.sal_graft.specs.Kept.{AreKept};
 ghost use Rattle.sal_history.specs.declared.call.Call.TheVariants.{Settle};
+ghost use Rattle.sal_history.specs.History.{is_live};
 ghost use Rattle.sal_hub.specs.Answers.{limit};
 ghost use Rattle.sal_hub.specs.Journals.{jotted, mark_at};
 ghost use Rattle.sal_hub.specs.Lines.{AllKept, AreDecided, HasGrown, IsSound, counts_of, cut_all, line_of, shown};
@@ -22,6 +24,22 @@ pub(crate) struct Pipeline {
 }
 
 impl Pipeline {
+    /// The domain of the number, if it is live.
+    pub(crate) fn live(&self, domain: u32) -> Option<&Domain>
+        requires kept { AllKept self.now.domains.items }
+        requires sound { IsSound (line_of self.now) }
+        ensures live { MatchOption result (is_live domain ≡ false) (λ found. is_live domain ≡ true) }
+        ensures found { MatchOption result (Unit {0}) (λ found. slice_get (map shown self.now.domains.items) domain ≡ Some (shown found.now)) }
+        ensures kept { MatchOption result (Unit {0}) (λ found. AreKept found.now.commits.items) }
+    {
+        let index = domain as usize;
+        if index >= self.domains.len() {
+            return None;
+        }
+        let found = &self.domains[index];
+        if found.live { Some(found) } else { None }
+    }
+
     // Decides the submission at the index, which is the next one. Where memory is wanting, nothing changes that is seen.
     fn decide_one(&mut self, alloc: Global, index: usize) -> Result<(), NoMemory>
         requires kept { AllKept self.old.domains.items }

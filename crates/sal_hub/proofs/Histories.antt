@@ -35,7 +35,7 @@ done_ops-grows n (s ∷ ss) ts (o ∷ os) ps =
     (rest.0, ap (λ (cs : List (List Op)). own ++ cs) rest.1 ∙ sym (append_assoc own (done_ops n ss os) rest.0))
 
 module _ (world : List Domain) where
-  abbrev now_of : List Answered → Entry → Answered
+  abbrev pub now_of : List Answered → Entry → Answered
   now_of answered e = record { entry = e; reply = reply_to world answered e.call; sent = sent_by answered e.call (reply_to world answered e.call); decided = decided_by world answered e.call }
 
   pub history-push : (log : List Entry) (e : Entry) → history world (log ++ e ∷ []) ≡ answer world (history world log) e

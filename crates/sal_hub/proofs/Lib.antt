@@ -1,3 +1,4 @@
+pub mod Beginning
 pub mod Cutting
 pub mod Deciding
 pub mod Histories
@@ -6,3 +7,4 @@ pub mod Listed
 pub mod Serving
 pub mod Standing
 pub mod Starting
+pub mod Submitting

@@ -21,10 +21,11 @@ use crate::receipt::Receipt;
 use crate::start::{begin, last_commit};
 use crate::submit::submit;
 use sal_commit::Domain;
-use sal_history::{Device, Entry};
+use sal_history::{Call, Device, Entry};
 use sal_rows::{CallFault, Mode, Outcome};
 use sal_tree::Pair;
 use sal_tx::{Tx, WriteTx};
+use sal_types::NoMemory;
 use std::alloc::Global;
 use std::marker::Model;
 
@@ -55,6 +56,16 @@ impl Model for Hub {
     ghost view = { λ h. known_of h.journal h.pipeline };
 
     ghost invariant = { λ h. IsKept h.journal h.pipeline };
+}
+
+// The place of the entry that began the transaction.
+fn place_of(tx: &Tx) -> u64
+    ensures { result ≡ (begun_of tx.now).place }
+{
+    match tx {
+        Tx::Read(tx) => tx.begun().place,
+        Tx::Write(tx) => tx.begun().place,
+    }
 }
 
 impl Hub {
@@ -148,7 +159,16 @@ impl Hub {
         requires token { IsToken self.old tx }
         ensures answer { CallsOr self.old self.new (entry_of self.old client (Cancel (begun_of tx).place)) (λ _. Accepted) tx result }
     {
-        Err((tx, CallFault::NoMemory))
+        if self.journal.is_full() {
+            return Err((tx, CallFault::HistoryFull));
+        }
+        let place = place_of(&tx);
+        match self.journal.add(client, Call::Cancel { place }) {
+            Ok(()) => {}
+            Err(NoMemory) => return Err((tx, CallFault::NoMemory)),
+        }
+        self.journal.spend(place as usize);
+        Ok(())
     }
 
     /// Decides what is pending, up to and including the receipt, and answers its outcome. Where memory is wanting, all that
@@ -162,6 +182,14 @@ impl Hub {
         requires given { IsGiven self.old receipt.number }
         ensures answer { Calls self.old self.new (entry_of self.old client (Settle receipt.number)) (λ (o : Decided). Settled 0 o) result }
     {
-        Err(CallFault::NoMemory)
+        if self.journal.is_full() {
+            return Err(CallFault::HistoryFull);
+        }
+        let number = receipt.number() as usize;
+        let (pipeline, journal) = (&mut self.pipeline, &mut self.journal);
+        match pipeline.settle(alloc, journal, client, number) {
+            Ok(outcome) => Ok(outcome),
+            Err(NoMemory) => Err(CallFault::NoMemory),
+        }
     }
 }

@@ -1,8 +1,6 @@
 -- The front of the log stays, and submissions are only added.
 use Rattle.std.proofs.Common.{◌≡◌, ◌≤◌, ◌<◌, ◌∷◌, [], length, sym, ◌∙◌, arith, length-append}
 use Rattle.sal_hub.proofs.Histories.{base_tree-push, began_at-push, sents-grow}
-use Rattle.sal_hub.proofs.Keeping.{length-submissions}
-use Rattle.sal_hub.proofs.Standing.{stands_on}
 use Rattle.sal_hub.proofs.laws.tokens_last.Goals as goal
 
 pub returns-clause-begun : goal.returns-clause-begun

@@ -5,6 +5,7 @@ pub mod Histories
 pub mod Keeping
 pub mod Listed
 pub mod Serving
+pub mod Settling
 pub mod Standing
 pub mod Starting
 pub mod Submitting

@@ -38,7 +38,7 @@ lie_below : (table : SchemaTable) (base : Pair) (earlier ops : List Op) → AreL
 lie_below table base earlier [] l = tt
 lie_below table base earlier (op ∷ ops) l = (lie_under table op.path (rows_of_act op.act) l.0.0.rows, lie_below table base (earlier ++ op ∷ []) ops l.1)
 
-swapped : (a b : Bool) → (a || b) ≡ (b || a)
+pub swapped : (a b : Bool) → (a || b) ≡ (b || a)
 swapped true true = refl
 swapped true false = refl
 swapped false true = refl

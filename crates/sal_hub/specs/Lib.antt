@@ -5,6 +5,7 @@ pub mod Domains
 pub mod Journals
 pub mod Known
 pub mod Lines
+pub mod Opened
 pub mod Openings
 pub mod Starts
 pub mod Submits

@@ -14,10 +14,12 @@ ghost use Rattle.sal_hub.specs.Known.{entry_of};
 ghost use Rattle.sal_hub.specs.Openings.{IsFaultOf, fault_of, world_of};
 ghost use Rattle.sal_hub.specs.Tokens.{IsBegun, IsFresh, IsGiven, IsToken, begun_of};
 
+use crate::devices::open_all;
 use crate::journal::Journal;
 use crate::opening::OpenFault;
 use crate::pipeline::Pipeline;
 use crate::receipt::Receipt;
+use crate::settle::settle;
 use crate::start::{begin, last_commit};
 use crate::submit::submit;
 use sal_commit::Domain;
@@ -75,7 +77,14 @@ impl Hub {
         requires few { length devices.items ≤ 64 }
         ensures { MatchResult result (λ hub. (fault_of (world_of devices.items) ≡ None) × (hub ≡ record { world = world_of devices.items; log = [] })) (IsFaultOf (world_of devices.items)) }
     {
-        Err(OpenFault::NoMemory)
+        let domains = open_all(alloc, &devices)?;
+        let pipeline = Pipeline {
+            domains,
+            submissions: Vec::new(alloc),
+            outcomes: Vec::new(alloc),
+        };
+        let journal = Journal::new(alloc);
+        Ok(Hub { pipeline, journal })
     }
 
     /// The log of the calls so far.
@@ -186,10 +195,12 @@ impl Hub {
             return Err(CallFault::HistoryFull);
         }
         let number = receipt.number() as usize;
-        let (pipeline, journal) = (&mut self.pipeline, &mut self.journal);
-        match pipeline.settle(alloc, journal, client, number) {
-            Ok(outcome) => Ok(outcome),
-            Err(NoMemory) => Err(CallFault::NoMemory),
-        }
+        settle(
+            alloc,
+            &mut self.pipeline,
+            &mut self.journal,
+            client,
+            number,
+        )
     }
 }

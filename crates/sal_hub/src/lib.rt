@@ -15,12 +15,14 @@
 #![tactic(auto)]
 
 mod counts;
+mod devices;
 mod hub;
 mod journal;
 pub mod laws;
 mod opening;
 mod pipeline;
 mod receipt;
+mod settle;
 mod start;
 mod submit;
 

@@ -4,6 +4,7 @@ pub mod Deciding
 pub mod Histories
 pub mod Keeping
 pub mod Listed
+pub mod OpenedDevices
 pub mod Serving
 pub mod Settling
 pub mod Standing

@@ -58,14 +58,3 @@ module _ (journal journal' : Noted) (p p' : Pipeline) (is : IsKept journal p) (c
         log = λ i. record { world = decided.world i; log = log i };
         reply = reply-settle journal.log journal.marks (line_of p) is.current receipt (line_of p') s o decided here at;
       }
-
--- nothing was decided
-module _ (journal journal' : Noted) (p p' : Pipeline) (same_journal : journal' ≡ journal) (same_line : line_of p' ≡ line_of p) where
-  pub still_kept : IsKept journal p → AllKept p'.domains.items → IsKept journal' p'
-  still_kept is kept = record {
-    kept = kept;
-    current = subst (λ (j : Noted). IsCurrent j.log j.marks (line_of p')) (sym same_journal) (subst (IsCurrent journal.log journal.marks) (sym same_line) is.current);
-  }
-
-  pub still_known : known_of journal' p' ≡ known_of journal p
-  still_known = λ i. record { world = world_in (same_line i).domains; log = (same_journal i).log }

@@ -4,10 +4,10 @@ ghost use Rattle.std.specs.Option.{option_copied, option_map};
 ghost use Rattle.sal_schema.specs.Fitting.{is_of_state};
 ghost use Rattle.sal_check.specs.Breaches.{breach};
 ghost use Rattle.sal_graft.specs.Kept.{AreKept, opening_in, tree_in};
-ghost use Rattle.sal_hub.specs.declared.opening.OpenFault.TheVariants.{Broken, NoMemory as Refused};
+ghost use Rattle.sal_hub.specs.declared.opening.OpenFault.TheVariants.{Broken, NotConfig, NoMemory as Refused};
 ghost use Rattle.sal_hub.specs.Lines.{AllKept, shown};
 ghost use Rattle.sal_hub.specs.Opened.{shown_from, shown_of};
-ghost use Rattle.sal_hub.specs.Openings.{IsFaultOf, domain_of, fault_of, opening_fault, world_of};
+ghost use Rattle.sal_hub.specs.Openings.{IsFaultOf, domain_of, fault_of, opening_fault, state_row, world_of};
 
 use crate::opening::OpenFault;
 use sal_check::check_all;
@@ -41,21 +41,39 @@ fn open_one(alloc: Global, number: u32, device: &Device) -> Result<Domain, OpenF
     ensures kept { IfOk result (λ d. AreKept d.commits.items) }
     ensures shown { IfOk result (λ d. shown d ≡ shown_of number device.now) }
 {
-    if let Some(row) = state_row(&device.schema, device.opening.config.items()) {
-        let path = row.path.copy()?;
-        return Err(OpenFault::NotConfig {
-            device: number,
-            path,
-        });
+    match not_config(number, device) {
+        Ok(()) => {}
+        Err(fault) => return Err(fault),
     }
     let domain = Domain::open(alloc, number, device, number == 0)?;
-    check(alloc, number, &domain, Store::Config)?;
-    check(alloc, number, &domain, Store::Oper)?;
-    Ok(domain)
+    match check(alloc, number, &domain, Store::Config) {
+        Ok(()) => {}
+        Err(fault) => return Err(fault),
+    }
+    match check(alloc, number, &domain, Store::Oper) {
+        Ok(()) => Ok(domain),
+        Err(fault) => Err(fault),
+    }
+}
+
+// Whether the configuration has state data.
+fn not_config(number: u32, device: &Device) -> Result<(), OpenFault>
+    ensures { MatchResult result (λ _. state_row device.now.schema.value device.now.opening.config ≡ None) (λ e. (e ≡ Refused) ⊎ (option_map (NotConfig number) (state_row device.now.schema.value device.now.opening.config) ≡ Some e)) }
+{
+    match first_state(&device.schema, device.opening.config.items()) {
+        None => Ok(()),
+        Some(row) => {
+            let path = row.path.copy()?;
+            Err(OpenFault::NotConfig {
+                device: number,
+                path,
+            })
+        }
+    }
 }
 
 // The first row of a state node.
-fn state_row<'a>(schema: &Schema, rows: &'a [Row]) -> Option<&'a Row>
+fn first_state<'a>(schema: &Schema, rows: &'a [Row]) -> Option<&'a Row>
     ensures { option_copied result ≡ find (λ row. is_of_state schema.now row.path) rows.now }
 {
     rows.iter().find(|row| schema.is_of_state(&row.path))

@@ -1,0 +1,12 @@
+pub mod Beginning
+pub mod Cutting
+pub mod Deciding
+pub mod Histories
+pub mod Keeping
+pub mod Listed
+pub mod OpenedDevices
+pub mod Serving
+pub mod Settling
+pub mod Standing
+pub mod Starting
+pub mod Submitting

@@ -1,5 +1,12 @@
 pub mod Answers
+pub mod Counts
+pub mod Current
 pub mod Domains
+pub mod Journals
 pub mod Known
+pub mod Lines
+pub mod Opened
 pub mod Openings
+pub mod Starts
+pub mod Submits
 pub mod Tokens

@@ -14,13 +14,20 @@ ghost use Rattle.sal_hub.specs.Known.{entry_of};
 ghost use Rattle.sal_hub.specs.Openings.{IsFaultOf, fault_of, world_of};
 ghost use Rattle.sal_hub.specs.Tokens.{IsBegun, IsFresh, IsGiven, IsToken, begun_of};
 
+use crate::devices::open_all;
+use crate::journal::Journal;
 use crate::opening::OpenFault;
+use crate::pipeline::Pipeline;
 use crate::receipt::Receipt;
+use crate::settle::settle;
+use crate::start::{begin, last_commit};
+use crate::submit::submit;
 use sal_commit::Domain;
-use sal_history::{Device, Entry};
+use sal_history::{Call, Device, Entry};
 use sal_rows::{CallFault, Mode, Outcome};
 use sal_tree::Pair;
 use sal_tx::{Tx, WriteTx};
+use sal_types::NoMemory;
 use std::alloc::Global;
 use std::marker::Model;
 
@@ -33,12 +40,11 @@ pub const MAX_PENDING: usize = 4096;
 /// The hub: the log of the calls, and what it keeps of them. A contract sees the opening trees of the domains and the log.
 #[derive(Drop)]
 pub struct Hub {
-    domains: Vec<Domain>,
-    log: Vec<Entry>,
+    pipeline: Pipeline,
+    journal: Journal,
 }
 
 impl Model for Hub {
-    ghost use Rattle.std.specs.Prelude.{◌≡◌, true, false, []};
     ghost use Rattle.sal_hub.specs.Known.{Known};
     ghost use Rattle.std.specs.Coded.{codes};
     ghost use Rattle.sal_restrict.specs.contracts.yang_type.YangType as e;
@@ -47,9 +53,21 @@ impl Model for Hub {
 
     ghost coded = { Prim.hlevel (codes, e.the_row.coded) };
 
-    ghost view = { λ h. record { world = []; log = h.log.items } };
+    ghost use Rattle.sal_hub.specs.Current.{IsKept, known_of};
 
-    ghost invariant = { λ h. true ≡ false };
+    ghost view = { λ h. known_of h.journal h.pipeline };
+
+    ghost invariant = { λ h. IsKept h.journal h.pipeline };
+}
+
+// The place of the entry that began the transaction.
+fn place_of(tx: &Tx) -> u64
+    ensures { result ≡ (begun_of tx.now).place }
+{
+    match tx {
+        Tx::Read(tx) => tx.begun().place,
+        Tx::Write(tx) => tx.begun().place,
+    }
 }
 
 impl Hub {
@@ -59,35 +77,42 @@ impl Hub {
         requires few { length devices.items ≤ 64 }
         ensures { MatchResult result (λ hub. (fault_of (world_of devices.items) ≡ None) × (hub ≡ record { world = world_of devices.items; log = [] })) (IsFaultOf (world_of devices.items)) }
     {
-        Err(OpenFault::NoMemory)
+        let domains = open_all(alloc, &devices)?;
+        let pipeline = Pipeline {
+            domains,
+            submissions: Vec::new(alloc),
+            outcomes: Vec::new(alloc),
+        };
+        let journal = Journal::new(alloc);
+        Ok(Hub { pipeline, journal })
     }
 
     /// The log of the calls so far.
     pub fn log(&self) -> &[Entry]
         ensures { result.now ≡ self.now.log }
     {
-        &self.log
+        self.journal.entries()
     }
 
     /// The domains, by number.
     pub fn domains(&self) -> &[Domain]
         ensures { AreDomains self.now result.now }
     {
-        &self.domains
+        &self.pipeline.domains
     }
 
     /// How many commits the controller's own domain has.
     pub fn newest(&self) -> u64
         ensures { result ≡ length (commits (history self.now.world self.now.log) 0) }
     {
-        0
+        self.pipeline.domains[0].commits.len() as u64 - 1
     }
 
     /// The newest trees of the controller's own domain.
     pub fn trees(&self) -> &Pair
         ensures { (s : Of) → rows_in result.now s ≡ newest_tree self.now.world self.now.log 0 s }
     {
-        &self.domains[0].commits[0].trees
+        &last_commit(&self.pipeline.domains[0].commits).trees
     }
 
     /// Begins a transaction of the domain in the mode.
@@ -102,7 +127,17 @@ impl Hub {
         ensures token { IfOk result (IsToken self.new) }
         ensures fresh { IfOk result (IsFresh self.old domain mode) }
     {
-        Err(CallFault::NoMemory)
+        if self.journal.is_full() {
+            return Err(CallFault::HistoryFull);
+        }
+        begin(
+            alloc,
+            &self.pipeline,
+            &mut self.journal,
+            client,
+            domain,
+            mode,
+        )
     }
 
     /// Submits the transaction, which waits then to be decided. A refused transaction is given back.
@@ -116,7 +151,16 @@ impl Hub {
         ensures answer { CallsOr self.old self.new (entry_of self.old client (Submit tx.begun.place tx.changes)) (λ (receipt : Given). Numbered receipt.number) tx result }
         ensures given { IfOk result (λ receipt. IsGiven self.new receipt.number) }
     {
-        Err((tx, CallFault::NoMemory))
+        if self.journal.is_full() {
+            return Err((tx, CallFault::HistoryFull));
+        }
+        submit(
+            alloc,
+            &mut self.pipeline,
+            &mut self.journal,
+            client,
+            tx,
+        )
     }
 
     /// Gives the transaction up.
@@ -124,7 +168,16 @@ impl Hub {
         requires token { IsToken self.old tx }
         ensures answer { CallsOr self.old self.new (entry_of self.old client (Cancel (begun_of tx).place)) (λ _. Accepted) tx result }
     {
-        Err((tx, CallFault::NoMemory))
+        if self.journal.is_full() {
+            return Err((tx, CallFault::HistoryFull));
+        }
+        let place = place_of(&tx);
+        match self.journal.add(client, Call::Cancel { place }) {
+            Ok(()) => {}
+            Err(NoMemory) => return Err((tx, CallFault::NoMemory)),
+        }
+        self.journal.spend(place as usize);
+        Ok(())
     }
 
     /// Decides what is pending, up to and including the receipt, and answers its outcome. Where memory is wanting, all that
@@ -138,6 +191,16 @@ impl Hub {
         requires given { IsGiven self.old receipt.number }
         ensures answer { Calls self.old self.new (entry_of self.old client (Settle receipt.number)) (λ (o : Decided). Settled 0 o) result }
     {
-        Err(CallFault::NoMemory)
+        if self.journal.is_full() {
+            return Err(CallFault::HistoryFull);
+        }
+        let number = receipt.number() as usize;
+        settle(
+            alloc,
+            &mut self.pipeline,
+            &mut self.journal,
+            client,
+            number,
+        )
     }
 }

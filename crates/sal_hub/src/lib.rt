@@ -14,10 +14,17 @@
 //! ```
 #![tactic(auto)]
 
+mod counts;
+mod devices;
 mod hub;
+mod journal;
 pub mod laws;
 mod opening;
+mod pipeline;
 mod receipt;
+mod settle;
+mod start;
+mod submit;
 
 pub use hub::{Hub, MAX_ENTRIES, MAX_PENDING};
 pub use opening::OpenFault;

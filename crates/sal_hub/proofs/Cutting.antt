@@ -1,0 +1,184 @@
+-- Domains that are cut back to commits that they had.
+use Rattle.std.proofs.Common.{◌≡◌, ℕ, zero, suc, ◌+◌, ◌-◌, ◌<◌, ◌≤◌, List, [], ◌∷◌, ◌++◌, length, map, get_or, set, take, Some, refl, ap, sym, ◌∙◌, subst, arith, append_assoc, append-nil}
+use Rattle.std.specs.Prelude.{slice_get}
+use Rattle.std.specs.Option.{option_map}
+use Rattle.std.proofs.lemmas.List.{get_or-take, length-map, length-take, map-append, map-set, take_more}
+use Rattle.std.proofs.lemmas.List.Elements.{All-set}
+use Rattle.std.proofs.lemmas.Option.{same_Some, slice_get-map}
+use Rattle.sal_types.specs.declared.value.Store.{Store}
+use Rattle.sal_rows.specs.declared.op.Op.{Op}
+use Rattle.sal_rows.specs.declared.outcome.Outcome.{Outcome}
+use Rattle.sal_rows.specs.Commits.{tree_after, tree_at}
+use Rattle.sal_tree.specs.declared.commit.Commit.{Commit}
+use Rattle.sal_graft.specs.Kept.{AreKept, all_ops, opening_in, ops_of}
+use Rattle.sal_tx.specs.declared.tx.Submission.{Submission}
+use Rattle.sal_commit.specs.declared.domain.Domain.{Domain as Stored}
+use Rattle.sal_commit.specs.Domains.{IsSame}
+use Rattle.sal_history.specs.World.{Domain}
+use Rattle.sal_history.specs.History.{Sent, decide_front, decide_next}
+use Rattle.sal_hub.specs.declared.pipeline.Pipeline.{Pipeline}
+use Rattle.sal_hub.specs.Lines.{AllKept, AreDecided, Grows, HasGrown, HaveGrown, IsSound, Line, Shown, counts_of, cut_all, line_of, sent_of, sents_in, shown, world_in}
+use Rattle.sal_hub.proofs.Deciding.{Grows-same}
+use Rattle.sal_hub.proofs.Listed.{Grows-then, slice_get_at, take-Grows}
+
+-- ---- commits
+
+take_shorter : {X : Type 0} (xs : List X) (j k : ℕ) → j ≤ k → take j (take k xs) ≡ take j xs
+take_shorter [] zero zero h = refl
+take_shorter [] zero (suc k) h = refl
+take_shorter [] (suc j) zero h = refl
+take_shorter [] (suc j) (suc k) h = refl
+take_shorter (x ∷ xs) zero zero h = refl
+take_shorter (x ∷ xs) zero (suc k) h = refl
+take_shorter (x ∷ xs) (suc j) zero h = absurd (omega (arith, h))
+take_shorter (x ∷ xs) (suc j) (suc k) h = ap (λ (ys : List _). x ∷ ys) (take_shorter xs j k (omega (arith, h)))
+
+all_ops-take : (cs : List Commit) (k : ℕ) → all_ops (take k cs) ≡ take k (all_ops cs)
+all_ops-take [] zero = refl
+all_ops-take [] (suc k) = refl
+all_ops-take (c ∷ cs) zero = refl
+all_ops-take (c ∷ cs) (suc k) = ap (λ (xs : List (List Op)). c.ops.value ∷ xs) (all_ops-take cs k)
+
+pub opening-take : (cs : List Commit) (k : ℕ) → opening_in (take (suc k) cs) ≡ opening_in cs
+opening-take [] k = refl
+opening-take (c ∷ cs) k = refl
+
+pub ops_of-take : (cs : List Commit) (k : ℕ) → ops_of (take (suc k) cs) ≡ take k (ops_of cs)
+ops_of-take [] zero = refl
+ops_of-take [] (suc k) = refl
+ops_of-take (c ∷ cs) k = all_ops-take cs k
+
+pub AreKept-take : (cs : List Commit) (k : ℕ) → AreKept cs → AreKept (take (suc k) cs)
+AreKept-take cs k are = record {
+  opened = omega (arith, length-take (suc k) cs, are.opened);
+  trees = λ j c s h is.
+      let short : j < suc k = omega (arith, h, length-take (suc k) cs) in
+      let within : j < length cs = omega (arith, h, length-take (suc k) cs) in
+      are.trees j c s within (is ∙ get_or-take (suc k) cs j c short)
+      ∙ sym (ap (tree_after s (opening_in cs s)) (ap (take j) (ops_of-take cs k) ∙ take_shorter (ops_of cs) j k (omega (arith, short))))
+      ∙ (λ i. tree_at (sym (opening-take cs k) i) (ops_of (take (suc k) cs)) s j);
+}
+
+-- ---- domains
+
+-- one more is cut
+pub cut_more : (ds : List Shown) (ks : List ℕ) (i k : ℕ) (d : Shown) → slice_get ks i ≡ Some k → slice_get (cut_all ds (take i ks)) i ≡ Some d → set (cut_all ds (take i ks)) i (record d { ops = take k d.ops }) ≡ cut_all ds (take (suc i) ks)
+cut_more [] ks i k d at_k at_d = cc
+cut_more (x ∷ ds) [] i k d at_k at_d = cc
+cut_more (x ∷ ds) (j ∷ ks) zero k d at_k at_d =
+    (λ i. (let e : Shown = record (sym (same_Some x d at_d) i) { ops = take (sym (same_Some j k at_k) i) (sym (same_Some x d at_d) i).ops } in e) ∷ none ds i)
+  where
+    none : (es : List Shown) → es ≡ cut_all es []
+    none [] = refl
+    none (e ∷ es) = refl
+cut_more (x ∷ ds) (j ∷ ks) (suc i) k d at_k at_d = ap (λ (es : List Shown). record x { ops = take j x.ops } ∷ es) (cut_more ds ks i k d at_k at_d)
+
+-- what has grown is cut back to what it was
+pub cut_back : (ds es : List Shown) → HaveGrown ds es → cut_all es (counts_of ds) ≡ ds
+cut_back [] [] grown = refl
+cut_back [] (e ∷ es) grown = absurd grown
+cut_back (d ∷ ds) [] grown = absurd grown
+cut_back (d ∷ ds) (e ∷ es) grown =
+    let ops : take (length d.ops) e.ops ≡ d.ops = take-Grows d.ops e.ops grown.0.1 in
+    (λ i. (let x : Shown = record (grown.0.0 i) { ops = ops i } in x) ∷ cut_back ds es grown.1 i)
+
+-- ---- one decision after another
+
+HaveGrown-then : (ds es fs : List Shown) → HaveGrown ds es → HaveGrown es fs → HaveGrown ds fs
+HaveGrown-then [] [] [] g h = tt
+HaveGrown-then [] [] (f ∷ fs) g h = absurd h
+HaveGrown-then [] (e ∷ es) fs g h = absurd g
+HaveGrown-then (d ∷ ds) [] fs g h = absurd g
+HaveGrown-then (d ∷ ds) (e ∷ es) [] g h = absurd h
+HaveGrown-then (d ∷ ds) (e ∷ es) (f ∷ fs) g h = (
+  (h.0.0 ∙ ap (λ (x : Shown). let y : Shown = record x { ops = f.ops } in y) g.0.0, Grows-then d.ops e.ops f.ops g.0.1 h.0.1),
+  HaveGrown-then ds es fs g.1 h.1,
+)
+
+pub HasGrown-then : (a b c : Line) → HasGrown a b → HasGrown b c → HasGrown a c
+HasGrown-then a b c g h = record {
+  domains = HaveGrown-then a.domains b.domains c.domains g.domains h.domains;
+  submissions = h.submissions ∙ g.submissions;
+  outcomes = Grows-then a.outcomes b.outcomes c.outcomes g.outcomes h.outcomes;
+}
+
+decide_next-plus : (world : List Domain) (ss : List Sent) (os : List Outcome) (m n : ℕ) → decide_next world ss os (m + n) ≡ decide_next world ss os m ++ decide_next world ss (os ++ decide_next world ss os m) n
+decide_next-plus world ss os zero n =
+    let e : 0 + n ≡ n = omega arith in
+    ap (decide_next world ss os) e ∙ ap (λ (us : List Outcome). decide_next world ss us n) (sym (append-nil os))
+decide_next-plus world ss os (suc m) n =
+    let e : suc m + n ≡ suc (m + n) = omega arith in
+    let front : List Outcome = decide_front world ss os (slice_get ss (length os)) in
+    ap (decide_next world ss os) e
+    ∙ ap (λ (us : List Outcome). front ++ us) (decide_next-plus world ss (os ++ front) m n)
+    ∙ sym (append_assoc front (decide_next world ss (os ++ front) m) (decide_next world ss ((os ++ front) ++ decide_next world ss (os ++ front) m) n))
+    ∙ ap (λ (us : List Outcome). (front ++ decide_next world ss (os ++ front) m) ++ decide_next world ss us n) (append_assoc os front (decide_next world ss (os ++ front) m))
+
+pub AreDecided-none : (line : Line) → IsSound line → AreDecided line 0 line
+AreDecided-none line sound = record { sound = sound; world = refl; submissions = refl; outcomes = sym (append-nil line.outcomes) }
+
+pub AreDecided-then : (a b c : Line) (m n k : ℕ) → k ≡ m + n → AreDecided a m b → AreDecided b n c → AreDecided a k c
+AreDecided-then a b c m n k sum g h =
+    let ss : List Sent = sents_in a in
+    let w : List Domain = world_in a.domains in
+    record {
+      sound = h.sound;
+      world = h.world ∙ g.world;
+      submissions = h.submissions ∙ g.submissions;
+      outcomes =
+          h.outcomes ∙ (λ i. g.outcomes i ++ decide_next (g.world i) (map sent_of (g.submissions i)) (g.outcomes i) n)
+          ∙ append_assoc a.outcomes (decide_next w ss a.outcomes m) (decide_next w ss (a.outcomes ++ decide_next w ss a.outcomes m) n)
+          ∙ ap (λ (us : List Outcome). a.outcomes ++ us) (sym (decide_next-plus w ss a.outcomes m n) ∙ ap (decide_next w ss a.outcomes) (sym sum));
+    }
+
+pub one_more : (a b c : Line) (start i : ℕ) → start ≤ i → AreDecided a (i - start) b → AreDecided b 1 c → AreDecided a (i + 1 - start) c
+one_more a b c start i h g one = AreDecided-then a b c (i - start) 1 (i + 1 - start) (omega (arith, h)) g one
+
+-- ---- code's lists of domains
+
+pub cut_none : (ds : List Shown) → ds ≡ cut_all ds []
+cut_none [] = refl
+cut_none (d ∷ ds) = refl
+
+pub cut_one : (ds : List Stored) (all : List Shown) (ks : List ℕ) (i k : ℕ) (d d' : Stored) → i < length ds → d ≡ get_or ds i d → slice_get ks i ≡ Some k → IsSame d d' → d'.commits.items ≡ take (k + 1) d.commits.items → map shown ds ≡ cut_all all (take i ks) → map shown (set ds i d') ≡ cut_all all (take (i + 1) ks)
+cut_one ds all ks i k d d' within d_is at_k same commits so_far =
+    let one : k + 1 ≡ suc k = omega arith in
+    let more : i + 1 ≡ suc i = omega arith in
+    let cs : d'.commits.items ≡ take (suc k) d.commits.items = commits ∙ ap (λ n. take n d.commits.items) one in
+    let opening : opening_in d'.commits.items ≡ opening_in d.commits.items = ap opening_in cs ∙ opening-take d.commits.items k in
+    let ops : ops_of d'.commits.items ≡ take k (ops_of d.commits.items) = ap ops_of cs ∙ ops_of-take d.commits.items k in
+    let cut : shown d' ≡ record (shown d) { ops = take k (shown d).ops } =
+    λ j. record { number = same.number j; live = same.live j; table = (same.schema j).value; opening = opening j; ops = ops j } in
+    let here : slice_get (cut_all all (take i ks)) i ≡ Some (shown d) =
+    ap (λ (es : List Shown). slice_get es i) (sym so_far) ∙ slice_get-map shown ds i ∙ ap (option_map shown) (slice_get_at ds i d within d_is) in
+    map-set shown ds i d' ∙ (λ j. set (so_far j) i (cut j)) ∙ cut_more all ks i k (shown d) at_k here ∙ ap (λ n. cut_all all (take n ks)) (sym more)
+
+pub kept_one : (ds : List Stored) (i k : ℕ) (d d' : Stored) → i < length ds → d ≡ get_or ds i d → d'.commits.items ≡ take (k + 1) d.commits.items → AllKept ds → AllKept (set ds i d')
+kept_one ds i k d d' within d_is commits all =
+    let one : k + 1 ≡ suc k = omega arith in
+    let was : AreKept d.commits.items = subst (λ (x : Stored). AreKept x.commits.items) (sym d_is) (all i d within) in
+    All-set (λ (x : Stored). AreKept x.commits.items) ds i d' (subst AreKept (sym (commits ∙ ap (λ n. take n d.commits.items) one)) (AreKept-take d.commits.items k was)) all
+
+pub counted : (ds : List Stored) (i : ℕ) (d : Stored) → i < length ds → d ≡ get_or ds i d → counts_of (map shown (take (i + 1) ds)) ≡ counts_of (map shown (take i ds)) ++ length (ops_of d.commits.items) ∷ []
+counted ds i d within d_is =
+    ap (λ (xs : List Stored). counts_of (map shown xs)) (take_more ds i d within ∙ ap (λ (x : Stored). take i ds ++ x ∷ []) (sym d_is))
+    ∙ ap counts_of (map-append shown (take i ds) (d ∷ [])) ∙ map-append (λ (x : Shown). length x.ops) (map shown (take i ds)) (shown d ∷ [])
+
+-- what was decided since is taken back
+HaveGrown-long : (ds es : List Shown) → HaveGrown ds es → length es ≡ length ds
+HaveGrown-long [] [] grown = refl
+HaveGrown-long [] (e ∷ es) grown = absurd grown
+HaveGrown-long (d ∷ ds) [] grown = absurd grown
+HaveGrown-long (d ∷ ds) (e ∷ es) grown = ap suc (HaveGrown-long ds es grown.1)
+
+module _ (old new : Pipeline) (grown : HasGrown (line_of old) (line_of new)) (counts : List ℕ) (counts_are : counts ≡ counts_of (map shown old.domains.items)) where
+  pub as_many : length counts ≡ length new.domains.items
+  as_many =
+      ap length counts_are ∙ length-map (map shown old.domains.items) (λ (d : Shown). length d.ops)
+      ∙ sym (HaveGrown-long (map shown old.domains.items) (map shown new.domains.items) grown.domains) ∙ length-map new.domains.items shown
+
+  pub taken_back : (ds : List Stored) (ss : List Submission) (os : List Outcome) → map shown ds ≡ cut_all (map shown new.domains.items) counts → ss ≡ new.submissions.items → os ≡ take (length old.outcomes.items) new.outcomes.items → ◌≡◌ {A = Line} (record { domains = map shown ds; submissions = ss; outcomes = os }) (line_of old)
+  taken_back ds ss os cut same taken =
+      let domains : map shown ds ≡ map shown old.domains.items = cut ∙ ap (cut_all (map shown new.domains.items)) counts_are ∙ cut_back (map shown old.domains.items) (map shown new.domains.items) grown.domains in
+      let outcomes : os ≡ old.outcomes.items = taken ∙ take-Grows old.outcomes.items new.outcomes.items grown.outcomes in
+      λ i. record { domains = domains i; submissions = (same ∙ grown.submissions) i; outcomes = outcomes i }

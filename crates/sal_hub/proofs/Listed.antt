@@ -1,0 +1,63 @@
+-- Lists looked at by index.
+use Rattle.std.proofs.Common.{◌≡◌, ℕ, zero, suc, ◌+◌, ◌<◌, ◌≤◌, List, [], ◌∷◌, ◌++◌, length, map, get_or, set, take, drop, Option, None, Some, refl, ap, sym, ◌∙◌, arith, append_assoc, length-append, inl, inr, ◌⊎◌}
+use Rattle.std.specs.Prelude.{slice_get}
+use Rattle.std.specs.Option.{option_map}
+use Rattle.std.proofs.lemmas.Option.{same_Some, slice_get-map}
+use Rattle.std.proofs.Math.Seq.{take-append_seam}
+use Rattle.sal_hub.specs.Lines.{Grows}
+
+-- what code reads at an index
+pub slice_get_at : {X : Type 0} (xs : List X) (i : ℕ) (x : X) → i < length xs → x ≡ get_or xs i x → slice_get xs i ≡ Some x
+slice_get_at [] i x h e = absurd (omega arith)
+slice_get_at (y ∷ xs) zero x h e = ap Some (sym e)
+slice_get_at (y ∷ xs) (suc i) x h e = slice_get_at xs i x (omega arith) e
+
+-- something stands at an index
+pub slice_get_some : {X : Type 0} (xs : List X) (i : ℕ) → i < length xs → (x : X) × (slice_get xs i ≡ Some x)
+slice_get_some [] i h = absurd (omega arith)
+slice_get_some (y ∷ xs) zero h = (y, refl)
+slice_get_some (y ∷ xs) (suc i) h = slice_get_some xs i (omega arith)
+
+-- what stands in a list where one element was replaced
+pub slice_get-set : {X : Type 0} (xs : List X) (i : ℕ) (y : X) (n : ℕ) (z : X) → slice_get (set xs i y) n ≡ Some z → ((n ≡ i) × (y ≡ z)) ⊎ ((n ≡ i → ⊥) × (slice_get xs n ≡ Some z))
+slice_get-set [] i y n z e = cc
+slice_get-set (x ∷ xs) zero y zero z e = inl (refl, same_Some y z e)
+slice_get-set (x ∷ xs) zero y (suc n) z e = inr (λ h. absurd (omega (arith, h)), e)
+slice_get-set (x ∷ xs) (suc i) y zero z e = inr (λ h. absurd (omega (arith, h)), e)
+slice_get-set (x ∷ xs) (suc i) y (suc n) z e =
+    elim (slice_get-set xs i y n z e) [
+      | inl w ↦ inl (ap suc w.0, w.1)
+      | inr w ↦ inr (λ h. w.0 (omega (arith, h)), w.1)
+    ]
+
+-- and with one more at its end
+pub last_or_before : {X : Type 0} (xs : List X) (y z : X) (i : ℕ) → slice_get (xs ++ y ∷ []) i ≡ Some z → (slice_get xs i ≡ Some z) ⊎ ((i ≡ length xs) × (y ≡ z))
+last_or_before [] y z zero e = inr (refl, same_Some y z e)
+last_or_before [] y z (suc i) e = cc
+last_or_before (x ∷ xs) y z zero e = inl e
+last_or_before (x ∷ xs) y z (suc i) e =
+    elim (last_or_before xs y z i e) [
+      | inl old ↦ inl old
+      | inr w ↦ inr (ap suc w.0, w.1)
+    ]
+
+pub slice_get_left : {X : Type 0} (xs ys : List X) (k : ℕ) → k < length xs → slice_get (xs ++ ys) k ≡ slice_get xs k
+slice_get_left [] ys k h = absurd (omega arith)
+slice_get_left (x ∷ xs) ys zero h = refl
+slice_get_left (x ∷ xs) ys (suc k) h = slice_get_left xs ys k (omega arith)
+
+pub slice_get_seam : {X : Type 0} (xs : List X) (y : X) (ys : List X) → slice_get (xs ++ y ∷ ys) (length xs) ≡ Some y
+slice_get_seam [] y ys = refl
+slice_get_seam (x ∷ xs) y ys = slice_get_seam xs y ys
+
+-- ---- lists that grow at their ends
+
+pub Grows-then : {X : Type 0} (xs ys zs : List X) → Grows xs ys → Grows ys zs → Grows xs zs
+Grows-then xs ys zs g h = (g.0 ++ h.0, h.1 ∙ ap (λ us. us ++ h.0) g.1 ∙ append_assoc xs g.0 h.0)
+
+-- what was there can be cut back to
+pub take-Grows : {X : Type 0} (xs ys : List X) → Grows xs ys → take (length xs) ys ≡ xs
+take-Grows xs ys g = ap (take (length xs)) g.1 ∙ take-append_seam xs g.0
+
+pub length-Grows : {X : Type 0} (xs ys : List X) → Grows xs ys → length xs ≤ length ys
+length-Grows xs ys g = omega (arith, ap length g.1, length-append xs g.0)

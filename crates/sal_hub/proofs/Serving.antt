@@ -1,0 +1,62 @@
+-- What a hub answers of its domains.
+use Rattle.std.proofs.Common.{◌≡◌, ℕ, ◌-◌, ◌<◌, ◌≤◌, true, List, length, map, get_or, Some, ap, sym, ◌∙◌, subst, arith}
+use Rattle.std.specs.Prelude.{slice_get}
+use Rattle.std.specs.Option.{option_map}
+use Rattle.std.proofs.lemmas.List.{length-map}
+use Rattle.std.proofs.lemmas.Option.{slice_get-map}
+use Rattle.sal_types.specs.declared.value.Store.{Store}
+use Rattle.sal_rows.specs.declared.op.Op.{Op}
+use Rattle.sal_rows.specs.Commits.{tree_after}
+use Rattle.sal_graft.specs.Clash.{tip}
+use Rattle.sal_graft.specs.Kept.{AreKept, opening_in, ops_of}
+use Rattle.sal_graft.proofs.KeptLemmas.{length-ops_of}
+use Rattle.sal_commit.specs.declared.domain.Domain.{Domain}
+use Rattle.sal_history.specs.World.{opening_of}
+use Rattle.sal_history.specs.History.{commits, is_live, newest_tree}
+use Rattle.sal_hub.specs.declared.pipeline.Pipeline.{Pipeline}
+use Rattle.sal_hub.specs.Current.{IsKept, answers, known_of}
+use Rattle.sal_hub.specs.Domains.{AreDomains, IsDomain}
+use Rattle.sal_hub.specs.Journals.{Noted}
+use Rattle.sal_hub.specs.Lines.{AllKept, IsSound, IsStored, line_of, opened_as, shown, world_in}
+use Rattle.sal_hub.proofs.Deciding.{opening-at, table-at}
+use Rattle.sal_hub.proofs.Keeping.{commits-current}
+use Rattle.sal_hub.proofs.Listed.{slice_get_at}
+
+pub shown_at : (ds : List Domain) (n : ℕ) (d : Domain) → n < length ds → d ≡ get_or ds n d → slice_get (map shown ds) n ≡ Some (shown d)
+shown_at ds n d h is = slice_get-map shown ds n ∙ ap (option_map shown) (slice_get_at ds n d h is)
+
+pub live_at : (p : Pipeline) (n : ℕ) (d : Domain) → IsSound (line_of p) → n < length p.domains.items → d ≡ get_or p.domains.items n d → d.live ≡ is_live n
+live_at p n d sound h is = (sound.domains n (shown d) (shown_at p.domains.items n d h is)).live
+
+pub kept_at : (ds : List Domain) (n : ℕ) (d : Domain) → AllKept ds → n < length ds → d ≡ get_or ds n d → AreKept d.commits.items
+kept_at ds n d kept h is = subst (λ (x : Domain). AreKept x.commits.items) (sym is) (kept n d h)
+
+module _ (journal : Noted) (p : Pipeline) (is : IsKept journal p) where
+  pub some_domain : 0 < length p.domains.items
+  some_domain = omega (arith, is.current.sound.some, length-map p.domains.items shown)
+
+  module _ (n : ℕ) (d : Domain) (h : n < length p.domains.items) (at : d ≡ get_or p.domains.items n d) where
+    pub domain_is : IsDomain (known_of journal p) n d
+    domain_is =
+        let here = shown_at p.domains.items n d h at in
+        let stored = is.current.sound.domains n (shown d) here in
+        record {
+          number = stored.number;
+          live = stored.live;
+          schema = sym (table-at (line_of p).domains n (shown d) here);
+          kept = kept_at p.domains.items n d is.kept h at;
+          opening = λ i s. sym (opening-at (line_of p).domains n (shown d) s here) i;
+          commits = stored.commits ∙ commits-current journal.log journal.marks (line_of p) n is.current;
+        }
+
+    pub count_is : length d.commits.items - 1 ≡ length (commits (answers journal.log (line_of p)) n)
+    count_is = sym (length-ops_of d.commits.items domain_is.kept.opened) ∙ ap length domain_is.commits
+
+    pub tip_is : (s : Store) → tip (opening_in d.commits.items) (ops_of d.commits.items) s ≡ newest_tree (world_in (line_of p).domains) journal.log n s
+    tip_is s = λ i. tree_after s (domain_is.opening i s) (domain_is.commits i)
+
+  pub domains_are : AreDomains (known_of journal p) p.domains.items
+  domains_are = record {
+    all = sym (length-map (map shown p.domains.items) opened_as ∙ length-map p.domains.items shown);
+    each = λ n d h at. domain_is n d h at;
+  }

@@ -1,0 +1,191 @@
+-- A submit: what is kept stays the log's, and the answer is the log's.
+use Rattle.std.proofs.Common.{◌≡◌, ℕ, ◌+◌, ◌-◌, ◌<◌, ◌≤◌, Bool, true, false, List, [], ◌∷◌, ◌++◌, length, map, Option, None, Some, refl, ap, sym, ◌∙◌, subst, arith, append-nil, length-append, if◌then◌else◌, nat_eq, nat_lt}
+use Rattle.std.specs.Prelude.{unwrap_or, ◌||◌}
+use Rattle.std.specs.Option.{option_to_list}
+use Rattle.std.proofs.lemmas.List.{length-map}
+use Rattle.std.proofs.lemmas.Option.{same_Some}
+use Rattle.sal_rows.specs.declared.op.Op.{Op}
+use Rattle.sal_rows.specs.Apply.{rows_of_act}
+use Rattle.sal_rows.specs.declared.outcome.CallFault.{CallFault}
+use Rattle.sal_rows.specs.declared.outcome.CallFault.TheVariants.{PipelineFull, TxSpent}
+use Rattle.sal_schema.specs.declared.table.SchemaTable.{SchemaTable}
+use Rattle.sal_tree.specs.declared.commit.Pair.{Pair}
+use Rattle.sal_tx.specs.declared.tx.Submission.{Submission}
+use Rattle.sal_tx.specs.declared.writing.Writing.{Writing}
+use Rattle.sal_tx.specs.Views.{AreLawful, IsRight}
+use Rattle.sal_tx.proofs.Nexts.{lie_under}
+use Rattle.sal_commit.specs.declared.domain.Domain.{Domain}
+use Rattle.sal_commit.specs.Deciding.{LieBelow}
+use Rattle.sal_history.specs.declared.call.Call.TheVariants.{Submit}
+use Rattle.sal_history.specs.declared.call.Entry.{Entry}
+use Rattle.sal_history.specs.declared.reply.Reply.{Reply}
+use Rattle.sal_history.specs.declared.reply.Reply.TheVariants.{Receipt, Refused}
+use Rattle.sal_history.specs.World as world
+use Rattle.sal_history.specs.History.{Answered, Base, Sent, commits, entries_of, history, outcomes, pending, reply_to, sent_by, sents, spends, submitted, trees_at}
+use Rattle.sal_hub.specs.declared.pipeline.Pipeline.{Pipeline}
+use Rattle.sal_hub.specs.Answers.{Fails, Made}
+use Rattle.sal_hub.specs.Current.{IsCurrent, IsKept, answers, known_of}
+use Rattle.sal_hub.specs.Journals.{Noted, jotted, mark_at}
+use Rattle.sal_hub.specs.Known.{Known}
+use Rattle.sal_hub.specs.Lines.{AllKept, IsSound, Line, Stands, commits_in, line_of, sent_of, sents_in, shown, world_in}
+use Rattle.sal_hub.specs.Submits.{refusal_of, submission_of}
+use Rattle.sal_hub.specs.Tokens.{IsBegun, IsGiven}
+use Rattle.sal_hub.proofs.Keeping.{commits-current, length-submissions, pushed, quiet, sents-longer, sound-longer}
+use Rattle.sal_hub.proofs.Standing.{StandsOn, stands_on}
+
+-- the rows of lawful operations lie below their paths
+lie_below : (table : SchemaTable) (base : Pair) (earlier ops : List Op) → AreLawful table base earlier ops → LieBelow ops
+lie_below table base earlier [] l = tt
+lie_below table base earlier (op ∷ ops) l = (lie_under table op.path (rows_of_act op.act) l.0.0.rows, lie_below table base (earlier ++ op ∷ []) ops l.1)
+
+pub swapped : (a b : Bool) → (a || b) ≡ (b || a)
+swapped true true = refl
+swapped true false = refl
+swapped false true = refl
+swapped false false = refl
+
+-- ---- refusals
+
+abbrev answer_by : ℕ → ℕ → Bool → Reply
+answer_by count n b = if nat_lt n 4096 then (if b then Refused TxSpent else Receipt (count + 1)) else Refused PipelineFull
+
+refused_by : (count n : ℕ) (b : Bool) (f : CallFault) → refusal_of n b ≡ Some f → answer_by count n b ≡ Refused f
+refused_by count n b f =
+    elim (nat_lt n 4096) as (λ room. (if room then (if b then Some TxSpent else None) else Some PipelineFull) ≡ Some f → (if room then (if b then Refused TxSpent else Receipt (count + 1)) else Refused PipelineFull) ≡ Refused f) [
+      | false ↦ λ e. ap Refused (same_Some PipelineFull f e)
+      | true ↦ elim b as (λ spent. (if spent then Some TxSpent else None) ≡ Some f → (if spent then Refused TxSpent else Receipt (count + 1)) ≡ Refused f) [
+        | true ↦ λ e. ap Refused (same_Some TxSpent f e)
+        | false ↦ λ e. cc
+      ]
+    ]
+
+accepted_by : (count n : ℕ) (b : Bool) → refusal_of n b ≡ None → answer_by count n b ≡ Receipt (count + 1)
+accepted_by count n b =
+    elim (nat_lt n 4096) as (λ room. (if room then (if b then Some TxSpent else None) else Some PipelineFull) ≡ None → (if room then (if b then Refused TxSpent else Receipt (count + 1)) else Refused PipelineFull) ≡ Receipt (count + 1)) [
+      | false ↦ λ e. cc
+      | true ↦ elim b as (λ spent. (if spent then Some TxSpent else None) ≡ None → (if spent then Refused TxSpent else Receipt (count + 1)) ≡ Receipt (count + 1)) [
+        | true ↦ λ e. cc
+        | false ↦ λ e. refl
+      ]
+    ]
+
+-- a refusal has its entry
+pub fails_by : (old new : Known) (e : Entry) (n : ℕ) (b : Bool) (f : CallFault) → refusal_of n b ≡ Some f → Made old new e (Refused f) → Fails old new e f
+fails_by old new e n b f =
+    elim (nat_lt n 4096) as (λ room. (if room then (if b then Some TxSpent else None) else Some PipelineFull) ≡ Some f → Made old new e (Refused f) → Fails old new e f) [
+      | false ↦ λ is made. let same : PipelineFull ≡ f = same_Some PipelineFull f is in subst (Fails old new e) same (subst (λ g. Made old new e (Refused g)) (sym same) made)
+      | true ↦ elim b as (λ spent. (if spent then Some TxSpent else None) ≡ Some f → Made old new e (Refused f) → Fails old new e f) [
+        | true ↦ λ is made. let same : TxSpent ≡ f = same_Some TxSpent f is in subst (Fails old new e) same (subst (λ g. Made old new e (Refused g)) (sym same) made)
+        | false ↦ λ is made. cc
+      ]
+    ]
+
+module _ (journal journal' : Noted) (p : Pipeline) (is : IsKept journal p) (client place : ℕ) (ops : List Op) (log : journal'.log ≡ jotted journal.log client (Submit place ops)) where
+  abbrev w : List world.Domain
+  w = world_in (line_of p).domains
+
+  abbrev answered : List Answered
+  answered = answers journal.log (line_of p)
+
+  abbrev entry : Entry
+  entry = record { client = client; number = entries_of journal.log client; call = Submit place ops }
+
+  abbrev waiting : ℕ
+  waiting = length p.submissions.items - length p.outcomes.items
+
+  -- the answer, by what is kept
+  by_kept : submitted answered place ≡ answer_by (length p.submissions.items) waiting (mark_at journal.marks place)
+  by_kept =
+      let count : length (sents answered) ≡ length p.submissions.items = sym (length-submissions journal.log journal.marks (line_of p) is.current) in
+      let done : length (outcomes answered) ≡ length p.outcomes.items = sym (ap length is.current.outcomes) in
+      λ i. answer_by (count i) (count i - done i) (sym (is.current.marks place) i)
+
+  pub refused_now : (f : CallFault) → refusal_of (length p.submissions.items - length p.outcomes.items) (mark_at journal.marks place) ≡ Some f → reply_to (world_in (line_of p).domains) (answers journal.log (line_of p)) (Submit place ops) ≡ Refused f
+  refused_now f e = by_kept ∙ refused_by (length p.submissions.items) waiting (mark_at journal.marks place) f e
+
+  pub accepted_now : refusal_of (length p.submissions.items - length p.outcomes.items) (mark_at journal.marks place) ≡ None → reply_to (world_in (line_of p).domains) (answers journal.log (line_of p)) (Submit place ops) ≡ Receipt (length p.submissions.items + 1)
+  accepted_now e = by_kept ∙ accepted_by (length p.submissions.items) waiting (mark_at journal.marks place) e
+
+  pub refused_kept : (f : CallFault) → refusal_of (length p.submissions.items - length p.outcomes.items) (mark_at journal.marks place) ≡ Some f → ((k : ℕ) → mark_at journal'.marks k ≡ mark_at journal.marks k) → IsKept journal' p
+  refused_kept f e marks =
+      let reply = refused_now f e in
+      record {
+        kept = is.kept;
+        current = subst (λ (l : List Entry). IsCurrent l journal'.marks (line_of p)) (sym log) (quiet journal.log journal.marks (line_of p) is.current entry journal'.marks (ap (sent_by answered (Submit place ops)) reply) refl (λ k. ap (λ r. spends (Submit place ops) r k) reply) marks);
+      }
+
+  pub refused_made : (f : CallFault) → length journal.log < 1000000 → refusal_of (length p.submissions.items - length p.outcomes.items) (mark_at journal.marks place) ≡ Some f → Made (known_of journal p) (known_of journal' p) (record { client = client; number = entries_of journal.log client; call = Submit place ops }) (Refused f)
+  refused_made f room e = record {
+    room = room;
+    log = λ i. record { world = w; log = log i };
+    reply = refused_now f e;
+  }
+
+-- ---- a submission more
+
+module _ (journal journal' : Noted) (p p' : Pipeline) (is : IsKept journal p) (client : ℕ) (tx : Writing) (token : IsBegun (known_of journal p) tx.begun tx.base) (right : IsRight tx) (log : journal'.log ≡ jotted journal.log client (Submit tx.begun.place tx.changes)) (open_now : refusal_of (length p.submissions.items - length p.outcomes.items) (mark_at journal.marks tx.begun.place) ≡ None)
+    (domains : p'.domains ≡ p.domains) (outcomes_same : p'.outcomes ≡ p.outcomes) (submissions : p'.submissions.items ≡ p.submissions.items ++ submission_of tx (length p.submissions.items + 1) ∷ []) (marks : (k : ℕ) → mark_at journal'.marks k ≡ (nat_eq tx.begun.place k || mark_at journal.marks k)) where
+  abbrev new_world : List world.Domain
+  new_world = world_in (line_of p).domains
+
+  abbrev before : List Answered
+  before = answers journal.log (line_of p)
+
+  abbrev sub : Submission
+  sub = submission_of tx (length p.submissions.items + 1)
+
+  abbrev made_entry : Entry
+  made_entry = record { client = client; number = entries_of journal.log client; call = Submit tx.begun.place tx.changes }
+
+  abbrev more : Line
+  more = record { domains = (line_of p).domains; submissions = (line_of p).submissions ++ sub ∷ []; outcomes = (line_of p).outcomes }
+
+  line_is : more ≡ line_of p'
+  line_is = λ i. record { domains = map shown (sym domains i).items; submissions = sym submissions i; outcomes = (sym outcomes_same i).items }
+
+  stands : Stands (line_of p) sub
+  stands =
+      let on : StandsOn new_world journal.log tx.begun tx.base = stands_on new_world journal.log tx.begun tx.base token in
+      let same : commits_in (line_of p) 0 ≡ commits before 0 = commits-current journal.log journal.marks (line_of p) 0 is.current in
+      record {
+        domain = on.domain;
+        base = subst (λ (cs : List (List Op)). tx.begun.base_commit ≤ length cs) (sym same) on.commit;
+        trees = λ store. on.rows store ∙ ap (λ (cs : List (List Op)). trees_at new_world 0 cs tx.begun.base_commit store) (sym same);
+        below = lie_below tx.begun.schema.value tx.base [] tx.changes right.lawful;
+      }
+
+  reply_now : reply_to new_world before (Submit tx.begun.place tx.changes) ≡ Receipt (length p.submissions.items + 1)
+  reply_now = accepted_now journal journal' p is client tx.begun.place tx.changes log open_now
+
+  sent_now : sent_by before (Submit tx.begun.place tx.changes) (reply_to new_world before (Submit tx.begun.place tx.changes)) ≡ Some (sent_of sub)
+  sent_now =
+      ap (sent_by before (Submit tx.begun.place tx.changes)) reply_now
+      ∙ ap (λ (o : Option Base). Some (let s : Sent = record { base = unwrap_or o (record { domain = 0; commit = 0 }); ops = tx.changes } in s)) token.began
+
+  current_now : IsCurrent (journal.log ++ made_entry ∷ []) journal'.marks more
+  current_now =
+      pushed journal.log journal.marks (line_of p) is.current made_entry more journal'.marks
+      (sound-longer (line_of p) is.current.sound sub stands) refl
+      (sents-longer (line_of p) is.current.sound sub stands ∙ ap (λ (o : Option Sent). sents_in (line_of p) ++ option_to_list o) (sym sent_now))
+      (sym (append-nil (line_of p).outcomes))
+      (λ k.
+        marks k ∙ swapped (nat_eq tx.begun.place k) (mark_at journal.marks k)
+        ∙ ap (λ r. mark_at journal.marks k || spends (Submit tx.begun.place tx.changes) r k) (sym reply_now))
+
+  pub accepted_kept : IsKept journal' p'
+  accepted_kept = record {
+    kept = subst (λ (ds : List Domain). AllKept ds) (λ i. (sym domains i).items) is.kept;
+    current = subst (λ (l : List Entry). IsCurrent l journal'.marks (line_of p')) (sym log) (subst (IsCurrent (journal.log ++ made_entry ∷ []) journal'.marks) line_is current_now);
+  }
+
+  pub accepted_made : length journal.log < 1000000 → Made (known_of journal p) (known_of journal' p') (record { client = client; number = entries_of journal.log client; call = Submit tx.begun.place tx.changes }) (Receipt (length p.submissions.items + 1))
+  accepted_made room = record {
+    room = room;
+    log = λ i. record { world = world_in (sym line_is i).domains; log = log i };
+    reply = reply_now;
+  }
+
+  pub accepted_given : IsGiven (known_of journal' p') (length p.submissions.items + 1)
+  accepted_given =
+      let count : length p'.submissions.items ≡ length (sents (answers journal'.log (line_of p'))) = length-submissions journal'.log journal'.marks (line_of p') accepted_kept.current in
+      (omega arith, omega (arith, count, ap length submissions, length-append p.submissions.items (sub ∷ [])))

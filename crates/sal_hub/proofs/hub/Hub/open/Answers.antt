@@ -1,0 +1,21 @@
+-- The opening is kept.
+use Rattle.std.proofs.Common.{◌≡◌, List, None, map, ap, sym, ◌∙◌}
+use Rattle.sal_history.specs.declared.opening.Device.{Device}
+use Rattle.sal_hub.specs.Known.{Known}
+use Rattle.sal_hub.specs.Lines.{shown, world_in}
+use Rattle.sal_hub.specs.Opened.{shown_from}
+use Rattle.sal_hub.specs.Openings.{fault_of, world_of}
+use Rattle.sal_hub.proofs.OpenedDevices.{opened_kept, world-shown}
+use Rattle.sal_hub.proofs.hub.Hub.open.Goals as goal
+
+pub invariant_of-result : goal.invariant_of-result
+invariant_of-result c =
+    opened_kept c.args.devices.items (record { domains = c.in_ok-domains.domains; submissions = c.new.result; outcomes = c.new-2.result }) c.new-journal.result c.requires.some c.in_ok-domains.ensures.kept
+    (c.in_ok-domains.ensures.shown ∙ ap (shown_from 0) c.deref.ensures.value) c.new.ensures.items c.new-2.ensures.items c.new-journal.ensures
+
+pub returns : goal.returns
+returns c =
+    let opened : map shown c.in_ok-domains.domains.items ≡ shown_from 0 c.args.devices.items = c.in_ok-domains.ensures.shown ∙ ap (shown_from 0) c.deref.ensures.value in
+    let sound : fault_of (world_of c.args.devices.items) ≡ None = ap (λ (ds : List Device). fault_of (world_of ds)) (sym c.deref.ensures.value) ∙ c.in_ok-domains.ensures.fault in
+    let same = ap world_in opened ∙ world-shown 0 c.args.devices.items in
+    (sound, λ i. let known : Known = record { world = same i; log = (c.new-journal.ensures i).log } in known)

@@ -1,0 +1,23 @@
+-- The entry is the log's next, and the transaction is one that the log gives.
+use Rattle.std.proofs.Common.{◌≡◌, ap, ◌∙◌}
+use Rattle.sal_history.specs.declared.call.Call.TheVariants.{Begin}
+use Rattle.sal_hub.specs.Journals.{jotted}
+use Rattle.sal_hub.specs.Lines.{line_of, shown}
+use Rattle.sal_hub.proofs.Beginning.{begin_kept, begun_token}
+use Rattle.sal_hub.proofs.start.begin.Goals as goal
+
+pub returns-in-Ok-clause-kept : goal.returns-in-Ok-clause-kept
+returns-in-Ok-clause-kept c = begin_kept c.args.journal.now c.add.new.self c.args.pipeline.now c.requires.kept c.args.client c.args.domain c.args.mode c.in-Ok.ensures.log c.in-Ok.ensures.marks
+
+pub returns-in-Ok-begin_in-clause-kept : goal.returns-in-Ok-begin_in-clause-kept
+returns-in-Ok-begin_in-clause-kept c =
+    let number = (c.requires.kept.current.sound.domains c.args.domain (shown c.in-Some.found.now) c.in-Some.ensures.found).number in
+    let log : c.begin_in.new.journal.log ≡ jotted c.args.journal.now.log c.args.client (Begin c.args.domain c.args.mode) = c.in-Ok-begin_in.ensures.log ∙ ap (λ n. jotted c.args.journal.now.log c.args.client (Begin n c.args.mode)) number in
+    begin_kept c.args.journal.now c.begin_in.new.journal c.args.pipeline.now c.requires.kept c.args.client c.args.domain c.args.mode log c.in-Ok-begin_in.ensures.marks
+
+pub returns-in-Ok-begin_in-clause-token : goal.returns-in-Ok-begin_in-clause-token
+returns-in-Ok-begin_in-clause-token c =
+    let number = (c.requires.kept.current.sound.domains c.args.domain (shown c.in-Some.found.now) c.in-Some.ensures.found).number in
+    let log : c.begin_in.new.journal.log ≡ jotted c.args.journal.now.log c.args.client (Begin c.args.domain c.args.mode) = c.in-Ok-begin_in.ensures.log ∙ ap (λ n. jotted c.args.journal.now.log c.args.client (Begin n c.args.mode)) number in
+    begun_token c.args.journal.now c.begin_in.new.journal c.args.pipeline.now c.requires.kept c.args.client c.args.domain c.args.mode log
+    c.in-Some.found.now c.in-Some.ensures.live c.in-Some.ensures.found c.in-Ok-begin_in.tx c.in-Ok-begin_in.ensures.starts

@@ -1,0 +1,63 @@
+-- The entry is the log's next.
+use Rattle.std.proofs.Common.{◌≡◌, ◌-◌, length, Some, None, refl, ap, sym, ◌∙◌, subst}
+use Rattle.sal_tx.specs.declared.begun.Begun.{Begun}
+use Rattle.sal_history.specs.declared.call.Call.TheVariants.{Submit}
+use Rattle.sal_history.specs.declared.reply.Reply.TheVariants.{Receipt}
+use Rattle.sal_hub.specs.declared.receipt.Receipt.{Receipt as Given}
+use Rattle.sal_hub.specs.Answers.{Made}
+use Rattle.sal_hub.specs.Current.{known_of}
+use Rattle.sal_hub.specs.Journals.{mark_at}
+use Rattle.sal_hub.specs.Known.{entry_of}
+use Rattle.sal_hub.specs.Submits.{refusal_of}
+use Rattle.sal_hub.specs.Tokens.{IsGiven}
+use Rattle.sal_hub.proofs.Submitting.{accepted_given, accepted_kept, accepted_made, fails_by, refused_kept, refused_made}
+use Rattle.sal_hub.proofs.submit.submit.Goals as goal
+
+pub returns-in-Ok-clause-kept : goal.returns-in-Ok-clause-kept
+returns-in-Ok-clause-kept c =
+    let p = c.args.pipeline.now in
+    let tx = c.args.tx in
+    let why : refusal_of (length p.submissions.items - length p.outcomes.items) (mark_at c.args.journal.now.marks tx.begun.place) ≡ Some c.in-Some.fault =
+    sym (c.refusal.ensures ∙ ap (λ (b : Begun). refusal_of (length p.submissions.items - length p.outcomes.items) (mark_at c.args.journal.now.marks b.place)) c.begun.ensures) ∙ c.in-Some.is in
+    refused_kept c.args.journal.now c.note.new.journal p c.requires.kept c.args.client tx.begun.place tx.changes c.in-Ok.ensures.log c.in-Some.fault why c.in-Ok.ensures.marks
+
+pub returns-in-Ok-clause-answer : goal.returns-in-Ok-clause-answer
+returns-in-Ok-clause-answer c =
+    let p = c.args.pipeline.now in
+    let tx = c.args.tx in
+    let pending = length p.submissions.items - length p.outcomes.items in
+    let why : refusal_of pending (mark_at c.args.journal.now.marks tx.begun.place) ≡ Some c.in-Some.fault =
+    sym (c.refusal.ensures ∙ ap (λ (b : Begun). refusal_of pending (mark_at c.args.journal.now.marks b.place)) c.begun.ensures) ∙ c.in-Some.is in (
+      refl,
+      fails_by (known_of c.args.journal.now p) (known_of c.note.new.journal p) (entry_of (known_of c.args.journal.now p) c.args.client (Submit tx.begun.place tx.changes)) pending (mark_at c.args.journal.now.marks tx.begun.place) c.in-Some.fault why
+      (refused_made c.args.journal.now c.note.new.journal p c.requires.kept c.args.client tx.begun.place tx.changes c.in-Ok.ensures.log c.in-Some.fault c.requires.room why),
+    )
+
+pub returns-in-Ok-accept-clause-kept : goal.returns-in-Ok-accept-clause-kept
+returns-in-Ok-accept-clause-kept c =
+    let p = c.args.pipeline.now in
+    let tx = c.args.tx in
+    let free : refusal_of (length p.submissions.items - length p.outcomes.items) (mark_at c.args.journal.now.marks tx.begun.place) ≡ None =
+    sym (c.refusal.ensures ∙ ap (λ (b : Begun). refusal_of (length p.submissions.items - length p.outcomes.items) (mark_at c.args.journal.now.marks b.place)) c.begun.ensures) ∙ c.in-None.is in
+    let done = c.in-Ok-accept.ensures in
+    accepted_kept c.args.journal.now c.accept.new.journal p c.accept.new.pipeline c.requires.kept c.args.client tx c.requires.token done.right done.log free done.domains done.outcomes done.submissions done.marks
+
+pub returns-in-Ok-accept-clause-answer : goal.returns-in-Ok-accept-clause-answer
+returns-in-Ok-accept-clause-answer c =
+    let p = c.args.pipeline.now in
+    let tx = c.args.tx in
+    let free : refusal_of (length p.submissions.items - length p.outcomes.items) (mark_at c.args.journal.now.marks tx.begun.place) ≡ None =
+    sym (c.refusal.ensures ∙ ap (λ (b : Begun). refusal_of (length p.submissions.items - length p.outcomes.items) (mark_at c.args.journal.now.marks b.place)) c.begun.ensures) ∙ c.in-None.is in
+    let done = c.in-Ok-accept.ensures in
+    subst (λ (r : Given). Made (known_of c.args.journal.now p) (known_of c.accept.new.journal c.accept.new.pipeline) (entry_of (known_of c.args.journal.now p) c.args.client (Submit tx.begun.place tx.changes)) (Receipt r.number)) (sym done.receipt)
+    (accepted_made c.args.journal.now c.accept.new.journal p c.accept.new.pipeline c.requires.kept c.args.client tx c.requires.token done.right done.log free done.domains done.outcomes done.submissions done.marks c.requires.room)
+
+pub returns-in-Ok-accept-clause-given : goal.returns-in-Ok-accept-clause-given
+returns-in-Ok-accept-clause-given c =
+    let p = c.args.pipeline.now in
+    let tx = c.args.tx in
+    let free : refusal_of (length p.submissions.items - length p.outcomes.items) (mark_at c.args.journal.now.marks tx.begun.place) ≡ None =
+    sym (c.refusal.ensures ∙ ap (λ (b : Begun). refusal_of (length p.submissions.items - length p.outcomes.items) (mark_at c.args.journal.now.marks b.place)) c.begun.ensures) ∙ c.in-None.is in
+    let done = c.in-Ok-accept.ensures in
+    subst (λ (r : Given). IsGiven (known_of c.accept.new.journal c.accept.new.pipeline) r.number) (sym done.receipt)
+    (accepted_given c.args.journal.now c.accept.new.journal p c.accept.new.pipeline c.requires.kept c.args.client tx c.requires.token done.right done.log free done.domains done.outcomes done.submissions done.marks)

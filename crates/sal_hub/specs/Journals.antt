@@ -1,0 +1,25 @@
+-- The log, with what is looked up in it.
+use Rattle.std.specs.Prelude.{◌≡◌, ℕ, Bool, false, List, [], ◌∷◌, ◌++◌, length, slice_index_or}
+use Rattle.std.specs.BTreeMap.{BTreeMap}
+use Rattle.sal_history.specs.declared.call.Call.{Call}
+use Rattle.sal_history.specs.declared.call.Entry.{Entry}
+use Rattle.sal_history.specs.History.{entries_of}
+use Rattle.sal_hub.specs.Counts.{count_in}
+
+-- what a contract sees: the log, and a mark for each of its places
+pub record Noted : Type 0 where
+  pub log : List Entry
+  pub marks : List Bool
+
+-- the mark at a place, none behind the list
+abbrev pub mark_at : List Bool → ℕ → Bool
+mark_at marks place = slice_index_or marks place false
+
+-- the counts are the log's, and there is a mark for each of its places
+pub record IsNoted (log : List Entry) (marks : List Bool) (counts : BTreeMap ℕ ℕ) : Type 0 where
+  pub long : length marks ≡ length log
+  pub counted : (client : ℕ) → count_in counts client ≡ entries_of log client
+
+-- the log with one more entry of the client
+abbrev pub jotted : List Entry → ℕ → Call → List Entry
+jotted log client call = log ++ record { client = client; number = entries_of log client; call = call } ∷ []

@@ -1,0 +1,14 @@
+-- The domains that devices open.
+use Rattle.std.specs.Prelude.{ℕ, ◌+◌, List, [], ◌∷◌}
+use Rattle.sal_commit.specs.Domains.{opening_of_device}
+use Rattle.sal_history.specs.declared.opening.Device.{Device}
+use Rattle.sal_history.specs.History.{is_live}
+use Rattle.sal_hub.specs.Lines.{Shown}
+
+abbrev pub shown_of : ℕ → Device → Shown
+shown_of n device = record { number = n; live = is_live n; table = device.schema.value; opening = opening_of_device device; ops = [] }
+
+-- numbered from n on
+abbrev pub shown_from : ℕ → List Device → List Shown
+shown_from n [] = []
+shown_from n (device ∷ devices) = shown_of n device ∷ shown_from (n + 1) devices

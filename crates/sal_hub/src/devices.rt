@@ -1,0 +1,105 @@
+//! The domains that devices open.
+ghost use Rattle.std.specs.Prelude.{◌≡◌, ◌⊎◌, ◌≤◌, None, Some, IfOk, MatchResult, find, length, map};
+ghost use Rattle.std.specs.Option.{option_copied, option_map};
+ghost use Rattle.sal_schema.specs.Fitting.{is_of_state};
+ghost use Rattle.sal_check.specs.Breaches.{breach};
+ghost use Rattle.sal_graft.specs.Kept.{AreKept, opening_in, tree_in};
+ghost use Rattle.sal_hub.specs.declared.opening.OpenFault.TheVariants.{Broken, NotConfig, NoMemory as Refused};
+ghost use Rattle.sal_hub.specs.Lines.{AllKept, shown};
+ghost use Rattle.sal_hub.specs.Opened.{shown_from, shown_of};
+ghost use Rattle.sal_hub.specs.Openings.{IsFaultOf, domain_of, fault_of, opening_fault, state_row, world_of};
+
+use crate::opening::OpenFault;
+use sal_check::check_all;
+use sal_commit::Domain;
+use sal_history::Device;
+use sal_schema::Schema;
+use sal_tree::{Pair, Root};
+use sal_types::{Duplicate, Row, Store};
+use std::alloc::Global;
+
+/// The domains that the devices open, unless their openings are refused.
+pub(crate) fn open_all(alloc: Global, devices: &[Device]) -> Result<Vec<Domain>, OpenFault>
+    requires { length devices.now ≤ 64 }
+    ensures fault { MatchResult result (λ _. fault_of (world_of devices.now) ≡ None) (IsFaultOf (world_of devices.now)) }
+    ensures kept { IfOk result (λ domains. AllKept domains.items) }
+    ensures shown { IfOk result (λ domains. map shown domains.items ≡ shown_from 0 devices.now) }
+{
+    let mut domains = Vec::new(alloc);
+    for i in 0..devices.len() {
+        let domain = open_one(alloc, i as u32, &devices[i])?;
+        if domains.push(domain).is_err() {
+            return Err(OpenFault::NoMemory);
+        }
+    }
+    Ok(domains)
+}
+
+// The domain of this number that the device opens.
+fn open_one(alloc: Global, number: u32, device: &Device) -> Result<Domain, OpenFault>
+    ensures fault { MatchResult result (λ _. opening_fault number (domain_of device.now) ≡ None) (λ e. (e ≡ Refused) ⊎ (opening_fault number (domain_of device.now) ≡ Some e)) }
+    ensures kept { IfOk result (λ d. AreKept d.commits.items) }
+    ensures shown { IfOk result (λ d. shown d ≡ shown_of number device.now) }
+{
+    match not_config(number, device) {
+        Ok(()) => {}
+        Err(fault) => return Err(fault),
+    }
+    let domain = Domain::open(alloc, number, device, number == 0)?;
+    match check(alloc, number, &domain, Store::Config) {
+        Ok(()) => {}
+        Err(fault) => return Err(fault),
+    }
+    match check(alloc, number, &domain, Store::Oper) {
+        Ok(()) => Ok(domain),
+        Err(fault) => Err(fault),
+    }
+}
+
+// Whether the configuration has state data.
+fn not_config(number: u32, device: &Device) -> Result<(), OpenFault>
+    ensures { MatchResult result (λ _. state_row device.now.schema.value device.now.opening.config ≡ None) (λ e. (e ≡ Refused) ⊎ (option_map (NotConfig number) (state_row device.now.schema.value device.now.opening.config) ≡ Some e)) }
+{
+    match first_state(&device.schema, device.opening.config.items()) {
+        None => Ok(()),
+        Some(row) => {
+            let path = row.path.copy()?;
+            Err(OpenFault::NotConfig {
+                device: number,
+                path,
+            })
+        }
+    }
+}
+
+// The first row of a state node.
+fn first_state<'a>(schema: &Schema, rows: &'a [Row]) -> Option<&'a Row>
+    ensures { option_copied result ≡ find (λ row. is_of_state schema.now row.path) rows.now }
+{
+    rows.iter().find(|row| schema.is_of_state(&row.path))
+}
+
+// Whether the opening tree of the store breaks a structural rule.
+fn check(alloc: Global, number: u32, domain: &Domain, store: Store) -> Result<(), OpenFault>
+    requires { AreKept domain.now.commits.items }
+    ensures { MatchResult result (λ _. breach domain.now.schema.value store (opening_in domain.now.commits.items store) ≡ None) (λ e. (e ≡ Refused) ⊎ (option_map (Broken number store) (breach domain.now.schema.value store (opening_in domain.now.commits.items store)) ≡ Some e)) }
+{
+    let root = tree_of(&domain.commits[0].trees, store);
+    match check_all(alloc, &domain.schema, store, root)? {
+        None => Ok(()),
+        Some(breach) => Err(OpenFault::Broken {
+            device: number,
+            store,
+            breach,
+        }),
+    }
+}
+
+fn tree_of(pair: &Pair, store: Store) -> &Root
+    ensures { result.now ≡ tree_in pair.now store }
+{
+    match store {
+        Store::Config => &pair.config,
+        Store::Oper => &pair.oper,
+    }
+}

@@ -1,0 +1,190 @@
+//! The domains with their commits, and the submissions with their outcomes.
+ghost use Rattle.std.specs.Prelude.{◌≡◌, ℕ, ◌+◌, ◌-◌, ◌<◌, ◌≤◌, [], ◌∷◌, ◌++◌, false, true, IfOk, MatchOption, OnErr, OnOk, Some, length, map, slice_get, take};
+ghost use Rattle.sal_graft.specs.Kept.{AreKept};
+ghost use Rattle.sal_history.specs.declared.call.Call.TheVariants.{Settle};
+ghost use Rattle.sal_history.specs.History.{is_live};
+ghost use Rattle.sal_hub.specs.Answers.{limit};
+ghost use Rattle.sal_hub.specs.Journals.{jotted, mark_at};
+ghost use Rattle.sal_hub.specs.Lines.{AllKept, AreDecided, HasGrown, IsSound, counts_of, cut_all, line_of, shown};
+
+use crate::journal::Journal;
+use sal_commit::{Domain, decide};
+use sal_history::Call;
+use sal_rows::Outcome;
+use sal_tx::Submission;
+use sal_types::{Duplicate, NoMemory};
+use std::alloc::Global;
+
+/// The domains with their commits, the submissions by receipt from 1 on, and the outcomes of those that were decided.
+#[derive(Drop)]
+pub(crate) struct Pipeline {
+    pub(crate) domains: Vec<Domain>,
+    pub(crate) submissions: Vec<Submission>,
+    pub(crate) outcomes: Vec<Outcome>,
+}
+
+impl Pipeline {
+    /// The domain of the number, if it is live.
+    pub(crate) fn live(&self, domain: u32) -> Option<&Domain>
+        requires kept { AllKept self.now.domains.items }
+        requires sound { IsSound (line_of self.now) }
+        ensures live { MatchOption result (is_live domain ≡ false) (λ found. is_live domain ≡ true) }
+        ensures found { MatchOption result (Unit {0}) (λ found. slice_get (map shown self.now.domains.items) domain ≡ Some (shown found.now)) }
+        ensures kept { MatchOption result (Unit {0}) (λ found. AreKept found.now.commits.items) }
+    {
+        let index = domain as usize;
+        if index >= self.domains.len() {
+            return None;
+        }
+        let found = &self.domains[index];
+        if found.live { Some(found) } else { None }
+    }
+
+    // Decides the submission at the index, which is the next one. Where memory is wanting, nothing changes that is seen.
+    fn decide_one(&mut self, alloc: Global, index: usize) -> Result<(), NoMemory>
+        requires kept { AllKept self.old.domains.items }
+        requires sound { IsSound (line_of self.old) }
+        requires next { index ≡ length self.old.outcomes.items }
+        requires given { index < length self.old.submissions.items }
+        requires few { length self.old.submissions.items ≤ limit }
+        ensures kept { AllKept self.new.domains.items }
+        ensures ok { OnOk result (AreDecided (line_of self.old) 1 (line_of self.new)) }
+        ensures count { OnOk result (length self.new.outcomes.items ≡ length self.old.outcomes.items + 1) }
+        ensures grown { HasGrown (line_of self.old) (line_of self.new) }
+    {
+        self.outcomes.reserve(1)?;
+        let submission = &self.submissions[index];
+        let domain = &mut self.domains[submission.domain as usize];
+        let fresh = (index as u64 + 1) * 2 + 1;
+        let outcome = decide(alloc, submission, domain, fresh)?;
+        self.outcomes.push(outcome).unwrap();
+        Ok(())
+    }
+
+    // Decides the next submissions, up to `upto` in all. Where memory is wanting, some may be decided.
+    fn decide_upto(&mut self, alloc: Global, upto: usize) -> Result<(), NoMemory>
+        requires kept { AllKept self.old.domains.items }
+        requires sound { IsSound (line_of self.old) }
+        requires given { upto ≤ length self.old.submissions.items }
+        requires few { length self.old.submissions.items ≤ limit }
+        ensures kept { AllKept self.new.domains.items }
+        ensures ok { OnOk result (AreDecided (line_of self.old) (upto - length self.old.outcomes.items) (line_of self.new)) }
+        ensures reached { OnOk result (upto ≤ length self.new.outcomes.items) }
+        ensures grown { HasGrown (line_of self.old) (line_of self.new) }
+    {
+        for index in self.outcomes.len()..upto {
+            self.decide_one(alloc, index)?;
+        }
+        Ok(())
+    }
+
+    /// Takes back what came behind so many outcomes, and so many commits of each domain. It takes no memory.
+    fn cut_back(&mut self, outcomes: usize, counts: &[u64])
+        requires kept { AllKept self.old.domains.items }
+        requires long { length counts.now ≡ length self.old.domains.items }
+        ensures kept { AllKept self.new.domains.items }
+        ensures domains { map shown self.new.domains.items ≡ cut_all (map shown self.old.domains.items) counts.now }
+        ensures submissions { self.new.submissions.items ≡ self.old.submissions.items }
+        ensures outcomes { self.new.outcomes.items ≡ take outcomes self.old.outcomes.items }
+    {
+        cut_domains(&mut self.domains, counts);
+        self.outcomes.truncate(outcomes);
+    }
+
+    // Decides what is pending up to the receipt, adds the entry of the settle, and answers the outcome. Where memory is
+    // wanting, some may be decided, and no entry was added.
+    fn settle_some(
+        &mut self,
+        alloc: Global,
+        journal: &mut Journal,
+        client: u32,
+        receipt: usize,
+    ) -> Result<Outcome, NoMemory>
+        requires kept { AllKept self.old.domains.items }
+        requires sound { IsSound (line_of self.old) }
+        requires some { 0 < receipt }
+        requires given { receipt ≤ length self.old.submissions.items }
+        requires few { length self.old.submissions.items ≤ limit }
+        requires room { length journal.old.log < limit }
+        ensures kept { AllKept self.new.domains.items }
+        ensures outcome { IfOk result (λ o. slice_get self.new.outcomes.items (receipt - 1) ≡ Some o) }
+        ensures decided { OnOk result (AreDecided (line_of self.old) (receipt - length self.old.outcomes.items) (line_of self.new)) }
+        ensures grown { HasGrown (line_of self.old) (line_of self.new) }
+        ensures log { OnOk result (journal.new.log ≡ jotted journal.old.log client (Settle receipt)) }
+        ensures marks { OnOk result ((k : ℕ) → mark_at journal.new.marks k ≡ mark_at journal.old.marks k) }
+        ensures journal { OnErr result (journal.new ≡ journal.old) }
+    {
+        self.decide_upto(alloc, receipt)?;
+        let outcome = outcome_at(&self.outcomes, receipt - 1)?;
+        let receipt = receipt as u64;
+        journal.add(client, Call::Settle { receipt })?;
+        Ok(outcome)
+    }
+
+    /// Decides what is pending up to the receipt, adds the entry of the settle, and answers the outcome. Where memory is
+    /// wanting, nothing changes that is seen.
+    pub(crate) fn settle(
+        &mut self,
+        alloc: Global,
+        journal: &mut Journal,
+        client: u32,
+        receipt: usize,
+    ) -> Result<Outcome, NoMemory>
+        requires kept { AllKept self.old.domains.items }
+        requires sound { IsSound (line_of self.old) }
+        requires some { 0 < receipt }
+        requires given { receipt ≤ length self.old.submissions.items }
+        requires few { length self.old.submissions.items ≤ limit }
+        requires room { length journal.old.log < limit }
+        ensures kept { AllKept self.new.domains.items }
+        ensures outcome { IfOk result (λ o. slice_get self.new.outcomes.items (receipt - 1) ≡ Some o) }
+        ensures decided { OnOk result (AreDecided (line_of self.old) (receipt - length self.old.outcomes.items) (line_of self.new)) }
+        ensures same { OnErr result (line_of self.new ≡ line_of self.old) }
+        ensures log { OnOk result (journal.new.log ≡ jotted journal.old.log client (Settle receipt)) }
+        ensures marks { OnOk result ((k : ℕ) → mark_at journal.new.marks k ≡ mark_at journal.old.marks k) }
+        ensures journal { OnErr result (journal.new ≡ journal.old) }
+    {
+        let outcomes = self.outcomes.len();
+        let counts = counts_of(alloc, &self.domains)?;
+        match self.settle_some(alloc, journal, client, receipt) {
+            Ok(outcome) => Ok(outcome),
+            Err(NoMemory) => {
+                self.cut_back(outcomes, &counts);
+                Err(NoMemory)
+            }
+        }
+    }
+}
+
+// A copy of the outcome at the index.
+fn outcome_at(outcomes: &[Outcome], index: usize) -> Result<Outcome, NoMemory>
+    requires { index < length outcomes.now }
+    ensures { IfOk result (λ o. slice_get outcomes.now index ≡ Some o) }
+{
+    let outcome = outcomes[index].copy()?;
+    Ok(outcome)
+}
+
+// How many commits each domain has behind its opening.
+fn counts_of(alloc: Global, domains: &[Domain]) -> Result<Vec<u64>, NoMemory>
+    requires { AllKept domains.now }
+    ensures { IfOk result (λ counts. counts.items ≡ counts_of (map shown domains.now)) }
+{
+    let mut counts = Vec::with_capacity(alloc, domains.len())?;
+    for domain in domains {
+        counts.push(domain.commits.len() as u64 - 1)?;
+    }
+    Ok(counts)
+}
+
+// Cuts each domain back to so many commits behind its opening.
+fn cut_domains(domains: &mut [Domain], counts: &[u64])
+    requires kept { AllKept domains.old }
+    requires long { length counts.now ≡ length domains.old }
+    ensures kept { AllKept domains.new }
+    ensures cut { map shown domains.new ≡ cut_all (map shown domains.old) counts.now }
+{
+    for i in 0..counts.len() {
+        domains[i].cut_to(counts[i]);
+    }
+}

@@ -1,0 +1,133 @@
+//! Submissions that are handed in.
+ghost use Rattle.std.specs.Prelude.{◌≡◌, ℕ, ◌+◌, ◌-◌, ◌<◌, ◌≤◌, ◌∷◌, ◌++◌, ◌||◌, [], IfOk, MatchResult, OnErr, OnOk, length, nat_eq};
+ghost use Rattle.sal_tx.specs.Views.{IsRight};
+ghost use Rattle.sal_history.specs.declared.call.Call.TheVariants.{Submit};
+ghost use Rattle.sal_history.specs.declared.reply.Reply.TheVariants.{Receipt as Numbered};
+ghost use Rattle.sal_hub.specs.declared.receipt.Receipt.{Receipt as Given};
+ghost use Rattle.sal_hub.specs.Answers.{CallsOr, limit};
+ghost use Rattle.sal_hub.specs.Current.{IsKept, known_of};
+ghost use Rattle.sal_hub.specs.Journals.{jotted, mark_at};
+ghost use Rattle.sal_hub.specs.Known.{entry_of};
+ghost use Rattle.sal_hub.specs.Submits.{refusal_of, submission_of};
+ghost use Rattle.sal_hub.specs.Tokens.{IsBegun, IsGiven};
+
+use crate::hub::MAX_PENDING;
+use crate::journal::Journal;
+use crate::pipeline::Pipeline;
+use crate::receipt::Receipt;
+use sal_history::Call;
+use sal_rows::{CallFault, Op, Ops};
+use sal_tx::WriteTx;
+use sal_types::{Duplicate, NoMemory, Seq};
+use std::alloc::Global;
+
+/// Submits the transaction, unless it is refused, and adds the entry.
+pub(crate) fn submit(
+    alloc: Global,
+    pipeline: &mut Pipeline,
+    journal: &mut Journal,
+    client: u32,
+    tx: WriteTx,
+) -> Result<Receipt, (WriteTx, CallFault)>
+    requires kept { IsKept journal.old pipeline.old }
+    requires room { length journal.old.log < limit }
+    requires token { IsBegun (known_of journal.old pipeline.old) tx.begun tx.base }
+    ensures kept { IsKept journal.new pipeline.new }
+    ensures answer { CallsOr (known_of journal.old pipeline.old) (known_of journal.new pipeline.new) (entry_of (known_of journal.old pipeline.old) client (Submit tx.begun.place tx.changes)) (λ (receipt : Given). Numbered receipt.number) tx result }
+    ensures given { IfOk result (λ receipt. IsGiven (known_of journal.new pipeline.new) receipt.number) }
+{
+    match refusal(pipeline, journal, tx.begun().place as usize) {
+        Some(fault) => match note(alloc, journal, client, &tx) {
+            Ok(()) => Err((tx, fault)),
+            Err(NoMemory) => Err((tx, CallFault::NoMemory)),
+        },
+        None => match accept(alloc, pipeline, journal, client, tx) {
+            Ok(receipt) => Ok(receipt),
+            Err(tx) => Err((tx, CallFault::NoMemory)),
+        },
+    }
+}
+
+// Why the submit of the transaction that began at the place is refused.
+fn refusal(pipeline: &Pipeline, journal: &Journal, place: usize) -> Option<CallFault>
+    requires within { length pipeline.now.outcomes.items ≤ length pipeline.now.submissions.items }
+    requires placed { place < length journal.now.log }
+    ensures { result ≡ refusal_of (length pipeline.now.submissions.items - length pipeline.now.outcomes.items) (mark_at journal.now.marks place) }
+{
+    let pending = pipeline.submissions.len() - pipeline.outcomes.len();
+    if pending >= MAX_PENDING {
+        return Some(CallFault::PipelineFull);
+    }
+    if journal.is_spent(place) {
+        return Some(CallFault::TxSpent);
+    }
+    None
+}
+
+// Adds the entry of a submit.
+fn note(
+    alloc: Global,
+    journal: &mut Journal,
+    client: u32,
+    tx: &WriteTx,
+) -> Result<(), NoMemory>
+    requires { length journal.old.log < limit }
+    ensures log { OnOk result (journal.new.log ≡ jotted journal.old.log client (Submit tx.now.begun.place tx.now.changes)) }
+    ensures marks { OnOk result ((k : ℕ) → mark_at journal.new.marks k ≡ mark_at journal.old.marks k) }
+    ensures err { OnErr result (journal.new ≡ journal.old) }
+{
+    let ops = copied(alloc, tx.ops())?;
+    let place = tx.begun().place;
+    journal.add(client, Call::Submit { place, ops })?;
+    Ok(())
+}
+
+// A copy of the operations.
+fn copied(alloc: Global, ops: &[Op]) -> Result<Ops, NoMemory>
+    ensures { IfOk result (λ copy. copy ≡ ops.now) }
+{
+    let mut list = Vec::with_capacity(alloc, ops.len())?;
+    for op in ops {
+        list.push(op.copy()?)?;
+    }
+    Ok(Seq::from_items(list))
+}
+
+// Adds the submission and its entry, and marks the transaction as spent. Where memory is wanting, it is given back, and nothing
+// changes.
+fn accept(
+    alloc: Global,
+    pipeline: &mut Pipeline,
+    journal: &mut Journal,
+    client: u32,
+    tx: WriteTx,
+) -> Result<Receipt, WriteTx>
+    requires room { length journal.old.log < limit }
+    requires placed { tx.begun.place < length journal.old.log }
+    ensures receipt { IfOk result (λ receipt. receipt ≡ record { number = length pipeline.old.submissions.items + 1 }) }
+    ensures right { OnOk result (IsRight tx) }
+    ensures submissions { OnOk result (pipeline.new.submissions.items ≡ pipeline.old.submissions.items ++ submission_of tx (length pipeline.old.submissions.items + 1) ∷ []) }
+    ensures log { OnOk result (journal.new.log ≡ jotted journal.old.log client (Submit tx.begun.place tx.changes)) }
+    ensures marks { OnOk result ((k : ℕ) → mark_at journal.new.marks k ≡ (nat_eq tx.begun.place k || mark_at journal.old.marks k)) }
+    ensures back { MatchResult result (λ _. Unit {0}) (λ back. back ≡ tx) }
+    ensures domains { pipeline.new.domains ≡ pipeline.old.domains }
+    ensures outcomes { pipeline.new.outcomes ≡ pipeline.old.outcomes }
+    ensures waiting { OnErr result (pipeline.new.submissions.items ≡ pipeline.old.submissions.items) }
+    ensures journal { OnErr result (journal.new ≡ journal.old) }
+{
+    match pipeline.submissions.reserve(1) {
+        Ok(()) => {}
+        Err(_) => return Err(tx),
+    }
+    match note(alloc, journal, client, &tx) {
+        Ok(()) => {}
+        Err(NoMemory) => return Err(tx),
+    }
+    let receipt = pipeline.submissions.len() as u64 + 1;
+    journal.spend(tx.begun().place as usize);
+    pipeline
+        .submissions
+        .push(tx.into_submission(receipt))
+        .unwrap();
+    Ok(Receipt::of(receipt))
+}

@@ -1,4 +1,4 @@
-//! Faults of path texts and of data, in words.
+//! Faults of path texts, of data and of writes, in words.
 ghost use Rattle.std.specs.Prelude.{◌≡◌, ◌∷◌, ◌++◌, IfOk, OnOk, string_bytes};
 ghost use Rattle.json.specs.Print.{quoted};
 ghost use Rattle.sal_script.specs.Report as spec;
@@ -9,6 +9,7 @@ use sal_data::DataFault;
 use sal_json::ScalarFault;
 use sal_pathtext::PathTextFault;
 use sal_schema::Schema;
+use sal_tx::TxFault;
 use sal_types::{NoMemory, Path, Str};
 use std::alloc::Global;
 
@@ -29,6 +30,16 @@ pub fn data_fault_text(alloc: Global, schema: &Schema, fault: &DataFault) -> Res
 {
     let mut text = String::new(alloc);
     push_data_fault(alloc, &mut text, schema, fault)?;
+    Ok(Str::from_string(text))
+}
+
+/// Why a transaction refused a write, or a read: a word, and behind it the path of the place as a JSON text, if there is one. It
+/// fails only where memory runs out.
+pub fn tx_fault_text(alloc: Global, schema: &Schema, fault: &TxFault) -> Result<Str, NoMemory>
+    ensures { IfOk result (λ text. text ≡ spec.tx_fault_text schema.now fault.now) }
+{
+    let mut text = String::new(alloc);
+    push_tx_fault(alloc, &mut text, schema, fault)?;
     Ok(Str::from_string(text))
 }
 
@@ -69,6 +80,24 @@ pub(crate) fn push_data_fault(
         }
         DataFault::TooDeep { path } => push_place(alloc, text, schema, "too-deep", path),
         DataFault::NoMemory => push_word(text, "no-memory"),
+    }
+}
+
+pub(crate) fn push_tx_fault(
+    alloc: Global,
+    text: &mut String,
+    schema: &Schema,
+    fault: &TxFault,
+) -> Result<(), NoMemory>
+    ensures { OnOk result (string_bytes text.new ≡ string_bytes text.old ++ spec.tx_fault_text schema.now fault.now) }
+{
+    match fault {
+        TxFault::WriteOnly => push_word(text, "write-only"),
+        TxFault::NotConfig { path } => push_place(alloc, text, schema, "not-config", path),
+        TxFault::KeyLeaf { path } => push_place(alloc, text, schema, "key-leaf", path),
+        TxFault::ParentMissing { path } => push_place(alloc, text, schema, "parent-missing", path),
+        TxFault::RootPath => push_word(text, "root-path"),
+        TxFault::NoMemory => push_word(text, "no-memory"),
     }
 }
 

@@ -4,6 +4,8 @@
 //! |---|---|
 //! | `report` | the text for a log, the replies to the clients' steps, and the trees at the end |
 //! | `path_fault_text`, `data_fault_text` | why a text is no path, why a value is no data of the schema, in words |
+//! | `tx_fault_text` | why a transaction refused a write, or a read, in words |
+//! | `breach_text`, `path_words` | where a structural rule is broken and which; a path |
 //!
 //! What the texts are, to the byte, stands in `sal_script` (`specs/Report`): for every schema, log, replies and trees. Paths
 //! are written by `sal_pathtext` and rows by `sal_data`, as JSON (RFC 7951).
@@ -22,6 +24,7 @@
 //! in the text, beside what `sal_data` takes to write the rows and `sal_pathtext` to write the paths.
 #![tactic(auto)]
 
+mod breaches;
 mod faults;
 mod lines;
 mod pieces;
@@ -30,5 +33,6 @@ mod replies;
 mod tests;
 mod words;
 
-pub use faults::{data_fault_text, path_fault_text};
+pub use breaches::{breach_text, path_words};
+pub use faults::{data_fault_text, path_fault_text, tx_fault_text};
 pub use lines::report;

@@ -2,7 +2,8 @@
 ghost use Rattle.std.specs.Prelude.{◌≡◌, ◌++◌, OnOk, codes, string_bytes};
 ghost use Rattle.sal_script.specs.Report as spec;
 
-use crate::faults::{push_data_fault, push_path_fault};
+use crate::breaches::push_breach;
+use crate::faults::{push_data_fault, push_path_fault, push_tx_fault};
 use crate::pieces::{push_data, push_numbered, push_path, push_word};
 use crate::words::{kind_word, store_word, truth_word};
 use sal_history::Reply;
@@ -44,6 +45,7 @@ fn push_call(
 {
     match reply {
         Reply::Begun { commit, on } => push_begun(text, *commit, *on),
+        Reply::Accepted => push_word(text, "ok"),
         Reply::Receipt { number } => push_numbered(text, "receipt", *number),
         Reply::Settled { outcome, .. } => push_outcome(alloc, text, schema, outcome),
         Reply::Refused { fault } => {
@@ -67,7 +69,11 @@ fn push_fault(text: &mut String, fault: CallFault) -> Result<(), NoMemory>
     ensures { OnOk result (string_bytes text.new ≡ string_bytes text.old ++ spec.fault_text fault) }
 {
     match fault {
+        CallFault::HistoryFull => push_word(text, "history-full"),
+        CallFault::PipelineFull => push_word(text, "pipeline-full"),
         CallFault::NoDomain { id } => push_numbered(text, "no-domain", u64::from(id)),
+        CallFault::NoMemory => push_word(text, "no-memory"),
+        CallFault::TxSpent => push_word(text, "tx-spent"),
     }
 }
 
@@ -93,6 +99,11 @@ fn push_outcome(
             text.push(' ')?;
             push_numbered(text, kind_word(*kind), *commit)
         }
+        Outcome::Invalid { store, path, rule } => {
+            text.push_str("invalid ")?;
+            text.push_str(store_word(*store))?;
+            push_breach(alloc, text, schema, path, *rule)
+        }
     }
 }
 
@@ -115,6 +126,7 @@ fn push_refusal(
             text.push_str("data ")?;
             push_data_fault(alloc, text, schema, fault)
         }
+        StepRefusal::Write { fault } => push_tx_fault(alloc, text, schema, fault),
     }
 }
 

@@ -4,16 +4,17 @@ use sal_history::{Call, Entry, Reply};
 use sal_json::ScalarFault;
 use sal_pathtext::PathTextFault;
 use sal_restrict::{Part, Ranges, YangType};
-use sal_rows::{CallFault, ClashKind, Mode, Outcome, Rows};
+use sal_rows::{Breach, CallFault, ClashKind, Mode, Outcome, Rows, Rule};
 use sal_schema::{Kind, NodeInfo, Schema, SchemaTable};
 use sal_script::{StepRefusal, StepReply};
 use sal_table::schema_of;
+use sal_tx::TxFault;
 use sal_types::{Atom, Cell, NoMemory, Path, Row, Seq, Step, Store, Str, Value};
 use std::alloc::Global;
 use std::test::Fail;
 
 // The replies that `reply` makes, in its order.
-const REPLIES: [&str; 35] = [
+const REPLIES: [&str; 51] = [
     "begun 7",
     "begun 0 on 12",
     "receipt 3",
@@ -49,6 +50,22 @@ const REPLIES: [&str; 35] = [
     "refused data bad-scalar \"/topo:net\" no-memory",
     "refused data too-deep \"/topo:net\"",
     "refused data no-memory",
+    "ok",
+    "refused history-full",
+    "refused pipeline-full",
+    "refused no-memory",
+    "refused tx-spent",
+    "invalid config \"/topo:net\" mandatory topo:net",
+    "invalid operational \"/topo:net\" min-elements topo:tag",
+    "invalid config \"/topo:net\" max-elements topo:tag",
+    "invalid config \"/topo:net\" unique topo:tag",
+    "invalid config \"/topo:net\" two-cases :",
+    "refused write-only",
+    "refused not-config \"/topo:net\"",
+    "refused key-leaf \"/topo:net\"",
+    "refused parent-missing \"/topo:net\"",
+    "refused root-path",
+    "refused no-memory",
 ];
 
 // ---- a schema: a container with a leaf-list
@@ -231,8 +248,62 @@ fn data_fault(alloc: Global, form: usize) -> Result<DataFault, NoMemory> {
     })
 }
 
+fn call_fault(form: usize) -> CallFault {
+    match form {
+        36 => CallFault::HistoryFull,
+        37 => CallFault::PipelineFull,
+        38 => CallFault::NoMemory,
+        _ => CallFault::TxSpent,
+    }
+}
+
+fn broken(form: usize) -> (Store, Rule) {
+    match form {
+        40 => (Store::Config, Rule::Mandatory(0)),
+        41 => (Store::Oper, Rule::MinElements(1)),
+        42 => (Store::Config, Rule::MaxElements(1)),
+        43 => (Store::Config, Rule::Unique(1)),
+        _ => (Store::Config, Rule::TwoCases(2)),
+    }
+}
+
+fn invalid(alloc: Global, form: usize) -> Result<StepReply, NoMemory> {
+    let (store, rule) = broken(form);
+    let path = net(alloc)?;
+    Ok(called(Reply::Settled {
+        domain: 0,
+        outcome: Outcome::Invalid { store, path, rule },
+    }))
+}
+
+fn tx_fault(alloc: Global, form: usize) -> Result<TxFault, NoMemory> {
+    let path = net(alloc)?;
+    Ok(match form {
+        45 => TxFault::WriteOnly,
+        46 => TxFault::NotConfig { path },
+        47 => TxFault::KeyLeaf { path },
+        48 => TxFault::ParentMissing { path },
+        49 => TxFault::RootPath,
+        _ => TxFault::NoMemory,
+    })
+}
+
+fn later_reply(alloc: Global, form: usize) -> Result<StepReply, NoMemory> {
+    Ok(match form {
+        35 => called(Reply::Accepted),
+        36..=39 => called(Reply::Refused {
+            fault: call_fault(form),
+        }),
+        40..=44 => invalid(alloc, form)?,
+        _ => refused(StepRefusal::Write {
+            fault: tx_fault(alloc, form)?,
+        }),
+    })
+}
+
 fn reply(alloc: Global, form: usize) -> Result<StepReply, NoMemory> {
     match form {
+        35.. => later_reply(alloc, form),
         0..=7 => call_reply(alloc, form),
         8..=20 => local_reply(alloc, form),
         27 => bad_scalar(alloc, ScalarFault::WrongKind),
@@ -305,17 +376,42 @@ fn is_data_fault_told(alloc: Global, schema: &Schema) -> Result<bool, NoMemory> 
     Ok(text.as_str() == "missing-key \"/topo:net\"")
 }
 
-fn answers(alloc: Global, schema: &Schema) -> Result<[bool; 3], NoMemory> {
+fn is_tx_fault_told(alloc: Global, schema: &Schema) -> Result<bool, NoMemory> {
+    let text = tx_fault_text(alloc, schema, &tx_fault(alloc, 47)?)?;
+    Ok(text.as_str() == "key-leaf \"/topo:net\"")
+}
+
+fn is_breach_told(alloc: Global, schema: &Schema) -> Result<bool, NoMemory> {
+    let breach = Breach {
+        path: net(alloc)?,
+        rule: Rule::MaxElements(1),
+    };
+    let text = breach_text(alloc, schema, &breach)?;
+    Ok(text.as_str() == " \"/topo:net\" max-elements topo:tag")
+}
+
+fn is_path_told(alloc: Global, schema: &Schema) -> Result<bool, NoMemory> {
+    let text = path_words(alloc, schema, &tag(alloc)?)?;
+    Ok(text.as_str() == " \"/topo:net/tag[.='a\\\"']\"")
+}
+
+fn answers(alloc: Global, schema: &Schema) -> Result<[bool; 6], NoMemory> {
     let report = is_reported(alloc, schema)?;
     let path_fault = is_path_fault_told(alloc)?;
     let data_fault = is_data_fault_told(alloc, schema)?;
-    Ok([report, path_fault, data_fault])
+    let tx_fault = is_tx_fault_told(alloc, schema)?;
+    let breach = is_breach_told(alloc, schema)?;
+    let path = is_path_told(alloc, schema)?;
+    Ok([report, path_fault, data_fault, tx_fault, breach, path])
 }
 
 #[test]
 fn texts_of_each_form(rt: HostRuntime) -> Result<(), Fail> {
     let alloc = rt.alloc();
     let schema = schema_of(alloc, table(alloc)?)?;
-    assert_eq!(rt; answers(alloc, &schema)?, [true, true, true]);
+    assert_eq!(rt;
+        answers(alloc, &schema)?,
+        [true, true, true, true, true, true]
+    );
     Ok(())
 }

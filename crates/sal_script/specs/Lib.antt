@@ -1,3 +1,4 @@
+pub mod Examples
 pub mod Json
 pub mod Limits
 pub mod Moves

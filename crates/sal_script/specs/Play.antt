@@ -1,6 +1,6 @@
 -- What a script does in an order: each number of the order lets that client go on to its next shared call, which is
 -- then made and answered by the log; at the end each client answers the local steps that are left.
-use Rattle.std.specs.Prelude.{ℕ, ◌+◌, Bool, List, [], ◌∷◌, ◌++◌, length, map, Option, None, Some, Result, Ok, Err, if◌then◌else◌, nat_eq, slice_get}
+use Rattle.std.specs.Prelude.{ℕ, ◌+◌, List, [], ◌∷◌, ◌++◌, length, map, Option, None, Some, Result, Ok, Err, if◌then◌else◌, nat_eq, slice_get}
 use Rattle.std.specs.List.{slice_set}
 use Rattle.sal_types.specs.declared.value.Store.{Store}
 use Rattle.sal_types.specs.declared.value.Step.{Step}
@@ -11,7 +11,7 @@ use Rattle.sal_rows.specs.declared.op.Op.{Op}
 use Rattle.sal_rows.specs.declared.op.Act.{Act}
 use Rattle.sal_rows.specs.declared.op.Act.TheVariants.{Put as PutAct, Merge as MergeAct, Delete as DeleteAct}
 use Rattle.sal_rows.specs.declared.outcome.Mode.{Mode}
-use Rattle.sal_rows.specs.declared.outcome.Mode.TheVariants.{Ro, Wo, Rw}
+use Rattle.sal_rows.specs.declared.outcome.Mode.TheVariants.{Ro, Wo}
 use Rattle.sal_history.specs.declared.call.Call.{Call}
 use Rattle.sal_history.specs.declared.call.Call.TheVariants.{Begin as BeginCall, Submit as SubmitCall, Cancel as CancelCall, Settle as SettleCall}
 use Rattle.sal_history.specs.declared.call.Entry.{Entry}

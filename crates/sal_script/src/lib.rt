@@ -7,14 +7,19 @@
 //! | `read_script` | the script that bytes stand for, or the first bad place |
 //! | `ScriptFault` | why bytes are no script |
 //!
-//! `specs/Script` says which script bytes stand for, `specs/Play` what a script does in an order, and
-//! `specs/Report` the text of that.
+//! A client begins transactions into slots, with a mode; puts, merges and deletes at paths of either store; reads, and asks
+//! whether something is there; submits or cancels; and settles receipts. Paths are texts and values are JSON, of any kind:
+//! both are read by the schema when the step is answered, so a text that is no path is refused then, and is no fault of the
+//! script.
+//!
+//! `specs/Script` says which script bytes stand for, with the steps of `specs/Moves`; `specs/Play` what a script does in an
+//! order, and `specs/Report` the text of that. `examples` has worked examples, each proved by computing it.
 //!
 //! ```
 //! let script = read_script(alloc, br#"{"clients":[{"steps":[["begin",0,0,"rw"]]}],"order":[0]}"#)?;
 //! ```
 //!
-//! Cost: linear in the bytes. Hostile input is refused by its place; nesting is bounded by the JSON reader.
+//! Cost: linear in the bytes; values are copied once. Hostile input is refused by its place; nesting is bounded by the JSON reader.
 #![tactic(auto)]
 
 pub mod examples;

@@ -5,7 +5,7 @@ use std::alloc::Global;
 use std::test::Fail;
 
 // Texts and their first bad places; `ok` where there is none.
-const TEXTS: [(&str, &str); 80] = [
+const TEXTS: [(&str, &str); 89] = [
     ("{}", "ok"),
     (" {\n} ", "ok"),
     ("", "json"),
@@ -52,37 +52,31 @@ const TEXTS: [(&str, &str); 80] = [
     ("[\"begin\",0,0,\"ro\"]", "ok"),
     ("[\"begin\",255,0,\"rw\"]", "ok"),
     ("[\"begin\",256,0,\"rw\"]", "clients/0/0"),
-    ("[\"begin\",0,1,\"rw\"]", "clients/0/0"),
-    ("[\"begin\",0,0,\"wo\"]", "clients/0/0"),
+    ("[\"begin\",0,4294967295,\"wo\"]", "ok"),
+    ("[\"begin\",0,4294967296,\"rw\"]", "clients/0/0"),
+    ("[\"begin\",0,0,\"wr\"]", "clients/0/0"),
     ("[\"begin\",0,0,0]", "clients/0/0"),
     ("[\"begin\",0,0]", "clients/0/0"),
     ("[\"begin\",0,0,\"rw\",0]", "clients/0/0"),
     ("[\"Begin\",0,0,\"rw\"]", "clients/0/0"),
     ("[\"put\",0,\"config\",\"/plain:box/a\",\"\"]", "ok"),
-    ("[\"put\",0,\"config\",\"/plain:box/h\",\"x\"]", "ok"),
     (
-        "[\"put\",1.0,\"config\",\"/plain:box/a\",\"x\"]",
-        "clients/0/0",
+        "[\"put\",255,\"operational\",\"no path\",{\"x\":[1]}]",
+        "ok",
     ),
-    (
-        "[\"put\",0,\"operational\",\"/plain:box/a\",\"x\"]",
-        "clients/0/0",
-    ),
-    (
-        "[\"put\",0,\"config\",\"/plain:box/i\",\"x\"]",
-        "clients/0/0",
-    ),
-    ("[\"put\",0,\"config\",\"/plain:box\",\"x\"]", "clients/0/0"),
-    (
-        "[\"put\",0,\"config\",\"/plain:box/a/a\",\"x\"]",
-        "clients/0/0",
-    ),
-    ("[\"put\",0,\"config\",\"/plain:box/a\",1]", "clients/0/0"),
-    ("[\"put\",0,\"config\",\"/plain:box/a\"]", "clients/0/0"),
-    (
-        "[\"put\",0,\"config\",\"/plain:box/a\",\"x\",\"y\"]",
-        "clients/0/0",
-    ),
+    ("[\"put\",0,\"config\",\"\",null]", "ok"),
+    ("[\"put\",1.0,\"config\",\"/\",\"x\"]", "clients/0/0"),
+    ("[\"put\",0,\"oper\",\"/\",\"x\"]", "clients/0/0"),
+    ("[\"put\",0,\"config\",[],\"x\"]", "clients/0/0"),
+    ("[\"put\",0,\"config\",\"/\"]", "clients/0/0"),
+    ("[\"put\",0,\"config\",\"/\",1,2]", "clients/0/0"),
+    ("[\"merge\",0,\"operational\",\"/\",{}]", "ok"),
+    ("[\"merge\",256,\"config\",\"/\",{}]", "clients/0/0"),
+    ("[\"merge\",0,\"config\",\"/\"]", "clients/0/0"),
+    ("[\"delete\",0,\"config\",\"/\"]", "ok"),
+    ("[\"delete\",0,\"Config\",\"/\"]", "clients/0/0"),
+    ("[\"delete\",0,\"config\",\"/\",{}]", "clients/0/0"),
+    ("[\"delete\",0,\"config\"]", "clients/0/0"),
     ("[\"read\",0,\"config\",\"/plain:box/b\"]", "ok"),
     (
         "[\"read\",\"0\",\"config\",\"/plain:box/b\"]",
@@ -100,10 +94,6 @@ const TEXTS: [(&str, &str); 80] = [
     ("{\"oper\":{}}", "script"),
     (
         "{\"modules\":[],\"clients\":[{\"steps\":[[\"put\",0,\"config\",\"/plain:box/a\",\"\"]]}]}",
-        "clients/0/0",
-    ),
-    (
-        "{\"modules\":[],\"clients\":[{\"steps\":[[\"read\",0,\"config\",\"/plain:box/a\"]]}]}",
         "ok",
     ),
     ("{\"clients\":0,\"config\":0}", "config"),
@@ -116,6 +106,10 @@ const TEXTS: [(&str, &str); 80] = [
     ("[\"submit\",-1]", "clients/0/0"),
     ("[\"submit\"]", "clients/0/0"),
     ("[\"submit\",7,7]", "clients/0/0"),
+    ("[\"cancel\",7]", "ok"),
+    ("[\"cancel\",256]", "clients/0/0"),
+    ("[\"cancel\"]", "clients/0/0"),
+    ("[\"cancel\",7,0]", "clients/0/0"),
     ("[\"settle\",255]", "ok"),
     ("[\"settle\",256]", "clients/0/0"),
     ("[\"settle\",7,7]", "clients/0/0"),
@@ -137,8 +131,8 @@ fn with_step(alloc: Global, step: &str) -> Result<String, Fail> {
     Ok(format!(in alloc; "{{\"clients\":[{{\"steps\":[{step}]}}]}}")?)
 }
 
-// A script with so many clients, each with so many steps.
-fn with_many(alloc: Global, clients: usize, steps: usize) -> Result<String, Fail> {
+// A script with so many clients, each with so many of this step.
+fn with_many(alloc: Global, clients: usize, steps: usize, step: &str) -> Result<String, Fail> {
     let mut text = String::from_str(alloc, "{\"clients\":[")?;
     for client in 0..clients {
         text.push_str(if client == 0 {
@@ -146,12 +140,9 @@ fn with_many(alloc: Global, clients: usize, steps: usize) -> Result<String, Fail
         } else {
             ",{\"steps\":["
         })?;
-        for step in 0..steps {
-            text.push_str(if step == 0 {
-                "[\"submit\",1]"
-            } else {
-                ",[\"submit\",1]"
-            })?;
+        for number in 0..steps {
+            text.push_str(if number == 0 { "" } else { "," })?;
+            text.push_str(step)?;
         }
         text.push_str("]}")?;
     }
@@ -180,18 +171,18 @@ fn first_bad_places(rt: HostRuntime) -> Result<(), Fail> {
 #[test]
 fn limits_and_bytes(rt: HostRuntime) -> Result<(), Fail> {
     let alloc = rt.alloc();
-    for (clients, steps, want) in [
-        (16, 0, "ok"),
-        (17, 0, "clients"),
-        (2, 256, "ok"),
-        (2, 257, "clients/0"),
-        (16, 256, "ok"),
+    for (clients, steps, step, want) in [
+        (16, 1, "[\"submit\",1]", "ok"),
+        (17, 1, "[\"submit\",1]", "clients"),
+        (1, 60000, "[\"submit\",1]", "ok"),
+        (2, 60000, "0", "clients/0/0"),
+        (2, 60001, "0", "clients/0"),
     ] {
-        let script = with_many(alloc, clients, steps)?;
+        let script = with_many(alloc, clients, steps, step)?;
         let place = place_of(alloc, script.as_bytes())?;
         assert!(rt;
             place.as_str() == want,
-            "{clients} clients with {steps} steps"
+            "{clients} clients with {steps} steps {step}"
         );
     }
     let place = place_of(alloc, b"{\"clients\":[{\"steps\":[[\"\xff\"]]}]}")?;
@@ -226,8 +217,8 @@ fn a_script_is_read(rt: HostRuntime) -> Result<(), Fail> {
             slot: 3,
             store: Store::Config,
             path,
-            text,
-        } => text.as_str() == "é" && path.as_str() == "/plain:box/c",
+            value,
+        } => matches!(value.as_str(), Some("é")) && path.as_str() == "/plain:box/c",
         _ => false,
     };
     assert!(rt; is_put);

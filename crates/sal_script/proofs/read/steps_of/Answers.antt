@@ -1,7 +1,7 @@
 use Rattle.std.proofs.Common.{option_map, ap, sym, ◌∙◌}
 use Rattle.sal_script.specs.Moves.{moves_of, move_of}
 use Rattle.sal_script.specs.Script.{or_bad, step_place}
-use Rattle.sal_script.proofs.Each.{each_next, each_fails, each_done}
+use Rattle.sal_script.proofs.Each.{each_fails, each_done}
 use Rattle.sal_script.proofs.Readers.{step_at, steps_from-each, fault_at}
 use Rattle.sal_script.proofs.read.steps_of.Goals as goal
 

@@ -1,0 +1,74 @@
+//! Structural rules that are broken, and paths, in words.
+ghost use Rattle.std.specs.Prelude.{◌≡◌, ◌∷◌, ◌++◌, IfOk, OnOk, string_bytes};
+ghost use Rattle.sal_script.specs.Report as spec;
+
+use crate::pieces::{push_path, push_word};
+use sal_rows::{Breach, Rule};
+use sal_schema::Schema;
+use sal_types::{NoMemory, Path, Str};
+use std::alloc::Global;
+
+/// A space and a path as a JSON text. It fails only where memory runs out.
+pub fn path_words(alloc: Global, schema: &Schema, path: &Path) -> Result<Str, NoMemory>
+    ensures { IfOk result (λ text. text ≡ spec.path_text schema.now path.now) }
+{
+    let mut text = String::new(alloc);
+    push_path(alloc, &mut text, schema, path)?;
+    Ok(Str::from_string(text))
+}
+
+/// A space and where a rule is broken, as a JSON text, and behind it which: its word, and the node that states it with its
+/// module, as `max-elements shop:seen`. A number of no node stands for empty names. It fails only where memory runs out.
+pub fn breach_text(alloc: Global, schema: &Schema, breach: &Breach) -> Result<Str, NoMemory>
+    ensures { IfOk result (λ text. text ≡ spec.breach_text schema.now breach.now.path breach.now.rule) }
+{
+    let mut text = String::new(alloc);
+    push_breach(alloc, &mut text, schema, &breach.path, breach.rule)?;
+    Ok(Str::from_string(text))
+}
+
+pub(crate) fn push_breach(
+    alloc: Global,
+    text: &mut String,
+    schema: &Schema,
+    path: &Path,
+    rule: Rule,
+) -> Result<(), NoMemory>
+    ensures { OnOk result (string_bytes text.new ≡ string_bytes text.old ++ spec.breach_text schema.now path.now rule) }
+{
+    push_path(alloc, text, schema, path)?;
+    text.push(' ')?;
+    push_rule(text, schema, rule)
+}
+
+fn push_rule(text: &mut String, schema: &Schema, rule: Rule) -> Result<(), NoMemory>
+    ensures { OnOk result (string_bytes text.new ≡ string_bytes text.old ++ spec.rule_text schema.now rule) }
+{
+    match rule {
+        Rule::Mandatory(node) => push_stated(text, schema, "mandatory ", node),
+        Rule::MinElements(node) => push_stated(text, schema, "min-elements ", node),
+        Rule::MaxElements(node) => push_stated(text, schema, "max-elements ", node),
+        Rule::Unique(node) => push_stated(text, schema, "unique ", node),
+        Rule::TwoCases(node) => push_stated(text, schema, "two-cases ", node),
+    }
+}
+
+// A word and the node that states the rule.
+fn push_stated(text: &mut String, schema: &Schema, word: &str, node: u32) -> Result<(), NoMemory>
+    ensures { OnOk result (string_bytes text.new ≡ string_bytes text.old ++ (word.now ++ spec.node_text schema.now node)) }
+{
+    text.push_str(word)?;
+    push_node(text, schema, node)
+}
+
+// The name of a node with that of its module.
+fn push_node(text: &mut String, schema: &Schema, node: u32) -> Result<(), NoMemory>
+    ensures { OnOk result (string_bytes text.new ≡ string_bytes text.old ++ spec.node_text schema.now node) }
+{
+    if node >= schema.len() {
+        return push_word(text, ":");
+    }
+    text.push_str(schema.module_name(schema.module_of(node)))?;
+    text.push(':')?;
+    push_word(text, schema.name_of(node))
+}

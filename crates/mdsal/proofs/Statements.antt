@@ -1,6 +1,6 @@
 -- The statements of texts, one after another.
-use Rattle.std.proofs.Common.{◌≡◌, ℕ, ◌+◌, ◌<◌, ◌≤◌, List, [], ◌∷◌, ◌++◌, length, get_or, drop, Result, Ok, Err, append_assoc, append-nil, refl, ap, sym, ◌∙◌}
-use Rattle.std.proofs.lemmas.List.{drop_more, drop_all}
+use Rattle.std.proofs.Common.{◌≡◌, ℕ, ◌+◌, ◌<◌, List, [], ◌∷◌, ◌++◌, length, get_or, drop, Result, Ok, Err, append_assoc, refl, ap, sym, ◌∙◌}
+use Rattle.std.proofs.lemmas.List.{drop_more}
 use Rattle.std.specs.Result.{IsErrAnd}
 use Rattle.sal_types.specs.Reading.{◌>>=◌}
 use Rattle.sal_stmt.specs.declared.stmt.Stmt.{Stmt}

@@ -1,5 +1,5 @@
 -- What each status of the command says.
-use Rattle.std.specs.Prelude.{true, false, ◌≡◌, ℕ, ◌≤◌, ⊤, List, [], ◌∷◌, ◌++◌, codes, decimal, if◌then◌else◌, MatchResult, Option, None, Some, Result, Ok, Err, length}
+use Rattle.std.specs.Prelude.{◌≡◌, ℕ, ◌≤◌, ⊤, List, [], ◌∷◌, ◌++◌, codes, decimal, if◌then◌else◌, MatchResult, Option, None, Some, Result, Ok, Err, length}
 use Rattle.std.specs.List.{list_any}
 use Rattle.std.specs.Io.KnownBytes.{Appends}
 use Rattle.sal_io.specs.Transfer.{TakesAll, TakesSome, TakesFront}

@@ -1,8 +1,7 @@
 -- A begin: what is kept stays, and the transaction is one that the log gives.
-use Rattle.std.proofs.Common.{◌≡◌, ℕ, ◌<◌, ◌≤◌, Bool, true, false, List, [], ◌∷◌, ◌++◌, length, map, take, None, Some, refl, ap, sym, ◌∙◌, subst, arith, length-append, if◌then◌else◌}
+use Rattle.std.proofs.Common.{◌≡◌, ℕ, true, List, [], ◌∷◌, ◌++◌, length, map, take, None, Some, refl, ap, sym, ◌∙◌, subst, arith, length-append, if◌then◌else◌}
 use Rattle.std.specs.Prelude.{slice_get, option_and_then}
 use Rattle.std.proofs.Math.Seq.{take-append_seam}
-use Rattle.sal_types.specs.declared.value.Store.{Store}
 use Rattle.sal_rows.specs.declared.outcome.Mode.{Mode}
 use Rattle.sal_rows.specs.declared.outcome.CallFault.TheVariants.{NoDomain}
 use Rattle.sal_rows.specs.Commits.{tree_after}
@@ -13,13 +12,13 @@ use Rattle.sal_history.specs.declared.call.Call.TheVariants.{Begin}
 use Rattle.sal_history.specs.declared.call.Entry.{Entry}
 use Rattle.sal_history.specs.declared.reply.Reply.TheVariants.{Begun, Refused}
 use Rattle.sal_history.specs.World as world
-use Rattle.sal_history.specs.History.{Answered, Base, answer, began, began_at, commits, entries_of, history, is_live, newest_tree, reply_to}
+use Rattle.sal_history.specs.History.{Answered, Base, began, began_at, commits, entries_of, history, is_live, newest_tree}
 use Rattle.sal_hub.specs.declared.pipeline.Pipeline.{Pipeline}
 use Rattle.sal_hub.specs.Current.{IsCurrent, IsKept, answers, known_of}
 use Rattle.sal_hub.specs.Journals.{Noted, jotted, mark_at}
 use Rattle.sal_hub.specs.Lines.{IsStored, line_of, shown, world_in}
 use Rattle.sal_hub.specs.Starts.{Starts}
-use Rattle.sal_hub.specs.Tokens.{IsToken, base_of, begun_of}
+use Rattle.sal_hub.specs.Tokens.{IsToken, begun_of}
 use Rattle.sal_hub.proofs.Deciding.{opening-at, table-at}
 use Rattle.sal_hub.proofs.Histories.{history-push, length-history, now_of}
 use Rattle.sal_hub.proofs.Keeping.{commits-current, quiet}

@@ -5,7 +5,6 @@ use Rattle.std.specs.Option.{option_map}
 use Rattle.std.proofs.lemmas.List.{get_or-take, length-map, length-take, map-append, map-set, take_more}
 use Rattle.std.proofs.lemmas.List.Elements.{All-set}
 use Rattle.std.proofs.lemmas.Option.{same_Some, slice_get-map}
-use Rattle.sal_types.specs.declared.value.Store.{Store}
 use Rattle.sal_rows.specs.declared.op.Op.{Op}
 use Rattle.sal_rows.specs.declared.outcome.Outcome.{Outcome}
 use Rattle.sal_rows.specs.Commits.{tree_after, tree_at}
@@ -17,8 +16,7 @@ use Rattle.sal_commit.specs.Domains.{IsSame}
 use Rattle.sal_history.specs.World.{Domain}
 use Rattle.sal_history.specs.History.{Sent, decide_front, decide_next}
 use Rattle.sal_hub.specs.declared.pipeline.Pipeline.{Pipeline}
-use Rattle.sal_hub.specs.Lines.{AllKept, AreDecided, Grows, HasGrown, HaveGrown, IsSound, Line, Shown, counts_of, cut_all, line_of, sent_of, sents_in, shown, world_in}
-use Rattle.sal_hub.proofs.Deciding.{Grows-same}
+use Rattle.sal_hub.specs.Lines.{AllKept, AreDecided, HasGrown, HaveGrown, IsSound, Line, Shown, counts_of, cut_all, line_of, sent_of, sents_in, shown, world_in}
 use Rattle.sal_hub.proofs.Listed.{Grows-then, slice_get_at, take-Grows}
 
 -- ---- commits

@@ -1,5 +1,5 @@
 -- What one more decision does.
-use Rattle.std.proofs.Common.{◌≡◌, ℕ, zero, suc, ◌+◌, ◌-◌, ◌<◌, ◌≤◌, true, false, List, [], ◌∷◌, ◌++◌, length, map, get_or, set, take, Option, None, Some, refl, ap, sym, ◌∙◌, subst, arith, append_assoc, append-nil, length-append, if◌then◌else◌, nat_eq, inl, inr}
+use Rattle.std.proofs.Common.{◌≡◌, ℕ, zero, suc, ◌-◌, ◌<◌, ◌≤◌, true, false, List, [], ◌∷◌, ◌++◌, length, map, get_or, set, Option, Some, refl, ap, sym, ◌∙◌, subst, arith, append_assoc, append-nil, length-append, if◌then◌else◌, nat_eq, inl, inr}
 use Rattle.std.specs.Prelude.{slice_get}
 use Rattle.std.specs.Option.{option_map}
 use Rattle.std.proofs.lemmas.Option.{same_Some, slice_get-map, slice_get_within, get_or_from_slice_get}
@@ -12,8 +12,6 @@ use Rattle.sal_types.specs.declared.row.Row.{Row}
 use Rattle.sal_rows.specs.declared.op.Op.{Op}
 use Rattle.sal_rows.specs.declared.outcome.Outcome.{Outcome}
 use Rattle.sal_rows.specs.Commits.{Span, tree_after, tree_at}
-use Rattle.sal_tree.specs.declared.commit.Commit.{Commit}
-use Rattle.sal_schema.specs.declared.table.SchemaTable.{SchemaTable}
 use Rattle.sal_graft.specs.Kept.{AreKept, opening_in, ops_of, rows_in}
 use Rattle.sal_graft.proofs.KeptLemmas.{length-ops_of}
 use Rattle.sal_tx.specs.declared.tx.Submission.{Submission}
@@ -23,8 +21,7 @@ use Rattle.sal_commit.specs.Deciding as commit
 use Rattle.sal_commit.specs.Domains.{IsSame}
 use Rattle.sal_history.specs.Outcome as rules
 use Rattle.sal_history.specs.World.{opening_of, table_of}
-use Rattle.sal_history.specs.World as world
-use Rattle.sal_history.specs.History.{Sent, decide_front, decide_next, done_ops, is_live, ops_if_done, outcome, trees_at}
+use Rattle.sal_history.specs.History.{Sent, decide_front, done_ops, is_live, ops_if_done, outcome, trees_at}
 use Rattle.sal_hub.specs.declared.pipeline.Pipeline.{Pipeline}
 use Rattle.sal_hub.specs.Lines.{AllKept, AreDecided, Grows, HasGrown, HaveGrown, IsSound, IsStored, Line, Shown, Stands, commits_in, line_of, opened_as, sent_of, sents_in, shown, world_in}
 use Rattle.sal_hub.proofs.Listed.{slice_get-set, slice_get_at}

@@ -1,10 +1,10 @@
 -- What one more entry does to the answered log.
-use Rattle.std.proofs.Common.{◌≡◌, ℕ, zero, suc, ◌+◌, ◌<◌, ◌≤◌, Bool, true, false, List, [], ◌∷◌, ◌++◌, length, nat_eq, take, drop, Option, None, Some, refl, ap, sym, ◌∙◌, subst, arith, append-nil, append_assoc, length-append, if◌then◌else◌}
+use Rattle.std.proofs.Common.{◌≡◌, ℕ, zero, suc, ◌+◌, ◌<◌, ◌≤◌, true, false, List, [], ◌∷◌, ◌++◌, length, nat_eq, take, drop, Option, None, Some, refl, ap, sym, ◌∙◌, subst, arith, append-nil, append_assoc, length-append, if◌then◌else◌}
 use Rattle.std.specs.Prelude.{slice_get, option_and_then, ◌||◌}
 use Rattle.std.specs.Option.{option_to_list}
-use Rattle.std.specs.List.{cons_option, fold, list_any}
+use Rattle.std.specs.List.{cons_option, fold}
 use Rattle.std.proofs.lemmas.Grind.{flat_map-append}
-use Rattle.std.proofs.lemmas.List.{take-append-le, take-append-drop, take_all}
+use Rattle.std.proofs.lemmas.List.{take-append-le, take-append-drop}
 use Rattle.std.proofs.lemmas.List.Folds.{list_any-append}
 use Rattle.std.proofs.lemmas.List.Sums.{fold-append}
 use Rattle.std.proofs.lemmas.List.Elements.{filter_map-append}
@@ -12,18 +12,16 @@ use Rattle.std.proofs.lemmas.Bool.Decides.{nat_tests}
 use Rattle.std.proofs.lemmas.Option.{same_Some}
 use Rattle.sal_types.specs.declared.value.Store.{Store}
 use Rattle.sal_rows.specs.declared.op.Op.{Op}
-use Rattle.sal_rows.specs.declared.outcome.Mode.{Mode}
 use Rattle.sal_rows.specs.declared.outcome.Outcome.{Outcome}
 use Rattle.sal_rows.specs.declared.outcome.CallFault.TheVariants.{NoDomain}
 use Rattle.sal_history.specs.declared.call.Call.{Call}
 use Rattle.sal_history.specs.declared.call.Call.TheVariants.{Begin, Submit, Cancel, Settle}
 use Rattle.sal_history.specs.declared.call.Entry.{Entry}
-use Rattle.sal_history.specs.declared.reply.Reply.{Reply}
 use Rattle.sal_history.specs.declared.reply.Reply.TheVariants.{Begun, Refused}
 use Rattle.sal_history.specs.World.{Domain}
 use Rattle.sal_history.specs.History.{Answered, Base, Sent, answer, base_tree, began, began_at, commits, decided_by, done_ops, history, is_live, is_spent, newest_tree, ops_if_done, outcomes, reply_to, sent_by, sents, spends}
 use Rattle.sal_hub.specs.Lines.{Grows}
-use Rattle.sal_hub.proofs.Listed.{Grows-then, length-Grows, slice_get_left, slice_get_seam}
+use Rattle.sal_hub.proofs.Listed.{Grows-then, slice_get_left, slice_get_seam}
 
 -- commits are not taken back
 done_ops-grows : (n : ℕ) (ss ts : List Sent) (os ps : List Outcome) → Grows (done_ops n ss os) (done_ops n (ss ++ ts) (os ++ ps))

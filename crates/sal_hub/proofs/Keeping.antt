@@ -1,25 +1,21 @@
 -- What is kept stays the log's with each call.
-use Rattle.std.proofs.Common.{◌≡◌, ℕ, suc, ◌+◌, ◌-◌, ◌<◌, ◌≤◌, Bool, true, false, List, [], ◌∷◌, ◌++◌, length, map, Option, None, Some, refl, ap, sym, ◌∙◌, subst, arith, append-nil, length-append, nat_eq, nat_lt, if◌then◌else◌, inl, inr}
-use Rattle.std.specs.Prelude.{slice_get, unwrap_or, ◌||◌}
+use Rattle.std.proofs.Common.{◌≡◌, ℕ, ◌-◌, ◌≤◌, Bool, true, false, List, [], ◌∷◌, ◌++◌, length, map, Option, None, Some, refl, ap, sym, ◌∙◌, subst, arith, append-nil, length-append, inl, inr}
+use Rattle.std.specs.Prelude.{slice_get, ◌||◌}
 use Rattle.std.specs.Option.{option_map, option_to_list}
 use Rattle.std.proofs.lemmas.List.{length-map, map-append}
 use Rattle.std.proofs.lemmas.Option.{slice_get-map}
-use Rattle.sal_types.specs.declared.value.Store.{Store}
 use Rattle.sal_rows.specs.declared.op.Op.{Op}
-use Rattle.sal_rows.specs.declared.outcome.CallFault.{CallFault}
-use Rattle.sal_rows.specs.declared.outcome.Mode.{Mode}
 use Rattle.sal_rows.specs.declared.outcome.Outcome.{Outcome}
 use Rattle.sal_tx.specs.declared.tx.Submission.{Submission}
-use Rattle.sal_history.specs.declared.call.Call.{Call}
-use Rattle.sal_history.specs.declared.call.Call.TheVariants.{Begin, Submit, Cancel, Settle}
+use Rattle.sal_history.specs.declared.call.Call.TheVariants.{Settle}
 use Rattle.sal_history.specs.declared.call.Entry.{Entry}
 use Rattle.sal_history.specs.declared.reply.Reply.{Reply}
-use Rattle.sal_history.specs.declared.reply.Reply.TheVariants.{Receipt, Refused, Settled}
+use Rattle.sal_history.specs.declared.reply.Reply.TheVariants.{Settled}
 use Rattle.sal_history.specs.World.{Domain}
-use Rattle.sal_history.specs.History.{Answered, Base, Sent, began_at, commits, decide_next, decided_by, done_ops, history, is_spent, outcomes, pending, reply_to, sent_by, sents, settled, spends, submitted, trees_at}
+use Rattle.sal_history.specs.History.{Answered, Sent, commits, decide_next, decided_by, done_ops, history, is_spent, outcomes, reply_to, sent_by, sents, settled, spends, trees_at}
 use Rattle.sal_hub.specs.Current.{IsCurrent, answers}
 use Rattle.sal_hub.specs.Journals.{mark_at}
-use Rattle.sal_hub.specs.Lines.{AreDecided, IsSound, IsStored, Line, Shown, Stands, commits_in, sent_of, sents_in, world_in}
+use Rattle.sal_hub.specs.Lines.{AreDecided, IsSound, Line, Stands, commits_in, sent_of, sents_in, world_in}
 use Rattle.sal_hub.proofs.Deciding.{done_ops-submit}
 use Rattle.sal_hub.proofs.Histories.{outcomes-push, sents-push, spent-push}
 use Rattle.sal_hub.proofs.Listed.{last_or_before}

@@ -1,5 +1,5 @@
 -- The domains that devices open, and what is refused.
-use Rattle.std.proofs.Common.{◌≡◌, ℕ, zero, suc, ◌+◌, ◌<◌, ◌≤◌, List, [], ◌∷◌, ◌++◌, length, map, Option, None, Some, refl, ap, sym, ◌∙◌, subst, arith, inl, inr, ◌⊎◌}
+use Rattle.std.proofs.Common.{◌≡◌, ℕ, zero, suc, ◌+◌, ◌≤◌, List, [], ◌∷◌, length, map, Option, None, Some, refl, ap, sym, ◌∙◌, subst, arith, inl, inr, ◌⊎◌}
 use Rattle.std.specs.Prelude.{slice_get}
 use Rattle.std.specs.Option.{option_map, option_or}
 use Rattle.std.proofs.lemmas.Option.{same_Some}
@@ -17,7 +17,7 @@ use Rattle.sal_hub.specs.declared.opening.OpenFault.TheVariants.{Broken, NotConf
 use Rattle.sal_hub.specs.declared.pipeline.Pipeline.{Pipeline}
 use Rattle.sal_hub.specs.Current.{IsCurrent, IsKept}
 use Rattle.sal_hub.specs.Journals.{Noted}
-use Rattle.sal_hub.specs.Lines.{AllKept, IsSound, IsStored, Line, Shown, line_of, opened_as, shown, world_in}
+use Rattle.sal_hub.specs.Lines.{AllKept, Line, Shown, line_of, shown, world_in}
 use Rattle.sal_hub.specs.Opened.{shown_from, shown_of}
 use Rattle.sal_hub.specs.Openings.{domain_of, opening_fault, state_row, world_of}
 

@@ -1,23 +1,21 @@
 -- What a hub answers of its domains.
-use Rattle.std.proofs.Common.{◌≡◌, ℕ, ◌-◌, ◌<◌, ◌≤◌, true, List, length, map, get_or, Some, ap, sym, ◌∙◌, subst, arith}
+use Rattle.std.proofs.Common.{◌≡◌, ℕ, ◌-◌, ◌<◌, List, length, map, get_or, Some, ap, sym, ◌∙◌, subst, arith}
 use Rattle.std.specs.Prelude.{slice_get}
 use Rattle.std.specs.Option.{option_map}
 use Rattle.std.proofs.lemmas.List.{length-map}
 use Rattle.std.proofs.lemmas.Option.{slice_get-map}
 use Rattle.sal_types.specs.declared.value.Store.{Store}
-use Rattle.sal_rows.specs.declared.op.Op.{Op}
 use Rattle.sal_rows.specs.Commits.{tree_after}
 use Rattle.sal_graft.specs.Clash.{tip}
 use Rattle.sal_graft.specs.Kept.{AreKept, opening_in, ops_of}
 use Rattle.sal_graft.proofs.KeptLemmas.{length-ops_of}
 use Rattle.sal_commit.specs.declared.domain.Domain.{Domain}
-use Rattle.sal_history.specs.World.{opening_of}
 use Rattle.sal_history.specs.History.{commits, is_live, newest_tree}
 use Rattle.sal_hub.specs.declared.pipeline.Pipeline.{Pipeline}
 use Rattle.sal_hub.specs.Current.{IsKept, answers, known_of}
 use Rattle.sal_hub.specs.Domains.{AreDomains, IsDomain}
 use Rattle.sal_hub.specs.Journals.{Noted}
-use Rattle.sal_hub.specs.Lines.{AllKept, IsSound, IsStored, line_of, opened_as, shown, world_in}
+use Rattle.sal_hub.specs.Lines.{AllKept, IsSound, line_of, opened_as, shown, world_in}
 use Rattle.sal_hub.proofs.Deciding.{opening-at, table-at}
 use Rattle.sal_hub.proofs.Keeping.{commits-current}
 use Rattle.sal_hub.proofs.Listed.{slice_get_at}

@@ -1,8 +1,7 @@
 -- A settle and a cancel: what is kept stays the log's, and the answer is the log's.
-use Rattle.std.proofs.Common.{◌≡◌, ℕ, ◌+◌, ◌-◌, ◌<◌, ◌≤◌, Bool, List, [], ◌∷◌, ◌++◌, length, Some, refl, ap, sym, ◌∙◌, subst, arith, append-nil, nat_eq}
+use Rattle.std.proofs.Common.{◌≡◌, ℕ, ◌-◌, ◌<◌, ◌≤◌, List, length, Some, refl, sym, ◌∙◌, subst, arith, append-nil, nat_eq}
 use Rattle.std.specs.Prelude.{slice_get, ◌||◌}
 use Rattle.sal_rows.specs.declared.outcome.Outcome.{Outcome}
-use Rattle.sal_tx.specs.declared.tx.Submission.{Submission}
 use Rattle.sal_history.specs.declared.call.Call.TheVariants.{Cancel, Settle}
 use Rattle.sal_history.specs.declared.call.Entry.{Entry}
 use Rattle.sal_history.specs.declared.reply.Reply.TheVariants.{Settled}
@@ -11,8 +10,7 @@ use Rattle.sal_hub.specs.declared.pipeline.Pipeline.{Pipeline}
 use Rattle.sal_hub.specs.Answers.{Made}
 use Rattle.sal_hub.specs.Current.{IsCurrent, IsKept, known_of}
 use Rattle.sal_hub.specs.Journals.{Noted, jotted, mark_at}
-use Rattle.sal_hub.specs.Known.{Known}
-use Rattle.sal_hub.specs.Lines.{AllKept, AreDecided, Line, line_of, sents_in, world_in}
+use Rattle.sal_hub.specs.Lines.{AllKept, AreDecided, line_of, sents_in, world_in}
 use Rattle.sal_hub.specs.Tokens.{IsGiven}
 use Rattle.sal_hub.proofs.Histories.{sents-few}
 use Rattle.sal_hub.proofs.Keeping.{length-submissions, pushed, reply-settle, settled-current}
@@ -27,8 +25,8 @@ cancel_kept journal journal' p is client place log marks =
     record {
       kept = is.kept;
       current = subst (λ (l : List Entry). IsCurrent l journal'.marks (line_of p)) (sym log)
-      (pushed journal.log journal.marks (line_of p) is.current e (line_of p) journal'.marks is.current.sound refl
-        (sym (append-nil (sents_in (line_of p)))) (sym (append-nil (line_of p).outcomes)) (λ k. marks k ∙ swapped (nat_eq place k) (mark_at journal.marks k)));
+          (pushed journal.log journal.marks (line_of p) is.current e (line_of p) journal'.marks is.current.sound refl
+          (sym (append-nil (sents_in (line_of p)))) (sym (append-nil (line_of p).outcomes)) (λ k. marks k ∙ swapped (nat_eq place k) (mark_at journal.marks k)));
     }
 
 -- ---- settle
@@ -46,7 +44,7 @@ module _ (journal journal' : Noted) (p p' : Pipeline) (is : IsKept journal p) (c
   settled_kept kept marks = record {
     kept = kept;
     current = subst (λ (l : List Entry). IsCurrent l journal'.marks (line_of p')) (sym log)
-    (settled-current journal.log journal.marks (line_of p) is.current receipt client (entries_of journal.log client) (line_of p') journal'.marks decided marks);
+        (settled-current journal.log journal.marks (line_of p) is.current receipt client (entries_of journal.log client) (line_of p') journal'.marks decided marks);
   }
 
   pub settled_made : (o : Outcome) → length journal.log < 1000000 → IsGiven (known_of journal p) receipt → slice_get p'.outcomes.items (receipt - 1) ≡ Some o → Made (known_of journal p) (known_of journal' p') (record { client = client; number = entries_of journal.log client; call = Settle receipt }) (Settled 0 o)

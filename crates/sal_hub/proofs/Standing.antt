@@ -1,17 +1,14 @@
 -- What a transaction that was begun stands on.
-use Rattle.std.proofs.Common.{◌≡◌, ℕ, ◌<◌, ◌≤◌, List, ◌∷◌, [], length, take, drop, Some, refl, ap, sym, ◌∙◌, subst, arith}
-use Rattle.std.specs.List.{fold}
+use Rattle.std.proofs.Common.{◌≡◌, ◌≤◌, List, length, take, drop, ap, sym, ◌∙◌, subst, arith}
 use Rattle.std.proofs.lemmas.List.{length-take-le}
 use Rattle.sal_types.specs.declared.value.Store.{Store}
-use Rattle.sal_rows.specs.declared.op.Op.{Op}
 use Rattle.sal_rows.specs.Commits.{tree_after}
 use Rattle.sal_tree.specs.declared.commit.Pair.{Pair}
 use Rattle.sal_graft.specs.Kept.{rows_in}
 use Rattle.sal_tx.specs.declared.begun.Begun.{Begun}
 use Rattle.sal_history.specs.declared.call.Entry.{Entry}
 use Rattle.sal_history.specs.World.{Domain, opening_of}
-use Rattle.sal_history.specs.History.{Answered, Base, answer, began_at, commits, history, trees_at}
-use Rattle.sal_hub.specs.Known.{Known}
+use Rattle.sal_history.specs.History.{Answered, Base, began_at, commits, history, trees_at}
 use Rattle.sal_hub.specs.Lines.{Grows}
 use Rattle.sal_hub.specs.Tokens.{IsBegun}
 use Rattle.sal_hub.proofs.Listed.{length-Grows, take-Grows}

@@ -2,7 +2,6 @@
 use Rattle.std.proofs.Common.{◌≡◌, ℕ, ◌+◌, ◌-◌, ◌<◌, ◌≤◌, Bool, true, false, List, [], ◌∷◌, ◌++◌, length, map, Option, None, Some, refl, ap, sym, ◌∙◌, subst, arith, append-nil, length-append, if◌then◌else◌, nat_eq, nat_lt}
 use Rattle.std.specs.Prelude.{unwrap_or, ◌||◌}
 use Rattle.std.specs.Option.{option_to_list}
-use Rattle.std.proofs.lemmas.List.{length-map}
 use Rattle.std.proofs.lemmas.Option.{same_Some}
 use Rattle.sal_rows.specs.declared.op.Op.{Op}
 use Rattle.sal_rows.specs.Apply.{rows_of_act}
@@ -21,13 +20,13 @@ use Rattle.sal_history.specs.declared.call.Entry.{Entry}
 use Rattle.sal_history.specs.declared.reply.Reply.{Reply}
 use Rattle.sal_history.specs.declared.reply.Reply.TheVariants.{Receipt, Refused}
 use Rattle.sal_history.specs.World as world
-use Rattle.sal_history.specs.History.{Answered, Base, Sent, commits, entries_of, history, outcomes, pending, reply_to, sent_by, sents, spends, submitted, trees_at}
+use Rattle.sal_history.specs.History.{Answered, Base, Sent, commits, entries_of, outcomes, reply_to, sent_by, sents, spends, submitted, trees_at}
 use Rattle.sal_hub.specs.declared.pipeline.Pipeline.{Pipeline}
 use Rattle.sal_hub.specs.Answers.{Fails, Made}
 use Rattle.sal_hub.specs.Current.{IsCurrent, IsKept, answers, known_of}
 use Rattle.sal_hub.specs.Journals.{Noted, jotted, mark_at}
 use Rattle.sal_hub.specs.Known.{Known}
-use Rattle.sal_hub.specs.Lines.{AllKept, IsSound, Line, Stands, commits_in, line_of, sent_of, sents_in, shown, world_in}
+use Rattle.sal_hub.specs.Lines.{AllKept, Line, Stands, commits_in, line_of, sent_of, sents_in, shown, world_in}
 use Rattle.sal_hub.specs.Submits.{refusal_of, submission_of}
 use Rattle.sal_hub.specs.Tokens.{IsBegun, IsGiven}
 use Rattle.sal_hub.proofs.Keeping.{commits-current, length-submissions, pushed, quiet, sents-longer, sound-longer}
@@ -169,8 +168,8 @@ module _ (journal journal' : Noted) (p p' : Pipeline) (is : IsKept journal p) (c
       (sents-longer (line_of p) is.current.sound sub stands ∙ ap (λ (o : Option Sent). sents_in (line_of p) ++ option_to_list o) (sym sent_now))
       (sym (append-nil (line_of p).outcomes))
       (λ k.
-        marks k ∙ swapped (nat_eq tx.begun.place k) (mark_at journal.marks k)
-        ∙ ap (λ r. mark_at journal.marks k || spends (Submit tx.begun.place tx.changes) r k) (sym reply_now))
+      marks k ∙ swapped (nat_eq tx.begun.place k) (mark_at journal.marks k)
+      ∙ ap (λ r. mark_at journal.marks k || spends (Submit tx.begun.place tx.changes) r k) (sym reply_now))
 
   pub accepted_kept : IsKept journal' p'
   accepted_kept = record {

@@ -1,6 +1,6 @@
 -- What a shared call leaves: one entry more with the answer that the log gives, or, where the history is full or memory is
 -- wanting, all as it was.
-use Rattle.std.specs.Prelude.{◌≡◌, ℕ, ◌<◌, ◌≤◌, List, length, Result, MatchResult}
+use Rattle.std.specs.Prelude.{◌≡◌, ℕ, ◌<◌, ◌≤◌, length, Result, MatchResult}
 use Rattle.sal_rows.specs.declared.outcome.CallFault.{CallFault}
 use Rattle.sal_rows.specs.declared.outcome.CallFault.TheVariants.{HistoryFull, PipelineFull, NoDomain, NoMemory, TxSpent}
 use Rattle.sal_history.specs.declared.call.Entry.{Entry}

@@ -1,7 +1,6 @@
 -- What a hub keeps is what its log gives.
 use Rattle.std.specs.Prelude.{◌≡◌, ℕ, Bool, List}
 use Rattle.sal_history.specs.declared.call.Entry.{Entry}
-use Rattle.sal_history.specs.World.{Domain}
 use Rattle.sal_history.specs.History.{Answered, history, is_spent, outcomes, sents}
 use Rattle.sal_hub.specs.declared.pipeline.Pipeline.{Pipeline}
 use Rattle.sal_hub.specs.Journals.{Noted, mark_at}

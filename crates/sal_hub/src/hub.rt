@@ -154,13 +154,7 @@ impl Hub {
         if self.journal.is_full() {
             return Err((tx, CallFault::HistoryFull));
         }
-        submit(
-            alloc,
-            &mut self.pipeline,
-            &mut self.journal,
-            client,
-            tx,
-        )
+        submit(alloc, &mut self.pipeline, &mut self.journal, client, tx)
     }
 
     /// Gives the transaction up.
@@ -195,12 +189,6 @@ impl Hub {
             return Err(CallFault::HistoryFull);
         }
         let number = receipt.number() as usize;
-        settle(
-            alloc,
-            &mut self.pipeline,
-            &mut self.journal,
-            client,
-            number,
-        )
+        settle(alloc, &mut self.pipeline, &mut self.journal, client, number)
     }
 }

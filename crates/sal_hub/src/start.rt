@@ -33,12 +33,7 @@ pub(crate) fn last_commit(commits: &[Commit]) -> &Commit
 }
 
 /// A transaction that begins at the newest commit of the domain, as the entry at the place of the log.
-pub(crate) fn start(
-    alloc: Global,
-    domain: &Domain,
-    mode: Mode,
-    place: u64,
-) -> Result<Tx, NoMemory>
+pub(crate) fn start(alloc: Global, domain: &Domain, mode: Mode, place: u64) -> Result<Tx, NoMemory>
     requires kept { AreKept domain.now.commits.items }
     requires low { place < 2 ^ 63 - 1 }
     ensures { IfOk result (Starts domain.now mode place) }

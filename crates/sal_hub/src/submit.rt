@@ -65,12 +65,7 @@ fn refusal(pipeline: &Pipeline, journal: &Journal, place: usize) -> Option<CallF
 }
 
 // Adds the entry of a submit.
-fn note(
-    alloc: Global,
-    journal: &mut Journal,
-    client: u32,
-    tx: &WriteTx,
-) -> Result<(), NoMemory>
+fn note(alloc: Global, journal: &mut Journal, client: u32, tx: &WriteTx) -> Result<(), NoMemory>
     requires { length journal.old.log < limit }
     ensures log { OnOk result (journal.new.log ≡ jotted journal.old.log client (Submit tx.now.begun.place tx.now.changes)) }
     ensures marks { OnOk result ((k : ℕ) → mark_at journal.new.marks k ≡ mark_at journal.old.marks k) }

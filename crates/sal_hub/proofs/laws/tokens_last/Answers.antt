@@ -1,5 +1,5 @@
 -- The front of the log stays, and submissions are only added.
-use Rattle.std.proofs.Common.{◌≡◌, ◌≤◌, ◌<◌, ◌∷◌, [], length, sym, ◌∙◌, arith, length-append}
+use Rattle.std.proofs.Common.{◌∷◌, [], sym, ◌∙◌, arith, length-append}
 use Rattle.sal_hub.proofs.Histories.{base_tree-push, began_at-push, sents-grow}
 use Rattle.sal_hub.proofs.laws.tokens_last.Goals as goal
 

@@ -2,7 +2,7 @@
 use Rattle.std.proofs.Common.{◌≡◌, ap, ◌∙◌}
 use Rattle.sal_history.specs.declared.call.Call.TheVariants.{Begin}
 use Rattle.sal_hub.specs.Journals.{jotted}
-use Rattle.sal_hub.specs.Lines.{line_of, shown}
+use Rattle.sal_hub.specs.Lines.{shown}
 use Rattle.sal_hub.proofs.Beginning.{begin_kept, begun_token}
 use Rattle.sal_hub.proofs.start.begin.Goals as goal
 

@@ -30,7 +30,7 @@ returns-in-Ok-clause-answer c =
     sym (c.refusal.ensures ∙ ap (λ (b : Begun). refusal_of pending (mark_at c.args.journal.now.marks b.place)) c.begun.ensures) ∙ c.in-Some.is in (
       refl,
       fails_by (known_of c.args.journal.now p) (known_of c.note.new.journal p) (entry_of (known_of c.args.journal.now p) c.args.client (Submit tx.begun.place tx.changes)) pending (mark_at c.args.journal.now.marks tx.begun.place) c.in-Some.fault why
-      (refused_made c.args.journal.now c.note.new.journal p c.requires.kept c.args.client tx.begun.place tx.changes c.in-Ok.ensures.log c.in-Some.fault c.requires.room why),
+          (refused_made c.args.journal.now c.note.new.journal p c.requires.kept c.args.client tx.begun.place tx.changes c.in-Ok.ensures.log c.in-Some.fault c.requires.room why),
     )
 
 pub returns-in-Ok-accept-clause-kept : goal.returns-in-Ok-accept-clause-kept

@@ -1,8 +1,5 @@
 -- The newest trees are the log's.
 use Rattle.std.proofs.Common.{refl, ap, ◌∙◌}
-use Rattle.sal_tree.specs.declared.commit.Commit.{Commit}
-use Rattle.sal_graft.specs.Clash.{tip}
-use Rattle.sal_graft.specs.Kept.{opening_in, ops_of}
 use Rattle.sal_history.specs.History.{newest_tree}
 use Rattle.sal_hub.specs.Known.{Known}
 use Rattle.sal_hub.proofs.Serving.{some_domain, tip_is}

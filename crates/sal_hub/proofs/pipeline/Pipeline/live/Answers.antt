@@ -1,5 +1,5 @@
 -- The mark of the domain is the log's.
-use Rattle.std.proofs.Common.{◌≡◌, ◌<◌, length, sym, ◌∙◌, arith}
+use Rattle.std.proofs.Common.{◌<◌, length, sym, ◌∙◌, arith}
 use Rattle.std.proofs.lemmas.Grind.{common_steps}
 use Rattle.sal_hub.proofs.Serving.{live_at, shown_at}
 use Rattle.sal_hub.proofs.pipeline.Pipeline.live.Goals as goal

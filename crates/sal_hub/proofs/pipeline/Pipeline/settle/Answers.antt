@@ -1,7 +1,6 @@
 -- What was decided before memory was wanting is taken back.
-use Rattle.std.proofs.Common.{◌≡◌, List, length, map, take, ap, sym, ◌∙◌, arith}
+use Rattle.std.proofs.Common.{◌≡◌, List, length, map, take, ap, ◌∙◌, arith}
 use Rattle.std.proofs.lemmas.Grind.{common_steps}
-use Rattle.sal_rows.specs.declared.outcome.Outcome.{Outcome}
 use Rattle.sal_commit.specs.declared.domain.Domain.{Domain}
 use Rattle.sal_hub.specs.Lines.{counts_of, cut_all, shown}
 use Rattle.sal_hub.proofs.Cutting.{as_many, taken_back}

@@ -1,4 +1,6 @@
 -- The place of a step among the children of a page.
+use Rattle.std.specs.declared.sync.Arc.{Arc}
+use Rattle.std.specs.declared.alloc.Global.{Global}
 use Rattle.std.proofs.Common.{◌≡◌, ℕ, suc, zero, ◌+◌, ◌<◌, ◌≤◌, Bool, true, false, List, [], ◌∷◌, ◌++◌, length, take, drop, get_or, Option, Some, None, refl, ap, sym, ◌∙◌, cond, if◌then◌else◌, append_assoc, arith}
 use Rattle.std.specs.Prelude.{T}
 use Rattle.std.specs.Ordering.{is_gt, is_eq}
@@ -14,25 +16,25 @@ use Rattle.sal_node.specs.Shape.{row_of}
 use Rattle.sal_node.specs.declared.node.Child.{Child}
 use Rattle.sal_node.proofs.Entries.{greater, below_less, find_above, first, second, change-parts}
 
-split_at : (cs : List Child) (i : ℕ) (c : Child) → i < length cs → c ≡ get_or cs i c → drop i cs ≡ c ∷ drop (i + 1) cs
+split_at : (cs : List (Arc Child Global)) (i : ℕ) (c : Arc Child Global) → i < length cs → c ≡ get_or cs i c → drop i cs ≡ c ∷ drop (i + 1) cs
 split_at cs i c l at =
     let n : suc i ≡ i + 1 = omega arith in
-    drop-cons cs i c l ∙ ap (λ (d : Child). d ∷ drop (suc i) cs) (sym at) ∙ ap (λ m. c ∷ drop m cs) n
+    drop-cons cs i c l ∙ ap (λ (d : Arc Child Global). d ∷ drop (suc i) cs) (sym at) ∙ ap (λ m. c ∷ drop m cs) n
 
-past_end : (cs : List Child) (i : ℕ) → length cs ≤ i → drop i cs ≡ []
+past_end : (cs : List (Arc Child Global)) (i : ℕ) → length cs ≤ i → drop i cs ≡ []
 past_end [] zero l = refl
 past_end [] (suc i) l = refl
 past_end (c ∷ cs) zero l = absurd (omega arith)
 past_end (c ∷ cs) (suc i) l = past_end cs i (omega arith)
 
-pub place-more : (x : Step) (cs : List Child) (i : ℕ) (c : Child) (n : ℕ) → i < length cs → c ≡ get_or cs i c → is_gt (step_cmp x c.step) ≡ true → n ≡ i + place x (row_of (drop i cs)) → n ≡ (i + 1) + place x (row_of (drop (i + 1) cs))
+pub place-more : (x : Step) (cs : List (Arc Child Global)) (i : ℕ) (c : Arc Child Global) (n : ℕ) → i < length cs → c ≡ get_or cs i c → is_gt (step_cmp x c.value.step) ≡ true → n ≡ i + place x (row_of (drop i cs)) → n ≡ (i + 1) + place x (row_of (drop (i + 1) cs))
 place-more x cs i c n l at gt is =
-    let e : place x (row_of (drop i cs)) ≡ 1 + place x (row_of (drop (i + 1) cs)) = ap (λ (ds : List Child). place x (row_of ds)) (split_at cs i c l at) ∙ ap (λ r. by_order r 0 0 (1 + place x (row_of (drop (i + 1) cs)))) (greater _ gt) in
+    let e : place x (row_of (drop i cs)) ≡ 1 + place x (row_of (drop (i + 1) cs)) = ap (λ (ds : List (Arc Child Global)). place x (row_of ds)) (split_at cs i c l at) ∙ ap (λ r. by_order r 0 0 (1 + place x (row_of (drop (i + 1) cs)))) (greater _ gt) in
     omega arith
 
-pub place-stop : (x : Step) (cs : List Child) (i : ℕ) (c : Child) (n : ℕ) → i < length cs → c ≡ get_or cs i c → is_gt (step_cmp x c.step) ≡ false → n ≡ i + place x (row_of (drop i cs)) → i ≡ n
+pub place-stop : (x : Step) (cs : List (Arc Child Global)) (i : ℕ) (c : Arc Child Global) (n : ℕ) → i < length cs → c ≡ get_or cs i c → is_gt (step_cmp x c.value.step) ≡ false → n ≡ i + place x (row_of (drop i cs)) → i ≡ n
 place-stop x cs i c n l at gt is =
-    let e : place x (row_of (drop i cs)) ≡ 0 = ap (λ (ds : List Child). place x (row_of ds)) (split_at cs i c l at) ∙ stops (step_cmp x c.step) gt in
+    let e : place x (row_of (drop i cs)) ≡ 0 = ap (λ (ds : List (Arc Child Global)). place x (row_of ds)) (split_at cs i c l at) ∙ stops (step_cmp x c.value.step) gt in
     omega arith
   where
     stops : (o : Ordering) → is_gt o ≡ false → by_order o 0 0 (1 + place x (row_of (drop (i + 1) cs))) ≡ 0
@@ -40,81 +42,81 @@ place-stop x cs i c n l at gt is =
     stops Equal e = refl
     stops Greater e = cc
 
-pub place-end : (x : Step) (cs : List Child) (i : ℕ) (n : ℕ) → length cs ≤ i → n ≡ i + place x (row_of (drop i cs)) → i ≡ n
-place-end x cs i n l is = let e : place x (row_of (drop i cs)) ≡ 0 = ap (λ (ds : List Child). place x (row_of ds)) (past_end cs i l) in omega arith
+pub place-end : (x : Step) (cs : List (Arc Child Global)) (i : ℕ) (n : ℕ) → length cs ≤ i → n ≡ i + place x (row_of (drop i cs)) → i ≡ n
+place-end x cs i n l is = let e : place x (row_of (drop i cs)) ≡ 0 = ap (λ (ds : List (Arc Child Global)). place x (row_of ds)) (past_end cs i l) in omega arith
 
-pub after-at : (x : Step) (cs : List Child) (n : ℕ) (c : Child) (b : Bool) → n ≡ place x (row_of cs) → n < length cs → c ≡ get_or cs n c → b ≡ is_eq (step_cmp x c.step) → row_of (drop (if b then n + 1 else n) cs) ≡ after x (row_of cs)
+pub after-at : (x : Step) (cs : List (Arc Child Global)) (n : ℕ) (c : Arc Child Global) (b : Bool) → n ≡ place x (row_of cs) → n < length cs → c ≡ get_or cs n c → b ≡ is_eq (step_cmp x c.value.step) → row_of (drop (if b then n + 1 else n) cs) ≡ after x (row_of cs)
 after-at x [] n c b = λ is l at tie. absurd (omega arith)
 after-at x (d ∷ cs) n c b =
-    elim (step_cmp x d.step) as (λ r. step_cmp x d.step ≡ r → n ≡ by_order r 0 0 (1 + place x (row_of cs)) → n < length (d ∷ cs) → c ≡ get_or (d ∷ cs) n c → b ≡ is_eq (step_cmp x c.step) → row_of (drop (if b then n + 1 else n) (d ∷ cs)) ≡ by_order r ((d.step, d.node.value) ∷ row_of cs) (row_of cs) (after x (row_of cs))) [
+    elim (step_cmp x d.value.step) as (λ r. step_cmp x d.value.step ≡ r → n ≡ by_order r 0 0 (1 + place x (row_of cs)) → n < length (d ∷ cs) → c ≡ get_or (d ∷ cs) n c → b ≡ is_eq (step_cmp x c.value.step) → row_of (drop (if b then n + 1 else n) (d ∷ cs)) ≡ by_order r ((d.value.step, d.value.node.value) ∷ row_of cs) (row_of cs) (after x (row_of cs))) [
       | Less ↦ λ r is l at tie.
           let here : c ≡ d = at ∙ ap (λ m. get_or (d ∷ cs) m c) is in
-          let no : b ≡ false = tie ∙ ap (λ (e : Child). is_eq (step_cmp x e.step)) here ∙ ap is_eq r in
+          let no : b ≡ false = tie ∙ ap (λ (e : Arc Child Global). is_eq (step_cmp x e.value.step)) here ∙ ap is_eq r in
           ap (λ t. row_of (drop (if t then n + 1 else n) (d ∷ cs))) no ∙ ap (λ m. row_of (drop m (d ∷ cs))) is
       | Equal ↦ λ r is l at tie.
           let here : c ≡ d = at ∙ ap (λ m. get_or (d ∷ cs) m c) is in
-          let yes : b ≡ true = tie ∙ ap (λ (e : Child). is_eq (step_cmp x e.step)) here ∙ ap is_eq r in
+          let yes : b ≡ true = tie ∙ ap (λ (e : Arc Child Global). is_eq (step_cmp x e.value.step)) here ∙ ap is_eq r in
           let one : n + 1 ≡ suc zero = omega (arith, is) in
           ap (λ t. row_of (drop (if t then n + 1 else n) (d ∷ cs))) yes ∙ ap (λ m. row_of (drop m (d ∷ cs))) one
       | Greater ↦ λ r is l at tie. later (λ m. after-at x cs m c b) n is l at tie
     ] refl
   where
-    later : ((m : ℕ) → m ≡ place x (row_of cs) → m < length cs → c ≡ get_or cs m c → b ≡ is_eq (step_cmp x c.step) → row_of (drop (if b then m + 1 else m) cs) ≡ after x (row_of cs)) → (n : ℕ) → n ≡ 1 + place x (row_of cs) → n < length (d ∷ cs) → c ≡ get_or (d ∷ cs) n c → b ≡ is_eq (step_cmp x c.step) → row_of (drop (if b then n + 1 else n) (d ∷ cs)) ≡ after x (row_of cs)
+    later : ((m : ℕ) → m ≡ place x (row_of cs) → m < length cs → c ≡ get_or cs m c → b ≡ is_eq (step_cmp x c.value.step) → row_of (drop (if b then m + 1 else m) cs) ≡ after x (row_of cs)) → (n : ℕ) → n ≡ 1 + place x (row_of cs) → n < length (d ∷ cs) → c ≡ get_or (d ∷ cs) n c → b ≡ is_eq (step_cmp x c.value.step) → row_of (drop (if b then n + 1 else n) (d ∷ cs)) ≡ after x (row_of cs)
     later hyp zero is l at tie = absurd (omega arith)
     later hyp (suc n) is l at tie = elim b as (λ t. row_of (drop (if t then n + 1 else n) cs) ≡ after x (row_of cs) → row_of (drop (if t then suc n + 1 else suc n) (d ∷ cs)) ≡ after x (row_of cs)) [
       | true ↦ λ rest. ap (λ m. row_of (drop m (d ∷ cs))) (let q : suc n + 1 ≡ suc (n + 1) = omega arith in q) ∙ rest
       | false ↦ λ rest. rest
     ] (hyp n (omega arith) (omega arith) at tie)
 
-pub after-end : (x : Step) (cs : List Child) (n : ℕ) → n ≡ place x (row_of cs) → length cs ≤ n → row_of (drop n cs) ≡ after x (row_of cs)
+pub after-end : (x : Step) (cs : List (Arc Child Global)) (n : ℕ) → n ≡ place x (row_of cs) → length cs ≤ n → row_of (drop n cs) ≡ after x (row_of cs)
 after-end x cs n is l = ap row_of (past_end cs n l) ∙ sym (none_left x cs (omega arith))
   where
-    none_left : (x : Step) (cs : List Child) → length cs ≤ place x (row_of cs) → after x (row_of cs) ≡ []
+    none_left : (x : Step) (cs : List (Arc Child Global)) → length cs ≤ place x (row_of cs) → after x (row_of cs) ≡ []
     none_left x [] = λ l. refl
-    none_left x (d ∷ cs) = elim (step_cmp x d.step) as (λ r. length (d ∷ cs) ≤ by_order r 0 0 (1 + place x (row_of cs)) → by_order r ((d.step, d.node.value) ∷ row_of cs) (row_of cs) (after x (row_of cs)) ≡ []) [
+    none_left x (d ∷ cs) = elim (step_cmp x d.value.step) as (λ r. length (d ∷ cs) ≤ by_order r 0 0 (1 + place x (row_of cs)) → by_order r ((d.value.step, d.value.node.value) ∷ row_of cs) (row_of cs) (after x (row_of cs)) ≡ []) [
       | Less ↦ λ l. absurd (omega arith)
       | Equal ↦ λ l. absurd (omega arith)
       | Greater ↦ λ l. none_left x cs (omega arith)
     ]
 
-pub place-le : (x : Step) (cs : List Child) → place x (row_of cs) ≤ length cs
+pub place-le : (x : Step) (cs : List (Arc Child Global)) → place x (row_of cs) ≤ length cs
 place-le x [] = omega arith
-place-le x (d ∷ cs) = let h = place-le x cs in elim (step_cmp x d.step) as (λ r. by_order r 0 0 (1 + place x (row_of cs)) ≤ length (d ∷ cs)) [ Less ↦ omega arith | Equal ↦ omega arith | Greater ↦ omega (arith, h) ]
+place-le x (d ∷ cs) = let h = place-le x cs in elim (step_cmp x d.value.step) as (λ r. by_order r 0 0 (1 + place x (row_of cs)) ≤ length (d ∷ cs)) [ Less ↦ omega arith | Equal ↦ omega arith | Greater ↦ omega (arith, h) ]
 
-pub find-at : (x : Step) (cs : List Child) (n : ℕ) (c : Child) (b : Bool) → T (is_sorted step_cmp (row_of cs)) → n ≡ place x (row_of cs) → n < length cs → c ≡ get_or cs n c → b ≡ is_eq (step_cmp x c.step) → (if b then Some c.node.value else None) ≡ find step_cmp x (row_of cs)
+pub find-at : (x : Step) (cs : List (Arc Child Global)) (n : ℕ) (c : Arc Child Global) (b : Bool) → T (is_sorted step_cmp (row_of cs)) → n ≡ place x (row_of cs) → n < length cs → c ≡ get_or cs n c → b ≡ is_eq (step_cmp x c.value.step) → (if b then Some c.value.node.value else None) ≡ find step_cmp x (row_of cs)
 find-at x [] n c b h = λ is l at tie. absurd (omega arith)
 find-at x (d ∷ cs) n c b h =
-    elim (step_cmp x d.step) as (λ r. step_cmp x d.step ≡ r → n ≡ by_order r 0 0 (1 + place x (row_of cs)) → n < length (d ∷ cs) → c ≡ get_or (d ∷ cs) n c → b ≡ is_eq (step_cmp x c.step) → (if b then Some c.node.value else None) ≡ cond (is_eq r) (Some d.node.value) (find step_cmp x (row_of cs))) [
+    elim (step_cmp x d.value.step) as (λ r. step_cmp x d.value.step ≡ r → n ≡ by_order r 0 0 (1 + place x (row_of cs)) → n < length (d ∷ cs) → c ≡ get_or (d ∷ cs) n c → b ≡ is_eq (step_cmp x c.value.step) → (if b then Some c.value.node.value else None) ≡ cond (is_eq r) (Some d.value.node.value) (find step_cmp x (row_of cs))) [
       | Less ↦ λ r is l at tie.
           let here : c ≡ d = at ∙ ap (λ m. get_or (d ∷ cs) m c) is in
-          let no : b ≡ false = tie ∙ ap (λ (e : Child). is_eq (step_cmp x e.step)) here ∙ ap is_eq r in
-          ap (λ t. if t then Some c.node.value else None) no ∙ sym (find_above x (row_of cs) (below_less x d.step (row_of cs) r (first _ (is_sorted step_cmp (row_of cs)) h)))
+          let no : b ≡ false = tie ∙ ap (λ (e : Arc Child Global). is_eq (step_cmp x e.value.step)) here ∙ ap is_eq r in
+          ap (λ t. if t then Some c.value.node.value else None) no ∙ sym (find_above x (row_of cs) (below_less x d.value.step (row_of cs) r (first _ (is_sorted step_cmp (row_of cs)) h)))
       | Equal ↦ λ r is l at tie.
           let here : c ≡ d = at ∙ ap (λ m. get_or (d ∷ cs) m c) is in
-          let yes : b ≡ true = tie ∙ ap (λ (e : Child). is_eq (step_cmp x e.step)) here ∙ ap is_eq r in
-          ap (λ t. if t then Some c.node.value else None) yes ∙ ap (λ (e : Child). Some e.node.value) here
-      | Greater ↦ λ r is l at tie. later (λ m. find-at x cs m c b (second (below_all step_cmp d.step (row_of cs)) _ h)) n is l at tie
+          let yes : b ≡ true = tie ∙ ap (λ (e : Arc Child Global). is_eq (step_cmp x e.value.step)) here ∙ ap is_eq r in
+          ap (λ t. if t then Some c.value.node.value else None) yes ∙ ap (λ (e : Arc Child Global). Some e.value.node.value) here
+      | Greater ↦ λ r is l at tie. later (λ m. find-at x cs m c b (second (below_all step_cmp d.value.step (row_of cs)) _ h)) n is l at tie
     ] refl
   where
-    later : ((m : ℕ) → m ≡ place x (row_of cs) → m < length cs → c ≡ get_or cs m c → b ≡ is_eq (step_cmp x c.step) → (if b then Some c.node.value else None) ≡ find step_cmp x (row_of cs)) → (n : ℕ) → n ≡ 1 + place x (row_of cs) → n < length (d ∷ cs) → c ≡ get_or (d ∷ cs) n c → b ≡ is_eq (step_cmp x c.step) → (if b then Some c.node.value else None) ≡ find step_cmp x (row_of cs)
+    later : ((m : ℕ) → m ≡ place x (row_of cs) → m < length cs → c ≡ get_or cs m c → b ≡ is_eq (step_cmp x c.value.step) → (if b then Some c.value.node.value else None) ≡ find step_cmp x (row_of cs)) → (n : ℕ) → n ≡ 1 + place x (row_of cs) → n < length (d ∷ cs) → c ≡ get_or (d ∷ cs) n c → b ≡ is_eq (step_cmp x c.value.step) → (if b then Some c.value.node.value else None) ≡ find step_cmp x (row_of cs)
     later hyp zero is l at tie = absurd (omega arith)
     later hyp (suc n) is l at tie = hyp n (omega arith) (omega arith) at tie
 
-pub find-end : (x : Step) (cs : List Child) (n : ℕ) → n ≡ place x (row_of cs) → length cs ≤ n → None ≡ find step_cmp x (row_of cs)
+pub find-end : (x : Step) (cs : List (Arc Child Global)) (n : ℕ) → n ≡ place x (row_of cs) → length cs ≤ n → None ≡ find step_cmp x (row_of cs)
 find-end x [] n = λ is l. refl
-find-end x (d ∷ cs) n = elim (step_cmp x d.step) as (λ r. n ≡ by_order r 0 0 (1 + place x (row_of cs)) → length (d ∷ cs) ≤ n → None ≡ cond (is_eq r) (Some d.node.value) (find step_cmp x (row_of cs))) [
+find-end x (d ∷ cs) n = elim (step_cmp x d.value.step) as (λ r. n ≡ by_order r 0 0 (1 + place x (row_of cs)) → length (d ∷ cs) ≤ n → None ≡ cond (is_eq r) (Some d.value.node.value) (find step_cmp x (row_of cs))) [
   | Less ↦ λ is l. absurd (omega arith)
   | Equal ↦ λ is l. absurd (omega arith)
   | Greater ↦ λ is l. find-end x cs (place x (row_of cs)) refl (omega arith)
 ]
 
-pub row_of-take : (cs : List Child) (n : ℕ) → row_of (take n cs) ≡ take n (row_of cs)
+pub row_of-take : (cs : List (Arc Child Global)) (n : ℕ) → row_of (take n cs) ≡ take n (row_of cs)
 row_of-take cs zero = refl
 row_of-take [] (suc n) = refl
-row_of-take (c ∷ cs) (suc n) = ap (λ (r : List (Step × Tree)). (c.step, c.node.value) ∷ r) (row_of-take cs n)
+row_of-take (c ∷ cs) (suc n) = ap (λ (r : List (Step × Tree)). (c.value.step, c.value.node.value) ∷ r) (row_of-take cs n)
 
 -- the children copied in three parts
-pub changed-parts : (x : Step) (o : Option Tree) (cs : List Child) (at next : ℕ) (start front more last : List Child) → at ≡ place x (row_of cs) → row_of (drop next cs) ≡ after x (row_of cs) → start ≡ [] →
+pub changed-parts : (x : Step) (o : Option Tree) (cs : List (Arc Child Global)) (at next : ℕ) (start front more last : List (Arc Child Global)) → at ≡ place x (row_of cs) → row_of (drop next cs) ≡ after x (row_of cs) → start ≡ [] →
     row_of front ≡ row_of start ++ row_of (take at cs) → row_of more ≡ row_of front ++ one_of x o → row_of last ≡ row_of more ++ row_of (drop next cs) → row_of last ≡ change x o (row_of cs)
 changed-parts x o cs at next start front more last place_is after_is none a b c =
     c ∙ (λ i. b i ++ after_is i) ∙ (λ i. (a i ++ one_of x o) ++ after x (row_of cs)) ∙ (λ i. ((row_of (none i) ++ row_of (take at cs)) ++ one_of x o) ++ after x (row_of cs))
@@ -123,5 +125,5 @@ changed-parts x o cs at next start front more last place_is after_is none a b c 
     ∙ sym (change-parts x o (row_of cs))
 
 -- what code tests at a child
-pub tie_of : (b r : Bool) (x : Step) (cs : List Child) (n : ℕ) (c : Child) (o : Ordering) → c ≡ get_or cs n c → o ≡ step_cmp x (get_or cs n c).step → r ≡ is_eq o → r ≡ b → b ≡ is_eq (step_cmp x c.step)
-tie_of b r x cs n c o at cmp eq is = sym is ∙ eq ∙ ap is_eq cmp ∙ ap (λ (d : Child). is_eq (step_cmp x d.step)) (sym at)
+pub tie_of : (b r : Bool) (x : Step) (c : Arc Child Global) (d : Child) (o : Ordering) → d ≡ c.value → o ≡ step_cmp x d.step → r ≡ is_eq o → r ≡ b → b ≡ is_eq (step_cmp x c.value.step)
+tie_of b r x c d o at cmp eq is = sym is ∙ eq ∙ ap is_eq cmp ∙ ap (λ (e : Child). is_eq (step_cmp x e.step)) at

@@ -28,13 +28,13 @@ listed-split ps i p l at =
     ∙ ap (λ (q : Arc Page Global). listed (take i ps) ++ (row_of q.value.children.items ++ listed (drop (suc i) ps))) (sym at)
     ∙ ap (λ m. listed (take i ps) ++ (row_of p.value.children.items ++ listed (drop m ps))) n
 
-front_of : (x : Step) (cs : List Child) (front back : List (Step × Tree)) → 1 ≤ length cs → T (is_sorted step_cmp (front ++ (row_of cs ++ back))) → begins_after x cs ≡ false → AllBefore x front
+pub front_of : (x : Step) (cs : List (Arc Child Global)) (front back : List (Step × Tree)) → 1 ≤ length cs → T (is_sorted step_cmp (front ++ (row_of cs ++ back))) → begins_after x cs ≡ false → AllBefore x front
 front_of x [] front back l h g = absurd (omega arith)
-front_of x (c ∷ cs) front back l h g = sorted-front x front (c.step, c.node.value) (row_of cs ++ back) h g
+front_of x (c ∷ cs) front back l h g = sorted-front x front (c.value.step, c.value.node.value) (row_of cs ++ back) h g
 
-back_of : (x : Step) (cs : List Child) (back : List (Step × Tree)) → 1 ≤ length cs → T (is_sorted step_cmp (row_of cs ++ back)) → begins_after x cs ≡ true → T (below_all step_cmp x (row_of cs ++ back))
+pub back_of : (x : Step) (cs : List (Arc Child Global)) (back : List (Step × Tree)) → 1 ≤ length cs → T (is_sorted step_cmp (row_of cs ++ back)) → begins_after x cs ≡ true → T (below_all step_cmp x (row_of cs ++ back))
 back_of x [] back l h g = absurd (omega arith)
-back_of x (c ∷ cs) back l h g = sorted-above x (c.step, c.node.value) (row_of cs ++ back) h g
+back_of x (c ∷ cs) back l h g = sorted-above x (c.value.step, c.value.node.value) (row_of cs ++ back) h g
 
 pub before_target : (ps : Pages) (x : Step) (i : ℕ) (p : Arc Page Global) → IsTarget ps x i → p ≡ get_or ps i p → ArePages ps → T (is_sorted step_cmp (listed ps)) → AllBefore x (listed (take i ps))
 before_target ps x zero p target at pages h = tt
@@ -44,7 +44,7 @@ before_target ps x (suc i) p target at pages h =
     (subst (λ es. T (is_sorted step_cmp es)) (listed-split ps (suc i) p target.bound at) h)
     (ap (λ (q : Arc Page Global). begins_after x q.value.children.items) at ∙ target.before p (omega arith))
 
-drop_more : {X : Type 0} (xs : List X) (n : ℕ) (q : X) (qs : List X) → q ∷ qs ≡ drop n xs → (n < length xs) × (q ≡ get_or xs n q)
+pub drop_more : {X : Type 0} (xs : List X) (n : ℕ) (q : X) (qs : List X) → q ∷ qs ≡ drop n xs → (n < length xs) × (q ≡ get_or xs n q)
 drop_more [] zero q qs e = cc
 drop_more [] (suc n) q qs e = cc
 drop_more (x ∷ xs) zero q qs e = (omega arith, cc)
@@ -80,7 +80,7 @@ find-target ps x i p target at pages h =
 pub page-sorted : (ps : Pages) (i : ℕ) (p : Arc Page Global) → i < length ps → p ≡ get_or ps i p → T (is_sorted step_cmp (listed ps)) → T (is_sorted step_cmp (row_of p.value.children.items))
 page-sorted ps i p l at h = sorted-front_part (row_of p.value.children.items) (listed (drop (i + 1) ps)) (sorted-tail (listed (take i ps)) _ (subst (λ es. T (is_sorted step_cmp es)) (listed-split ps i p l at) h))
 
-pub changed-few : (ps : Pages) (x : Step) (o : Option Tree) (i : ℕ) (p : Arc Page Global) (cs new : List Child) → i < length ps → p ≡ get_or ps i p → ArePages ps → cs ≡ p.value.children.items → row_of new ≡ change x o (row_of cs) → length new ≤ 65
+pub changed-few : (ps : Pages) (x : Step) (o : Option Tree) (i : ℕ) (p : Arc Page Global) (cs new : List (Arc Child Global)) → i < length ps → p ≡ get_or ps i p → ArePages ps → cs ≡ p.value.children.items → row_of new ≡ change x o (row_of cs) → length new ≤ 65
 changed-few ps x o i p cs new l at pages is e =
     let fits = subst (λ (q : Arc Page Global). length q.value.children.items ≤ 64) (sym at) (ArePages-at ps i p pages l).1 in
     let n = row_of-length new in

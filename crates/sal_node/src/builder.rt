@@ -1,9 +1,12 @@
 //! A node made of its children in order.
-ghost use Rattle.std.specs.Prelude.{◌≡◌, [], ◌∷◌, ◌++◌, IfOk};
+ghost use Rattle.std.specs.Prelude.{◌≡◌, ◌<◌, ◌≤◌, [], ◌∷◌, ◌++◌, length, IfOk};
+ghost use Rattle.sal_node.specs.Shape.{row_of, listed, sheeted, ArePages, AreSheets};
 ghost use Rattle.sal_node.specs.Tree.{Tree, grove};
 
-use crate::node::{Child, Node, Page};
+use crate::node::{Child, Node, Page, Sheet};
 use crate::pages::{PAGE, add_page};
+use crate::paging::joined;
+use crate::sheets::add_sheet;
 use sal_types::{Cell, NoMemory, Step};
 use std::alloc::Global;
 use std::marker::Model;
@@ -12,8 +15,9 @@ use std::sync::Arc;
 /// Children that were given one after another.
 #[derive(Drop)]
 pub struct Builder {
+    sheets: Vec<Arc<Sheet>>,
     pages: Vec<Arc<Page>>,
-    last: Vec<Child>,
+    last: Vec<Arc<Child>>,
 }
 
 impl Model for Builder {
@@ -26,11 +30,11 @@ impl Model for Builder {
 
     ghost coded = { entries_code };
 
-    ghost use Rattle.sal_node.specs.Shape.{row_of, listed, ArePages};
+    ghost use Rattle.sal_node.specs.Shape.{row_of, listed, sheeted, ArePages, AreSheets};
 
-    ghost view = { λ a. listed a.pages.items ++ row_of a.last.items };
+    ghost view = { λ a. sheeted a.sheets.items ++ (listed a.pages.items ++ row_of a.last.items) };
 
-    ghost invariant = { λ a. ArePages a.pages.items × (length a.last.items < 64) };
+    ghost invariant = { λ a. AreSheets a.sheets.items × ArePages a.pages.items × (length a.pages.items < 64) × (length a.last.items < 64) };
 }
 
 impl Builder {
@@ -39,6 +43,7 @@ impl Builder {
         ensures { result ≡ [] }
     {
         Builder {
+            sheets: Vec::new(alloc),
             pages: Vec::new(alloc),
             last: Vec::new(alloc),
         }
@@ -48,28 +53,84 @@ impl Builder {
     pub fn push(self, alloc: Global, step: Step, node: Arc<Node>) -> Result<Builder, NoMemory>
         ensures { IfOk result (λ more. more ≡ self ++ (step, node.value) ∷ []) }
     {
+        let sheets = self.sheets;
         let mut pages = self.pages;
         let mut last = self.last;
-        last.push(Child { step, node })?;
+        let child = Arc::new(alloc, Child { step, node })?;
+        last.push(child)?;
         if last.len() < PAGE {
-            return Ok(Builder { pages, last });
+            return Ok(Builder {
+                sheets,
+                pages,
+                last,
+            });
         }
         add_page(alloc, &mut pages, last)?;
-        Ok(Builder {
-            pages,
-            last: Vec::new(alloc),
-        })
+        let builder = with_pages(alloc, sheets, pages)?;
+        Ok(builder)
     }
 
     /// The node with these children.
     pub fn finish(self, alloc: Global, cell: Option<Cell>, stamp: u64) -> Result<Node, NoMemory>
         ensures { IfOk result (λ n. n ≡ record { stamp = stamp; cell = cell; kids = grove self }) }
     {
-        let mut pages = self.pages;
-        let last = self.last;
-        if !last.is_empty() {
-            add_page(alloc, &mut pages, last)?;
-        }
-        Ok(Node { stamp, cell, pages })
+        let sheets = self.sheets;
+        let pages = all_pages(alloc, self.pages, self.last)?;
+        let paging = joined(alloc, sheets, pages)?;
+        Ok(Node {
+            stamp,
+            cell,
+            paging,
+        })
     }
+}
+
+// The builder of these pages, which are made a sheet if they are 64.
+fn with_pages(
+    alloc: Global,
+    sheets: Vec<Arc<Sheet>>,
+    pages: Vec<Arc<Page>>,
+) -> Result<Builder, NoMemory>
+    requires sheets { AreSheets sheets.items }
+    requires pages { ArePages pages.items }
+    requires few { length pages.items ≤ 64 }
+    ensures { IfOk result (λ b. b ≡ sheeted sheets.items ++ listed pages.items) }
+{
+    let last = Vec::new(alloc);
+    if pages.len() < PAGE {
+        return Ok(Builder {
+            sheets,
+            pages,
+            last,
+        });
+    }
+    let mut sheets = sheets;
+    add_sheet(alloc, &mut sheets, pages)?;
+    let pages = Vec::new(alloc);
+    Ok(Builder {
+        sheets,
+        pages,
+        last,
+    })
+}
+
+// The pages and one more of the last children, if there are some.
+fn all_pages(
+    alloc: Global,
+    pages: Vec<Arc<Page>>,
+    last: Vec<Arc<Child>>,
+) -> Result<Vec<Arc<Page>>, NoMemory>
+    requires pages { ArePages pages.items }
+    requires few { length pages.items < 64 }
+    requires less { length last.items < 64 }
+    ensures list { IfOk result (λ v. listed v.items ≡ listed pages.items ++ row_of last.items) }
+    ensures pages { IfOk result (λ v. ArePages v.items) }
+    ensures count { IfOk result (λ v. length v.items ≤ 64) }
+{
+    let mut pages = pages;
+    if last.is_empty() {
+        return Ok(pages);
+    }
+    add_page(alloc, &mut pages, last)?;
+    Ok(pages)
 }

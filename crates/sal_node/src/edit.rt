@@ -1,12 +1,14 @@
 //! What a node has, and nodes that differ from it in one place.
 ghost use Rattle.std.specs.Prelude.{◌≡◌, Option, Some, None, T, IfOk, IfSome};
+ghost use Rattle.std.specs.Prelude.{nat_eq};
+ghost use Rattle.std.specs.List.{filter, list_any};
 ghost use Rattle.std.specs.FinMap.{find, is_sorted};
 ghost use Rattle.sal_types.specs.Order.{step_cmp};
 ghost use Rattle.sal_node.specs.Tree.{Tree, Forest, change, pairs, grove, kid_at, bare, is_filled};
 ghost use Rattle.sal_node.specs.Shape.{tree_in, tree_at, seen};
 
-use crate::node::{Child, Node, Page};
-use crate::pages::{all_children, changed_pages, child_at, share_pages};
+use crate::node::{Child, Node, Paging};
+use crate::paging::{all_children, changed_paging, child_of, has_children, made_children, shared_paging};
 use sal_types::{Cell, Duplicate, NoMemory, Step};
 use std::alloc::Global;
 use std::sync::Arc;
@@ -17,7 +19,7 @@ impl Node {
         requires { T (is_sorted step_cmp (pairs self.now.kids)) }
         ensures { tree_at result ≡ kid_at self.now.kids step.now }
     {
-        child_at(&self.pages, step)
+        child_of(&self.paging, step)
     }
 
     /// The node with another child at the step, or with none there. It keeps its cell and its other children, and has the
@@ -33,8 +35,12 @@ impl Node {
         ensures { IfOk result (λ n. n ≡ record { stamp = stamp; cell = self.now.cell; kids = grove (change step.now (tree_in node) (pairs self.now.kids)) }) }
     {
         let cell = copy_cell(&self.cell)?;
-        let pages = changed_pages(alloc, &self.pages, step, node)?;
-        let changed = Node { stamp, cell, pages };
+        let paging = changed_paging(alloc, &self.paging, step, node)?;
+        let changed = Node {
+            stamp,
+            cell,
+            paging,
+        };
         Ok(changed)
     }
 
@@ -42,9 +48,12 @@ impl Node {
     pub fn with_cell(&self, alloc: Global, cell: Option<Cell>, stamp: u64) -> Result<Node, NoMemory>
         ensures { IfOk result (λ n. n ≡ record { stamp = stamp; cell = cell; kids = self.now.kids }) }
     {
-        let mut pages = Vec::with_capacity(alloc, self.pages.len())?;
-        share_pages(&mut pages, &self.pages)?;
-        let with_cell = Node { stamp, cell, pages };
+        let paging = shared_paging(alloc, &self.paging)?;
+        let with_cell = Node {
+            stamp,
+            cell,
+            paging,
+        };
         Ok(with_cell)
     }
 
@@ -52,7 +61,19 @@ impl Node {
     pub fn children(&self, alloc: Global) -> Result<Vec<&Child>, NoMemory>
         ensures { IfOk result (λ v. seen v.items ≡ pairs self.entry.now.kids) }
     {
-        let list = all_children(alloc, &self.pages)?;
+        let list = all_children(alloc, &self.paging)?;
+        Ok(list)
+    }
+
+    /// Its children with one of the stamps, in order. It looks into no page whose children all have smaller stamps.
+    pub fn children_with<'a>(
+        &'a self,
+        alloc: Global,
+        stamps: &[u64],
+    ) -> Result<Vec<&'a Child>, NoMemory>
+        ensures { IfOk result (λ v. seen v.items ≡ filter (λ e. list_any (nat_eq e.1.stamp) stamps.now) (pairs self.entry.now.kids)) }
+    {
+        let list = made_children(alloc, &self.paging, stamps)?;
         Ok(list)
     }
 
@@ -67,7 +88,7 @@ impl Node {
     pub fn is_filled(&self) -> bool
         ensures { result ≡ is_filled self.now.cell self.now.kids }
     {
-        self.cell.is_some() || !self.pages.is_empty()
+        self.cell.is_some() || has_children(&self.paging)
     }
 
     /// A node without children. It takes no memory.
@@ -77,7 +98,7 @@ impl Node {
         Node {
             stamp,
             cell,
-            pages: Vec::new(alloc),
+            paging: Paging::Pages(Vec::new(alloc)),
         }
     }
 }

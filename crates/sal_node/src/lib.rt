@@ -3,12 +3,14 @@
 //! | type | what it is |
 //! |---|---|
 //! | `Node` | a node with its stamp, its cell and its children; a contract sees it as a plain value, a `Tree` |
-//! | `Page` | 1 to 64 children of a node, in the order of their steps |
+//! | `Paging` | its children: in at most 64 pages, or in sheets of pages |
+//! | `Sheet` | 1 to 64 pages of a node, in the order of their steps, and the newest stamp among their children |
+//! | `Page` | 1 to 64 children of a node, in the order of their steps, and the newest stamp among them |
 //! | `Child` | a child with the step that leads to it |
 //! | `Builder` | a node that is made of its children, given in order |
 //!
-//! A node is never changed: a changed one is a new node, which shares every page but one with the old one, and every
-//! child but one of that page. Pages and children are behind an `Arc`, so that nodes pass between threads. The pages are
+//! A node is never changed: a changed one is a new node, which shares every sheet but one with the old one, every page but
+//! one of that sheet, and every child but one of that page. Pages and children are behind an `Arc`, so that nodes pass between threads. The pages are
 //! invisible in contracts: two nodes are the same value where stamp, cell and children are, however these are paged.
 //!
 //! ```
@@ -19,22 +21,25 @@
 //!
 //! | call | cost for a node of `n` children |
 //! |---|---|
-//! | `Node::child` | a search by halves over n / 64 pages, and at most 64 comparisons |
-//! | `Node::with_child` | that, a copy of one page and of the list of pages: n / 64 counts up |
-//! | `Node::with_cell` | a copy of the list of pages |
+//! | `Node::child` | two searches by halves, over n / 4,096 sheets and 64 pages, and at most 64 comparisons |
+//! | `Node::with_child` | that, a copy of one page and of one sheet, and of the list of sheets: n / 4,096 counts up |
+//! | `Node::with_cell` | a copy of the list of sheets, or of at most 64 pages |
 //! | `Node::children` | a list of n references |
+//! | `Node::children_with` | a look at each sheet, at the pages of those and at the children of those that may have one of the stamps |
 //! | `Builder::push`, `Builder::finish` | constant on average |
 //!
-//! Children that are added in ascending order leave full pages.
+//! Children that are added in ascending order leave full pages and sheets.
 #![tactic(auto)]
 
 pub mod builder;
 pub mod edit;
 pub mod node;
 mod pages;
+mod paging;
+mod sheets;
 #[cfg(test)]
 mod tests;
 
 pub use builder::Builder;
 pub use edit::copy_cell;
-pub use node::{Child, Node, Page};
+pub use node::{Child, Node, Page, Paging, Sheet};

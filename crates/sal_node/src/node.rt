@@ -11,6 +11,22 @@ use std::sync::Arc;
 pub struct Node {
     pub stamp: u64,
     pub cell: Option<Cell>,
+    pub paging: Paging,
+}
+
+/// The children of a node, in the order of their steps: in at most 64 pages, or in sheets of pages.
+#[cycle(node)]
+#[derive(Drop)]
+pub enum Paging {
+    Pages(Vec<Arc<Page>>),
+    Sheets(Vec<Arc<Sheet>>),
+}
+
+/// Some pages of a node, in the order of their steps: 1 to 64.
+#[cycle(node)]
+#[derive(Drop)]
+pub struct Sheet {
+    pub newest: u64,
     pub pages: Vec<Arc<Page>>,
 }
 
@@ -18,7 +34,8 @@ pub struct Node {
 #[cycle(node)]
 #[derive(Drop)]
 pub struct Page {
-    pub children: Vec<Child>,
+    pub newest: u64,
+    pub children: Vec<Arc<Child>>,
 }
 
 /// A child of a node.
@@ -38,11 +55,11 @@ impl Model for Node {
 
     ghost coded = { tree_code };
 
-    ghost use Rattle.sal_node.specs.Shape.{view_of, ArePages};
+    ghost use Rattle.sal_node.specs.Shape.{view_of, ArePaged};
 
     ghost view = { view_of };
 
-    ghost invariant = { λ a. ArePages a.pages.items };
+    ghost invariant = { λ a. ArePaged a.paging };
 
     ghost size = { size_of };
 

@@ -9,6 +9,9 @@ ghost use Rattle.std.specs.FinMap.{find, is_sorted};
 ghost use Rattle.sal_node.specs.Tree.{Tree, place, after, change, one_of};
 ghost use Rattle.sal_node.specs.Shape.{row_of, listed, ArePages, begins_after, tree_in, tree_at, seen};
 ghost use Rattle.sal_node.specs.Places.{IsTarget};
+ghost use Rattle.sal_node.specs.Shape.{UpTo, AreFrom, made_by};
+ghost use Rattle.std.specs.Prelude.{nat_eq};
+ghost use Rattle.std.specs.List.{list_any};
 
 use crate::node::{Child, Node, Page};
 use sal_types::{Duplicate, NoMemory, Step};
@@ -19,13 +22,12 @@ use std::sync::Arc;
 pub(crate) const PAGE: usize = 64;
 
 // Puts copies of the children at the end.
-fn copy_children(into: &mut Vec<Child>, children: &[Child]) -> Result<(), NoMemory>
+fn copy_children(into: &mut Vec<Arc<Child>>, children: &[Arc<Child>]) -> Result<(), NoMemory>
     ensures { OnOk result (row_of into.new.items ≡ row_of into.old.items ++ row_of children.now) }
 {
     for child in children {
-        let step = child.step.copy()?;
-        let node = Arc::try_clone(&child.node)?;
-        into.push(Child { step, node })?;
+        let child = Arc::try_clone(child)?;
+        into.push(child)?;
     }
     Ok(())
 }
@@ -36,6 +38,7 @@ pub(crate) fn share_pages(into: &mut Vec<Arc<Page>>, pages: &[Arc<Page>]) -> Res
     requires given { ArePages pages.now }
     ensures list { OnOk result (listed into.new.items ≡ listed into.old.items ++ listed pages.now) }
     ensures pages { OnOk result (ArePages into.new.items) }
+    ensures count { OnOk result (length into.new.items ≡ length into.old.items + length pages.now) }
 {
     for page in pages {
         let page = Arc::try_clone(page)?;
@@ -62,8 +65,8 @@ fn target(pages: &[Arc<Page>], step: &Step) -> usize
     low
 }
 
-// Whether the page begins after the step.
-fn is_after(children: &[Child], step: &Step) -> bool
+/// Whether the page begins after the step.
+pub(crate) fn is_after(children: &[Arc<Child>], step: &Step) -> bool
     ensures { result ≡ begins_after step.now children.now }
 {
     match children {
@@ -73,7 +76,7 @@ fn is_after(children: &[Child], step: &Step) -> bool
 }
 
 // How many children stand before the step.
-fn place(children: &[Child], step: &Step) -> usize
+fn place(children: &[Arc<Child>], step: &Step) -> usize
     ensures value { result ≡ place step.now (row_of children.now) }
     ensures bound { result ≤ length children.now }
 {
@@ -85,7 +88,7 @@ fn place(children: &[Child], step: &Step) -> usize
 }
 
 // Where the children after the step begin; `at` is its place.
-fn past(children: &[Child], step: &Step, at: usize) -> usize
+fn past(children: &[Arc<Child>], step: &Step, at: usize) -> usize
     requires { at ≡ place step.now (row_of children.now) }
     ensures value { row_of (drop result children.now) ≡ after step.now (row_of children.now) }
     ensures bound { result ≤ length children.now }
@@ -98,14 +101,20 @@ fn past(children: &[Child], step: &Step, at: usize) -> usize
 }
 
 // Puts the child at the end, if there is one.
-fn push_child(into: &mut Vec<Child>, step: &Step, node: Option<Arc<Node>>) -> Result<(), NoMemory>
+fn push_child(
+    alloc: Global,
+    into: &mut Vec<Arc<Child>>,
+    step: &Step,
+    node: Option<Arc<Node>>,
+) -> Result<(), NoMemory>
     ensures { OnOk result (row_of into.new.items ≡ row_of into.old.items ++ one_of step.now (tree_in node)) }
 {
     match node {
         None => Ok(()),
         Some(node) => {
             let step = step.copy()?;
-            into.push(Child { step, node })?;
+            let child = Arc::new(alloc, Child { step, node })?;
+            into.push(child)?;
             Ok(())
         }
     }
@@ -114,23 +123,23 @@ fn push_child(into: &mut Vec<Child>, step: &Step, node: Option<Arc<Node>>) -> Re
 // The children with another one at the step, or with none there.
 fn changed(
     alloc: Global,
-    children: &[Child],
+    children: &[Arc<Child>],
     step: &Step,
     node: Option<Arc<Node>>,
-) -> Result<Vec<Child>, NoMemory>
+) -> Result<Vec<Arc<Child>>, NoMemory>
     ensures { IfOk result (λ v. row_of v.items ≡ change step.now (tree_in node) (row_of children.now)) }
 {
     let at = place(children, step);
     let next = past(children, step, at);
     let mut list = Vec::with_capacity(alloc, children.len())?;
     copy_children(&mut list, &children[..at])?;
-    push_child(&mut list, step, node)?;
+    push_child(alloc, &mut list, step, node)?;
     copy_children(&mut list, &children[next..])?;
     Ok(list)
 }
 
 // The child at the step.
-fn found<'a>(children: &'a [Child], step: &Step) -> Option<&'a Arc<Node>>
+fn found<'a>(children: &'a [Arc<Child>], step: &Step) -> Option<&'a Arc<Node>>
     requires { T (is_sorted step_cmp (row_of children.now)) }
     ensures { tree_at result ≡ find step_cmp step.now (row_of children.now) }
 {
@@ -142,9 +151,9 @@ fn found<'a>(children: &'a [Child], step: &Step) -> Option<&'a Arc<Node>>
     }
 }
 
-// Where children that are too many for one page are parted: behind a full page where the step is the last one, so that
-// steps in ascending order leave full pages, and else in the middle.
-fn parting(children: &[Child], step: &Step) -> usize
+/// Where children that are too many for one page are parted: behind a full page where the step is the last one, so that
+/// steps in ascending order leave full pages, and else in the middle.
+pub(crate) fn parting(children: &[Arc<Child>], step: &Step) -> usize
     ensures low { 32 ≤ result }
     ensures high { result ≤ 64 }
 {
@@ -158,7 +167,7 @@ fn parting(children: &[Child], step: &Step) -> usize
 fn add_pages(
     alloc: Global,
     into: &mut Vec<Arc<Page>>,
-    children: Vec<Child>,
+    children: Vec<Arc<Child>>,
     parting: usize,
 ) -> Result<(), NoMemory>
     requires old { ArePages into.old.items }
@@ -167,6 +176,7 @@ fn add_pages(
     requires high { parting ≤ 64 }
     ensures list { OnOk result (listed into.new.items ≡ listed into.old.items ++ row_of children.items) }
     ensures pages { OnOk result (ArePages into.new.items) }
+    ensures count { OnOk result (length into.new.items ≤ length into.old.items + 2) }
 {
     if children.is_empty() {
         return Ok(());
@@ -185,15 +195,17 @@ fn add_pages(
 pub(crate) fn add_page(
     alloc: Global,
     into: &mut Vec<Arc<Page>>,
-    children: Vec<Child>,
+    children: Vec<Arc<Child>>,
 ) -> Result<(), NoMemory>
     requires old { ArePages into.old.items }
     requires some { 1 ≤ length children.items }
     requires few { length children.items ≤ 64 }
     ensures list { OnOk result (listed into.new.items ≡ listed into.old.items ++ row_of children.items) }
     ensures pages { ArePages into.new.items }
+    ensures count { OnOk result (length into.new.items ≡ length into.old.items + 1) }
 {
-    let page = Arc::new(alloc, Page { children })?;
+    let newest = newest(&children);
+    let page = Arc::new(alloc, Page { newest, children })?;
     into.push(page)?;
     Ok(())
 }
@@ -203,7 +215,7 @@ fn repaged(
     alloc: Global,
     pages: &[Arc<Page>],
     at: usize,
-    children: Vec<Child>,
+    children: Vec<Arc<Child>>,
     parting: usize,
 ) -> Result<Vec<Arc<Page>>, NoMemory>
     requires old { ArePages pages.now }
@@ -213,6 +225,7 @@ fn repaged(
     requires high { parting ≤ 64 }
     ensures list { IfOk result (λ v. listed v.items ≡ listed (take at pages.now) ++ (row_of children.items ++ listed (drop (at + 1) pages.now))) }
     ensures pages { IfOk result (λ v. ArePages v.items) }
+    ensures count { IfOk result (λ v. length v.items ≤ length pages.now + 1) }
 {
     let mut list = Vec::with_capacity(alloc, pages.len())?;
     share_pages(&mut list, &pages[..at])?;
@@ -232,6 +245,7 @@ pub(crate) fn changed_pages(
     requires sorted { T (is_sorted step_cmp (listed pages.now)) }
     ensures list { IfOk result (λ v. listed v.items ≡ change step.now (tree_in node) (listed pages.now)) }
     ensures pages { IfOk result (λ v. ArePages v.items) }
+    ensures count { IfOk result (λ v. length v.items ≤ length pages.now + 1) }
 {
     if pages.is_empty() {
         let list = first_page(alloc, step, node)?;
@@ -245,17 +259,18 @@ pub(crate) fn changed_pages(
     Ok(list)
 }
 
-// The pages of a node whose only child is this one, if there is one.
-fn first_page(
+/// The pages of a node whose only child is this one, if there is one.
+pub(crate) fn first_page(
     alloc: Global,
     step: &Step,
     node: Option<Arc<Node>>,
 ) -> Result<Vec<Arc<Page>>, NoMemory>
     ensures list { IfOk result (λ v. listed v.items ≡ one_of step.now (tree_in node)) }
     ensures pages { IfOk result (λ v. ArePages v.items) }
+    ensures count { IfOk result (λ v. length v.items ≤ 1) }
 {
     let mut children = Vec::new(alloc);
-    push_child(&mut children, step, node)?;
+    push_child(alloc, &mut children, step, node)?;
     let mut list = Vec::new(alloc);
     if !children.is_empty() {
         add_page(alloc, &mut list, children)?;
@@ -278,25 +293,101 @@ pub(crate) fn child_at<'a>(pages: &'a [Arc<Page>], step: &Step) -> Option<&'a Ar
 }
 
 // Puts references to the children at the end.
-fn push_children<'a>(into: &mut Vec<&'a Child>, children: &'a [Child]) -> Result<(), NoMemory>
+fn push_children<'a>(into: &mut Vec<&'a Child>, children: &'a [Arc<Child>]) -> Result<(), NoMemory>
     ensures { OnOk result (seen into.new.items ≡ seen into.old.items ++ row_of children.entry.now) }
 {
     for child in children {
+        let child: &Child = child;
         into.push(child)?;
     }
     Ok(())
 }
 
-/// The children of all pages, in order.
-pub(crate) fn all_children<'a>(
-    alloc: Global,
-    pages: &'a [Arc<Page>],
-) -> Result<Vec<&'a Child>, NoMemory>
-    ensures { IfOk result (λ v. seen v.items ≡ listed pages.entry.now) }
+/// Puts references to the children of the pages at the end, in order.
+pub(crate) fn push_pages<'a>(into: &mut Vec<&'a Child>, pages: &'a [Arc<Page>]) -> Result<(), NoMemory>
+    ensures { OnOk result (seen into.new.items ≡ seen into.old.items ++ listed pages.entry.now) }
 {
-    let mut list = Vec::new(alloc);
     for page in pages {
-        push_children(&mut list, &page.children)?;
+        push_children(into, &page.children)?;
     }
-    Ok(list)
+    Ok(())
+}
+
+// The largest stamp of the children.
+fn newest(children: &[Arc<Child>]) -> u64
+    ensures { UpTo result (row_of children.now) }
+{
+    let mut newest = 0;
+    for child in children {
+        newest = larger(newest, child.node.stamp());
+    }
+    newest
+}
+
+/// The larger one.
+pub(crate) fn larger(one: u64, other: u64) -> u64
+    ensures one { one ≤ result }
+    ensures other { other ≤ result }
+{
+    if one < other { other } else { one }
+}
+
+/// The least of the stamps.
+pub(crate) fn least(stamps: &[u64]) -> u64
+    ensures { AreFrom result stamps.now }
+{
+    let mut least = u64::MAX;
+    for stamp in stamps {
+        if least <= *stamp {
+            continue;
+        }
+        least = *stamp;
+    }
+    least
+}
+
+// Whether the stamp is one of these.
+fn is_among(stamp: u64, stamps: &[u64]) -> bool
+    ensures { result ≡ list_any (nat_eq stamp) stamps.now }
+{
+    stamps.iter().any(|other| stamp == *other)
+}
+
+// Puts references to those of the children at the end that have one of the stamps.
+fn push_made<'x, 'a>(
+    into: &'x mut Vec<&'a Child>,
+    children: &'a [Arc<Child>],
+    stamps: &[u64],
+) -> Result<(), NoMemory>
+    ensures { OnOk result (seen into.new.items ≡ seen into.old.items ++ made_by stamps.now (row_of children.entry.now)) }
+{
+    for child in children {
+        if !is_among(child.node.stamp(), stamps) {
+            continue;
+        }
+        let child: &Child = child;
+        into.push(child)?;
+    }
+    Ok(())
+}
+
+/// Puts references to those children of the pages at the end that have one of the stamps, in order. It looks into no page
+/// whose children all have smaller stamps.
+pub(crate) fn push_made_pages<'x, 'a>(
+    into: &'x mut Vec<&'a Child>,
+    pages: &'a [Arc<Page>],
+    stamps: &[u64],
+    least: u64,
+) -> Result<(), NoMemory>
+    requires pages { ArePages pages.now }
+    requires least { AreFrom least stamps.now }
+    ensures { OnOk result (seen into.new.items ≡ seen into.old.items ++ made_by stamps.now (listed pages.entry.now)) }
+{
+    for page in pages {
+        if page.newest < least {
+            continue;
+        }
+        push_made(into, &page.children, stamps)?;
+    }
+    Ok(())
 }

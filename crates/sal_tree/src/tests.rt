@@ -1,4 +1,5 @@
 use super::*;
+use sal_node::Paging;
 use sal_rows::{Act, Op, Rows, apply};
 use sal_types::{Atom, Cell, Duplicate, Path, Row, Seq, Step, Store, Value};
 use std::alloc::Global;
@@ -124,6 +125,14 @@ fn five_hundred_operations(rt: HostRuntime) -> Result<(), Fail> {
     Ok(())
 }
 
+// How many pages there are, where they are not in sheets.
+fn pages_of(paging: &Paging) -> usize {
+    match paging {
+        Paging::Pages(pages) => pages.len(),
+        Paging::Sheets(_) => 0,
+    }
+}
+
 // Entries put in ascending order leave full pages, a copy shares the nodes, and the rows make the tree again.
 #[test]
 fn trees_are_made_again_of_their_rows(rt: HostRuntime) -> Result<(), Fail> {
@@ -133,7 +142,7 @@ fn trees_are_made_again_of_their_rows(rt: HostRuntime) -> Result<(), Fail> {
     }
     let mut list = Path::root(rt.alloc());
     list.push(Step::Node(0))?;
-    let pages = root.get(&list).map_or(0, |node| node.pages.len());
+    let pages = root.get(&list).map_or(0, |node| pages_of(&node.paging));
     assert_eq!(rt; pages, 4);
     let pair = Pair {
         config: root.copy()?,

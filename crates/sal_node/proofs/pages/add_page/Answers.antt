@@ -1,5 +1,9 @@
-use Rattle.std.proofs.Common.{ap}
+use Rattle.std.specs.declared.sync.Arc.{Arc}
+use Rattle.std.specs.declared.alloc.Global.{Global}
+use Rattle.std.proofs.Common.{ap, List, subst}
 use Rattle.sal_node.specs.declared.node.Page.{Page}
+use Rattle.sal_node.specs.declared.node.Child.{Child}
+use Rattle.sal_node.specs.Shape.{row_of, UpTo}
 use Rattle.sal_node.proofs.Rows.{listed-push, ArePages-push}
 use Rattle.sal_node.proofs.pages.add_page.Goals as goal
 
@@ -7,4 +11,4 @@ pub returns-clause-list : goal.returns-clause-list
 returns-clause-list c = listed-push c.args.into.now.items c.in_ok-page.page c.args.children.items _ (ap (λ (p : Page). p.children.items) c.in_ok-page.ensures.ok) c.in_ok-push.ensures.items
 
 pub returns-clause-pages : goal.returns-clause-pages
-returns-clause-pages c = ArePages-push c.args.into.now.items c.in_ok-page.page c.args.children.items _ (ap (λ (p : Page). p.children.items) c.in_ok-page.ensures.ok) c.in_ok-push.ensures.items c.requires.some c.requires.few c.requires.old
+returns-clause-pages c = ArePages-push c.args.into.now.items c.in_ok-page.page c.args.children.items _ (ap (λ (p : Page). p.children.items) c.in_ok-page.ensures.ok) c.in_ok-push.ensures.items c.requires.some c.requires.few (rw (ap (λ (p : Page). p.newest) c.in_ok-page.ensures.ok) (subst (λ (cs : List (Arc Child Global)). UpTo c.newest-newest.result (row_of cs)) c.deref.ensures.value c.newest-newest.ensures)) c.requires.old

@@ -1,0 +1,235 @@
+//! The sheets of a node of many children.
+ghost use Rattle.std.specs.Prelude.{◌≡◌, ◌+◌, ◌<◌, ◌≤◌, ◌++◌, length, IfOk, OnOk, take, drop};
+ghost use Rattle.sal_types.specs.Order.{step_cmp};
+ghost use Rattle.std.specs.Prelude.{T};
+ghost use Rattle.std.specs.FinMap.{find, is_sorted};
+ghost use Rattle.sal_node.specs.Tree.{change, one_of};
+ghost use Rattle.sal_node.specs.Shape.{listed, sheeted, ArePages, AreSheets, sheet_after, tree_in, tree_at, seen};
+ghost use Rattle.sal_node.specs.Places.{IsPlaced};
+ghost use Rattle.sal_node.specs.Shape.{UpTo, AreFrom, made_by};
+
+use crate::node::{Child, Node, Page, Sheet};
+use crate::pages::{PAGE, changed_pages, child_at, first_page, is_after, larger, parting, push_made_pages, push_pages};
+use sal_types::{NoMemory, Step};
+use std::alloc::Global;
+use std::sync::Arc;
+
+/// Puts the sheets at the end, shared.
+pub(crate) fn share_sheets(into: &mut Vec<Arc<Sheet>>, sheets: &[Arc<Sheet>]) -> Result<(), NoMemory>
+    requires old { AreSheets into.old.items }
+    requires given { AreSheets sheets.now }
+    ensures list { OnOk result (sheeted into.new.items ≡ sheeted into.old.items ++ sheeted sheets.now) }
+    ensures sheets { OnOk result (AreSheets into.new.items) }
+{
+    for sheet in sheets {
+        let sheet = Arc::try_clone(sheet)?;
+        into.push(sheet)?;
+    }
+    Ok(())
+}
+
+// The sheet in which the step stands, or would stand.
+fn target_sheet(sheets: &[Arc<Sheet>], step: &Step) -> usize
+    requires { 0 < length sheets.now }
+    ensures { IsPlaced sheets.now step.now result }
+{
+    let mut low = 0;
+    let mut high = sheets.len();
+    while high - low > 1 {
+        let middle = low + (high - low) / 2;
+        if is_sheet_after(&sheets[middle].pages, step) {
+            high = middle;
+        } else {
+            low = middle;
+        }
+    }
+    low
+}
+
+// Whether the sheet begins after the step.
+fn is_sheet_after(pages: &[Arc<Page>], step: &Step) -> bool
+    ensures { result ≡ sheet_after step.now pages.now }
+{
+    match pages {
+        [] => false,
+        [first, ..] => is_after(&first.children, step),
+    }
+}
+
+/// Where pages that are too many for one sheet are parted: behind a full sheet where the step is the last one, and else
+/// in the middle.
+pub(crate) fn sheet_parting(pages: &[Arc<Page>], step: &Step) -> usize
+    ensures low { 32 ≤ result }
+    ensures high { result ≤ 64 }
+{
+    match pages {
+        [.., last] => parting(&last.children, step),
+        _ => PAGE / 2,
+    }
+}
+
+/// Puts the pages at the end as one sheet, or as two that are parted at the place given.
+pub(crate) fn add_sheets(
+    alloc: Global,
+    into: &mut Vec<Arc<Sheet>>,
+    pages: Vec<Arc<Page>>,
+    parting: usize,
+) -> Result<(), NoMemory>
+    requires old { AreSheets into.old.items }
+    requires pages { ArePages pages.items }
+    requires few { length pages.items ≤ 65 }
+    requires low { 32 ≤ parting }
+    requires high { parting ≤ 64 }
+    ensures list { OnOk result (sheeted into.new.items ≡ sheeted into.old.items ++ listed pages.items) }
+    ensures sheets { OnOk result (AreSheets into.new.items) }
+{
+    if pages.is_empty() {
+        return Ok(());
+    }
+    if pages.len() <= PAGE {
+        return add_sheet(alloc, into, pages);
+    }
+    let mut first = pages;
+    let last = first.split_off(parting)?;
+    add_sheet(alloc, into, first)?;
+    add_sheet(alloc, into, last)?;
+    Ok(())
+}
+
+/// Puts the pages at the end as one sheet.
+pub(crate) fn add_sheet(
+    alloc: Global,
+    into: &mut Vec<Arc<Sheet>>,
+    pages: Vec<Arc<Page>>,
+) -> Result<(), NoMemory>
+    requires old { AreSheets into.old.items }
+    requires pages { ArePages pages.items }
+    requires some { 1 ≤ length pages.items }
+    requires few { length pages.items ≤ 64 }
+    ensures list { OnOk result (sheeted into.new.items ≡ sheeted into.old.items ++ listed pages.items) }
+    ensures sheets { AreSheets into.new.items }
+{
+    let newest = newest_page(&pages);
+    let sheet = Arc::new(alloc, Sheet { newest, pages })?;
+    into.push(sheet)?;
+    Ok(())
+}
+
+// The sheets with other pages in place of one sheet.
+fn resheeted(
+    alloc: Global,
+    sheets: &[Arc<Sheet>],
+    at: usize,
+    pages: Vec<Arc<Page>>,
+    parting: usize,
+) -> Result<Vec<Arc<Sheet>>, NoMemory>
+    requires old { AreSheets sheets.now }
+    requires in_bounds { at < length sheets.now }
+    requires pages { ArePages pages.items }
+    requires few { length pages.items ≤ 65 }
+    requires low { 32 ≤ parting }
+    requires high { parting ≤ 64 }
+    ensures list { IfOk result (λ v. sheeted v.items ≡ sheeted (take at sheets.now) ++ (listed pages.items ++ sheeted (drop (at + 1) sheets.now))) }
+    ensures sheets { IfOk result (λ v. AreSheets v.items) }
+{
+    let mut list = Vec::with_capacity(alloc, sheets.len())?;
+    share_sheets(&mut list, &sheets[..at])?;
+    add_sheets(alloc, &mut list, pages, parting)?;
+    share_sheets(&mut list, &sheets[at + 1..])?;
+    Ok(list)
+}
+
+/// The sheets with another child at the step, or with none there.
+pub(crate) fn changed_sheets(
+    alloc: Global,
+    sheets: &[Arc<Sheet>],
+    step: &Step,
+    node: Option<Arc<Node>>,
+) -> Result<Vec<Arc<Sheet>>, NoMemory>
+    requires old { AreSheets sheets.now }
+    requires sorted { T (is_sorted step_cmp (sheeted sheets.now)) }
+    ensures list { IfOk result (λ v. sheeted v.items ≡ change step.now (tree_in node) (sheeted sheets.now)) }
+    ensures sheets { IfOk result (λ v. AreSheets v.items) }
+{
+    if sheets.is_empty() {
+        let list = first_sheet(alloc, step, node)?;
+        return Ok(list);
+    }
+    let at = target_sheet(sheets, step);
+    let sheet = &sheets[at];
+    let pages = changed_pages(alloc, &sheet.pages, step, node)?;
+    let parting = sheet_parting(&pages, step);
+    let list = resheeted(alloc, sheets, at, pages, parting)?;
+    Ok(list)
+}
+
+// The sheets of a node whose only child is this one, if there is one.
+fn first_sheet(
+    alloc: Global,
+    step: &Step,
+    node: Option<Arc<Node>>,
+) -> Result<Vec<Arc<Sheet>>, NoMemory>
+    ensures list { IfOk result (λ v. sheeted v.items ≡ one_of step.now (tree_in node)) }
+    ensures sheets { IfOk result (λ v. AreSheets v.items) }
+{
+    let pages = first_page(alloc, step, node)?;
+    let mut list = Vec::new(alloc);
+    add_sheets(alloc, &mut list, pages, PAGE)?;
+    Ok(list)
+}
+
+/// The child at the step.
+pub(crate) fn child_in<'a>(sheets: &'a [Arc<Sheet>], step: &Step) -> Option<&'a Arc<Node>>
+    requires old { AreSheets sheets.now }
+    requires sorted { T (is_sorted step_cmp (sheeted sheets.now)) }
+    ensures { tree_at result ≡ find step_cmp step.now (sheeted sheets.now) }
+{
+    if sheets.is_empty() {
+        return None;
+    }
+    let at = target_sheet(sheets, step);
+    let sheet = &sheets[at];
+    child_at(&sheet.pages, step)
+}
+
+/// Puts references to the children of the sheets at the end, in order.
+pub(crate) fn push_sheets<'a>(into: &mut Vec<&'a Child>, sheets: &'a [Arc<Sheet>]) -> Result<(), NoMemory>
+    ensures { OnOk result (seen into.new.items ≡ seen into.old.items ++ sheeted sheets.entry.now) }
+{
+    for sheet in sheets {
+        push_pages(into, &sheet.pages)?;
+    }
+    Ok(())
+}
+
+// The largest stamp of the children of the pages.
+fn newest_page(pages: &[Arc<Page>]) -> u64
+    requires { ArePages pages.now }
+    ensures { UpTo result (listed pages.now) }
+{
+    let mut newest = 0;
+    for page in pages {
+        newest = larger(newest, page.newest);
+    }
+    newest
+}
+
+/// Puts references to those children of the sheets at the end that have one of the stamps, in order.
+pub(crate) fn push_made_sheets<'x, 'a>(
+    into: &'x mut Vec<&'a Child>,
+    sheets: &'a [Arc<Sheet>],
+    stamps: &[u64],
+    least: u64,
+) -> Result<(), NoMemory>
+    requires sheets { AreSheets sheets.now }
+    requires least { AreFrom least stamps.now }
+    ensures { OnOk result (seen into.new.items ≡ seen into.old.items ++ made_by stamps.now (sheeted sheets.entry.now)) }
+{
+    for sheet in sheets {
+        if sheet.newest < least {
+            continue;
+        }
+        push_made_pages(into, &sheet.pages, stamps, least)?;
+    }
+    Ok(())
+}

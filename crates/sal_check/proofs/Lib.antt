@@ -5,6 +5,9 @@ mod Doubles
 mod Founds
 mod Least
 mod Members
+mod NearFounds
+mod NearRows
+mod NearTrees
 mod Plans
 mod SeenTrees
 mod There

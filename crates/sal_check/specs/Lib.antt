@@ -1,6 +1,7 @@
 pub mod Breaches
 pub mod Contexts
 pub mod Examples
+pub mod Near
 pub mod Nodes
 pub mod Paths
 pub mod Places

@@ -49,7 +49,7 @@ fn stands(schema: &Schema, node: Option<&Arc<Node>>, number: u32) -> bool
 // ---- what is demanded
 
 // Whether what has this context, and lies so many steps below it, is demanded.
-fn is_demanded(
+pub(crate) fn is_demanded(
     schema: &Schema,
     node: Option<&Arc<Node>>,
     way: &[Step],
@@ -93,7 +93,7 @@ fn is_leaf_or_choice(schema: &Schema, number: u32) -> bool
     }
 }
 
-fn has_minimum(schema: &Schema, number: u32) -> bool
+pub(crate) fn has_minimum(schema: &Schema, number: u32) -> bool
     requires { number < length schema.now.nodes }
     ensures { result ≡ spec.has_minimum schema.now number }
 {

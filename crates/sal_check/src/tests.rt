@@ -5,7 +5,7 @@ use super::*;
 use sal_restrict::{Part, Ranges, YangType};
 use sal_rows::Rows;
 use sal_schema::{Kind, Leafs, NodeInfo, Schema, SchemaTable};
-use sal_tree::Root;
+use sal_tree::{Root, lie_under};
 use sal_types::{Atom, Cell, NoMemory, Path, Row, Seq, Step, Store, Str, Value};
 use std::alloc::Global;
 use std::fmt::Write;
@@ -452,4 +452,81 @@ fn trees_are_checked(rt: HostRuntime) -> Result<(), Fail> {
     let schema = schema(alloc)?;
     checked(&rt, alloc, &schema, Store::Config, CONFIG)?;
     checked(&rt, alloc, &schema, Store::Oper, OPER)
+}
+
+// ---- what changed
+
+// The breach after the rows were merged into a tree without one, by what changed alone.
+fn near_merge(
+    alloc: Global,
+    schema: &Schema,
+    store: Store,
+    before: &Root,
+    rows: &Rows,
+) -> Result<Option<Breach>, NoMemory> {
+    let path = Path::root(alloc);
+    if !lie_under(rows, &path) {
+        return Ok(None);
+    }
+    let whole = check_all(alloc, schema, store, before)?;
+    if whole.is_some() {
+        return Ok(whole);
+    }
+    let after = before.merge(alloc, &path, rows, 7)?;
+    laws::what_was_made_keeps();
+    check_near(alloc, schema, store, before, &after, &[7])
+}
+
+// A tree without a breach, rows that are merged into it, and the breach.
+const MERGED: &[(&str, &str, &str)] = &[
+    ("10/11/=1 10/12/13/=1", "31/#1 31/#1/32/=1", ""),
+    ("31/#1 31/#1/32/=1", "10/11/=1", "/10/12 mandatory 13"),
+    (
+        "17/#1 17/#1/18/=1 17/#1/19/=5 17/#1/20/21/=7 17/#2 17/#2/18/=2 17/#2/19/=5 17/#2/20/21/=8",
+        "17/#2/20/21/=7",
+        "/17 unique 17",
+    ),
+    ("26/.1 26/.2", "29/=1", " cases 24"),
+    (
+        "0/#1 0/#1/1/=1 0/#1/2/=5 0/#1/3/.1 0/#1/9/=1",
+        "0/#1/3/.2 0/#1/3/.3",
+        "/0/#1/3 max 3",
+    ),
+];
+
+fn rows_of(alloc: Global, text: &str) -> Result<Rows, Fail> {
+    let mut list = Vec::new(alloc);
+    for word in text.split(' ') {
+        if !word.is_empty() {
+            list.push(row(alloc, word)?)?;
+        }
+    }
+    Ok(Rows::from_list(list)?)
+}
+
+fn near_text(alloc: Global, schema: &Schema, rows: &str, merged: &str) -> Result<String, Fail> {
+    let before = tree(alloc, rows)?;
+    let rows = rows_of(alloc, merged)?;
+    let breach = near_merge(alloc, schema, Store::Config, &before, &rows)?;
+    text_of(alloc, &breach)
+}
+
+fn checked_near(
+    rt: &impl Abort,
+    alloc: Global,
+    schema: &Schema,
+    table: &[(&str, &str, &str)],
+) -> Result<(), Fail> {
+    for (rows, merged, wanted) in table {
+        let text = near_text(alloc, schema, rows, merged)?;
+        assert_eq!(rt; text.as_str(), *wanted);
+    }
+    Ok(())
+}
+
+#[test]
+fn changes_are_checked(rt: HostRuntime) -> Result<(), Fail> {
+    let alloc = rt.alloc();
+    let schema = schema(alloc)?;
+    checked_near(&rt, alloc, &schema, MERGED)
 }

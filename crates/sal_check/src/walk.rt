@@ -64,8 +64,8 @@ fn is_broken(
     }
 }
 
-// The least breach with that of one rule.
-fn judge(
+/// The least breach with that of one rule.
+pub(crate) fn judge(
     alloc: Global,
     schema: &Schema,
     store: Store,

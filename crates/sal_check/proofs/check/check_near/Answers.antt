@@ -1,0 +1,18 @@
+use Rattle.std.proofs.Common.{◌≡◌, [], Some, None, subst, ◌∙◌}
+use Rattle.std.specs.Prelude.{IfOk}
+use Rattle.std.specs.List.{fold}
+use Rattle.sal_tree.specs.Rows.{rows_of}
+use Rattle.sal_check.specs.Breaches.{keep, breach}
+use Rattle.sal_check.specs.Near.{near}
+use Rattle.sal_check.specs.Places.{root_spot}
+use Rattle.sal_check.proofs.NearTrees.{near-breach}
+use Rattle.sal_check.proofs.check.check_near.Goals as goal
+
+pub returns : goal.returns
+returns c =
+    let table = c.args.schema.now in
+    let store = c.args.store in
+    let same : fold keep None (near c.args.stamps.now table store [] root_spot (Some c.node-old.result.now.value) c.node-node.result.now.value) ≡ breach table store (rows_of c.args.after.now) =
+    (λ i. fold keep None (near c.args.stamps.now table store [] root_spot (Some (c.node-old.ensures.tree i)) (c.node-node.ensures.tree i)))
+    ∙ near-breach c.args.stamps.now table store c.args.before.now c.args.after.now c.node-old.ensures.whole.ordered c.node-node.ensures.whole.ordered c.requires.keeps c.requires.kept in
+    subst (λ o. IfOk c.walk_changed.result (λ r. r ≡ o)) same c.walk_changed.ensures

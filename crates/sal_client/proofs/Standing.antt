@@ -19,7 +19,9 @@ use Rattle.sal_client.specs.Clients.{client_of, IsSound}
 use Rattle.sal_client.specs.Runs.{AreRuns, Goes, GrowsBy, IsRun, Turns, answered, moves_from, replies_in, run_of, runs_of, stand_of}
 use Rattle.sal_client.proofs.Soundness.{BegunLasts, GivenLasts, IsSound-more}
 use Rattle.sal_history.specs.World.{Domain}
+use Rattle.sal_script.specs.JsonMoves.{have_json_moves}
 use Rattle.sal_script.specs.Moves.{Move, clients_of, moves_of}
+use Rattle.sal_client.proofs.Values.{program_at}
 use Rattle.sal_schema.specs.declared.table.SchemaTable.{SchemaTable}
 
 -- ---- by index
@@ -73,7 +75,7 @@ has_room known ps rs are =
 -- ---- other clients
 
 IsRun-other : BegunLasts → GivenLasts → (known : Known) (e : Entry) (p : List ScriptStep) (r : CodeRun) → IsRun known p r → IsRun (more known e) p r
-IsRun-other begun given known e p r is = record { sound = IsSound-more begun given known e r.client is.sound; within = is.within; short = is.short }
+IsRun-other begun given known e p r is = record { sound = IsSound-more begun given known e r.client is.sound; within = is.within; short = is.short; json = is.json }
 
 -- one client went on
 pub AreRuns-set : BegunLasts → GivenLasts → (known known' : Known) (ps : List (List ScriptStep)) (rs : List CodeRun) (c : ℕ) (p : List ScriptStep) (old new : CodeRun) → AreRuns known ps rs → GrowsBy c known known' → old.at < new.at → c < length rs → p ≡ get_or ps c p → old ≡ get_or rs c old → IsRun known' p new → new.client.number ≡ c → AreRuns known' ps (set rs c new)
@@ -171,15 +173,15 @@ all_at f (y ∷ xs) (suc i) x all h at = all_at f xs i x (second_so (f y) (list_
 pub few_programs : (ps : List (List ScriptStep)) → IsTrue (within_limits ps) → length ps ≤ 16
 few_programs ps limits = leb-true (length ps) 16 (first_so (nat_le (length ps) 16) (list_all (λ (p : List ScriptStep). nat_le (length p) 60000) ps) limits)
 
-pub AreRuns-fresh : (known : Known) (ps : List (List ScriptStep)) (rs : List CodeRun) → known.log ≡ [] → IsTrue (within_limits ps) → length rs ≡ length ps → ((i : ℕ) (r : CodeRun) → i < length rs → r ≡ get_or rs i r → IsFresh r × (r.client.number ≡ i)) → AreRuns known ps rs
-AreRuns-fresh known ps rs none limits long fresh = record {
+pub AreRuns-fresh : (known : Known) (ps : List (List ScriptStep)) (rs : List CodeRun) → known.log ≡ [] → IsTrue (within_limits ps) → IsTrue (have_json_moves (clients_of ps)) → length rs ≡ length ps → ((i : ℕ) (r : CodeRun) → i < length rs → r ≡ get_or rs i r → IsFresh r × (r.client.number ≡ i)) → AreRuns known ps rs
+AreRuns-fresh known ps rs none limits json long fresh = record {
   long = long;
   few = omega (arith, long, few_programs ps limits);
   calls = let no : length known.log ≡ 0 = ap length none in omega (arith, no);
   each = λ i p r h at_p at_r.
       let is = fresh i r h at_r in
       let short : length p ≤ 60000 = leb-true (length p) 60000 (all_at (λ (q : List ScriptStep). nat_le (length q) 60000) ps i p (second_so (nat_le (length ps) 16) (list_all (λ (q : List ScriptStep). nat_le (length q) 60000) ps) limits) (omega arith) at_p) in
-      (record { sound = is.0.sound known; within = omega (arith, is.0.at); short = short }, is.1);
+      (record { sound = is.0.sound known; within = omega (arith, is.0.at); short = short; json = program_at ps i p json (omega arith) at_p }, is.1);
 }
 
 -- ---- what the simulation does

@@ -1,7 +1,5 @@
 -- What a client makes of texts and values, or why it makes nothing.
-use Rattle.std.specs.Prelude.{Bool, List, Result, Ok, Err}
-use Rattle.sal_rows.specs.Apply.{rows_of_act}
-use Rattle.sal_schema.specs.Fitting.{fits}
+use Rattle.std.specs.Prelude.{List, Result, Ok, Err}
 use Rattle.serde_json.specs.View.{view}
 use Rattle.sal_types.specs.declared.value.Store.{Store}
 use Rattle.sal_types.specs.declared.value.Step.{Step}
@@ -41,7 +39,3 @@ op_at store path (Err fault) = Err (BadData fault)
 abbrev pub op_by : SchemaTable → Store → Deed → Result (List Step) PathTextFault → Result Op StepRefusal
 op_by table store deed (Ok path) = op_at store path (act_of table path deed)
 op_by table store deed (Err fault) = Err (BadPath fault)
-
--- the rows of an act are data of the schema at the path
-abbrev pub act_fits : SchemaTable → List Step → Act → Bool
-act_fits table path act = fits table path (rows_of_act act)

@@ -1,10 +1,12 @@
 -- A client's run, as the definitions have it.
-use Rattle.std.specs.Prelude.{◌≡◌, ℕ, ◌+◌, ◌≤◌, ◌<◌, Bool, true, false, List, [], ◌∷◌, length, drop, map, None, Some, Result, Ok, Err, slice_index_or}
+use Rattle.std.specs.List.{list_all}
+use Rattle.std.specs.Prelude.{IsTrue, ◌≡◌, ℕ, ◌+◌, ◌≤◌, ◌<◌, Bool, true, false, List, [], ◌∷◌, length, drop, map, None, Some, Result, Ok, Err, slice_index_or}
 use Rattle.sal_history.specs.World.{Domain}
 use Rattle.sal_history.specs.declared.call.Entry.{Entry}
 use Rattle.sal_schema.specs.declared.table.SchemaTable.{SchemaTable}
 use Rattle.sal_script.specs.declared.reply.StepReply.{StepReply}
 use Rattle.sal_script.specs.declared.script.ScriptStep.{ScriptStep}
+use Rattle.sal_script.specs.JsonMoves.{is_json_move}
 use Rattle.sal_script.specs.Moves.{Move, moves_of}
 use Rattle.sal_script.specs.Play.{Played, Run, Stand, arrive, ended, go, replies_of, turn}
 use Rattle.sal_hub.specs.Known.{Known, more}
@@ -22,11 +24,12 @@ moves_from at steps = moves_of (drop at steps)
 abbrev pub run_of : List ScriptStep → CodeRun → Run
 run_of steps r = record { client = client_of r.client; steps = moves_from r.at steps }
 
--- the run is sound, and within a program that is short
+-- the run is sound, and within a program that is short, whose values are JSON
 pub record IsRun (known : Known) (steps : List ScriptStep) (r : CodeRun) : Type 0 where
   pub sound : IsSound known r.client
   pub within : r.at ≤ length steps
   pub short : length steps ≤ 60000
+  pub json : IsTrue (list_all is_json_move (moves_of steps))
 
 -- one entry more, of client c
 abbrev pub GrowsBy : ℕ → Known → Known → Type 0

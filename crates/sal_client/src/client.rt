@@ -1,9 +1,10 @@
 //! A client: its slots, and how it answers its steps.
-ghost use Rattle.std.specs.Prelude.{◌≡◌, ◌<◌, IfOk, OnOk, [], length};
+ghost use Rattle.std.specs.Prelude.{◌≡◌, ◌<◌, IfOk, OnOk, IsTrue, [], length};
 ghost use Rattle.sal_history.specs.World.{Domain, table_of};
 ghost use Rattle.sal_hub.specs.Answers.{limit};
 ghost use Rattle.sal_hub.specs.Tokens.{mode_of};
 ghost use Rattle.sal_client.specs.Clients.{standing_in};
+ghost use Rattle.sal_script.specs.JsonMoves.{is_json_move};
 ghost use Rattle.sal_script.specs.Moves.{move_of};
 ghost use Rattle.sal_script.specs.Play.{new_client};
 
@@ -99,6 +100,7 @@ impl ClientState {
         requires sound { IsSound hub.old self.old }
         requires table { reader.now ≡ table_of hub.old.world 0 }
         requires room { length hub.old.log < limit }
+        requires json { IsTrue (is_json_move (move_of step.now)) }
         ensures answers { IfOk result (λ p. Answers reader.now p.0 p.1 self.old.number hub.old (client_of self.old) (move_of step.now) hub.new (client_of self.new)) }
         ensures sound { OnOk result (IsSound hub.new self.new) }
         ensures same { OnOk result (Same self.old self.new) }
@@ -158,6 +160,7 @@ impl ClientState {
         requires sound { IsSound hub.old self.old }
         requires table { reader.now ≡ table_of hub.old.world 0 }
         requires room { length hub.old.log < limit }
+        requires json { IsTrue (is_json_move (move_of step.now)) }
         ensures steps { IfOk result (λ went. Steps reader.now went self.old.number hub.old (client_of self.old) (move_of step.now) hub.new (client_of self.new)) }
         ensures sound { OnOk result (IsSound hub.new self.new) }
         ensures number { OnOk result (self.new.number ≡ self.old.number) }

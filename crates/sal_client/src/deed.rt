@@ -1,17 +1,15 @@
 //! What a write does, read from texts and values.
-ghost use Rattle.std.specs.Prelude.{◌≡◌, IfOk, IsTrue};
+ghost use Rattle.std.specs.Prelude.{◌≡◌, IfOk};
 ghost use Rattle.serde_json.specs.View.{view};
 ghost use Rattle.sal_pathtext.specs.Read.{read_path};
 ghost use Rattle.sal_data.specs.Read.{read_data};
 ghost use Rattle.sal_script.specs.Play.{act_of};
-ghost use Rattle.sal_tx.specs.Written.{IsForSchema};
 ghost use Rattle.sal_client.specs.Deeds as spec;
 
 use crate::reader::Reader;
-use sal_data::{DataFault, fits_rows};
+use sal_data::DataFault;
 use sal_pathtext::PathTextFault;
 use sal_rows::{Act, Op, Rows};
-use sal_schema::Schema;
 use sal_script::StepRefusal;
 use sal_types::{NoMemory, Path, Store};
 use serde_json::Value;
@@ -96,23 +94,4 @@ pub(crate) fn op_of(
         Ok(act) => Ok(Ok(Op { store, path, act })),
         Err(refusal) => Ok(Err(refusal)),
     }
-}
-
-// Whether the act's rows are data of the schema at the path.
-fn act_fits(schema: &Schema, path: &Path, act: &Act) -> bool
-    ensures { result ≡ spec.act_fits schema.now path.now act.now }
-{
-    match act {
-        Act::Put(rows) => fits_rows(schema, path, rows),
-        Act::Merge(rows) => fits_rows(schema, path, rows),
-        Act::Delete => true,
-    }
-}
-
-/// Whether the operation is one for the schema: its path and its rows fit, outside of RPCs and notifications. It takes no
-/// memory.
-pub(crate) fn fits_op(schema: &Schema, op: &Op) -> bool
-    ensures { IsTrue result → IsForSchema schema.now op.now }
-{
-    schema.fits(&op.path) && !schema.is_in_message(&op.path) && act_fits(schema, &op.path, &op.act)
 }

@@ -3,6 +3,7 @@ ghost use Rattle.std.specs.Prelude.{◌≡◌, ◌+◌, ◌<◌, List, [], ◌�
 ghost use Rattle.sal_script.specs.Limits.{within_limits};
 ghost use Rattle.sal_history.specs.World.{table_of};
 ghost use Rattle.sal_hub.specs.Known.{Known};
+ghost use Rattle.sal_script.specs.JsonMoves.{have_json_moves};
 ghost use Rattle.sal_script.specs.Moves.{clients_of};
 ghost use Rattle.sal_script.specs.Play as play_spec;
 ghost use Rattle.sal_client.specs.Runs.{replies_in, runs_of, stand_of, AreRuns, Ends, PlaysAs, Turns};
@@ -39,7 +40,8 @@ pub(crate) struct Simulation {
 
 // The clients at their beginning.
 fn new_runs(alloc: Global, programs: &[Program]) -> Result<Vec<Run>, NoMemory>
-    requires { IsTrue (within_limits programs.now) }
+    requires limits { IsTrue (within_limits programs.now) }
+    requires json { IsTrue (have_json_moves (clients_of programs.now)) }
     ensures stand { IfOk result (λ runs. stand_of programs.now [] runs.items ≡ play_spec.start (clients_of programs.now)) }
     ensures runs { IfOk result (λ runs. (known : Known) → known.log ≡ [] → AreRuns known programs.now runs.items) }
 {

@@ -1,17 +1,19 @@
 //! Writes in a client's transaction.
-ghost use Rattle.std.specs.Prelude.{◌≡◌, Some, IfOk, OnOk, MatchResult, ⊤};
+ghost use Rattle.std.specs.Prelude.{◌≡◌, Some, IfOk, OnOk, IsTrue, MatchResult, ⊤};
 ghost use Rattle.sal_history.specs.World.{table_of};
+ghost use Rattle.sal_script.specs.JsonScripts.{is_json_deed};
 ghost use Rattle.sal_script.specs.Play.{Client, Open, accept_unless, local};
 ghost use Rattle.sal_script.specs.Play as play_spec;
+ghost use Rattle.sal_tx.specs.Written.{IsForSchema};
 ghost use Rattle.sal_client.specs.Deeds.{deed_of};
 
 use crate::client::{ClientState, Standing, refused};
-use crate::deed::{Deed, fits_op, op_of};
+use crate::deed::{Deed, op_of};
 use crate::reader::Reader;
 use crate::slots::{fill_slot, take_slot};
 use sal_hub::Hub;
 use sal_rows::Op;
-use sal_script::{StepRefusal, StepReply};
+use sal_script::{StepRefusal, StepReply, laws};
 use sal_tx::{Tx, TxFault};
 use sal_types::{NoMemory, Store};
 use std::alloc::Global;
@@ -44,6 +46,7 @@ impl ClientState {
     ) -> Result<StepReply, NoMemory>
         requires sound { IsSound hub.now self.old }
         requires table { reader.now ≡ table_of hub.now.world 0 }
+        requires json { IsTrue (is_json_deed (deed_of deed)) }
         ensures answers { IfOk result (λ r. play_spec.write reader.now hub.now.world hub.now.log slot store text.now (deed_of deed.entry) (client_of self.old) (opened self.old slot) ≡ local r (client_of self.new)) }
         ensures sound { OnOk result (IsSound hub.now self.new) }
         ensures same { OnOk result (Same self.old self.new) }
@@ -53,6 +56,8 @@ impl ClientState {
             Standing::ReadOnly => Ok(refused(StepRefusal::ReadOnly)),
             Standing::Writable => match op_of(alloc, reader, store, text, deed)? {
                 Ok(op) => {
+                    laws::writes_are_for_schema();
+                    let _count = reader.schema().len();
                     let reply = self.write_op(alloc, reader, hub, slot, op)?;
                     Ok(reply)
                 }
@@ -72,14 +77,12 @@ impl ClientState {
     ) -> Result<StepReply, NoMemory>
         requires sound { IsSound hub.now self.old }
         requires table { reader.now ≡ table_of hub.now.world 0 }
+        requires for_schema { IsForSchema reader.now op }
         requires writable { standing_of (opened self.old slot) ≡ Standing.Writable }
         ensures answers { IfOk result (λ r. (tx : Open) → opened self.old slot ≡ Some tx → play_spec.write_op reader.now hub.now.world hub.now.log slot op tx (client_of self.old) ≡ local r (client_of self.new)) }
         ensures sound { OnOk result (IsSound hub.now self.new) }
         ensures same { OnOk result (Same self.old self.new) }
     {
-        if !fits_op(reader.schema(), &op) {
-            return Err(NoMemory);
-        }
         match take_slot(&mut self.transactions, slot) {
             Some(Tx::Write(taken)) => {
                 let mut tx = taken;

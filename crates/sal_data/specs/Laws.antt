@@ -14,7 +14,7 @@ use Rattle.sal_schema.specs.declared.table.SchemaTable.{SchemaTable}
 use Rattle.sal_schema.specs.Fitting.{fits, has_own_row}
 use Rattle.sal_schema.specs.Paths.{fits_path, last_step, node_of}
 use Rattle.sal_schema.specs.Valid.{IsTable}
-use Rattle.sal_json.specs.Laws.{HasBytes}
+pub use Rattle.sal_value.specs.Json.{IsJson, AreJson, HasJson}
 use Rattle.sal_data.specs.Read.{node_scalar, read_data}
 use Rattle.sal_data.specs.Written.{scalar_json, write_data}
 
@@ -62,24 +62,6 @@ TreesReadAsWritten =
     → IsTrue (not (has_own_row table path) || is_some (cell tree path)) → read_data table path (write_data table path tree) ≡ Ok (under tree path)
 
 -- ---- JSON values
-
--- a JSON value as a text has it: each name stands once in its object, and strings are bytes
-abbrev mutual
-  pub IsJson : Data → Type 0
-  IsJson null = ⊤
-  IsJson (boolean b) = ⊤
-  IsJson (number x) = ⊤
-  IsJson (string t) = HasBytes (string t)
-  IsJson (array items) = AreJson items
-  IsJson (object ms) = HasJson ms
-
-  pub AreJson : Items → Type 0
-  AreJson no_items = ⊤
-  AreJson (item json items) = IsJson json × AreJson items
-
-  pub HasJson : Members → Type 0
-  HasJson no_members = ⊤
-  HasJson (member name json ms) = (get_member name ms ≡ None) × (IsJson json × HasJson ms)
 
 -- The rows that are read at a path are whole.
 abbrev pub ReadsWhole : Type 0

@@ -1,4 +1,6 @@
 pub mod Each
+pub mod ForSchema
 pub mod JsonData
+pub mod JsonRead
 pub mod Limits
 pub mod Readers

@@ -1,5 +1,8 @@
 pub mod Examples
 pub mod Json
+pub mod JsonMoves
+pub mod JsonScripts
+pub mod Laws
 pub mod Limits
 pub mod Moves
 pub mod Play

@@ -114,13 +114,14 @@ step_of d = option_and_then step_from (list_of d)
 abbrev pub members_of : List (List ℕ) → Data → Option Members
 members_of names d = option_and_then (λ ms. if all_named names ms then Some ms else None) (as_object d)
 
+-- the values of an array; an absent one is empty
+abbrev pub list_by : Option Data → Option (List Data)
+list_by None = Some []
+list_by (Some d) = list_of d
+
 -- the values of an array member; an absent one is empty
 abbrev pub list_member : List ℕ → Members → Option (List Data)
-list_member name ms = listed (get_member name ms)
-  where
-    listed : Option Data → Option (List Data)
-    listed None = Some []
-    listed (Some d) = list_of d
+list_member name ms = list_by (get_member name ms)
 
 -- a client's steps, not yet read: an object with the one member `steps`, an array that is not too long
 abbrev pub program_of : Data → Option (List Data)
@@ -166,13 +167,14 @@ modules_member ms = given (get_member (codes "modules") ms)
 abbrev pub if_object : Data → Option Data
 if_object d = option_map (λ ms. d) (as_object d)
 
+-- an object; an absent one is empty
+abbrev pub opening_by : Option Data → Option Data
+opening_by None = Some (object no_members)
+opening_by (Some d) = if_object d
+
 -- the data of an opening tree, an object; an absent one is empty
 abbrev pub opening_member : List ℕ → Members → Option Data
-opening_member name ms = given (get_member name ms)
-  where
-    given : Option Data → Option Data
-    given None = Some (object no_members)
-    given (Some d) = if_object d
+opening_member name ms = opening_by (get_member name ms)
 
 -- the members that a script may have
 abbrev pub names : List (List ℕ)

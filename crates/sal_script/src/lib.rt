@@ -24,6 +24,7 @@
 
 pub mod examples;
 pub mod fault;
+pub mod laws;
 pub mod read;
 pub mod reply;
 pub mod script;

@@ -1,6 +1,7 @@
 //! Scripts, read from JSON (RFC 8259).
 ghost use Rattle.std.specs.Prelude.{◌≡◌, [], ◌∷◌, codes, map, option_and_then, option_map, IfOk, IfErr, IfSome, IsTrue};
 ghost use Rattle.serde_json.specs.View.{view, members_view};
+ghost use Rattle.sal_value.specs.Json.{HasJson};
 ghost use Rattle.sal_script.specs.Json.{data_of};
 ghost use Rattle.sal_script.specs.Reading.{Reads, ReadsScript, parts};
 ghost use Rattle.sal_script.specs.Moves.{clients_of, moves_of};
@@ -52,6 +53,7 @@ fn script_members(alloc: Global, value: &Value) -> Result<&Map<String, Value>, S
 }
 
 fn parts_of(alloc: Global, members: &Map<String, Value>) -> Result<Script, ScriptFault>
+    requires { HasJson (members_view members.now.entries) }
     ensures { Reads parts result (spec.parts_of (members_view members.now.entries)) }
 {
     let modules = modules_of(alloc, members)?;

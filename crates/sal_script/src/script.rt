@@ -1,6 +1,10 @@
 //! Scripts and their steps.
-ghost use Rattle.std.specs.Prelude.{IsTrue};
+ghost use Rattle.std.specs.Prelude.{IsTrue, ◌&&◌};
+ghost use Rattle.serde_json.specs.View.{view};
+ghost use Rattle.sal_value.specs.Json.{is_json};
+ghost use Rattle.sal_script.specs.JsonMoves.{have_json_moves};
 ghost use Rattle.sal_script.specs.Limits.{are_short, within_limits};
+ghost use Rattle.sal_script.specs.Moves.{clients_of};
 
 use sal_rows::Mode;
 use sal_types::{Seq, Store, Str};
@@ -87,4 +91,6 @@ pub struct Script {
     pub order: Seq<u32>,
     ghost short: { IsTrue (are_short modules) },
     ghost limits: { IsTrue (within_limits clients) },
+    ghost opening: { IsTrue (is_json (view config) && is_json (view operational)) },
+    ghost json: { IsTrue (have_json_moves (clients_of clients)) },
 }

@@ -24,4 +24,4 @@ returns-clause-stand c =
 pub returns-clause-runs : goal.returns-clause-runs
 returns-clause-runs c known none =
     let long : length c.loop-i.runs.items ≡ length c.args.programs.now = omega (arith, c.loop-i.invariant.long) in
-    AreRuns-fresh known c.args.programs.now c.loop-i.runs.items none c.requires long c.loop-i.invariant.each
+    AreRuns-fresh known c.args.programs.now c.loop-i.runs.items none c.requires.limits c.requires.json long c.loop-i.invariant.each

@@ -5,7 +5,13 @@ use Rattle.sal_script.specs.Play.{make}
 use Rattle.sal_client.specs.Clients.{client_of}
 use Rattle.sal_client.specs.declared.client.Went.TheVariants.{Local, Shared}
 use Rattle.sal_client.proofs.Going.{steps_at, local_turn, local_log, shared_turn, shared_grows}
+use Rattle.sal_client.proofs.Values.{json_at}
 use Rattle.sal_client.proofs.run.Run.go.Goals as goal
+
+pub step-requires-clause-json : goal.step-requires-clause-json
+step-requires-clause-json g c =
+    let step = c.index-steps-i.result in
+    json_at c.args.steps.now c.loop-i.i step c.loop-i.invariant.run.json c.loop-i-test.true c.index-steps-i.is
 
 pub loop-i-preserved : goal.loop-i-preserved
 loop-i-preserved g c =
@@ -20,7 +26,7 @@ loop-i-preserved g c =
     record {
       at = refl;
       from = omega (arith, was.from);
-      run = record { sound = c.in_ok-went.ensures.sound; within = omega arith; short = was.run.short };
+      run = record { sound = c.in_ok-went.ensures.sound; within = omega arith; short = was.run.short; json = was.run.json };
       log = local_log table number known c.step.new.hub old new (move_of step) steps;
       number = c.in_ok-went.ensures.number ∙ was.number;
       rest = was.rest ∙ local_turn table known old c.args.steps.now c.loop-i.i step c.loop-i-test.true c.index-steps-i.is number c.step.new.hub new steps;

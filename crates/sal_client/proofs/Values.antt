@@ -1,0 +1,50 @@
+-- The values of a program's steps are JSON, and what was read of them is for the schema.
+use Rattle.std.proofs.Common.{◌≡◌, ℕ, zero, suc, ◌<◌, true, List, [], ◌∷◌, length, get_or, Result, Ok, Err, IsTrue, refl, sym, ap, ◌∙◌, subst, arith}
+use Rattle.std.proofs.lemmas.Bool.{and_parts}
+use Rattle.std.specs.Prelude.{⊤}
+use Rattle.std.specs.List.{list_all}
+use Rattle.sal_types.specs.declared.value.Store.{Store}
+use Rattle.sal_types.specs.declared.value.Step.{Step}
+use Rattle.sal_rows.specs.declared.op.Act.{Act}
+use Rattle.sal_rows.specs.declared.op.Op.{Op}
+use Rattle.sal_schema.specs.declared.table.SchemaTable.{SchemaTable}
+use Rattle.sal_schema.specs.Valid.{IsTable}
+use Rattle.sal_pathtext.specs.declared.fault.PathTextFault.{PathTextFault}
+use Rattle.sal_pathtext.specs.Read.{read_path}
+use Rattle.sal_data.specs.declared.fault.DataFault.{DataFault}
+use Rattle.sal_tx.specs.Written.{IsForSchema}
+use Rattle.sal_script.specs.declared.script.ScriptStep.{ScriptStep}
+use Rattle.sal_script.specs.JsonMoves.{is_json_move, have_json_moves}
+use Rattle.sal_script.specs.JsonScripts.{is_json_deed}
+use Rattle.sal_script.specs.Laws.{WritesAreForSchema}
+use Rattle.sal_script.specs.Moves.{move_of, moves_of, clients_of}
+use Rattle.sal_script.specs.Play.{Deed, act_of}
+use Rattle.sal_client.specs.Deeds.{op_at, op_by}
+
+pub json_at : (steps : List ScriptStep) (i : ℕ) (step : ScriptStep) → list_all is_json_move (moves_of steps) ≡ true → i < length steps → step ≡ get_or steps i step → is_json_move (move_of step) ≡ true
+json_at [] i step are h at = absurd (omega arith)
+json_at (x ∷ steps) zero step are h at = ap (λ (s : ScriptStep). is_json_move (move_of s)) at ∙ (and_parts (is_json_move (move_of x)) (list_all is_json_move (moves_of steps)) are).0
+json_at (x ∷ steps) (suc i) step are h at = json_at steps i step (and_parts (is_json_move (move_of x)) (list_all is_json_move (moves_of steps)) are).1 (omega arith) at
+
+pub program_at : (ps : List (List ScriptStep)) (i : ℕ) (p : List ScriptStep) → have_json_moves (clients_of ps) ≡ true → i < length ps → p ≡ get_or ps i p → list_all is_json_move (moves_of p) ≡ true
+program_at [] i p have h at = absurd (omega arith)
+program_at (x ∷ ps) zero p have h at = ap (λ (q : List ScriptStep). list_all is_json_move (moves_of q)) at ∙ (and_parts (list_all is_json_move (moves_of x)) (have_json_moves (clients_of ps)) have).0
+program_at (x ∷ ps) (suc i) p have h at = program_at ps i p (and_parts (list_all is_json_move (moves_of x)) (have_json_moves (clients_of ps)) have).1 (omega arith) at
+
+-- what holds of what was made
+abbrev Given : {A F : Type 0} → (A → Type 0) → Result A F → Type 0
+Given P (Ok x) = P x
+Given P (Err e) = ⊤
+
+module _ (law : WritesAreForSchema) (table : SchemaTable) (good : IsTable table) (store : Store) (text : List ℕ) (deed : Deed) (is : IsTrue (is_json_deed deed)) where
+  by_act : (path : List Step) → read_path table text ≡ Ok path → (act : Result Act DataFault) → act_of table path deed ≡ act → Given (IsForSchema table) (op_at store path act)
+  by_act path read (Ok act) e = law table good store text path read deed is act e
+  by_act path read (Err fault) e = tt
+
+  by_path : (path : Result (List Step) PathTextFault) → read_path table text ≡ path → Given (IsForSchema table) (op_by table store deed path)
+  by_path (Ok path) e = by_act path e (act_of table path deed) refl
+  by_path (Err fault) e = tt
+
+  -- an operation that was read is for the schema
+  pub op_for_schema : (op : Op) → Ok op ≡ op_by table store deed (read_path table text) → IsForSchema table op
+  op_for_schema op made = subst (Given (IsForSchema table)) (sym made) (by_path (read_path table text) refl)

@@ -1,0 +1,69 @@
+-- What was read at a path that was read is an operation for the schema.
+use Rattle.std.proofs.Common.{◌≡◌, true, false, List, [], ◌∷◌, Result, Ok, Err, IsTrue, refl, subst}
+use Rattle.std.proofs.lemmas.Bool.{not-true}
+use Rattle.std.specs.Prelude.{⊤}
+use Rattle.sal_types.specs.Reading.{◌>>=◌}
+use Rattle.sal_types.specs.declared.value.Step.{Step}
+use Rattle.sal_types.specs.declared.value.Step.TheVariants.{Node, Key, Item}
+use Rattle.sal_types.specs.declared.row.Row.{Row}
+use Rattle.sal_rows.specs.declared.op.Act.{Act}
+use Rattle.sal_rows.specs.declared.op.Act.TheVariants.{Put as PutAct, Merge as MergeAct}
+use Rattle.sal_rows.specs.Apply.{rows_of_act}
+use Rattle.serde_json.specs.Data.{Data}
+use Rattle.sal_value.specs.Json.{is_json}
+use Rattle.sal_value.proofs.Tested.{tests_json}
+use Rattle.sal_schema.specs.declared.table.SchemaTable.{SchemaTable}
+use Rattle.sal_schema.specs.Valid.{IsTable}
+use Rattle.sal_schema.specs.Fitting.{fits, is_in_message}
+use Rattle.sal_schema.specs.Kinds.{is_message}
+use Rattle.sal_schema.specs.Table.{is_kind}
+use Rattle.sal_data.specs.Read.{read_data}
+use Rattle.sal_data.proofs.ReadWhole.{reads_whole}
+use Rattle.sal_pathtext.specs.Laws.{IsDataPath, begins_with_data}
+use Rattle.sal_pathtext.proofs.ReadPaths.{read-is_data}
+use Rattle.sal_script.specs.JsonScripts.{is_json_deed}
+use Rattle.sal_script.specs.Laws.{WritesAreForSchema}
+use Rattle.sal_script.specs.Play.{Deed, putting, merging, deleting, act_of}
+
+abbrev Given : {A F : Type 0} → (A → Type 0) → Result A F → Type 0
+Given P (Ok x) = P x
+Given P (Err e) = ⊤
+
+given_from : {A F : Type 0} (P : A → Type 0) (r : Result A F) → ((x : A) → r ≡ Ok x → P x) → Given P r
+given_from P (Ok x) h = h x refl
+given_from P (Err e) h = tt
+
+given_then : {A B F : Type 0} (P : A → Type 0) (Q : B → Type 0) (r : Result A F) (f : A → Result B F) → Given P r → ((x : A) → P x → Given Q (f x)) → Given Q (r >>= f)
+given_then P Q (Ok x) f is more = more x is
+given_then P Q (Err e) f is more = tt
+
+module _ (table : SchemaTable) where
+  outside : (path : List Step) → begins_with_data table path ≡ true → is_in_message table path ≡ false
+  outside [] e = refl
+  outside (Node n ∷ path) e = not-true (is_kind is_message table n) e
+  outside (Key values ∷ path) e = refl
+  outside (Item value ∷ path) e = refl
+
+  module _ (good : IsTable table) (path : List Step) (data_path : IsDataPath table path) where
+    abbrev Fits : List Row → Type 0
+    Fits rows = IsTrue (fits table path rows)
+
+    abbrev Suits : Act → Type 0
+    Suits act = Fits (rows_of_act act)
+
+    value_fits : (value : Data) → IsTrue (is_json value) → Given Fits (read_data table path value)
+    value_fits value is = given_from Fits (read_data table path value) (λ rows e. (reads_whole table good path data_path.fits data_path.short value ((tests_json value).0 is) rows e).fitting)
+
+    act_fits : (deed : Deed) → IsTrue (is_json_deed deed) → Given Suits (act_of table path deed)
+    act_fits (putting value) is = given_then Fits Suits (read_data table path value) (λ rows. Ok (PutAct rows)) (value_fits value is) (λ rows x. x)
+    act_fits (merging value) is = given_then Fits Suits (read_data table path value) (λ rows. Ok (MergeAct rows)) (value_fits value is) (λ rows x. x)
+    act_fits deleting is = refl
+
+pub writes_are_for_schema : WritesAreForSchema
+writes_are_for_schema table good store text path read deed is act made =
+    let data_path = read-is_data table good text path read in
+    record {
+      path = data_path.fits;
+      data_path = outside table path data_path.of_data;
+      rows = subst (Given (λ (a : Act). IsTrue (fits table path (rows_of_act a)))) made (act_fits table good path data_path deed is);
+    }

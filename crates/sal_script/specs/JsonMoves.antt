@@ -1,0 +1,43 @@
+-- Steps whose values are JSON as texts have it.
+use Rattle.std.specs.Prelude.{Bool, true, List, [], ◌∷◌, ⊤}
+use Rattle.std.specs.List.{list_all}
+use Rattle.sal_value.specs.Json.{IsJson, is_json}
+use Rattle.sal_script.specs.Moves.{Move, Begin, Put, Merge, Delete, Read, Exists, Submit, Cancel, Settle}
+
+-- the value of a step
+abbrev pub IsJsonMove : Move → Type 0
+IsJsonMove (Begin slot domain mode) = ⊤
+IsJsonMove (Put slot store path value) = IsJson value
+IsJsonMove (Merge slot store path value) = IsJson value
+IsJsonMove (Delete slot store path) = ⊤
+IsJsonMove (Read slot store path) = ⊤
+IsJsonMove (Exists slot store path) = ⊤
+IsJsonMove (Submit slot) = ⊤
+IsJsonMove (Cancel slot) = ⊤
+IsJsonMove (Settle slot) = ⊤
+
+-- those of a client's steps
+abbrev pub AreJsonMoves : List Move → Type 0
+AreJsonMoves [] = ⊤
+AreJsonMoves (step ∷ steps) = IsJsonMove step × AreJsonMoves steps
+
+-- those of all clients
+abbrev pub HaveJsonMoves : List (List Move) → Type 0
+HaveJsonMoves [] = ⊤
+HaveJsonMoves (steps ∷ clients) = AreJsonMoves steps × HaveJsonMoves clients
+
+-- ---- the same, as a test
+
+abbrev pub is_json_move : Move → Bool
+is_json_move (Begin slot domain mode) = true
+is_json_move (Put slot store path value) = is_json value
+is_json_move (Merge slot store path value) = is_json value
+is_json_move (Delete slot store path) = true
+is_json_move (Read slot store path) = true
+is_json_move (Exists slot store path) = true
+is_json_move (Submit slot) = true
+is_json_move (Cancel slot) = true
+is_json_move (Settle slot) = true
+
+abbrev pub have_json_moves : List (List Move) → Bool
+have_json_moves clients = list_all (λ steps. list_all is_json_move steps) clients

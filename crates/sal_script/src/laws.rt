@@ -1,0 +1,12 @@
+//! Laws of the definitions. A call does nothing: its clauses are the laws.
+ghost use Rattle.sal_script.specs.Laws.{ScriptsAreJson, WritesAreForSchema};
+
+/// The values of a script that was read have each name once in its object, and their strings are bytes.
+pub fn scripts_are_json()
+    ensures { ScriptsAreJson }
+{}
+
+/// What such a value says at a path that was read is an operation for the schema.
+pub fn writes_are_for_schema()
+    ensures { WritesAreForSchema }
+{}

@@ -1,0 +1,4 @@
+//! JSON values as texts have them.
+#![tactic(auto)]
+
+pub mod laws;

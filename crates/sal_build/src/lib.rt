@@ -39,8 +39,6 @@ mod node;
 mod order;
 mod schema;
 mod tables;
-#[cfg(test)]
-mod tests;
 mod typed;
 mod types;
 mod vectors;

@@ -43,8 +43,6 @@ mod plan;
 mod reach;
 mod rules;
 pub mod spot;
-#[cfg(test)]
-mod tests;
 mod trail;
 mod unique;
 mod walk;

@@ -38,8 +38,6 @@ mod clashing;
 mod deciding;
 mod domain;
 mod phases;
-#[cfg(test)]
-mod tests;
 mod trees;
 
 pub use deciding::decide;

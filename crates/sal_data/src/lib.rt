@@ -52,18 +52,10 @@ mod lookups;
 mod members;
 mod order;
 mod read;
-#[cfg(test)]
-mod read_tests;
 mod reader;
 mod runs;
-#[cfg(test)]
-mod test_table;
-#[cfg(test)]
-mod test_texts;
 mod walk;
 mod write;
-#[cfg(test)]
-mod write_tests;
 mod written_names;
 
 pub use fault::DataFault;

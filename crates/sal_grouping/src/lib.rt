@@ -42,8 +42,6 @@ mod plan;
 mod reach;
 mod rows;
 mod tables;
-#[cfg(test)]
-mod tests;
 mod trees;
 mod vectors;
 mod whole;

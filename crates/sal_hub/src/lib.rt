@@ -40,8 +40,6 @@ mod receipt;
 mod settle;
 mod start;
 mod submit;
-#[cfg(test)]
-mod tests;
 
 pub use hub::{Hub, MAX_ENTRIES, MAX_PENDING};
 pub use opening::OpenFault;

@@ -31,8 +31,6 @@ pub mod memory;
 pub mod sink;
 pub mod source;
 pub mod standard;
-#[cfg(test)]
-mod tests;
 
 pub use fault::{Failed, ReadFail};
 pub use gate::{Gate, OpenGate};

@@ -29,7 +29,5 @@ mod covers;
 mod notes;
 mod places;
 mod settings;
-#[cfg(test)]
-mod tests;
 
 pub use changes::Mod;

@@ -40,8 +40,6 @@ mod prefixes;
 mod profile;
 mod statement;
 mod table;
-#[cfg(test)]
-mod tests;
 mod vectors;
 
 pub use argument::{Form, has_form, is_whole};

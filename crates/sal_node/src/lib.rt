@@ -37,8 +37,6 @@ pub mod node;
 mod pages;
 mod paging;
 mod sheets;
-#[cfg(test)]
-mod tests;
 
 pub use builder::Builder;
 pub use edit::copy_cell;

@@ -38,8 +38,6 @@ pub mod laws;
 mod nodes;
 mod read;
 mod reader;
-#[cfg(test)]
-mod tests;
 mod words;
 mod write;
 

@@ -29,8 +29,6 @@ mod faults;
 mod lines;
 mod pieces;
 mod replies;
-#[cfg(test)]
-mod tests;
 mod words;
 
 pub use breaches::{breach_text, path_words};

@@ -30,8 +30,6 @@ mod fault;
 mod range_text;
 mod ranges;
 mod span;
-#[cfg(test)]
-mod tests;
 mod vectors;
 mod words;
 mod yang_type;

@@ -37,8 +37,6 @@ mod names;
 mod parts;
 mod schema;
 mod table;
-#[cfg(test)]
-mod tests;
 mod text;
 mod values;
 

@@ -29,8 +29,6 @@ pub mod read;
 pub mod reply;
 pub mod script;
 mod step;
-#[cfg(test)]
-mod tests;
 mod values;
 
 pub use fault::ScriptFault;

@@ -34,8 +34,6 @@ mod quoted;
 mod reader;
 mod source;
 mod stmt;
-#[cfg(test)]
-mod tests;
 mod vectors;
 
 pub use bytes::{is_identifier, is_keyword};

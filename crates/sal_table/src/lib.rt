@@ -37,8 +37,6 @@ mod kind;
 mod lists;
 mod names;
 mod node;
-#[cfg(test)]
-mod tests;
 mod types;
 mod whole;
 mod words;

@@ -40,8 +40,6 @@ pub mod examples;
 mod growth;
 pub mod listing;
 pub mod root;
-#[cfg(test)]
-mod tests;
 pub mod under;
 
 pub use alike::is_alike;

@@ -33,8 +33,6 @@ mod begun;
 mod examples;
 mod fault;
 mod refusal;
-#[cfg(test)]
-mod tests;
 mod tx;
 mod writing;
 

@@ -61,8 +61,6 @@ mod restriction;
 mod site;
 mod site_judge;
 mod spot;
-#[cfg(test)]
-mod tests;
 mod typedefs;
 mod vectors;
 mod walk;

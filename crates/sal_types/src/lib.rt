@@ -27,8 +27,6 @@ pub mod memory;
 pub mod path;
 pub mod row;
 pub mod seq;
-#[cfg(test)]
-mod tests;
 pub mod text;
 pub mod value;
 

@@ -14,7 +14,7 @@ use Rattle.sal_tree.specs.Rows.{rows_of}
 use Rattle.sal_tree.proofs.Cells.{ascending-rows_of}
 use Rattle.sal_tree.specs.declared.commit.Commit.{Commit}
 use Rattle.sal_tree.specs.declared.commit.Pair.{Pair}
-use Rattle.sal_graft.specs.Clash.{tip}
+use Rattle.sal_rows.specs.Clash.{tip}
 use Rattle.sal_graft.specs.Kept.{AreKept, opening_in, ops_of, rows_in}
 use Rattle.sal_graft.proofs.KeptLemmas.{tip-kept}
 use Rattle.sal_commit.specs.Deciding.{LieBelow}

@@ -1,13 +1,13 @@
 //! The conflict of a submission with the commits after its base, as an outcome.
 ghost use Rattle.std.specs.Prelude.{◌≡◌, ◌≤◌, IfOk, length, take};
 ghost use Rattle.sal_history.specs.Outcome as outcome;
-ghost use Rattle.sal_graft.specs.Clash.{clash};
+ghost use Rattle.sal_rows.specs.Clash.{clash};
 ghost use Rattle.sal_graft.specs.Kept.{opening_in, ops_of, rows_in};
 ghost use Rattle.sal_commit.specs.Deciding as spec;
 
 use crate::domain::Domain;
-use sal_graft::{Clash, Span, conflict};
-use sal_rows::{Op, Outcome};
+use sal_graft::conflict;
+use sal_rows::{Clash, Op, Outcome, Span};
 use sal_tx::Submission;
 use sal_types::{Duplicate, NoMemory, Path};
 use std::alloc::Global;

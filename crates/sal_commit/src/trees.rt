@@ -6,7 +6,7 @@ ghost use Rattle.sal_types.specs.declared.value.Store.TheVariants.{Config, Oper}
 ghost use Rattle.sal_types.specs.Tree.{under};
 ghost use Rattle.sal_rows.specs.Apply.{apply_ops, rows_of_act};
 ghost use Rattle.sal_tree.specs.Rows.{rows_of};
-ghost use Rattle.sal_graft.specs.Clash.{tip};
+ghost use Rattle.sal_rows.specs.Clash.{tip};
 ghost use Rattle.sal_graft.specs.Kept.{AreKept, opening_in, ops_of, rows_in};
 ghost use Rattle.sal_commit.specs.Deciding as spec;
 

@@ -10,22 +10,21 @@ use Rattle.sal_types.specs.Tree.{cell, has}
 use Rattle.sal_types.specs.Prefix.{is_prefix}
 use Rattle.sal_rows.specs.declared.op.Op.{Op}
 use Rattle.sal_rows.specs.Apply.{same_store, checks_path}
-use Rattle.sal_rows.specs.Commits.{Span as Piece, numbers_after, numbers_in}
-use Rattle.sal_rows.specs.Clash.{is_covered}
+use Rattle.sal_rows.specs.Commits.{numbers_after, numbers_in}
+use Rattle.sal_rows.specs.declared.clash.Span.{Span}
+use Rattle.sal_rows.specs.PathClash.{is_covered}
 use Rattle.sal_mod.specs.Covers.{covers}
 use Rattle.sal_mod.specs.Covers as by_mod
 use Rattle.std.specs.List.{list_any}
-use Rattle.sal_graft.specs.Clash.{op_clash, clash_from, lost_parent, tip, depths_above, numbers_over}
+use Rattle.sal_rows.specs.Clash.{op_clash, clash_from, lost_parent, tip, depths_above, numbers_over}
 use Rattle.sal_graft.specs.Rows.{lost_depth}
-use Rattle.sal_graft.specs.declared.found.Span.{Span}
-use Rattle.sal_graft.specs.Kept.{piece_of, pieces_of}
 use Rattle.sal_graft.proofs.Setting.{is_set-last}
-use Rattle.sal_graft.proofs.Numbers.{numbers_over-push, find_part}
+use Rattle.sal_rows.proofs.Numbers.{numbers_over-push, find_part}
 
 -- ---- operation by operation
 
 -- what is left of the operations from an index on
-pub clash_from-at : (opening : Store → List Row) (commits : List (List Op)) (base : Store → List Row) (spans : List Piece) (ops : List Op) (i : ℕ) (op : Op) → i < length ops → op ≡ get_or ops i op
+pub clash_from-at : (opening : Store → List Row) (commits : List (List Op)) (base : Store → List Row) (spans : List Span) (ops : List Op) (i : ℕ) (op : Op) → i < length ops → op ≡ get_or ops i op
     → clash_from opening commits base spans (take i ops) (drop i ops) ≡ option_or (op_clash opening commits base spans (take i ops) op) (clash_from opening commits base spans (take (i + 1) ops) (drop (i + 1) ops))
 clash_from-at opening commits base spans ops i op h at =
     let front : take (i + 1) ops ≡ take i ops ++ op ∷ [] = take_more ops i op h ∙ ap (λ (o : Op). take i ops ++ o ∷ []) (sym at) in
@@ -70,24 +69,16 @@ no-depth t d n h = let none : n - d ≡ 0 = omega arith in ap (λ k. find t (num
 
 -- ---- spans
 
-pub pieces-at : (spans : List Span) (i : ℕ) (span : Span) → i < length spans → span ≡ get_or spans i span → pieces_of (drop i spans) ≡ piece_of span ∷ pieces_of (drop (i + 1) spans)
-pieces-at spans i span h at = ap pieces_of (drop_more spans i span h) ∙ ap (λ (s : Span). piece_of s ∷ pieces_of (drop (i + 1) spans)) (sym at)
-
-pieces-push : (spans : List Span) (span : Span) → pieces_of (spans ++ span ∷ []) ≡ pieces_of spans ++ piece_of span ∷ []
-pieces-push [] span = refl
-pieces-push (s ∷ spans) span = ap (λ ps. piece_of s ∷ ps) (pieces-push spans span)
-
 -- from the last span on, one is looked at
 pub turn_span : (t : ℕ → Bool) (spans : List Span) (n : ℕ) (span : Span) → n < length spans → span ≡ get_or spans n span
-    → find t (reverse (numbers_over (pieces_of (take (n + 1) spans)))) ≡ option_or (find t (reverse (numbers_in (piece_of span)))) (find t (reverse (numbers_over (pieces_of (take n spans)))))
+    → find t (reverse (numbers_over (take (n + 1) spans))) ≡ option_or (find t (reverse (numbers_in span))) (find t (reverse (numbers_over (take n spans))))
 turn_span t spans n span h at =
     let front : take (n + 1) spans ≡ take n spans ++ span ∷ [] = take_more spans n span h ∙ ap (λ (s : Span). take n spans ++ s ∷ []) (sym at) in
-    ap (λ (l : List Span). find t (reverse (numbers_over (pieces_of l)))) front
-    ∙ ap (λ l. find t (reverse (numbers_over l))) (pieces-push (take n spans) span)
-    ∙ ap (λ l. find t (reverse l)) (numbers_over-push (pieces_of (take n spans)) (piece_of span))
-    ∙ find_part t (numbers_over (pieces_of (take n spans))) (numbers_in (piece_of span))
+    ap (λ (l : List Span). find t (reverse (numbers_over l))) front
+    ∙ ap (λ l. find t (reverse l)) (numbers_over-push (take n spans) span)
+    ∙ find_part t (numbers_over (take n spans)) (numbers_in span)
 
 -- the same, for a span that is read with some other one as the default
 pub turn_at : (t : ℕ → Bool) (spans : List Span) (n : ℕ) (other : Span) → n < length spans
-    → find t (reverse (numbers_over (pieces_of (take (n + 1) spans)))) ≡ option_or (find t (reverse (numbers_in (piece_of (get_or spans n other))))) (find t (reverse (numbers_over (pieces_of (take n spans)))))
+    → find t (reverse (numbers_over (take (n + 1) spans))) ≡ option_or (find t (reverse (numbers_in (get_or spans n other)))) (find t (reverse (numbers_over (take n spans))))
 turn_at t spans n other h = turn_span t spans n (get_or spans n other) h (get_or_default spans n other (get_or spans n other) h)

@@ -7,7 +7,7 @@ use Rattle.sal_types.specs.declared.value.Step.{Step}
 use Rattle.sal_rows.specs.Touch.{touches}
 use Rattle.sal_rows.specs.Commits.{commit_touches, tree_after, tree_at, touches_at}
 use Rattle.sal_tree.specs.declared.commit.Commit.{Commit}
-use Rattle.sal_graft.specs.Clash.{tip}
+use Rattle.sal_rows.specs.Clash.{tip}
 use Rattle.sal_graft.specs.Kept.{AreKept, opening_in, all_ops, ops_of, rows_in}
 
 length_ops : (commits : List Commit) → length (all_ops commits) ≡ length commits

@@ -4,12 +4,12 @@ use Rattle.sal_types.specs.declared.value.Store.{Store}
 use Rattle.sal_types.specs.declared.value.Store.TheVariants.{Config, Oper}
 use Rattle.sal_types.specs.declared.row.Row.{Row}
 use Rattle.sal_rows.specs.declared.op.Op.{Op}
-use Rattle.sal_rows.specs.Commits.{Span as Piece, tree_at}
+use Rattle.sal_rows.specs.Commits.{tree_at}
+use Rattle.sal_rows.specs.declared.clash.Span.{Span}
 use Rattle.sal_node.specs.Tree.{Tree}
 use Rattle.sal_tree.specs.Rows.{rows_of}
 use Rattle.sal_tree.specs.declared.commit.Pair.{Pair}
 use Rattle.sal_tree.specs.declared.commit.Commit.{Commit}
-use Rattle.sal_graft.specs.declared.found.Span.{Span}
 
 -- the tree of a store
 abbrev pub tree_in : Pair → Store → Tree
@@ -37,13 +37,6 @@ ops_of (opening ∷ commits) = all_ops commits
 pub record AreKept (kept : List Commit) : Type 0 where
   pub opened : 1 ≤ length kept
   pub trees : (k : ℕ) (c : Commit) (s : Store) → k < length kept → c ≡ slice_index_or kept k c → rows_in c.trees s ≡ tree_at (opening_in kept) (ops_of kept) s k
-
-abbrev pub piece_of : Span → Piece
-piece_of span = record { from = span.from; to = span.to }
-
-abbrev pub pieces_of : List Span → List Piece
-pieces_of [] = []
-pieces_of (span ∷ spans) = piece_of span ∷ pieces_of spans
 
 -- the span ends at a commit that is kept, not before its start
 pub record IsSpanOf (kept : List Commit) (span : Span) : Type 0 where

@@ -1,18 +1,17 @@
 //! Conflicts of a submission, found by looking through the commits after its base.
 ghost use Rattle.std.specs.Prelude.{◌≡◌, ◌≤◌, IfSome, length, All};
-ghost use Rattle.sal_rows.specs.Clash.{is_covered};
+ghost use Rattle.sal_rows.specs.PathClash.{is_covered};
 ghost use Rattle.sal_tree.specs.Rows.{rows_of};
-ghost use Rattle.sal_graft.specs.Clash.{clash};
-ghost use Rattle.sal_graft.specs.Clash as spec;
+ghost use Rattle.sal_rows.specs.Clash.{clash};
+ghost use Rattle.sal_rows.specs.Clash as spec;
 ghost use Rattle.sal_graft.specs.Rows.{is_lost_of, lost_depth};
-ghost use Rattle.sal_graft.specs.Kept.{AreKept, IsSpanOf, opening_in, ops_of, pieces_of, rows_in};
+ghost use Rattle.sal_graft.specs.Kept.{AreKept, IsSpanOf, opening_in, ops_of, rows_in};
 
-use crate::found::{Clash, Span};
 use crate::span::{changed_span, kind_over, last_touch, last_touch_over, tree_of};
 use crate::standing::{has_cell, stands};
 use crate::touched::is_set;
 use sal_mod::Mod;
-use sal_rows::{Act, ClashKind, Op};
+use sal_rows::{Act, Clash, ClashKind, Op, Span};
 use sal_tree::{Commit, Pair, Root};
 use sal_types::{Step, Store};
 
@@ -23,7 +22,7 @@ use sal_types::{Step, Store};
 pub fn conflict(changes: &Mod, base: &Pair, spans: &[Span], commits: &[Commit]) -> Option<Clash>
     requires kept { AreKept commits.now }
     requires spans { All (IsSpanOf commits.now) spans.now }
-    ensures { result ≡ clash (opening_in commits.now) (ops_of commits.now) (rows_in base.now) (pieces_of spans.now) changes.now }
+    ensures { result ≡ clash (opening_in commits.now) (ops_of commits.now) (rows_in base.now) spans.now changes.now }
 {
     let ops = changes.ops();
     for at in 0..ops.len() {
@@ -47,7 +46,7 @@ fn op_clash(
     requires kept { AreKept commits.now }
     requires spans { All (IsSpanOf commits.now) spans.now }
     requires covered { covered ≡ is_covered earlier.now op.now.store op.now.path }
-    ensures { result ≡ spec.op_clash (opening_in commits.now) (ops_of commits.now) (rows_in base.now) (pieces_of spans.now) earlier.now op.now }
+    ensures { result ≡ spec.op_clash (opening_in commits.now) (ops_of commits.now) (rows_in base.now) spans.now earlier.now op.now }
 {
     match parent_clash(earlier, op, base, spans, commits) {
         Some(found) => Some(found),
@@ -65,7 +64,7 @@ fn parent_clash(
 ) -> Option<Clash>
     requires kept { AreKept commits.now }
     requires spans { All (IsSpanOf commits.now) spans.now }
-    ensures { result ≡ spec.parent_clash (opening_in commits.now) (ops_of commits.now) (rows_in base.now) (pieces_of spans.now) earlier.now op.now }
+    ensures { result ≡ spec.parent_clash (opening_in commits.now) (ops_of commits.now) (rows_in base.now) spans.now earlier.now op.now }
 {
     if !needs_parents(&op.act) {
         return None;
@@ -141,7 +140,7 @@ fn path_clash(
     requires kept { AreKept commits.now }
     requires spans { All (IsSpanOf commits.now) spans.now }
     requires covered { covered ≡ is_covered earlier.now op.now.store op.now.path }
-    ensures { result ≡ spec.path_clash (opening_in commits.now) (ops_of commits.now) (pieces_of spans.now) earlier.now op.now }
+    ensures { result ≡ spec.path_clash (opening_in commits.now) (ops_of commits.now) spans.now earlier.now op.now }
 {
     if !op.act.checks_path() || covered {
         return None;

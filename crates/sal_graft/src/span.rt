@@ -1,17 +1,15 @@
 //! What became of a path over the commits in spans.
 ghost use Rattle.std.specs.Prelude.{◌≡◌, ◌≤◌, ◌<◌, length, not, find, All, IfSome};
 ghost use Rattle.std.specs.List.{list_any};
-ghost use Rattle.std.specs.Option.{option_map};
 ghost use Rattle.sal_rows.specs.Commits as commits_spec;
 ghost use Rattle.sal_rows.specs.Commits.{kind_by};
 ghost use Rattle.sal_types.specs.Tree.{has};
-ghost use Rattle.sal_graft.specs.Clash as spec;
-ghost use Rattle.sal_graft.specs.Kept.{AreKept, IsSpanOf, opening_in, ops_of, piece_of, pieces_of, tree_in};
+ghost use Rattle.sal_rows.specs.Clash as spec;
+ghost use Rattle.sal_graft.specs.Kept.{AreKept, IsSpanOf, opening_in, ops_of, tree_in};
 
-use crate::found::Span;
 use crate::standing::stands;
 use crate::touched::is_touched;
-use sal_rows::ClashKind;
+use sal_rows::{ClashKind, Span};
 use sal_tree::{Commit, Pair, Root};
 use sal_types::{Step, Store};
 
@@ -34,7 +32,7 @@ pub(crate) fn changed_span(
 ) -> Option<Span>
     requires kept { AreKept commits.now }
     requires spans { All (IsSpanOf commits.now) spans.now }
-    ensures span { option_map piece_of result ≡ find (λ span. not (commits_spec.is_unchanged (opening_in commits.now) (ops_of commits.now) store steps.now span)) (pieces_of spans.now) }
+    ensures span { result ≡ find (λ span. not (commits_spec.is_unchanged (opening_in commits.now) (ops_of commits.now) store steps.now span)) spans.now }
     ensures kept { IfSome result (IsSpanOf commits.now) }
 {
     for i in 0..spans.len() {
@@ -49,7 +47,7 @@ pub(crate) fn changed_span(
 fn is_unchanged(commits: &[Commit], span: Span, store: Store, steps: &[Step]) -> bool
     requires kept { AreKept commits.now }
     requires span { IsSpanOf commits.now span }
-    ensures { result ≡ commits_spec.is_unchanged (opening_in commits.now) (ops_of commits.now) store steps.now (piece_of span) }
+    ensures { result ≡ commits_spec.is_unchanged (opening_in commits.now) (ops_of commits.now) store steps.now span }
 {
     let was = stands_after(commits, span.from, store, steps);
     let is = stands_after(commits, span.to, store, steps);
@@ -59,7 +57,7 @@ fn is_unchanged(commits: &[Commit], span: Span, store: Store, steps: &[Step]) ->
 fn touched_in(commits: &[Commit], span: Span, store: Store, steps: &[Step]) -> bool
     requires kept { AreKept commits.now }
     requires span { IsSpanOf commits.now span }
-    ensures { result ≡ list_any (commits_spec.touches_at (opening_in commits.now) (ops_of commits.now) store steps.now) (commits_spec.numbers_in (piece_of span)) }
+    ensures { result ≡ list_any (commits_spec.touches_at (opening_in commits.now) (ops_of commits.now) store steps.now) (commits_spec.numbers_in span) }
 {
     last_touch(commits, span, store, steps).is_some()
 }
@@ -68,7 +66,7 @@ fn touched_in(commits: &[Commit], span: Span, store: Store, steps: &[Step]) -> b
 pub(crate) fn kind_over(commits: &[Commit], span: Span, store: Store, steps: &[Step]) -> ClashKind
     requires kept { AreKept commits.now }
     requires span { IsSpanOf commits.now span }
-    ensures { result ≡ commits_spec.kind_over (opening_in commits.now) (ops_of commits.now) store steps.now (piece_of span) }
+    ensures { result ≡ commits_spec.kind_over (opening_in commits.now) (ops_of commits.now) store steps.now span }
 {
     let was = stands_after(commits, span.from, store, steps);
     let is = stands_after(commits, span.to, store, steps);
@@ -105,7 +103,7 @@ pub(crate) fn last_touch_over(
 ) -> Option<u64>
     requires kept { AreKept commits.now }
     requires spans { All (IsSpanOf commits.now) spans.now }
-    ensures { result ≡ spec.last_touch_over (opening_in commits.now) (ops_of commits.now) (pieces_of spans.now) store steps.now }
+    ensures { result ≡ spec.last_touch_over (opening_in commits.now) (ops_of commits.now) spans.now store steps.now }
 {
     for back in 0..spans.len() {
         let at = spans.len() - 1 - back;
@@ -119,7 +117,7 @@ pub(crate) fn last_touch_over(
 fn touch_in(commits: &[Commit], span: &Span, store: Store, steps: &[Step]) -> Option<u64>
     requires kept { AreKept commits.now }
     requires span { IsSpanOf commits.now span.now }
-    ensures { result ≡ commits_spec.last_touch (opening_in commits.now) (ops_of commits.now) store steps.now (piece_of span.now) }
+    ensures { result ≡ commits_spec.last_touch (opening_in commits.now) (ops_of commits.now) store steps.now span.now }
 {
     last_touch(commits, *span, store, steps)
 }
@@ -133,7 +131,7 @@ pub(crate) fn last_touch(
 ) -> Option<u64>
     requires kept { AreKept commits.now }
     requires span { IsSpanOf commits.now span }
-    ensures { result ≡ commits_spec.last_touch (opening_in commits.now) (ops_of commits.now) store steps.now (piece_of span) }
+    ensures { result ≡ commits_spec.last_touch (opening_in commits.now) (ops_of commits.now) store steps.now span }
 {
     for back in 0..span.to - span.from {
         let number = span.to - back;

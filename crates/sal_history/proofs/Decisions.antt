@@ -16,13 +16,14 @@ use Rattle.sal_rows.specs.declared.outcome.ClashKind.{ClashKind}
 use Rattle.sal_rows.specs.declared.outcome.Outcome.{Outcome}
 use Rattle.sal_rows.specs.declared.outcome.Outcome.TheVariants.{Conflict, Done, Invalid}
 use Rattle.sal_rows.specs.Apply.{apply_ops}
-use Rattle.sal_rows.specs.Commits.{Span, next_tree}
-use Rattle.sal_rows.specs.Clash.{Clash as Found, IsNamedIn}
+use Rattle.sal_rows.specs.Commits.{next_tree}
+use Rattle.sal_rows.specs.declared.clash.Span.{Span}
+use Rattle.sal_rows.specs.PathClash.{Clash as Found, IsNamedIn}
 use Rattle.sal_check.specs.Breaches.{breach}
-use Rattle.sal_graft.specs.declared.found.Clash.{Clash}
-use Rattle.sal_graft.specs.Clash.{clash, tip}
-use Rattle.sal_graft.specs.Named as graft
-use Rattle.sal_graft.proofs.Named.{names_a_later_commit}
+use Rattle.sal_rows.specs.declared.clash.Clash.{Clash}
+use Rattle.sal_rows.specs.Clash.{clash, tip}
+use Rattle.sal_rows.specs.Named as named
+use Rattle.sal_rows.proofs.Named.{names_a_later_commit}
 use Rattle.sal_history.specs.Outcome.{conflict_of}
 use Rattle.sal_history.specs.World.{opening_of, table_of}
 use Rattle.sal_history.specs.History.{trees_at}
@@ -95,14 +96,14 @@ named world commits s store path kind commit base_le =
       | Some c ↦ λ e h.
           let found = names_a_later_commit opening commits base span [] s.ops c (base_le, refl) (λ t. refl) e in
           let op : Op = found.0 in
-          let here : IsNamedIn opening commits (graft.conflict_of op c) span =
-          any_of_one (IsNamedIn opening commits (graft.conflict_of op c)) span found.3 in
+          let here : IsNamedIn opening commits (named.place_of op c) span =
+          any_of_one (IsNamedIn opening commits (named.place_of op c)) span found.3 in
           let is : conflict_of c op ≡ Conflict store path kind commit =
           sym (ap (λ (x : Option Op). decided (option_map (conflict_of c) x) config oper (length commits + 1)) found.1) ∙ h in
           let at_store : op.store ≡ store = cc in
           let at_path : take c.depth op.path ≡ path = cc in
           let at_commit : c.commit ≡ commit = cc in
-          let same : graft.conflict_of op c ≡ record { store = store; path = path; kind = c.kind; commit = commit } =
+          let same : named.place_of op c ≡ record { store = store; path = path; kind = c.kind; commit = commit } =
           λ i. record { store = at_store i; path = at_path i; kind = c.kind; commit = at_commit i } in
           let above : is_prefix path op.path ≡ true = subst (λ (q : List Step). is_prefix q op.path ≡ true) at_path (prefix-take c.depth op.path) in (
             subst (λ (d : Found). IsNamedIn opening commits d span) same here,

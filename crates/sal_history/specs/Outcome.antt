@@ -10,11 +10,11 @@ use Rattle.sal_rows.specs.declared.op.Op.{Op}
 use Rattle.sal_rows.specs.declared.outcome.Outcome.{Outcome}
 use Rattle.sal_rows.specs.declared.outcome.Outcome.TheVariants.{Done, Conflict, Invalid}
 use Rattle.sal_rows.specs.Apply.{apply_ops}
-use Rattle.sal_rows.specs.Commits.{Span}
+use Rattle.sal_rows.specs.declared.clash.Span.{Span}
 use Rattle.sal_schema.specs.declared.table.SchemaTable.{SchemaTable}
 use Rattle.sal_check.specs.Breaches.{breach}
-use Rattle.sal_graft.specs.declared.found.Clash.{Clash}
-use Rattle.sal_graft.specs.Clash.{clash, tip}
+use Rattle.sal_rows.specs.declared.clash.Clash.{Clash}
+use Rattle.sal_rows.specs.Clash.{clash, tip}
 
 -- a clash of the operation, named by its store and its place
 abbrev pub conflict_of : Clash → Op → Outcome

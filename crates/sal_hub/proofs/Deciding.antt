@@ -11,7 +11,8 @@ use Rattle.sal_types.specs.declared.value.Store.TheVariants.{Config, Oper}
 use Rattle.sal_types.specs.declared.row.Row.{Row}
 use Rattle.sal_rows.specs.declared.op.Op.{Op}
 use Rattle.sal_rows.specs.declared.outcome.Outcome.{Outcome}
-use Rattle.sal_rows.specs.Commits.{Span, tree_after, tree_at}
+use Rattle.sal_rows.specs.Commits.{tree_after, tree_at}
+use Rattle.sal_rows.specs.declared.clash.Span.{Span}
 use Rattle.sal_graft.specs.Kept.{AreKept, opening_in, ops_of, rows_in}
 use Rattle.sal_graft.proofs.KeptLemmas.{length-ops_of}
 use Rattle.sal_tx.specs.declared.tx.Submission.{Submission}

@@ -4,7 +4,7 @@ use Rattle.sal_types.specs.declared.value.Store.{Store}
 use Rattle.sal_types.specs.declared.value.Store.TheVariants.{Config, Oper}
 use Rattle.sal_tree.specs.declared.commit.Commit.{Commit}
 use Rattle.sal_tree.specs.declared.commit.Pair.{Pair}
-use Rattle.sal_graft.specs.Clash.{tip}
+use Rattle.sal_rows.specs.Clash.{tip}
 use Rattle.sal_graft.specs.Kept.{opening_in, ops_of, rows_in as kept_rows}
 use Rattle.sal_tx.specs.Views.{rows_in}
 

@@ -2,7 +2,7 @@
 use Rattle.std.specs.Prelude.{◌≡◌, ℕ, length, [], None}
 use Rattle.sal_types.specs.declared.value.Store.{Store}
 use Rattle.sal_rows.specs.declared.outcome.Mode.{Mode}
-use Rattle.sal_graft.specs.Clash.{tip}
+use Rattle.sal_rows.specs.Clash.{tip}
 use Rattle.sal_graft.specs.Kept.{opening_in, ops_of as commits_of}
 use Rattle.sal_tx.specs.declared.tx.Tx.{Tx}
 use Rattle.sal_tx.specs.Views.{rows_in}

@@ -1,7 +1,7 @@
 //! Transactions that begin at the newest commit of a domain.
 ghost use Rattle.std.specs.Prelude.{◌≡◌, ℕ, ◌-◌, ◌<◌, ◌≤◌, ◌^◌, IfOk, OnErr, OnOk, length};
 ghost use Rattle.sal_types.specs.declared.value.Store.{Store as Of};
-ghost use Rattle.sal_graft.specs.Clash.{tip};
+ghost use Rattle.sal_rows.specs.Clash.{tip};
 ghost use Rattle.sal_graft.specs.Kept.{AreKept, opening_in, ops_of, rows_in};
 ghost use Rattle.sal_tx.specs.declared.tx.Tx.{Tx as Token};
 ghost use Rattle.sal_history.specs.declared.call.Call.TheVariants.{Begin};

@@ -2,6 +2,9 @@ pub mod Applied
 pub mod Cells
 pub mod Changes
 pub mod Named
+pub mod Numbers
 pub mod Places
+pub mod Quiet
 pub mod Rising
+pub mod SpanTouches
 pub mod Untouched

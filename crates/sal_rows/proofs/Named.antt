@@ -1,161 +1,172 @@
--- A conflict names a commit that touched its path.
-use Rattle.std.proofs.Common.{◌≡◌, ℕ, zero, suc, ◌+◌, ◌-◌, ◌<◌, ◌≤◌, Bool, true, false, List, [], ◌∷◌, ◌++◌, ◌||◌, ◌&&◌, take, reverse, Option, None, Some, refl, ap, sym, ◌∙◌, subst, cond, if◌then◌else◌, arith, inl, inr}
-use Rattle.std.specs.Prelude.{not, find, unwrap_or, slice_get}
+-- A conflict names a commit of a span that touched its path.
+use Rattle.std.proofs.Common.{◌≡◌, ℕ, zero, suc, ◌+◌, ◌-◌, ◌<◌, ◌≤◌, Bool, true, false, List, [], ◌∷◌, ◌++◌, ◌||◌, ◌&&◌, take, length, reverse, Option, None, Some, refl, ap, sym, ◌∙◌, subst, cond, if◌then◌else◌, arith, append_assoc, append-nil}
+use Rattle.std.specs.Prelude.{not, find, unwrap_or, slice_get, is_some}
 use Rattle.std.specs.List.{list_any, All, Any, Contains}
 use Rattle.std.specs.Option.{option_or, option_map}
-use Rattle.std.proofs.lemmas.List.{take_all, take_more}
-use Rattle.std.proofs.lemmas.List.Sums.{fold-append}
+use Rattle.std.proofs.lemmas.List.{take_all, reverse-append}
 use Rattle.std.proofs.lemmas.List.Elements.{All-contains, All-cons, All-nil, All-weaker, Contains-append_left, Contains-append_right, Contains-push}
 use Rattle.std.proofs.lemmas.List.Sorted.{IsPermutation-reverse, All-permutation, list_any-IsPermutation}
-use Rattle.std.proofs.lemmas.Option.{slice_get_cases, same_Some}
+use Rattle.std.proofs.lemmas.Option.{same_Some}
 use Rattle.sal_types.specs.declared.value.Store.{Store}
 use Rattle.sal_types.specs.declared.value.Step.{Step}
 use Rattle.sal_types.specs.declared.row.Row.{Row}
-use Rattle.sal_types.specs.Order.{path_eq}
 use Rattle.sal_types.specs.Prefix.{is_prefix}
 use Rattle.sal_types.specs.Tree.{cell, has}
+use Rattle.sal_types.proofs.Prefixes.{is_prefix-append}
 use Rattle.sal_rows.specs.declared.op.Op.{Op}
-use Rattle.sal_rows.specs.Apply.{apply_ops, checks_path}
-use Rattle.sal_rows.specs.Touch.{touches}
-use Rattle.sal_rows.specs.Commits.{Span, numbers_after, numbers_in, tree_after, tree_at, commit_touches, touches_at, is_unchanged, unchanged_by, last_touch, kind_over}
-use Rattle.sal_rows.specs.Clash.{Clash, clash_at, clash_from, op_clash, is_covered, IsNamedIn, NamesALaterCommit}
-use Rattle.sal_rows.proofs.Cells.{path_eq-itself}
-use Rattle.sal_rows.proofs.Untouched.{or_first, or_second, no_cell, cell-untouched}
+use Rattle.sal_rows.specs.declared.outcome.ClashKind.TheVariants.{Deleted}
+use Rattle.sal_rows.specs.Apply.{checks_path, last_setting}
+use Rattle.sal_rows.specs.Commits.{numbers_after, numbers_in, tree_at, touches_at, is_unchanged, last_touch, kind_over}
+use Rattle.sal_rows.specs.declared.clash.Span.{Span}
+use Rattle.sal_rows.specs.PathClash.{Difference, difference, is_covered, IsNamedIn}
+use Rattle.sal_rows.proofs.Numbers.{find_part}
+use Rattle.sal_rows.proofs.SpanTouches.{find_holds, find_none, numbers_lie, at_named}
+use Rattle.sal_rows.proofs.Untouched.{no_cell}
+use Rattle.sal_rows.specs.declared.clash.Clash.{Clash}
+use Rattle.sal_rows.specs.Clash.{clash_from, op_clash, parent_clash, path_clash, needs_parents, is_lost, lost_parent, tip, numbers_over, depths_above, last_touch_over}
+use Rattle.sal_rows.specs.Quiet.{AreSpans, with_own}
+use Rattle.sal_rows.specs.Named.{place_of, NamesALaterCommit}
+use Rattle.sal_rows.proofs.Quiet.{over_untouched}
 
--- ---- trees with the same cells below a path
+any_here : {X : Type 0} (P : X → Type 0) (x : X) (xs : List X) → P x → Any P (x ∷ xs)
+any_here P x xs p = (0, x, omega arith, refl, p)
 
-cell_of_rest : (x : Row) (rows : List Row) (r : List Step) → cell (x ∷ rows) r ≡ None → cell rows r ≡ None
-cell_of_rest x rows r = elim (path_eq r x.path) as (λ b. (if b then Some x.cell else cell rows r) ≡ None → cell rows r ≡ None) [ true ↦ λ e. cc | false ↦ λ e. e ]
+any_there : {X : Type 0} (P : X → Type 0) (y : X) (xs : List X) → Any P xs → Any P (y ∷ xs)
+any_there P y xs w = (suc w.0, w.1, omega (arith, w.2), w.3, w.4)
 
-has-none : (rows : List Row) (p : List Step) → ((r : List Step) → is_prefix p r ≡ true → cell rows r ≡ None) → has rows p ≡ false
-has-none [] p none = refl
-has-none (x ∷ rows) p none =
-    elim (is_prefix p x.path) as (λ b. is_prefix p x.path ≡ b → (b || has rows p) ≡ false) [
-      | true ↦ λ e. let here : cell (x ∷ rows) x.path ≡ Some x.cell = ap (λ b. if b then Some x.cell else cell rows x.path) (path_eq-itself x.path) in let no : cell (x ∷ rows) x.path ≡ None = none x.path e in cc
-      | false ↦ λ e. has-none rows p (λ r below. cell_of_rest x rows r (none r below))
-    ] refl
+-- where a search from the end finds a number, one of the spans has it
+found_in : (t : ℕ → Bool) (spans : List Span) (k : ℕ) → All (λ (span : Span). span.from ≤ span.to) spans → find t (reverse (numbers_over spans)) ≡ Some k
+    → Any (λ (span : Span). (span.from < k) × (k ≤ span.to) × (t k ≡ true)) spans
+found_in t [] k ordered e = absurd (nothing e)
+  where
+    nothing : {X : Type 0} {x : X} → None ≡ Some x → ⊥
+    nothing f = cc
+found_in t (span ∷ spans) k ordered e =
+    let P : Span → Type 0 = λ s. (s.from < k) × (k ≤ s.to) × (t k ≡ true) in
+    let lying : ℕ → Type 0 = λ n. (span.from < n) × (n ≤ span.from + (span.to - span.from)) in
+    let le : span.from ≤ span.to = ordered 0 span (omega arith) in
+    elim (find t (reverse (numbers_over spans))) as (λ (o : Option ℕ). find t (reverse (numbers_over spans)) ≡ o → option_or o (find t (reverse (numbers_in span))) ≡ Some k → Any P (span ∷ spans)) [
+      | None ↦ λ f h.
+          let found = find_holds t (reverse (numbers_in span)) k h in
+          let lies : (span.from < k) × (k ≤ span.from + (span.to - span.from)) =
+          All-contains lying (reverse (numbers_in span)) k (All-permutation lying (numbers_in span) (reverse (numbers_in span)) (IsPermutation-reverse (numbers_in span)) (numbers_lie span.from (span.to - span.from))) found.1 in
+          any_here P span spans (lies.0, omega (arith, lies.1, le), found.0)
+      | Some n ↦ λ f h. any_there P span spans (found_in t spans k (λ i s l. ordered (suc i) s (omega (arith, l))) (f ∙ h))
+    ] refl (sym (find_part t (numbers_in span) (numbers_over spans)) ∙ e)
 
--- both have a row at the path or below it, or neither has
-has-same : (xs ys : List Row) (p : List Step) → ((r : List Step) → is_prefix p r ≡ true → cell xs r ≡ cell ys r) → has xs p ≡ has ys p
-has-same xs ys p same =
-    elim (has ys p) as (λ b. has ys p ≡ b → has xs p ≡ b) [
-      | true ↦ λ e. elim (has xs p) as (λ b. has xs p ≡ b → b ≡ true) [
-        | true ↦ λ f. refl
-        | false ↦ λ f. let none : has ys p ≡ false = has-none ys p (λ r below. sym (same r below) ∙ no_cell (is_prefix p) xs r f below) in cc
-      ] refl
-      | false ↦ λ e. has-none xs p (λ r below. same r below ∙ no_cell (is_prefix p) ys r e below)
-    ] refl
+ordered_all : (newest : ℕ) (span : Span) (spans : List Span) → AreSpans newest span spans → All (λ (s : Span). s.from ≤ s.to) (span ∷ spans)
+ordered_all newest span [] are = All-cons (λ (s : Span). s.from ≤ s.to) span [] are.0 (All-nil _)
+ordered_all newest span (next ∷ spans) are = All-cons (λ (s : Span). s.from ≤ s.to) span (next ∷ spans) are.0 (ordered_all newest next spans are.2)
 
--- ---- spans in which no commit touches the path
+both_true : (a b : Bool) → (a && b) ≡ true → (a ≡ true) × (b ≡ true)
+both_true true true e = (refl, refl)
+both_true true false e = cc
+both_true false b e = cc
 
-module _ (opening : Store → List Row) (commits : List (List Op)) where
-  one_commit : (s : Store) (p r : List Step) (k : ℕ) → commit_touches (tree_at opening commits s k) s p (slice_get commits k) ≡ false → is_prefix p r ≡ true → cell (tree_at opening commits s (k + 1)) r ≡ cell (tree_at opening commits s k) r
-  one_commit s p r k h below =
-      elim ((slice_get_cases commits k).1) [
-        | inl w ↦
-            let ops = w.0 in
-            let inside = w.1 in
-            let at = w.2 in
-            let is = w.3 in
-            let more : take (k + 1) commits ≡ take k commits ++ ops ∷ [] = take_more commits k ops inside ∙ ap (λ (o : List Op). take k commits ++ o ∷ []) is in
-            let next : tree_at opening commits s (k + 1) ≡ apply_ops (tree_at opening commits s k) s ops = ap (tree_after s (opening s)) more ∙ fold-append (λ tree os. apply_ops tree s os) (opening s) (take k commits) (ops ∷ []) in
-            let untouched : touches (tree_at opening commits s k) s ops p ≡ false = sym (ap (commit_touches (tree_at opening commits s k) s p) at) ∙ h in
-            ap (λ (tree : List Row). cell tree r) next ∙ cell-untouched (tree_at opening commits s k) s ops p r untouched below
-        | inr w ↦
-            let past = w.0 in
-            ap (λ (cs : List (List Op)). cell (tree_after s (opening s) cs) r) (take_all (k + 1) commits (omega (arith, past)) ∙ sym (take_all k commits past))
-      ]
+not_true : (b : Bool) → not b ≡ true → b ≡ false
+not_true true e = cc
+not_true false e = refl
 
-  many_commits : (s : Store) (p r : List Step) (a n : ℕ) → list_any (touches_at opening commits s p) (numbers_after a n) ≡ false → is_prefix p r ≡ true → cell (tree_at opening commits s (a + n)) r ≡ cell (tree_at opening commits s a) r
-  many_commits s p r a zero h below = let e : a + zero ≡ a = omega arith in ap (λ k. cell (tree_at opening commits s k) r) e
-  many_commits s p r a (suc n) h below =
-      let e : a + suc n ≡ a + 1 + n = omega arith in
-      let back : a + 1 - 1 ≡ a = omega arith in
-      let first : commit_touches (tree_at opening commits s a) s p (slice_get commits a) ≡ false =
-      ap (λ k. commit_touches (tree_at opening commits s k) s p (slice_get commits k)) (sym back) ∙ or_first (touches_at opening commits s p (a + 1)) (list_any (touches_at opening commits s p) (numbers_after (a + 1) n)) h in
-      ap (λ k. cell (tree_at opening commits s k) r) e ∙ many_commits s p r (a + 1) n (or_second (touches_at opening commits s p (a + 1)) _ h) below
-      ∙ one_commit s p r a first below
+prefix_itself : (p : List Step) → is_prefix p p ≡ true
+prefix_itself p = ap (is_prefix p) (sym (append-nil p)) ∙ is_prefix-append p []
 
-  unchanged : (s : Store) (p : List Step) (span : Span) → span.from ≤ span.to → list_any (touches_at opening commits s p) (numbers_in span) ≡ false → is_unchanged opening commits s p span ≡ true
-  unchanged s p span le h =
-      let e : span.from + (span.to - span.from) ≡ span.to = omega (arith, le) in
-      let same : has (tree_at opening commits s span.to) p ≡ has (tree_at opening commits s span.from) p =
-      has-same (tree_at opening commits s span.to) (tree_at opening commits s span.from) p (λ r below. ap (λ k. cell (tree_at opening commits s k) r) (sym e) ∙ many_commits s p r span.from (span.to - span.from) h below) in
-      (λ i. unchanged_by (has (tree_at opening commits s span.from) p) (same i) (h i))
-      ∙ elim (has (tree_at opening commits s span.from) p) as (λ b. unchanged_by b b false ≡ true) [ true ↦ refl | false ↦ refl ]
+slice_get_end : (earlier ops : List Op) (op : Op) → slice_get (earlier ++ op ∷ ops) (length earlier) ≡ Some op
+slice_get_end [] ops op = refl
+slice_get_end (o ∷ earlier) ops op = slice_get_end earlier ops op
 
--- ---- searches
+-- what a lost parent, and a path that is not unchanged, are as conflicts
+abbrev pub parent_found : (Store → List Row) → List (List Op) → List Span → List Op → Op → ℕ → Clash
+parent_found opening commits spans earlier op d = record { op = length earlier; depth = d; kind = Deleted; commit = unwrap_or (last_touch_over opening commits spans op.store (take d op.path)) 0 }
 
-find_holds : {X : Type 0} (t : X → Bool) (xs : List X) (x : X) → find t xs ≡ Some x → (t x ≡ true) × Contains xs x
-find_holds t [] x = λ e. cc
-find_holds t (y ∷ xs) x =
-    elim (t y) as (λ b. t y ≡ b → cond b (Some y) (find t xs) ≡ Some x → (t x ≡ true) × Contains (y ∷ xs) x) [
-      | true ↦ λ h e. let same : y ≡ x = same_Some y x e in (sym (ap t same) ∙ h, subst (λ z. Contains (y ∷ xs) z) same (Contains-append_left (y ∷ []) xs y (Contains-push [] y)))
-      | false ↦ λ h e. let rest = find_holds t xs x e in (rest.0, Contains-append_right (y ∷ []) xs x rest.1)
-    ] refl
+abbrev path_found : List Op → Op → Difference → Clash
+path_found earlier op x = record { op = length earlier; depth = length op.path; kind = x.kind; commit = x.commit }
 
-find_none : {X : Type 0} (t : X → Bool) (xs : List X) → find t xs ≡ None → list_any t xs ≡ false
-find_none t [] = λ e. refl
-find_none t (y ∷ xs) = elim (t y) as (λ b. cond b (Some y) (find t xs) ≡ None → (b || list_any t xs) ≡ false) [ true ↦ λ e. cc | false ↦ λ e. find_none t xs e ]
+abbrev differs : (Store → List Row) → List (List Op) → Op → Span → Bool
+differs opening commits op x = not (is_unchanged opening commits op.store op.path x)
 
--- the numbers of a span lie in it
-numbers_lie : (a n : ℕ) → All (λ k. (a < k) × (k ≤ a + n)) (numbers_after a n)
-numbers_lie a zero = All-nil _
-numbers_lie a (suc n) =
-    let first : (a < a + 1) × (a + 1 ≤ a + suc n) = (omega arith, omega arith) in
-    let wider : (k : ℕ) → (a + 1 < k) × (k ≤ a + 1 + n) → (a < k) × (k ≤ a + suc n) = λ k l. (omega (arith, l.0), omega (arith, l.1)) in
-    All-cons (λ k. (a < k) × (k ≤ a + suc n)) (a + 1) (numbers_after (a + 1) n) first
-    (All-weaker (λ k. (a + 1 < k) × (k ≤ a + 1 + n)) (λ k. (a < k) × (k ≤ a + suc n)) wider (numbers_after (a + 1) n) (numbers_lie (a + 1) n))
+abbrev conflict_over : (Store → List Row) → List (List Op) → Op → Span → Difference
+conflict_over opening commits op x = record { store = op.store; path = op.path; kind = kind_over opening commits op.store op.path x; commit = unwrap_or (last_touch opening commits op.store op.path x) 0 }
 
-module _ (opening : Store → List Row) (commits : List (List Op)) where
-  touch_named : (s : Store) (p : List Step) (span : Span) → span.from ≤ span.to → is_unchanged opening commits s p span ≡ false
-      → (span.from < unwrap_or (last_touch opening commits s p span) 0) × (unwrap_or (last_touch opening commits s p span) 0 ≤ span.to) × (touches_at opening commits s p (unwrap_or (last_touch opening commits s p span) 0) ≡ true)
-  touch_named s p span le differs =
-      let t = touches_at opening commits s p in
-      let back = reverse (numbers_in span) in
-      let lying : ℕ → Type 0 = λ k. (span.from < k) × (k ≤ span.from + (span.to - span.from)) in
-      elim (last_touch opening commits s p span) as (λ (o : Option ℕ). find t back ≡ o → (span.from < unwrap_or o 0) × (unwrap_or o 0 ≤ span.to) × (t (unwrap_or o 0) ≡ true)) [
-        | None ↦ λ e.
-            let none : list_any t (numbers_in span) ≡ false = list_any-IsPermutation t (numbers_in span) back (IsPermutation-reverse (numbers_in span)) ∙ find_none t back e in
-            let same : is_unchanged opening commits s p span ≡ true = unchanged opening commits s p span le none in
-            cc
-        | Some k ↦ λ e.
-            let found = find_holds t back k e in
-            let lies : (span.from < k) × (k ≤ span.from + (span.to - span.from)) =
-            All-contains lying back k (All-permutation lying (numbers_in span) back (IsPermutation-reverse (numbers_in span)) (numbers_lie span.from (span.to - span.from))) found.1 in
-            (lies.0, omega (arith, lies.1, le), found.0)
+module _ (opening : Store → List Row) (commits : List (List Op)) (base : Store → List Row) (span : Span) (spans : List Span) (are : AreSpans (length commits) span spans) (is_base : (s : Store) → base s ≡ with_own commits s (tree_at opening commits s span.from) spans) where
+  -- what an operation's conflict says
+  abbrev IsOf : List Op → Op → Clash → Type 0
+  IsOf earlier op c = (c.op ≡ length earlier) × (c.depth ≤ length op.path) × Any (IsNamedIn opening commits (place_of op c)) (span ∷ spans)
+
+  -- a lost parent was touched
+  parent_touched : (s : Store) (q : List Step) → is_some (cell (base s) q) ≡ true → has (tip opening commits s) q ≡ false → find (touches_at opening commits s q) (reverse (numbers_over (span ∷ spans))) ≡ None → ⊥
+  parent_touched s q there gone none =
+      let nothing : list_any (touches_at opening commits s q) (numbers_over (span ∷ spans)) ≡ false =
+      list_any-IsPermutation (touches_at opening commits s q) (numbers_over (span ∷ spans)) (reverse (numbers_over (span ∷ spans))) (IsPermutation-reverse (numbers_over (span ∷ spans))) ∙ find_none (touches_at opening commits s q) (reverse (numbers_over (span ∷ spans))) none in
+      let same : cell (base s) q ≡ cell (tip opening commits s) q =
+      ap (λ (t : List Row). cell t q) (is_base s) ∙ over_untouched opening commits s q span spans (tree_at opening commits s span.from) are nothing (λ r below. refl) q (prefix_itself q) in
+      let empty : cell (base s) q ≡ None = same ∙ no_cell (is_prefix q) (tip opening commits s) q gone (prefix_itself q) in
+      let contrary : true ≡ false = sym there ∙ ap is_some empty in
+      cc
+
+  -- the conflict at a lost parent
+  lost : (earlier : List Op) (op : Op) (d : ℕ) → (is_lost opening commits base earlier op.store (take d op.path) ≡ true) × Contains (depths_above op.path) d → IsOf earlier op (record { op = length earlier; depth = d; kind = Deleted; commit = unwrap_or (last_touch_over opening commits (span ∷ spans) op.store (take d op.path)) 0 })
+  lost earlier op d w =
+      let q = take d op.path in
+      let t = touches_at opening commits op.store q in
+      let parts = both_true (is_some (cell (base op.store) q)) (not (has (tip opening commits op.store) q) && not (is_some (last_setting op.store earlier q))) w.0 in
+      let gone = not_true (has (tip opening commits op.store) q) (both_true (not (has (tip opening commits op.store) q)) (not (is_some (last_setting op.store earlier q))) parts.1).0 in
+      let lying : ℕ → Type 0 = λ n. (0 < n) × (n ≤ 0 + (length op.path - 1)) in
+      let low : (0 < d) × (d ≤ 0 + (length op.path - 1)) = All-contains lying (depths_above op.path) d (numbers_lie 0 (length op.path - 1)) w.1 in
+      elim (find t (reverse (numbers_over (span ∷ spans)))) as (λ (o : Option ℕ). find t (reverse (numbers_over (span ∷ spans))) ≡ o → IsOf earlier op (record { op = length earlier; depth = d; kind = Deleted; commit = unwrap_or o 0 })) [
+        | None ↦ λ e. absurd (parent_touched op.store q parts.0 gone e)
+        | Some k ↦ λ e. (refl, omega (arith, low.1), found_in t (span ∷ spans) k (ordered_all (length commits) span spans are) e)
       ] refl
 
-  at_named : (s : Store) (spans : List Span) (p : List Step) (c : Clash) → All (λ span. span.from ≤ span.to) spans → clash_at opening commits s spans p ≡ Some c → Any (IsNamedIn opening commits c) spans
-  at_named s spans p c ordered =
-      let conflict : Span → Clash = λ span. record { store = s; path = p; kind = kind_over opening commits s p span; commit = unwrap_or (last_touch opening commits s p span) 0 } in
-      let differs : Span → Bool = λ span. not (is_unchanged opening commits s p span) in
-      elim (find differs spans) as (λ (o : Option Span). find differs spans ≡ o → option_map conflict o ≡ Some c → Any (IsNamedIn opening commits c) spans) [
-        | None ↦ λ e h. cc
-        | Some span ↦ λ e h.
-            let found = find_holds differs spans span e in
-            let changed = touch_named s p span (All-contains (λ (other : Span). other.from ≤ other.to) spans span ordered found.1) (not_true (is_unchanged opening commits s p span) found.0) in
-            (found.1.0, span, found.1.1, found.1.2, subst (λ z. IsNamedIn opening commits z span) (same_Some _ c h) changed)
-      ] refl
-    where
-      not_true : (b : Bool) → not b ≡ true → b ≡ false
-      not_true true e = cc
-      not_true false e = refl
-
-  op_named : (spans : List Span) (earlier : List Op) (op : Op) (c : Clash) → All (λ span. span.from ≤ span.to) spans → op_clash opening commits spans earlier op ≡ Some c → Any (IsNamedIn opening commits c) spans
-  op_named spans earlier op c ordered =
-      elim (checks_path op.act && not (is_covered earlier op.store op.path)) as (λ b. (if b then clash_at opening commits op.store spans op.path else None) ≡ Some c → Any (IsNamedIn opening commits c) spans) [
-        | true ↦ at_named op.store spans op.path c ordered
+  parent_named : (earlier : List Op) (op : Op) (c : Clash) → parent_clash opening commits base (span ∷ spans) earlier op ≡ Some c → IsOf earlier op c
+  parent_named earlier op c =
+      elim (needs_parents op.act) as (λ b. (if b then option_map (parent_found opening commits (span ∷ spans) earlier op) (lost_parent opening commits base earlier op.store op.path) else None) ≡ Some c → IsOf earlier op c) [
         | false ↦ λ e. cc
+        | true ↦ elim (lost_parent opening commits base earlier op.store op.path) as (λ (o : Option ℕ). lost_parent opening commits base earlier op.store op.path ≡ o → option_map (parent_found opening commits (span ∷ spans) earlier op) o ≡ Some c → IsOf earlier op c) [
+          | None ↦ λ e h. cc
+          | Some d ↦ λ e h. subst (IsOf earlier op) (same_Some (parent_found opening commits (span ∷ spans) earlier op d) c h) (lost earlier op d (find_holds (λ n. is_lost opening commits base earlier op.store (take n op.path)) (depths_above op.path) d e))
+        ] refl
       ]
 
-  from_named : (spans : List Span) (earlier ops : List Op) (c : Clash) → All (λ span. span.from ≤ span.to) spans → clash_from opening commits spans earlier ops ≡ Some c → Any (IsNamedIn opening commits c) spans
-  from_named spans earlier [] c ordered = λ e. cc
-  from_named spans earlier (op ∷ ops) c ordered =
-      elim (op_clash opening commits spans earlier op) as (λ (o : Option Clash). op_clash opening commits spans earlier op ≡ o → option_or o (clash_from opening commits spans (earlier ++ op ∷ []) ops) ≡ Some c → Any (IsNamedIn opening commits c) spans) [
-        | None ↦ λ e h. from_named spans (earlier ++ op ∷ []) ops c ordered h
-        | Some d ↦ λ e h. op_named spans earlier op c ordered (e ∙ h)
+  path_named : (earlier : List Op) (op : Op) (c : Clash) → path_clash opening commits (span ∷ spans) earlier op ≡ Some c → IsOf earlier op c
+  path_named earlier op c =
+      elim (checks_path op.act) as (λ b. checks_path op.act ≡ b → (if b && not (is_covered earlier op.store op.path) then option_map (path_found earlier op) (difference opening commits op.store (span ∷ spans) op.path) else None) ≡ Some c → IsOf earlier op c) [
+        | false ↦ λ checks e. cc
+        | true ↦ λ checks. elim (not (is_covered earlier op.store op.path)) as (λ b. (if b then option_map (path_found earlier op) (difference opening commits op.store (span ∷ spans) op.path) else None) ≡ Some c → IsOf earlier op c) [
+          | false ↦ λ e. cc
+          | true ↦ elim (find (differs opening commits op) (span ∷ spans)) as (λ (o : Option Span). find (differs opening commits op) (span ∷ spans) ≡ o → option_map (path_found earlier op) (option_map (conflict_over opening commits op) o) ≡ Some c → IsOf earlier op c) [
+            | None ↦ λ e h. cc
+            | Some other ↦ λ e h.
+                let whole : take (length op.path) op.path ≡ op.path = take_all (length op.path) op.path (omega arith) in
+                let names : Any (IsNamedIn opening commits (conflict_over opening commits op other)) (span ∷ spans) =
+                at_named opening commits op.store (span ∷ spans) op.path (conflict_over opening commits op other) (ordered_all (length commits) span spans are) (ap (option_map (conflict_over opening commits op)) e) in
+                let named_here : Any (IsNamedIn opening commits (place_of op (path_found earlier op (conflict_over opening commits op other)))) (span ∷ spans) =
+                subst (λ q. Any (IsNamedIn opening commits (record { store = op.store; path = q; kind = kind_over opening commits op.store op.path other; commit = unwrap_or (last_touch opening commits op.store op.path other) 0 })) (span ∷ spans)) (sym whole) names in
+                let short : length op.path ≤ length op.path = omega arith in
+                subst (IsOf earlier op) (same_Some (path_found earlier op (conflict_over opening commits op other)) c h) (refl, short, named_here)
+          ] refl
+        ]
       ] refl
 
-pub named : NamesALaterCommit
-named opening commits spans ops c ordered h = from_named opening commits spans [] ops c ordered h
+  op_named : (earlier : List Op) (op : Op) (c : Clash) → op_clash opening commits base (span ∷ spans) earlier op ≡ Some c → IsOf earlier op c
+  op_named earlier op c =
+      elim (parent_clash opening commits base (span ∷ spans) earlier op) as (λ (o : Option Clash). parent_clash opening commits base (span ∷ spans) earlier op ≡ o → option_or o (path_clash opening commits (span ∷ spans) earlier op) ≡ Some c → IsOf earlier op c) [
+        | None ↦ λ e h. path_named earlier op c h
+        | Some d ↦ λ e h. parent_named earlier op c (e ∙ h)
+      ] refl
+
+  from_named : (earlier ops : List Op) (c : Clash) → clash_from opening commits base (span ∷ spans) earlier ops ≡ Some c
+      → (op : Op) × (slice_get (earlier ++ ops) c.op ≡ Some op) × (c.depth ≤ length op.path) × Any (IsNamedIn opening commits (place_of op c)) (span ∷ spans)
+  from_named earlier [] c = λ e. cc
+  from_named earlier (op ∷ ops) c =
+      elim (op_clash opening commits base (span ∷ spans) earlier op) as (λ (o : Option Clash). op_clash opening commits base (span ∷ spans) earlier op ≡ o → option_or o (clash_from opening commits base (span ∷ spans) (earlier ++ op ∷ []) ops) ≡ Some c
+      → (x : Op) × (slice_get (earlier ++ op ∷ ops) c.op ≡ Some x) × (c.depth ≤ length x.path) × Any (IsNamedIn opening commits (place_of x c)) (span ∷ spans)) [
+        | None ↦ λ e h.
+            let rest = from_named (earlier ++ op ∷ []) ops c h in
+            (rest.0, ap (λ (l : List Op). slice_get l c.op) (sym (append_assoc earlier (op ∷ []) ops)) ∙ rest.1, rest.2, rest.3)
+        | Some d ↦ λ e h.
+            let here = op_named earlier op c (e ∙ h) in
+            (op, ap (slice_get (earlier ++ op ∷ ops)) here.0 ∙ slice_get_end earlier ops op, here.1, here.2)
+      ] refl
+
+pub names_a_later_commit : NamesALaterCommit
+names_a_later_commit opening commits base span spans ops c are is_base e = from_named opening commits base span spans are is_base [] ops c e

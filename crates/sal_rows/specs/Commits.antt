@@ -6,6 +6,7 @@ use Rattle.sal_types.specs.declared.value.Store.{Store}
 use Rattle.sal_types.specs.declared.value.Step.{Step}
 use Rattle.sal_types.specs.declared.row.Row.{Row}
 use Rattle.sal_types.specs.Tree.{has}
+use Rattle.sal_rows.specs.declared.clash.Span.{Span}
 use Rattle.sal_rows.specs.declared.op.Op.{Op}
 use Rattle.sal_rows.specs.declared.outcome.ClashKind.{ClashKind}
 use Rattle.sal_rows.specs.declared.outcome.ClashKind.TheVariants.{Changed, Created, Deleted}
@@ -19,11 +20,6 @@ next_tree s tree ops = apply_ops tree s ops
 -- the tree of the store after the commits
 abbrev pub tree_after : Store → List Row → List (List Op) → List Row
 tree_after s tree commits = fold (next_tree s) tree commits
-
--- a piece of commit numbers: those after `from`, up to and including `to`
-pub record Span : Type 0 where
-  pub from : ℕ
-  pub to : ℕ
 
 -- the n numbers after a
 abbrev pub numbers_after : ℕ → ℕ → List ℕ

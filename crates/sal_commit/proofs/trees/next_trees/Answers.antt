@@ -1,5 +1,5 @@
 use Rattle.std.proofs.Common.{sym, subst}
-use Rattle.sal_graft.specs.Clash.{tip}
+use Rattle.sal_rows.specs.Clash.{tip}
 use Rattle.sal_graft.specs.Kept.{opening_in, ops_of, rows_in}
 use Rattle.sal_commit.specs.Deciding.{LieBelow}
 use Rattle.sal_commit.proofs.Applying.{apply_ops-more, LieBelow-at}

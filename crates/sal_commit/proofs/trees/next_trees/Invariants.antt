@@ -2,7 +2,7 @@
 use Rattle.std.proofs.Common.{◌≡◌, take}
 use Rattle.sal_types.specs.declared.value.Store.{Store}
 use Rattle.sal_rows.specs.Apply.{apply_ops}
-use Rattle.sal_graft.specs.Clash.{tip}
+use Rattle.sal_rows.specs.Clash.{tip}
 use Rattle.sal_graft.specs.Kept.{opening_in, ops_of, rows_in}
 use Rattle.sal_commit.proofs.trees.next_trees.Given as goal
 

@@ -1,10 +1,10 @@
 -- What is left: the operations from the index on.
 use Rattle.std.proofs.Common.{◌≡◌, take, drop}
-use Rattle.sal_graft.specs.Clash.{clash_from, clash}
-use Rattle.sal_graft.specs.Kept.{opening_in, ops_of, pieces_of, rows_in}
+use Rattle.sal_rows.specs.Clash.{clash_from, clash}
+use Rattle.sal_graft.specs.Kept.{opening_in, ops_of, rows_in}
 use Rattle.sal_graft.proofs.search.conflict.Given as goal
 
 abbrev pub invariant-loop-at : goal.invariant-loop-at
 invariant-loop-at l =
-    clash_from (opening_in l.commits) (ops_of l.commits) (rows_in l.base) (pieces_of l.spans) (take l.at l.changes) (drop l.at l.changes)
-    ≡ clash (opening_in l.commits) (ops_of l.commits) (rows_in l.base) (pieces_of l.spans) l.changes
+    clash_from (opening_in l.commits) (ops_of l.commits) (rows_in l.base) l.spans (take l.at l.changes) (drop l.at l.changes)
+    ≡ clash (opening_in l.commits) (ops_of l.commits) (rows_in l.base) l.spans l.changes

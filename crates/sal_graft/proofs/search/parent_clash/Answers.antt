@@ -4,12 +4,12 @@ use Rattle.std.specs.Prelude.{option_map, unwrap_or}
 use Rattle.sal_types.specs.declared.value.Step.{Step}
 use Rattle.sal_rows.specs.declared.outcome.ClashKind.TheVariants.{Deleted}
 use Rattle.sal_tree.specs.Rows.{rows_of}
-use Rattle.sal_graft.specs.declared.found.Clash.{Clash}
-use Rattle.sal_graft.specs.Clash.{needs_parents, lost_parent, last_touch_over}
+use Rattle.sal_rows.specs.declared.clash.Clash.{Clash}
+use Rattle.sal_rows.specs.Clash.{needs_parents, lost_parent, last_touch_over}
 use Rattle.sal_graft.specs.Rows.{lost_depth}
-use Rattle.sal_graft.specs.Kept.{opening_in, ops_of, pieces_of, rows_in}
+use Rattle.sal_graft.specs.Kept.{opening_in, ops_of, rows_in}
 use Rattle.sal_graft.proofs.Clashes.{lost-parent}
-use Rattle.sal_graft.proofs.Named.{parent_found}
+use Rattle.sal_rows.proofs.Named.{parent_found}
 use Rattle.sal_graft.proofs.search.parent_clash.Goals as goal
 
 abbrev at_depth : ℕ → ℕ → ℕ → Option Clash
@@ -18,7 +18,7 @@ at_depth op depth commit = Some (record { op = op; depth = depth; kind = Deleted
 pub returns-in-None : goal.returns-in-None
 returns-in-None c =
     let op = c.args.op.now in
-    let f = parent_found (opening_in c.args.commits.now) (ops_of c.args.commits.now) (pieces_of c.args.spans.now) c.args.earlier.now op in
+    let f = parent_found (opening_in c.args.commits.now) (ops_of c.args.commits.now) c.args.spans.now c.args.earlier.now op in
     let lost = lost_parent (opening_in c.args.commits.now) (ops_of c.args.commits.now) (rows_in c.args.base.now) c.args.earlier.now op.store op.path in
     let needs : true ≡ needs_parents op.act = search rules in
     let none : None ≡ lost =
@@ -29,14 +29,14 @@ returns-in-None c =
 pub returns-in-Some : goal.returns-in-Some
 returns-in-Some c =
     let op = c.args.op.now in
-    let f = parent_found (opening_in c.args.commits.now) (ops_of c.args.commits.now) (pieces_of c.args.spans.now) c.args.earlier.now op in
+    let f = parent_found (opening_in c.args.commits.now) (ops_of c.args.commits.now) c.args.spans.now c.args.earlier.now op in
     let lost = lost_parent (opening_in c.args.commits.now) (ops_of c.args.commits.now) (rows_in c.args.base.now) c.args.earlier.now op.store op.path in
     let needs : true ≡ needs_parents op.act = search rules in
     let some : Some c.in-Some.depth ≡ lost =
     sym c.in-Some.is ∙ c.lost_depth.ensures.depth ∙ (λ i. lost_depth (rows_of (c.tree_of-base.ensures i)) (c.tip_of-tip.ensures i) c.args.earlier.now op.store (c.steps.ensures.all i))
     ∙ lost-parent (opening_in c.args.commits.now) (ops_of c.args.commits.now) (rows_in c.args.base.now) c.args.earlier.now op.store op.path in
-    let named : c.unwrap_or-commit.result ≡ unwrap_or (last_touch_over (opening_in c.args.commits.now) (ops_of c.args.commits.now) (pieces_of c.args.spans.now) op.store (take c.in-Some.depth op.path)) 0 =
+    let named : c.unwrap_or-commit.result ≡ unwrap_or (last_touch_over (opening_in c.args.commits.now) (ops_of c.args.commits.now) c.args.spans.now op.store (take c.in-Some.depth op.path)) 0 =
     c.unwrap_or-commit.ensures ∙ ap (λ (o : Option ℕ). unwrap_or o 0) c.last_touch_over.ensures
-    ∙ ap (λ (q : List Step). unwrap_or (last_touch_over (opening_in c.args.commits.now) (ops_of c.args.commits.now) (pieces_of c.args.spans.now) op.store (take c.in-Some.depth q)) 0) c.steps-in-Some.ensures.all in
+    ∙ ap (λ (q : List Step). unwrap_or (last_touch_over (opening_in c.args.commits.now) (ops_of c.args.commits.now) c.args.spans.now op.store (take c.in-Some.depth q)) 0) c.steps-in-Some.ensures.all in
     ap (at_depth (length c.args.earlier.now) c.in-Some.depth) named
     ∙ ap (option_map f) some ∙ ap (λ b. if b then option_map f lost else None) needs

@@ -12,14 +12,15 @@ use Rattle.sal_types.specs.Prefix.{is_prefix}
 use Rattle.sal_types.specs.Tree.{cell, has}
 use Rattle.sal_rows.specs.declared.op.Op.{Op}
 use Rattle.sal_rows.specs.Apply.{same_store, checks_path, apply_ops, cell_by, last_setting}
-use Rattle.sal_rows.specs.Commits.{Span, tree_after, tree_at, commit_touches, touches_at, is_unchanged, unchanged_by, numbers_after, numbers_in}
-use Rattle.sal_rows.specs.Clash.{Clash as At, clash_at, is_covered}
+use Rattle.sal_rows.specs.Commits.{tree_after, tree_at, commit_touches, touches_at, is_unchanged, unchanged_by, numbers_after, numbers_in}
+use Rattle.sal_rows.specs.declared.clash.Span.{Span}
+use Rattle.sal_rows.specs.PathClash.{Difference as At, difference, is_covered}
 use Rattle.sal_rows.proofs.Applied.{cell-apply_ops}
 use Rattle.sal_rows.proofs.Untouched.{or_first, or_second, no_cell, cell-untouched}
 use Rattle.sal_types.proofs.Prefixes.{IsPrefix-from_test, is_prefix-append}
-use Rattle.sal_graft.specs.declared.found.Clash.{Clash}
-use Rattle.sal_graft.specs.Clash.{numbers_over, clash_from, op_clash, parent_clash, path_clash, tip}
-use Rattle.sal_graft.specs.Quiet.{SameBelow, AreSpans, with_own, AreQuiet, NoClashIsQuiet}
+use Rattle.sal_rows.specs.declared.clash.Clash.{Clash}
+use Rattle.sal_rows.specs.Clash.{numbers_over, clash_from, op_clash, parent_clash, path_clash, tip}
+use Rattle.sal_rows.specs.Quiet.{SameBelow, AreSpans, with_own, AreQuiet, NoClashIsQuiet}
 
 -- ---- what is below a path
 
@@ -183,7 +184,7 @@ module _ (opening : Store → List Row) (commits : List (List Op)) (base : Store
   abbrev IsQuietAt : Op → Type 0
   IsQuietAt op = checks_path op.act ≡ true → SameBelow op.path (base op.store) (tip opening commits op.store)
 
-  at_path : (s : Store) (p : List Step) → clash_at opening commits s (span ∷ spans) p ≡ None → SameBelow p (base s) (tip opening commits s)
+  at_path : (s : Store) (p : List Step) → difference opening commits s (span ∷ spans) p ≡ None → SameBelow p (base s) (tip opening commits s)
   at_path s p e = λ r below.
       ap (λ (t : List Row). cell t r) (is_base s)
       ∙ over_unchanged opening commits s p span spans (tree_at opening commits s span.from) are (no_map _ _ e) (λ r below. refl) r below
@@ -209,10 +210,10 @@ module _ (opening : Store → List Row) (commits : List (List Op)) (base : Store
       let none = or_none_second (parent_clash opening commits base (span ∷ spans) earlier op) (path_clash opening commits (span ∷ spans) earlier op) e in
       elim (is_covered earlier op.store op.path) as (λ b. is_covered earlier op.store op.path ≡ b
       → (if checks_path op.act && not b
-      then option_map (found_at earlier op) (clash_at opening commits op.store (span ∷ spans) op.path)
+      then option_map (found_at earlier op) (difference opening commits op.store (span ∷ spans) op.path)
       else None) ≡ None → SameBelow op.path (base op.store) (tip opening commits op.store)) [
         | true ↦ λ b f. at_covered earlier op.store op.path quiet b
-        | false ↦ λ b f. at_path op.store op.path (no_map (found_at earlier op) _ (ap (λ c. if c && true then option_map (found_at earlier op) (clash_at opening commits op.store (span ∷ spans) op.path) else None) (sym checks) ∙ f))
+        | false ↦ λ b f. at_path op.store op.path (no_map (found_at earlier op) _ (ap (λ c. if c && true then option_map (found_at earlier op) (difference opening commits op.store (span ∷ spans) op.path) else None) (sym checks) ∙ f))
       ] refl none
 
   quiet-push : (earlier : List Op) (op : Op) → AreQuiet base (tip opening commits) earlier → IsQuietAt op → AreQuiet base (tip opening commits) (earlier ++ op ∷ [])

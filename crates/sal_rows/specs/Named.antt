@@ -3,15 +3,16 @@ use Rattle.std.specs.Prelude.{◌≡◌, ◌≤◌, List, ◌∷◌, length, tak
 use Rattle.sal_types.specs.declared.value.Store.{Store}
 use Rattle.sal_types.specs.declared.row.Row.{Row}
 use Rattle.sal_rows.specs.declared.op.Op.{Op}
-use Rattle.sal_rows.specs.Commits.{Span, tree_at}
-use Rattle.sal_rows.specs.Clash.{Clash as Conflict, IsNamedIn}
-use Rattle.sal_graft.specs.declared.found.Clash.{Clash}
-use Rattle.sal_graft.specs.Clash.{clash}
-use Rattle.sal_graft.specs.Quiet.{AreSpans, with_own}
+use Rattle.sal_rows.specs.Commits.{tree_at}
+use Rattle.sal_rows.specs.declared.clash.Span.{Span}
+use Rattle.sal_rows.specs.PathClash.{Difference, IsNamedIn}
+use Rattle.sal_rows.specs.declared.clash.Clash.{Clash}
+use Rattle.sal_rows.specs.Clash.{clash}
+use Rattle.sal_rows.specs.Quiet.{AreSpans, with_own}
 
--- a conflict of the operation, with its store and its path
-abbrev pub conflict_of : Op → Clash → Conflict
-conflict_of op c = record { store = op.store; path = take c.depth op.path; kind = c.kind; commit = c.commit }
+-- what a conflict of the operation names, with its store and its path
+abbrev pub place_of : Op → Clash → Difference
+place_of op c = record { store = op.store; path = take c.depth op.path; kind = c.kind; commit = c.commit }
 
 -- Each conflict is of one of the operations, at the first steps of its path, and names a commit of one of the spans that
 -- touched that. The base is the tree at the start of the first span with the transaction's own commits.
@@ -21,4 +22,4 @@ NamesALaterCommit =
     → AreSpans (length commits) span spans
     → ((s : Store) → base s ≡ with_own commits s (tree_at opening commits s span.from) spans)
     → clash opening commits base (span ∷ spans) ops ≡ Some c
-    → (op : Op) × (slice_get ops c.op ≡ Some op) × (c.depth ≤ length op.path) × Any (IsNamedIn opening commits (conflict_of op c)) (span ∷ spans)
+    → (op : Op) × (slice_get ops c.op ≡ Some op) × (c.depth ≤ length op.path) × Any (IsNamedIn opening commits (place_of op c)) (span ∷ spans)

@@ -7,8 +7,9 @@ use Rattle.sal_types.specs.Prefix.{is_prefix}
 use Rattle.sal_types.specs.Tree.{cell}
 use Rattle.sal_rows.specs.declared.op.Op.{Op}
 use Rattle.sal_rows.specs.Apply.{checks_path, apply_ops}
-use Rattle.sal_rows.specs.Commits.{Span, tree_at}
-use Rattle.sal_graft.specs.Clash.{clash, tip}
+use Rattle.sal_rows.specs.Commits.{tree_at}
+use Rattle.sal_rows.specs.declared.clash.Span.{Span}
+use Rattle.sal_rows.specs.Clash.{clash, tip}
 
 -- two trees have the same cells at p and below it
 abbrev pub SameBelow : List Step → List Row → List Row → Type 0

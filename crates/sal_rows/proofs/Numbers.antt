@@ -5,8 +5,9 @@ use Rattle.std.specs.List.{list_any}
 use Rattle.std.specs.Option.{option_or}
 use Rattle.std.proofs.lemmas.List.{reverse-append}
 use Rattle.std.proofs.lemmas.Grind.{reverse_onto}
-use Rattle.sal_rows.specs.Commits.{Span, numbers_after, numbers_in}
-use Rattle.sal_graft.specs.Clash.{numbers_over}
+use Rattle.sal_rows.specs.Commits.{numbers_after, numbers_in}
+use Rattle.sal_rows.specs.declared.clash.Span.{Span}
+use Rattle.sal_rows.specs.Clash.{numbers_over}
 
 -- one number more, at the end
 pub numbers_after-suc : (a n : ℕ) → numbers_after a (suc n) ≡ numbers_after a n ++ (a + suc n) ∷ []

@@ -3,8 +3,8 @@
 ghost use Rattle.std.specs.Prelude.{◌≡◌, None, [], ◌∷◌};
 ghost use Rattle.sal_types.specs.declared.value.Store.TheVariants.{Config, Oper};
 ghost use Rattle.sal_rows.specs.declared.outcome.ClashKind.TheVariants.{Changed, Created, Deleted};
-ghost use Rattle.sal_graft.specs.Clash.{clash};
-ghost use Rattle.sal_graft.specs.Examples.{depot, name, item, code, box, a, b, mark, leaf, put, merge, delete, both, after, found};
+ghost use Rattle.sal_rows.specs.Clash.{clash};
+ghost use Rattle.sal_rows.specs.Examples.{depot, name, item, code, box, a, b, mark, leaf, put, merge, delete, both, after, found};
 
 /// A put below a container that a later commit deleted: the container is named, and not the leaf.
 pub fn deleted_parent()

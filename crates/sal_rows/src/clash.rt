@@ -1,5 +1,5 @@
 //! What a search for conflicts looks at, and what it finds.
-use sal_rows::ClashKind;
+use crate::outcome::ClashKind;
 
 /// A piece of commit numbers: those after `from`, up to and including `to`.
 #[derive(Clone, Copy, Debug, PartialEq, Eq)]

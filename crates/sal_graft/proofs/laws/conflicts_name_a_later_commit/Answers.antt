@@ -1,5 +1,0 @@
-use Rattle.sal_graft.proofs.Named.{names_a_later_commit}
-use Rattle.sal_graft.proofs.laws.conflicts_name_a_later_commit.Goals as goal
-
-pub returns : goal.returns
-returns c = names_a_later_commit

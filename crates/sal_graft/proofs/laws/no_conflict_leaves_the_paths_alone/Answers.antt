@@ -1,5 +1,0 @@
-use Rattle.sal_graft.proofs.Quiet.{no_clash-quiet}
-use Rattle.sal_graft.proofs.laws.no_conflict_leaves_the_paths_alone.Goals as goal
-
-pub returns : goal.returns
-returns c = no_clash-quiet

@@ -1,7 +1,7 @@
 ghost use Rattle.std.specs.Prelude.{◌≡◌, ◌≢◌, ◌∷◌, ◌++◌, [], IfOk, IsTrue, codes, pos, true, None, Some};
 ghost use Rattle.sal_restrict.specs.Ranges.{is_ascending};
 ghost use Rattle.sal_types.specs.declared.value.Atom.TheVariants.{Unsigned};
-ghost use Rattle.sal_tx.specs.Examples as example;
+ghost use Rattle.sal_rules.specs.Depots as example;
 
 use super::*;
 use sal_restrict::{Part, Ranges, YangType};

@@ -13,7 +13,7 @@ use Rattle.sal_schema.proofs.Facts.{closest-Some, closest-enough, parent_of_befo
 use Rattle.sal_schema.proofs.Facts.{slice_get_past}
 use Rattle.std.specs.Option.{option_and_then, option_map}
 use Rattle.sal_schema.specs.declared.table.NodeInfo.{NodeInfo}
-use Rattle.sal_check.specs.Contexts.{is_plain, through_plain, from_list}
+use Rattle.sal_rules.specs.Contexts.{is_plain, through_plain, from_list}
 
 left_of : (n i : ℕ) → i < n → n - i ≡ suc (n - (i + 1))
 left_of n i h = omega arith

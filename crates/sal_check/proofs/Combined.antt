@@ -17,10 +17,10 @@ use Rattle.sal_node.specs.declared.node.Child.{Child}
 use Rattle.sal_schema.specs.declared.table.SchemaTable.{SchemaTable}
 use Rattle.sal_tree.specs.Grow.{at, kid, kids_in, IsSound}
 use Rattle.sal_tree.proofs.Laws.{sorted-kids, sound-kid}
-use Rattle.sal_check.specs.Contexts.{way_in_entry}
+use Rattle.sal_rules.specs.Contexts.{way_in_entry}
 use Rattle.sal_check.specs.Nodes.{seen_in, own_steps}
-use Rattle.sal_check.specs.Rules.{cells_at, combinations}
-use Rattle.sal_check.specs.Seen.{further}
+use Rattle.sal_rules.specs.Rules.{cells_at, combinations}
+use Rattle.sal_rules.specs.Seen.{further}
 use Rattle.sal_check.specs.Uniques.{cells_in, all_cells_in, ways_in, combination, all_combinations}
 use Rattle.sal_check.proofs.Counted.{seen-at, seen-all}
 use Rattle.sal_check.proofs.Members.{In}

@@ -13,7 +13,7 @@ use Rattle.std.specs.declared.vec.Vec.{Vec}
 use Rattle.sal_types.specs.contracts.value.CellOrd.TheImpl.Laws as cell_laws
 use Rattle.sal_types.specs.declared.value.Cell.{Cell}
 use Rattle.sal_types.specs.Order.{cell_cmp}
-use Rattle.sal_check.specs.Rules.{same_cells, has_double}
+use Rattle.sal_rules.specs.Rules.{same_cells, has_double}
 use Rattle.sal_check.specs.Uniques.{cells_in, all_cells_in}
 use Rattle.sal_check.proofs.There.{take-all}
 

@@ -10,10 +10,10 @@ use Rattle.sal_node.specs.Shape.{seen}
 use Rattle.sal_node.specs.declared.node.Child.{Child}
 use Rattle.sal_schema.specs.declared.table.SchemaTable.{SchemaTable}
 use Rattle.sal_rows.specs.declared.outcome.Breach.{Breach}
-use Rattle.sal_check.specs.declared.spot.Spot.{Spot}
-use Rattle.sal_check.specs.Breaches.{keep}
+use Rattle.sal_rules.specs.declared.spot.Spot.{Spot}
+use Rattle.sal_rules.specs.Breaches.{keep}
 use Rattle.sal_check.specs.Nodes.{found_at, found_below, found, found_in}
-use Rattle.sal_check.specs.Places.{after_step}
+use Rattle.sal_rules.specs.Places.{after_step}
 use Rattle.sal_check.proofs.Counted.{seen-at, seen-all}
 
 module _ (table : SchemaTable) (store : Store) (place : List Step) (spot : Spot) where

@@ -14,7 +14,7 @@ use Rattle.sal_rows.specs.declared.outcome.Rule.TheVariants.{Mandatory, MinEleme
 use Rattle.sal_rows.specs.declared.outcome.Breach.{Breach}
 use Rattle.sal_rows.specs.contracts.outcome.BreachOrd.TheImpl.Laws as breach_laws
 use Rattle.sal_rows.specs.contracts.outcome.RuleOrd.TheImpl as rule_ord
-use Rattle.sal_check.specs.Breaches.{breach_cmp, keep, least}
+use Rattle.sal_rules.specs.Breaches.{breach_cmp, keep, least}
 use Rattle.sal_check.proofs.Members.{In}
 
 total : IsTotalOrder breach_cmp

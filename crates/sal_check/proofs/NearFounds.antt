@@ -11,10 +11,10 @@ use Rattle.sal_node.specs.declared.node.Child.{Child}
 use Rattle.sal_tree.specs.Grow.{kid}
 use Rattle.sal_schema.specs.declared.table.SchemaTable.{SchemaTable}
 use Rattle.sal_rows.specs.declared.outcome.Breach.{Breach}
-use Rattle.sal_check.specs.declared.spot.Spot.{Spot}
-use Rattle.sal_check.specs.Breaches.{keep}
+use Rattle.sal_rules.specs.declared.spot.Spot.{Spot}
+use Rattle.sal_rules.specs.Breaches.{keep}
 use Rattle.sal_check.specs.Near.{is_new, near_at, near_below, near, near_in}
-use Rattle.sal_check.specs.Places.{after_step}
+use Rattle.sal_rules.specs.Places.{after_step}
 use Rattle.sal_check.proofs.Counted.{seen-at, seen-all}
 
 module _ (stamps : List ℕ) (table : SchemaTable) (store : Store) (place : List Step) (spot : Spot) (o : Option Tree) where

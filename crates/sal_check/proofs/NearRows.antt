@@ -16,10 +16,10 @@ use Rattle.sal_schema.specs.declared.table.SchemaTable.{SchemaTable}
 use Rattle.sal_schema.specs.Kinds.{is_list, has_entries}
 use Rattle.sal_schema.specs.Table.{is_kind, is_same, data_parent, max_elements, uniques_of}
 use Rattle.sal_rows.specs.declared.outcome.Rule.TheVariants.{MaxElements, Unique}
-use Rattle.sal_check.specs.Contexts.{way_in_entry}
+use Rattle.sal_rules.specs.Contexts.{way_in_entry}
 use Rattle.sal_check.specs.Near.{BreaksNearAChange, TooManyNearAChange, RepeatsNearAChange}
-use Rattle.sal_check.specs.Rules.{broken, is_past, has_double, cells_at}
-use Rattle.sal_check.specs.Seen.{Seen, seen_from, further, entries, step_past}
+use Rattle.sal_rules.specs.Rules.{broken, is_past, has_double, cells_at}
+use Rattle.sal_rules.specs.Seen.{Seen, seen_from, further, entries, step_past}
 
 -- ---- paths below a place
 

@@ -23,13 +23,13 @@ use Rattle.sal_tree.proofs.Laws.{eq, same, grove-sorted}
 use Rattle.sal_rows.specs.declared.outcome.Breach.{Breach}
 use Rattle.sal_rows.specs.declared.outcome.Rule.{Rule}
 use Rattle.sal_rows.specs.declared.outcome.Rule.TheVariants.{Mandatory, MinElements, MaxElements, Unique, TwoCases}
-use Rattle.sal_check.specs.declared.spot.Spot.{Spot}
-use Rattle.sal_check.specs.Breaches.{breach_of, breaches_at, breach, keep, least, breach_cmp, rules_of, is_looked_at, node_of_rule}
-use Rattle.sal_check.specs.Contexts.{way, stand}
+use Rattle.sal_rules.specs.declared.spot.Spot.{Spot}
+use Rattle.sal_rules.specs.Breaches.{breach_of, breaches_at, breach, keep, least, breach_cmp, rules_of, is_looked_at, node_of_rule}
+use Rattle.sal_rules.specs.Contexts.{way, stand}
 use Rattle.sal_check.specs.Near.{is_new, Keeps, KeepsAt, is_kept, is_settled, near_of, near_all, near_at, near_below, near}
 use Rattle.sal_check.specs.Nodes.{seen_in, judged, found_at, found_below, found, own_steps}
-use Rattle.sal_check.specs.Places.{root_spot, after_step}
-use Rattle.sal_check.specs.Rules.{has_minimum, is_demanded, steps_to}
+use Rattle.sal_rules.specs.Places.{root_spot, after_step}
+use Rattle.sal_rules.specs.Rules.{has_minimum, is_demanded, steps_to}
 use Rattle.sal_check.proofs.Members.{In}
 use Rattle.sal_check.proofs.NearRows.{too_many-local, repeats-local}
 use Rattle.sal_check.proofs.Walked.{find-in, breach-found}

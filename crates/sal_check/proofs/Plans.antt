@@ -7,8 +7,8 @@ use Rattle.std.proofs.lemmas.List.Elements.{filter-append, All-append}
 use Rattle.sal_schema.specs.declared.table.SchemaTable.{SchemaTable}
 use Rattle.sal_schema.specs.Kinds.{is_choice_or_case}
 use Rattle.sal_schema.specs.Table.{data_parent, parent_of}
-use Rattle.sal_check.specs.Breaches.{first}
-use Rattle.sal_check.specs.Contexts.{context, stand}
+use Rattle.sal_rules.specs.Breaches.{first}
+use Rattle.sal_rules.specs.Contexts.{context, stand}
 use Rattle.sal_check.specs.Nodes.{slot, is_judged_in, judged_in}
 use Rattle.sal_check.proofs.Climbs.{closest-inside}
 

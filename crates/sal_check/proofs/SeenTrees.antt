@@ -14,7 +14,7 @@ use Rattle.sal_tree.specs.Rows.{here, below, rows_in, rows_of}
 use Rattle.sal_tree.proofs.Cells.{cell-rows_of, has-rows_of}
 use Rattle.sal_tree.proofs.Laws.{eq, missing, at-append}
 use Rattle.sal_check.specs.Nodes.{own_steps, seen_in}
-use Rattle.sal_check.specs.Seen.{entries, step_past, seen_from, further}
+use Rattle.sal_rules.specs.Seen.{entries, step_past, seen_from, further}
 
 entries-append : (xs ys : List Row) (p : List Step) → entries (xs ++ ys) p ≡ entries xs p ++ entries ys p
 entries-append xs ys p = flat_map-append (λ (row : Row). step_past p row.path) xs ys

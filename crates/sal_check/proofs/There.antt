@@ -9,8 +9,8 @@ use Rattle.sal_types.specs.declared.value.Step.TheVariants.{Node}
 use Rattle.sal_schema.specs.declared.table.SchemaTable.{SchemaTable}
 use Rattle.sal_schema.specs.Kinds.{is_choice_or_case}
 use Rattle.sal_schema.specs.Table.{is_kind, children_of}
-use Rattle.sal_check.specs.Rules.{is_there}
-use Rattle.sal_check.specs.Seen.{Seen}
+use Rattle.sal_rules.specs.Rules.{is_there}
+use Rattle.sal_rules.specs.Seen.{Seen}
 
 module _ (table : SchemaTable) (see : Seen) where
   pub there-zero : (n : ℕ) → is_there table see zero n ≡ false

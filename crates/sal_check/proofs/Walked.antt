@@ -25,13 +25,13 @@ use Rattle.sal_tree.proofs.Laws.{eq, same, missing, self_tie, grove-sorted, at-a
 use Rattle.sal_rows.specs.declared.outcome.Breach.{Breach}
 use Rattle.sal_rows.specs.declared.outcome.Rule.{Rule}
 use Rattle.sal_rows.specs.declared.outcome.Rule.TheVariants.{Mandatory, MinElements, MaxElements, Unique, TwoCases}
-use Rattle.sal_check.specs.declared.spot.Spot.{Spot}
-use Rattle.sal_check.specs.Breaches.{breach_of, breaches_at, breaches_from, breaches, breach, least, numbers, rules_of, is_looked_at, node_of_rule}
-use Rattle.sal_check.specs.Contexts.{stand}
+use Rattle.sal_rules.specs.declared.spot.Spot.{Spot}
+use Rattle.sal_rules.specs.Breaches.{breach_of, breaches_at, breaches_from, breaches, breach, least, numbers, rules_of, is_looked_at, node_of_rule}
+use Rattle.sal_rules.specs.Contexts.{stand}
 use Rattle.sal_check.specs.Nodes.{seen_in, slot, is_judged_in, judged, found_at, found_below, found}
-use Rattle.sal_check.specs.Places.{places, root_spot, after_step, spot_of}
-use Rattle.sal_check.specs.Rules.{broken}
-use Rattle.sal_check.specs.Seen.{Seen, seen_from}
+use Rattle.sal_rules.specs.Places.{places, root_spot, after_step, spot_of}
+use Rattle.sal_rules.specs.Rules.{broken}
+use Rattle.sal_rules.specs.Seen.{Seen, seen_from}
 use Rattle.sal_check.proofs.Least.{least-same}
 use Rattle.sal_check.proofs.Members.{In, In-front, In-back, In-either, In-flat, In-from, In-map, In-from_map, In-kept, In-was}
 use Rattle.sal_check.proofs.SeenTrees.{seen-rows_of, at_none}

@@ -1,11 +1,5 @@
-pub mod Breaches
-pub mod Contexts
-pub mod Examples
 pub mod Near
 pub mod Nodes
 pub mod Paths
-pub mod Places
-pub mod Rules
-pub mod Seen
 pub mod Tried
 pub mod Uniques

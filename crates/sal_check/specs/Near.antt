@@ -14,13 +14,13 @@ use Rattle.sal_schema.specs.Table.{is_kind}
 use Rattle.sal_rows.specs.declared.outcome.Breach.{Breach}
 use Rattle.sal_rows.specs.declared.outcome.Rule.{Rule}
 use Rattle.sal_rows.specs.declared.outcome.Rule.TheVariants.{Mandatory, MinElements, MaxElements, Unique, TwoCases}
-use Rattle.sal_check.specs.declared.spot.Spot.{Spot}
-use Rattle.sal_check.specs.Breaches.{breach_of, rules_of}
-use Rattle.sal_check.specs.Contexts.{way}
+use Rattle.sal_rules.specs.declared.spot.Spot.{Spot}
+use Rattle.sal_rules.specs.Breaches.{breach_of, rules_of}
+use Rattle.sal_rules.specs.Contexts.{way}
 use Rattle.sal_check.specs.Nodes.{seen_in, judged}
-use Rattle.sal_check.specs.Places.{after_step}
-use Rattle.sal_check.specs.Rules.{broken, has_minimum, is_demanded}
-use Rattle.sal_check.specs.Seen.{seen_from}
+use Rattle.sal_rules.specs.Places.{after_step}
+use Rattle.sal_rules.specs.Rules.{broken, has_minimum, is_demanded}
+use Rattle.sal_rules.specs.Seen.{seen_from}
 
 -- ---- laws of the rules
 

@@ -11,11 +11,11 @@ use Rattle.sal_tree.specs.Grow.{at, kids_in, cell_in, present}
 use Rattle.sal_schema.specs.declared.table.SchemaTable.{SchemaTable}
 use Rattle.sal_schema.specs.Table.{data_parent}
 use Rattle.sal_rows.specs.declared.outcome.Breach.{Breach}
-use Rattle.sal_check.specs.declared.spot.Spot.{Spot}
-use Rattle.sal_check.specs.Breaches.{breaches_from, first}
-use Rattle.sal_check.specs.Contexts.{stand}
-use Rattle.sal_check.specs.Places.{after_step}
-use Rattle.sal_check.specs.Seen.{Seen}
+use Rattle.sal_rules.specs.declared.spot.Spot.{Spot}
+use Rattle.sal_rules.specs.Breaches.{breaches_from, first}
+use Rattle.sal_rules.specs.Contexts.{stand}
+use Rattle.sal_rules.specs.Places.{after_step}
+use Rattle.sal_rules.specs.Seen.{Seen}
 
 -- ---- what is seen
 

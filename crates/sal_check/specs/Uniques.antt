@@ -8,7 +8,7 @@ use Rattle.sal_types.specs.declared.value.Step.{Step}
 use Rattle.sal_types.specs.declared.value.Cell.{Cell}
 use Rattle.sal_node.specs.Tree.{Tree}
 use Rattle.sal_check.specs.Nodes.{seen_in}
-use Rattle.sal_check.specs.Rules.{cells_at}
+use Rattle.sal_rules.specs.Rules.{cells_at}
 
 -- the cells behind references
 abbrev pub cells_in : List (Bor Cell) → List Cell

@@ -1,6 +1,6 @@
 //! The least of breaches.
 ghost use Rattle.std.specs.Prelude.{◌≡◌};
-ghost use Rattle.sal_check.specs.Breaches as spec;
+ghost use Rattle.sal_rules.specs.Breaches as spec;
 
 use sal_rows::Breach;
 

@@ -1,12 +1,12 @@
 //! The check of a whole tree, and that of what changed in one.
 ghost use Rattle.std.specs.Prelude.{◌≡◌, IfOk, None};
 ghost use Rattle.sal_tree.specs.Rows.{rows_of};
-ghost use Rattle.sal_check.specs.Breaches.{breach};
+ghost use Rattle.sal_rules.specs.Breaches.{breach};
 ghost use Rattle.sal_check.specs.Near.{Keeps};
 
 use crate::changed::walk_changed;
 use crate::plan::Plan;
-use crate::spot::Spot;
+use sal_rules::Spot;
 use crate::walk::walk;
 use sal_rows::Breach;
 use sal_schema::Schema;

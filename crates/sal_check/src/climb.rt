@@ -3,7 +3,7 @@ ghost use Rattle.std.specs.Prelude.{◌≡◌, ◌<◌, ◌∷◌, length, IfSom
 ghost use Rattle.sal_types.specs.declared.value.Step.TheVariants.{Node};
 ghost use Rattle.sal_schema.specs.Kinds as kinds;
 ghost use Rattle.sal_schema.specs.Table.{is_kind, data_node};
-ghost use Rattle.sal_check.specs.Contexts as spec;
+ghost use Rattle.sal_rules.specs.Contexts as spec;
 
 use sal_schema::{Kind, Schema};
 use sal_types::{NoMemory, Step};

@@ -6,16 +6,9 @@
 //! | `check_near` | the same, of a tree that was made of one without a breach by a change with known stamps |
 //! | `Breach`, `Rule` | a rule that is broken, with its node, and where |
 //!
-//! `specs/` has the definitions over plain rows: the places of a tree and what each stands at (`Places`), what is seen from
-//! a place (`Seen`), the context of a node and the way from it (`Contexts`), the five rules (`Rules`), and all breaches with
-//! the least of them (`Breaches`). `examples` has worked cases of each. The other files of `specs/` say how the walk over a
-//! tree of nodes comes to the same breaches (`Nodes`, `Uniques`, `Paths`), what a change can break (`Near`), or have the
-//! tables of examples and tests. `laws` has that a rule breaks only where a row below its place changed.
-//!
-//! Rules are judged at the entries, the presence containers and the containers that are there, and at the root. What a list
-//! or presence container is the context of is demanded at each of them; what a case is the context of, where a node of the
-//! case is there; and what has no context, where the tree has the top-level container above it. No XPath, no leafref and no
-//! default is looked at.
+//! The definitions are those of `sal_rules` over plain rows. `specs/` says how the walk over a tree of nodes comes to the same
+//! breaches (`Nodes`, `Uniques`, `Paths`), and what a change can break (`Near`). `laws` has that a rule breaks only where a row
+//! below its place changed.
 //!
 //! ```
 //! match check_all(alloc, &schema, Store::Config, &root)? {
@@ -37,7 +30,6 @@ mod breach;
 mod changed;
 mod check;
 mod climb;
-pub mod examples;
 pub mod laws;
 mod plan;
 mod reach;

@@ -2,17 +2,11 @@
 ghost use Rattle.std.specs.Prelude.{◌≡◌, ◌<◌, length, IfSome, Some};
 ghost use Rattle.sal_schema.specs.Table.{is_kind};
 ghost use Rattle.sal_schema.specs.Kinds as kinds;
-ghost use Rattle.sal_check.specs.Places as spec;
+ghost use Rattle.sal_rules.specs.Places as spec;
 
+use sal_rules::Spot;
 use sal_schema::Schema;
 use sal_types::Step;
-
-/// The node that a place stands at, none at the root, and whether the keys or the value of an entry have to follow.
-#[derive(Clone, Copy, Debug, PartialEq, Eq)]
-pub struct Spot {
-    pub node: Option<u32>,
-    pub wants_entry: bool,
-}
 
 /// Where a step leads from a place.
 pub(crate) fn after_step(schema: &Schema, spot: Spot, step: &Step) -> Spot

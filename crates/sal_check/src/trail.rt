@@ -2,8 +2,8 @@
 ghost use Rattle.std.specs.Prelude.{◌≡◌, ◌<◌, ◌++◌, ◌∷◌, [], length, IfOk};
 ghost use Rattle.sal_check.specs.Nodes.{steps_in};
 ghost use Rattle.sal_check.specs.Paths.{joined};
-ghost use Rattle.sal_check.specs.Breaches.{node_of_rule};
-ghost use Rattle.sal_check.specs.Rules.{steps_to};
+ghost use Rattle.sal_rules.specs.Breaches.{node_of_rule};
+ghost use Rattle.sal_rules.specs.Rules.{steps_to};
 
 use crate::climb::way;
 use sal_rows::Rule;

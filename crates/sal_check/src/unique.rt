@@ -7,9 +7,9 @@ ghost use Rattle.sal_node.specs.Tree.{IsGrove};
 ghost use Rattle.sal_tree.specs.Grow.{cell_in, kids_in, IsSound};
 ghost use Rattle.sal_types.specs.declared.value.Cell.{Cell as CellValue};
 ghost use Rattle.std.specs.Borrow.{Bor};
-ghost use Rattle.sal_check.specs.Contexts as contexts;
+ghost use Rattle.sal_rules.specs.Contexts as contexts;
 ghost use Rattle.sal_check.specs.Nodes.{seen_in};
-ghost use Rattle.sal_check.specs.Rules as spec;
+ghost use Rattle.sal_rules.specs.Rules as spec;
 ghost use Rattle.sal_check.specs.Uniques.{cells_in, all_cells_in, ways_in, combination, all_combinations};
 ghost use Rattle.sal_rows.specs.declared.outcome.Rule.TheVariants.{Unique};
 

@@ -5,14 +5,15 @@ ghost use Rattle.sal_node.specs.Shape.{tree_at};
 ghost use Rattle.sal_node.specs.Tree.{IsGrove};
 ghost use Rattle.sal_schema.specs.Table.{config_of};
 ghost use Rattle.sal_tree.specs.Grow.{IsSound};
-ghost use Rattle.sal_check.specs.Breaches as spec;
+ghost use Rattle.sal_rules.specs.Breaches as spec;
 ghost use Rattle.sal_check.specs.Nodes.{seen_in, steps_in, found, found_at, AreJudged};
-ghost use Rattle.sal_check.specs.Rules.{broken};
+ghost use Rattle.sal_rules.specs.Rules.{broken};
 
 use crate::breach::keep;
 use crate::plan::Plan;
 use crate::rules::{has_too_few, has_too_many, has_two_cases, is_missing};
-use crate::spot::{Spot, after_step};
+use crate::spot::after_step;
+use sal_rules::Spot;
 use crate::trail::{longer, place_of};
 use crate::unique::repeats;
 use sal_node::Node;

@@ -12,7 +12,7 @@ use Rattle.sal_schema.specs.Valid.{IsTable}
 use Rattle.sal_pathtext.specs.declared.fault.PathTextFault.{PathTextFault}
 use Rattle.sal_pathtext.specs.Read.{read_path}
 use Rattle.sal_data.specs.declared.fault.DataFault.{DataFault}
-use Rattle.sal_tx.specs.Written.{IsForSchema}
+use Rattle.sal_rules.specs.Writes.{IsForSchema}
 use Rattle.sal_script.specs.declared.script.ScriptStep.{ScriptStep}
 use Rattle.sal_script.specs.JsonMoves.{is_json_move, have_json_moves}
 use Rattle.sal_script.specs.JsonScripts.{is_json_deed}

@@ -8,9 +8,9 @@ use Rattle.sal_tree.specs.declared.commit.Pair.{Pair}
 use Rattle.sal_tx.specs.declared.begun.Begun.{Begun}
 use Rattle.sal_tx.specs.declared.tx.Tx.TheVariants.{Write}
 use Rattle.sal_tx.specs.declared.writing.Writing.{Writing}
-use Rattle.sal_tx.specs.declared.fault.TxFault.{TxFault}
-use Rattle.sal_tx.specs.declared.fault.TxFault.TheVariants.{NoMemory}
-use Rattle.sal_tx.specs.Refusals.{refusal}
+use Rattle.sal_rules.specs.declared.fault.TxFault.{TxFault}
+use Rattle.sal_rules.specs.declared.fault.TxFault.TheVariants.{NoMemory}
+use Rattle.sal_rules.specs.Refusals.{refusal}
 use Rattle.sal_tx.specs.Views.{HasOneMore, IsOutcome, refused as refused_over}
 use Rattle.sal_history.specs.World.{table_of}
 use Rattle.sal_script.specs.declared.reply.StepReply.{StepReply}

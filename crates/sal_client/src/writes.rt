@@ -4,7 +4,7 @@ ghost use Rattle.sal_history.specs.World.{table_of};
 ghost use Rattle.sal_script.specs.JsonScripts.{is_json_deed};
 ghost use Rattle.sal_script.specs.Play.{Client, Open, accept_unless, local};
 ghost use Rattle.sal_script.specs.Play as play_spec;
-ghost use Rattle.sal_tx.specs.Written.{IsForSchema};
+ghost use Rattle.sal_rules.specs.Writes.{IsForSchema};
 ghost use Rattle.sal_client.specs.Deeds.{deed_of};
 
 use crate::client::{ClientState, Standing, refused};

@@ -11,7 +11,7 @@ use Rattle.sal_rows.specs.declared.outcome.Outcome.TheVariants.{Invalid}
 use Rattle.sal_rows.specs.Apply.{apply_ops, rows_of_act}
 use Rattle.sal_rows.specs.declared.clash.Span.{Span}
 use Rattle.sal_schema.specs.declared.table.SchemaTable.{SchemaTable}
-use Rattle.sal_check.specs.Breaches.{breach}
+use Rattle.sal_rules.specs.Breaches.{breach}
 use Rattle.sal_tree.specs.declared.commit.Commit.{Commit}
 use Rattle.sal_rows.specs.Clash.{tip}
 use Rattle.sal_graft.specs.Kept.{AreKept, opening_in, ops_of, rows_in}

@@ -19,7 +19,7 @@ use Rattle.sal_rows.specs.Apply.{apply_ops}
 use Rattle.sal_rows.specs.Commits.{next_tree}
 use Rattle.sal_rows.specs.declared.clash.Span.{Span}
 use Rattle.sal_rows.specs.PathClash.{Clash as Found, IsNamedIn}
-use Rattle.sal_check.specs.Breaches.{breach}
+use Rattle.sal_rules.specs.Breaches.{breach}
 use Rattle.sal_rows.specs.declared.clash.Clash.{Clash}
 use Rattle.sal_rows.specs.Clash.{clash, tip}
 use Rattle.sal_rows.specs.Named as named

@@ -5,7 +5,7 @@ use Rattle.sal_types.specs.declared.value.Step.TheVariants.{Node, Key, Item}
 use Rattle.sal_types.specs.declared.row.Row.{Row}
 use Rattle.sal_schema.specs.declared.kind.Kind.TheVariants.{Container, List as Entries, LeafList, Leaf as Scalar}
 use Rattle.sal_schema.specs.declared.table.SchemaTable.{SchemaTable}
-use Rattle.sal_check.specs.Examples.{info, node, table, number, mark, held}
+use Rattle.sal_rules.specs.Examples.{info, node, table, number, mark, held}
 use Rattle.sal_history.specs.World.{Domain}
 
 -- The depot (0) with its name (1) and its items (2), each with an id (3), a code (4) that no other has, and a note (5);

@@ -13,7 +13,7 @@ use Rattle.sal_rows.specs.declared.outcome.Mode.TheVariants.{Ro, Rw}
 use Rattle.sal_rows.specs.declared.outcome.Outcome.{Outcome}
 use Rattle.sal_schema.specs.declared.kind.Kind.TheVariants.{Container, Leaf as Scalar}
 use Rattle.sal_schema.specs.declared.table.SchemaTable.{SchemaTable}
-use Rattle.sal_check.specs.Examples.{node, table}
+use Rattle.sal_rules.specs.Examples.{node, table}
 use Rattle.sal_history.specs.declared.call.Call.{Call}
 use Rattle.sal_history.specs.declared.call.Call.TheVariants.{Begin, Submit, Settle}
 use Rattle.sal_history.specs.declared.call.Entry.{Entry}

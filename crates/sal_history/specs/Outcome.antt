@@ -12,7 +12,7 @@ use Rattle.sal_rows.specs.declared.outcome.Outcome.TheVariants.{Done, Conflict, 
 use Rattle.sal_rows.specs.Apply.{apply_ops}
 use Rattle.sal_rows.specs.declared.clash.Span.{Span}
 use Rattle.sal_schema.specs.declared.table.SchemaTable.{SchemaTable}
-use Rattle.sal_check.specs.Breaches.{breach}
+use Rattle.sal_rules.specs.Breaches.{breach}
 use Rattle.sal_rows.specs.declared.clash.Clash.{Clash}
 use Rattle.sal_rows.specs.Clash.{clash, tip}
 

@@ -8,7 +8,7 @@ ghost use Rattle.sal_rows.specs.declared.outcome.CallFault.TheVariants.{Pipeline
 ghost use Rattle.sal_rows.specs.declared.outcome.ClashKind.TheVariants.{Changed, Created, Deleted};
 ghost use Rattle.sal_rows.specs.declared.outcome.Outcome.TheVariants.{Done, Conflict, Invalid};
 ghost use Rattle.sal_rows.specs.declared.outcome.Rule.TheVariants.{MaxElements, Unique};
-ghost use Rattle.sal_check.specs.Examples.{mark, held};
+ghost use Rattle.sal_rules.specs.Examples.{mark, held};
 ghost use Rattle.sal_history.specs.declared.call.Call.TheVariants.{Submit, Cancel, Settle};
 ghost use Rattle.sal_history.specs.declared.reply.Reply.TheVariants.{Begun, Accepted, Receipt, Settled, Refused};
 ghost use Rattle.sal_history.specs.History.{Answered, base_tree, is_spent, newest_tree, pending, sents, submitted, view};

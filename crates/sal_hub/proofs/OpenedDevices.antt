@@ -5,7 +5,7 @@ use Rattle.std.specs.Option.{option_map, option_or}
 use Rattle.std.proofs.lemmas.Option.{same_Some}
 use Rattle.sal_types.specs.declared.value.Store.{Store}
 use Rattle.sal_types.specs.declared.value.Store.TheVariants.{Config, Oper}
-use Rattle.sal_check.specs.Breaches.{breach}
+use Rattle.sal_rules.specs.Breaches.{breach}
 use Rattle.sal_graft.specs.Kept.{opening_in}
 use Rattle.sal_commit.specs.declared.domain.Domain.{Domain}
 use Rattle.sal_commit.specs.Domains.{opening_of_device}

@@ -8,7 +8,7 @@ use Rattle.sal_types.specs.declared.value.Step.{Step}
 use Rattle.sal_types.specs.declared.row.Row.{Row}
 use Rattle.sal_schema.specs.declared.table.SchemaTable.{SchemaTable}
 use Rattle.sal_schema.specs.Fitting.{is_of_state}
-use Rattle.sal_check.specs.Breaches.{breach}
+use Rattle.sal_rules.specs.Breaches.{breach}
 use Rattle.sal_history.specs.declared.opening.Device.{Device}
 use Rattle.sal_history.specs.World.{Domain, tree_of_opening}
 use Rattle.sal_hub.specs.declared.opening.OpenFault.{OpenFault}

@@ -2,7 +2,7 @@
 ghost use Rattle.std.specs.Prelude.{◌≡◌, ◌⊎◌, ◌≤◌, None, Some, IfOk, MatchResult, find, length, map};
 ghost use Rattle.std.specs.Option.{option_copied, option_map};
 ghost use Rattle.sal_schema.specs.Fitting.{is_of_state};
-ghost use Rattle.sal_check.specs.Breaches.{breach};
+ghost use Rattle.sal_rules.specs.Breaches.{breach};
 ghost use Rattle.sal_graft.specs.Kept.{AreKept, opening_in, tree_in};
 ghost use Rattle.sal_hub.specs.declared.opening.OpenFault.TheVariants.{Broken, NotConfig, NoMemory as Refused};
 ghost use Rattle.sal_hub.specs.Lines.{AllKept, shown};

@@ -9,7 +9,7 @@ use sal_data::DataFault;
 use sal_json::ScalarFault;
 use sal_pathtext::PathTextFault;
 use sal_schema::Schema;
-use sal_tx::TxFault;
+use sal_rules::TxFault;
 use sal_types::{NoMemory, Path, Str};
 use std::alloc::Global;
 

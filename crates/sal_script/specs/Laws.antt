@@ -6,7 +6,7 @@ use Rattle.sal_rows.specs.declared.op.Act.{Act}
 use Rattle.sal_schema.specs.declared.table.SchemaTable.{SchemaTable}
 use Rattle.sal_schema.specs.Valid.{IsTable}
 use Rattle.sal_pathtext.specs.Read.{read_path}
-use Rattle.sal_tx.specs.Written.{IsForSchema}
+use Rattle.sal_rules.specs.Writes.{IsForSchema}
 use Rattle.sal_script.specs.Script.{Parts, script_of}
 use Rattle.sal_script.specs.JsonScripts.{IsJsonScript, is_json_deed}
 use Rattle.sal_script.specs.Play.{Deed, act_of, op_of}

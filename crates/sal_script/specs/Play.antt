@@ -25,9 +25,9 @@ use Rattle.sal_pathtext.specs.declared.fault.PathTextFault.{PathTextFault}
 use Rattle.sal_pathtext.specs.Read.{read_path}
 use Rattle.sal_data.specs.declared.fault.DataFault.{DataFault}
 use Rattle.sal_data.specs.Read.{read_data}
-use Rattle.sal_tx.specs.declared.fault.TxFault.{TxFault}
-use Rattle.sal_tx.specs.declared.fault.TxFault.TheVariants.{WriteOnly}
-use Rattle.sal_tx.specs.Refusals.{refusal}
+use Rattle.sal_rules.specs.declared.fault.TxFault.{TxFault}
+use Rattle.sal_rules.specs.declared.fault.TxFault.TheVariants.{WriteOnly}
+use Rattle.sal_rules.specs.Refusals.{refusal}
 use Rattle.sal_script.specs.declared.reply.StepReply.{StepReply}
 use Rattle.sal_script.specs.declared.reply.StepReply.TheVariants.{Called, Accepted, Read as ReadReply, Exists as ExistsReply, Refused}
 use Rattle.sal_script.specs.declared.reply.StepRefusal.{StepRefusal}

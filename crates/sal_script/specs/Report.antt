@@ -35,8 +35,8 @@ use Rattle.sal_script.specs.declared.reply.StepReply.{StepReply}
 use Rattle.sal_script.specs.declared.reply.StepReply.TheVariants as step_reply
 use Rattle.sal_script.specs.declared.reply.StepRefusal.{StepRefusal}
 use Rattle.sal_script.specs.declared.reply.StepRefusal.TheVariants.{EmptySlot, ReadOnly, BadPath, BadData, Write}
-use Rattle.sal_tx.specs.declared.fault.TxFault.{TxFault}
-use Rattle.sal_tx.specs.declared.fault.TxFault.TheVariants as tx_fault
+use Rattle.sal_rules.specs.declared.fault.TxFault.{TxFault}
+use Rattle.sal_rules.specs.declared.fault.TxFault.TheVariants as tx_fault
 use Rattle.sal_script.specs.Play.{Played}
 
 -- a space and a number

@@ -3,7 +3,7 @@ use sal_data::DataFault;
 use sal_history::Reply;
 use sal_pathtext::PathTextFault;
 use sal_rows::Rows;
-use sal_tx::TxFault;
+use sal_rules::TxFault;
 use sal_types::Path;
 
 /// Why a client refused a step by itself: it made no call.

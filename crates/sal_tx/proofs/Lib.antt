@@ -1,3 +1,2 @@
-pub mod DepotTable
 pub mod Nexts
 pub mod Walked

@@ -25,9 +25,10 @@ use Rattle.sal_tree.specs.declared.commit.Pair.{Pair}
 use Rattle.sal_schema.specs.declared.table.SchemaTable.{SchemaTable}
 use Rattle.sal_schema.specs.Fitting.{fits, row_fits}
 use Rattle.sal_schema.specs.Paths.{fits_path}
-use Rattle.sal_tx.specs.Refusals.{refusal}
+use Rattle.sal_rules.specs.Refusals.{refusal}
 use Rattle.sal_tx.specs.Views.{IsAfter, IsRight, IsNext, AreLawful, refused, rows_in, tree_in, stamp_of}
-use Rattle.sal_tx.specs.Written.{IsForSchema, IsWritten, with_tree}
+use Rattle.sal_tx.specs.Written.{IsWritten, with_tree}
+use Rattle.sal_rules.specs.Writes.{IsForSchema}
 use Rattle.sal_tx.specs.declared.writing.Writing.{Writing}
 use Rattle.sal_types.specs.declared.value.Store.TheVariants.{Config, Oper}
 use Rattle.sal_rows.specs.declared.outcome.Mode.TheVariants.{Ro}

@@ -10,7 +10,7 @@ use Rattle.sal_tree.proofs.Cells.{has-rows_of}
 use Rattle.sal_schema.specs.declared.table.SchemaTable.{SchemaTable}
 use Rattle.sal_schema.specs.Fitting.{has_mark}
 use Rattle.sal_schema.specs.Paths.{last_step}
-use Rattle.sal_tx.specs.Refusals.{above, missing_parent}
+use Rattle.sal_rules.specs.Refusals.{above, missing_parent}
 use Rattle.sal_tx.specs.Walk.{missing_depth}
 
 last_step-cons : (s t : Step) (q : List Step) → last_step (s ∷ t ∷ q) ≡ last_step (t ∷ q)

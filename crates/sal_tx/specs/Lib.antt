@@ -1,5 +1,3 @@
-pub mod Examples
-pub mod Refusals
 pub mod Views
 pub mod Walk
 pub mod Written

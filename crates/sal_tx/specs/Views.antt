@@ -12,11 +12,11 @@ use Rattle.sal_tree.specs.Follows.{Follows, exactly}
 use Rattle.sal_tree.specs.Rows.{rows_of}
 use Rattle.sal_tree.specs.declared.commit.Pair.{Pair}
 use Rattle.sal_schema.specs.declared.table.SchemaTable.{SchemaTable}
-use Rattle.sal_tx.specs.Written.{IsForSchema}
+use Rattle.sal_rules.specs.Writes.{IsForSchema}
 use Rattle.sal_tx.specs.declared.writing.Writing.{Writing}
-use Rattle.sal_tx.specs.declared.fault.TxFault.{TxFault}
-use Rattle.sal_tx.specs.declared.fault.TxFault.TheVariants.{NoMemory}
-use Rattle.sal_tx.specs.Refusals.{refusal}
+use Rattle.sal_rules.specs.declared.fault.TxFault.{TxFault}
+use Rattle.sal_rules.specs.declared.fault.TxFault.TheVariants.{NoMemory}
+use Rattle.sal_rules.specs.Refusals.{refusal}
 
 -- the tree of a store
 abbrev pub tree_in : Pair → Store → Tree

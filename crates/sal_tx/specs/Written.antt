@@ -1,26 +1,18 @@
 -- One operation on one tree.
-use Rattle.std.specs.Prelude.{◌≡◌, ℕ, IsTrue, IsFalse, List, None}
+use Rattle.std.specs.Prelude.{◌≡◌, ℕ, List, None}
 use Rattle.sal_types.specs.declared.value.Store.{Store}
 use Rattle.sal_types.specs.declared.value.Store.TheVariants.{Config, Oper}
 use Rattle.sal_types.specs.declared.value.Step.{Step}
 use Rattle.sal_types.specs.Tree.{cell}
 use Rattle.sal_rows.specs.declared.op.Op.{Op}
-use Rattle.sal_rows.specs.Apply.{act_setting, cell_by, rows_of_act}
+use Rattle.sal_rows.specs.Apply.{act_setting, cell_by}
 use Rattle.sal_node.specs.Tree.{Tree}
 use Rattle.sal_tree.specs.Follows.{Follows, exactly}
 use Rattle.sal_tree.specs.Rows.{rows_of}
 use Rattle.sal_tree.specs.Touched.{act_touches}
 use Rattle.sal_tree.specs.declared.commit.Pair.{Pair}
 use Rattle.sal_schema.specs.declared.table.SchemaTable.{SchemaTable}
-use Rattle.sal_schema.specs.Fitting.{fits, is_in_message}
-use Rattle.sal_schema.specs.Paths.{fits_path}
-use Rattle.sal_tx.specs.Refusals.{refusal}
-
--- the operation is one for the schema: its path and its rows fit, outside of RPCs and notifications
-pub record IsForSchema (table : SchemaTable) (op : Op) : Type 0 where
-  pub path : IsTrue (fits_path table op.path)
-  pub data_path : IsFalse (is_in_message table op.path)
-  pub rows : IsTrue (fits table op.path (rows_of_act op.act))
+use Rattle.sal_rules.specs.Refusals.{refusal}
 
 -- The tree `next` is the tree after an operation that is not refused over it: by its cells, and by stamps.
 pub record IsWritten (table : SchemaTable) (stamp : ℕ) (tree : Tree) (op : Op) (next : Tree) : Type 0 where

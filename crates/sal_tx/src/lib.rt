@@ -9,8 +9,8 @@
 //! | `edited` | a tree after one operation, as a decision makes it |
 //! | `TxFault`, `WriteOnly` | why a read or a write is refused |
 //!
-//! `specs/` has why a write is refused (`Refusals`), and what holds of a transaction (`Views`): its view is its base after
-//! its operations, by rows and by stamps, and each operation fits the schema and is not refused over what stood before it.
+//! `specs/` has what holds of a transaction (`Views`): its view is its base after its operations, by rows and by stamps, and
+//! each operation fits the schema and is not refused over what stood before it. Why a write is refused stands in `sal_rules`.
 //!
 //! ```
 //! let mut tx = WriteTx::open(alloc, begun, base, Mode::Rw)?;
@@ -30,13 +30,11 @@
 #![tactic(auto)]
 
 mod begun;
-mod examples;
-mod fault;
 mod refusal;
 mod tx;
 mod writing;
 
 pub use begun::Begun;
-pub use fault::{TxFault, WriteOnly};
+pub use sal_rules::{TxFault, WriteOnly};
 pub use tx::{ReadTx, Submission, Tx, WriteTx};
 pub use writing::{Writing, edited};

@@ -7,10 +7,10 @@ ghost use Rattle.sal_node.specs.Shape.{tree_at};
 ghost use Rattle.sal_tree.specs.Grow.{kid, present, IsSound};
 ghost use Rattle.sal_tree.specs.Rows.{rows_of};
 ghost use Rattle.sal_schema.specs.Fitting.{is_of_state, is_root};
-ghost use Rattle.sal_tx.specs.Refusals as spec;
+ghost use Rattle.sal_rules.specs.Refusals as spec;
 ghost use Rattle.sal_tx.specs.Walk as walk;
 
-use crate::fault::TxFault;
+use sal_rules::TxFault;
 use sal_node::Node;
 use sal_rows::{Act, Op};
 use sal_schema::Schema;

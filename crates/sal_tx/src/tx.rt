@@ -5,10 +5,10 @@ ghost use Rattle.sal_types.specs.Tree.{has, under};
 ghost use Rattle.sal_rows.specs.Apply.{rows_of_act, apply_ops};
 ghost use Rattle.sal_rows.specs.declared.op.Act.TheVariants.{Put as SetAll, Merge as SetSome, Delete as ClearAll};
 ghost use Rattle.sal_tx.specs.Views as spec;
-ghost use Rattle.sal_tx.specs.Written.{IsForSchema};
+ghost use Rattle.sal_rules.specs.Writes.{IsForSchema};
 
 use crate::begun::Begun;
-use crate::fault::{TxFault, WriteOnly};
+use sal_rules::{TxFault, WriteOnly};
 use crate::writing::{Writing, set_tree, written};
 use sal_mod::Mod;
 use sal_rows::{Act, Mode, Op, Rows};

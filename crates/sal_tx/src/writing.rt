@@ -6,11 +6,11 @@ ghost use Rattle.sal_rows.specs.Apply.{act_setting, cell_by, rows_of_act};
 ghost use Rattle.sal_tree.specs.Follows.{Follows, exactly};
 ghost use Rattle.sal_tree.specs.Rows.{rows_of};
 ghost use Rattle.sal_tree.specs.Touched.{act_touches};
-ghost use Rattle.sal_tx.specs.Refusals.{refusal};
+ghost use Rattle.sal_rules.specs.Refusals.{refusal};
 ghost use Rattle.sal_tx.specs.Written as spec;
 
 use crate::begun::Begun;
-use crate::fault::TxFault;
+use sal_rules::TxFault;
 use crate::refusal::check;
 use sal_mod::Mod;
 use sal_rows::{Act, Mode, Op};

@@ -1,4 +1,4 @@
-use Rattle.sal_tx.proofs.DepotTable.{put_depot-IsForSchema}
+use Rattle.sal_rules.proofs.DepotTable.{put_depot-IsForSchema}
 use Rattle.sal_tx.proofs.tests.put_depot.Goals as goal
 
 pub put-requires : goal.put-requires

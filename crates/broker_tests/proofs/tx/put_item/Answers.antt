@@ -1,4 +1,4 @@
-use Rattle.sal_tx.proofs.DepotTable.{put_item-IsForSchema}
+use Rattle.sal_rules.proofs.DepotTable.{put_item-IsForSchema}
 use Rattle.sal_tx.proofs.tests.put_item.Goals as goal
 
 pub put-requires : goal.put-requires

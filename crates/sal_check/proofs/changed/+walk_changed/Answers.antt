@@ -3,7 +3,7 @@ use Rattle.std.specs.List.{fold}
 use Rattle.sal_node.specs.Tree.{Tree, pairs}
 use Rattle.sal_node.specs.Shape.{seen, tree_at}
 use Rattle.sal_tree.proofs.ByChildren.{lighter}
-use Rattle.sal_check.specs.Breaches.{keep}
+use Rattle.sal_rules.specs.Breaches.{keep}
 use Rattle.sal_check.specs.Near.{is_new, near}
 use Rattle.sal_check.specs.Nodes.{steps_in}
 use Rattle.sal_check.proofs.Counted.{grove-child}

@@ -3,7 +3,7 @@ use Rattle.std.proofs.Common.{◌≡◌, take}
 use Rattle.std.specs.List.{fold}
 use Rattle.sal_node.specs.Shape.{seen, tree_at}
 use Rattle.sal_node.specs.Tree.{size_of}
-use Rattle.sal_check.specs.Breaches.{keep}
+use Rattle.sal_rules.specs.Breaches.{keep}
 use Rattle.sal_check.specs.Near.{near_in}
 use Rattle.sal_check.specs.Nodes.{steps_in}
 use Rattle.sal_check.proofs.changed.+walk_changed.Given as goal

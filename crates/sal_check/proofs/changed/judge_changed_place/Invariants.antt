@@ -2,7 +2,7 @@
 use Rattle.std.proofs.Common.{◌≡◌, take}
 use Rattle.std.specs.List.{fold}
 use Rattle.sal_node.specs.Shape.{tree_at}
-use Rattle.sal_check.specs.Breaches.{keep}
+use Rattle.sal_rules.specs.Breaches.{keep}
 use Rattle.sal_check.specs.Near.{near_all}
 use Rattle.sal_check.specs.Nodes.{steps_in}
 use Rattle.sal_check.proofs.changed.judge_changed_place.Given as goal

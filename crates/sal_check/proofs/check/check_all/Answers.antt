@@ -3,9 +3,9 @@ use Rattle.std.specs.Prelude.{IfOk}
 use Rattle.std.specs.List.{fold}
 use Rattle.sal_node.specs.Tree.{Tree}
 use Rattle.sal_tree.specs.Rows.{rows_of}
-use Rattle.sal_check.specs.Breaches.{keep, breach}
+use Rattle.sal_rules.specs.Breaches.{keep, breach}
 use Rattle.sal_check.specs.Nodes.{found}
-use Rattle.sal_check.specs.Places.{root_spot}
+use Rattle.sal_rules.specs.Places.{root_spot}
 use Rattle.sal_check.proofs.Walked.{breach-found}
 use Rattle.sal_check.proofs.check.check_all.Goals as goal
 

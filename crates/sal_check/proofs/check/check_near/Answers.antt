@@ -2,9 +2,9 @@ use Rattle.std.proofs.Common.{◌≡◌, [], Some, None, subst, ◌∙◌}
 use Rattle.std.specs.Prelude.{IfOk}
 use Rattle.std.specs.List.{fold}
 use Rattle.sal_tree.specs.Rows.{rows_of}
-use Rattle.sal_check.specs.Breaches.{keep, breach}
+use Rattle.sal_rules.specs.Breaches.{keep, breach}
 use Rattle.sal_check.specs.Near.{near}
-use Rattle.sal_check.specs.Places.{root_spot}
+use Rattle.sal_rules.specs.Places.{root_spot}
 use Rattle.sal_check.proofs.NearTrees.{near-breach}
 use Rattle.sal_check.proofs.check.check_near.Goals as goal
 

@@ -3,7 +3,7 @@ use Rattle.std.specs.Prelude.{IfSome}
 use Rattle.sal_schema.specs.declared.kind.Kind.{Kind}
 use Rattle.sal_schema.specs.Table.{closest, parent_of}
 use Rattle.sal_schema.proofs.Facts.{closest-None, lower}
-use Rattle.sal_check.specs.Contexts.{is_plain}
+use Rattle.sal_rules.specs.Contexts.{is_plain}
 use Rattle.sal_check.proofs.Climbs.{closest_step, closest-end, kind_says}
 use Rattle.sal_check.proofs.climb.context.Goals as goal
 

@@ -2,7 +2,7 @@
 use Rattle.std.proofs.Common.{◌≡◌, ◌<◌, ◌-◌, length, not}
 use Rattle.std.specs.Prelude.{IfSome}
 use Rattle.sal_schema.specs.Table.{closest}
-use Rattle.sal_check.specs.Contexts.{context, is_plain}
+use Rattle.sal_rules.specs.Contexts.{context, is_plain}
 use Rattle.sal_check.proofs.climb.context.Given as goal
 
 abbrev pub invariant-loop-done : goal.invariant-loop-done

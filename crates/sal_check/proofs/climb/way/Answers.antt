@@ -3,7 +3,7 @@ use Rattle.std.specs.Prelude.{IfSome}
 use Rattle.sal_types.specs.declared.value.Step.TheVariants.{Node}
 use Rattle.sal_schema.specs.Table.{parent_of}
 use Rattle.sal_schema.proofs.Facts.{lower}
-use Rattle.sal_check.specs.Contexts.{is_plain, through_plain}
+use Rattle.sal_rules.specs.Contexts.{is_plain, through_plain}
 use Rattle.sal_check.proofs.Climbs.{through_step, through-None, through-end, kind_says}
 use Rattle.sal_check.proofs.climb.way.Goals as goal
 

@@ -1,7 +1,7 @@
 -- What is left to climb leads to the whole way.
 use Rattle.std.proofs.Common.{◌≡◌, ◌<◌, ◌-◌, length}
 use Rattle.std.specs.Prelude.{IfSome}
-use Rattle.sal_check.specs.Contexts.{way, through_plain}
+use Rattle.sal_rules.specs.Contexts.{way, through_plain}
 use Rattle.sal_check.proofs.climb.way.Given as goal
 
 abbrev pub invariant-loop-done : goal.invariant-loop-done

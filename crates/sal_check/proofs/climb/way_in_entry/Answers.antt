@@ -2,7 +2,7 @@ use Rattle.std.proofs.Common.{rules, ◌≡◌, ◌-◌, ◌+◌, ◌<◌, true,
 use Rattle.sal_types.specs.declared.value.Step.TheVariants.{Node}
 use Rattle.sal_schema.specs.Kinds.{is_list, is_data}
 use Rattle.sal_schema.specs.Table.{is_kind, parent_of}
-use Rattle.sal_check.specs.Contexts.{from_list}
+use Rattle.sal_rules.specs.Contexts.{from_list}
 use Rattle.sal_check.proofs.Climbs.{from-step, from-None, from-end, from-outside, kind_says}
 use Rattle.sal_check.proofs.climb.way_in_entry.Goals as goal
 

@@ -1,6 +1,6 @@
 -- What is left to climb leads to the whole way.
 use Rattle.std.proofs.Common.{◌≡◌, ◌-◌, length}
-use Rattle.sal_check.specs.Contexts.{way_in_entry, from_list}
+use Rattle.sal_rules.specs.Contexts.{way_in_entry, from_list}
 use Rattle.sal_check.proofs.climb.way_in_entry.Given as goal
 
 abbrev pub invariant-loop-done : goal.invariant-loop-done

@@ -7,7 +7,7 @@ use Rattle.sal_schema.specs.Kinds.{is_choice_or_case}
 use Rattle.sal_schema.specs.Table.{children_of}
 use Rattle.sal_tree.specs.Grow.{present}
 use Rattle.sal_check.specs.Nodes.{seen_in}
-use Rattle.sal_check.specs.Rules.{is_there}
+use Rattle.sal_rules.specs.Rules.{is_there}
 use Rattle.sal_check.proofs.Climbs.{kind_says}
 use Rattle.sal_check.proofs.There.{there-zero, there-step, take-all}
 use Rattle.sal_check.proofs.rules.+is_there.Goals as goal

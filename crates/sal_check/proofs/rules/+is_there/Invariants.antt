@@ -3,7 +3,7 @@ use Rattle.std.proofs.Common.{◌≡◌, ◌-◌, false, take}
 use Rattle.std.specs.List.{list_any}
 use Rattle.sal_node.specs.Shape.{tree_at}
 use Rattle.sal_check.specs.Nodes.{seen_in}
-use Rattle.sal_check.specs.Rules.{is_there}
+use Rattle.sal_rules.specs.Rules.{is_there}
 use Rattle.sal_check.proofs.rules.+is_there.Given as goal
 
 abbrev pub decreases-is_there : goal.decreases-is_there

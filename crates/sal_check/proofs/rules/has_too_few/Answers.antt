@@ -3,10 +3,10 @@ use Rattle.std.specs.Prelude.{◌&&◌, nat_lt}
 use Rattle.sal_node.specs.Shape.{tree_at}
 use Rattle.sal_schema.specs.Table.{is_same, min_elements}
 use Rattle.sal_tree.specs.Grow.{at}
-use Rattle.sal_check.specs.Contexts.{stand, way}
+use Rattle.sal_rules.specs.Contexts.{stand, way}
 use Rattle.sal_check.specs.Nodes.{seen_in}
-use Rattle.sal_check.specs.Rules.{has_minimum, is_demanded, count}
-use Rattle.sal_check.specs.Seen.{Seen, further}
+use Rattle.sal_rules.specs.Rules.{has_minimum, is_demanded, count}
+use Rattle.sal_rules.specs.Seen.{Seen, further}
 use Rattle.sal_check.proofs.SeenTrees.{further-seen}
 use Rattle.sal_check.proofs.rules.has_too_few.Goals as goal
 

@@ -3,7 +3,7 @@ use Rattle.std.proofs.Common.{◌≡◌, ◌≤◌, length, take}
 use Rattle.std.specs.List.{filter}
 use Rattle.sal_node.specs.Shape.{tree_at}
 use Rattle.sal_check.specs.Nodes.{seen_in}
-use Rattle.sal_check.specs.Rules.{stands}
+use Rattle.sal_rules.specs.Rules.{stands}
 use Rattle.sal_check.proofs.rules.has_two_cases.Given as goal
 
 abbrev pub invariant-loop-case : goal.invariant-loop-case

@@ -1,9 +1,9 @@
 use Rattle.std.proofs.Common.{rules, ◌≡◌, ap, sym, ◌∙◌}
 use Rattle.sal_node.specs.Shape.{tree_at}
 use Rattle.sal_tree.specs.Grow.{at}
-use Rattle.sal_check.specs.Contexts.{way}
+use Rattle.sal_rules.specs.Contexts.{way}
 use Rattle.sal_check.specs.Nodes.{seen_in}
-use Rattle.sal_check.specs.Seen.{further}
+use Rattle.sal_rules.specs.Seen.{further}
 use Rattle.sal_check.proofs.SeenTrees.{further-seen}
 use Rattle.sal_check.proofs.rules.is_missing.Goals as goal
 

@@ -6,7 +6,7 @@ use Rattle.std.specs.declared.alloc.Global.{Global}
 use Rattle.std.specs.declared.vec.Vec.{Vec}
 use Rattle.sal_types.specs.declared.value.Cell.{Cell}
 use Rattle.sal_check.specs.Nodes.{seen_in}
-use Rattle.sal_check.specs.Rules.{cells_at}
+use Rattle.sal_rules.specs.Rules.{cells_at}
 use Rattle.sal_check.specs.Uniques.{cells_in, all_cells_in, ways_in}
 use Rattle.sal_check.proofs.Combined.{all_cells_in-push, combination-some}
 use Rattle.sal_check.proofs.unique.add_cells.Goals as goal

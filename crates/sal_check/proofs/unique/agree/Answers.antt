@@ -3,7 +3,7 @@ use Rattle.std.specs.Prelude.{IfOk}
 use Rattle.sal_node.specs.Shape.{tree_at}
 use Rattle.sal_tree.specs.Grow.{kids_in}
 use Rattle.sal_check.specs.Nodes.{seen_in}
-use Rattle.sal_check.specs.Rules.{has_double, combinations}
+use Rattle.sal_rules.specs.Rules.{has_double, combinations}
 use Rattle.sal_check.specs.Uniques.{all_cells_in, all_combinations, ways_in}
 use Rattle.sal_check.proofs.Combined.{combinations-seen}
 use Rattle.sal_check.proofs.unique.agree.Goals as goal

@@ -3,7 +3,7 @@ use Rattle.std.proofs.Common.{◌≡◌, false, take}
 use Rattle.std.specs.List.{list_any}
 use Rattle.sal_node.specs.Shape.{tree_at}
 use Rattle.sal_check.specs.Nodes.{seen_in}
-use Rattle.sal_check.specs.Rules.{has_double, combinations}
+use Rattle.sal_rules.specs.Rules.{has_double, combinations}
 use Rattle.sal_check.proofs.unique.repeats.Given as goal
 
 abbrev pub invariant-loop-leafs : goal.invariant-loop-leafs

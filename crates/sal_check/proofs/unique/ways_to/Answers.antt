@@ -1,6 +1,6 @@
 use Rattle.std.proofs.Common.{rules, ◌≡◌, ◌++◌, ◌∷◌, [], get_or, sym, ap, ◌∙◌}
 use Rattle.std.proofs.lemmas.List.{map_more}
-use Rattle.sal_check.specs.Contexts.{way_in_entry}
+use Rattle.sal_rules.specs.Contexts.{way_in_entry}
 use Rattle.sal_check.specs.Uniques.{ways_in}
 use Rattle.sal_check.proofs.Combined.{ways_in-push}
 use Rattle.sal_check.proofs.unique.ways_to.Goals as goal

@@ -1,6 +1,6 @@
 -- Those of the leafs so far.
 use Rattle.std.proofs.Common.{◌≡◌, take, map}
-use Rattle.sal_check.specs.Contexts.{way_in_entry}
+use Rattle.sal_rules.specs.Contexts.{way_in_entry}
 use Rattle.sal_check.specs.Uniques.{ways_in}
 use Rattle.sal_check.proofs.unique.ways_to.Given as goal
 

@@ -3,7 +3,7 @@ use Rattle.std.specs.List.{fold}
 use Rattle.sal_node.specs.Tree.{Tree, pairs}
 use Rattle.sal_node.specs.Shape.{seen}
 use Rattle.sal_tree.proofs.ByChildren.{lighter}
-use Rattle.sal_check.specs.Breaches.{keep}
+use Rattle.sal_rules.specs.Breaches.{keep}
 use Rattle.sal_check.specs.Nodes.{found, steps_in}
 use Rattle.sal_check.proofs.Counted.{grove-child}
 use Rattle.sal_check.proofs.Founds.{found-more, found-all}

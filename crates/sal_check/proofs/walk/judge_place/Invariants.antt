@@ -1,7 +1,7 @@
 -- The least with the breaches of the nodes so far.
 use Rattle.std.proofs.Common.{◌≡◌, Some, take}
 use Rattle.std.specs.List.{fold}
-use Rattle.sal_check.specs.Breaches.{keep, breaches_at}
+use Rattle.sal_rules.specs.Breaches.{keep, breaches_at}
 use Rattle.sal_check.specs.Nodes.{seen_in, steps_in}
 use Rattle.sal_check.proofs.walk.judge_place.Given as goal
 

@@ -8,9 +8,9 @@ use Rattle.sal_json.specs.Read.{type_scalar, own_json}
 use Rattle.sal_json.specs.Written.{type_json_of, layer_for}
 use Rattle.sal_pathtext.specs.Words.{name, single, said}
 use Rattle.sal_pathtext.specs.Read.{read_path, steps, one_more, named, entered, predicates, predicate, subject}
-use Rattle.sal_check.specs.Breaches.{first}
-use Rattle.sal_check.specs.Contexts.{through_plain, from_list}
-use Rattle.sal_check.specs.Rules.{is_there}
+use Rattle.sal_rules.specs.Breaches.{first}
+use Rattle.sal_rules.specs.Contexts.{through_plain, from_list}
+use Rattle.sal_rules.specs.Rules.{is_there}
 use Rattle.sal_data.specs.Written.{scalar_json, node_json, runs_of}
 use Rattle.sal_script.proofs.examples.own_writes_and_an_older_snapshot.Goals as goal
 

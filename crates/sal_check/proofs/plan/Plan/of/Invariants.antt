@@ -3,7 +3,7 @@ use Rattle.std.proofs.Common.{◌≡◌, ℕ, ◌+◌, ◌<◌, length, get_or}
 use Rattle.std.specs.List.{filter}
 use Rattle.std.specs.declared.alloc.Global.{Global}
 use Rattle.std.specs.declared.vec.Vec.{Vec}
-use Rattle.sal_check.specs.Breaches.{first}
+use Rattle.sal_rules.specs.Breaches.{first}
 use Rattle.sal_check.specs.Nodes.{is_judged_in}
 use Rattle.sal_check.proofs.plan.Plan.of.Given as goal
 

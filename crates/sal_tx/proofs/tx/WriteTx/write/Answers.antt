@@ -1,7 +1,7 @@
 use Rattle.std.proofs.Common.{◌≡◌, ◌++◌, ◌∷◌, [], refl, sym, ap, subst, ◌∙◌}
 use Rattle.sal_tx.specs.declared.writing.Writing.{Writing}
 use Rattle.sal_tx.specs.Views.{IsNext}
-use Rattle.sal_tx.specs.Written.{IsForSchema}
+use Rattle.sal_rules.specs.Writes.{IsForSchema}
 use Rattle.sal_tx.proofs.Nexts.{IsRight-more}
 use Rattle.sal_tx.proofs.tx.WriteTx.write.Goals as goal
 

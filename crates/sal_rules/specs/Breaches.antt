@@ -13,11 +13,11 @@ use Rattle.sal_schema.specs.Table.{config_of}
 use Rattle.sal_rows.specs.declared.outcome.Rule.{Rule}
 use Rattle.sal_rows.specs.declared.outcome.Rule.TheVariants.{Mandatory, MinElements, MaxElements, Unique, TwoCases}
 use Rattle.sal_rows.specs.declared.outcome.Breach.{Breach}
-use Rattle.sal_check.specs.declared.spot.Spot.{Spot}
+use Rattle.sal_rules.specs.declared.spot.Spot.{Spot}
 use Rattle.sal_rows.specs.contracts.outcome.BreachOrd.TheImpl as breach_ord
-use Rattle.sal_check.specs.Places.{places, spot_of}
-use Rattle.sal_check.specs.Seen.{Seen, seen_from}
-use Rattle.sal_check.specs.Rules.{broken, steps_to}
+use Rattle.sal_rules.specs.Places.{places, spot_of}
+use Rattle.sal_rules.specs.Seen.{Seen, seen_from}
+use Rattle.sal_rules.specs.Rules.{broken, steps_to}
 
 -- ---- the least
 

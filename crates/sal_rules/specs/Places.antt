@@ -8,7 +8,7 @@ use Rattle.sal_schema.specs.declared.table.SchemaTable.{SchemaTable}
 use Rattle.sal_schema.specs.Kinds.{has_entries}
 use Rattle.sal_schema.specs.Fitting.{prefixes}
 use Rattle.sal_schema.specs.Table.{is_kind}
-use Rattle.sal_check.specs.declared.spot.Spot.{Spot}
+use Rattle.sal_rules.specs.declared.spot.Spot.{Spot}
 
 -- The root, and each path at which a row stands or below which one does. One may be listed more than once.
 abbrev pub places : List Row → List (List Step)

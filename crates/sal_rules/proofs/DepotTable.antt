@@ -3,8 +3,8 @@ use Rattle.std.proofs.Common.{refl, arith}
 use Rattle.sal_restrict.specs.declared.yang_type.YangType.TheViews.{out-roll-YangType}
 use Rattle.sal_schema.specs.Table.{closest}
 use Rattle.sal_schema.specs.Valid.{IsTable}
-use Rattle.sal_tx.specs.Examples.{depot_table, shop_table, put_depot, put_item}
-use Rattle.sal_tx.specs.Written.{IsForSchema}
+use Rattle.sal_rules.specs.Depots.{depot_table, shop_table, put_depot, put_item}
+use Rattle.sal_rules.specs.Writes.{IsForSchema}
 
 pub depot-IsTable : IsTable depot_table
 unfolding closest

@@ -1,16 +1,16 @@
-//! Examples, computed from the definitions.
+//! Worked examples of refused writes, computed from the definitions.
 ghost use Rattle.std.specs.Prelude.{◌≡◌, ◌∷◌, ◌++◌, [], Some, None};
 ghost use Rattle.sal_types.specs.declared.value.Step.TheVariants.{Node};
 ghost use Rattle.sal_types.specs.declared.value.Store.TheVariants.{Config, Oper};
 ghost use Rattle.sal_rows.specs.declared.op.Act.TheVariants.{Put, Merge, Delete};
 ghost use Rattle.sal_schema.specs.Valid.{IsTable};
-ghost use Rattle.sal_tx.specs.Examples as example;
-ghost use Rattle.sal_tx.specs.Refusals.{refusal};
+ghost use Rattle.sal_rules.specs.Depots as example;
+ghost use Rattle.sal_rules.specs.Refusals.{refusal};
 
 use crate::fault::TxFault;
 
 /// The definitions give what the examples say. A call does nothing: its clauses are the laws.
-pub fn examples()
+pub fn refused_writes()
     ensures table { IsTable example.depot_table }
     ensures root { refusal example.depot_table [] (example.op Config [] (Put [])) ≡ Some TxFault.RootPath }
     ensures key_before_parents { refusal example.depot_table [] (example.op Config (example.item ++ Node 2 ∷ []) (Put [])) ≡ Some (TxFault.KeyLeaf (example.item ++ Node 2 ∷ [])) }

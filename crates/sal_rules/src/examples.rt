@@ -3,9 +3,9 @@ ghost use Rattle.std.specs.Prelude.{◌≡◌, ◌∷◌, ◌++◌, [], Some, No
 ghost use Rattle.sal_types.specs.declared.value.Step.TheVariants.{Node};
 ghost use Rattle.sal_types.specs.declared.value.Store.TheVariants.{Config, Oper};
 ghost use Rattle.sal_rows.specs.declared.outcome.Rule.TheVariants.{Mandatory, MinElements, MaxElements, Unique, TwoCases};
-ghost use Rattle.sal_check.specs.Breaches.{breach};
-ghost use Rattle.sal_check.specs.Contexts.{context, way, stand};
-ghost use Rattle.sal_check.specs.Examples as example;
+ghost use Rattle.sal_rules.specs.Breaches.{breach};
+ghost use Rattle.sal_rules.specs.Contexts.{context, way, stand};
+ghost use Rattle.sal_rules.specs.Examples as example;
 
 /// Contexts: the list for its leafs, the case for what stands in it, and for what stands in containers without presence
 /// what lies above these.

@@ -12,8 +12,8 @@ use Rattle.sal_rows.specs.Apply.{rows_of_act}
 use Rattle.sal_schema.specs.declared.table.SchemaTable.{SchemaTable}
 use Rattle.sal_schema.specs.Fitting.{has_mark, is_root, is_key_leaf, is_of_state}
 use Rattle.sal_schema.specs.Paths.{last_step}
-use Rattle.sal_tx.specs.declared.fault.TxFault.{TxFault}
-use Rattle.sal_tx.specs.declared.fault.TxFault.TheVariants.{NotConfig, KeyLeaf, ParentMissing, RootPath}
+use Rattle.sal_rules.specs.declared.fault.TxFault.{TxFault}
+use Rattle.sal_rules.specs.declared.fault.TxFault.TheVariants.{NotConfig, KeyLeaf, ParentMissing, RootPath}
 
 -- ---- parents
 

@@ -14,8 +14,8 @@ use Rattle.sal_schema.specs.Kinds.{is_choice_or_case, is_case, is_choice, is_lea
 use Rattle.sal_schema.specs.Table.{is_kind, is_same, children_of, data_parent, is_mandatory, min_elements, max_elements, uniques_of}
 use Rattle.sal_rows.specs.declared.outcome.Rule.{Rule}
 use Rattle.sal_rows.specs.declared.outcome.Rule.TheVariants.{Mandatory, MinElements, MaxElements, Unique, TwoCases}
-use Rattle.sal_check.specs.Contexts.{context, stand, way, way_in_entry}
-use Rattle.sal_check.specs.Seen.{Seen, further}
+use Rattle.sal_rules.specs.Contexts.{context, stand, way, way_in_entry}
+use Rattle.sal_rules.specs.Seen.{Seen, further}
 
 -- ---- what stands at a place
 

@@ -1,10 +1,10 @@
 -- Each example by computation.
 use Rattle.std.proofs.Common.{refl}
 use Rattle.sal_schema.specs.Table.{closest}
-use Rattle.sal_check.specs.Breaches.{first}
-use Rattle.sal_check.specs.Contexts.{through_plain, from_list}
-use Rattle.sal_check.specs.Rules.{is_there}
-use Rattle.sal_check.proofs.examples.contexts.Goals as goal
+use Rattle.sal_rules.specs.Breaches.{first}
+use Rattle.sal_rules.specs.Contexts.{through_plain, from_list}
+use Rattle.sal_rules.specs.Rules.{is_there}
+use Rattle.sal_rules.proofs.examples.contexts.Goals as goal
 
 pub returns-clause-of_a_list : goal.returns-clause-of_a_list
 unfolding closest first through_plain from_list is_there

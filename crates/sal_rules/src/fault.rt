@@ -26,7 +26,7 @@ pub enum TxFault {
 
 impl From<NoMemory> for TxFault {
     ghost use Rattle.std.specs.Prelude.{◌≡◌};
-    ghost use Rattle.sal_tx.specs.declared.fault.TxFault.TheVariants.{NoMemory as Refused};
+    ghost use Rattle.sal_rules.specs.declared.fault.TxFault.TheVariants.{NoMemory as Refused};
 
     ghost from_gives = { λ _ e. e ≡ Refused };
 

@@ -1,0 +1,9 @@
+pub mod Breaches
+pub mod Contexts
+pub mod Depots
+pub mod Examples
+pub mod Places
+pub mod Refusals
+pub mod Rules
+pub mod Seen
+pub mod Writes

@@ -1,0 +1,28 @@
+//! The rules of a tree and of a write, as definitions over plain rows: which structural rules a tree breaks, and why a write
+//! is refused. There is no code but worked examples; `sal_check` and `sal_tx` have the calls that keep these definitions.
+//!
+//! | item | what it is |
+//! |---|---|
+//! | `Spot` | what a place of a tree stands at |
+//! | `TxFault`, `WriteOnly` | why a write or a read is refused |
+//! | `examples`, `refused` | functions that do nothing, each with worked examples as its contract |
+//!
+//! `specs/` has the places of a tree and what each stands at (`Places`), what is seen from a place (`Seen`), the context of a
+//! node and the way from it (`Contexts`), the five structural rules (`Rules`), all breaches with the one that is reported
+//! (`Breaches`), why a write is refused (`Refusals`), and which operations are for a schema (`Writes`).
+//!
+//! Rules are judged at the entries, the presence containers and the containers that are there, and at the root. What a list
+//! or presence container is the context of is demanded at each of them; what a case is the context of, where a node of the
+//! case is there; and what has no context, where the tree has the top-level container above it. No XPath, no leafref and no
+//! default is looked at.
+//!
+//! Costs: none, since nothing here runs.
+#![tactic(auto)]
+
+pub mod examples;
+pub mod fault;
+pub mod refused;
+pub mod spot;
+
+pub use fault::{TxFault, WriteOnly};
+pub use spot::Spot;

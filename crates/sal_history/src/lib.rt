@@ -19,9 +19,9 @@
 //!   else where its transaction is spent, which is to say submitted or cancelled before. To cancel is accepted.
 //! - A settle decides the pending receipts up to its own, in order, and answers with that one's outcome.
 //! - An outcome is decided at the domain's newest commit (`specs/Outcome`), as the first of these that applies. A conflict
-//!   with a commit after the base names the store, the place, how that differs, and the commit (`sal_graft`). A breach of
+//!   with a commit after the base names the store, the place, how that differs, and the commit (`sal_rows`). A breach of
 //!   a structural rule in the configuration after the operations, and else in the operational tree, names the store, the
-//!   path and the rule (`sal_check`). Or it is done: both stores change together, as the next commit.
+//!   path and the rule (`sal_rules`). Or it is done: both stores change together, as the next commit.
 //!
 //! What a refused client is told. In each log, the commit that a receipt's conflict names was done before that receipt,
 //! came after the base of its transaction, and touched the path that the conflict names, and that path is at or above one

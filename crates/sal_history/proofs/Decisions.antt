@@ -18,11 +18,11 @@ use Rattle.sal_rows.specs.declared.outcome.Outcome.TheVariants.{Conflict, Done, 
 use Rattle.sal_rows.specs.Apply.{apply_ops}
 use Rattle.sal_rows.specs.Commits.{next_tree}
 use Rattle.sal_rows.specs.declared.clash.Span.{Span}
-use Rattle.sal_rows.specs.PathClash.{Clash as Found, IsNamedIn}
+use Rattle.sal_rows.specs.PathClash.{Difference as Found, IsNamedIn}
 use Rattle.sal_rules.specs.Breaches.{breach}
 use Rattle.sal_rows.specs.declared.clash.Clash.{Clash}
 use Rattle.sal_rows.specs.Clash.{clash, tip}
-use Rattle.sal_rows.specs.Named as named
+use Rattle.sal_rows.specs.Named as naming
 use Rattle.sal_rows.proofs.Named.{names_a_later_commit}
 use Rattle.sal_history.specs.Outcome.{conflict_of}
 use Rattle.sal_history.specs.World.{opening_of, table_of}
@@ -96,14 +96,14 @@ named world commits s store path kind commit base_le =
       | Some c ↦ λ e h.
           let found = names_a_later_commit opening commits base span [] s.ops c (base_le, refl) (λ t. refl) e in
           let op : Op = found.0 in
-          let here : IsNamedIn opening commits (named.place_of op c) span =
-          any_of_one (IsNamedIn opening commits (named.place_of op c)) span found.3 in
+          let here : IsNamedIn opening commits (naming.place_of op c) span =
+          any_of_one (IsNamedIn opening commits (naming.place_of op c)) span found.3 in
           let is : conflict_of c op ≡ Conflict store path kind commit =
           sym (ap (λ (x : Option Op). decided (option_map (conflict_of c) x) config oper (length commits + 1)) found.1) ∙ h in
           let at_store : op.store ≡ store = cc in
           let at_path : take c.depth op.path ≡ path = cc in
           let at_commit : c.commit ≡ commit = cc in
-          let same : named.place_of op c ≡ record { store = store; path = path; kind = c.kind; commit = commit } =
+          let same : naming.place_of op c ≡ record { store = store; path = path; kind = c.kind; commit = commit } =
           λ i. record { store = at_store i; path = at_path i; kind = c.kind; commit = at_commit i } in
           let above : is_prefix path op.path ≡ true = subst (λ (q : List Step). is_prefix q op.path ≡ true) at_path (prefix-take c.depth op.path) in (
             subst (λ (d : Found). IsNamedIn opening commits d span) same here,

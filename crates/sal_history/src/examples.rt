@@ -1,6 +1,6 @@
 //! Worked examples of the log's meaning. Each function does nothing; its contract says what the definitions give for
 //! one log, and the proof computes it.
-#![tactic(auto, unfolding(sal_schema::specs::Table::closest, sal_check::specs::Breaches::first, sal_check::specs::Contexts::through_plain, sal_check::specs::Contexts::from_list, sal_check::specs::Rules::is_there))]
+#![tactic(auto, unfolding(sal_schema::specs::Table::closest, sal_rules::specs::Breaches::first, sal_rules::specs::Contexts::through_plain, sal_rules::specs::Contexts::from_list, sal_rules::specs::Rules::is_there))]
 
 ghost use Rattle.std.specs.Prelude.{◌≡◌, ◌+◌, ℕ, false, length, List, [], ◌∷◌, ◌++◌};
 ghost use Rattle.sal_types.specs.declared.value.Store.TheVariants.{Config, Oper};

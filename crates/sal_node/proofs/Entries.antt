@@ -35,10 +35,10 @@ pub both : (a b : Bool) → T a → T b → T (a && b)
 both true b g h = h
 both false b g h = g
 
-turn : (x y : Step) → step_cmp x y ≡ Less → step_cmp y x ≡ Greater
+pub turn : (x y : Step) → step_cmp x y ≡ Less → step_cmp y x ≡ Greater
 turn x y e = step_cmp-IsTotalOrder.antisymm y x ∙ ap ordering_reverse e
 
-turn_back : (x y : Step) → step_cmp x y ≡ Greater → step_cmp y x ≡ Less
+pub turn_back : (x y : Step) → step_cmp x y ≡ Greater → step_cmp y x ≡ Less
 turn_back x y e = step_cmp-IsTotalOrder.antisymm y x ∙ ap ordering_reverse e
 
 -- every entry stands before the step

@@ -1,15 +1,19 @@
 -- The stamps of entries, and entries by their stamps.
-use Rattle.std.proofs.Common.{◌≡◌, ℕ, suc, ◌+◌, ◌<◌, ◌≤◌, Bool, true, false, List, [], ◌∷◌, ◌++◌, length, take, get_or, refl, ap, sym, ◌∙◌, subst, cond, append_assoc, arith}
-use Rattle.std.specs.Prelude.{nat_eq, ◌||◌}
+use Rattle.std.proofs.Common.{◌≡◌, ℕ, suc, ◌+◌, ◌<◌, ◌≤◌, Bool, true, false, List, [], ◌∷◌, ◌++◌, length, take, drop, get_or, Option, Some, None, refl, ap, sym, ◌∙◌, subst, cond, append_assoc, arith}
+use Rattle.std.specs.Prelude.{nat_eq, ◌||◌, IfSome}
 use Rattle.std.specs.List.{filter, list_any}
-use Rattle.std.proofs.lemmas.List.{take_more}
+use Rattle.std.proofs.lemmas.List.{take_more, take-append-drop}
 use Rattle.std.proofs.lemmas.List.Elements.{filter-append}
 use Rattle.std.proofs.lemmas.Bool.Decides.{nat_tests}
 use Rattle.std.specs.declared.sync.Arc.{Arc}
 use Rattle.std.specs.declared.alloc.Global.{Global}
 use Rattle.std.specs.Borrow.{Bor}
 use Rattle.sal_types.specs.declared.value.Step.{Step}
-use Rattle.sal_node.specs.Tree.{Tree}
+use Rattle.std.specs.declared.cmp.Ordering.TheVariants.{Less, Equal, Greater}
+use Rattle.std.specs.FinMap.{put}
+use Rattle.std.specs.FinMap.Entries.{by_order}
+use Rattle.sal_types.specs.Order.{step_cmp}
+use Rattle.sal_node.specs.Tree.{Tree, change, cut}
 use Rattle.sal_node.specs.Shape.{row_of, listed, sheeted, seen, ArePages, AreSheets, UpTo, AreFrom, made_by}
 use Rattle.sal_node.specs.declared.node.Page.{Page}
 use Rattle.sal_node.specs.declared.node.Sheet.{Sheet}
@@ -39,6 +43,40 @@ AreFrom-less n m (s ∷ ss) l h = (omega (arith, h.0), AreFrom-less n m ss l h.1
 pub AreFrom-append : (n : ℕ) (xs ys : List ℕ) → AreFrom n xs → AreFrom n ys → AreFrom n (xs ++ ys)
 AreFrom-append n [] ys g h = h
 AreFrom-append n (x ∷ xs) ys g h = (g.0, AreFrom-append n xs ys g.1 h)
+
+pub UpTo-front : (n : ℕ) (xs ys : Entries) → UpTo n (xs ++ ys) → UpTo n xs
+UpTo-front n [] ys h = tt
+UpTo-front n (x ∷ xs) ys h = (h.0, UpTo-front n xs ys h.1)
+
+pub UpTo-back : (n : ℕ) (xs ys : Entries) → UpTo n (xs ++ ys) → UpTo n ys
+UpTo-back n [] ys h = h
+UpTo-back n (x ∷ xs) ys h = UpTo-back n xs ys h.1
+
+-- parts of children, and parts of pages
+pub row-parts : (n k : ℕ) (cs : List (Arc Child Global)) → UpTo n (row_of cs) → UpTo n (row_of (take k cs)) × UpTo n (row_of (drop k cs))
+row-parts n k cs h =
+    let all = subst (λ (r : Entries). UpTo n r) (ap row_of (sym (take-append-drop k cs)) ∙ row_of-append (take k cs) (drop k cs)) h in
+    (UpTo-front n (row_of (take k cs)) (row_of (drop k cs)) all, UpTo-back n (row_of (take k cs)) (row_of (drop k cs)) all)
+
+pub page-parts : (n k : ℕ) (ps : List (Arc Page Global)) → UpTo n (listed ps) → UpTo n (listed (take k ps)) × UpTo n (listed (drop k ps))
+page-parts n k ps h =
+    let all = subst (λ (r : Entries). UpTo n r) (ap listed (sym (take-append-drop k ps)) ∙ listed-append (take k ps) (drop k ps)) h in
+    (UpTo-front n (listed (take k ps)) (listed (drop k ps)) all, UpTo-back n (listed (take k ps)) (listed (drop k ps)) all)
+
+-- a bound for what was there and what comes in
+pub UpTo-change : (n m : ℕ) (x : Step) (o : Option Tree) (es : Entries) → n ≤ m → IfSome o (λ t. t.stamp ≤ m) → UpTo n es → UpTo m (change x o es)
+UpTo-change n m x None [] l new h = tt
+UpTo-change n m x (Some t) [] l new h = (new, tt)
+UpTo-change n m x None (e ∷ es) l new h =
+    let more : UpTo m es = UpTo-more n m es l h.1 in
+    let here : e.1.stamp ≤ m = omega (arith, h.0) in
+    let rest = UpTo-change n m x None es l new h.1 in
+    elim (step_cmp x e.0) as (λ r. UpTo m (by_order r (e ∷ es) es (e ∷ cut x es))) [ Less ↦ (here, more) | Equal ↦ more | Greater ↦ (here, rest) ]
+UpTo-change n m x (Some t) (e ∷ es) l new h =
+    let more : UpTo m es = UpTo-more n m es l h.1 in
+    let here : e.1.stamp ≤ m = omega (arith, h.0) in
+    let rest = UpTo-change n m x (Some t) es l new h.1 in
+    elim (step_cmp x e.0) as (λ r. UpTo m (by_order r ((x, t) ∷ e ∷ es) ((e.0, t) ∷ es) (e ∷ put step_cmp x t es))) [ Less ↦ (new, (here, more)) | Equal ↦ (new, more) | Greater ↦ (here, rest) ]
 
 differs : (a b : ℕ) → a < b → nat_eq a b ≡ false
 differs a b l = grind (arith, nat_tests)

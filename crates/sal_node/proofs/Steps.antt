@@ -3,23 +3,17 @@ use Rattle.std.specs.declared.sync.Arc.{Arc}
 use Rattle.std.specs.declared.alloc.Global.{Global}
 use Rattle.std.proofs.Common.{◌≡◌, ℕ, suc, zero, ◌+◌, ◌<◌, ◌≤◌, Bool, true, false, List, [], ◌∷◌, ◌++◌, length, take, drop, get_or, Option, Some, None, refl, ap, sym, ◌∙◌, cond, if◌then◌else◌, append_assoc, arith}
 use Rattle.std.specs.Prelude.{T}
-use Rattle.std.specs.Ordering.{is_gt, is_eq}
+use Rattle.std.specs.Ordering.{is_gt, is_lt, is_eq}
 use Rattle.std.specs.declared.cmp.Ordering.{Ordering}
 use Rattle.std.specs.declared.cmp.Ordering.TheVariants.{Less, Equal, Greater}
-use Rattle.std.proofs.Math.Seq.{drop-cons}
 use Rattle.std.specs.FinMap.{find, is_sorted}
 use Rattle.std.specs.FinMap.Entries.{below_all, by_order}
 use Rattle.sal_types.specs.declared.value.Step.{Step}
-use Rattle.sal_types.specs.Order.{step_cmp}
+use Rattle.sal_types.specs.Order.{step_cmp, step_cmp-IsTotalOrder}
 use Rattle.sal_node.specs.Tree.{Tree, place, after, change, one_of}
 use Rattle.sal_node.specs.Shape.{row_of}
 use Rattle.sal_node.specs.declared.node.Child.{Child}
-use Rattle.sal_node.proofs.Entries.{greater, below_less, find_above, first, second, change-parts}
-
-split_at : (cs : List (Arc Child Global)) (i : ℕ) (c : Arc Child Global) → i < length cs → c ≡ get_or cs i c → drop i cs ≡ c ∷ drop (i + 1) cs
-split_at cs i c l at =
-    let n : suc i ≡ i + 1 = omega arith in
-    drop-cons cs i c l ∙ ap (λ (d : Arc Child Global). d ∷ drop (suc i) cs) (sym at) ∙ ap (λ m. c ∷ drop m cs) n
+use Rattle.sal_node.proofs.Entries.{greater, less, turn, turn_back, below_less, find_above, first, second, change-parts}
 
 past_end : (cs : List (Arc Child Global)) (i : ℕ) → length cs ≤ i → drop i cs ≡ []
 past_end [] zero l = refl
@@ -27,23 +21,36 @@ past_end [] (suc i) l = refl
 past_end (c ∷ cs) zero l = absurd (omega arith)
 past_end (c ∷ cs) (suc i) l = past_end cs i (omega arith)
 
-pub place-more : (x : Step) (cs : List (Arc Child Global)) (i : ℕ) (c : Arc Child Global) (n : ℕ) → i < length cs → c ≡ get_or cs i c → is_gt (step_cmp x c.value.step) ≡ true → n ≡ i + place x (row_of (drop i cs)) → n ≡ (i + 1) + place x (row_of (drop (i + 1) cs))
-place-more x cs i c n l at gt is =
-    let e : place x (row_of (drop i cs)) ≡ 1 + place x (row_of (drop (i + 1) cs)) = ap (λ (ds : List (Arc Child Global)). place x (row_of ds)) (split_at cs i c l at) ∙ ap (λ r. by_order r 0 0 (1 + place x (row_of (drop (i + 1) cs)))) (greater _ gt) in
+below_at : (y : Step) (cs : List (Arc Child Global)) (i : ℕ) (c : Arc Child Global) → i < length cs → c ≡ get_or cs i c → T (below_all step_cmp y (row_of cs)) → step_cmp y c.value.step ≡ Less
+below_at y [] i c l at h = absurd (omega arith)
+below_at y (d ∷ cs) zero c l at h = ap (λ (e : Arc Child Global). step_cmp y e.value.step) at ∙ less _ (first _ (below_all step_cmp y (row_of cs)) h)
+below_at y (d ∷ cs) (suc i) c l at h = below_at y cs i c (omega arith) at (second (is_lt (step_cmp y d.value.step)) _ h)
+
+-- in children that rise, a child before the step stands before its place
+pub place-above : (x : Step) (cs : List (Arc Child Global)) (i : ℕ) (c : Arc Child Global) → T (is_sorted step_cmp (row_of cs)) → i < length cs → c ≡ get_or cs i c → is_gt (step_cmp x c.value.step) ≡ true → i < place x (row_of cs)
+place-above x [] i c h l at g = absurd (omega arith)
+place-above x (d ∷ cs) zero c h l at g =
+    let e : place x (row_of (d ∷ cs)) ≡ 1 + place x (row_of cs) = ap (λ r. by_order r 0 0 (1 + place x (row_of cs))) (ap (λ (e : Arc Child Global). step_cmp x e.value.step) (sym at) ∙ greater _ g) in
+    omega arith
+place-above x (d ∷ cs) (suc i) c h l at g =
+    let here = below_at d.value.step cs i c (omega arith) at (first _ (is_sorted step_cmp (row_of cs)) h) in
+    let before = step_cmp-IsTotalOrder.trans d.value.step c.value.step x here (turn_back x c.value.step (greater _ g)) in
+    let e : place x (row_of (d ∷ cs)) ≡ 1 + place x (row_of cs) = ap (λ r. by_order r 0 0 (1 + place x (row_of cs))) (turn d.value.step x before) in
+    let rest = place-above x cs i c (second (below_all step_cmp d.value.step (row_of cs)) _ h) (omega arith) at g in
     omega arith
 
-pub place-stop : (x : Step) (cs : List (Arc Child Global)) (i : ℕ) (c : Arc Child Global) (n : ℕ) → i < length cs → c ≡ get_or cs i c → is_gt (step_cmp x c.value.step) ≡ false → n ≡ i + place x (row_of (drop i cs)) → i ≡ n
-place-stop x cs i c n l at gt is =
-    let e : place x (row_of (drop i cs)) ≡ 0 = ap (λ (ds : List (Arc Child Global)). place x (row_of ds)) (split_at cs i c l at) ∙ stops (step_cmp x c.value.step) gt in
-    omega arith
+-- the place is no later than a child that is not before the step
+pub place-below : (x : Step) (cs : List (Arc Child Global)) (i : ℕ) (c : Arc Child Global) → i < length cs → c ≡ get_or cs i c → is_gt (step_cmp x c.value.step) ≡ false → place x (row_of cs) ≤ i
+place-below x [] i c l at g = absurd (omega arith)
+place-below x (d ∷ cs) zero c l at g = stops (step_cmp x d.value.step) (ap (λ (e : Arc Child Global). is_gt (step_cmp x e.value.step)) (sym at) ∙ g)
   where
-    stops : (o : Ordering) → is_gt o ≡ false → by_order o 0 0 (1 + place x (row_of (drop (i + 1) cs))) ≡ 0
-    stops Less e = refl
-    stops Equal e = refl
+    stops : (o : Ordering) → is_gt o ≡ false → by_order o 0 0 (1 + place x (row_of cs)) ≤ 0
+    stops Less e = omega arith
+    stops Equal e = omega arith
     stops Greater e = cc
-
-pub place-end : (x : Step) (cs : List (Arc Child Global)) (i : ℕ) (n : ℕ) → length cs ≤ i → n ≡ i + place x (row_of (drop i cs)) → i ≡ n
-place-end x cs i n l is = let e : place x (row_of (drop i cs)) ≡ 0 = ap (λ (ds : List (Arc Child Global)). place x (row_of ds)) (past_end cs i l) in omega arith
+place-below x (d ∷ cs) (suc i) c l at g =
+    let rest = place-below x cs i c (omega arith) at g in
+    elim (step_cmp x d.value.step) as (λ r. by_order r 0 0 (1 + place x (row_of cs)) ≤ suc i) [ Less ↦ omega arith | Equal ↦ omega arith | Greater ↦ omega (arith, rest) ]
 
 pub after-at : (x : Step) (cs : List (Arc Child Global)) (n : ℕ) (c : Arc Child Global) (b : Bool) → n ≡ place x (row_of cs) → n < length cs → c ≡ get_or cs n c → b ≡ is_eq (step_cmp x c.value.step) → row_of (drop (if b then n + 1 else n) cs) ≡ after x (row_of cs)
 after-at x [] n c b = λ is l at tie. absurd (omega arith)
@@ -123,6 +130,9 @@ changed-parts x o cs at next start front more last place_is after_is none a b c 
     ∙ append_assoc (row_of (take at cs)) (one_of x o) (after x (row_of cs))
     ∙ (λ i. row_of-take cs (place_is i) i ++ (one_of x o ++ after x (row_of cs)))
     ∙ sym (change-parts x o (row_of cs))
+
+pub gt_of : (b r : Bool) (x : Step) (c : Arc Child Global) (d : Child) (o : Ordering) → d ≡ c.value → o ≡ step_cmp x d.step → r ≡ is_gt o → r ≡ b → is_gt (step_cmp x c.value.step) ≡ b
+gt_of b r x c d o at cmp gt is = sym (ap is_gt cmp ∙ ap (λ (e : Child). is_gt (step_cmp x e.step)) at) ∙ sym gt ∙ is
 
 -- what code tests at a child
 pub tie_of : (b r : Bool) (x : Step) (c : Arc Child Global) (d : Child) (o : Ordering) → d ≡ c.value → o ≡ step_cmp x d.step → r ≡ is_eq o → r ≡ b → b ≡ is_eq (step_cmp x c.value.step)

@@ -4,9 +4,9 @@ ghost use Rattle.sal_node.specs.Shape.{row_of, listed, sheeted, ArePages, AreShe
 ghost use Rattle.sal_node.specs.Tree.{Tree, grove};
 
 use crate::node::{Child, Node, Page, Sheet};
-use crate::pages::{PAGE, add_page};
+use crate::pages::{PAGE, add_page, page_of};
 use crate::paging::joined;
-use crate::sheets::add_sheet;
+use crate::sheets::{add_sheet, sheet_of};
 use sal_types::{Cell, NoMemory, Step};
 use std::alloc::Global;
 use std::marker::Model;
@@ -65,7 +65,7 @@ impl Builder {
                 last,
             });
         }
-        add_page(alloc, &mut pages, last)?;
+        add_page(alloc, &mut pages, page_of(last))?;
         let builder = with_pages(alloc, sheets, pages)?;
         Ok(builder)
     }
@@ -105,7 +105,7 @@ fn with_pages(
         });
     }
     let mut sheets = sheets;
-    add_sheet(alloc, &mut sheets, pages)?;
+    add_sheet(alloc, &mut sheets, sheet_of(pages))?;
     let pages = Vec::new(alloc);
     Ok(Builder {
         sheets,
@@ -131,6 +131,6 @@ fn all_pages(
     if last.is_empty() {
         return Ok(pages);
     }
-    add_page(alloc, &mut pages, last)?;
+    add_page(alloc, &mut pages, page_of(last))?;
     Ok(pages)
 }

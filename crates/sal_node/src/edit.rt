@@ -8,7 +8,9 @@ ghost use Rattle.sal_node.specs.Tree.{Tree, Forest, change, pairs, grove, kid_at
 ghost use Rattle.sal_node.specs.Shape.{tree_in, tree_at, seen};
 
 use crate::node::{Child, Node, Paging};
-use crate::paging::{all_children, changed_paging, child_of, has_children, made_children, shared_paging};
+use crate::paging::{
+    all_children, changed_paging, child_of, has_children, made_children, shared_paging,
+};
 use sal_types::{Cell, Duplicate, NoMemory, Step};
 use std::alloc::Global;
 use std::sync::Arc;

@@ -4,8 +4,8 @@
 //! |---|---|
 //! | `Node` | a node with its stamp, its cell and its children; a contract sees it as a plain value, a `Tree` |
 //! | `Paging` | its children: in at most 64 pages, or in sheets of pages |
-//! | `Sheet` | 1 to 64 pages of a node, in the order of their steps, and the newest stamp among their children |
-//! | `Page` | 1 to 64 children of a node, in the order of their steps, and the newest stamp among them |
+//! | `Sheet` | 1 to 64 pages of a node, in the order of their steps, and a bound on the stamps of their children |
+//! | `Page` | 1 to 64 children of a node, in the order of their steps, and a bound on their stamps |
 //! | `Child` | a child with the step that leads to it |
 //! | `Builder` | a node that is made of its children, given in order |
 //!
@@ -21,7 +21,7 @@
 //!
 //! | call | cost for a node of `n` children |
 //! |---|---|
-//! | `Node::child` | two searches by halves, over n / 4,096 sheets and 64 pages, and at most 64 comparisons |
+//! | `Node::child` | three searches by halves: among n / 4,096 sheets, 64 pages and 64 children |
 //! | `Node::with_child` | that, a copy of one page and of one sheet, and of the list of sheets: n / 4,096 counts up |
 //! | `Node::with_cell` | a copy of the list of sheets, or of at most 64 pages |
 //! | `Node::children` | a list of n references |

@@ -22,7 +22,7 @@ pub enum Paging {
     Sheets(Vec<Arc<Sheet>>),
 }
 
-/// Some pages of a node, in the order of their steps: 1 to 64.
+/// Some pages of a node, in the order of their steps: 1 to 64. No child below them has a stamp above `newest`.
 #[cycle(node)]
 #[derive(Drop)]
 pub struct Sheet {
@@ -30,7 +30,7 @@ pub struct Sheet {
     pub pages: Vec<Arc<Page>>,
 }
 
-/// Some children of a node, in the order of their steps: 1 to 64.
+/// Some children of a node, in the order of their steps: 1 to 64. None of them has a stamp above `newest`.
 #[cycle(node)]
 #[derive(Drop)]
 pub struct Page {

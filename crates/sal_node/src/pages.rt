@@ -10,7 +10,7 @@ ghost use Rattle.sal_node.specs.Tree.{Tree, place, after, change, one_of};
 ghost use Rattle.sal_node.specs.Shape.{row_of, listed, ArePages, begins_after, tree_in, tree_at, seen};
 ghost use Rattle.sal_node.specs.Places.{IsTarget};
 ghost use Rattle.sal_node.specs.Shape.{UpTo, AreFrom, made_by};
-ghost use Rattle.std.specs.Prelude.{nat_eq};
+ghost use Rattle.std.specs.Prelude.{nat_eq, IfSome};
 ghost use Rattle.std.specs.List.{list_any};
 
 use crate::node::{Child, Node, Page};
@@ -75,16 +75,23 @@ pub(crate) fn is_after(children: &[Arc<Child>], step: &Step) -> bool
     }
 }
 
-// How many children stand before the step.
+// How many children stand before the step, by halves.
 fn place(children: &[Arc<Child>], step: &Step) -> usize
+    requires { T (is_sorted step_cmp (row_of children.now)) }
     ensures value { result ≡ place step.now (row_of children.now) }
     ensures bound { result ≤ length children.now }
 {
-    let mut at = 0;
-    while at < children.len() && step.cmp(&children[at].step).is_gt() {
-        at += 1;
+    let mut low = 0;
+    let mut high = children.len();
+    while low < high {
+        let middle = low + (high - low) / 2;
+        if step.cmp(&children[middle].step).is_gt() {
+            low = middle + 1;
+        } else {
+            high = middle;
+        }
     }
-    at
+    low
 }
 
 // Where the children after the step begin; `at` is its place.
@@ -127,6 +134,7 @@ fn changed(
     step: &Step,
     node: Option<Arc<Node>>,
 ) -> Result<Vec<Arc<Child>>, NoMemory>
+    requires { T (is_sorted step_cmp (row_of children.now)) }
     ensures { IfOk result (λ v. row_of v.items ≡ change step.now (tree_in node) (row_of children.now)) }
 {
     let at = place(children, step);
@@ -136,6 +144,34 @@ fn changed(
     push_child(alloc, &mut list, step, node)?;
     copy_children(&mut list, &children[next..])?;
     Ok(list)
+}
+
+// The page with another child at the step, or with none there: with up to 65 children, until it is parted.
+fn changed_page(
+    alloc: Global,
+    page: &Page,
+    step: &Step,
+    node: Option<Arc<Node>>,
+) -> Result<Page, NoMemory>
+    requires newest { UpTo page.now.newest (row_of page.now.children.items) }
+    requires sorted { T (is_sorted step_cmp (row_of page.now.children.items)) }
+    ensures list { IfOk result (λ p. row_of p.children.items ≡ change step.now (tree_in node) (row_of page.now.children.items)) }
+    ensures newest { IfOk result (λ p. UpTo p.newest (row_of p.children.items)) }
+{
+    let newest = newest_with(page.newest, &node);
+    let children = changed(alloc, &page.children, step, node)?;
+    Ok(Page { newest, children })
+}
+
+/// A bound on stamps that the node's stamp is not above either.
+pub(crate) fn newest_with(newest: u64, node: &Option<Arc<Node>>) -> u64
+    ensures old { newest ≤ result }
+    ensures node { IfSome (tree_in node.now) (λ t. t.stamp ≤ result) }
+{
+    match node {
+        None => newest,
+        Some(node) => larger(newest, node.stamp()),
+    }
 }
 
 // The child at the step.
@@ -163,73 +199,84 @@ pub(crate) fn parting(children: &[Arc<Child>], step: &Step) -> usize
     }
 }
 
-// Puts the children at the end as one page, or as two that are parted at the place given.
+// Puts the page at the end, as two where it has 65 children: they are parted at the place given, and both keep the bound on
+// their stamps.
 fn add_pages(
     alloc: Global,
     into: &mut Vec<Arc<Page>>,
-    children: Vec<Arc<Child>>,
+    page: Page,
     parting: usize,
 ) -> Result<(), NoMemory>
     requires old { ArePages into.old.items }
-    requires few { length children.items ≤ 65 }
+    requires few { length page.children.items ≤ 65 }
+    requires newest { UpTo page.newest (row_of page.children.items) }
     requires low { 32 ≤ parting }
     requires high { parting ≤ 64 }
-    ensures list { OnOk result (listed into.new.items ≡ listed into.old.items ++ row_of children.items) }
+    ensures list { OnOk result (listed into.new.items ≡ listed into.old.items ++ row_of page.children.items) }
     ensures pages { OnOk result (ArePages into.new.items) }
     ensures count { OnOk result (length into.new.items ≤ length into.old.items + 2) }
 {
-    if children.is_empty() {
+    if page.children.is_empty() {
         return Ok(());
     }
-    if children.len() <= PAGE {
-        return add_page(alloc, into, children);
+    if page.children.len() <= PAGE {
+        return add_page(alloc, into, page);
     }
-    let mut first = children;
-    let last = first.split_off(parting)?;
-    add_page(alloc, into, first)?;
-    add_page(alloc, into, last)?;
+    let newest = page.newest;
+    let mut children = page.children;
+    let last = children.split_off(parting)?;
+    add_page(alloc, into, Page { newest, children })?;
+    let children = last;
+    add_page(alloc, into, Page { newest, children })?;
     Ok(())
 }
 
-/// Puts the children at the end as one page.
-pub(crate) fn add_page(
-    alloc: Global,
-    into: &mut Vec<Arc<Page>>,
-    children: Vec<Arc<Child>>,
-) -> Result<(), NoMemory>
+/// Puts the page at the end.
+pub(crate) fn add_page(alloc: Global, into: &mut Vec<Arc<Page>>, page: Page) -> Result<(), NoMemory>
     requires old { ArePages into.old.items }
-    requires some { 1 ≤ length children.items }
-    requires few { length children.items ≤ 64 }
-    ensures list { OnOk result (listed into.new.items ≡ listed into.old.items ++ row_of children.items) }
+    requires some { 1 ≤ length page.children.items }
+    requires few { length page.children.items ≤ 64 }
+    requires newest { UpTo page.newest (row_of page.children.items) }
+    ensures list { OnOk result (listed into.new.items ≡ listed into.old.items ++ row_of page.children.items) }
     ensures pages { ArePages into.new.items }
     ensures count { OnOk result (length into.new.items ≡ length into.old.items + 1) }
 {
-    let newest = newest(&children);
-    let page = Arc::new(alloc, Page { newest, children })?;
+    let page = Arc::new(alloc, page)?;
     into.push(page)?;
     Ok(())
 }
 
-// The pages with other children in place of one page.
+/// A page of the children, with the largest of their stamps.
+pub(crate) fn page_of(children: Vec<Arc<Child>>) -> Page
+    ensures list { row_of result.children.items ≡ row_of children.items }
+    ensures count { length result.children.items ≡ length children.items }
+    ensures newest { UpTo result.newest (row_of result.children.items) }
+{
+    let newest = newest(&children);
+    Page { newest, children }
+}
+
+// The pages with another one in place of one of them.
 fn repaged(
     alloc: Global,
     pages: &[Arc<Page>],
     at: usize,
-    children: Vec<Arc<Child>>,
+    page: Page,
     parting: usize,
 ) -> Result<Vec<Arc<Page>>, NoMemory>
     requires old { ArePages pages.now }
     requires in_bounds { at < length pages.now }
-    requires few { length children.items ≤ 65 }
+    requires few { length page.children.items ≤ 65 }
+    requires newest { UpTo page.newest (row_of page.children.items) }
     requires low { 32 ≤ parting }
     requires high { parting ≤ 64 }
-    ensures list { IfOk result (λ v. listed v.items ≡ listed (take at pages.now) ++ (row_of children.items ++ listed (drop (at + 1) pages.now))) }
+    ensures list { IfOk result (λ v. listed v.items ≡ listed (take at pages.now) ++ (row_of page.children.items ++ listed (drop (at + 1) pages.now))) }
     ensures pages { IfOk result (λ v. ArePages v.items) }
     ensures count { IfOk result (λ v. length v.items ≤ length pages.now + 1) }
 {
     let mut list = Vec::with_capacity(alloc, pages.len())?;
     share_pages(&mut list, &pages[..at])?;
-    add_pages(alloc, &mut list, children, parting)?;
+    add_pages(alloc, &mut list, page, parting)?;
     share_pages(&mut list, &pages[at + 1..])?;
     Ok(list)
 }
@@ -252,10 +299,9 @@ pub(crate) fn changed_pages(
         return Ok(list);
     }
     let at = target(pages, step);
-    let page = &pages[at];
-    let children = changed(alloc, &page.children, step, node)?;
-    let parting = parting(&children, step);
-    let list = repaged(alloc, pages, at, children, parting)?;
+    let page = changed_page(alloc, &pages[at], step, node)?;
+    let parting = parting(&page.children, step);
+    let list = repaged(alloc, pages, at, page, parting)?;
     Ok(list)
 }
 
@@ -273,7 +319,7 @@ pub(crate) fn first_page(
     push_child(alloc, &mut children, step, node)?;
     let mut list = Vec::new(alloc);
     if !children.is_empty() {
-        add_page(alloc, &mut list, children)?;
+        add_page(alloc, &mut list, page_of(children))?;
     }
     Ok(list)
 }
@@ -304,7 +350,10 @@ fn push_children<'a>(into: &mut Vec<&'a Child>, children: &'a [Arc<Child>]) -> R
 }
 
 /// Puts references to the children of the pages at the end, in order.
-pub(crate) fn push_pages<'a>(into: &mut Vec<&'a Child>, pages: &'a [Arc<Page>]) -> Result<(), NoMemory>
+pub(crate) fn push_pages<'a>(
+    into: &mut Vec<&'a Child>,
+    pages: &'a [Arc<Page>],
+) -> Result<(), NoMemory>
     ensures { OnOk result (seen into.new.items ≡ seen into.old.items ++ listed pages.entry.now) }
 {
     for page in pages {

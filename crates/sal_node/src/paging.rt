@@ -8,8 +8,13 @@ ghost use Rattle.sal_node.specs.Shape.{listed, sheeted, paged, ArePages, AreShee
 ghost use Rattle.sal_node.specs.Shape.{AreFrom, made_by};
 
 use crate::node::{Child, Node, Page, Paging, Sheet};
-use crate::pages::{PAGE, changed_pages, child_at, least, push_made_pages, push_pages, share_pages};
-use crate::sheets::{add_sheet, add_sheets, changed_sheets, child_in, push_made_sheets, push_sheets, share_sheets, sheet_parting};
+use crate::pages::{
+    PAGE, changed_pages, child_at, least, push_made_pages, push_pages, share_pages,
+};
+use crate::sheets::{
+    add_sheets, changed_sheets, child_in, push_made_sheets, push_sheets, share_sheets, sheet_of,
+    sheet_parting,
+};
 use sal_types::{NoMemory, Step};
 use std::alloc::Global;
 use std::sync::Arc;
@@ -27,7 +32,7 @@ fn paging_of(alloc: Global, pages: Vec<Arc<Page>>, parting: usize) -> Result<Pag
         return Ok(Paging::Pages(pages));
     }
     let mut sheets = Vec::new(alloc);
-    add_sheets(alloc, &mut sheets, pages, parting)?;
+    add_sheets(alloc, &mut sheets, sheet_of(pages), parting)?;
     Ok(Paging::Sheets(sheets))
 }
 
@@ -47,7 +52,7 @@ pub(crate) fn joined(
         return Ok(Paging::Pages(pages));
     }
     let mut sheets = sheets;
-    add_sheets(alloc, &mut sheets, pages, PAGE)?;
+    add_sheets(alloc, &mut sheets, sheet_of(pages), PAGE)?;
     Ok(Paging::Sheets(sheets))
 }
 
@@ -121,7 +126,10 @@ pub(crate) fn has_children(paging: &Paging) -> bool
 }
 
 /// The children, in order.
-pub(crate) fn all_children<'a>(alloc: Global, paging: &'a Paging) -> Result<Vec<&'a Child>, NoMemory>
+pub(crate) fn all_children<'a>(
+    alloc: Global,
+    paging: &'a Paging,
+) -> Result<Vec<&'a Child>, NoMemory>
     ensures { IfOk result (λ v. seen v.items ≡ paged paging.entry.now) }
 {
     let mut list = Vec::new(alloc);

@@ -9,13 +9,19 @@ ghost use Rattle.sal_node.specs.Places.{IsPlaced};
 ghost use Rattle.sal_node.specs.Shape.{UpTo, AreFrom, made_by};
 
 use crate::node::{Child, Node, Page, Sheet};
-use crate::pages::{PAGE, changed_pages, child_at, first_page, is_after, larger, parting, push_made_pages, push_pages};
+use crate::pages::{
+    PAGE, changed_pages, child_at, first_page, is_after, larger, newest_with, parting,
+    push_made_pages, push_pages,
+};
 use sal_types::{NoMemory, Step};
 use std::alloc::Global;
 use std::sync::Arc;
 
 /// Puts the sheets at the end, shared.
-pub(crate) fn share_sheets(into: &mut Vec<Arc<Sheet>>, sheets: &[Arc<Sheet>]) -> Result<(), NoMemory>
+pub(crate) fn share_sheets(
+    into: &mut Vec<Arc<Sheet>>,
+    sheets: &[Arc<Sheet>],
+) -> Result<(), NoMemory>
     requires old { AreSheets into.old.items }
     requires given { AreSheets sheets.now }
     ensures list { OnOk result (sheeted into.new.items ≡ sheeted into.old.items ++ sheeted sheets.now) }
@@ -68,75 +74,112 @@ pub(crate) fn sheet_parting(pages: &[Arc<Page>], step: &Step) -> usize
     }
 }
 
-/// Puts the pages at the end as one sheet, or as two that are parted at the place given.
+/// Puts the sheet at the end, as two where it has 65 pages: they are parted at the place given, and both keep the bound on
+/// their stamps.
 pub(crate) fn add_sheets(
     alloc: Global,
     into: &mut Vec<Arc<Sheet>>,
-    pages: Vec<Arc<Page>>,
+    sheet: Sheet,
     parting: usize,
 ) -> Result<(), NoMemory>
     requires old { AreSheets into.old.items }
-    requires pages { ArePages pages.items }
-    requires few { length pages.items ≤ 65 }
+    requires pages { ArePages sheet.pages.items }
+    requires few { length sheet.pages.items ≤ 65 }
+    requires newest { UpTo sheet.newest (listed sheet.pages.items) }
     requires low { 32 ≤ parting }
     requires high { parting ≤ 64 }
-    ensures list { OnOk result (sheeted into.new.items ≡ sheeted into.old.items ++ listed pages.items) }
+    ensures list { OnOk result (sheeted into.new.items ≡ sheeted into.old.items ++ listed sheet.pages.items) }
     ensures sheets { OnOk result (AreSheets into.new.items) }
 {
-    if pages.is_empty() {
+    if sheet.pages.is_empty() {
         return Ok(());
     }
-    if pages.len() <= PAGE {
-        return add_sheet(alloc, into, pages);
+    if sheet.pages.len() <= PAGE {
+        return add_sheet(alloc, into, sheet);
     }
-    let mut first = pages;
-    let last = first.split_off(parting)?;
-    add_sheet(alloc, into, first)?;
-    add_sheet(alloc, into, last)?;
+    let newest = sheet.newest;
+    let mut pages = sheet.pages;
+    let last = pages.split_off(parting)?;
+    add_sheet(alloc, into, Sheet { newest, pages })?;
+    let pages = last;
+    add_sheet(alloc, into, Sheet { newest, pages })?;
     Ok(())
 }
 
-/// Puts the pages at the end as one sheet.
+/// Puts the sheet at the end.
 pub(crate) fn add_sheet(
     alloc: Global,
     into: &mut Vec<Arc<Sheet>>,
-    pages: Vec<Arc<Page>>,
+    sheet: Sheet,
 ) -> Result<(), NoMemory>
     requires old { AreSheets into.old.items }
-    requires pages { ArePages pages.items }
-    requires some { 1 ≤ length pages.items }
-    requires few { length pages.items ≤ 64 }
-    ensures list { OnOk result (sheeted into.new.items ≡ sheeted into.old.items ++ listed pages.items) }
+    requires pages { ArePages sheet.pages.items }
+    requires some { 1 ≤ length sheet.pages.items }
+    requires few { length sheet.pages.items ≤ 64 }
+    requires newest { UpTo sheet.newest (listed sheet.pages.items) }
+    ensures list { OnOk result (sheeted into.new.items ≡ sheeted into.old.items ++ listed sheet.pages.items) }
     ensures sheets { AreSheets into.new.items }
 {
-    let newest = newest_page(&pages);
-    let sheet = Arc::new(alloc, Sheet { newest, pages })?;
+    let sheet = Arc::new(alloc, sheet)?;
     into.push(sheet)?;
     Ok(())
 }
 
-// The sheets with other pages in place of one sheet.
+/// A sheet of the pages, with the largest of their stamps.
+pub(crate) fn sheet_of(pages: Vec<Arc<Page>>) -> Sheet
+    requires { ArePages pages.items }
+    ensures list { listed result.pages.items ≡ listed pages.items }
+    ensures pages { ArePages result.pages.items }
+    ensures count { length result.pages.items ≡ length pages.items }
+    ensures newest { UpTo result.newest (listed result.pages.items) }
+{
+    let newest = newest_page(&pages);
+    Sheet { newest, pages }
+}
+
+// The sheets with another one in place of one of them.
 fn resheeted(
     alloc: Global,
     sheets: &[Arc<Sheet>],
     at: usize,
-    pages: Vec<Arc<Page>>,
+    sheet: Sheet,
     parting: usize,
 ) -> Result<Vec<Arc<Sheet>>, NoMemory>
     requires old { AreSheets sheets.now }
     requires in_bounds { at < length sheets.now }
-    requires pages { ArePages pages.items }
-    requires few { length pages.items ≤ 65 }
+    requires pages { ArePages sheet.pages.items }
+    requires few { length sheet.pages.items ≤ 65 }
+    requires newest { UpTo sheet.newest (listed sheet.pages.items) }
     requires low { 32 ≤ parting }
     requires high { parting ≤ 64 }
-    ensures list { IfOk result (λ v. sheeted v.items ≡ sheeted (take at sheets.now) ++ (listed pages.items ++ sheeted (drop (at + 1) sheets.now))) }
+    ensures list { IfOk result (λ v. sheeted v.items ≡ sheeted (take at sheets.now) ++ (listed sheet.pages.items ++ sheeted (drop (at + 1) sheets.now))) }
     ensures sheets { IfOk result (λ v. AreSheets v.items) }
 {
     let mut list = Vec::with_capacity(alloc, sheets.len())?;
     share_sheets(&mut list, &sheets[..at])?;
-    add_sheets(alloc, &mut list, pages, parting)?;
+    add_sheets(alloc, &mut list, sheet, parting)?;
     share_sheets(&mut list, &sheets[at + 1..])?;
     Ok(list)
+}
+
+// The sheet with another child at the step, or with none there: with up to 65 pages, until it is parted.
+fn changed_sheet(
+    alloc: Global,
+    sheet: &Sheet,
+    step: &Step,
+    node: Option<Arc<Node>>,
+) -> Result<Sheet, NoMemory>
+    requires pages { ArePages sheet.now.pages.items }
+    requires newest { UpTo sheet.now.newest (listed sheet.now.pages.items) }
+    requires sorted { T (is_sorted step_cmp (listed sheet.now.pages.items)) }
+    ensures list { IfOk result (λ s. listed s.pages.items ≡ change step.now (tree_in node) (listed sheet.now.pages.items)) }
+    ensures pages { IfOk result (λ s. ArePages s.pages.items) }
+    ensures count { IfOk result (λ s. length s.pages.items ≤ length sheet.now.pages.items + 1) }
+    ensures newest { IfOk result (λ s. UpTo s.newest (listed s.pages.items)) }
+{
+    let newest = newest_with(sheet.newest, &node);
+    let pages = changed_pages(alloc, &sheet.pages, step, node)?;
+    Ok(Sheet { newest, pages })
 }
 
 /// The sheets with another child at the step, or with none there.
@@ -156,10 +199,9 @@ pub(crate) fn changed_sheets(
         return Ok(list);
     }
     let at = target_sheet(sheets, step);
-    let sheet = &sheets[at];
-    let pages = changed_pages(alloc, &sheet.pages, step, node)?;
-    let parting = sheet_parting(&pages, step);
-    let list = resheeted(alloc, sheets, at, pages, parting)?;
+    let sheet = changed_sheet(alloc, &sheets[at], step, node)?;
+    let parting = sheet_parting(&sheet.pages, step);
+    let list = resheeted(alloc, sheets, at, sheet, parting)?;
     Ok(list)
 }
 
@@ -174,7 +216,7 @@ fn first_sheet(
 {
     let pages = first_page(alloc, step, node)?;
     let mut list = Vec::new(alloc);
-    add_sheets(alloc, &mut list, pages, PAGE)?;
+    add_sheets(alloc, &mut list, sheet_of(pages), PAGE)?;
     Ok(list)
 }
 
@@ -193,7 +235,10 @@ pub(crate) fn child_in<'a>(sheets: &'a [Arc<Sheet>], step: &Step) -> Option<&'a 
 }
 
 /// Puts references to the children of the sheets at the end, in order.
-pub(crate) fn push_sheets<'a>(into: &mut Vec<&'a Child>, sheets: &'a [Arc<Sheet>]) -> Result<(), NoMemory>
+pub(crate) fn push_sheets<'a>(
+    into: &mut Vec<&'a Child>,
+    sheets: &'a [Arc<Sheet>],
+) -> Result<(), NoMemory>
     ensures { OnOk result (seen into.new.items ≡ seen into.old.items ++ sheeted sheets.entry.now) }
 {
     for sheet in sheets {

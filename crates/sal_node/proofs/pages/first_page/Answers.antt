@@ -17,4 +17,4 @@ few : (x : Step) (o : Option Tree) (start new : List (Arc Child Global)) → sta
 few x o start new none is = let e : length (row_of new) ≡ length (one_of x o) = ap length is ∙ ap (λ (cs : List (Arc Child Global)). length (row_of cs ++ one_of x o)) none in omega (arith, row_of-length new, one_few x o)
 
 pub add_page-requires-clause-few : goal.add_page-requires-clause-few
-add_page-requires-clause-few c = few c.args.step.now (tree_in c.args.node) c.new-children.result.items _ c.new-children.ensures.items c.in_ok-push_child.ensures
+add_page-requires-clause-few c = omega (arith, c.page_of.ensures.count, few c.args.step.now (tree_in c.args.node) c.new-children.result.items _ c.new-children.ensures.items c.in_ok-push_child.ensures)

@@ -1,13 +1,14 @@
-use Rattle.std.proofs.Common.{◌≡◌, ◌+◌, ◌-◌, ◌≤◌, length, drop}
+use Rattle.std.proofs.Common.{◌-◌, ◌≤◌, length}
 use Rattle.sal_node.specs.Tree.{place}
 use Rattle.sal_node.specs.Shape.{row_of}
 use Rattle.sal_node.proofs.pages.place.Given as goal
 
-abbrev pub invariant-loop-at : goal.invariant-loop-at
-invariant-loop-at l = record {
-  left : place l.step (row_of l.children) ≡ l.at + place l.step (row_of (drop l.at l.children));
-  bound : l.at ≤ length l.children;
+abbrev pub invariant-loop-low : goal.invariant-loop-low
+invariant-loop-low l = record {
+  low : l.low ≤ place l.step (row_of l.children);
+  high : place l.step (row_of l.children) ≤ l.high;
+  bound : l.high ≤ length l.children;
 }
 
-abbrev pub decreases-loop-at : goal.decreases-loop-at
-decreases-loop-at l = length l.children - l.at
+abbrev pub decreases-loop-low : goal.decreases-loop-low
+decreases-loop-low l = l.high - l.low

@@ -13,8 +13,8 @@ loop-page-preserved-then-deref-least c =
     made-skip c.args.stamps.now (seen c.args.into.now.items) (seen c.loop-page.into.items) (listed (take c.loop-page.page-index c.args.pages.now)) (row_of c.page-item.result.value.children.items) _
     (page-step c.args.pages.now c.loop-page.page-index c.page-item.result (omega arith) c.page-item.is) c.loop-page.invariant
     (made_by-none c.page-item.result.value.newest c.args.least c.args.stamps.now (row_of c.page-item.result.value.children.items)
-      (page-upto c.args.pages.now c.loop-page.page-index c.page-item.result c.requires.pages (omega arith) c.page-item.is)
-      (omega (arith, ap (λ (p : Page). p.newest) c.deref.ensures, c.if-deref-least.true)) c.requires.least)
+    (page-upto c.args.pages.now c.loop-page.page-index c.page-item.result c.requires.pages (omega arith) c.page-item.is)
+    (omega (arith, ap (λ (p : Page). p.newest) c.deref.ensures, c.if-deref-least.true)) c.requires.least)
 
 pub loop-page-preserved : goal.loop-page-preserved
 loop-page-preserved c =

@@ -13,8 +13,8 @@ loop-sheet-preserved-then-deref-least c =
     made-skip c.args.stamps.now (seen c.args.into.now.items) (seen c.loop-sheet.into.items) (sheeted (take c.loop-sheet.sheet-index c.args.sheets.now)) (listed c.sheet-item.result.value.pages.items) _
     (sheet-step c.args.sheets.now c.loop-sheet.sheet-index c.sheet-item.result (omega arith) c.sheet-item.is) c.loop-sheet.invariant
     (made_by-none c.sheet-item.result.value.newest c.args.least c.args.stamps.now (listed c.sheet-item.result.value.pages.items)
-      (sheet-upto c.args.sheets.now c.loop-sheet.sheet-index c.sheet-item.result c.requires.sheets (omega arith) c.sheet-item.is).1
-      (omega (arith, ap (λ (s : Sheet). s.newest) c.deref.ensures, c.if-deref-least.true)) c.requires.least)
+    (sheet-upto c.args.sheets.now c.loop-sheet.sheet-index c.sheet-item.result c.requires.sheets (omega arith) c.sheet-item.is).1
+    (omega (arith, ap (λ (s : Sheet). s.newest) c.deref.ensures, c.if-deref-least.true)) c.requires.least)
 
 pub push_made_pages-requires-clause-pages : goal.push_made_pages-requires-clause-pages
 push_made_pages-requires-clause-pages c = rw (c.deref-in-loop-sheet-2.ensures.value, c.deref-in-loop-sheet.ensures) (sheet-upto c.args.sheets.now c.loop-sheet.sheet-index c.sheet-item.result c.requires.sheets (omega arith) c.sheet-item.is).0

@@ -20,6 +20,6 @@ returns-then-len-lt-PAGE c = sym (append_assoc (sheeted c.self.inside.sheets.ite
 pub returns : goal.returns
 returns c =
     c.in_ok-builder.ensures
-    ∙ ap (λ (es : List (Step × Tree)). sheeted c.self.inside.sheets.items ++ es) c.in_ok-add_page.ensures.list
+    ∙ ap (λ (es : List (Step × Tree)). sheeted c.self.inside.sheets.items ++ es) (c.in_ok-add_page.ensures.list ∙ ap (λ (es : List (Step × Tree)). listed c.self.inside.pages.items ++ es) c.page_of.ensures.list)
     ∙ sym (append_assoc (sheeted c.self.inside.sheets.items) (listed c.self.inside.pages.items) (row_of c.push.new.self.items))
     ∙ one_more (sheeted c.self.inside.sheets.items ++ listed c.self.inside.pages.items) c.self.inside.last.items c.push.new.self.items c.in_ok-child.child (record { step = c.args.step; node = c.args.node }) c.args.self c.in_ok-child.ensures.ok (assoc (sheeted c.self.inside.sheets.items) (listed c.self.inside.pages.items) c.self.inside.last.items c.args.self c.self.view_is) c.in_ok-push.ensures.items

@@ -1,7 +1,8 @@
 //! Laws of the definitions. A call does nothing: its clauses are the laws.
 ghost use Rattle.sal_script.specs.Laws.{ScriptsAreJson, WritesAreForSchema};
 
-/// The values of a script that was read have each name once in its object, and their strings are bytes.
+/// The values of a script that was read have each name once in its object, and their strings are bytes, whatever the bytes
+/// of the script.
 pub fn scripts_are_json()
     ensures { ScriptsAreJson }
 {}

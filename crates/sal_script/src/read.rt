@@ -68,9 +68,9 @@ fn parts_of(alloc: Global, members: &Map<String, Value>) -> Result<Script, Scrip
     ensures { Reads parts result (spec.parts_of (members_view members.now.entries)) }
 {
     let modules = modules_of(alloc, members)?;
-    let (modules, config) = with_config(alloc, members, modules)?;
-    let (modules, config, operational) = with_operational(alloc, members, (modules, config))?;
-    let beginning = with_clients(alloc, members, (modules, config, operational))?;
+    let configured = with_config(alloc, members, modules)?;
+    let opening = with_operational(alloc, members, configured)?;
+    let beginning = with_clients(alloc, members, opening)?;
     let order = order_of(alloc, members)?;
     Ok(Script {
         modules: Seq::from_items(beginning.modules),
@@ -121,7 +121,7 @@ fn with_clients(
     ensures clients { Reads (λ read. clients_of read.clients.items) result (spec.clients_member (members_view members.now.entries)) }
     ensures limits { IfOk result (λ read. IsTrue (within_limits read.clients.items)) }
     ensures json { IfOk result (λ read. IsTrue (have_json_moves (clients_of read.clients.items))) }
-    ensures before { IfOk result (λ read. (read.modules ≡ before.0) × ((read.config ≡ before.1) × (read.operational ≡ before.2))) }
+    ensures before { IfOk result (λ read. (read.modules ≡ before.0) × (read.config ≡ before.1) × (read.operational ≡ before.2)) }
 {
     let clients = clients_in(alloc, members)?;
     Ok(Beginning {
@@ -134,9 +134,7 @@ fn with_clients(
 
 // The data of an opening tree, under the member of this name.
 fn opening_of(alloc: Global, members: &Map<String, Value>, name: &str) -> Result<Value, ScriptFault>
-    requires { HasJson (members_view members.now.entries) }
-    ensures opening { Reads view result (spec.or_bad name.now (spec.opening_member name.now (members_view members.now.entries))) }
-    ensures json { IfOk result (λ value. IsTrue (is_json (view value))) }
+    ensures { Reads view result (spec.or_bad name.now (spec.opening_member name.now (members_view members.now.entries))) }
 {
     match member(members, name) {
         None => Ok(Value::Object(Map::new(alloc))),

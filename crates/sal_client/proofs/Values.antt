@@ -1,7 +1,6 @@
 -- The values of a program's steps are JSON, and what was read of them is for the schema.
 use Rattle.std.proofs.Common.{◌≡◌, ℕ, zero, suc, ◌<◌, true, List, [], ◌∷◌, length, get_or, Result, Ok, Err, IsTrue, refl, sym, ap, ◌∙◌, subst, arith}
 use Rattle.std.proofs.lemmas.Bool.{and_parts}
-use Rattle.std.specs.Prelude.{⊤}
 use Rattle.std.specs.List.{list_all}
 use Rattle.sal_types.specs.declared.value.Store.{Store}
 use Rattle.sal_types.specs.declared.value.Step.{Step}
@@ -13,6 +12,7 @@ use Rattle.sal_pathtext.specs.declared.fault.PathTextFault.{PathTextFault}
 use Rattle.sal_pathtext.specs.Read.{read_path}
 use Rattle.sal_data.specs.declared.fault.DataFault.{DataFault}
 use Rattle.sal_rules.specs.Writes.{IsForSchema}
+use Rattle.sal_script.proofs.Given.{Given}
 use Rattle.sal_script.specs.declared.script.ScriptStep.{ScriptStep}
 use Rattle.sal_script.specs.JsonMoves.{is_json_move, have_json_moves}
 use Rattle.sal_script.specs.JsonScripts.{is_json_deed}
@@ -30,11 +30,6 @@ pub program_at : (ps : List (List ScriptStep)) (i : ℕ) (p : List ScriptStep) �
 program_at [] i p have h at = absurd (omega arith)
 program_at (x ∷ ps) zero p have h at = ap (λ (q : List ScriptStep). list_all is_json_move (moves_of q)) at ∙ (and_parts (list_all is_json_move (moves_of x)) (have_json_moves (clients_of ps)) have).0
 program_at (x ∷ ps) (suc i) p have h at = program_at ps i p (and_parts (list_all is_json_move (moves_of x)) (have_json_moves (clients_of ps)) have).1 (omega arith) at
-
--- what holds of what was made
-abbrev Given : {A F : Type 0} → (A → Type 0) → Result A F → Type 0
-Given P (Ok x) = P x
-Given P (Err e) = ⊤
 
 module _ (law : WritesAreForSchema) (table : SchemaTable) (good : IsTable table) (store : Store) (text : List ℕ) (deed : Deed) (is : IsTrue (is_json_deed deed)) where
   by_act : (path : List Step) → read_path table text ≡ Ok path → (act : Result Act DataFault) → act_of table path deed ≡ act → Given (IsForSchema table) (op_at store path act)

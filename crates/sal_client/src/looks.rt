@@ -49,7 +49,8 @@ fn rows_seen(alloc: Global, tx: &Tx, store: Store, path: Path) -> Result<StepRep
         Tx::Write(tx) => match tx.read(alloc, store, &path) {
             Ok(rows) => Ok(StepReply::Read { domain, path, rows }),
             Err(TxFault::WriteOnly) => Ok(only_writes()),
-            Err(_) => Err(NoMemory),
+            Err(TxFault::NoMemory) => Err(NoMemory),
+            Err(_) => unreachable!(),
         },
     }
 }

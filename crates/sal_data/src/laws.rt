@@ -1,5 +1,5 @@
 //! Laws of the definitions. A call does nothing: its clauses are the laws.
-ghost use Rattle.sal_data.specs.Laws.{ReadsAgain, ReadsAsWritten, ReadsWhole, TreesReadAsWritten};
+ghost use Rattle.sal_data.specs.Laws.{ReadsAgain, ReadsAsWritten, ReadsWhole, TextsReadAgain, TextsReadWhole, TreesReadAsWritten};
 
 /// What is written for the rows of a tree at a path and below it reads there as these rows.
 pub fn rows_read_as_written()
@@ -8,8 +8,15 @@ pub fn rows_read_as_written()
 {}
 
 /// Rows that were read are such rows: in order, as the schema wants them, and with values that read again. So what was read
-/// and is written reads as the same rows.
+/// and is written reads as the same rows. It is owed of the JSON value that each name stands once in its object, and that its
+/// strings are bytes.
 pub fn rows_that_were_read_are_whole()
     ensures whole { ReadsWhole }
     ensures again { ReadsAgain }
+{}
+
+/// The same of a JSON value that was read from a text, of which nothing is owed.
+pub fn rows_of_texts_are_whole()
+    ensures whole { TextsReadWhole }
+    ensures again { TextsReadAgain }
 {}

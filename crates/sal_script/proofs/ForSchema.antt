@@ -1,8 +1,6 @@
--- What was read at a path that was read is an operation for the schema.
-use Rattle.std.proofs.Common.{◌≡◌, true, false, List, [], ◌∷◌, Result, Ok, Err, IsTrue, refl, subst}
+-- What was read at a path that was read is an operation for the schema, and what was read of an opening is whole.
+use Rattle.std.proofs.Common.{◌≡◌, true, false, List, [], ◌∷◌, Result, Ok, Err, IsTrue, refl, subst, arith}
 use Rattle.std.proofs.lemmas.Bool.{not-true}
-use Rattle.std.specs.Prelude.{⊤}
-use Rattle.sal_types.specs.Reading.{◌>>=◌}
 use Rattle.sal_types.specs.declared.value.Step.{Step}
 use Rattle.sal_types.specs.declared.value.Step.TheVariants.{Node, Key, Item}
 use Rattle.sal_types.specs.declared.row.Row.{Row}
@@ -21,21 +19,15 @@ use Rattle.sal_data.specs.Read.{read_data}
 use Rattle.sal_data.proofs.ReadWhole.{reads_whole}
 use Rattle.sal_pathtext.specs.Laws.{IsDataPath, begins_with_data}
 use Rattle.sal_pathtext.proofs.ReadPaths.{read-is_data}
+use Rattle.sal_script.proofs.Given.{Given, given_then}
 use Rattle.sal_script.specs.JsonScripts.{is_json_deed}
-use Rattle.sal_script.specs.Laws.{WritesAreForSchema}
+use Rattle.sal_script.specs.Laws.{OpeningsAreWhole, WritesAreForSchema}
+use Rattle.sal_script.proofs.JsonRead.{scripts_are_json}
 use Rattle.sal_script.specs.Play.{Deed, putting, merging, deleting, act_of}
-
-abbrev Given : {A F : Type 0} → (A → Type 0) → Result A F → Type 0
-Given P (Ok x) = P x
-Given P (Err e) = ⊤
 
 given_from : {A F : Type 0} (P : A → Type 0) (r : Result A F) → ((x : A) → r ≡ Ok x → P x) → Given P r
 given_from P (Ok x) h = h x refl
 given_from P (Err e) h = tt
-
-given_then : {A B F : Type 0} (P : A → Type 0) (Q : B → Type 0) (r : Result A F) (f : A → Result B F) → Given P r → ((x : A) → P x → Given Q (f x)) → Given Q (r >>= f)
-given_then P Q (Ok x) f is more = more x is
-given_then P Q (Err e) f is more = tt
 
 module _ (table : SchemaTable) where
   outside : (path : List Step) → begins_with_data table path ≡ true → is_in_message table path ≡ false
@@ -67,3 +59,8 @@ writes_are_for_schema table good store text path read deed is act made =
       data_path = outside table path data_path.of_data;
       rows = subst (Given (λ (a : Act). IsTrue (fits table path (rows_of_act a)))) made (act_fits table good path data_path deed is);
     }
+
+pub openings_are_whole : OpeningsAreWhole
+openings_are_whole table good bytes parts read rows =
+    let is = scripts_are_json bytes parts read in
+    (λ e. reads_whole table good [] refl (omega arith) parts.config is.config rows e, λ e. reads_whole table good [] refl (omega arith) parts.operational is.operational rows e)

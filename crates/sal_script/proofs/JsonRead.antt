@@ -16,22 +16,19 @@ use Rattle.sal_value.specs.Json.{IsJson, AreJson, HasJson, is_json}
 use Rattle.sal_value.proofs.Given.{texts_read_as_json}
 use Rattle.sal_value.proofs.Tested.{tests_json}
 use Rattle.sal_value.proofs.Parts.{Found, member_json}
+use Rattle.sal_script.proofs.Given.{Given, given_then}
 use Rattle.sal_script.specs.Json.{text_eq, list_of, list_of_items, all_named, data_of}
 use Rattle.sal_script.specs.JsonMoves.{IsJsonMove, AreJsonMoves, HaveJsonMoves, is_json_move, have_json_moves}
 use Rattle.sal_script.specs.JsonScripts.{IsJsonScript}
 use Rattle.sal_script.specs.Laws.{ScriptsAreJson}
 use Rattle.sal_script.specs.Moves.{Move, Begin, Put, Merge, Delete, Read, Exists, Submit, Cancel, Settle}
-use Rattle.sal_script.specs.Script.{or_bad, client_place, step_place, at_most, slot_of, domain_of, mode_of, store_of, begin_of, Naming, Writing, place_of, write_of, slot_step_of, step_named, step_from, step_of, members_of, list_by, list_member, program_of, programs_from, steps_from, clients_from, numbers_of, modules_member, opening_by, opening_member, names, parts_of, script_of}
+use Rattle.sal_script.specs.Script.{or_bad, client_place, step_place, at_most, slot_of, domain_of, mode_of, store_of, begin_of, Naming, Writing, place_of, write_of, slot_step_of, step_named, step_from, step_of, members_of, list_by, list_member, program_of, programs_from, steps_from, clients_from, numbers_of, modules_member, opening_by, opening_member, names, clients_member, parts_of, script_of}
 
 -- ---- what holds of what is there
 
 abbrev If : {A : Type 0} → (A → Type 0) → Option A → Type 0
 If P None = ⊤
 If P (Some x) = P x
-
-abbrev Given : {A F : Type 0} → (A → Type 0) → Result A F → Type 0
-Given P (Ok x) = P x
-Given P (Err e) = ⊤
 
 abbrev Any : {A : Type 0} → A → Type 0
 Any x = ⊤
@@ -51,10 +48,6 @@ if_map Q f (Some x) more = more x
 if_either : {A : Type 0} (P : A → Type 0) (b : Bool) (r s : Option A) → If P r → If P s → If P (if b then r else s)
 if_either P true r s first second = first
 if_either P false r s first second = second
-
-given_then : {A B F : Type 0} (P : A → Type 0) (Q : B → Type 0) (r : Result A F) (f : A → Result B F) → Given P r → ((x : A) → P x → Given Q (f x)) → Given Q (r >>= f)
-given_then P Q (Ok x) f is more = more x is
-given_then P Q (Err e) f is more = tt
 
 or_else_bad : {A : Type 0} (P : A → Type 0) (place : List ℕ) (o : Option A) → If P o → Given P (or_bad place o)
 or_else_bad P place None is = tt
@@ -218,19 +211,22 @@ clients_json c (p ∷ ps) all =
 
 -- ---- the script
 
+clients_member_json : (ms : Members) → HasJson ms → Given HaveJsonMoves (clients_member ms)
+clients_member_json ms is =
+    let listed : If AllJson (option_and_then (at_most 16) (list_member (codes "clients") ms)) =
+    if_then AllJson AllJson (at_most 16) (list_member (codes "clients") ms) (list_by_json (get_member (codes "clients") ms) (get_json (codes "clients") ms is)) (λ ds z. at_most_json AllJson 16 ds z) in
+    given_then AllJson HaveJsonMoves (or_bad (codes "clients") (option_and_then (at_most 16) (list_member (codes "clients") ms))) _ (or_else_bad AllJson (codes "clients") _ listed) (λ ds are.
+    given_then AllPrograms HaveJsonMoves (programs_from 0 ds) _ (programs_json 0 ds are) (λ programs have. clients_json 0 programs have))
+
 parts_json : (ms : Members) → HasJson ms → Given IsJsonScript (parts_of ms)
 parts_json ms is =
     let opening : (name : List ℕ) → Given IsJson (or_bad name (opening_member name ms)) = λ name. or_else_bad IsJson name (opening_member name ms) (opening_by_json (get_member name ms) (get_json name ms is)) in
-    let listed : If AllJson (option_and_then (at_most 16) (list_member (codes "clients") ms)) =
-    if_then AllJson AllJson (at_most 16) (list_member (codes "clients") ms) (list_by_json (get_member (codes "clients") ms) (get_json (codes "clients") ms is)) (λ ds z. at_most_json AllJson 16 ds z) in
     given_then Any IsJsonScript (or_bad (codes "modules") (modules_member ms)) _ (or_else_bad Any (codes "modules") (modules_member ms) (if_any (modules_member ms))) (λ texts x.
     given_then IsJson IsJsonScript (or_bad (codes "config") (opening_member (codes "config") ms)) _ (opening (codes "config")) (λ config is_config.
     given_then IsJson IsJsonScript (or_bad (codes "operational") (opening_member (codes "operational") ms)) _ (opening (codes "operational")) (λ operational is_operational.
-    given_then AllJson IsJsonScript (or_bad (codes "clients") (option_and_then (at_most 16) (list_member (codes "clients") ms))) _ (or_else_bad AllJson (codes "clients") _ listed) (λ ds are.
-    given_then AllPrograms IsJsonScript (programs_from 0 ds) _ (programs_json 0 ds are) (λ programs have.
-    given_then HaveJsonMoves IsJsonScript (clients_from 0 programs) _ (clients_json 0 programs have) (λ clients moves.
+    given_then HaveJsonMoves IsJsonScript (clients_member ms) _ (clients_member_json ms is) (λ clients moves.
     given_then Any IsJsonScript (or_bad (codes "order") (option_and_then numbers_of (list_member (codes "order") ms))) _ (or_else_bad Any (codes "order") _ (if_any (option_and_then numbers_of (list_member (codes "order") ms)))) (λ order y.
-    record { config = is_config; operational = is_operational; clients = moves })))))))
+    record { config = is_config; operational = is_operational; clients = moves })))))
 
 script_json : (bytes : List ℕ) → Given IsJsonScript (script_of bytes)
 script_json bytes =

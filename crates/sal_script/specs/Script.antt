@@ -142,6 +142,13 @@ abbrev pub clients_from : ℕ → List (List Data) → Result (List (List Move))
 clients_from c [] = Ok []
 clients_from c (p ∷ ps) = steps_from c 0 p >>= (λ steps. clients_from (c + 1) ps >>= (λ clients. Ok (steps ∷ clients)))
 
+-- the steps of the clients, at most 16; each client is looked at before the steps of the first
+abbrev pub clients_member : Members → Result (List (List Move)) (List ℕ)
+clients_member ms =
+    or_bad (codes "clients") (option_and_then (at_most 16) (list_member (codes "clients") ms))
+    >>= (λ ds. programs_from 0 ds
+    >>= (λ programs. clients_from 0 programs))
+
 -- what each of these stands for, where each stands for something
 abbrev pub all_of : {A : Type 0} → (Data → Option A) → List Data → Option (List A)
 all_of f [] = Some []
@@ -187,11 +194,9 @@ parts_of ms =
     or_bad (codes "modules") (modules_member ms)
     >>= (λ texts. or_bad (codes "config") (opening_member (codes "config") ms)
     >>= (λ config. or_bad (codes "operational") (opening_member (codes "operational") ms)
-    >>= (λ operational. or_bad (codes "clients") (option_and_then (at_most 16) (list_member (codes "clients") ms))
-    >>= (λ ds. programs_from 0 ds
-    >>= (λ programs. clients_from 0 programs
+    >>= (λ operational. clients_member ms
     >>= (λ clients. or_bad (codes "order") (option_and_then numbers_of (list_member (codes "order") ms))
-    >>= (λ order. Ok (record { modules = texts; config = config; operational = operational; clients = clients; order = order }))))))))
+    >>= (λ order. Ok (record { modules = texts; config = config; operational = operational; clients = clients; order = order }))))))
 
 -- the script that bytes stand for, or the first bad place
 abbrev pub script_of : List ℕ → Result Parts (List ℕ)

@@ -1,11 +1,12 @@
 //! Scripts, read from JSON (RFC 8259).
-ghost use Rattle.std.specs.Prelude.{◌≡◌, [], ◌∷◌, codes, map, option_and_then, option_map, IfOk, IfErr, IfSome, IsTrue};
+ghost use Rattle.std.specs.Prelude.{◌≡◌, ◌&&◌, [], ◌∷◌, codes, map, option_and_then, option_map, IfOk, IfErr, IfSome, IsTrue};
 ghost use Rattle.serde_json.specs.View.{view, members_view};
-ghost use Rattle.sal_value.specs.Json.{HasJson};
+ghost use Rattle.sal_value.specs.Json.{HasJson, is_json};
+ghost use Rattle.sal_script.specs.JsonMoves.{have_json_moves};
 ghost use Rattle.sal_script.specs.Json.{data_of};
 ghost use Rattle.sal_script.specs.Reading.{Reads, ReadsScript, parts};
 ghost use Rattle.sal_script.specs.Moves.{clients_of, moves_of};
-ghost use Rattle.sal_script.specs.Limits.{are_short, is_short};
+ghost use Rattle.sal_script.specs.Limits.{are_short, is_short, within_limits};
 ghost use Rattle.sal_script.specs.Script as spec;
 ghost use Rattle.sal_script.specs.declared.script.TheConstants.{PLAIN};
 
@@ -52,23 +53,82 @@ fn script_members(alloc: Global, value: &Value) -> Result<&Map<String, Value>, S
     }
 }
 
+// What a script has but its order.
+#[derive(Drop)]
+struct Beginning {
+    modules: Vec<Str>,
+    config: Value,
+    operational: Value,
+    clients: Vec<Program>,
+}
+
+// Each part is read behind those before it, which are handed on by value: where it is bad there is one value to let go of.
 fn parts_of(alloc: Global, members: &Map<String, Value>) -> Result<Script, ScriptFault>
     requires { HasJson (members_view members.now.entries) }
     ensures { Reads parts result (spec.parts_of (members_view members.now.entries)) }
 {
     let modules = modules_of(alloc, members)?;
-    let config = opening_of(alloc, members, "config")?;
-    let operational = opening_of(alloc, members, "operational")?;
-    let listed = listed_clients(alloc, members)?;
-    let programs = programs_of(alloc, listed)?;
-    let clients = clients_of(alloc, &programs)?;
+    let configured = with_config(alloc, members, modules)?;
+    let opening = with_operational(alloc, members, configured)?;
+    let beginning = with_clients(alloc, members, opening)?;
     let order = order_of(alloc, members)?;
     Ok(Script {
-        modules: Seq::from_items(modules),
-        config,
-        operational,
-        clients: Seq::from_items(clients),
+        modules: Seq::from_items(beginning.modules),
+        config: beginning.config,
+        operational: beginning.operational,
+        clients: Seq::from_items(beginning.clients),
         order: Seq::from_items(order),
+    })
+}
+
+// The modules with the data of the configuration.
+fn with_config(
+    alloc: Global,
+    members: &Map<String, Value>,
+    modules: Vec<Str>,
+) -> Result<(Vec<Str>, Value), ScriptFault>
+    requires { HasJson (members_view members.now.entries) }
+    ensures config { Reads (λ read. view read.1) result (spec.or_bad (codes "config") (spec.opening_member (codes "config") (members_view members.now.entries))) }
+    ensures json { IfOk result (λ read. IsTrue (is_json (view read.1))) }
+    ensures modules { IfOk result (λ read. read.0 ≡ modules) }
+{
+    let config = opening_of(alloc, members, "config")?;
+    Ok((modules, config))
+}
+
+// These with the operational data.
+fn with_operational(
+    alloc: Global,
+    members: &Map<String, Value>,
+    before: (Vec<Str>, Value),
+) -> Result<(Vec<Str>, Value, Value), ScriptFault>
+    requires { HasJson (members_view members.now.entries) }
+    ensures operational { Reads (λ read. view read.2) result (spec.or_bad (codes "operational") (spec.opening_member (codes "operational") (members_view members.now.entries))) }
+    ensures json { IfOk result (λ read. IsTrue (is_json (view read.2))) }
+    ensures before { IfOk result (λ read. (read.0 ≡ before.0) × (read.1 ≡ before.1)) }
+{
+    let operational = opening_of(alloc, members, "operational")?;
+    Ok((before.0, before.1, operational))
+}
+
+// These with the clients.
+fn with_clients(
+    alloc: Global,
+    members: &Map<String, Value>,
+    before: (Vec<Str>, Value, Value),
+) -> Result<Beginning, ScriptFault>
+    requires { HasJson (members_view members.now.entries) }
+    ensures clients { Reads (λ read. clients_of read.clients.items) result (spec.clients_member (members_view members.now.entries)) }
+    ensures limits { IfOk result (λ read. IsTrue (within_limits read.clients.items)) }
+    ensures json { IfOk result (λ read. IsTrue (have_json_moves (clients_of read.clients.items))) }
+    ensures before { IfOk result (λ read. (read.modules ≡ before.0) × (read.config ≡ before.1) × (read.operational ≡ before.2)) }
+{
+    let clients = clients_in(alloc, members)?;
+    Ok(Beginning {
+        modules: before.0,
+        config: before.1,
+        operational: before.2,
+        clients,
     })
 }
 
@@ -142,6 +202,19 @@ fn at_most(limit: usize, list: Option<&[Value]>) -> Option<&[Value]>
         Some(found) if found.len() <= limit => Some(found),
         _ => None,
     }
+}
+
+// The clients.
+fn clients_in(alloc: Global, members: &Map<String, Value>) -> Result<Vec<Program>, ScriptFault>
+    requires { HasJson (members_view members.now.entries) }
+    ensures clients { Reads (λ clients. clients_of clients.items) result (spec.clients_member (members_view members.now.entries)) }
+    ensures limits { IfOk result (λ clients. IsTrue (within_limits clients.items)) }
+    ensures json { IfOk result (λ clients. IsTrue (have_json_moves (clients_of clients.items))) }
+{
+    let listed = listed_clients(alloc, members)?;
+    let programs = programs_of(alloc, listed)?;
+    let clients = clients_of(alloc, &programs)?;
+    Ok(clients)
 }
 
 // The clients, not yet read.

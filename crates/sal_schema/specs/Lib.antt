@@ -1,3 +1,4 @@
+pub mod Beside
 pub mod Examples
 pub mod Fitting
 pub mod Indexed

@@ -32,6 +32,7 @@
 mod ends;
 mod examples;
 mod fitting;
+mod indexes;
 mod kind;
 mod names;
 mod parts;

@@ -14,6 +14,7 @@ use sal_types::{Duplicate, NoMemory, Str};
 use std::alloc::Global;
 
 /// The children of the top, and those of each node.
+#[derive(Drop)]
 pub(crate) struct Children {
     pub(crate) top: Vec<u32>,
     pub(crate) below: Vec<Vec<u32>>,

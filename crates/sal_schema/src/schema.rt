@@ -4,15 +4,15 @@ ghost use Rattle.std.specs.List.Sorted.{IsPermutation};
 ghost use Rattle.std.specs.List.{slice_get, All};
 ghost use Rattle.sal_schema.specs.Table as spec;
 ghost use Rattle.sal_schema.specs.Names as names;
+ghost use Rattle.sal_schema.specs.Beside.{IsPlaced, AreTops};
 ghost use Rattle.sal_schema.specs.Valid.{IsTable, has_numbers};
 ghost use Rattle.sal_schema.specs.declared.names.Named.{Named};
 ghost use Rattle.sal_schema.specs.declared.table.SchemaTable.{SchemaTable as Table};
 
+use crate::indexes::{Beside, Messages, Placed, Places, Statics, Tops, beside_of};
 use crate::kind::Kind;
 use crate::names::Index;
-use crate::parts::{
-    Children, children_of, data_names, data_parents, identity_names, kind_names, module_names,
-};
+use crate::parts::Children;
 use crate::table::{IdentityInfo, Leafs, NodeInfo, SchemaTable};
 use sal_restrict::YangType;
 use sal_types::NoMemory;
@@ -54,24 +54,8 @@ impl Schema {
         requires { IsTable table }
         ensures { IfOk result (λ schema. schema ≡ table) }
     {
-        let Children { top, below } = children_of(alloc, &table)?;
-        let data_parents = data_parents(alloc, &table)?;
-        let modules = Index::of(module_names(alloc, table.modules.items())?)?;
-        let data_nodes = Index::of(data_names(alloc, &table, &data_parents)?)?;
-        let rpcs = Index::of(kind_names(alloc, Kind::Rpc, table.nodes.items())?)?;
-        let notifications = Index::of(kind_names(alloc, Kind::Notification, table.nodes.items())?)?;
-        let identities = Index::of(identity_names(alloc, table.identities.items())?)?;
-        Ok(Schema {
-            table,
-            top,
-            below,
-            data_parents,
-            modules,
-            data_nodes,
-            rpcs,
-            notifications,
-            identities,
-        })
+        let beside = beside_of(alloc, &table)?;
+        Ok(joined(table, beside))
     }
 
     /// How many nodes it has. Their numbers are those below.
@@ -308,6 +292,42 @@ impl Schema {
         ensures { result ≡ names.identity_of self.now «module».now name.now }
     {
         found(&self.modules, &self.identities, None, module, name)
+    }
+}
+
+/// The schema of a table, and what stands beside it.
+fn joined(table: SchemaTable, beside: Beside) -> Schema
+    requires table { IsTable table }
+    requires placed { IsPlaced table beside.placed }
+    requires tops { AreTops table beside.tops }
+    ensures { result ≡ table }
+{
+    let Beside { placed, tops } = beside;
+    let Placed { places, data_nodes } = placed;
+    let Places {
+        children,
+        data_parents,
+    } = places;
+    let Children { top, below } = children;
+    let Tops { statics, messages } = tops;
+    let Statics {
+        modules,
+        identities,
+    } = statics;
+    let Messages {
+        rpcs,
+        notifications,
+    } = messages;
+    Schema {
+        table,
+        top,
+        below,
+        data_parents,
+        modules,
+        data_nodes,
+        rpcs,
+        notifications,
+        identities,
     }
 }
 

@@ -3,7 +3,7 @@ use sal_rows::{Mode, Ops};
 use sal_types::Seq;
 
 /// A shared call: what one turn of the broker is asked. Tokens are numbers.
-#[derive(Debug, Drop)]
+#[derive(Drop)]
 pub enum Call {
     /// Begins a transaction of the domain.
     Begin { domain: u32, mode: Mode },
@@ -16,7 +16,7 @@ pub enum Call {
 }
 
 /// A call in the log: the client that made it, the count of that client's earlier entries, and the call.
-#[derive(Debug, Drop)]
+#[derive(Drop)]
 pub struct Entry {
     pub client: u32,
     pub number: u32,

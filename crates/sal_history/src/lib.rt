@@ -28,8 +28,7 @@
 //! of the transaction's operations (`laws::conflicts_name_a_later_commit`). A submission that is decided as done leaves no
 //! breach, in either store (`laws::done_leaves_no_breach`).
 //!
-//! Costs: none. Nothing here runs but the `Debug` output of the types; definitions, examples and laws are read by the
-//! prover alone.
+//! Costs: none. Nothing here runs: definitions, examples and laws are read by the prover alone.
 #![tactic(auto)]
 
 pub mod call;

@@ -4,7 +4,7 @@ use sal_schema::Schema;
 use std::sync::Arc;
 
 /// The opening trees of a domain.
-#[derive(Debug, Drop)]
+#[derive(Drop)]
 pub struct Opening {
     pub config: Rows,
     pub oper: Rows,

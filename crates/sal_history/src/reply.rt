@@ -2,7 +2,7 @@
 use sal_rows::{CallFault, Outcome};
 
 /// The answer to a shared call, as the log gives it.
-#[derive(Debug, Drop)]
+#[derive(Drop)]
 pub enum Reply {
     /// The transaction stands on this commit, and on the pending receipt, if any.
     Begun { commit: u64, on: Option<u64> },

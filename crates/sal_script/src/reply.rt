@@ -7,7 +7,7 @@ use sal_rules::TxFault;
 use sal_types::Path;
 
 /// Why a client refused a step by itself: it made no call.
-#[derive(Debug, Drop)]
+#[derive(Drop)]
 pub enum StepRefusal {
     /// No transaction or receipt is in the slot.
     EmptySlot,
@@ -22,7 +22,7 @@ pub enum StepRefusal {
 }
 
 /// The answer to a step: of a shared call, what the log gives; of a local step, what the client's own transaction gives.
-#[derive(Debug, Drop)]
+#[derive(Drop)]
 pub enum StepReply {
     /// The answer to the shared call.
     Called { reply: Reply },

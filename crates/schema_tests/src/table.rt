@@ -232,9 +232,9 @@ fn types(alloc: Global, sorts: &[Sort]) -> Result<Seq<YangType>, NoMemory> {
 
 // An identity, and those that it is derived from.
 #[derive(Clone, Copy)]
-struct Identity<'a>(&'a str, &'a [u32]);
+struct IdentityLine<'a>(&'a str, &'a [u32]);
 
-fn identity(alloc: Global, line: &Identity<'_>) -> Result<IdentityInfo, NoMemory> {
+fn identity(alloc: Global, line: &IdentityLine<'_>) -> Result<IdentityInfo, NoMemory> {
     let name = Str::new(alloc, line.0)?;
     Ok(IdentityInfo {
         name,
@@ -243,12 +243,12 @@ fn identity(alloc: Global, line: &Identity<'_>) -> Result<IdentityInfo, NoMemory
     })
 }
 
-fn add_identity(alloc: Global, list: &mut Vec<IdentityInfo>, line: &Identity<'_>) -> Result<(), NoMemory> {
+fn add_identity(alloc: Global, list: &mut Vec<IdentityInfo>, line: &IdentityLine<'_>) -> Result<(), NoMemory> {
     list.push(identity(alloc, line)?)?;
     Ok(())
 }
 
-fn identities(alloc: Global, lines: &[Identity<'_>]) -> Result<Seq<IdentityInfo>, NoMemory> {
+fn identities(alloc: Global, lines: &[IdentityLine<'_>]) -> Result<Seq<IdentityInfo>, NoMemory> {
     let mut list = Vec::new(alloc);
     for line in lines {
         add_identity(alloc, &mut list, line)?;
@@ -266,7 +266,7 @@ fn modules(alloc: Global) -> Result<Seq<Str>, NoMemory> {
 struct Parts<'a> {
     rows: &'a [Row],
     sorts: &'a [Sort],
-    identities: &'a [Identity<'a>],
+    identities: &'a [IdentityLine<'a>],
 }
 
 fn fill(alloc: Global, table: &mut SchemaTable, parts: &Parts<'_>) -> Result<(), NoMemory> {
@@ -301,7 +301,7 @@ fn parts_of(rows: &'static [Row]) -> Parts<'static> {
             unions: 0,
             high: 127,
         }],
-        identities: &[Identity("base", &[])],
+        identities: &[IdentityLine("base", &[])],
     }
 }
 
@@ -325,7 +325,7 @@ const PARTS: &[(u8, u8, &[u32], bool)] = &[
 
 fn passes_with(alloc: Global, unions: u8, high: u8, above: &[u32]) -> Result<bool, NoMemory> {
     let sorts = [Sort::Whole { unions, high }];
-    let identities = [Identity("base", above)];
+    let identities = [IdentityLine("base", above)];
     passes(
         alloc,
         &Parts {
@@ -360,7 +360,7 @@ fn size_of(alloc: Global, rows: &'static [Row]) -> Result<Option<u32>, TableFaul
 const MIXED_PARTS: Parts<'static> = Parts {
     rows: MIXED,
     sorts: &[Sort::Byte, Sort::Empty],
-    identities: &[Identity("base", &[]), Identity("derived", &[0])],
+    identities: &[IdentityLine("base", &[]), IdentityLine("derived", &[0])],
 };
 
 const MIXED_TEXT: &str = "0 - list rule:host config key n

@@ -115,7 +115,12 @@ fn push_identities(out: &mut String, identities: &[IdentityInfo]) -> Result<(), 
     Ok(())
 }
 
-fn push_tree(out: &mut String, alloc: Global, modules: &Modules, forest: &Forest) -> Result<(), Fail>
+fn push_tree(
+    out: &mut String,
+    alloc: Global,
+    modules: &Modules,
+    forest: &Forest,
+) -> Result<(), Fail>
     requires { length forest.now ≤ 65536 }
 {
     let nodes = node_infos(alloc, modules, forest)?;
@@ -286,7 +291,11 @@ const BODIES: &[(&str, &str)] = &[
 #[test]
 fn bodies_give_their_tables(rt: HostRuntime) -> Result<(), Fail> {
     for (body, want) in BODIES {
-        assert_eq!(rt; verdict_of_body(rt.alloc(), body)?.as_str(), *want, "{body}");
+        assert_eq!(rt;
+            verdict_of_body(rt.alloc(), body)?.as_str(),
+            *want,
+            "{body}"
+        );
     }
     Ok(())
 }

@@ -11,7 +11,11 @@ fn push_branch(out: &mut String, branch: &Branch) -> Result<(), Fail> {
         Some(parent) => write!(out, "{parent}")?,
     }
     let mark = if branch.implied.is_some() { "!" } else { "" };
-    write!(out, ",{},{},{}{mark} ", branch.module, branch.source, branch.at)?;
+    write!(
+        out,
+        ",{},{},{}{mark} ",
+        branch.module, branch.source, branch.at
+    )?;
     Ok(())
 }
 
@@ -105,7 +109,11 @@ const BODIES: &[(&str, &str)] = &[
 #[test]
 fn bodies(rt: HostRuntime) -> Result<(), Fail> {
     for (body, want) in BODIES {
-        assert_eq!(rt; verdict_of_body(rt.alloc(), body)?.as_str(), *want, "{body}");
+        assert_eq!(rt;
+            verdict_of_body(rt.alloc(), body)?.as_str(),
+            *want,
+            "{body}"
+        );
     }
     Ok(())
 }
@@ -118,7 +126,10 @@ const B: &str =
 
 /// Groupings each of which uses the one before it twice.
 fn push_doubling(text: &mut String, first: &str) -> Result<(), Fail> {
-    write!(text, "module m {{ namespace u; prefix p; grouping g0 {{ {first} }} ")?;
+    write!(
+        text,
+        "module m {{ namespace u; prefix p; grouping g0 {{ {first} }} "
+    )?;
     for i in 0..20 {
         let next = i + 1;
         write!(text, "grouping g{next} {{ uses g{i}; uses g{i}; }} ")?;

@@ -49,7 +49,12 @@ fn sevens(alloc: Global, size: usize, fails: u64) -> Result<MemSource, Fail> {
     Ok(MemSource::new(bytes, vec![in alloc; 77, fails]?))
 }
 
-fn read_some(alloc: Global, size: usize, limit: usize, fails: u64) -> Result<Result<usize, ReadFail>, Fail> {
+fn read_some(
+    alloc: Global,
+    size: usize,
+    limit: usize,
+    fails: u64,
+) -> Result<Result<usize, ReadFail>, Fail> {
     let mut source = sevens(alloc, size, fails)?;
     Ok(sevens_in(alloc, &mut source, limit))
 }
@@ -99,7 +104,10 @@ fn is_written(sink: &mut MemSink, want: Result<(), Failed>, taken: &str) -> bool
     told == want && sink.bytes() == taken.as_bytes()
 }
 
-fn is_text_written(alloc: Global, line: &(usize, u64, Result<(), Failed>, &str)) -> Result<bool, Fail> {
+fn is_text_written(
+    alloc: Global,
+    line: &(usize, u64, Result<(), Failed>, &str),
+) -> Result<bool, Fail> {
     let mut sink = MemSink::new(alloc, line.0, vec![in alloc; line.1]?)?;
     Ok(is_written(&mut sink, line.2, line.3))
 }
@@ -107,7 +115,12 @@ fn is_text_written(alloc: Global, line: &(usize, u64, Result<(), Failed>, &str))
 #[test]
 fn a_text_is_written_whole_or_cut(rt: HostRuntime) -> Result<(), Fail> {
     for line in WRITES {
-        assert!(rt; is_text_written(rt.alloc(), line)?, "room {}, call {} fails", line.0, line.1);
+        assert!(rt;
+            is_text_written(rt.alloc(), line)?,
+            "room {}, call {} fails",
+            line.0,
+            line.1
+        );
     }
     Ok(())
 }
@@ -146,7 +159,11 @@ fn std_readers_and_writers_fail_as_told(rt: HostRuntime) -> Result<(), Fail> {
     assert!(rt; is_fault_told(rt.alloc()));
     assert!(rt; is_vector_written(rt.alloc())?);
     for (takes, flushes, want) in SLOW {
-        assert_eq!(rt; slowly_written(*takes, *flushes), *want, "{takes} a write, {flushes} flushes");
+        assert_eq!(rt;
+            slowly_written(*takes, *flushes),
+            *want,
+            "{takes} a write, {flushes} flushes"
+        );
     }
     Ok(())
 }

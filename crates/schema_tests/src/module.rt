@@ -66,10 +66,7 @@ const BODIES: &[(&str, &str)] = &[
     ("augment \"/\";", "bad-argument 0 36"),
     ("yang-version 1.1;", "ok 1"),
     ("yang-version 2;", "bad-argument 0 36"),
-    (
-        "leaf a { type string; config maybe; }",
-        "bad-argument 0 58",
-    ),
+    ("leaf a { type string; config maybe; }", "bad-argument 0 58"),
     (
         "leaf-list a { type string; min-elements 01; }",
         "bad-argument 0 63",
@@ -157,7 +154,11 @@ const BODIES: &[(&str, &str)] = &[
 #[test]
 fn bodies(rt: HostRuntime) -> Result<(), Fail> {
     for (body, want) in BODIES {
-        assert_eq!(rt; verdict_of_body(rt.alloc(), body)?.as_str(), *want, "{body}");
+        assert_eq!(rt;
+            verdict_of_body(rt.alloc(), body)?.as_str(),
+            *want,
+            "{body}"
+        );
     }
     Ok(())
 }
@@ -186,10 +187,7 @@ const SETS: &[(&[&str], &str)] = &[
     (&["module;"], "missing 0 0 namespace"),
     (&["module m { prefix p; }"], "missing 0 0 namespace"),
     (&["module m { namespace \"u\"; }"], "missing 0 0 prefix"),
-    (
-        &["module 1 { namespace u; prefix p; }"],
-        "bad-argument 0 0",
-    ),
+    (&["module 1 { namespace u; prefix p; }"], "bad-argument 0 0"),
     (&[B, A], "ok 2"),
     (&[A], "no-module 0 34"),
     (&[A, B_TO_A], "import-cycle 0 34"),

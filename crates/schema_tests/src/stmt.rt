@@ -187,10 +187,18 @@ const OTHERS: &[(&str, StmtFault)] = &[
 #[test]
 fn faults(rt: HostRuntime) {
     for (text, at) in BAD_TOKENS {
-        assert_eq!(rt; fault_of(rt.alloc(), text), Some(StmtFault::BadToken { at: *at }), "{text:?}");
+        assert_eq!(rt;
+            fault_of(rt.alloc(), text),
+            Some(StmtFault::BadToken { at: *at }),
+            "{text:?}"
+        );
     }
     for (text, at) in UNCLOSED {
-        assert_eq!(rt; fault_of(rt.alloc(), text), Some(StmtFault::Unclosed { at: *at }), "{text:?}");
+        assert_eq!(rt;
+            fault_of(rt.alloc(), text),
+            Some(StmtFault::Unclosed { at: *at }),
+            "{text:?}"
+        );
     }
     for (text, fault) in OTHERS {
         assert_eq!(rt; fault_of(rt.alloc(), text), Some(*fault), "{text:?}");
@@ -240,11 +248,16 @@ fn open_at(length: usize) -> u32 {
 #[test]
 fn blocks_and_prefixes(rt: HostRuntime) -> Result<(), Fail> {
     assert!(rt; are_64_taken(rt.alloc())?);
-    assert_eq!(rt; blocks_fault(rt.alloc(), 65)?, Some(StmtFault::TooDeep { at: 129 }));
+    assert_eq!(rt;
+        blocks_fault(rt.alloc(), 65)?,
+        Some(StmtFault::TooDeep { at: 129 })
+    );
     let module = "module m { prefix p; }";
     for length in 1..module.len() {
         let text = module.get(..length).ok_or("boundary")?;
-        let want = StmtFault::Unclosed { at: open_at(length) };
+        let want = StmtFault::Unclosed {
+            at: open_at(length),
+        };
         assert_eq!(rt; fault_of(rt.alloc(), text), Some(want), "{text:?}");
     }
     Ok(())

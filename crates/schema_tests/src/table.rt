@@ -37,7 +37,14 @@ const MIXED: &[Row] = &[
     Row(Some(0), Kind::Choice, "way", None, &[], &[]),
     Row(Some(2), Kind::Case, "slow", None, &[], &[]),
     Row(Some(3), Kind::Leaf, "slow", Some(1), &[], &[]),
-    Row(None, Kind::Container { presence: true }, "ping", None, &[], &[]),
+    Row(
+        None,
+        Kind::Container { presence: true },
+        "ping",
+        None,
+        &[],
+        &[],
+    ),
     Row(None, Kind::Rpc, "ping", None, &[], &[]),
     Row(None, Kind::Notification, "ping", None, &[], &[]),
 ];
@@ -243,7 +250,11 @@ fn identity(alloc: Global, line: &IdentityLine<'_>) -> Result<IdentityInfo, NoMe
     })
 }
 
-fn add_identity(alloc: Global, list: &mut Vec<IdentityInfo>, line: &IdentityLine<'_>) -> Result<(), NoMemory> {
+fn add_identity(
+    alloc: Global,
+    list: &mut Vec<IdentityInfo>,
+    line: &IdentityLine<'_>,
+) -> Result<(), NoMemory> {
     list.push(identity(alloc, line)?)?;
     Ok(())
 }
@@ -308,7 +319,11 @@ fn parts_of(rows: &'static [Row]) -> Parts<'static> {
 #[test]
 fn nodes_are_tested(rt: HostRuntime) -> Result<(), Fail> {
     for (number, (rows, wanted)) in NODES.iter().enumerate() {
-        assert_eq!(rt; passes(rt.alloc(), &parts_of(rows))?, *wanted, "case {number}");
+        assert_eq!(rt;
+            passes(rt.alloc(), &parts_of(rows))?,
+            *wanted,
+            "case {number}"
+        );
     }
     Ok(())
 }
@@ -339,7 +354,11 @@ fn passes_with(alloc: Global, unions: u8, high: u8, above: &[u32]) -> Result<boo
 #[test]
 fn types_and_identities_are_tested(rt: HostRuntime) -> Result<(), Fail> {
     for (number, (unions, high, above, wanted)) in PARTS.iter().enumerate() {
-        assert_eq!(rt; passes_with(rt.alloc(), *unions, *high, above)?, *wanted, "case {number}");
+        assert_eq!(rt;
+            passes_with(rt.alloc(), *unions, *high, above)?,
+            *wanted,
+            "case {number}"
+        );
     }
     Ok(())
 }

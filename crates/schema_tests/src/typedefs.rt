@@ -18,9 +18,7 @@ const LIBRARY: &str = "module n { namespace v; prefix q; identity x; identity y;
 
 /// A module with these statements.
 fn importing(alloc: Global, body: &str) -> Result<String, Fail> {
-    Ok(format!(in alloc;
-        "module m {{ namespace u; prefix p; import n {{ prefix n; }} {body} }}"
-    )?)
+    Ok(format!(in alloc; "module m {{ namespace u; prefix p; import n {{ prefix n; }} {body} }}")?)
 }
 
 /// That module, and the one that it imports.
@@ -69,8 +67,14 @@ fn push_members(text: &mut String, members: &[YangType]) -> Result<(), Fail> {
 /// What a type holds.
 fn push_held(text: &mut String, ty: &YangType) -> Result<(), Fail> {
     match ty {
-        YangType::Int { range, .. } | YangType::Dec { range, .. } => push_parts(text, range.items()),
-        YangType::Text { length, .. } | YangType::Bin { length } => push_parts(text, length.items()),
+        YangType::Int { range, .. } | YangType::Dec { range, .. } => push_parts(
+            text,
+            range.items(),
+        ),
+        YangType::Text { length, .. } | YangType::Bin { length } => push_parts(
+            text,
+            length.items(),
+        ),
         YangType::Enum { names, places } => {
             push_names(text, names.items())?;
             push_places(text, places.items())
@@ -158,7 +162,10 @@ const TYPES: &[(&str, &str)] = &[
         "leaf a { type string { length \"1..4 | 8\"; } }",
         "string 1..4 8..8",
     ),
-    ("leaf a { type string { range 1; } }", "bad-restriction range 1"),
+    (
+        "leaf a { type string { range 1; } }",
+        "bad-restriction range 1",
+    ),
     (
         "leaf a { type binary { length 4..1; } }",
         "bad-restriction length 4..1",
@@ -168,7 +175,10 @@ const TYPES: &[(&str, &str)] = &[
         "bad-pattern pattern (",
     ),
     ("leaf a { type union; }", "bad-restriction type union"),
-    ("leaf a { type decimal64; }", "bad-restriction type decimal64"),
+    (
+        "leaf a { type decimal64; }",
+        "bad-restriction type decimal64",
+    ),
     (
         "leaf a { type decimal64 { fraction-digits 19; } }",
         "bad-restriction fraction-digits 19",
@@ -342,7 +352,11 @@ fn counts_below<'x, 'a>(
     Ok(counts)
 }
 
-fn open_block<'a>(alloc: Global, around: &mut Vec<Block<'a>>, stmt: &'a Stmt) -> Result<(), NoMemory> {
+fn open_block<'a>(
+    alloc: Global,
+    around: &mut Vec<Block<'a>>,
+    stmt: &'a Stmt,
+) -> Result<(), NoMemory> {
     around.push(Block::new(alloc, stmt)?)?;
     Ok(())
 }
@@ -357,7 +371,11 @@ fn counts_of<'x, 'a>(
     counts_below(alloc, typedefs, around.as_slice(), leaf)
 }
 
-fn both_blocks<'a>(alloc: Global, module: &'a Stmt, leaf: &'a Stmt) -> Result<Vec<Block<'a>>, NoMemory> {
+fn both_blocks<'a>(
+    alloc: Global,
+    module: &'a Stmt,
+    leaf: &'a Stmt,
+) -> Result<Vec<Block<'a>>, NoMemory> {
     let mut around = Vec::new(alloc);
     for stmt in [module, leaf] {
         open_block(alloc, &mut around, stmt)?;

@@ -41,10 +41,12 @@ fn entry(alloc: Global) -> Result<Path, Fail> {
 
 fn is_copied(row: &Row) -> Result<bool, NoMemory> {
     let second = row.copy()?;
-    Ok(row.path == second.path
-        && is_same(&row.path, &second.path)
-        && row.cell == second.cell
-        && second.path.steps().len() == 2)
+    Ok(
+        row.path == second.path
+            && is_same(&row.path, &second.path)
+            && row.cell == second.cell
+            && second.path.steps().len() == 2,
+    )
 }
 
 fn is_row_copied(alloc: Global) -> Result<bool, Fail> {
@@ -84,7 +86,10 @@ fn entry_and_later(alloc: Global) -> Result<(Ordering, bool, bool), Fail> {
 #[test]
 fn paths_go_step_by_step(rt: HostRuntime) -> Result<(), Fail> {
     assert_eq!(rt; above_and_entry(rt.alloc())?, (Ordering::Less, true, false));
-    assert_eq!(rt; entry_and_later(rt.alloc())?, (Ordering::Less, false, false));
+    assert_eq!(rt;
+        entry_and_later(rt.alloc())?,
+        (Ordering::Less, false, false)
+    );
     Ok(())
 }
 

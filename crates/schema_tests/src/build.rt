@@ -1,58 +1,53 @@
-ghost use Rattle.std.specs.Prelude.{◌<◌, ◌^◌, length};
+ghost use Rattle.std.specs.Prelude.{◌≡◌, ◌≤◌, length};
 
-use super::*;
-use sal_grouping::expand;
-use sal_module::{BuildFault, Modules, check};
+use crate::texts::{SMALL, checked, fault_in_words, with_head};
+use sal_build::{identity_fault, identity_infos, list_fault, node_infos};
+use sal_grouping::{Forest, expand};
+use sal_module::{Found, Modules};
 use sal_schema::{IdentityInfo, NodeInfo};
-use sal_stmt::{Stmt, read_module};
 use sal_typedefs::Typedefs;
+use sal_types::{NoMemory, Seq};
+use std::alloc::Global;
+use std::fmt::Write;
 use std::test::Fail;
 
-const SMALL: usize = 65_536;
-
-fn read_all(rt: &HostRuntime, texts: &[&str]) -> Result<Vec<Stmt>, Fail> {
-    let mut stmts = Vec::new(rt.alloc());
-    for text in texts {
-        if text.len() >= SMALL {
-            return Err("long".into());
-        }
-        stmts.push(read_module(rt.alloc(), text)?)?;
-    }
-    Ok(stmts)
-}
-
-/// A fault in one line: its name, its module and its place.
-fn shown(rt: &HostRuntime, fault: &BuildFault) -> Result<String, Fail> {
-    let (name, module, at) = match fault {
-        BuildFault::UnknownName { module, at } => ("unknown-name", *module, *at),
-        BuildFault::NameCycle { module, at } => ("name-cycle", *module, *at),
-        BuildFault::BadKey { module, at } => ("bad-key", *module, *at),
-        BuildFault::ConfigUnderState { module, at } => ("config-under-state", *module, *at),
-        _ => ("other", 0, 0),
-    };
-    Ok(format!(in rt.alloc(); "{name} {module} {at}")?)
-}
-
 /// Numbers behind a mark, with commas between them.
-fn push_numbers(
-    rt: &HostRuntime,
-    out: &mut String,
-    mark: &str,
-    numbers: &[u32],
-) -> Result<(), Fail> {
+fn push_numbers(out: &mut String, mark: &str, numbers: &[u32]) -> Result<(), Fail> {
     let mut before = mark;
     for number in numbers {
-        out.push_str(format!(in rt.alloc(); "{before}{number}")?.as_str())?;
+        write!(out, "{before}{number}")?;
         before = ",";
     }
     Ok(())
 }
 
-fn parent_word(rt: &HostRuntime, parent: Option<u32>) -> Result<String, Fail> {
-    match parent {
-        None => Ok(format!(in rt.alloc(); "-")?),
-        Some(parent) => Ok(format!(in rt.alloc(); "{parent}")?),
+fn push_uniques(out: &mut String, node: &NodeInfo) -> Result<(), Fail> {
+    for leafs in node.unique.items() {
+        push_numbers(out, " u", leafs.items())?;
     }
+    Ok(())
+}
+
+fn push_parent(out: &mut String, parent: Option<u32>) -> Result<(), Fail> {
+    match parent {
+        None => out.push('-')?,
+        Some(parent) => write!(out, "{parent}")?,
+    }
+    Ok(())
+}
+
+fn push_type(out: &mut String, ty: Option<u32>) -> Result<(), Fail> {
+    if let Some(ty) = ty {
+        write!(out, " t{ty}")?;
+    }
+    Ok(())
+}
+
+fn push_bounds(out: &mut String, node: &NodeInfo) -> Result<(), Fail> {
+    if let Some(most) = node.max_elements {
+        write!(out, " {}..{most}", node.min_elements)?;
+    }
+    Ok(())
 }
 
 fn config_word(config: Option<bool>) -> &'static str {
@@ -63,72 +58,124 @@ fn config_word(config: Option<bool>) -> &'static str {
     }
 }
 
-/// What a leaf or list has beside its name.
-fn push_more(rt: &HostRuntime, out: &mut String, node: &NodeInfo) -> Result<(), Fail> {
-    if let Some(ty) = node.ty {
-        out.push_str(format!(in rt.alloc(); " t{ty}")?.as_str())?;
-    }
-    push_numbers(rt, out, " k", node.keys.items())?;
-    for leafs in node.unique.items() {
-        push_numbers(rt, out, " u", leafs.items())?;
-    }
-    if let Some(most) = node.max_elements {
-        let least = node.min_elements;
-        out.push_str(format!(in rt.alloc(); " {least}..{most}")?.as_str())?;
-    }
-    if node.mandatory {
-        out.push_str(" !")?;
-    }
-    Ok(())
-}
-
 /// A node in words: its number, its parent or `-`, its kind, its name, and what else it has.
-fn push_node(rt: &HostRuntime, out: &mut String, n: usize, node: &NodeInfo) -> Result<(), Fail> {
-    let parent = parent_word(rt, node.parent)?;
+fn push_node(out: &mut String, number: usize, node: &NodeInfo) -> Result<(), Fail> {
+    write!(out, "{number} ")?;
+    push_parent(out, node.parent)?;
     let (kind, name) = (node.kind.word(), node.name.as_str());
-    let config = config_word(node.config);
-    out.push_str(format!(in rt.alloc(); "{n} {parent} {kind} {name} {config}")?.as_str())?;
-    push_more(rt, out, node)?;
-    out.push_str(";")?;
+    write!(out, " {kind} {name} {}", config_word(node.config))?;
+    push_type(out, node.ty)?;
+    push_numbers(out, " k", node.keys.items())?;
+    push_uniques(out, node)?;
+    push_bounds(out, node)?;
+    let mark = if node.mandatory { " !" } else { "" };
+    write!(out, "{mark};")?;
     Ok(())
 }
 
 /// An identity, and what it is derived from.
-fn push_identity(rt: &HostRuntime, out: &mut String, identity: &IdentityInfo) -> Result<(), Fail> {
+fn push_identity(out: &mut String, identity: &IdentityInfo) -> Result<(), Fail> {
     out.push_str(identity.name.as_str())?;
-    push_numbers(rt, out, "<", identity.derived_from.items())?;
+    push_numbers(out, "<", identity.derived_from.items())?;
     out.push_str(" ")?;
     Ok(())
 }
 
-/// The nodes and the identities, or the first fault.
-fn table_or_fault(rt: &HostRuntime, modules: &Modules) -> Result<String, Fail> {
-    let forest = expand(rt.alloc(), modules)?;
-    if forest.items().len() > SMALL {
-        return Err("large".into());
+fn fault_of_identities(alloc: Global, modules: &Modules) -> Result<Option<Found>, NoMemory> {
+    let typedefs = Typedefs::new(alloc, modules)?;
+    identity_fault(alloc, modules, &typedefs)
+}
+
+fn identities_of(alloc: Global, modules: &Modules) -> Result<Seq<IdentityInfo>, NoMemory> {
+    let typedefs = Typedefs::new(alloc, modules)?;
+    identity_infos(alloc, modules, &typedefs)
+}
+
+/// The first fault of identities, or else of keys, unique leafs and `config`.
+fn first_fault(alloc: Global, modules: &Modules, forest: &Forest) -> Result<Option<Found>, Fail>
+    requires { length forest.now ≤ 65536 }
+{
+    match fault_of_identities(alloc, modules)? {
+        Some(found) => Ok(Some(found)),
+        None => Ok(list_fault(alloc, modules, forest)?),
     }
-    let typedefs = Typedefs::new(rt.alloc(), modules)?;
-    if let Some(found) = identity_fault(rt.alloc(), modules, &typedefs)? {
-        return shown(rt, &found.fault(rt.alloc())?);
+}
+
+fn push_nodes(out: &mut String, nodes: &[NodeInfo]) -> Result<(), Fail> {
+    for (number, node) in nodes.iter().enumerate() {
+        push_node(out, number, node)?;
     }
-    if let Some(found) = list_fault(rt.alloc(), modules, &forest)? {
-        return shown(rt, &found.fault(rt.alloc())?);
+    Ok(())
+}
+
+fn push_identities(out: &mut String, identities: &[IdentityInfo]) -> Result<(), Fail> {
+    for identity in identities {
+        push_identity(out, identity)?;
     }
-    let mut out = String::new(rt.alloc());
-    let nodes = node_infos(rt.alloc(), modules, &forest)?;
-    for (n, node) in nodes.items().iter().enumerate() {
-        push_node(rt, &mut out, n, node)?;
-    }
-    for identity in identity_infos(rt.alloc(), modules, &typedefs)?.items() {
-        push_identity(rt, &mut out, identity)?;
-    }
+    Ok(())
+}
+
+fn push_tree(
+    out: &mut String,
+    alloc: Global,
+    modules: &Modules,
+    forest: &Forest,
+) -> Result<(), Fail>
+    requires { length forest.now ≤ 65536 }
+{
+    let nodes = node_infos(alloc, modules, forest)?;
+    push_nodes(out, nodes.items())
+}
+
+fn push_names(out: &mut String, alloc: Global, modules: &Modules) -> Result<(), Fail> {
+    let identities = identities_of(alloc, modules)?;
+    push_identities(out, identities.items())
+}
+
+fn tree_text(alloc: Global, modules: &Modules, forest: &Forest) -> Result<String, Fail>
+    requires { length forest.now ≤ 65536 }
+{
+    let mut out = String::new(alloc);
+    push_tree(&mut out, alloc, modules, forest)?;
     Ok(out)
 }
 
-fn verdict(rt: &HostRuntime, texts: &[&str]) -> Result<String, Fail> {
-    let stmts = read_all(rt, texts)?;
-    let modules = check(rt.alloc(), stmts.as_slice())?;
-    table_or_fault(rt, &modules)
+/// The nodes and the identities.
+fn table_text(alloc: Global, modules: &Modules, tree: String) -> Result<String, Fail> {
+    let mut out = tree;
+    push_names(&mut out, alloc, modules)?;
+    Ok(out)
+}
+
+fn fault_text(alloc: Global, found: Found) -> Result<String, Fail> {
+    let fault = found.fault(alloc)?;
+    fault_in_words(alloc, &fault)
+}
+
+/// The nodes and the identities, or the first fault.
+fn table_or_fault(alloc: Global, modules: &Modules, forest: &Forest) -> Result<String, Fail> {
+    if forest.items().len() > SMALL {
+        return Err("large".into());
+    }
+    match first_fault(alloc, modules, forest)? {
+        Some(found) => fault_text(alloc, found),
+        None => table_text(alloc, modules, tree_text(alloc, modules, forest)?),
+    }
+}
+
+fn grown(alloc: Global, modules: &Modules) -> Result<String, Fail> {
+    let forest = expand(alloc, modules)?;
+    table_or_fault(alloc, modules, &forest)
+}
+
+fn verdict(alloc: Global, text: &str) -> Result<String, Fail> {
+    let modules = checked(alloc, &[text])?;
+    grown(alloc, &modules)
+}
+
+fn verdict_of_body(alloc: Global, body: &str) -> Result<String, Fail> {
+    let text = with_head(alloc, body)?;
+    verdict(alloc, text.as_str())
 }
 
 /// Behind the head `module m { namespace "u"; prefix p; ` of 36 bytes, with the nodes and identities, or the first fault.
@@ -243,11 +290,10 @@ const BODIES: &[(&str, &str)] = &[
 
 #[test]
 fn bodies_give_their_tables(rt: HostRuntime) -> Result<(), Fail> {
-    for (body, expected) in BODIES {
-        let text = format!(in rt.alloc(); "module m {{ namespace \"u\"; prefix p; {body} }}")?;
+    for (body, want) in BODIES {
         assert_eq!(rt;
-            verdict(&rt, &[text.as_str()])?.as_str(),
-            *expected,
+            verdict_of_body(rt.alloc(), body)?.as_str(),
+            *want,
             "{body}"
         );
     }

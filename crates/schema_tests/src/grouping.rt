@@ -1,61 +1,48 @@
-ghost use Rattle.std.specs.Prelude.{◌<◌, ◌^◌, length};
-
-use super::*;
-use sal_module::{BuildFault, What, check};
-use sal_stmt::{Stmt, read_module};
+use crate::texts::{checked, fault_in_words, with_head};
+use sal_grouping::{Branch, Forest, expand};
+use std::alloc::Global;
+use std::fmt::Write;
 use std::test::Fail;
 
-const SMALL: usize = 65_536;
-
-fn read_all(rt: &HostRuntime, texts: &[&str]) -> Result<Vec<Stmt>, Fail> {
-    let mut stmts = Vec::new(rt.alloc());
-    for text in texts {
-        if text.len() >= SMALL {
-            return Err("long".into());
-        }
-        stmts.push(read_module(rt.alloc(), text)?)?;
-    }
-    Ok(stmts)
-}
-
-/// A fault in one line: its name, its module and its place.
-fn shown(rt: &HostRuntime, fault: &BuildFault) -> Result<String, Fail> {
-    let (name, module, at) = match fault {
-        BuildFault::UnknownName { module, at } => ("unknown-name", *module, *at),
-        BuildFault::NameCycle { module, at } => ("name-cycle", *module, *at),
-        BuildFault::DoubleNode { module, at } => ("double-node", *module, *at),
-        BuildFault::BadTarget { module, at } => ("bad-target", *module, *at),
-        BuildFault::TooMany { what: What::Nodes } => ("too-many", 0, 0),
-        _ => ("other", 0, 0),
-    };
-    Ok(format!(in rt.alloc(); "{name} {module} {at}")?)
-}
-
 /// A node in words: its parent or `-`, its module, its source, its place, and `!` where it is implied.
-fn word_of(rt: &HostRuntime, branch: &Branch) -> Result<String, Fail> {
-    let mark = if branch.implied.is_some() { "!" } else { "" };
-    let (module, source, at) = (branch.module, branch.source, branch.at);
+fn push_branch(out: &mut String, branch: &Branch) -> Result<(), Fail> {
     match branch.parent {
-        None => Ok(format!(in rt.alloc(); "-,{module},{source},{at}{mark} ")?),
-        Some(parent) => Ok(format!(in rt.alloc(); "{parent},{module},{source},{at}{mark} ")?),
+        None => out.push('-')?,
+        Some(parent) => write!(out, "{parent}")?,
     }
+    let mark = if branch.implied.is_some() { "!" } else { "" };
+    write!(
+        out,
+        ",{},{},{}{mark} ",
+        branch.module, branch.source, branch.at
+    )?;
+    Ok(())
 }
 
-fn listed(rt: &HostRuntime, forest: &Forest) -> Result<String, Fail> {
-    let mut out = String::new(rt.alloc());
-    for branch in forest.items() {
-        out.push_str(word_of(rt, branch)?.as_str())?;
+fn listed(alloc: Global, branches: &[Branch]) -> Result<String, Fail> {
+    let mut out = String::new(alloc);
+    for branch in branches {
+        push_branch(&mut out, branch)?;
     }
     Ok(out)
 }
 
-fn verdict(rt: &HostRuntime, texts: &[&str]) -> Result<String, Fail> {
-    let stmts = read_all(rt, texts)?;
-    let modules = check(rt.alloc(), stmts.as_slice())?;
-    match expand(rt.alloc(), &modules) {
-        Ok(forest) => listed(rt, &forest.copy()?),
-        Err(fault) => shown(rt, &fault),
+fn copy_listed(alloc: Global, forest: &Forest) -> Result<String, Fail> {
+    let second = forest.copy()?;
+    listed(alloc, second.items())
+}
+
+fn verdict(alloc: Global, texts: &[&str]) -> Result<String, Fail> {
+    let modules = checked(alloc, texts)?;
+    match expand(alloc, &modules) {
+        Ok(forest) => copy_listed(alloc, &forest),
+        Err(fault) => fault_in_words(alloc, &fault),
     }
+}
+
+fn verdict_of_body(alloc: Global, body: &str) -> Result<String, Fail> {
+    let text = with_head(alloc, body)?;
+    verdict(alloc, &[text.as_str()])
 }
 
 /// Behind the head `module m { namespace "u"; prefix p; ` of 36 bytes, with what `expand` gives.
@@ -122,8 +109,11 @@ const BODIES: &[(&str, &str)] = &[
 #[test]
 fn bodies(rt: HostRuntime) -> Result<(), Fail> {
     for (body, want) in BODIES {
-        let text = format!(in rt.alloc(); "module m {{ namespace \"u\"; prefix p; {body} }}")?;
-        assert_eq!(rt; verdict(&rt, &[text.as_str()])?.as_str(), *want, "{body}");
+        assert_eq!(rt;
+            verdict_of_body(rt.alloc(), body)?.as_str(),
+            *want,
+            "{body}"
+        );
     }
     Ok(())
 }
@@ -134,35 +124,40 @@ const A: &str =
 const B: &str =
     "module b { namespace u; prefix b; container c { leaf x { type string; } } grouping g { leaf y { type string; } } }";
 
-#[test]
-fn an_augment_of_another_module(rt: HostRuntime) -> Result<(), Fail> {
-    assert_eq!(rt;
-        verdict(&rt, &[A, B])?.as_str(),
-        "-,1,1,34 0,1,1,48 0,0,1,87 0,0,0,84 "
-    );
+/// Groupings each of which uses the one before it twice.
+fn push_doubling(text: &mut String, first: &str) -> Result<(), Fail> {
+    write!(
+        text,
+        "module m {{ namespace u; prefix p; grouping g0 {{ {first} }} "
+    )?;
+    for i in 0..20 {
+        let next = i + 1;
+        write!(text, "grouping g{next} {{ uses g{i}; uses g{i}; }} ")?;
+    }
+    text.push_str("uses g20; }")?;
     Ok(())
 }
 
-/// Groupings each of which uses the one before it twice.
-fn doubling(rt: &HostRuntime, first: &str) -> Result<String, Fail> {
-    let mut text = String::new(rt.alloc());
-    text.push_str("module m { namespace u; prefix p; grouping g0 { ")?;
-    text.push_str(first)?;
-    text.push_str(" } ")?;
-    for i in 0..20 {
-        let next = i + 1;
-        let both = format!(in rt.alloc(); "grouping g{next} {{ uses g{i}; uses g{i}; }} ")?;
-        text.push_str(both.as_str())?;
-    }
-    text.push_str("uses g20; }")?;
+fn doubling(alloc: Global, first: &str) -> Result<String, Fail> {
+    let mut text = String::new(alloc);
+    push_doubling(&mut text, first)?;
     Ok(text)
 }
 
+fn doubled(alloc: Global, first: &str) -> Result<String, Fail> {
+    let text = doubling(alloc, first)?;
+    verdict(alloc, &[text.as_str()])
+}
+
+// An augment of another module, and groupings that double.
 #[test]
-fn groupings_that_double(rt: HostRuntime) -> Result<(), Fail> {
-    let none = doubling(&rt, "")?;
-    assert_eq!(rt; verdict(&rt, &[none.as_str()])?.as_str(), "");
-    let some = doubling(&rt, "leaf a { type string; }")?;
-    assert_eq!(rt; verdict(&rt, &[some.as_str()])?.as_str(), "too-many 0 0");
+fn other_modules(rt: HostRuntime) -> Result<(), Fail> {
+    assert_eq!(rt;
+        verdict(rt.alloc(), &[A, B])?.as_str(),
+        "-,1,1,34 0,1,1,48 0,0,1,87 0,0,0,84 "
+    );
+    assert_eq!(rt; doubled(rt.alloc(), "")?.as_str(), "");
+    let leaf = "leaf a { type string; }";
+    assert_eq!(rt; doubled(rt.alloc(), leaf)?.as_str(), "too-many-nodes 0 0");
     Ok(())
 }

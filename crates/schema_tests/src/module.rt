@@ -1,56 +1,26 @@
-ghost use Rattle.std.specs.Prelude.{◌<◌, ◌^◌, length};
-
-use super::*;
-use sal_stmt::{Stmt, read_module};
+use crate::texts::{add, checked, fault_in_words, read, read_all, with_head};
+use sal_module::{BuildFault, Modules, What, check};
+use sal_stmt::Stmt;
 use sal_types::Seq;
+use std::alloc::Global;
+use std::fmt::Write;
 use std::test::Fail;
 
-const SMALL: usize = 65_536;
-
-fn read(rt: &HostRuntime, text: &str) -> Result<Stmt, Fail> {
-    if text.len() >= SMALL {
-        return Err("long".into());
+fn verdict(alloc: Global, stmts: &[Stmt]) -> Result<String, Fail> {
+    match check(alloc, stmts) {
+        Ok(modules) => Ok(format!(in alloc; "ok {}", modules.items().len())?),
+        Err(fault) => fault_in_words(alloc, &fault),
     }
-    Ok(read_module(rt.alloc(), text)?)
 }
 
-fn read_all(rt: &HostRuntime, texts: &[&str]) -> Result<Vec<Stmt>, Fail> {
-    let mut stmts = Vec::new(rt.alloc());
-    for text in texts {
-        stmts.push(read(rt, text)?)?;
-    }
-    Ok(stmts)
+fn verdict_of(alloc: Global, texts: &[&str]) -> Result<String, Fail> {
+    let stmts = read_all(alloc, texts)?;
+    verdict(alloc, stmts.as_slice())
 }
 
-/// A fault in one line: its name, its module, its place, and its keyword if it has one.
-fn shown(rt: &HostRuntime, fault: &BuildFault) -> Result<String, Fail> {
-    let (name, module, at, keyword) = match fault {
-        BuildFault::UnknownStatement { module, at } => ("unknown", *module, *at, ""),
-        BuildFault::LeftOut { module, at } => ("left-out", *module, *at, ""),
-        BuildFault::Missing {
-            module,
-            at,
-            keyword,
-        } => ("missing", *module, *at, keyword.as_str()),
-        BuildFault::Twice {
-            module,
-            at,
-            keyword,
-        } => ("twice", *module, *at, keyword.as_str()),
-        BuildFault::BadArgument { module, at } => ("bad-argument", *module, *at, ""),
-        BuildFault::NoModule { module, at } => ("no-module", *module, *at, ""),
-        BuildFault::ImportCycle { module, at } => ("import-cycle", *module, *at, ""),
-        BuildFault::DoubleNode { module, at } => ("double-node", *module, *at, ""),
-        _ => ("other", 0, 0, ""),
-    };
-    Ok(format!(in rt.alloc(); "{name} {module} {at} {keyword}")?)
-}
-
-fn verdict(rt: &HostRuntime, stmts: &[Stmt]) -> Result<String, Fail> {
-    match check(rt.alloc(), stmts) {
-        Ok(modules) => Ok(format!(in rt.alloc(); "ok {}", modules.items().len())?),
-        Err(fault) => shown(rt, &fault),
-    }
+fn verdict_of_body(alloc: Global, body: &str) -> Result<String, Fail> {
+    let text = with_head(alloc, body)?;
+    verdict_of(alloc, &[text.as_str()])
 }
 
 /// Behind the head `module m { namespace "u"; prefix p; ` of 36 bytes, with what `check` says.
@@ -58,14 +28,14 @@ const BODIES: &[(&str, &str)] = &[
     ("", "ok 1"),
     // which statements stand where
     ("leaf a { type string; }", "ok 1"),
-    ("foo x; leaf b;", "unknown 0 36 "),
-    ("choice c { uses g; }", "unknown 0 47 "),
-    ("description \"x\" { leaf a; }", "unknown 0 54 "),
-    ("description \"x\" { anyxml a; }", "left-out 0 54 "),
-    ("anydata x;", "left-out 0 36 "),
-    ("uses g { refine a; }", "left-out 0 45 "),
-    ("uses g { augment \"/x\" { leaf a; } }", "left-out 0 45 "),
-    ("container c { notification n; }", "left-out 0 50 "),
+    ("foo x; leaf b;", "unknown-statement 0 36"),
+    ("choice c { uses g; }", "unknown-statement 0 47"),
+    ("description \"x\" { leaf a; }", "unknown-statement 0 54"),
+    ("description \"x\" { anyxml a; }", "left-out 0 54"),
+    ("anydata x;", "left-out 0 36"),
+    ("uses g { refine a; }", "left-out 0 45"),
+    ("uses g { augment \"/x\" { leaf a; } }", "left-out 0 45"),
+    ("container c { notification n; }", "left-out 0 50"),
     ("notification n;", "ok 1"),
     ("p:foo { bar; leaf; }", "ok 1"),
     (
@@ -82,27 +52,24 @@ const BODIES: &[(&str, &str)] = &[
         "twice 0 58 type",
     ),
     // arguments
-    ("leaf { type string; }", "bad-argument 0 36 "),
-    ("leaf 1a { type string; }", "bad-argument 0 36 "),
-    ("description;", "bad-argument 0 36 "),
-    ("rpc r { input x; }", "bad-argument 0 44 "),
+    ("leaf { type string; }", "bad-argument 0 36"),
+    ("leaf 1a { type string; }", "bad-argument 0 36"),
+    ("description;", "bad-argument 0 36"),
+    ("rpc r { input x; }", "bad-argument 0 44"),
     (
         "rpc r { input { leaf a { type string; } } output; }",
         "ok 1",
     ),
     ("augment \"/p:a/b\";", "ok 1"),
-    ("augment \"a/b\";", "bad-argument 0 36 "),
-    ("augment \"/a//b\";", "bad-argument 0 36 "),
-    ("augment \"/\";", "bad-argument 0 36 "),
+    ("augment \"a/b\";", "bad-argument 0 36"),
+    ("augment \"/a//b\";", "bad-argument 0 36"),
+    ("augment \"/\";", "bad-argument 0 36"),
     ("yang-version 1.1;", "ok 1"),
-    ("yang-version 2;", "bad-argument 0 36 "),
-    (
-        "leaf a { type string; config maybe; }",
-        "bad-argument 0 58 ",
-    ),
+    ("yang-version 2;", "bad-argument 0 36"),
+    ("leaf a { type string; config maybe; }", "bad-argument 0 58"),
     (
         "leaf-list a { type string; min-elements 01; }",
-        "bad-argument 0 63 ",
+        "bad-argument 0 63",
     ),
     (
         "leaf-list a { type string; min-elements 4294967295; }",
@@ -110,11 +77,11 @@ const BODIES: &[(&str, &str)] = &[
     ),
     (
         "leaf-list a { type string; min-elements 4294967296; }",
-        "bad-argument 0 63 ",
+        "bad-argument 0 63",
     ),
     (
         "leaf-list a { type string; max-elements 0; }",
-        "bad-argument 0 63 ",
+        "bad-argument 0 63",
     ),
     (
         "leaf-list a { type string; max-elements unbounded; }",
@@ -126,33 +93,33 @@ const BODIES: &[(&str, &str)] = &[
     ),
     (
         "leaf a { type enumeration { enum x { value 2147483648; } } }",
-        "bad-argument 0 73 ",
+        "bad-argument 0 73",
     ),
     (
         "leaf a { type enumeration { enum x { value +1; } } }",
-        "bad-argument 0 73 ",
+        "bad-argument 0 73",
     ),
     (
         "leaf a { type string { pattern \"x\" { modifier match; } } }",
-        "bad-argument 0 73 ",
+        "bad-argument 0 73",
     ),
     // what is left out by an argument
-    ("list l { leaf a { type string; } }", "left-out 0 36 "),
-    ("list 1;", "left-out 0 36 "),
+    ("list l { leaf a { type string; } }", "left-out 0 36"),
+    ("list 1;", "left-out 0 36"),
     ("list l { key a; }", "ok 1"),
     (
         "leaf-list s { type string; ordered-by user; }",
-        "left-out 0 63 ",
+        "left-out 0 63",
     ),
     ("leaf-list s { type string; ordered-by system; }", "ok 1"),
-    ("leaf a { type instance-identifier; }", "left-out 0 45 "),
+    ("leaf a { type instance-identifier; }", "left-out 0 45"),
     (
         "leaf a { type leafref { path \"deref(../b)/../c\"; } }",
-        "left-out 0 60 ",
+        "left-out 0 60",
     ),
     (
         "leaf a { type leafref { path \"/a[b=deref (c)]\"; } }",
-        "left-out 0 60 ",
+        "left-out 0 60",
     ),
     (
         "leaf a { type leafref { path \"../deref/x-deref(c)\"; } }",
@@ -160,7 +127,7 @@ const BODIES: &[(&str, &str)] = &[
     ),
     (
         "leaf a { type bits { bit x { position 63; } bit y; } }",
-        "left-out 0 80 ",
+        "left-out 0 80",
     ),
     (
         "leaf a { type bits { bit x { position 62; } bit y; bit z { position 0; } } }",
@@ -168,29 +135,30 @@ const BODIES: &[(&str, &str)] = &[
     ),
     (
         "leaf a { type bits { bit x { position 64; } } }",
-        "left-out 0 65 ",
+        "left-out 0 65",
     ),
     (
         "leaf a { type bits { bit x { position 99999999999999999999; } } }",
-        "left-out 0 65 ",
+        "left-out 0 65",
     ),
     (
         "leaf a { type bits { bit x { position 01; } } }",
-        "bad-argument 0 65 ",
+        "bad-argument 0 65",
     ),
     // imports of the module itself, and of none
-    ("import m { prefix q; }", "import-cycle 0 36 "),
-    ("import q { prefix q; }", "no-module 0 36 "),
-    ("import q { prefix p; }", "bad-argument 0 36 "),
+    ("import m { prefix q; }", "import-cycle 0 36"),
+    ("import q { prefix q; }", "no-module 0 36"),
+    ("import q { prefix p; }", "bad-argument 0 36"),
 ];
 
 #[test]
 fn bodies(rt: HostRuntime) -> Result<(), Fail> {
     for (body, want) in BODIES {
-        let text = format!(in rt.alloc(); "module m {{ namespace \"u\"; prefix p; {body} }}")?;
-        let mut stmts = Vec::new(rt.alloc());
-        stmts.push(read(&rt, text.as_str())?)?;
-        assert_eq!(rt; verdict(&rt, stmts.as_slice())?.as_str(), *want, "{body}");
+        assert_eq!(rt;
+            verdict_of_body(rt.alloc(), body)?.as_str(),
+            *want,
+            "{body}"
+        );
     }
     Ok(())
 }
@@ -212,25 +180,22 @@ const B_TO_B: &str = "module b { namespace u; prefix b; import b { prefix c; } }
 const C: &str = "module c { namespace u; prefix c; }";
 
 const SETS: &[(&[&str], &str)] = &[
-    (&["container c;"], "unknown 0 0 "),
-    (&["p:module m;"], "unknown 0 0 "),
-    (&["notification n;"], "unknown 0 0 "),
-    (&["submodule s { foo; }"], "left-out 0 0 "),
+    (&["container c;"], "unknown-statement 0 0"),
+    (&["p:module m;"], "unknown-statement 0 0"),
+    (&["notification n;"], "unknown-statement 0 0"),
+    (&["submodule s { foo; }"], "left-out 0 0"),
     (&["module;"], "missing 0 0 namespace"),
     (&["module m { prefix p; }"], "missing 0 0 namespace"),
     (&["module m { namespace \"u\"; }"], "missing 0 0 prefix"),
-    (
-        &["module 1 { namespace u; prefix p; }"],
-        "bad-argument 0 0 ",
-    ),
+    (&["module 1 { namespace u; prefix p; }"], "bad-argument 0 0"),
     (&[B, A], "ok 2"),
-    (&[A], "no-module 0 34 "),
-    (&[A, B_TO_A], "import-cycle 0 34 "),
-    (&[A, B_TO_B], "import-cycle 1 34 "),
-    (&[C, A_AND_C, B_TO_A], "import-cycle 1 34 "),
-    (&[A, B, C, B], "double-node 3 0 "),
-    (&[A_TWICE, B, C], "bad-argument 0 57 "),
-    (&[A_TWICE, B], "bad-argument 0 57 "),
+    (&[A], "no-module 0 34"),
+    (&[A, B_TO_A], "import-cycle 0 34"),
+    (&[A, B_TO_B], "import-cycle 1 34"),
+    (&[C, A_AND_C, B_TO_A], "import-cycle 1 34"),
+    (&[A, B, C, B], "double-node 3 0"),
+    (&[A_TWICE, B, C], "bad-argument 0 57"),
+    (&[A_TWICE, B], "bad-argument 0 57"),
     (&[A, "module c;"], "missing 1 0 namespace"),
     (&[C, "module c;", "foo;"], "missing 1 0 namespace"),
 ];
@@ -238,49 +203,71 @@ const SETS: &[(&[&str], &str)] = &[
 #[test]
 fn sets(rt: HostRuntime) -> Result<(), Fail> {
     for (texts, want) in SETS {
-        let stmts = read_all(&rt, texts)?;
-        assert_eq!(rt;
-            verdict(&rt, stmts.as_slice())?.as_str(),
-            *want,
-            "{texts:?}"
-        );
+        assert_eq!(rt; verdict_of(rt.alloc(), texts)?.as_str(), *want, "{texts:?}");
     }
     Ok(())
+}
+
+fn add_numbered(alloc: Global, stmts: &mut Vec<Stmt>, number: u32) -> Result<(), Fail> {
+    let text = format!(in alloc; "module m{number} {{ namespace u; prefix p; }}")?;
+    add(alloc, stmts, text.as_str())
+}
+
+/// 64 modules of different names.
+fn full(alloc: Global) -> Result<Vec<Stmt>, Fail> {
+    let mut stmts = Vec::new(alloc);
+    for number in 0..64 {
+        add_numbered(alloc, &mut stmts, number)?;
+    }
+    Ok(stmts)
+}
+
+fn full_verdict(alloc: Global) -> Result<String, Fail> {
+    let stmts = full(alloc)?;
+    verdict(alloc, stmts.as_slice())
+}
+
+/// More than 64 modules, the last of which would be refused by itself.
+fn too_many(alloc: Global) -> Result<Vec<Stmt>, Fail> {
+    let mut stmts = full(alloc)?;
+    add(alloc, &mut stmts, "foo;")?;
+    Ok(stmts)
+}
+
+fn are_too_many_refused(alloc: Global) -> Result<bool, Fail> {
+    let stmts = too_many(alloc)?;
+    let found = check(alloc, stmts.as_slice()).err();
+    let wanted = BuildFault::TooMany {
+        what: What::Modules,
+    };
+    Ok(found == Some(wanted))
 }
 
 #[test]
 fn a_65th_module_is_one_too_many(rt: HostRuntime) -> Result<(), Fail> {
-    let mut stmts = Vec::new(rt.alloc());
-    for i in 0..64 {
-        let text = format!(in rt.alloc(); "module m{i} {{ namespace u; prefix p; }}")?;
-        stmts.push(read(&rt, text.as_str())?)?;
-    }
-    assert_eq!(rt; verdict(&rt, stmts.as_slice())?.as_str(), "ok 64");
-    stmts.push(read(&rt, "foo;")?)?;
-    let fault = check(rt.alloc(), stmts.as_slice()).err().ok_or("taken")?;
-    assert_eq!(rt;
-        fault,
-        BuildFault::TooMany {
-            what: What::Modules
-        }
-    );
+    assert_eq!(rt; full_verdict(rt.alloc())?.as_str(), "ok 64");
+    assert!(rt; are_too_many_refused(rt.alloc())?);
     Ok(())
 }
 
 /// The keyword of the statement at each place of the first module, each before its place.
-fn places(rt: &HostRuntime, modules: &Modules) -> Result<String, Fail> {
-    let mut out = String::new(rt.alloc());
+fn push_places(out: &mut String, modules: &Modules) -> Result<(), Fail> {
     for at in 0..100 {
         if let Some(stmt) = modules.stmt(0, at) {
-            let word = format!(in rt.alloc(); "{} {} ", stmt.keyword.as_str(), at)?;
-            out.push_str(word.as_str())?;
+            write!(out, "{} {} ", stmt.keyword.as_str(), at)?;
         }
     }
+    Ok(())
+}
+
+fn places(alloc: Global, modules: &Modules) -> Result<String, Fail> {
+    let mut out = String::new(alloc);
+    push_places(&mut out, modules)?;
     Ok(out)
 }
 
 /// The same statement with its substatements the other way round.
-fn turned(stmt: Stmt) -> Result<Stmt, Fail> {
+fn turned(stmt: Stmt) -> Stmt {
     let Stmt {
         keyword,
         arg,
@@ -289,31 +276,54 @@ fn turned(stmt: Stmt) -> Result<Stmt, Fail> {
     } = stmt;
     let mut subs = subs.into_items();
     subs.as_mut_slice().reverse();
-    Ok(Stmt {
+    Stmt {
         keyword,
         arg,
         at,
         subs: Seq::from_items(subs),
-    })
+    }
+}
+
+fn modules_of(alloc: Global, stmt: Stmt) -> Result<Modules, Fail> {
+    let stmts = vec![in alloc; stmt]?;
+    Ok(check(alloc, stmts.as_slice())?)
+}
+
+const NESTED: &str = "module m { namespace u; prefix p; container c { leaf a { type string; } } }";
+
+const PLACES: &str = "module 0 namespace 11 prefix 24 container 34 leaf 48 type 57 ";
+
+fn places_in_order(alloc: Global) -> Result<String, Fail> {
+    let modules = modules_of(alloc, read(alloc, NESTED)?)?;
+    places(alloc, &modules)
+}
+
+fn places_turned(alloc: Global) -> Result<String, Fail> {
+    let modules = modules_of(alloc, turned(read(alloc, NESTED)?))?;
+    places(alloc, &modules)
+}
+
+fn has_second_module(alloc: Global) -> Result<bool, Fail> {
+    let modules = modules_of(alloc, read(alloc, NESTED)?)?;
+    Ok(modules.stmt(1, 0).is_some())
+}
+
+/// What the prefixes b, a and c name in the second of three modules, and c in a fourth.
+fn imports(alloc: Global) -> Result<[Option<u32>; 4], Fail> {
+    let modules = checked(alloc, &[C, A, B])?;
+    Ok([
+        modules.imported(1, "b"),
+        modules.imported(1, "a"),
+        modules.imported(1, "c"),
+        modules.imported(3, "c"),
+    ])
 }
 
 #[test]
 fn look_ups(rt: HostRuntime) -> Result<(), Fail> {
-    let text = "module m { namespace u; prefix p; container c { leaf a { type string; } } }";
-    let want = "module 0 namespace 11 prefix 24 container 34 leaf 48 type 57 ";
-    let mut stmts = Vec::new(rt.alloc());
-    stmts.push(read(&rt, text)?)?;
-    let modules = check(rt.alloc(), stmts.as_slice())?;
-    assert_eq!(rt; places(&rt, &modules)?.as_str(), want);
-    assert_eq!(rt; modules.stmt(1, 0).is_none(), true);
-    let mut stmts = Vec::new(rt.alloc());
-    stmts.push(turned(read(&rt, text)?)?)?;
-    let modules = check(rt.alloc(), stmts.as_slice())?;
-    assert_eq!(rt; places(&rt, &modules)?.as_str(), want);
-    let modules = check(rt.alloc(), read_all(&rt, &[C, A, B])?.as_slice())?;
-    assert_eq!(rt; modules.imported(1, "b"), Some(2));
-    assert_eq!(rt; modules.imported(1, "a"), Some(1));
-    assert_eq!(rt; modules.imported(1, "c"), None);
-    assert_eq!(rt; modules.imported(3, "c"), None);
+    assert_eq!(rt; places_in_order(rt.alloc())?.as_str(), PLACES);
+    assert_eq!(rt; places_turned(rt.alloc())?.as_str(), PLACES);
+    assert!(rt; !has_second_module(rt.alloc())?);
+    assert_eq!(rt; imports(rt.alloc())?, [Some(2), Some(1), None, None]);
     Ok(())
 }

@@ -1,7 +1,8 @@
-ghost use Rattle.std.specs.Prelude.{◌<◌, length, IfOk};
+ghost use Rattle.std.specs.Prelude.{◌<◌, ◌≤◌, length};
 
-use super::*;
-use sal_types::{Duplicate, Seq, Str};
+use sal_restrict::{Part, Pattern, RangeFault, Ranges, YangType, read_ranges};
+use sal_types::{Duplicate, NoMemory, Seq, Str};
+use std::alloc::Global;
 use std::test::Fail;
 
 /// What a text gives: its parts, or why it gives none.
@@ -102,65 +103,116 @@ fn is_wanted(found: &Result<Ranges, RangeFault>, want: &Want) -> bool {
     }
 }
 
-fn numbers(rt: &HostRuntime) -> Result<Ranges, Fail>
-    ensures { IfOk result (λ ranges. 0 < length ranges) }
-{
-    let mut list = Vec::new(rt.alloc());
-    list.push(Part {
+/// -1000 to 1000 and 2000 to 3000.
+fn numbers(alloc: Global) -> Result<Ranges, NoMemory> {
+    let low = Part {
         low: -1000,
         high: 1000,
-    })?;
-    list.push(Part {
+    };
+    let high = Part {
         low: 2000,
         high: 3000,
-    })?;
-    Ok(Ranges::from_items(list))
+    };
+    Ok(Ranges::from_items(vec![in alloc; low, high]?))
+}
+
+fn is_read(alloc: Global, within: &Ranges, line: &(&str, u8, Want)) -> bool {
+    let (text, digits, want) = line;
+    if within.items().is_empty() || *digits > 18 {
+        return false;
+    }
+    let found = read_ranges(alloc, text, within, *digits);
+    is_wanted(&found, want)
 }
 
 #[test]
 fn texts_give_ranges(rt: HostRuntime) -> Result<(), Fail> {
-    let within = numbers(&rt)?;
-    for (text, digits, want) in TEXTS {
-        if *digits > 18 {
-            return Err("digits".into());
-        }
-        let found = read_ranges(rt.alloc(), text, &within, *digits);
-        if !is_wanted(&found, want) {
-            return Err((*text).into());
-        }
+    let within = numbers(rt.alloc())?;
+    for line in TEXTS {
+        assert!(rt; is_read(rt.alloc(), &within, line), "{:?}", line.0);
     }
     Ok(())
 }
 
-#[test]
-fn copies_and_names(rt: HostRuntime) -> Result<(), Fail> {
-    let within = numbers(&rt)?;
-    assert!(rt; within.holds(2000) && !within.holds(1001));
-    assert!(rt; within.copy()? == within);
-    let mut members = Vec::new(rt.alloc());
-    members.push(YangType::Bool)?;
-    members.push(YangType::Int {
+/// Whether ranges hold and leave out what they should, and are copied.
+fn are_copied(within: &Ranges) -> Result<bool, NoMemory> {
+    let second = within.copy()?;
+    Ok(within.holds(2000) && !within.holds(1001) && second == *within)
+}
+
+fn are_numbers_copied(alloc: Global) -> Result<bool, NoMemory> {
+    let within = numbers(alloc)?;
+    are_copied(&within)
+}
+
+fn whole(alloc: Global) -> Result<YangType, NoMemory> {
+    let range = numbers(alloc)?;
+    Ok(YangType::Int {
         bits: 16,
         signed: false,
-        range: within,
-    })?;
-    let mut patterns = Vec::new(rt.alloc());
-    patterns.push(Pattern {
-        text: Str::new(rt.alloc(), "[a-z]+")?,
-        inverted: true,
-    })?;
-    members.push(YangType::Text {
-        length: numbers(&rt)?,
-        patterns: Seq::from_items(patterns),
-    })?;
-    members.push(YangType::Leafref {
-        path: Str::new(rt.alloc(), "../a")?,
-    })?;
-    assert!(rt; members[1].builtin_name() == "uint16");
-    let union = YangType::Union {
+        range,
+    })
+}
+
+fn patterns(alloc: Global) -> Result<Seq<Pattern>, NoMemory> {
+    let text = Str::new(alloc, "[a-z]+")?;
+    let inverted = true;
+    Ok(Seq::from_items(vec![in alloc; Pattern { text, inverted }]?))
+}
+
+fn words(alloc: Global, patterns: Seq<Pattern>) -> Result<YangType, NoMemory> {
+    let length = numbers(alloc)?;
+    Ok(YangType::Text { length, patterns })
+}
+
+fn leafref(alloc: Global) -> Result<YangType, NoMemory> {
+    let path = Str::new(alloc, "../a")?;
+    Ok(YangType::Leafref { path })
+}
+
+fn member(alloc: Global, number: u32) -> Result<YangType, NoMemory> {
+    match number {
+        0 => Ok(YangType::Bool),
+        1 => whole(alloc),
+        2 => words(alloc, patterns(alloc)?),
+        _ => leafref(alloc),
+    }
+}
+
+fn add_member(alloc: Global, members: &mut Vec<YangType>, number: u32) -> Result<(), NoMemory> {
+    members.push(member(alloc, number)?)?;
+    Ok(())
+}
+
+fn union(alloc: Global) -> Result<YangType, NoMemory> {
+    let mut members = Vec::new(alloc);
+    for number in 0..4 {
+        add_member(alloc, &mut members, number)?;
+    }
+    Ok(YangType::Union {
         members: Seq::from_items(members),
-    };
-    assert!(rt; union.copy(rt.alloc())? == union);
-    assert!(rt; union.builtin_name() == "union");
+    })
+}
+
+fn is_type_copied(alloc: Global, ty: &YangType) -> Result<bool, NoMemory> {
+    let second = ty.copy(alloc)?;
+    Ok(second == *ty)
+}
+
+fn is_union_copied(alloc: Global) -> Result<bool, NoMemory> {
+    let ty = union(alloc)?;
+    is_type_copied(alloc, &ty)
+}
+
+fn name_of(ty: YangType) -> &'static str {
+    ty.builtin_name()
+}
+
+#[test]
+fn copies_and_names(rt: HostRuntime) -> Result<(), Fail> {
+    assert!(rt; are_numbers_copied(rt.alloc())?);
+    assert!(rt; is_union_copied(rt.alloc())?);
+    assert_eq!(rt; name_of(whole(rt.alloc())?), "uint16");
+    assert_eq!(rt; name_of(union(rt.alloc())?), "union");
     Ok(())
 }

@@ -1,41 +1,56 @@
-use super::*;
+ghost use Rattle.std.specs.Prelude.{◌<◌, ◌^◌, length};
+
+use crate::texts::SMALL;
+use sal_stmt::{Stmt, StmtFault, read_module};
+use std::alloc::Global;
+use std::fmt::Write;
 use std::test::Fail;
 
 /// A tree in one line: `keyword@place="argument"{statements}`.
-fn show(rt: &HostRuntime, out: &mut String, stmt: &Stmt) -> Result<(), Fail> {
-    let head = format!(in rt.alloc(); "{}@{}", stmt.keyword.as_str(), stmt.at)?;
-    out.push_str(head.as_str())?;
+fn show(out: &mut String, stmt: &Stmt) -> Result<(), Fail> {
+    write!(out, "{}@{}", stmt.keyword.as_str(), stmt.at)?;
     if let Some(text) = &stmt.arg {
-        let text = format!(in rt.alloc(); "={:?}", text.as_str())?;
-        out.push_str(text.as_str())?;
+        write!(out, "={:?}", text.as_str())?;
     }
     if stmt.subs.items().is_empty() {
         return Ok(());
     }
-    out.push('{')?;
-    for (i, sub) in stmt.subs.items().iter().enumerate() {
-        if i > 0 {
-            out.push(' ')?;
-        }
-        show(rt, out, sub)?;
+    let mut before = '{';
+    for sub in stmt.subs.items() {
+        out.push(before)?;
+        show(out, sub)?;
+        before = ' ';
     }
     out.push('}')?;
     Ok(())
 }
 
-fn shown(rt: &HostRuntime, text: &str) -> Result<String, Fail> {
-    if text.len() >= 4096 {
-        return Ok(String::from_str(rt.alloc(), "long")?);
+fn tree_text(alloc: Global, stmt: &Stmt) -> Result<String, Fail> {
+    let mut out = String::new(alloc);
+    show(&mut out, stmt)?;
+    Ok(out)
+}
+
+/// The tree of a second statement that equals this one.
+fn copy_text(alloc: Global, stmt: &Stmt) -> Result<String, Fail> {
+    let second = stmt.copy(alloc)?;
+    tree_text(alloc, &second)
+}
+
+fn read(alloc: Global, text: &str) -> Result<Stmt, StmtFault> {
+    if text.len() >= SMALL {
+        return Err(StmtFault::NoMemory);
     }
-    match read_module(rt.alloc(), text) {
-        Ok(stmt) => {
-            let mut out = String::new(rt.alloc());
-            let second = stmt.copy(rt.alloc())?;
-            show(rt, &mut out, &second)?;
-            Ok(out)
-        }
-        Err(fault) => Ok(format!(in rt.alloc(); "{fault:?}")?),
-    }
+    read_module(alloc, text)
+}
+
+fn shown(alloc: Global, text: &str) -> Result<String, Fail> {
+    let stmt = read(alloc, text)?;
+    copy_text(alloc, &stmt)
+}
+
+fn fault_of(alloc: Global, text: &str) -> Option<StmtFault> {
+    read(alloc, text).err()
 }
 
 const TREES: &[(&str, &str)] = &[
@@ -95,11 +110,12 @@ const TREES: &[(&str, &str)] = &[
 #[test]
 fn trees(rt: HostRuntime) -> Result<(), Fail> {
     for (text, want) in TREES {
-        assert_eq!(rt; shown(&rt, text)?.as_str(), *want, "{text:?}");
+        assert_eq!(rt; shown(rt.alloc(), text)?.as_str(), *want, "{text:?}");
     }
     Ok(())
 }
 
+/// Texts, and the place of their bad token.
 const BAD_TOKENS: &[(&str, u32)] = &[
     ("", 0),
     (" \r\n\t", 0),
@@ -135,6 +151,7 @@ const BAD_TOKENS: &[(&str, u32)] = &[
     ("a; */", 3),
 ];
 
+/// Texts, and the place of what they leave open.
 const UNCLOSED: &[(&str, u32)] = &[
     (" a", 1),
     ("a b", 0),
@@ -155,63 +172,93 @@ const UNCLOSED: &[(&str, u32)] = &[
     ("a; /*", 3),
 ];
 
-const OTHERS: &[(&str, &str)] = &[
-    ("a \"\\d\";", "BadEscape { at: 3 }"),
-    ("a \"b\\\n\";", "BadEscape { at: 4 }"),
-    ("a \"\\ \" \u{1}", "BadEscape { at: 3 }"),
-    ("a \"b\" + \"\\r\";", "BadEscape { at: 9 }"),
-    ("a; b;", "TextAfter { at: 3 }"),
-    ("a;;", "TextAfter { at: 2 }"),
-    ("a{}}", "TextAfter { at: 3 }"),
-    ("a; \"", "TextAfter { at: 3 }"),
-    ("a;/b", "TextAfter { at: 2 }"),
+const OTHERS: &[(&str, StmtFault)] = &[
+    ("a \"\\d\";", StmtFault::BadEscape { at: 3 }),
+    ("a \"b\\\n\";", StmtFault::BadEscape { at: 4 }),
+    ("a \"\\ \" \u{1}", StmtFault::BadEscape { at: 3 }),
+    ("a \"b\" + \"\\r\";", StmtFault::BadEscape { at: 9 }),
+    ("a; b;", StmtFault::TextAfter { at: 3 }),
+    ("a;;", StmtFault::TextAfter { at: 2 }),
+    ("a{}}", StmtFault::TextAfter { at: 3 }),
+    ("a; \"", StmtFault::TextAfter { at: 3 }),
+    ("a;/b", StmtFault::TextAfter { at: 2 }),
 ];
 
 #[test]
-fn faults(rt: HostRuntime) -> Result<(), Fail> {
+fn faults(rt: HostRuntime) {
     for (text, at) in BAD_TOKENS {
-        let want = format!(in rt.alloc(); "BadToken {{ at: {at} }}")?;
-        assert_eq!(rt; shown(&rt, text)?.as_str(), want.as_str(), "{text:?}");
+        assert_eq!(rt;
+            fault_of(rt.alloc(), text),
+            Some(StmtFault::BadToken { at: *at }),
+            "{text:?}"
+        );
     }
     for (text, at) in UNCLOSED {
-        let want = format!(in rt.alloc(); "Unclosed {{ at: {at} }}")?;
-        assert_eq!(rt; shown(&rt, text)?.as_str(), want.as_str(), "{text:?}");
+        assert_eq!(rt;
+            fault_of(rt.alloc(), text),
+            Some(StmtFault::Unclosed { at: *at }),
+            "{text:?}"
+        );
     }
-    for (text, want) in OTHERS {
-        assert_eq!(rt; shown(&rt, text)?.as_str(), *want, "{text:?}");
+    for (text, fault) in OTHERS {
+        assert_eq!(rt; fault_of(rt.alloc(), text), Some(*fault), "{text:?}");
+    }
+}
+
+/// `a{` so many times, and as many `}`.
+fn blocks(alloc: Global, count: usize) -> Result<String, Fail> {
+    let mut text = String::new(alloc);
+    push_times(&mut text, "a{", count)?;
+    push_times(&mut text, "}", count)?;
+    Ok(text)
+}
+
+fn push_times(text: &mut String, part: &str, count: usize) -> Result<(), Fail> {
+    for _i in 0..count {
+        text.push_str(part)?;
     }
     Ok(())
 }
 
-/// `a{` so many times, and as many `}`.
-fn blocks(rt: &HostRuntime, count: u32) -> Result<String, Fail> {
-    let mut text = String::new(rt.alloc());
-    for _ in 0..count {
-        text.push_str("a{")?;
+fn blocks_shown(alloc: Global, count: usize) -> Result<String, Fail> {
+    let text = blocks(alloc, count)?;
+    shown(alloc, text.as_str())
+}
+
+fn are_64_taken(alloc: Global) -> Result<bool, Fail> {
+    let text = blocks_shown(alloc, 64)?;
+    Ok(text.as_str().starts_with("a@0{a@2{a@4{") && text.as_str().contains("{a@126}"))
+}
+
+fn blocks_fault(alloc: Global, count: usize) -> Result<Option<StmtFault>, Fail> {
+    let text = blocks(alloc, count)?;
+    Ok(fault_of(alloc, text.as_str()))
+}
+
+/// The statement or the block that a prefix of a module leaves open.
+fn open_at(length: usize) -> u32 {
+    match length {
+        1..=9 => 0,
+        12..=19 => 11,
+        _ => 9,
     }
-    for _ in 0..count {
-        text.push('}')?;
-    }
-    Ok(text)
 }
 
 // Blocks may be open 64 deep. Each proper prefix of a module is unclosed, where its innermost open part begins.
 #[test]
 fn blocks_and_prefixes(rt: HostRuntime) -> Result<(), Fail> {
-    let deep = shown(&rt, blocks(&rt, 64)?.as_str())?;
-    assert_eq!(rt; deep.as_str().starts_with("a@0{a@2{a@4{"), true);
-    assert_eq!(rt; deep.as_str().contains("{a@126}"), true);
-    let deeper = shown(&rt, blocks(&rt, 65)?.as_str())?;
-    assert_eq!(rt; deeper.as_str(), "TooDeep { at: 129 }");
+    assert!(rt; are_64_taken(rt.alloc())?);
+    assert_eq!(rt;
+        blocks_fault(rt.alloc(), 65)?,
+        Some(StmtFault::TooDeep { at: 129 })
+    );
     let module = "module m { prefix p; }";
-    for len in 1..module.len() {
-        let want = match len {
-            1..=9 => "Unclosed { at: 0 }",
-            12..=19 => "Unclosed { at: 11 }",
-            _ => "Unclosed { at: 9 }",
+    for length in 1..module.len() {
+        let text = module.get(..length).ok_or("boundary")?;
+        let want = StmtFault::Unclosed {
+            at: open_at(length),
         };
-        let text = module.get(..len).ok_or("boundary")?;
-        assert_eq!(rt; shown(&rt, text)?.as_str(), want, "{text:?}");
+        assert_eq!(rt; fault_of(rt.alloc(), text), Some(want), "{text:?}");
     }
     Ok(())
 }

@@ -1,126 +1,110 @@
-use super::*;
-use sal_module::{BuildFault, Keyword, Modules, argument_of, check, first_named, is_named};
-use sal_restrict::{Part, Ranges, YangType};
-use sal_stmt::{Stmt, read_module};
-use sal_types::Str;
+use crate::texts::{checked, name_and_place};
+use sal_module::{BuildFault, Keyword, Modules, argument_of, first_named, is_named};
+use sal_restrict::{Part, YangType};
+use sal_stmt::Stmt;
+use sal_typedefs::{
+    Block, TypeSite, Typedefs, count_up, is_malformed, judge_at, leafrefs_at, name_fault_at,
+    path_names, resolve,
+};
+use sal_types::{NoMemory, Str};
+use std::alloc::Global;
+use std::fmt::Write;
 use std::test::Fail;
-
-const SMALL: usize = 65_536;
 
 /// The second module, which the first one imports as `n`.
 const LIBRARY: &str = "module n { namespace v; prefix q; identity x; identity y;
     typedef port { type uint16 { range 1..4096; } }
     container c { typedef inner { type string; } } }";
 
-fn read_all(rt: &HostRuntime, texts: &[&str]) -> Result<Vec<Stmt>, Fail> {
-    let mut stmts = Vec::new(rt.alloc());
-    for text in texts {
-        if text.len() >= SMALL {
-            return Err("long".into());
-        }
-        stmts.push(read_module(rt.alloc(), text)?)?;
-    }
-    Ok(stmts)
+/// A module with these statements.
+fn importing(alloc: Global, body: &str) -> Result<String, Fail> {
+    Ok(format!(in alloc; "module m {{ namespace u; prefix p; import n {{ prefix n; }} {body} }}")?)
 }
 
-/// A module with these statements, and the one that it imports.
-fn modules_with(rt: &HostRuntime, body: &str) -> Result<Modules, Fail> {
-    let text = format!(in rt.alloc();
-        "module m {{ namespace u; prefix p; import n {{ prefix n; }} {body} }}"
-    )?;
-    let stmts = read_all(rt, &[text.as_str(), LIBRARY])?;
-    Ok(check(rt.alloc(), stmts.as_slice())?)
+/// That module, and the one that it imports.
+fn modules_with(alloc: Global, body: &str) -> Result<Modules, Fail> {
+    let text = importing(alloc, body)?;
+    checked(alloc, &[text.as_str(), LIBRARY])
 }
 
 // ---- types in words
 
-fn push_parts(text: &mut String, rt: &HostRuntime, parts: &[Part]) -> Result<(), Fail> {
+fn push_parts(text: &mut String, parts: &[Part]) -> Result<(), Fail> {
     for part in parts {
-        let (low, high) = (part.low, part.high);
-        text.push_str(format!(in rt.alloc(); " {low}..{high}")?.as_str())?;
+        write!(text, " {}..{}", part.low, part.high)?;
     }
     Ok(())
 }
 
 fn push_names(text: &mut String, names: &[Str]) -> Result<(), Fail> {
     for name in names {
-        text.push_str(" ")?;
-        text.push_str(name.as_str())?;
+        write!(text, " {}", name.as_str())?;
     }
     Ok(())
 }
 
-fn push_places(text: &mut String, rt: &HostRuntime, places: &[u32]) -> Result<(), Fail> {
+fn push_places(text: &mut String, places: &[u32]) -> Result<(), Fail> {
     for place in places {
-        text.push_str(format!(in rt.alloc(); " {place}")?.as_str())?;
+        write!(text, " {place}")?;
     }
     Ok(())
 }
 
-fn push_positions(text: &mut String, rt: &HostRuntime, positions: &[u8]) -> Result<(), Fail> {
+fn push_positions(text: &mut String, positions: &[u8]) -> Result<(), Fail> {
     for position in positions {
-        text.push_str(format!(in rt.alloc(); " {position}")?.as_str())?;
+        write!(text, " {position}")?;
     }
     Ok(())
 }
 
 fn push_members(text: &mut String, members: &[YangType]) -> Result<(), Fail> {
     for member in members {
-        text.push_str(" ")?;
-        text.push_str(member.builtin_name())?;
+        write!(text, " {}", member.builtin_name())?;
     }
     Ok(())
 }
 
-/// The name of a type, and what it holds.
-fn type_in_words(rt: &HostRuntime, ty: &YangType) -> Result<String, Fail> {
-    let mut text = String::from_str(rt.alloc(), ty.builtin_name())?;
+/// What a type holds.
+fn push_held(text: &mut String, ty: &YangType) -> Result<(), Fail> {
     match ty {
-        YangType::Int { range, .. } | YangType::Dec { range, .. } => {
-            push_parts(&mut text, rt, range.items())?;
-        }
-        YangType::Text { length, .. } | YangType::Bin { length } => {
-            push_parts(&mut text, rt, length.items())?;
-        }
+        YangType::Int { range, .. } | YangType::Dec { range, .. } => push_parts(
+            text,
+            range.items(),
+        ),
+        YangType::Text { length, .. } | YangType::Bin { length } => push_parts(
+            text,
+            length.items(),
+        ),
         YangType::Enum { names, places } => {
-            push_names(&mut text, names.items())?;
-            push_places(&mut text, rt, places.items())?;
+            push_names(text, names.items())?;
+            push_places(text, places.items())
         }
         YangType::Bits { names, positions } => {
-            push_names(&mut text, names.items())?;
-            push_positions(&mut text, rt, positions.items())?;
+            push_names(text, names.items())?;
+            push_positions(text, positions.items())
         }
-        YangType::Ident { bases } => push_places(&mut text, rt, bases.items())?,
-        YangType::Union { members } => push_members(&mut text, members.items())?,
-        YangType::Leafref { path } => {
-            text.push_str(" ")?;
-            text.push_str(path.as_str())?;
-        }
-        YangType::Bool | YangType::Empty => {}
+        YangType::Ident { bases } => push_places(text, bases.items()),
+        YangType::Union { members } => push_members(text, members.items()),
+        YangType::Leafref { path } => Ok(write!(text, " {}", path.as_str())?),
+        YangType::Bool | YangType::Empty => Ok(()),
     }
+}
+
+/// The name of a type, and what it holds.
+fn type_in_words(alloc: Global, ty: &YangType) -> Result<String, Fail> {
+    let mut text = String::from_str(alloc, ty.builtin_name())?;
+    push_held(&mut text, ty)?;
     Ok(text)
 }
 
-// ---- faults in words
-
-fn name_and_place(fault: &BuildFault) -> (&'static str, u32, u32) {
-    match fault {
-        BuildFault::UnknownName { module, at } => ("unknown", *module, *at),
-        BuildFault::NameCycle { module, at } => ("circle", *module, *at),
-        BuildFault::BadRestriction { module, at } => ("restriction", *module, *at),
-        BuildFault::BadPattern { module, at } => ("pattern", *module, *at),
-        _ => ("other", 0, 0),
-    }
-}
-
 /// The name of a fault, and the statement at which it stands.
-fn fault_in_words(rt: &HostRuntime, modules: &Modules, fault: &BuildFault) -> Result<String, Fail> {
+fn fault_in_words(alloc: Global, modules: &Modules, fault: &BuildFault) -> Result<String, Fail> {
     let (name, module, at) = name_and_place(fault);
     match modules.stmt(module, at) {
-        None => Ok(format!(in rt.alloc(); "{name} nowhere")?),
+        None => Ok(format!(in alloc; "{name} nowhere")?),
         Some(stmt) => {
             let (keyword, arg) = (stmt.keyword.as_str(), argument_of(stmt));
-            Ok(format!(in rt.alloc(); "{name} {keyword} {arg}")?)
+            Ok(format!(in alloc; "{name} {keyword} {arg}")?)
         }
     }
 }
@@ -143,20 +127,22 @@ fn last_type(module: &Stmt) -> Option<u32> {
     None
 }
 
-fn meaning_of(rt: &HostRuntime, body: &str) -> Result<String, Fail> {
-    let modules = modules_with(rt, body)?;
-    let at = match modules.items().first() {
-        Some(module) => last_type(module),
-        None => None,
-    };
-    let at = match at {
-        Some(at) => at,
-        None => return Err("no type".into()),
-    };
-    match resolve(rt.alloc(), &modules, &TypeSite { module: 0, at }) {
-        Ok(ty) => type_in_words(rt, &ty),
-        Err(fault) => fault_in_words(rt, &modules, &fault),
+fn meaning_at(alloc: Global, modules: &Modules, site: &TypeSite) -> Result<String, Fail> {
+    match resolve(alloc, modules, site) {
+        Ok(ty) => type_in_words(alloc, &ty),
+        Err(fault) => fault_in_words(alloc, modules, &fault),
     }
+}
+
+fn meaning_in(alloc: Global, modules: &Modules) -> Result<String, Fail> {
+    let module = modules.items().first().ok_or("no module")?;
+    let at = last_type(module).ok_or("no type")?;
+    meaning_at(alloc, modules, &TypeSite { module: 0, at })
+}
+
+fn meaning_of(alloc: Global, body: &str) -> Result<String, Fail> {
+    let modules = modules_with(alloc, body)?;
+    meaning_in(alloc, &modules)
 }
 
 /// Statements, and what the type of the last leaf means.
@@ -166,30 +152,36 @@ const TYPES: &[(&str, &str)] = &[
     ("leaf a { type uint8 { range 1..4; } }", "uint8 1..4"),
     (
         "leaf a { type uint8 { range 1..256; } }",
-        "restriction range 1..256",
+        "bad-restriction range 1..256",
     ),
     (
         "leaf a { type int8 { range -129..0; } }",
-        "restriction range -129..0",
+        "bad-restriction range -129..0",
     ),
     (
         "leaf a { type string { length \"1..4 | 8\"; } }",
         "string 1..4 8..8",
     ),
-    ("leaf a { type string { range 1; } }", "restriction range 1"),
+    (
+        "leaf a { type string { range 1; } }",
+        "bad-restriction range 1",
+    ),
     (
         "leaf a { type binary { length 4..1; } }",
-        "restriction length 4..1",
+        "bad-restriction length 4..1",
     ),
     (
         "leaf a { type string { pattern \"(\"; } }",
-        "pattern pattern (",
+        "bad-pattern pattern (",
     ),
-    ("leaf a { type union; }", "restriction type union"),
-    ("leaf a { type decimal64; }", "restriction type decimal64"),
+    ("leaf a { type union; }", "bad-restriction type union"),
+    (
+        "leaf a { type decimal64; }",
+        "bad-restriction type decimal64",
+    ),
     (
         "leaf a { type decimal64 { fraction-digits 19; } }",
-        "restriction fraction-digits 19",
+        "bad-restriction fraction-digits 19",
     ),
     (
         "typedef d { type decimal64 { fraction-digits 2; range 1..10; } } leaf a { type d { range 2.5..max; } }",
@@ -197,7 +189,7 @@ const TYPES: &[(&str, &str)] = &[
     ),
     (
         "leaf a { type empty { base n:x; } }",
-        "restriction base n:x",
+        "bad-restriction base n:x",
     ),
     // a number that is not given is one more than the highest so far
     (
@@ -206,7 +198,7 @@ const TYPES: &[(&str, &str)] = &[
     ),
     (
         "leaf a { type enumeration { enum v { value 3; } enum w; enum x { value 4; } } }",
-        "restriction enum x",
+        "bad-restriction enum x",
     ),
     (
         "leaf a { type enumeration { enum v { value 3; } enum w { value 1; } enum x; enum y { value 2; } } }",
@@ -214,7 +206,7 @@ const TYPES: &[(&str, &str)] = &[
     ),
     (
         "leaf a { type enumeration { enum v { value 2147483647; } enum w; } }",
-        "restriction enum w",
+        "bad-restriction enum w",
     ),
     (
         "leaf a { type bits { bit v; bit w { position 5; } bit x; bit y { position 2; } bit z; } }",
@@ -227,15 +219,15 @@ const TYPES: &[(&str, &str)] = &[
     ),
     (
         "typedef t { type enumeration { enum x; enum y; enum z; } } leaf a { type t { enum w; } }",
-        "restriction enum w",
+        "bad-restriction enum w",
     ),
     (
         "typedef t { type enumeration { enum x; enum y; } } leaf a { type t { enum y { value 0; } } }",
-        "restriction enum y",
+        "bad-restriction enum y",
     ),
     (
         "typedef t { type bits { bit x; bit y; bit z; } } typedef s { type t { bit y; bit z; } } leaf a { type s { bit x; } }",
-        "restriction bit x",
+        "bad-restriction bit x",
     ),
     // chains of typedefs
     ("leaf a { type n:port; }", "uint16 1..4096"),
@@ -245,7 +237,7 @@ const TYPES: &[(&str, &str)] = &[
     ),
     (
         "typedef s { type n:port { range 'min..100 | 200..max'; } } leaf a { type s { range 150; } }",
-        "restriction range 150",
+        "bad-restriction range 150",
     ),
     (
         "typedef t { type int8; } container c { typedef t { type boolean; } leaf a { type t; } }",
@@ -256,20 +248,20 @@ const TYPES: &[(&str, &str)] = &[
         "union boolean int8 empty string",
     ),
     // names
-    ("leaf a { type t; }", "unknown type t"),
-    ("leaf a { type n:inner; }", "unknown type n:inner"),
-    ("leaf a { type q:port; }", "unknown type q:port"),
+    ("leaf a { type t; }", "unknown-name type t"),
+    ("leaf a { type n:inner; }", "unknown-name type n:inner"),
+    ("leaf a { type q:port; }", "unknown-name type q:port"),
     (
         "typedef s { type int8 { range 300; } } leaf a { type union { type s; type none; } }",
-        "unknown type none",
+        "unknown-name type none",
     ),
     (
         "typedef s { type t; } typedef t { type s; } leaf a { type t; }",
-        "circle type t",
+        "name-cycle type t",
     ),
     (
         "typedef t { type union { type int8; type t; } } leaf a { type t; }",
-        "circle type t",
+        "name-cycle type t",
     ),
     (
         "identity x; leaf a { type identityref { base x; base n:y; } }",
@@ -277,11 +269,11 @@ const TYPES: &[(&str, &str)] = &[
     ),
     (
         "identity x; leaf a { type identityref { base x; base y; } }",
-        "unknown base y",
+        "unknown-name base y",
     ),
     (
         "typedef i { type identityref { base n:x; } } leaf a { type i { base n:x; } }",
-        "restriction base n:x",
+        "bad-restriction base n:x",
     ),
     (
         "leaf a { type leafref { path \"../../p:b[n:k = current()/../k]/c\"; } }",
@@ -289,50 +281,130 @@ const TYPES: &[(&str, &str)] = &[
     ),
     (
         "typedef l { type leafref { path /q:b; } } leaf a { type l; }",
-        "unknown type leafref",
+        "unknown-name type leafref",
     ),
 ];
 
 #[test]
 fn types_mean_what_they_say(rt: HostRuntime) -> Result<(), Fail> {
     for (body, wanted) in TYPES {
-        let found = meaning_of(&rt, body)?;
-        assert!(rt; found.as_str() == *wanted, "{body}");
+        assert_eq!(rt; meaning_of(rt.alloc(), body)?.as_str(), *wanted, "{body}");
     }
     Ok(())
 }
 
 // ---- one who owns the look-ups
 
-/// What is found in one leaf after another: faults of restrictions, faults of names, and leafrefs.
-fn counts_of(rt: &HostRuntime, module: &Stmt, typedefs: &Typedefs) -> Result<[usize; 3], Fail> {
-    let alloc = rt.alloc();
-    let mut around = vec![in alloc; Block::new(alloc, module)?]?;
-    let (mut bad, mut unknown, mut leafrefs) = (0_usize, 0_usize, 0_usize);
-    for leaf in module.subs.items() {
-        around.push(Block::new(alloc, leaf)?)?;
-        for stmt in leaf.subs.items() {
-            if is_named(Keyword::Type, stmt) {
-                let (fault, _) = judge_at(alloc, typedefs, 0, around.as_slice(), stmt)?;
-                bad = bad.saturating_add(usize::from(fault.is_some()));
-                let fault = name_fault_at(alloc, typedefs, 0, around.as_slice(), stmt)?;
-                unknown = unknown.saturating_add(usize::from(fault.is_some()));
-                let found = leafrefs_at(alloc, typedefs, 0, around.as_slice(), stmt)?;
-                leafrefs = leafrefs.saturating_add(found.len());
-            }
-        }
-        around.pop();
-    }
-    Ok([bad, unknown, leafrefs])
+fn is_bad<'x, 'a>(
+    alloc: Global,
+    typedefs: &'x Typedefs<'a>,
+    around: &'x [Block<'a>],
+    stmt: &'a Stmt,
+) -> Result<bool, NoMemory> {
+    let (fault, _ty) = judge_at(alloc, typedefs, 0, around, stmt)?;
+    Ok(fault.is_some())
 }
 
-fn counts_in(rt: &HostRuntime, body: &str) -> Result<[usize; 3], Fail> {
-    let modules = modules_with(rt, body)?;
-    let typedefs = Typedefs::new(rt.alloc(), &modules)?;
-    match modules.items().first() {
-        Some(module) => counts_of(rt, module, &typedefs),
-        None => Err("no module".into()),
+fn leafref_count<'x, 'a>(
+    alloc: Global,
+    typedefs: &'x Typedefs<'a>,
+    around: &'x [Block<'a>],
+    stmt: &'a Stmt,
+) -> Result<usize, NoMemory> {
+    let found = leafrefs_at(alloc, typedefs, 0, around, stmt)?;
+    Ok(found.len())
+}
+
+/// Faults of restrictions, faults of names, and leafrefs of one statement.
+fn counts_at<'x, 'a>(
+    alloc: Global,
+    typedefs: &'x Typedefs<'a>,
+    around: &'x [Block<'a>],
+    stmt: &'a Stmt,
+) -> Result<[usize; 3], NoMemory> {
+    let bad = is_bad(alloc, typedefs, around, stmt)?;
+    let unknown = name_fault_at(alloc, typedefs, 0, around, stmt)?.is_some();
+    let leafrefs = leafref_count(alloc, typedefs, around, stmt)?;
+    Ok([usize::from(bad), usize::from(unknown), leafrefs])
+}
+
+fn sums(a: [usize; 3], b: [usize; 3]) -> [usize; 3] {
+    [
+        a[0].saturating_add(b[0]),
+        a[1].saturating_add(b[1]),
+        a[2].saturating_add(b[2]),
+    ]
+}
+
+/// The counts of the type statements of a leaf, whose own block is the last around them.
+fn counts_below<'x, 'a>(
+    alloc: Global,
+    typedefs: &'x Typedefs<'a>,
+    around: &'x [Block<'a>],
+    leaf: &'a Stmt,
+) -> Result<[usize; 3], NoMemory> {
+    let mut counts = [0, 0, 0];
+    for stmt in leaf.subs.items() {
+        if is_named(Keyword::Type, stmt) {
+            counts = sums(counts, counts_at(alloc, typedefs, around, stmt)?);
+        }
     }
+    Ok(counts)
+}
+
+fn open_block<'a>(
+    alloc: Global,
+    around: &mut Vec<Block<'a>>,
+    stmt: &'a Stmt,
+) -> Result<(), NoMemory> {
+    around.push(Block::new(alloc, stmt)?)?;
+    Ok(())
+}
+
+fn counts_of<'x, 'a>(
+    alloc: Global,
+    typedefs: &'x Typedefs<'a>,
+    module: &'a Stmt,
+    leaf: &'a Stmt,
+) -> Result<[usize; 3], NoMemory> {
+    let around = both_blocks(alloc, module, leaf)?;
+    counts_below(alloc, typedefs, around.as_slice(), leaf)
+}
+
+fn both_blocks<'a>(
+    alloc: Global,
+    module: &'a Stmt,
+    leaf: &'a Stmt,
+) -> Result<Vec<Block<'a>>, NoMemory> {
+    let mut around = Vec::new(alloc);
+    for stmt in [module, leaf] {
+        open_block(alloc, &mut around, stmt)?;
+    }
+    Ok(around)
+}
+
+/// The counts over one leaf after another.
+fn counts_over<'x, 'a>(
+    alloc: Global,
+    typedefs: &'x Typedefs<'a>,
+    module: &'a Stmt,
+) -> Result<[usize; 3], NoMemory> {
+    let mut counts = [0, 0, 0];
+    for leaf in module.subs.items() {
+        counts = sums(counts, counts_of(alloc, typedefs, module, leaf)?);
+    }
+    Ok(counts)
+}
+
+fn counts_within(alloc: Global, modules: &Modules) -> Result<[usize; 3], Fail> {
+    let module = modules.items().first().ok_or("no module")?;
+    let typedefs = Typedefs::new(alloc, modules)?;
+    Ok(counts_over(alloc, &typedefs, module)?)
+}
+
+fn counts_in(alloc: Global, body: &str) -> Result<[usize; 3], Fail> {
+    let modules = modules_with(alloc, body)?;
+    counts_within(alloc, &modules)
 }
 
 const LEAFS: &str = "typedef l { type union { type int8; type leafref { path ../a; } } }
@@ -342,7 +414,7 @@ const LEAFS: &str = "typedef l { type union { type int8; type leafref { path ../
 
 #[test]
 fn one_block_is_open_after_another(rt: HostRuntime) -> Result<(), Fail> {
-    assert_eq!(rt; counts_in(&rt, LEAFS)?, [1, 1, 3]);
+    assert_eq!(rt; counts_in(rt.alloc(), LEAFS)?, [1, 1, 3]);
     Ok(())
 }
 
@@ -364,17 +436,15 @@ const PATHS: &[(&str, usize, &str)] = &[
     ("/1", 0, ""),
 ];
 
-#[test]
-fn paths_have_names(rt: HostRuntime) -> Result<(), Fail> {
-    for (path, up, wanted) in PATHS {
-        let mut names = String::new(rt.alloc());
-        push_names(&mut names, path_names(rt.alloc(), path)?.as_slice())?;
-        assert!(rt;
-            names.as_str() == *wanted && count_up(path) == *up,
-            "{path}"
-        );
-    }
-    Ok(())
+fn names_in_words(alloc: Global, names: &[Str]) -> Result<String, Fail> {
+    let mut text = String::new(alloc);
+    push_names(&mut text, names)?;
+    Ok(text)
+}
+
+fn names_of(alloc: Global, path: &str) -> Result<String, Fail> {
+    let names = path_names(alloc, path)?;
+    names_in_words(alloc, names.as_slice())
 }
 
 /// A pattern, and whether it is malformed.
@@ -392,9 +462,13 @@ const PATTERNS: &[(&str, bool)] = &[
 ];
 
 #[test]
-fn patterns_are_of_the_grammar(rt: HostRuntime) -> Result<(), Fail> {
+fn paths_and_patterns(rt: HostRuntime) -> Result<(), Fail> {
+    for (path, up, wanted) in PATHS {
+        assert_eq!(rt; count_up(path), *up, "{path}");
+        assert_eq!(rt; names_of(rt.alloc(), path)?.as_str(), *wanted, "{path}");
+    }
     for (text, bad) in PATTERNS {
-        assert!(rt; is_malformed(rt.alloc(), text)? == *bad, "{text}");
+        assert_eq!(rt; is_malformed(rt.alloc(), text)?, *bad, "{text}");
     }
     Ok(())
 }

@@ -1,0 +1,23 @@
+//! Tests of the libraries that lead from YANG texts to schemas: of what no clause of theirs says, and of worked examples.
+#![tactic(auto)]
+
+#[cfg(test)]
+mod build;
+#[cfg(test)]
+mod grouping;
+#[cfg(test)]
+mod io;
+#[cfg(test)]
+mod module;
+#[cfg(test)]
+mod restrict;
+#[cfg(test)]
+mod stmt;
+#[cfg(test)]
+mod table;
+#[cfg(test)]
+mod texts;
+#[cfg(test)]
+mod typedefs;
+#[cfg(test)]
+mod types;

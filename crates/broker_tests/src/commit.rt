@@ -1,0 +1,178 @@
+ghost use Rattle.std.specs.Prelude.{◌≡◌, ◌∷◌, [], IfOk, IsTrue};
+ghost use Rattle.sal_types.specs.Tree.{under};
+ghost use Rattle.sal_rows.specs.Apply.{rows_of_act};
+ghost use Rattle.sal_graft.specs.Kept.{AreKept};
+
+use crate::schemas::schema_of;
+use crate::texts::{path_of, rows_of};
+use sal_commit::{Domain, decide};
+use sal_history::{Device, Opening};
+use sal_mod::Mod;
+use sal_rows::{Act, ClashKind, Op, Outcome, Rows, Rule};
+use sal_tree::{Pair, lie_under};
+use sal_tx::Submission;
+use sal_types::{Duplicate, NoMemory, Path, Store};
+use std::alloc::Global;
+use std::sync::Arc;
+use std::test::Fail;
+
+// Two presence containers, 0 and 1, and the choice 2, which the second one demands.
+const MODULE: &str = "module tried {
+  namespace 'urn:tried';
+  prefix t;
+  container a { presence 'it is there'; }
+  container s {
+    config false;
+    presence 'it is there';
+    choice c { mandatory true; }
+  }
+}";
+
+fn device(alloc: Global) -> Result<Device, Fail> {
+    let schema = Arc::new(alloc, schema_of(alloc, MODULE)?)?;
+    let opening = Opening {
+        config: Rows::new(alloc),
+        oper: Rows::new(alloc),
+    };
+    Ok(Device { schema, opening })
+}
+
+// ---- submissions of one put
+
+fn put(alloc: Global, store: Store, text: &str) -> Result<Op, Fail> {
+    let act = Act::Put(rows_of(alloc, text)?);
+    let path = path_of(alloc, text)?;
+    Ok(Op { store, path, act })
+}
+
+fn lies_below(op: &Op) -> bool
+    ensures { IsTrue result → under (rows_of_act op.now.act) op.now.path ≡ rows_of_act op.now.act }
+{
+    match &op.act {
+        Act::Put(rows) => lie_under(rows, &op.path),
+        _ => false,
+    }
+}
+
+fn changed(alloc: Global, op: Op) -> Result<Mod, NoMemory>
+    ensures { IfOk result (λ changes. changes ≡ op ∷ []) }
+{
+    let mut changes = Mod::new(alloc);
+    match changes.add(alloc, op) {
+        Ok(()) => Ok(changes),
+        Err(_) => Err(NoMemory),
+    }
+}
+
+fn copies(trees: &Pair) -> Result<(Pair, Pair), NoMemory> {
+    let base = trees.copy()?;
+    let view = trees.copy()?;
+    Ok((base, view))
+}
+
+fn submission(base_commit: u64, base: Pair, view: Pair, changes: Mod) -> Submission
+    ensures commit { result.base_commit ≡ base_commit }
+    ensures changes { result.changes ≡ changes }
+{
+    Submission {
+        receipt: 5,
+        domain: 0,
+        chain: None,
+        base_commit,
+        base,
+        view,
+        changes,
+    }
+}
+
+// The outcome of an operation on the trees of a commit.
+fn decided(domain: &mut Domain, alloc: Global, base_commit: u64, op: Op) -> Result<Outcome, Fail>
+    requires { AreKept domain.old.commits.items }
+    ensures { IfOk result (λ o. AreKept domain.new.commits.items) }
+{
+    if base_commit >= domain.commits.len() as u64 || !lies_below(&op) {
+        return Err("no operation on a commit".into());
+    }
+    let changes = changed(alloc, op)?;
+    let (base, view) = copies(&domain.commits[base_commit as usize].trees)?;
+    let submission = submission(base_commit, base, view, changes);
+    Ok(decide(alloc, &submission, domain, 7)?)
+}
+
+// ---- cases
+
+#[derive(Clone, Copy)]
+enum Wanted {
+    Done(u64),
+    Created(u64),
+    Broken(Rule),
+}
+
+use Wanted::*;
+
+// The commit whose trees a put stands on, its store and container, and the outcome: nothing stands in the way of the first;
+// the same once more comes too late; the second container lacks its choice.
+const PUTS: [(u64, Store, &str, Wanted); 3] = [
+    (0, Store::Config, "0", Done(1)),
+    (0, Store::Config, "0", Created(1)),
+    (1, Store::Oper, "1", Broken(Rule::Mandatory(2))),
+];
+
+fn outcome_of(store: Store, path: Path, wanted: Wanted) -> Outcome {
+    match wanted {
+        Done(commit) => Outcome::Done { commit },
+        Created(commit) => Outcome::Conflict {
+            store,
+            path,
+            kind: ClashKind::Created,
+            commit,
+        },
+        Broken(rule) => Outcome::Invalid { store, path, rule },
+    }
+}
+
+fn is_decided(
+    domain: &mut Domain,
+    alloc: Global,
+    case: (u64, Store, &str, Wanted),
+) -> Result<bool, Fail>
+    requires { AreKept domain.old.commits.items }
+    ensures { IfOk result (λ b. AreKept domain.new.commits.items) }
+{
+    let (base_commit, store, text, wanted) = case;
+    let wanted = outcome_of(store, path_of(alloc, text)?, wanted);
+    let op = put(alloc, store, text)?;
+    Ok(decided(domain, alloc, base_commit, op)? == wanted)
+}
+
+// How many of the puts are decided as is wanted.
+fn right(domain: &mut Domain, alloc: Global) -> Result<usize, Fail>
+    requires { AreKept domain.old.commits.items }
+{
+    let mut count = 0;
+    for case in PUTS {
+        if is_decided(domain, alloc, case)? {
+            count += 1;
+        }
+    }
+    Ok(count)
+}
+
+// Whether the containers stand in the configuration and in the operational store of the newest commit.
+fn stand(alloc: Global, domain: &Domain) -> Result<[bool; 2], Fail> {
+    let a = path_of(alloc, "0")?;
+    let s = path_of(alloc, "1")?;
+    Ok(match domain.commits.last() {
+        None => [false, false],
+        Some(last) => [last.trees.config.exists(&a), last.trees.oper.exists(&s)],
+    })
+}
+
+#[test]
+fn one_is_done_and_two_are_refused(rt: HostRuntime) -> Result<(), Fail> {
+    let device = device(rt.alloc())?;
+    let mut domain = Domain::open(rt.alloc(), 0, &device, true)?;
+    assert_eq!(rt; right(&mut domain, rt.alloc())?, PUTS.len());
+    assert_eq!(rt; stand(rt.alloc(), &domain)?, [true, false]);
+    Ok(())
+}

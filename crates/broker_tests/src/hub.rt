@@ -1,0 +1,112 @@
+ghost use Rattle.std.specs.Prelude.{◌≡◌, ◌-◌, ◌<◌, ◌^◌, IfOk};
+ghost use Rattle.sal_hub.specs.Tokens.{IsBegun};
+
+use crate::schemas::schema_of;
+use sal_history::{Device, Opening};
+use sal_hub::{Hub, laws};
+use sal_rows::{CallFault, Mode, Outcome, Rows};
+use sal_tree::Pair;
+use sal_tx::{Begun, Tx, WriteTx};
+use sal_types::{Duplicate, NoMemory};
+use std::alloc::Global;
+use std::sync::Arc;
+use std::test::Fail;
+
+const NO_NODES: &str = "module nothing { namespace 'urn:nothing'; prefix n; }";
+
+fn device(alloc: Global) -> Result<Device, Fail> {
+    let schema = Arc::new(alloc, schema_of(alloc, NO_NODES)?)?;
+    let opening = Opening {
+        config: Rows::new(alloc),
+        oper: Rows::new(alloc),
+    };
+    Ok(Device { schema, opening })
+}
+
+// A hub over one empty domain.
+fn hub(alloc: Global) -> Result<Hub, Fail> {
+    let devices = vec![in alloc; device(alloc)?]?;
+    Ok(Hub::open(alloc, devices)?)
+}
+
+// ---- transactions to their end
+
+// Begins a transaction, and cancels it where it only reads.
+fn is_cancelled(hub: &mut Hub, alloc: Global) -> Result<bool, Fail> {
+    let tx = hub.begin(alloc, 7, 0, Mode::Ro)?;
+    let is_read = match &tx {
+        Tx::Read(_) => true,
+        Tx::Write(_) => false,
+    };
+    Ok(is_read && hub.cancel(alloc, 7, tx).is_ok())
+}
+
+// Begins a transaction, submits and settles it.
+fn is_done(hub: &mut Hub, alloc: Global) -> Result<bool, Fail> {
+    let Tx::Write(tx) = hub.begin(alloc, 7, 0, Mode::Rw)? else {
+        return Ok(false);
+    };
+    match hub.submit(alloc, 7, tx) {
+        Ok(receipt) => Ok(hub.settle(alloc, 7, receipt)? == Outcome::Done { commit: 1 }),
+        Err((_, fault)) => Err(Fail::from(fault)),
+    }
+}
+
+#[test]
+fn transactions_are_submitted_settled_and_cancelled(rt: HostRuntime) -> Result<(), Fail> {
+    let mut hub = hub(rt.alloc())?;
+    assert!(rt; is_done(&mut hub, rt.alloc())?);
+    assert!(rt; is_cancelled(&mut hub, rt.alloc())?);
+    assert!(rt; hub.begin(rt.alloc(), 7, 1, Mode::Rw).is_err());
+    assert!(rt; hub.newest() == 1 && hub.log().len() == 6);
+    Ok(())
+}
+
+// ---- a transaction on the fields of a submitted one
+
+// The same fields.
+fn same(begun: &Begun) -> Result<Begun, NoMemory>
+    ensures { IfOk result (λ b. (b.domain ≡ begun.now.domain) × (b.base_commit ≡ begun.now.base_commit) × (b.place ≡ begun.now.place) × (b.schema.value ≡ begun.now.schema.value)) }
+{
+    Ok(Begun {
+        domain: begun.domain,
+        base_commit: begun.base_commit,
+        on: begun.on,
+        chain: begun.chain,
+        place: begun.place,
+        schema: Arc::try_clone(&begun.schema)?,
+    })
+}
+
+// Submits a transaction on these fields: whether it is refused as spent.
+fn is_spent(hub: &mut Hub, alloc: Global, begun: Begun, base: Pair) -> Result<bool, Fail>
+    requires token { IsBegun hub.old begun base }
+    requires low { begun.place < 2 ^ 63 - 1 }
+{
+    let tx = WriteTx::open(alloc, begun, base, Mode::Rw)?;
+    match hub.submit(alloc, 7, tx) {
+        Err((_, CallFault::TxSpent)) => Ok(true),
+        _ => Ok(false),
+    }
+}
+
+// A transaction is submitted, and then another one on its fields.
+fn is_spent_once(hub: &mut Hub, alloc: Global) -> Result<bool, Fail> {
+    laws::tokens_last();
+    let base = hub.trees().copy()?;
+    let Tx::Write(tx) = hub.begin(alloc, 7, 0, Mode::Rw)? else {
+        return Ok(false);
+    };
+    let begun = same(tx.begun())?;
+    match hub.submit(alloc, 7, tx) {
+        Ok(_) => is_spent(hub, alloc, begun, base),
+        Err((_, fault)) => Err(Fail::from(fault)),
+    }
+}
+
+#[test]
+fn a_second_transaction_on_the_same_fields_is_spent(rt: HostRuntime) -> Result<(), Fail> {
+    let mut hub = hub(rt.alloc())?;
+    assert!(rt; is_spent_once(&mut hub, rt.alloc())?);
+    Ok(())
+}

@@ -1,0 +1,175 @@
+use crate::schemas::schema_of;
+use crate::texts::{path_of, rows_of};
+use sal_data::fits_rows;
+use sal_rows::{Mode, Rows};
+use sal_schema::Schema;
+use sal_tree::{Pair, Root};
+use sal_tx::{Begun, TxFault, WriteOnly, WriteTx};
+use sal_types::{Path, Store};
+use std::alloc::Global;
+use std::sync::Arc;
+use std::test::Fail;
+
+// The numbers of the nodes: depot 0, name 1, item 2, id 3, code 4, state 5 and seen 6.
+const SHOP: &str = "module shop {
+  namespace 'urn:shop';
+  prefix s;
+  container depot {
+    presence 'it is open';
+    leaf name { type string; }
+    list item {
+      key id;
+      leaf id { type uint8; }
+      leaf code { type string; }
+    }
+  }
+  container state {
+    config false;
+    leaf-list seen { type uint8; }
+  }
+}";
+
+fn begun(alloc: Global) -> Result<Begun, Fail> {
+    let schema = Arc::new(alloc, schema_of(alloc, SHOP)?)?;
+    Ok(Begun {
+        domain: 0,
+        base_commit: 0,
+        on: None,
+        chain: None,
+        place: 5,
+        schema,
+    })
+}
+
+fn nothing(alloc: Global) -> Result<Pair, Fail> {
+    let config = Root::empty(alloc)?;
+    let oper = Root::empty(alloc)?;
+    Ok(Pair { config, oper })
+}
+
+fn opened(alloc: Global, begun: Begun, base: Pair, reads: bool) -> Result<WriteTx, Fail> {
+    if begun.place > 5 {
+        return Err("a late place".into());
+    }
+    let mode = if reads { Mode::Rw } else { Mode::Wo };
+    Ok(WriteTx::open(alloc, begun, base, mode)?)
+}
+
+// A transaction on empty trees, which may read or not.
+fn writer(alloc: Global, reads: bool) -> Result<WriteTx, Fail> {
+    let base = nothing(alloc)?;
+    opened(alloc, begun(alloc)?, base, reads)
+}
+
+// ---- writes
+
+// Paths, the rows that are put there, the answer with its path, and how many operations the transaction has then.
+const PUTS: [(&str, &str, (&str, &str), usize); 6] = [
+    ("5/6", "", ("not-config", "5/6"), 0),
+    ("0/1", "", ("parent-missing", "0"), 0),
+    ("", "", ("root-path", ""), 0),
+    ("0", "0", ("done", ""), 1),
+    ("0/2/#1", "0/2/#1 0/2/#1/3=1", ("done", ""), 2),
+    ("0/2/#1/3", "", ("key-leaf", "0/2/#1/3"), 2),
+];
+
+fn is_for_schema(schema: &Schema, path: &Path, rows: &Rows) -> bool {
+    schema.fits(path) && !schema.is_in_message(path) && fits_rows(schema, path, rows)
+}
+
+fn put(
+    tx: &mut WriteTx,
+    alloc: Global,
+    path: Path,
+    rows: Rows,
+) -> Result<Result<(), TxFault>, Fail> {
+    if !is_for_schema(tx.schema(), &path, &rows) {
+        return Err("none of the schema".into());
+    }
+    Ok(tx.put(alloc, Store::Config, path, rows))
+}
+
+// The word of an answer, and its path.
+fn parts(answer: &Result<(), TxFault>) -> (&'static str, Option<&Path>) {
+    match answer {
+        Ok(()) => ("done", None),
+        Err(TxFault::WriteOnly) => ("write-only", None),
+        Err(TxFault::NotConfig { path }) => ("not-config", Some(path)),
+        Err(TxFault::KeyLeaf { path }) => ("key-leaf", Some(path)),
+        Err(TxFault::ParentMissing { path }) => ("parent-missing", Some(path)),
+        Err(TxFault::RootPath) => ("root-path", None),
+        Err(TxFault::NoMemory) => ("no-memory", None),
+    }
+}
+
+fn is_wanted(
+    alloc: Global,
+    answer: &Result<(), TxFault>,
+    wanted: (&str, &str),
+) -> Result<bool, Fail> {
+    let (word, path) = parts(answer);
+    let wanted_path = path_of(alloc, wanted.1)?;
+    let is_path = match path {
+        None => wanted.1.is_empty(),
+        Some(path) => *path == wanted_path,
+    };
+    Ok(word == wanted.0 && is_path)
+}
+
+fn answer(
+    tx: &mut WriteTx,
+    alloc: Global,
+    path: &str,
+    rows: &str,
+) -> Result<Result<(), TxFault>, Fail> {
+    let path = path_of(alloc, path)?;
+    put(tx, alloc, path, rows_of(alloc, rows)?)
+}
+
+// How many of the first puts are answered as is wanted.
+fn right(tx: &mut WriteTx, alloc: Global) -> Result<usize, Fail> {
+    let mut count = 0;
+    for (path, rows, wanted, ops) in PUTS {
+        let answer = answer(tx, alloc, path, rows)?;
+        if is_wanted(alloc, &answer, wanted)? && tx.ops().len() == ops {
+            count += 1;
+        }
+    }
+    Ok(count)
+}
+
+fn is_write_only(alloc: Global, tx: &WriteTx) -> bool {
+    tx.exists(Store::Config, &Path::root(alloc)) == Err(WriteOnly)
+}
+
+// How many rows stand in the configuration of the view.
+fn count(alloc: Global, tx: WriteTx) -> Result<usize, Fail> {
+    let submission = tx.into_submission(1);
+    let rows = submission.view.config.rows(alloc, &Path::root(alloc))?;
+    Ok(rows.items().len())
+}
+
+#[test]
+fn writes_over_the_module_shop(rt: HostRuntime) -> Result<(), Fail> {
+    let mut tx = writer(rt.alloc(), false)?;
+    assert!(rt; is_write_only(rt.alloc(), &tx));
+    assert_eq!(rt; right(&mut tx, rt.alloc())?, PUTS.len());
+    assert_eq!(rt; count(rt.alloc(), tx)?, 3);
+    Ok(())
+}
+
+// ---- reads
+
+fn read(alloc: Global, tx: &WriteTx, store: Store) -> Result<usize, Fail> {
+    let path = path_of(alloc, "0/2/#1")?;
+    Ok(tx.read(alloc, store, &path)?.items().len())
+}
+
+#[test]
+fn own_writes_are_read(rt: HostRuntime) -> Result<(), Fail> {
+    let mut tx = writer(rt.alloc(), true)?;
+    assert_eq!(rt; right(&mut tx, rt.alloc())?, PUTS.len());
+    assert_eq!(rt; read(rt.alloc(), &tx, Store::Config)?, 2);
+    assert_eq!(rt; read(rt.alloc(), &tx, Store::Oper)?, 0);
+    Ok(())
+}

@@ -1,64 +1,17 @@
 ghost use Rattle.std.specs.Prelude.{◌≡◌};
 ghost use Rattle.sal_json.specs.Patterns.{patterns_of};
 
-use super::*;
-use crate::test_table::table;
-use crate::test_texts::{CASES, Place};
+use crate::boxes::{BOXES, Hop, path_of};
+use crate::data_read_cases::CASES;
+use crate::tables::schema;
+use sal_data::{DataFault, read_data};
 use sal_json::{Patterns, ScalarFault};
+use sal_rows::Rows;
 use sal_schema::Schema;
-use sal_table::schema_of;
-use sal_types::{Atom, Cell, NoMemory, Path, Row, Seq, Step, Str, Value};
+use sal_types::{Atom, Cell, NoMemory, Path, Row, Step, Value};
 use serde_json::Value as Json;
 use std::alloc::Global;
 use std::test::Fail;
-
-fn text_value(alloc: Global, text: &str) -> Result<Value, NoMemory> {
-    Ok(Value {
-        member: 0,
-        atom: Atom::Text(Str::new(alloc, text)?),
-    })
-}
-
-fn go(path: &mut Path, step: Step) -> Result<(), NoMemory> {
-    match path.push(step) {
-        Ok(()) => Ok(()),
-        Err(_) => Err(NoMemory),
-    }
-}
-
-fn slot_step(alloc: Global) -> Result<Step, NoMemory> {
-    let mut keys = Vec::new(alloc);
-    keys.push(Value {
-        member: 0,
-        atom: Atom::Unsigned(1),
-    })?;
-    keys.push(text_value(alloc, "l")?)?;
-    Ok(Step::Key(Seq::from_items(keys)))
-}
-
-fn go_into_box(path: &mut Path, node: u32) -> Result<(), NoMemory> {
-    go(path, Step::Node(0))?;
-    go(path, Step::Node(node))
-}
-
-fn path_to(alloc: Global, place: &Place) -> Result<Path, NoMemory> {
-    let mut path = Path::root(alloc);
-    match place {
-        Place::Root => (),
-        Place::Text => go_into_box(&mut path, 10)?,
-        Place::Slots | Place::Slot => go_into_box(&mut path, 20)?,
-        Place::Tags | Place::Tag => go_into_box(&mut path, 24)?,
-        Place::Input => go(&mut path, Step::Node(32))?,
-        Place::Output => go(&mut path, Step::Node(34))?,
-        Place::Told => go(&mut path, Step::Node(36))?,
-    }
-    match place {
-        Place::Slot => go(&mut path, slot_step(alloc)?)?,
-        Place::Tag => go(&mut path, Step::Item(text_value(alloc, "a")?))?,
-        _ => (),
-    }
-    Ok(path)
-}
 
 fn add(out: &mut String, text: String) -> Result<(), NoMemory> {
     Ok(out.push_str(text.as_str())?)
@@ -170,37 +123,44 @@ fn fault_text(alloc: Global, fault: &DataFault) -> Result<String, NoMemory> {
     Ok(out)
 }
 
-fn json_of(alloc: Global, text: &str) -> Result<Json, NoMemory> {
-    match Json::from_str(alloc, text) {
-        Ok(json) => Ok(json),
-        Err(_) => Err(NoMemory),
+fn text_of_read(alloc: Global, read: &Result<Rows, DataFault>) -> Result<String, Fail> {
+    match read {
+        Ok(rows) => Ok(text_of(alloc, rows.items())?),
+        Err(fault) => Ok(fault_text(alloc, fault)?),
     }
+}
+
+fn read_at(
+    alloc: Global,
+    schema: &Schema,
+    patterns: &Patterns,
+    (hops, text): (&[Hop], &str),
+) -> Result<Result<Rows, DataFault>, Fail>
+    requires { patterns.now ≡ patterns_of schema.now }
+{
+    let json = Json::from_str(alloc, text)?;
+    let path = path_of(alloc, hops)?;
+    Ok(read_data(alloc, schema, patterns, &path, &json))
 }
 
 fn answer(
     alloc: Global,
     schema: &Schema,
     patterns: &Patterns,
-    place: &Place,
-    text: &str,
-) -> Result<String, NoMemory>
+    case: (&[Hop], &str),
+) -> Result<String, Fail>
     requires { patterns.now ≡ patterns_of schema.now }
 {
-    let path = path_to(alloc, place)?;
-    let json = json_of(alloc, text)?;
-    match read_data(alloc, schema, patterns, &path, &json) {
-        Ok(rows) => text_of(alloc, rows.items()),
-        Err(fault) => fault_text(alloc, &fault),
-    }
+    let read = read_at(alloc, schema, patterns, case)?;
+    text_of_read(alloc, &read)
 }
 
 #[test]
 fn texts_are_read(rt: HostRuntime) -> Result<(), Fail> {
-    let alloc = rt.alloc();
-    let schema = schema_of(alloc, table(alloc)?)?;
-    let patterns = Patterns::of(alloc, &schema)?;
-    for (place, text, wanted) in CASES {
-        let read = answer(alloc, &schema, &patterns, place, text)?;
+    let schema = schema(rt.alloc(), &BOXES)?;
+    let patterns = Patterns::of(rt.alloc(), &schema)?;
+    for (hops, text, wanted) in CASES {
+        let read = answer(rt.alloc(), &schema, &patterns, (hops, text))?;
         assert!(rt; read.as_str() == *wanted, "{text} gives {read}");
     }
     Ok(())

@@ -8,79 +8,94 @@ use sal_data::{DataFault, read_data};
 use sal_json::{Patterns, ScalarFault};
 use sal_rows::Rows;
 use sal_schema::Schema;
-use sal_types::{Atom, Cell, NoMemory, Path, Row, Step, Value};
+use sal_types::{Atom, Cell, Path, Row, Step, Value};
 use serde_json::Value as Json;
 use std::alloc::Global;
+use std::fmt::Write;
 use std::test::Fail;
 
-fn add(out: &mut String, text: String) -> Result<(), NoMemory> {
-    Ok(out.push_str(text.as_str())?)
-}
-
-fn push_atom(alloc: Global, out: &mut String, atom: &Atom) -> Result<(), NoMemory> {
-    match atom {
-        Atom::Signed(number) => add(out, format!(in alloc; "s{number}")?),
-        Atom::Unsigned(number) => add(out, format!(in alloc; "u{number}")?),
-        Atom::Dec { units, digits } => add(out, format!(in alloc; "d{units}e{digits}")?),
-        Atom::Text(text) => add(out, format!(in alloc; "'{}'", text.as_str())?),
-        Atom::Bool(is_true) => add(out, format!(in alloc; "b{is_true}")?),
-        Atom::Enum(place) => add(out, format!(in alloc; "e{place}")?),
-        Atom::Bits(set) => add(out, format!(in alloc; "m{set}")?),
-        Atom::Bin(bytes) => push_bytes(alloc, out, bytes.items()),
-        Atom::Ident(identity) => add(out, format!(in alloc; "i{identity}")?),
-        Atom::Empty => Ok(out.push('n')?),
-    }
-}
-
-fn push_bytes(alloc: Global, out: &mut String, bytes: &[u8]) -> Result<(), NoMemory> {
+fn push_bytes(out: &mut String, bytes: &[u8]) -> Result<(), Fail> {
     for byte in bytes {
-        add(out, format!(in alloc; "x{byte}")?)?;
+        write!(out, "x{byte}")?;
     }
     Ok(())
 }
 
-fn push_value(alloc: Global, out: &mut String, value: &Value) -> Result<(), NoMemory> {
-    add(out, format!(in alloc; "{}", value.member)?)?;
-    push_atom(alloc, out, &value.atom)
+fn push_atom(out: &mut String, atom: &Atom) -> Result<(), Fail> {
+    match atom {
+        Atom::Signed(number) => write!(out, "s{number}")?,
+        Atom::Unsigned(number) => write!(out, "u{number}")?,
+        Atom::Dec { units, digits } => write!(out, "d{units}e{digits}")?,
+        Atom::Text(text) => write!(out, "'{}'", text.as_str())?,
+        Atom::Bool(is_true) => write!(out, "b{is_true}")?,
+        Atom::Enum(place) => write!(out, "e{place}")?,
+        Atom::Bits(set) => write!(out, "m{set}")?,
+        Atom::Bin(bytes) => push_bytes(out, bytes.items())?,
+        Atom::Ident(identity) => write!(out, "i{identity}")?,
+        Atom::Empty => out.push('n')?,
+    }
+    Ok(())
 }
 
-fn push_keys(alloc: Global, out: &mut String, values: &[Value]) -> Result<(), NoMemory> {
-    out.push('[')?;
+fn push_value(out: &mut String, value: &Value) -> Result<(), Fail> {
+    write!(out, "{}", value.member)?;
+    push_atom(out, &value.atom)
+}
+
+fn push_keys(out: &mut String, values: &[Value]) -> Result<(), Fail> {
     for value in values {
-        push_value(alloc, out, value)?;
+        push_value(out, value)?;
         out.push(',')?;
     }
-    Ok(out.push(']')?)
+    Ok(())
 }
 
-fn push_path(alloc: Global, out: &mut String, path: &Path) -> Result<(), NoMemory> {
-    for step in path.steps() {
-        match step {
-            Step::Node(node) => add(out, format!(in alloc; "/{node}")?)?,
-            Step::Key(values) => push_keys(alloc, out, values.items())?,
-            Step::Item(value) => {
-                out.push('.')?;
-                push_value(alloc, out, value)?;
-            }
+fn push_step(out: &mut String, step: &Step) -> Result<(), Fail> {
+    match step {
+        Step::Node(node) => write!(out, "/{node}")?,
+        Step::Key(values) => {
+            out.push('[')?;
+            push_keys(out, values.items())?;
+            out.push(']')?;
         }
+        Step::Item(value) => {
+            out.push('.')?;
+            push_value(out, value)?;
+        }
+    }
+    Ok(())
+}
+
+fn push_path(out: &mut String, path: &Path) -> Result<(), Fail> {
+    for step in path.steps() {
+        push_step(out, step)?;
+    }
+    Ok(())
+}
+
+fn push_cell(out: &mut String, cell: &Cell) -> Result<(), Fail> {
+    match cell {
+        Cell::Mark => Ok(out.push('*')?),
+        Cell::Leaf(value) => {
+            out.push('=')?;
+            push_value(out, value)
+        }
+    }
+}
+
+fn push_rows(out: &mut String, rows: &[Row]) -> Result<(), Fail> {
+    for row in rows {
+        push_path(out, &row.path)?;
+        push_cell(out, &row.cell)?;
+        out.push(' ')?;
     }
     Ok(())
 }
 
 // Each row: its path, with keys in brackets and the value of an entry behind a dot, then `*` for a mark, or the value.
-fn text_of(alloc: Global, rows: &[Row]) -> Result<String, NoMemory> {
+fn text_of(alloc: Global, rows: &[Row]) -> Result<String, Fail> {
     let mut out = String::new(alloc);
-    for row in rows {
-        push_path(alloc, &mut out, &row.path)?;
-        match &row.cell {
-            Cell::Mark => out.push('*')?,
-            Cell::Leaf(value) => {
-                out.push('=')?;
-                push_value(alloc, &mut out, value)?;
-            }
-        }
-        out.push(' ')?;
-    }
+    push_rows(&mut out, rows)?;
     Ok(out)
 }
 
@@ -110,23 +125,28 @@ fn fault_parts(fault: &DataFault) -> Option<(&'static str, &Path, &str)> {
     }
 }
 
-fn fault_text(alloc: Global, fault: &DataFault) -> Result<String, NoMemory> {
+fn push_fault(out: &mut String, fault: &DataFault) -> Result<(), Fail> {
     let Some((word, path, name)) = fault_parts(fault) else {
-        return Err(NoMemory);
+        return Err("out of memory".into());
     };
-    let mut out = String::from_str(alloc, word)?;
-    push_path(alloc, &mut out, path)?;
+    out.push_str(word)?;
+    push_path(out, path)?;
     if !name.is_empty() {
-        out.push(' ')?;
-        out.push_str(name)?;
+        write!(out, " {name}")?;
     }
+    Ok(())
+}
+
+fn fault_text(alloc: Global, fault: &DataFault) -> Result<String, Fail> {
+    let mut out = String::new(alloc);
+    push_fault(&mut out, fault)?;
     Ok(out)
 }
 
 fn text_of_read(alloc: Global, read: &Result<Rows, DataFault>) -> Result<String, Fail> {
     match read {
-        Ok(rows) => Ok(text_of(alloc, rows.items())?),
-        Err(fault) => Ok(fault_text(alloc, fault)?),
+        Ok(rows) => text_of(alloc, rows.items()),
+        Err(fault) => fault_text(alloc, fault),
     }
 }
 

@@ -1,13 +1,21 @@
 use crate::boxes::Hop::{self, Slot, Tag, To};
 
 const ROOT: &[Hop] = &[];
+
 const TEXT: &[Hop] = &[To(0), To(10)];
+
 const SLOTS: &[Hop] = &[To(0), To(20)];
+
 const SLOT: &[Hop] = &[To(0), To(20), Slot(1)];
+
 const TAGS: &[Hop] = &[To(0), To(24)];
+
 const TAG: &[Hop] = &[To(0), To(24), Tag("a")];
+
 const INPUT: &[Hop] = &[To(32)];
+
 const OUTPUT: &[Hop] = &[To(34)];
+
 const TOLD: &[Hop] = &[To(36)];
 
 /// Paths, JSON texts, and what is to be read: rows as `text_of` writes them, or a fault as `fault_text` does.
@@ -30,26 +38,10 @@ pub(crate) const CASES: &[(&[Hop], &str, &str)] = &[
     ),
     (ROOT, r#"{"inv:box":{"i8":128}}"#, "OutOfRange/0/1"),
     (ROOT, r#"{"inv:box":{"i8":-129}}"#, "OutOfRange/0/1"),
-    (
-        ROOT,
-        r#"{"inv:box":{"i16":32768}}"#,
-        "OutOfRange/0/2",
-    ),
-    (
-        ROOT,
-        r#"{"inv:box":{"i16":-32769}}"#,
-        "OutOfRange/0/2",
-    ),
-    (
-        ROOT,
-        r#"{"inv:box":{"i32":2147483648}}"#,
-        "OutOfRange/0/3",
-    ),
-    (
-        ROOT,
-        r#"{"inv:box":{"i32":-2147483649}}"#,
-        "OutOfRange/0/3",
-    ),
+    (ROOT, r#"{"inv:box":{"i16":32768}}"#, "OutOfRange/0/2"),
+    (ROOT, r#"{"inv:box":{"i16":-32769}}"#, "OutOfRange/0/2"),
+    (ROOT, r#"{"inv:box":{"i32":2147483648}}"#, "OutOfRange/0/3"),
+    (ROOT, r#"{"inv:box":{"i32":-2147483649}}"#, "OutOfRange/0/3"),
     (
         ROOT,
         r#"{"inv:box":{"i64":"9223372036854775808"}}"#,
@@ -62,16 +54,8 @@ pub(crate) const CASES: &[(&[Hop], &str, &str)] = &[
     ),
     (ROOT, r#"{"inv:box":{"u8":256}}"#, "OutOfRange/0/5"),
     (ROOT, r#"{"inv:box":{"u8":-1}}"#, "OutOfRange/0/5"),
-    (
-        ROOT,
-        r#"{"inv:box":{"u16":65536}}"#,
-        "OutOfRange/0/6",
-    ),
-    (
-        ROOT,
-        r#"{"inv:box":{"u32":4294967296}}"#,
-        "OutOfRange/0/7",
-    ),
+    (ROOT, r#"{"inv:box":{"u16":65536}}"#, "OutOfRange/0/6"),
+    (ROOT, r#"{"inv:box":{"u32":4294967296}}"#, "OutOfRange/0/7"),
     (
         ROOT,
         r#"{"inv:box":{"u64":"18446744073709551616"}}"#,
@@ -129,22 +113,10 @@ pub(crate) const CASES: &[(&[Hop], &str, &str)] = &[
     (ROOT, r#"{"inv:box":{"text":1}}"#, "WrongKind/0/10"),
     // booleans and enumerations
     (ROOT, r#"{"inv:box":{"flag":true}}"#, "/0/11=0btrue "),
-    (
-        ROOT,
-        r#"{"inv:box":{"flag":false}}"#,
-        "/0/11=0bfalse ",
-    ),
-    (
-        ROOT,
-        r#"{"inv:box":{"flag":"true"}}"#,
-        "WrongKind/0/11",
-    ),
+    (ROOT, r#"{"inv:box":{"flag":false}}"#, "/0/11=0bfalse "),
+    (ROOT, r#"{"inv:box":{"flag":"true"}}"#, "WrongKind/0/11"),
     (ROOT, r#"{"inv:box":{"state":"down"}}"#, "/0/12=0e5 "),
-    (
-        ROOT,
-        r#"{"inv:box":{"state":"off"}}"#,
-        "UnknownName/0/12",
-    ),
+    (ROOT, r#"{"inv:box":{"state":"off"}}"#, "UnknownName/0/12"),
     (ROOT, r#"{"inv:box":{"state":5}}"#, "WrongKind/0/12"),
     // bits in any order, none, and one twice
     (
@@ -158,33 +130,13 @@ pub(crate) const CASES: &[(&[Hop], &str, &str)] = &[
         "/0/13=0m9223372036854775817 ",
     ),
     (ROOT, r#"{"inv:box":{"mask":""}}"#, "/0/13=0m0 "),
-    (
-        ROOT,
-        r#"{"inv:box":{"mask":"a a"}}"#,
-        "WrongKind/0/13",
-    ),
-    (
-        ROOT,
-        r#"{"inv:box":{"mask":"a d"}}"#,
-        "UnknownName/0/13",
-    ),
+    (ROOT, r#"{"inv:box":{"mask":"a a"}}"#, "WrongKind/0/13"),
+    (ROOT, r#"{"inv:box":{"mask":"a d"}}"#, "UnknownName/0/13"),
     // base64, with its padding
-    (
-        ROOT,
-        r#"{"inv:box":{"bytes":"AQL/"}}"#,
-        "/0/14=0x1x2x255 ",
-    ),
+    (ROOT, r#"{"inv:box":{"bytes":"AQL/"}}"#, "/0/14=0x1x2x255 "),
     (ROOT, r#"{"inv:box":{"bytes":"AQ=="}}"#, "/0/14=0x1 "),
-    (
-        ROOT,
-        r#"{"inv:box":{"bytes":"AQ"}}"#,
-        "WrongKind/0/14",
-    ),
-    (
-        ROOT,
-        r#"{"inv:box":{"bytes":"A-L/"}}"#,
-        "WrongKind/0/14",
-    ),
+    (ROOT, r#"{"inv:box":{"bytes":"AQ"}}"#, "WrongKind/0/14"),
+    (ROOT, r#"{"inv:box":{"bytes":"A-L/"}}"#, "WrongKind/0/14"),
     (
         ROOT,
         r#"{"inv:box":{"bytes":"AQIDBAU="}}"#,
@@ -192,33 +144,13 @@ pub(crate) const CASES: &[(&[Hop], &str, &str)] = &[
     ),
     // identities, of the leaf's own module without its name
     (ROOT, r#"{"inv:box":{"kind":"fibre"}}"#, "/0/15=0i1 "),
-    (
-        ROOT,
-        r#"{"inv:box":{"kind":"inv:fibre"}}"#,
-        "/0/15=0i1 ",
-    ),
-    (
-        ROOT,
-        r#"{"inv:box":{"kind":"geo:copper"}}"#,
-        "/0/15=0i2 ",
-    ),
-    (
-        ROOT,
-        r#"{"inv:box":{"kind":"copper"}}"#,
-        "UnknownName/0/15",
-    ),
-    (
-        ROOT,
-        r#"{"inv:box":{"kind":"medium"}}"#,
-        "UnknownName/0/15",
-    ),
+    (ROOT, r#"{"inv:box":{"kind":"inv:fibre"}}"#, "/0/15=0i1 "),
+    (ROOT, r#"{"inv:box":{"kind":"geo:copper"}}"#, "/0/15=0i2 "),
+    (ROOT, r#"{"inv:box":{"kind":"copper"}}"#, "UnknownName/0/15"),
+    (ROOT, r#"{"inv:box":{"kind":"medium"}}"#, "UnknownName/0/15"),
     // empty
     (ROOT, r#"{"inv:box":{"none":[null]}}"#, "/0/16=0n "),
-    (
-        ROOT,
-        r#"{"inv:box":{"none":null}}"#,
-        "WrongKind/0/16",
-    ),
+    (ROOT, r#"{"inv:box":{"none":null}}"#, "WrongKind/0/16"),
     (ROOT, r#"{"inv:box":{"none":[]}}"#, "WrongKind/0/16"),
     // unions, in both orders of their members
     (
@@ -231,20 +163,12 @@ pub(crate) const CASES: &[(&[Hop], &str, &str)] = &[
         r#"{"inv:box":{"first":"7","second":"7"}}"#,
         "/0/17=1'7' /0/18=0'7' ",
     ),
-    (
-        ROOT,
-        r#"{"inv:box":{"first":300}}"#,
-        "WrongKind/0/17",
-    ),
+    (ROOT, r#"{"inv:box":{"first":300}}"#, "WrongKind/0/17"),
     // containers, with and without presence, and a leaf within a choice
     (ROOT, r#"{}"#, ""),
     (ROOT, r#"{"inv:box":{}}"#, ""),
     (ROOT, r#"{"inv:box":{"lamp":{}}}"#, "/0/19* "),
-    (
-        ROOT,
-        r#"{"inv:box":{"lamp":null}}"#,
-        "WrongShape/0/19",
-    ),
+    (ROOT, r#"{"inv:box":{"lamp":null}}"#, "WrongShape/0/19"),
     (ROOT, r#"{"inv:box":{"pair":3}}"#, "/0/30=0u3 "),
     // names of other modules
     (
@@ -255,26 +179,14 @@ pub(crate) const CASES: &[(&[Hop], &str, &str)] = &[
     (ROOT, r#"{"box":{}}"#, "NeedsModule box"),
     (ROOT, r#"{"door":{}}"#, "NeedsModule door"),
     (ROOT, r#"{"geo:box":{}}"#, "UnknownMember geo:box"),
-    (
-        ROOT,
-        r#"{"inv:box":{"area":{}}}"#,
-        "NeedsModule/0 area",
-    ),
+    (ROOT, r#"{"inv:box":{"area":{}}}"#, "NeedsModule/0 area"),
     (
         ROOT,
         r#"{"inv:box":{"inv:i8":1}}"#,
         "UnknownMember/0 inv:i8",
     ),
-    (
-        ROOT,
-        r#"{"inv:box":{"door":1}}"#,
-        "UnknownMember/0 door",
-    ),
-    (
-        ROOT,
-        r#"{"inv:box":{"how":{}}}"#,
-        "UnknownMember/0 how",
-    ),
+    (ROOT, r#"{"inv:box":{"door":1}}"#, "UnknownMember/0 door"),
+    (ROOT, r#"{"inv:box":{"how":{}}}"#, "UnknownMember/0 how"),
     (
         ROOT,
         r#"{"inv:box":{"geo:area":{"geo:name":"n"}}}"#,
@@ -301,28 +213,12 @@ pub(crate) const CASES: &[(&[Hop], &str, &str)] = &[
     (ROOT, r#"[]"#, "WrongShape"),
     (ROOT, r#"{"inv:box":[]}"#, "WrongShape/0"),
     (ROOT, r#"{"inv:box":{"slot":{}}}"#, "WrongShape/0/20"),
-    (
-        ROOT,
-        r#"{"inv:box":{"slot":[1]}}"#,
-        "WrongShape/0/20",
-    ),
+    (ROOT, r#"{"inv:box":{"slot":[1]}}"#, "WrongShape/0/20"),
     (ROOT, r#"{"inv:box":{"tag":"a"}}"#, "WrongShape/0/24"),
-    (
-        ROOT,
-        r#"{"inv:box":{"tag":[["a"]]}}"#,
-        "WrongKind/0/24",
-    ),
-    (
-        ROOT,
-        r#"{"inv:box":{"text":["a"]}}"#,
-        "WrongKind/0/10",
-    ),
+    (ROOT, r#"{"inv:box":{"tag":[["a"]]}}"#, "WrongKind/0/24"),
+    (ROOT, r#"{"inv:box":{"text":["a"]}}"#, "WrongKind/0/10"),
     // the first fault counts, members by their names
-    (
-        ROOT,
-        r#"{"inv:box":{"u8":-1,"i8":"x"}}"#,
-        "WrongKind/0/1",
-    ),
+    (ROOT, r#"{"inv:box":{"u8":-1,"i8":"x"}}"#, "WrongKind/0/1"),
     (
         ROOT,
         r#"{"inv:box":{"slot":[{"id":1,"door":0}]}}"#,

@@ -12,6 +12,7 @@ use sal_script::{StepRefusal, StepReply};
 use sal_tx::TxFault;
 use sal_types::{Atom, Cell, Path, Row, Seq, Step, Store, Str, Value};
 use std::alloc::Global;
+use std::fmt::Write;
 use std::test::Fail;
 
 // A container with a leaf-list.
@@ -74,7 +75,7 @@ enum Told {
     BadPath(PathTextFault),
     BadData(Flaw),
     BadScalar(ScalarFault),
-    Write(Unwritten),
+    BadWrite(Unwritten),
 }
 
 use At::*;
@@ -88,53 +89,137 @@ const REPLIES: &[(Told, &str)] = &[
     (Begun(0, Some(12)), "begun 0 on 12"),
     (Receipt(3), "receipt 3"),
     (Done(18446744073709551615), "done 18446744073709551615"),
-    (Conflict(Config, Tag, Changed, 4), "conflict config \"/topo:net/tag[.='a\\\"']\" changed 4"),
-    (Conflict(Config, Net, Created, 5), "conflict config \"/topo:net\" created 5"),
-    (Conflict(Oper, Root, Deleted, 6), "conflict operational \"/\" deleted 6"),
+    (
+        Conflict(Config, Tag, Changed, 4),
+        "conflict config \"/topo:net/tag[.='a\\\"']\" changed 4",
+    ),
+    (
+        Conflict(Config, Net, Created, 5),
+        "conflict config \"/topo:net\" created 5",
+    ),
+    (
+        Conflict(Oper, Root, Deleted, 6),
+        "conflict operational \"/\" deleted 6",
+    ),
     (Call(CallFault::NoDomain { id: 9 }), "refused no-domain 9"),
     (Accepted, "ok"),
     (Read(Net, false), "absent"),
     (Read(Root, false), "data {}"),
-    (Read(Root, true), "data {\"topo:net\":{\"tag\":[\"a\\\"\"]}}"),
+    (
+        Read(Root, true),
+        "data {\"topo:net\":{\"tag\":[\"a\\\"\"]}}",
+    ),
     (Exists(true), "true"),
     (Exists(false), "false"),
     (EmptySlot, "refused empty-slot"),
     (ReadOnly, "refused read-only"),
-    (BadPath(PathTextFault::BadText { at: 1 }), "refused path bad-text 1"),
-    (BadPath(PathTextFault::UnknownNode { at: 2 }), "refused path unknown-node 2"),
-    (BadPath(PathTextFault::BadPredicate { at: 3 }), "refused path bad-predicate 3"),
+    (
+        BadPath(PathTextFault::BadText { at: 1 }),
+        "refused path bad-text 1",
+    ),
+    (
+        BadPath(PathTextFault::UnknownNode { at: 2 }),
+        "refused path unknown-node 2",
+    ),
+    (
+        BadPath(PathTextFault::BadPredicate { at: 3 }),
+        "refused path bad-predicate 3",
+    ),
     (BadPath(PathTextFault::TooDeep), "refused path too-deep"),
     (BadPath(PathTextFault::NoMemory), "refused path no-memory"),
-    (BadData(Flaw::UnknownMember), "refused data unknown-member \"/topo:net\" \"d\""),
-    (BadData(Flaw::NeedsModule), "refused data needs-module \"/topo:net\" \"d\""),
-    (BadData(Flaw::WrongShape), "refused data wrong-shape \"/topo:net\""),
-    (BadData(Flaw::MissingKey), "refused data missing-key \"/topo:net\""),
-    (BadData(Flaw::KeyDiffers), "refused data key-differs \"/topo:net\""),
-    (BadData(Flaw::DoubleEntry), "refused data double-entry \"/topo:net\""),
-    (BadScalar(ScalarFault::WrongKind), "refused data bad-scalar \"/topo:net\" wrong-kind"),
-    (BadScalar(ScalarFault::OutOfRange), "refused data bad-scalar \"/topo:net\" out-of-range"),
-    (BadScalar(ScalarFault::BadLength), "refused data bad-scalar \"/topo:net\" bad-length"),
-    (BadScalar(ScalarFault::NoMatch), "refused data bad-scalar \"/topo:net\" no-match"),
-    (BadScalar(ScalarFault::UnknownName), "refused data bad-scalar \"/topo:net\" unknown-name"),
-    (BadScalar(ScalarFault::NoMemory), "refused data bad-scalar \"/topo:net\" no-memory"),
-    (BadData(Flaw::TooDeep), "refused data too-deep \"/topo:net\""),
+    (
+        BadData(Flaw::UnknownMember),
+        "refused data unknown-member \"/topo:net\" \"d\"",
+    ),
+    (
+        BadData(Flaw::NeedsModule),
+        "refused data needs-module \"/topo:net\" \"d\"",
+    ),
+    (
+        BadData(Flaw::WrongShape),
+        "refused data wrong-shape \"/topo:net\"",
+    ),
+    (
+        BadData(Flaw::MissingKey),
+        "refused data missing-key \"/topo:net\"",
+    ),
+    (
+        BadData(Flaw::KeyDiffers),
+        "refused data key-differs \"/topo:net\"",
+    ),
+    (
+        BadData(Flaw::DoubleEntry),
+        "refused data double-entry \"/topo:net\"",
+    ),
+    (
+        BadScalar(ScalarFault::WrongKind),
+        "refused data bad-scalar \"/topo:net\" wrong-kind",
+    ),
+    (
+        BadScalar(ScalarFault::OutOfRange),
+        "refused data bad-scalar \"/topo:net\" out-of-range",
+    ),
+    (
+        BadScalar(ScalarFault::BadLength),
+        "refused data bad-scalar \"/topo:net\" bad-length",
+    ),
+    (
+        BadScalar(ScalarFault::NoMatch),
+        "refused data bad-scalar \"/topo:net\" no-match",
+    ),
+    (
+        BadScalar(ScalarFault::UnknownName),
+        "refused data bad-scalar \"/topo:net\" unknown-name",
+    ),
+    (
+        BadScalar(ScalarFault::NoMemory),
+        "refused data bad-scalar \"/topo:net\" no-memory",
+    ),
+    (
+        BadData(Flaw::TooDeep),
+        "refused data too-deep \"/topo:net\"",
+    ),
     (BadData(Flaw::NoMemory), "refused data no-memory"),
     (Cancelled, "ok"),
     (Call(CallFault::HistoryFull), "refused history-full"),
     (Call(CallFault::PipelineFull), "refused pipeline-full"),
     (Call(CallFault::NoMemory), "refused no-memory"),
     (Call(CallFault::TxSpent), "refused tx-spent"),
-    (Invalid(Config, Rule::Mandatory(0)), "invalid config \"/topo:net\" mandatory topo:net"),
-    (Invalid(Oper, Rule::MinElements(1)), "invalid operational \"/topo:net\" min-elements topo:tag"),
-    (Invalid(Config, Rule::MaxElements(1)), "invalid config \"/topo:net\" max-elements topo:tag"),
-    (Invalid(Config, Rule::Unique(1)), "invalid config \"/topo:net\" unique topo:tag"),
-    (Invalid(Config, Rule::TwoCases(2)), "invalid config \"/topo:net\" two-cases :"),
-    (Write(Unwritten::WriteOnly), "refused write-only"),
-    (Write(Unwritten::NotConfig), "refused not-config \"/topo:net\""),
-    (Write(Unwritten::KeyLeaf), "refused key-leaf \"/topo:net\""),
-    (Write(Unwritten::ParentMissing), "refused parent-missing \"/topo:net\""),
-    (Write(Unwritten::RootPath), "refused root-path"),
-    (Write(Unwritten::NoMemory), "refused no-memory"),
+    (
+        Invalid(Config, Rule::Mandatory(0)),
+        "invalid config \"/topo:net\" mandatory topo:net",
+    ),
+    (
+        Invalid(Oper, Rule::MinElements(1)),
+        "invalid operational \"/topo:net\" min-elements topo:tag",
+    ),
+    (
+        Invalid(Config, Rule::MaxElements(1)),
+        "invalid config \"/topo:net\" max-elements topo:tag",
+    ),
+    (
+        Invalid(Config, Rule::Unique(1)),
+        "invalid config \"/topo:net\" unique topo:tag",
+    ),
+    (
+        Invalid(Config, Rule::TwoCases(2)),
+        "invalid config \"/topo:net\" two-cases :",
+    ),
+    (BadWrite(Unwritten::WriteOnly), "refused write-only"),
+    (
+        BadWrite(Unwritten::NotConfig),
+        "refused not-config \"/topo:net\"",
+    ),
+    (
+        BadWrite(Unwritten::KeyLeaf),
+        "refused key-leaf \"/topo:net\"",
+    ),
+    (
+        BadWrite(Unwritten::ParentMissing),
+        "refused parent-missing \"/topo:net\"",
+    ),
+    (BadWrite(Unwritten::RootPath), "refused root-path"),
+    (BadWrite(Unwritten::NoMemory), "refused no-memory"),
 ];
 
 // ---- paths and rows
@@ -288,7 +373,7 @@ fn reply(alloc: Global, told: &Told) -> Result<StepReply, Fail> {
         BadPath(fault) => Ok(refused(StepRefusal::BadPath { fault: *fault })),
         BadData(flaw) => Ok(bad_data(data_fault(alloc, flaw)?)),
         BadScalar(fault) => bad_scalar(alloc, *fault),
-        Write(fault) => Ok(unwritten(tx_fault(alloc, fault)?)),
+        BadWrite(fault) => Ok(unwritten(tx_fault(alloc, fault)?)),
     }
 }
 
@@ -308,11 +393,7 @@ fn replies(alloc: Global, count: usize) -> Result<Seq<StepReply>, Fail> {
     Ok(Seq::from_items(list))
 }
 
-fn add_client(
-    clients: &mut Vec<Seq<StepReply>>,
-    alloc: Global,
-    count: usize,
-) -> Result<(), Fail> {
+fn add_client(clients: &mut Vec<Seq<StepReply>>, alloc: Global, count: usize) -> Result<(), Fail> {
     clients.push(replies(alloc, count)?)?;
     Ok(())
 }
@@ -406,14 +487,20 @@ fn is_path_told(alloc: Global, schema: &Schema) -> Result<bool, Fail> {
     Ok(text.as_str() == " \"/topo:net/tag[.='a\\\"']\"")
 }
 
+fn answers(alloc: Global, schema: &Schema) -> Result<[bool; 6], Fail> {
+    Ok([
+        is_reported(alloc, schema)?,
+        is_path_fault_told(alloc)?,
+        is_data_fault_told(alloc, schema)?,
+        is_tx_fault_told(alloc, schema)?,
+        is_breach_told(alloc, schema)?,
+        is_path_told(alloc, schema)?,
+    ])
+}
+
 #[test]
 fn texts_of_each_form(rt: HostRuntime) -> Result<(), Fail> {
     let schema = schema(rt.alloc(), &NET)?;
-    assert!(rt; is_reported(rt.alloc(), &schema)?);
-    assert!(rt; is_path_fault_told(rt.alloc())?);
-    assert!(rt; is_data_fault_told(rt.alloc(), &schema)?);
-    assert!(rt; is_tx_fault_told(rt.alloc(), &schema)?);
-    assert!(rt; is_breach_told(rt.alloc(), &schema)?);
-    assert!(rt; is_path_told(rt.alloc(), &schema)?);
+    assert_eq!(rt; answers(rt.alloc(), &schema)?, [true; 6]);
     Ok(())
 }

@@ -201,7 +201,11 @@ fn is_kept(alloc: Global, limit: (usize, usize, &str, &str)) -> Result<bool, Fai
 fn limits_and_bytes(rt: HostRuntime) -> Result<(), Fail> {
     for limit in LIMITS {
         let is_kept = is_kept(rt.alloc(), limit)?;
-        assert!(rt; is_kept, "{} clients with {} steps {}", limit.0, limit.1, limit.2);
+        assert!(rt;
+            is_kept,
+            "{} clients with {} steps {}",
+            limit.0, limit.1, limit.2
+        );
     }
     let no_text = b"{\"clients\":[{\"steps\":[[\"\xff\"]]}]}";
     assert!(rt; is_placed(rt.alloc(), no_text, "json"));
@@ -210,14 +214,19 @@ fn limits_and_bytes(rt: HostRuntime) -> Result<(), Fail> {
 
 // ---- what is read
 
-const TWO_CLIENTS: &[u8] = b"{\"order\":[0,1,0],\"clients\":[{\"steps\":[[\"begin\",3,0,\"rw\"],[\"put\",3,\"config\",\"/plain:box/c\",\"\\u00e9\"]]},{\"steps\":[]}]}";
+const TWO_CLIENTS: &[u8] =
+    b"{\"order\":[0,1,0],\"clients\":[{\"steps\":[[\"begin\",3,0,\"rw\"],[\"put\",3,\"config\",\"/plain:box/c\",\"\\u00e9\"]]},{\"steps\":[]}]}";
 
 const TWO_MODULES: &[u8] = b"{\"modules\":[\"module a {\",\"\\u00e9\"]}";
 
 // Whether these are the texts of the modules.
 fn has_modules(script: &Script, wanted: &[&str]) -> bool {
     let texts = script.modules.items();
-    texts.len() == wanted.len() && texts.iter().zip(wanted).all(|(text, it)| text.as_str() == *it)
+    texts.len() == wanted.len()
+        && texts
+            .iter()
+            .zip(wanted)
+            .all(|(text, it)| text.as_str() == *it)
 }
 
 fn is_begin(step: &ScriptStep) -> bool {

@@ -135,12 +135,7 @@ fn range(alloc: Global, low: i128, high: i128) -> Result<Ranges, Fail> {
     Ok(Ranges::from_items(vec![in alloc; Part { low, high }]?))
 }
 
-fn int(
-    alloc: Global,
-    bits: u8,
-    signed: bool,
-    (low, high): (i128, i128),
-) -> Result<YangType, Fail> {
+fn int(alloc: Global, bits: u8, signed: bool, (low, high): (i128, i128)) -> Result<YangType, Fail> {
     let range = range(alloc, low, high)?;
     Ok(YangType::Int {
         bits,
@@ -260,15 +255,13 @@ fn types(alloc: Global) -> Result<Seq<YangType>, Fail> {
 
 // ---- identities
 
-const IDENTITIES: &[(&str, u32, &[u32])] =
-    &[("medium", 0, &[]), ("fibre", 0, &[0]), ("copper", 1, &[0])];
+const IDENTITIES: &[(&str, u32, &[u32])] = &[
+    ("medium", 0, &[]),
+    ("fibre", 0, &[0]),
+    ("copper", 1, &[0]),
+];
 
-fn identity(
-    alloc: Global,
-    name: &str,
-    module: u32,
-    bases: &[u32],
-) -> Result<IdentityInfo, Fail> {
+fn identity(alloc: Global, name: &str, module: u32, bases: &[u32]) -> Result<IdentityInfo, Fail> {
     let name = Str::new(alloc, name)?;
     let derived_from = numbers(alloc, bases)?;
     Ok(IdentityInfo {

@@ -1,150 +1,80 @@
-ghost use Rattle.std.specs.Prelude.{◌≡◌, ◌<◌, ◌∷◌, [], IfOk, codes, length};
+ghost use Rattle.std.specs.Prelude.{◌≡◌, ◌∷◌, [], IfOk, IsTrue};
 ghost use Rattle.sal_types.specs.Tree.{under};
 ghost use Rattle.sal_rows.specs.Apply.{rows_of_act};
 ghost use Rattle.sal_graft.specs.Kept.{AreKept};
-ghost use Rattle.sal_commit.specs.Deciding.{IsFor};
-ghost use Rattle.sal_commit.specs.Tried as tried;
 
-use super::*;
+use crate::schemas::schema_of;
+use crate::texts::{path_of, rows_of};
+use sal_commit::{Domain, decide};
 use sal_history::{Device, Opening};
 use sal_mod::Mod;
 use sal_rows::{Act, ClashKind, Op, Outcome, Rows, Rule};
-use sal_schema::{Kind, NodeInfo, Schema, SchemaTable};
-use sal_tree::lie_under;
+use sal_tree::{Pair, lie_under};
 use sal_tx::Submission;
-use sal_types::{Cell, Duplicate, NoMemory, Path, PathFault, Row, Seq, Step, Store, Str};
+use sal_types::{Duplicate, NoMemory, Path, Store};
 use std::alloc::Global;
-use std::process::Abort;
 use std::sync::Arc;
 use std::test::Fail;
 
-// ---- the domain: two presence containers, and a choice that the second one demands
+// Two presence containers, 0 and 1, and the choice 2, which the second one demands.
+const MODULE: &str = "module tried {
+  namespace 'urn:tried';
+  prefix t;
+  container a { presence 'it is there'; }
+  container s {
+    config false;
+    presence 'it is there';
+    choice c { mandatory true; }
+  }
+}";
 
-fn info(
-    alloc: Global,
-    parent: Option<u32>,
-    kind: Kind,
-    name: &str,
-    config: bool,
-    mandatory: bool,
-) -> Result<NodeInfo, NoMemory>
-    ensures { IfOk result (λ it. it ≡ tried.info parent kind name.now config mandatory) }
-{
-    let name = Str::new(alloc, name)?;
-    Ok(NodeInfo {
-        parent,
-        kind,
-        module: 0,
-        name,
-        config: Some(config),
-        ty: None,
-        keys: Seq::new(alloc),
-        mandatory,
-        min_elements: 0,
-        max_elements: None,
-        unique: Seq::new(alloc),
-    })
-}
-
-const PRESENCE: Kind = Kind::Container { presence: true };
-
-fn nodes(alloc: Global) -> Result<Seq<NodeInfo>, NoMemory>
-    ensures { IfOk result (λ it. it ≡ tried.nodes) }
-{
-    let mut nodes = Vec::new(alloc);
-    nodes.push(info(alloc, None, PRESENCE, "a", true, false)?)?;
-    nodes.push(info(alloc, None, PRESENCE, "s", false, false)?)?;
-    nodes.push(info(alloc, Some(1), Kind::Choice, "c", false, true)?)?;
-    Ok(Seq::from_items(nodes))
-}
-
-fn modules(alloc: Global) -> Result<Seq<Str>, NoMemory>
-    ensures { IfOk result (λ it. it ≡ codes "m" ∷ []) }
-{
-    let name = Str::new(alloc, "m")?;
-    Ok(Seq::from_items(vec![in alloc; name]?))
-}
-
-fn table(alloc: Global) -> Result<SchemaTable, NoMemory>
-    ensures { IfOk result (λ it. it ≡ tried.tried) }
-{
-    let nodes = nodes(alloc)?;
-    let modules = modules(alloc)?;
-    Ok(SchemaTable {
-        nodes,
-        types: Seq::new(alloc),
-        modules,
-        identities: Seq::new(alloc),
-    })
-}
-
-fn schema(alloc: Global) -> Result<Schema, NoMemory> {
-    let table = table(alloc)?;
-    Schema::from_table(alloc, table)
-}
-
-fn domain(alloc: Global) -> Result<Domain, NoMemory>
-    ensures { IfOk result (λ d. AreKept d.commits.items) }
-{
-    let schema = schema(alloc)?;
+fn device(alloc: Global) -> Result<Device, Fail> {
+    let schema = Arc::new(alloc, schema_of(alloc, MODULE)?)?;
     let opening = Opening {
         config: Rows::new(alloc),
         oper: Rows::new(alloc),
     };
-    let device = Device {
-        schema: Arc::new(alloc, schema)?,
-        opening,
-    };
-    let domain = Domain::open(alloc, 0, &device, true)?;
-    Ok(domain)
+    Ok(Device { schema, opening })
 }
 
-// ---- submissions
+// ---- submissions of one put
 
-fn top(alloc: Global, node: u32) -> Result<Path, PathFault> {
-    let mut path = Path::root(alloc);
-    path.push(Step::Node(node))?;
-    Ok(path)
+fn put(alloc: Global, store: Store, text: &str) -> Result<Op, Fail> {
+    let act = Act::Put(rows_of(alloc, text)?);
+    let path = path_of(alloc, text)?;
+    Ok(Op { store, path, act })
 }
 
-// A put of a presence container at the top.
-fn put(rt: &impl Abort, alloc: Global, store: Store, node: u32) -> Result<Op, Fail>
-    ensures { IfOk result (λ op. under (rows_of_act op.act) op.path ≡ rows_of_act op.act) }
+fn lies_below(op: &Op) -> bool
+    ensures { IsTrue result → under (rows_of_act op.now.act) op.now.path ≡ rows_of_act op.now.act }
 {
-    let path = top(alloc, node)?;
-    let row = Row {
-        path: path.copy()?,
-        cell: Cell::Mark,
-    };
-    let rows = Rows::from_list(vec![in alloc; row]?)?;
-    assert!(rt; lie_under(&rows, &path));
-    Ok(Op {
-        store,
-        path,
-        act: Act::Put(rows),
-    })
+    match &op.act {
+        Act::Put(rows) => lie_under(rows, &op.path),
+        _ => false,
+    }
 }
 
-// A submission of one operation on the trees of a commit.
-fn submission(
-    alloc: Global,
-    domain: &Domain,
-    base_commit: u64,
-    op: Op,
-) -> Result<Submission, NoMemory>
-    requires kept { AreKept domain.now.commits.items }
-    requires low { base_commit < length domain.now.commits.items }
-    requires below { under (rows_of_act op.act) op.path ≡ rows_of_act op.act }
-    ensures { IfOk result (λ sub. IsFor domain.now sub) }
+fn changed(alloc: Global, op: Op) -> Result<Mod, NoMemory>
+    ensures { IfOk result (λ changes. changes ≡ op ∷ []) }
 {
     let mut changes = Mod::new(alloc);
-    if changes.add(alloc, op).is_err() {
-        return Err(NoMemory);
+    match changes.add(alloc, op) {
+        Ok(()) => Ok(changes),
+        Err(_) => Err(NoMemory),
     }
-    let trees = &domain.commits[base_commit as usize].trees;
+}
+
+fn copies(trees: &Pair) -> Result<(Pair, Pair), NoMemory> {
     let base = trees.copy()?;
     let view = trees.copy()?;
-    Ok(Submission {
+    Ok((base, view))
+}
+
+fn submission(base_commit: u64, base: Pair, view: Pair, changes: Mod) -> Submission
+    ensures commit { result.base_commit ≡ base_commit }
+    ensures changes { result.changes ≡ changes }
+{
+    Submission {
         receipt: 5,
         domain: 0,
         chain: None,
@@ -152,92 +82,97 @@ fn submission(
         base,
         view,
         changes,
-    })
-}
-
-// The outcome of a put of a presence container, on the trees of a commit.
-fn decided(
-    rt: &impl Abort,
-    alloc: Global,
-    domain: &mut Domain,
-    base_commit: u64,
-    store: Store,
-    node: u32,
-) -> Result<Outcome, Fail>
-    requires { AreKept domain.old.commits.items }
-    ensures { IfOk result (λ o. AreKept domain.new.commits.items) }
-{
-    assert!(rt; base_commit < domain.commits.len() as u64);
-    let op = put(rt, alloc, store, node)?;
-    let sub = submission(alloc, domain, base_commit, op)?;
-    let outcome = decide(alloc, &sub, domain, 7)?;
-    Ok(outcome)
-}
-
-// Whether the presence containers stand in the configuration and in the operational store.
-fn stand(alloc: Global, domain: &Domain) -> Result<[bool; 2], PathFault> {
-    let (a, s) = (top(alloc, 0)?, top(alloc, 1)?);
-    match domain.commits.last() {
-        None => Ok([false, false]),
-        Some(last) => Ok([last.trees.config.exists(&a), last.trees.oper.exists(&s)]),
     }
 }
 
-// On the opening nothing stands in its way.
-fn is_done(rt: &impl Abort, alloc: Global, domain: &mut Domain) -> Result<bool, Fail>
+// The outcome of an operation on the trees of a commit.
+fn decided(domain: &mut Domain, alloc: Global, base_commit: u64, op: Op) -> Result<Outcome, Fail>
     requires { AreKept domain.old.commits.items }
-    ensures { IfOk result (λ b. AreKept domain.new.commits.items) }
+    ensures { IfOk result (λ o. AreKept domain.new.commits.items) }
 {
-    let outcome = decided(rt, alloc, domain, 0, Store::Config, 0)?;
-    Ok(outcome == Outcome::Done { commit: 1 })
+    if base_commit >= domain.commits.len() as u64 || !lies_below(&op) {
+        return Err("no operation on a commit".into());
+    }
+    let changes = changed(alloc, op)?;
+    let (base, view) = copies(&domain.commits[base_commit as usize].trees)?;
+    let submission = submission(base_commit, base, view, changes);
+    Ok(decide(alloc, &submission, domain, 7)?)
 }
 
-// The same once more, on the opening still, comes too late.
-fn is_late(rt: &impl Abort, alloc: Global, domain: &mut Domain) -> Result<bool, Fail>
-    requires { AreKept domain.old.commits.items }
-    ensures { IfOk result (λ b. AreKept domain.new.commits.items) }
-{
-    let path = top(alloc, 0)?;
-    let outcome = decided(rt, alloc, domain, 0, Store::Config, 0)?;
-    Ok(
-        outcome
-            == Outcome::Conflict {
-                store: Store::Config,
-                path,
-                kind: ClashKind::Created,
-                commit: 1,
-            },
-    )
+// ---- cases
+
+#[derive(Clone, Copy)]
+enum Wanted {
+    Done(u64),
+    Created(u64),
+    Broken(Rule),
 }
 
-// The second container lacks its choice, in the operational store.
-fn is_invalid(rt: &impl Abort, alloc: Global, domain: &mut Domain) -> Result<bool, Fail>
+use Wanted::*;
+
+// The commit whose trees a put stands on, its store and container, and the outcome: nothing stands in the way of the first;
+// the same once more comes too late; the second container lacks its choice.
+const PUTS: [(u64, Store, &str, Wanted); 3] = [
+    (0, Store::Config, "0", Done(1)),
+    (0, Store::Config, "0", Created(1)),
+    (1, Store::Oper, "1", Broken(Rule::Mandatory(2))),
+];
+
+fn outcome_of(store: Store, path: Path, wanted: Wanted) -> Outcome {
+    match wanted {
+        Done(commit) => Outcome::Done { commit },
+        Created(commit) => Outcome::Conflict {
+            store,
+            path,
+            kind: ClashKind::Created,
+            commit,
+        },
+        Broken(rule) => Outcome::Invalid { store, path, rule },
+    }
+}
+
+fn is_decided(
+    domain: &mut Domain,
+    alloc: Global,
+    case: (u64, Store, &str, Wanted),
+) -> Result<bool, Fail>
     requires { AreKept domain.old.commits.items }
     ensures { IfOk result (λ b. AreKept domain.new.commits.items) }
 {
-    let path = top(alloc, 1)?;
-    let outcome = decided(rt, alloc, domain, 1, Store::Oper, 1)?;
-    Ok(
-        outcome
-            == Outcome::Invalid {
-                store: Store::Oper,
-                path,
-                rule: Rule::Mandatory(2),
-            },
-    )
+    let (base_commit, store, text, wanted) = case;
+    let wanted = outcome_of(store, path_of(alloc, text)?, wanted);
+    let op = put(alloc, store, text)?;
+    Ok(decided(domain, alloc, base_commit, op)? == wanted)
+}
+
+// How many of the puts are decided as is wanted.
+fn right(domain: &mut Domain, alloc: Global) -> Result<usize, Fail>
+    requires { AreKept domain.old.commits.items }
+{
+    let mut count = 0;
+    for case in PUTS {
+        if is_decided(domain, alloc, case)? {
+            count += 1;
+        }
+    }
+    Ok(count)
+}
+
+// Whether the containers stand in the configuration and in the operational store of the newest commit.
+fn stand(alloc: Global, domain: &Domain) -> Result<[bool; 2], Fail> {
+    let a = path_of(alloc, "0")?;
+    let s = path_of(alloc, "1")?;
+    Ok(match domain.commits.last() {
+        None => [false, false],
+        Some(last) => [last.trees.config.exists(&a), last.trees.oper.exists(&s)],
+    })
 }
 
 #[test]
 fn one_is_done_and_two_are_refused(rt: HostRuntime) -> Result<(), Fail> {
-    let alloc = rt.alloc();
-    let mut domain = domain(alloc)?;
-    let done = is_done(&rt, alloc, &mut domain)?;
-    let late = is_late(&rt, alloc, &mut domain)?;
-    let invalid = is_invalid(&rt, alloc, &mut domain)?;
-    let [a, s] = stand(alloc, &domain)?;
-    assert_eq!(rt;
-        [done, late, invalid, a, s],
-        [true, true, true, true, false]
-    );
+    let device = device(rt.alloc())?;
+    let mut domain = Domain::open(rt.alloc(), 0, &device, true)?;
+    assert_eq!(rt; right(&mut domain, rt.alloc())?, PUTS.len());
+    assert_eq!(rt; stand(rt.alloc(), &domain)?, [true, false]);
     Ok(())
 }

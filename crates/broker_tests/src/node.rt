@@ -1,25 +1,45 @@
-use super::*;
+use sal_node::{Builder, Node, copy_cell};
 use sal_types::{Cell, Step};
+use std::alloc::Global;
 use std::sync::Arc;
 use std::test::Fail;
 
+fn mark(alloc: Global) -> Result<Arc<Node>, Fail> {
+    Ok(Arc::new(alloc, Node::new(alloc, Some(Cell::Mark), 7))?)
+}
+
+// A node with a child, and then with a cell too.
+fn with_child(alloc: Global, child: Arc<Node>) -> Result<Node, Fail> {
+    Ok(Node::new(alloc, None, 7).with_child(alloc, &Step::Node(3), Some(child), 8)?)
+}
+
+fn with_cell(alloc: Global, node: &Node) -> Result<Node, Fail> {
+    let cell = copy_cell(&Some(Cell::Mark))?;
+    Ok(node.with_cell(alloc, cell, 9)?)
+}
+
+// Its stamp, how many children it has, and how many with the stamp of the child.
+fn seen(alloc: Global, node: &Node) -> Result<[u64; 3], Fail> {
+    let all = node.children(alloc)?.len() as u64;
+    let changed = node.children_with(alloc, &[7])?.len() as u64;
+    Ok([node.stamp(), all, changed])
+}
+
+fn edited(alloc: Global, child: Arc<Node>) -> Result<[u64; 3], Fail> {
+    let node = with_child(alloc, child)?;
+    seen(alloc, &with_cell(alloc, &node)?)
+}
+
+fn is_filled(alloc: Global, child: &Arc<Node>) -> Result<bool, Fail> {
+    let child = Arc::try_clone(child)?;
+    let builder = Builder::new(alloc).push(alloc, Step::Node(5), child)?;
+    Ok(builder.finish(alloc, None, 7)?.is_filled())
+}
+
 #[test]
 fn a_node_has_its_children(rt: HostRuntime) -> Result<(), Fail> {
-    let leaf = Arc::new(rt.alloc(), Node::new(rt.alloc(), Some(Cell::Mark), 7))?;
-    let second = Arc::try_clone(&leaf)?;
-    let node = Node::new(rt.alloc(), None, 7).with_child(
-        rt.alloc(),
-        &Step::Node(3),
-        Some(leaf),
-        8,
-    )?;
-    let node = node.with_cell(rt.alloc(), copy_cell(&Some(Cell::Mark))?, 9)?;
-    assert_eq!(rt; node.stamp(), 9);
-    assert_eq!(rt; node.children(rt.alloc())?.len(), 1);
-    let stamps = vec![in rt.alloc(); 7u64]?;
-    assert_eq!(rt; node.children_with(rt.alloc(), stamps.as_slice())?.len(), 1);
-    let builder = Builder::new(rt.alloc()).push(rt.alloc(), Step::Node(5), second)?;
-    let built = builder.finish(rt.alloc(), None, 7)?;
-    assert_eq!(rt; built.is_filled(), true);
+    let child = mark(rt.alloc())?;
+    assert!(rt; is_filled(rt.alloc(), &child)?);
+    assert_eq!(rt; edited(rt.alloc(), child)?, [9, 1, 1]);
     Ok(())
 }

@@ -1,13 +1,14 @@
-use super::*;
+use sal_mod::Mod;
 use sal_rows::{Act, Op, Rows};
-use sal_types::{Cell, Duplicate, NoMemory, Path, Row, Step, Store};
+use sal_types::{Cell, NoMemory, Path, Row, Step, Store};
 use std::alloc::Global;
 use std::test::Fail;
 
-fn path_of(alloc: Global, first: u32, second: u32) -> Result<Path, Fail> {
+fn path_of(alloc: Global, nodes: &[u32]) -> Result<Path, Fail> {
     let mut path = Path::root(alloc);
-    path.push(Step::Node(first))?;
-    path.push(Step::Node(second))?;
+    for node in nodes {
+        path.push(Step::Node(*node))?;
+    }
     Ok(path)
 }
 
@@ -21,70 +22,102 @@ fn added(changes: &mut Mod, alloc: Global, path: Path, act: Act) -> Result<(), N
 
 fn mark_at(alloc: Global, path: Path) -> Result<Rows, Fail> {
     let cell = Cell::Mark;
-    Ok(Rows::from_list(vec![in alloc; Row { path, cell }]?)?)
+    Ok(Rows::of_one(alloc, Row { path, cell })?)
 }
 
-// A delete of /1, a merge at /2/5, and a put of nothing at /2/6.
-fn three(alloc: Global) -> Result<Mod, Fail> {
-    let mut changes = Mod::new(alloc);
-    let mut top = Path::root(alloc);
-    top.push(Step::Node(1))?;
-    added(&mut changes, alloc, top, Act::Delete)?;
-    let rows = mark_at(alloc, path_of(alloc, 2, 5)?)?;
-    added(&mut changes, alloc, path_of(alloc, 2, 5)?, Act::Merge(rows))?;
-    added(
-        &mut changes,
-        alloc,
-        path_of(alloc, 2, 6)?,
-        Act::Put(Rows::new(alloc)),
-    )?;
-    Ok(changes)
+#[derive(Clone, Copy)]
+enum Kind {
+    Delete,
+    PutNothing,
+    MergeMark,
 }
 
-// Which of four paths are covered: below the delete, at the merge, at the put before it and after it.
-fn covered_of(alloc: Global, changes: &Mod) -> Result<[bool; 4], Fail> {
-    let put = path_of(alloc, 2, 6)?;
-    Ok([
-        changes.covered(Store::Config, &path_of(alloc, 1, 7)?, 1),
-        changes.covered(Store::Config, &path_of(alloc, 2, 5)?, 3),
-        changes.covered(Store::Config, &put, 2),
-        changes.covered(Store::Config, &put, 3),
-    ])
+fn act_of(alloc: Global, kind: Kind, nodes: &[u32]) -> Result<Act, Fail> {
+    match kind {
+        Kind::Delete => Ok(Act::Delete),
+        Kind::PutNothing => Ok(Act::Put(Rows::new(alloc))),
+        Kind::MergeMark => Ok(Act::Merge(mark_at(alloc, path_of(alloc, nodes)?)?)),
+    }
 }
 
-#[test]
-fn puts_and_deletes_cover(rt: HostRuntime) -> Result<(), Fail> {
-    let changes = three(rt.alloc())?;
-    assert_eq!(rt;
-        covered_of(rt.alloc(), &changes)?,
-        [true, false, false, true]
-    );
+// The operations.
+const OPERATIONS: [(Kind, &[u32]); 3] = [
+    (Kind::Delete, &[1]),
+    (Kind::MergeMark, &[2, 5]),
+    (Kind::PutNothing, &[2, 6]),
+];
+
+fn add(changes: &mut Mod, alloc: Global, kind: Kind, nodes: &[u32]) -> Result<(), Fail> {
+    let act = act_of(alloc, kind, nodes)?;
+    added(changes, alloc, path_of(alloc, nodes)?, act)?;
     Ok(())
 }
 
-// What an operation sets: 0 for nothing, 1 for the absence of a cell, 2 for a cell.
-fn number(set: Option<Option<&Cell>>) -> u32 {
+fn changes(alloc: Global) -> Result<Mod, Fail> {
+    let mut changes = Mod::new(alloc);
+    for (kind, nodes) in OPERATIONS {
+        add(&mut changes, alloc, kind, nodes)?;
+    }
+    Ok(changes)
+}
+
+// Paths, places among the operations, and whether an operation from that place on puts or deletes at the path or above it:
+// below the delete, at the merge, at the put before it and after it.
+const COVERED: [([u32; 2], usize, bool); 4] = [
+    ([1, 7], 1, true),
+    ([2, 5], 3, false),
+    ([2, 6], 2, false),
+    ([2, 6], 3, true),
+];
+
+fn is_covered(alloc: Global, changes: &Mod, nodes: &[u32], place: usize) -> Result<bool, Fail> {
+    let path = path_of(alloc, nodes)?;
+    Ok(changes.covered(Store::Config, &path, place))
+}
+
+// What an operation sets last: nothing, the absence of a cell, or a cell.
+#[derive(Clone, Copy, PartialEq, Eq)]
+enum Set {
+    Nothing,
+    Absence,
+    Cell,
+}
+
+fn set_of(set: Option<Option<&Cell>>) -> Set {
     match set {
-        None => 0,
-        Some(None) => 1,
-        Some(Some(_)) => 2,
+        None => Set::Nothing,
+        Some(None) => Set::Absence,
+        Some(Some(_)) => Set::Cell,
     }
 }
 
 // What is set last below the delete, at the merge, there in the other store, and elsewhere.
-fn settings_of(alloc: Global, changes: &Mod) -> Result<[u32; 4], Fail> {
-    let merged = path_of(alloc, 2, 5)?;
-    Ok([
-        number(changes.last_setting(Store::Config, &path_of(alloc, 1, 7)?)),
-        number(changes.last_setting(Store::Config, &merged)),
-        number(changes.last_setting(Store::Oper, &merged)),
-        number(changes.last_setting(Store::Config, &path_of(alloc, 3, 5)?)),
-    ])
+const LAST: [(Store, [u32; 2], Set); 4] = [
+    (Store::Config, [1, 7], Set::Absence),
+    (Store::Config, [2, 5], Set::Cell),
+    (Store::Oper, [2, 5], Set::Nothing),
+    (Store::Config, [3, 5], Set::Nothing),
+];
+
+fn last_set(alloc: Global, changes: &Mod, store: Store, nodes: &[u32]) -> Result<Set, Fail> {
+    let path = path_of(alloc, nodes)?;
+    Ok(set_of(changes.last_setting(store, &path)))
+}
+
+#[test]
+fn puts_and_deletes_cover(rt: HostRuntime) -> Result<(), Fail> {
+    let changes = changes(rt.alloc())?;
+    for (nodes, place, wanted) in COVERED {
+        assert!(rt; is_covered(rt.alloc(), &changes, &nodes, place)? == wanted);
+    }
+    Ok(())
 }
 
 #[test]
 fn the_last_setting_counts(rt: HostRuntime) -> Result<(), Fail> {
-    let changes = three(rt.alloc())?;
-    assert_eq!(rt; settings_of(rt.alloc(), &changes)?, [1, 2, 0, 0]);
+    let changes = changes(rt.alloc())?;
+    for (store, nodes, wanted) in LAST {
+        assert!(rt; last_set(rt.alloc(), &changes, store, &nodes)? == wanted);
+    }
     Ok(())
 }

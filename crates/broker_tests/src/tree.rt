@@ -1,11 +1,12 @@
-use super::*;
 use sal_node::Paging;
 use sal_rows::{Act, Op, Rows, apply};
+use sal_tree::{Pair, Root, is_alike, lie_under};
 use sal_types::{Atom, Cell, Duplicate, Path, Row, Seq, Step, Store, Value};
 use std::alloc::Global;
-use std::process::Abort;
 use std::sync::Arc;
 use std::test::Fail;
+
+// ---- a list, node 0, whose entries have a key, node 1, and a value, node 2
 
 fn number(value: u64) -> Value {
     Value {
@@ -14,149 +15,202 @@ fn number(value: u64) -> Value {
     }
 }
 
-// The path of an entry of the list of node 0, by its key.
-fn entry(alloc: Global, key: u64) -> Result<Path, Fail> {
-    let mut path = Path::root(alloc);
-    path.push(Step::Node(0))?;
-    let keys = Seq::from_items(vec![in alloc; number(key)]?);
-    path.push(Step::Key(keys))?;
+fn push(path: Path, step: Step) -> Result<Path, Fail> {
+    let mut path = path;
+    path.push(step)?;
     Ok(path)
 }
 
-// A row of a leaf of an entry: node 1 is its key `k`, node 2 its value `v`.
+fn list(alloc: Global) -> Result<Path, Fail> {
+    push(Path::root(alloc), Step::Node(0))
+}
+
+fn entry(alloc: Global, key: u64) -> Result<Path, Fail> {
+    let keys = Seq::from_items(vec![in alloc; number(key)]?);
+    push(list(alloc)?, Step::Key(keys))
+}
+
+fn mark(alloc: Global, key: u64) -> Result<Row, Fail> {
+    let path = entry(alloc, key)?;
+    let cell = Cell::Mark;
+    Ok(Row { path, cell })
+}
+
 fn leaf(alloc: Global, key: u64, node: u32, value: u64) -> Result<Row, Fail> {
-    let mut path = entry(alloc, key)?;
-    path.push(Step::Node(node))?;
+    let path = push(entry(alloc, key)?, Step::Node(node))?;
     let cell = Cell::Leaf(number(value));
     Ok(Row { path, cell })
 }
 
-fn entry_rows(alloc: Global, key: u64) -> Result<Rows, Fail> {
-    let path = entry(alloc, key)?;
-    let mark = Row {
-        path,
-        cell: Cell::Mark,
-    };
-    let list = vec![in alloc; mark, leaf(alloc, key, 1, key)?, leaf(alloc, key, 2, 0)?]?;
-    let rows = Rows::from_list(list)?;
-    Ok(rows)
-}
-
-fn put_entry(alloc: Global, key: u64) -> Result<Op, Fail> {
-    let path = entry(alloc, key)?;
-    let act = Act::Put(entry_rows(alloc, key)?);
-    let store = Store::Config;
-    Ok(Op { store, path, act })
-}
-
-fn merge_leaf(alloc: Global, key: u64) -> Result<Op, Fail> {
-    let path = entry(alloc, key)?;
-    let rows = Rows::from_list(vec![in alloc; leaf(alloc, key, 2, 1)?]?)?;
-    let act = Act::Merge(rows);
-    let store = Store::Config;
-    Ok(Op { store, path, act })
-}
-
-// The tree after the operation.
-fn after(rt: &impl Abort, alloc: Global, root: &Root, op: &Op, stamp: u64) -> Result<Root, Fail> {
-    match &op.act {
-        Act::Put(rows) => {
-            assert_eq!(rt; lie_under(rows, &op.path), true);
-            let root = root.put(alloc, &op.path, rows, stamp)?;
-            Ok(root)
-        }
-        Act::Merge(rows) => {
-            assert_eq!(rt; lie_under(rows, &op.path), true);
-            let root = root.merge(alloc, &op.path, rows, stamp)?;
-            Ok(root)
-        }
-        Act::Delete => {
-            let root = root.delete(alloc, &op.path, stamp)?;
-            Ok(root)
-        }
-    }
-}
-
-// Does the operation on the tree and on the rows, and compares them.
-fn compared(
-    rt: &impl Abort,
-    alloc: Global,
-    root: &Root,
-    rows: &Rows,
-    op: Op,
-) -> Result<(Root, Rows), Fail> {
-    let root = after(rt, alloc, root, &op, 9)?;
-    let ops = vec![in alloc; op]?;
-    let rows = apply(alloc, rows, Store::Config, ops.as_slice())?;
-    let found = root.rows(alloc, &Path::root(alloc))?;
-    assert_eq!(rt; found.items() == rows.items(), true);
-    Ok((root, rows))
-}
-
-// 300 entries put in descending order, 100 leafs merged, 100 entries deleted: after each operation the tree has the
-// rows that `apply` computes.
-#[test]
-fn five_hundred_operations(rt: HostRuntime) -> Result<(), Fail> {
-    let mut root = Root::empty(rt.alloc())?;
-    let mut rows = Rows::new(rt.alloc());
-    for count in 0..300u64 {
-        (root, rows) = compared(
-            &rt,
-            rt.alloc(),
-            &root,
-            &rows,
-            put_entry(rt.alloc(), 299 - count)?,
-        )?;
-    }
-    for key in 0..100u64 {
-        (root, rows) = compared(&rt, rt.alloc(), &root, &rows, merge_leaf(rt.alloc(), key)?)?;
-    }
-    for key in 0..100u64 {
-        let path = entry(rt.alloc(), key)?;
-        let store = Store::Config;
-        let op = Op {
-            store,
-            path,
-            act: Act::Delete,
-        };
-        (root, rows) = compared(&rt, rt.alloc(), &root, &rows, op)?;
-    }
-    assert_eq!(rt; rows.items().len(), 600);
+fn fill(list: &mut Vec<Row>, alloc: Global, key: u64) -> Result<(), Fail> {
+    list.push(mark(alloc, key)?)?;
+    list.push(leaf(alloc, key, 1, key)?)?;
+    list.push(leaf(alloc, key, 2, 0)?)?;
     Ok(())
 }
 
-// How many pages there are, where they are not in sheets.
-fn pages_of(paging: &Paging) -> usize {
-    match paging {
-        Paging::Pages(pages) => pages.len(),
-        Paging::Sheets(_) => 0,
+fn entry_rows(alloc: Global, key: u64) -> Result<Rows, Fail> {
+    let mut list = Vec::new(alloc);
+    fill(&mut list, alloc, key)?;
+    Ok(Rows::from_list(list)?)
+}
+
+fn value_rows(alloc: Global, key: u64) -> Result<Rows, Fail> {
+    Ok(Rows::of_one(alloc, leaf(alloc, key, 2, 1)?)?)
+}
+
+// ---- operations
+
+#[derive(Clone, Copy)]
+enum Kind {
+    Put,
+    Merge,
+    Delete,
+}
+
+fn act_of(alloc: Global, kind: Kind, key: u64) -> Result<Act, Fail> {
+    match kind {
+        Kind::Put => Ok(Act::Put(entry_rows(alloc, key)?)),
+        Kind::Merge => Ok(Act::Merge(value_rows(alloc, key)?)),
+        Kind::Delete => Ok(Act::Delete),
     }
 }
 
-// Entries put in ascending order leave full pages, a copy shares the nodes, and the rows make the tree again.
+fn op_of(alloc: Global, kind: Kind, key: u64) -> Result<Op, Fail> {
+    let act = act_of(alloc, kind, key)?;
+    let path = entry(alloc, key)?;
+    let store = Store::Config;
+    Ok(Op { store, path, act })
+}
+
+// The tree after the operation, whose rows have to lie at and below its path.
+fn after(alloc: Global, root: &Root, op: &Op) -> Result<Root, Fail> {
+    match &op.act {
+        Act::Put(rows) if lie_under(rows, &op.path) => Ok(root.put(alloc, &op.path, rows, 9)?),
+        Act::Merge(rows) if lie_under(rows, &op.path) => Ok(root.merge(alloc, &op.path, rows, 9)?),
+        Act::Delete => Ok(root.delete(alloc, &op.path, 9)?),
+        _ => Err("rows beside the path".into()),
+    }
+}
+
+fn rows_after(alloc: Global, rows: &Rows, op: Op) -> Result<Rows, Fail> {
+    let ops = vec![in alloc; op]?;
+    Ok(apply(alloc, rows, Store::Config, ops.as_slice())?)
+}
+
+fn rows_of(alloc: Global, root: &Root) -> Result<Rows, Fail> {
+    let path = Path::root(alloc);
+    Ok(root.rows(alloc, &path)?)
+}
+
+fn is_same(alloc: Global, root: &Root, rows: &Rows) -> Result<bool, Fail> {
+    Ok(rows_of(alloc, root)?.items() == rows.items())
+}
+
+// A tree, and the rows that `apply` computes.
+#[derive(Drop)]
+struct Both {
+    root: Root,
+    rows: Rows,
+}
+
+fn nothing(alloc: Global) -> Result<Both, Fail> {
+    let root = Root::empty(alloc)?;
+    let rows = Rows::new(alloc);
+    Ok(Both { root, rows })
+}
+
+// Does the operation on both: whether they agree still.
+fn agree(both: &mut Both, alloc: Global, op: Op) -> Result<bool, Fail> {
+    both.root = after(alloc, &both.root, &op)?;
+    both.rows = rows_after(alloc, &both.rows, op)?;
+    is_same(alloc, &both.root, &both.rows)
+}
+
+// The operation of each number: 300 entries are put in descending order, 100 leafs merged, and 100 entries deleted.
+fn numbered(number: u64) -> (Kind, u64) {
+    match number {
+        0..300 => (Kind::Put, 299 - number),
+        300..400 => (Kind::Merge, number - 300),
+        _ => (Kind::Delete, number % 100),
+    }
+}
+
+// How many of the 500 operations leave the tree with the rows that `apply` computes.
+fn agreeing(both: &mut Both, alloc: Global) -> Result<usize, Fail> {
+    let mut count = 0;
+    for number in 0..500u64 {
+        let (kind, key) = numbered(number);
+        if agree(both, alloc, op_of(alloc, kind, key)?)? {
+            count += 1;
+        }
+    }
+    Ok(count)
+}
+
+#[test]
+fn five_hundred_operations(rt: HostRuntime) -> Result<(), Fail> {
+    let mut both = nothing(rt.alloc())?;
+    assert_eq!(rt; agreeing(&mut both, rt.alloc())?, 500);
+    assert_eq!(rt; both.rows.items().len(), 600);
+    Ok(())
+}
+
+// ---- trees that are made again of their rows
+
+fn put_in_order(alloc: Global) -> Result<Root, Fail> {
+    let mut root = Root::empty(alloc)?;
+    for key in 0..200u64 {
+        root = after(alloc, &root, &op_of(alloc, Kind::Put, key)?)?;
+    }
+    Ok(root)
+}
+
+// How many pages the list has, where they are not in sheets.
+fn pages(root: &Root, list: &Path) -> usize {
+    match root.get(list) {
+        Some(node) => match &node.paging {
+            Paging::Pages(pages) => pages.len(),
+            Paging::Sheets(_) => 0,
+        },
+        None => 0,
+    }
+}
+
+fn pair(alloc: Global, root: &Root) -> Result<Pair, Fail> {
+    let config = root.copy()?;
+    let oper = Root::empty(alloc)?;
+    Ok(Pair { config, oper })
+}
+
+// Whether a copy of a copy shares the list.
+fn is_shared(alloc: Global, root: &Root, list: &Path) -> Result<bool, Fail> {
+    let copy = pair(alloc, root)?.copy()?;
+    Ok(is_alike(root, &copy.config, list))
+}
+
+fn again(alloc: Global, rows: &Rows) -> Result<Root, Fail> {
+    let root = Root::from_rows(alloc, rows, 0)?;
+    Ok(Root::from_node(Arc::try_clone(root.node())?))
+}
+
+// Whether the tree made of the list's rows shares the list, and whether it has its rows.
+fn made_again(alloc: Global, root: &Root, list: &Path) -> Result<(bool, bool), Fail> {
+    let rows = root.rows(alloc, list)?;
+    let again = again(alloc, &rows)?;
+    Ok((
+        is_alike(root, &again, list),
+        again.rows(alloc, list)?.items() == rows.items(),
+    ))
+}
+
+// Entries put in ascending order leave full pages.
 #[test]
 fn trees_are_made_again_of_their_rows(rt: HostRuntime) -> Result<(), Fail> {
-    let mut root = Root::empty(rt.alloc())?;
-    for key in 0..200u64 {
-        root = after(&rt, rt.alloc(), &root, &put_entry(rt.alloc(), key)?, 9)?;
-    }
-    let mut list = Path::root(rt.alloc());
-    list.push(Step::Node(0))?;
-    let pages = root.get(&list).map_or(0, |node| pages_of(&node.paging));
-    assert_eq!(rt; pages, 4);
-    let pair = Pair {
-        config: root.copy()?,
-        oper: Root::empty(rt.alloc())?,
-    };
-    let pair = pair.copy()?;
-    assert_eq!(rt; is_alike(&root, &pair.config, &list), true);
-    let rows = root.rows(rt.alloc(), &list)?;
-    let again = Root::from_rows(rt.alloc(), &rows, 0)?;
-    let again = Root::from_node(Arc::try_clone(again.node())?);
-    assert_eq!(rt; is_alike(&root, &again, &list), false);
-    assert_eq!(rt;
-        again.rows(rt.alloc(), &list)?.items() == rows.items(),
-        true
-    );
+    let root = put_in_order(rt.alloc())?;
+    let list = list(rt.alloc())?;
+    assert_eq!(rt; pages(&root, &list), 4);
+    assert!(rt; is_shared(rt.alloc(), &root, &list)?);
+    assert_eq!(rt; made_again(rt.alloc(), &root, &list)?, (false, true));
     Ok(())
 }

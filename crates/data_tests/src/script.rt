@@ -1,6 +1,6 @@
-use super::*;
 use sal_rows::Mode;
-use sal_types::{Store, Str};
+use sal_script::{PLAIN, Script, ScriptFault, ScriptStep, read_script};
+use sal_types::Store;
 use std::alloc::Global;
 use std::test::Fail;
 
@@ -118,120 +118,164 @@ const TEXTS: [(&str, &str); 89] = [
     ("\"submit\"", "clients/0/0"),
 ];
 
-fn place_of(alloc: Global, bytes: &[u8]) -> Result<Str, Fail> {
+// Whether the first bad place of a text is this one.
+fn is_placed(alloc: Global, bytes: &[u8], wanted: &str) -> bool {
     match read_script(alloc, bytes) {
-        Ok(_) => Ok(Str::new(alloc, "ok")?),
-        Err(ScriptFault::BadScript { place }) => Ok(place),
-        Err(ScriptFault::NoMemory) => Ok(Str::new(alloc, "no memory")?),
+        Ok(_) => wanted == "ok",
+        Err(ScriptFault::BadScript { place }) => place.as_str() == wanted,
+        Err(ScriptFault::NoMemory) => false,
     }
 }
 
-// A script with one client, which has this step.
-fn with_step(alloc: Global, step: &str) -> Result<String, Fail> {
-    Ok(format!(in alloc; "{{\"clients\":[{{\"steps\":[{step}]}}]}}")?)
+// Whether a text is that of a step alone.
+fn is_step(text: &str) -> bool {
+    text.starts_with("[\"") || text.starts_with("[0") || text.starts_with("\"")
 }
 
-// A script with so many clients, each with so many of this step.
-fn with_many(alloc: Global, clients: usize, steps: usize, step: &str) -> Result<String, Fail> {
-    let mut text = String::from_str(alloc, "{\"clients\":[")?;
-    for client in 0..clients {
-        text.push_str(if client == 0 {
-            "{\"steps\":["
-        } else {
-            ",{\"steps\":["
-        })?;
-        for number in 0..steps {
-            text.push_str(if number == 0 { "" } else { "," })?;
-            text.push_str(step)?;
-        }
-        text.push_str("]}")?;
+// A step stands in a script with one client.
+fn is_text_placed(alloc: Global, text: &str, wanted: &str) -> Result<bool, Fail> {
+    if !is_step(text) {
+        return Ok(is_placed(alloc, text.as_bytes(), wanted));
     }
-    text.push_str("]}")?;
-    Ok(text)
+    let script = format!(in alloc; "{{\"clients\":[{{\"steps\":[{text}]}}]}}")?;
+    Ok(is_placed(alloc, script.as_bytes(), wanted))
 }
 
 #[test]
 fn first_bad_places(rt: HostRuntime) -> Result<(), Fail> {
-    let alloc = rt.alloc();
-    for (text, want) in TEXTS.iter() {
-        let script = if text.starts_with("[\"")
-            || text.starts_with("[0")
-            || text.starts_with("\"")
-        {
-            with_step(alloc, *text)?
-        } else {
-            String::from_str(alloc, *text)?
-        };
-        let place = place_of(alloc, script.as_bytes())?;
-        assert!(rt; place.as_str() == *want, "{text}");
+    for (text, wanted) in TEXTS {
+        let is_placed = is_text_placed(rt.alloc(), text, wanted)?;
+        assert!(rt; is_placed, "{text}");
     }
     Ok(())
+}
+
+// ---- limits
+
+// Numbers of clients and of steps of each, the step, and the first bad place.
+const LIMITS: [(usize, usize, &str, &str); 5] = [
+    (16, 1, "[\"submit\",1]", "ok"),
+    (17, 1, "[\"submit\",1]", "clients"),
+    (1, 60000, "[\"submit\",1]", "ok"),
+    (2, 60000, "0", "clients/0/0"),
+    (2, 60001, "0", "clients/0"),
+];
+
+fn push_many(out: &mut String, count: usize, item: &str) -> Result<(), Fail> {
+    for number in 0..count {
+        out.push_str(if number == 0 { "" } else { "," })?;
+        out.push_str(item)?;
+    }
+    Ok(())
+}
+
+fn steps(alloc: Global, count: usize, step: &str) -> Result<String, Fail> {
+    let mut text = String::new(alloc);
+    push_many(&mut text, count, step)?;
+    Ok(text)
+}
+
+fn client(alloc: Global, count: usize, step: &str) -> Result<String, Fail> {
+    let steps = steps(alloc, count, step)?;
+    Ok(format!(in alloc; "{{\"steps\":[{steps}]}}")?)
+}
+
+fn clients(alloc: Global, count: usize, client: &str) -> Result<String, Fail> {
+    let mut text = String::new(alloc);
+    push_many(&mut text, count, client)?;
+    Ok(text)
+}
+
+fn is_limit_placed(alloc: Global, clients: &str, wanted: &str) -> Result<bool, Fail> {
+    let script = format!(in alloc; "{{\"clients\":[{clients}]}}")?;
+    Ok(is_placed(alloc, script.as_bytes(), wanted))
+}
+
+fn is_kept(alloc: Global, limit: (usize, usize, &str, &str)) -> Result<bool, Fail> {
+    let client = client(alloc, limit.1, limit.2)?;
+    let clients = clients(alloc, limit.0, client.as_str())?;
+    is_limit_placed(alloc, clients.as_str(), limit.3)
 }
 
 #[test]
 fn limits_and_bytes(rt: HostRuntime) -> Result<(), Fail> {
-    let alloc = rt.alloc();
-    for (clients, steps, step, want) in [
-        (16, 1, "[\"submit\",1]", "ok"),
-        (17, 1, "[\"submit\",1]", "clients"),
-        (1, 60000, "[\"submit\",1]", "ok"),
-        (2, 60000, "0", "clients/0/0"),
-        (2, 60001, "0", "clients/0"),
-    ] {
-        let script = with_many(alloc, clients, steps, step)?;
-        let place = place_of(alloc, script.as_bytes())?;
+    for limit in LIMITS {
+        let is_kept = is_kept(rt.alloc(), limit)?;
         assert!(rt;
-            place.as_str() == want,
-            "{clients} clients with {steps} steps {step}"
+            is_kept,
+            "{} clients with {} steps {}",
+            limit.0, limit.1, limit.2
         );
     }
-    let place = place_of(alloc, b"{\"clients\":[{\"steps\":[[\"\xff\"]]}]}")?;
-    assert!(rt; place.as_str() == "json");
+    let no_text = b"{\"clients\":[{\"steps\":[[\"\xff\"]]}]}";
+    assert!(rt; is_placed(rt.alloc(), no_text, "json"));
     Ok(())
+}
+
+// ---- what is read
+
+const TWO_CLIENTS: &[u8] =
+    b"{\"order\":[0,1,0],\"clients\":[{\"steps\":[[\"begin\",3,0,\"rw\"],[\"put\",3,\"config\",\"/plain:box/c\",\"\\u00e9\"]]},{\"steps\":[]}]}";
+
+const TWO_MODULES: &[u8] = b"{\"modules\":[\"module a {\",\"\\u00e9\"]}";
+
+// Whether these are the texts of the modules.
+fn has_modules(script: &Script, wanted: &[&str]) -> bool {
+    let texts = script.modules.items();
+    texts.len() == wanted.len()
+        && texts
+            .iter()
+            .zip(wanted)
+            .all(|(text, it)| text.as_str() == *it)
+}
+
+fn is_begin(step: &ScriptStep) -> bool {
+    match step {
+        ScriptStep::Begin { slot, domain, mode } => *slot == 3 && *domain == 0 && *mode == Mode::Rw,
+        _ => false,
+    }
+}
+
+fn is_put(step: &ScriptStep) -> bool {
+    match step {
+        ScriptStep::Put {
+            slot,
+            store,
+            path,
+            value,
+        } => {
+            *slot == 3
+                && *store == Store::Config
+                && path.as_str() == "/plain:box/c"
+                && matches!(value.as_str(), Some("é"))
+        }
+        _ => false,
+    }
+}
+
+// Whether there are two clients, the first with a begin and a put, the second without a step.
+fn has_clients(script: &Script) -> bool {
+    match script.clients.items() {
+        [first, second] => match first.items() {
+            [begin, put] => is_begin(begin) && is_put(put) && second.items().is_empty(),
+            _ => false,
+        },
+        _ => false,
+    }
 }
 
 #[test]
 fn a_script_is_read(rt: HostRuntime) -> Result<(), Fail> {
-    let text =
-        b"{\"order\":[0,1,0],\"clients\":[{\"steps\":[[\"begin\",3,0,\"rw\"],[\"put\",3,\"config\",\"/plain:box/c\",\"\\u00e9\"]]},{\"steps\":[]}]}";
-    let script = read_script(rt.alloc(), text)?;
-    assert_eq!(rt; script.modules.items().len(), 1);
-    assert!(rt; script.modules.items()[0].as_str() == PLAIN);
+    let script = read_script(rt.alloc(), TWO_CLIENTS)?;
+    assert!(rt; has_modules(&script, &[PLAIN]));
+    assert!(rt; has_clients(&script));
     assert_eq!(rt; script.order.items(), [0, 1, 0].as_slice());
-    let clients = script.clients.items();
-    assert_eq!(rt; clients.len(), 2);
-    assert_eq!(rt; clients[1].items().len(), 0);
-    let steps = clients[0].items();
-    assert_eq!(rt; steps.len(), 2);
-    let is_begin = matches!(
-        &steps[0],
-        ScriptStep::Begin {
-            slot: 3,
-            domain: 0,
-            mode: Mode::Rw
-        }
-    );
-    assert!(rt; is_begin);
-    let is_put = match &steps[1] {
-        ScriptStep::Put {
-            slot: 3,
-            store: Store::Config,
-            path,
-            value,
-        } => matches!(value.as_str(), Some("é")) && path.as_str() == "/plain:box/c",
-        _ => false,
-    };
-    assert!(rt; is_put);
     Ok(())
 }
 
 #[test]
 fn modules_are_read(rt: HostRuntime) -> Result<(), Fail> {
-    let text = b"{\"modules\":[\"module a {\",\"\\u00e9\"]}";
-    let script = read_script(rt.alloc(), text)?;
-    let texts = script.modules.items();
-    assert_eq!(rt; texts.len(), 2);
-    assert!(rt; texts[0].as_str() == "module a {");
-    assert!(rt; texts[1].as_str() == "é");
+    let script = read_script(rt.alloc(), TWO_MODULES)?;
+    assert!(rt; has_modules(&script, &["module a {", "é"]));
     Ok(())
 }

@@ -12,7 +12,7 @@ use Rattle.sal_tx.specs.declared.tx.Tx.TheVariants.{Write}
 use Rattle.sal_tx.specs.Views.{rows_in}
 use Rattle.sal_hub.specs.Known.{Known, entry_of, more}
 use Rattle.sal_hub.specs.Tokens.{IsBegun, IsFresh, IsToken}
-use Rattle.sal_hub.proofs.tests.submitted_twice.Goals as goal
+use Rattle.broker_tests.proofs.hub.is_spent_once.Goals as goal
 
 -- the newest trees before a begin are those that its transaction stands on
 stands : (old new : Known) (e : Entry) (place domain : ℕ) (base : Pair) (s : Store) → new ≡ more old e → place ≡ length old.log → domain ≡ 0 → rows_in base s ≡ newest_tree old.world old.log 0 s → rows_in base s ≡ base_tree new.world new.log domain place s

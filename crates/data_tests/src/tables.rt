@@ -1,0 +1,311 @@
+use sal_restrict::{Part, Ranges, YangType};
+use sal_schema::{IdentityInfo, Kind, NodeInfo, Schema, SchemaTable};
+use sal_table::schema_of;
+use sal_types::{Seq, Str};
+use std::alloc::Global;
+use std::test::Fail;
+
+/// A node: its parent, kind, module, name and type, and its keys.
+#[derive(Drop)]
+pub(crate) struct Info(
+    pub Option<u32>,
+    pub Kind,
+    pub u32,
+    pub &'static str,
+    pub Option<u32>,
+    pub &'static [u32],
+);
+
+/// Nodes of modules, and behind them those of their RPCs and notifications. Below the last data node stand so many containers
+/// of its name, each in the one before.
+#[derive(Drop)]
+pub(crate) struct Given {
+    pub modules: &'static [&'static str],
+    pub nodes: &'static [Info],
+    pub nested: u32,
+    pub messages: &'static [Info],
+}
+
+pub(crate) const PLAIN: Kind = Kind::Container { presence: false };
+
+// ---- nodes
+
+fn numbers(alloc: Global, list: &[u32]) -> Result<Seq<u32>, Fail> {
+    Ok(Seq::from_items(Vec::from_slice(alloc, list)?))
+}
+
+fn node(alloc: Global, info: &Info, config: Option<bool>) -> Result<NodeInfo, Fail> {
+    let keys = numbers(alloc, info.5)?;
+    let name = Str::new(alloc, info.3)?;
+    Ok(NodeInfo {
+        parent: info.0,
+        kind: info.1,
+        module: info.2,
+        name,
+        config,
+        ty: info.4,
+        keys,
+        mandatory: false,
+        min_elements: 0,
+        max_elements: None,
+        unique: Seq::new(alloc),
+    })
+}
+
+fn add_nodes(
+    list: &mut Vec<NodeInfo>,
+    alloc: Global,
+    infos: &[Info],
+    config: Option<bool>,
+) -> Result<(), Fail> {
+    for info in infos {
+        list.push(node(alloc, info, config)?)?;
+    }
+    Ok(())
+}
+
+fn add_nested(list: &mut Vec<NodeInfo>, alloc: Global, from: u32, count: u32) -> Result<(), Fail> {
+    for i in 0..count {
+        let parent = from.checked_add(i);
+        let info = Info(parent, PLAIN, 0, "c", None, &[]);
+        list.push(node(alloc, &info, Some(true))?)?;
+    }
+    Ok(())
+}
+
+fn add_all(list: &mut Vec<NodeInfo>, alloc: Global, given: &Given) -> Result<(), Fail> {
+    add_nodes(list, alloc, given.nodes, Some(true))?;
+    let last = u32::try_from(given.nodes.len())?.saturating_sub(1);
+    add_nested(list, alloc, last, given.nested)?;
+    add_nodes(list, alloc, given.messages, None)
+}
+
+fn nodes(alloc: Global, given: &Given) -> Result<Seq<NodeInfo>, Fail> {
+    let mut list = Vec::new(alloc);
+    add_all(&mut list, alloc, given)?;
+    Ok(Seq::from_items(list))
+}
+
+// ---- types
+
+#[derive(Drop)]
+enum Form {
+    // the bits, whether there is a sign, the least and the greatest
+    Int(u8, bool, i128, i128),
+    Dec,
+    // the greatest length
+    Text(u16),
+    Bool,
+    Enum,
+    Bits,
+    Bin,
+    Ident,
+    Empty,
+    ByteOrText,
+    TextOrByte,
+}
+
+const FORMS: &[Form] = &[
+    Form::Int(8, true, -128, 127),
+    Form::Int(16, true, -32768, 32767),
+    Form::Int(32, true, -2147483648, 2147483647),
+    Form::Int(64, true, -9223372036854775808, 9223372036854775807),
+    Form::Int(8, false, 0, 255),
+    Form::Int(16, false, 0, 65535),
+    Form::Int(32, false, 0, 4294967295),
+    Form::Int(64, false, 0, 18446744073709551615),
+    Form::Dec,
+    Form::Text(8),
+    Form::Bool,
+    Form::Enum,
+    Form::Bits,
+    Form::Bin,
+    Form::Ident,
+    Form::Empty,
+    Form::ByteOrText,
+    Form::TextOrByte,
+    Form::Text(1000),
+    Form::Int(16, false, 0, 4096),
+];
+
+fn range(alloc: Global, low: i128, high: i128) -> Result<Ranges, Fail> {
+    if high < low {
+        return Err("a range the wrong way round".into());
+    }
+    Ok(Ranges::from_items(vec![in alloc; Part { low, high }]?))
+}
+
+fn int(alloc: Global, bits: u8, signed: bool, (low, high): (i128, i128)) -> Result<YangType, Fail> {
+    let range = range(alloc, low, high)?;
+    Ok(YangType::Int {
+        bits,
+        signed,
+        range,
+    })
+}
+
+fn byte(alloc: Global) -> Result<YangType, Fail> {
+    int(alloc, 8, false, (0, 255))
+}
+
+fn text(alloc: Global, longest: u16) -> Result<YangType, Fail> {
+    let length = range(alloc, 0, i128::from(longest))?;
+    Ok(YangType::Text {
+        length,
+        patterns: Seq::new(alloc),
+    })
+}
+
+fn dec(alloc: Global) -> Result<YangType, Fail> {
+    let range = range(alloc, -9223372036854775808, 9223372036854775807)?;
+    Ok(YangType::Dec { digits: 18, range })
+}
+
+fn add_names(list: &mut Vec<Str>, alloc: Global, names: &[&str]) -> Result<(), Fail> {
+    for name in names {
+        list.push(Str::new(alloc, name)?)?;
+    }
+    Ok(())
+}
+
+fn names(alloc: Global, names: &[&str]) -> Result<Seq<Str>, Fail> {
+    let mut list = Vec::new(alloc);
+    add_names(&mut list, alloc, names)?;
+    Ok(Seq::from_items(list))
+}
+
+fn enumeration(alloc: Global) -> Result<YangType, Fail> {
+    let names = names(alloc, &["up", "down"])?;
+    let places = numbers(alloc, &[0, 5])?;
+    Ok(YangType::Enum { names, places })
+}
+
+fn bits(alloc: Global) -> Result<YangType, Fail> {
+    let names = names(alloc, &["a", "b", "c"])?;
+    let positions = Seq::from_items(Vec::from_slice(alloc, &[0, 3, 63])?);
+    Ok(YangType::Bits { names, positions })
+}
+
+fn bin(alloc: Global) -> Result<YangType, Fail> {
+    let length = range(alloc, 0, 4)?;
+    Ok(YangType::Bin { length })
+}
+
+fn ident(alloc: Global) -> Result<YangType, Fail> {
+    let bases = numbers(alloc, &[0])?;
+    Ok(YangType::Ident { bases })
+}
+
+fn add_byte(members: &mut Vec<YangType>, alloc: Global) -> Result<(), Fail> {
+    members.push(byte(alloc)?)?;
+    Ok(())
+}
+
+fn add_text(members: &mut Vec<YangType>, alloc: Global) -> Result<(), Fail> {
+    members.push(text(alloc, 8)?)?;
+    Ok(())
+}
+
+fn add_both(members: &mut Vec<YangType>, alloc: Global, byte_first: bool) -> Result<(), Fail> {
+    if byte_first {
+        add_byte(members, alloc)?;
+        add_text(members, alloc)
+    } else {
+        add_text(members, alloc)?;
+        add_byte(members, alloc)
+    }
+}
+
+fn union(alloc: Global, byte_first: bool) -> Result<YangType, Fail> {
+    let mut members = Vec::new(alloc);
+    add_both(&mut members, alloc, byte_first)?;
+    Ok(YangType::Union {
+        members: Seq::from_items(members),
+    })
+}
+
+fn type_of(alloc: Global, form: &Form) -> Result<YangType, Fail> {
+    match form {
+        Form::Int(bits, signed, low, high) => int(alloc, *bits, *signed, (*low, *high)),
+        Form::Dec => dec(alloc),
+        Form::Text(longest) => text(alloc, *longest),
+        Form::Bool => Ok(YangType::Bool),
+        Form::Enum => enumeration(alloc),
+        Form::Bits => bits(alloc),
+        Form::Bin => bin(alloc),
+        Form::Ident => ident(alloc),
+        Form::Empty => Ok(YangType::Empty),
+        Form::ByteOrText => union(alloc, true),
+        Form::TextOrByte => union(alloc, false),
+    }
+}
+
+fn add_types(list: &mut Vec<YangType>, alloc: Global) -> Result<(), Fail> {
+    for form in FORMS {
+        list.push(type_of(alloc, form)?)?;
+    }
+    Ok(())
+}
+
+fn types(alloc: Global) -> Result<Seq<YangType>, Fail> {
+    let mut list = Vec::new(alloc);
+    add_types(&mut list, alloc)?;
+    Ok(Seq::from_items(list))
+}
+
+// ---- identities
+
+const IDENTITIES: &[(&str, u32, &[u32])] = &[
+    ("medium", 0, &[]),
+    ("fibre", 0, &[0]),
+    ("copper", 1, &[0]),
+];
+
+fn identity(alloc: Global, name: &str, module: u32, bases: &[u32]) -> Result<IdentityInfo, Fail> {
+    let name = Str::new(alloc, name)?;
+    let derived_from = numbers(alloc, bases)?;
+    Ok(IdentityInfo {
+        name,
+        module,
+        derived_from,
+    })
+}
+
+fn add_identities(list: &mut Vec<IdentityInfo>, alloc: Global) -> Result<(), Fail> {
+    for (name, module, bases) in IDENTITIES {
+        list.push(identity(alloc, name, *module, bases)?)?;
+    }
+    Ok(())
+}
+
+fn identities(alloc: Global) -> Result<Seq<IdentityInfo>, Fail> {
+    let mut list = Vec::new(alloc);
+    add_identities(&mut list, alloc)?;
+    Ok(Seq::from_items(list))
+}
+
+// ---- the schema
+
+fn fill(table: &mut SchemaTable, alloc: Global, given: &Given) -> Result<(), Fail> {
+    table.nodes = nodes(alloc, given)?;
+    table.types = types(alloc)?;
+    table.modules = names(alloc, given.modules)?;
+    table.identities = identities(alloc)?;
+    Ok(())
+}
+
+fn table(alloc: Global, given: &Given) -> Result<SchemaTable, Fail> {
+    let mut table = SchemaTable {
+        nodes: Seq::new(alloc),
+        types: Seq::new(alloc),
+        modules: Seq::new(alloc),
+        identities: Seq::new(alloc),
+    };
+    fill(&mut table, alloc, given)?;
+    Ok(table)
+}
+
+/// The schema of these nodes. Their types are numbered as `FORMS` is.
+pub(crate) fn schema(alloc: Global, given: &Given) -> Result<Schema, Fail> {
+    Ok(schema_of(alloc, table(alloc, given)?)?)
+}

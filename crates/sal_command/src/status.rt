@@ -1,6 +1,6 @@
 //! How the command ends.
 ghost use Rattle.std.specs.Prelude.{◌≡◌, IfOk, OnOk, ◌++◌, string_bytes};
-ghost use Rattle.mdsal.specs.Statuses.{line_of, number_of};
+ghost use Rattle.sal_command.specs.Statuses.{line_of, number_of};
 
 use sal_types::{NoMemory, Str};
 use std::alloc::Global;

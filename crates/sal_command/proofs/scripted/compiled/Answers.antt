@@ -2,9 +2,9 @@
 use Rattle.std.proofs.Common.{◌≡◌, ℕ, true, List, Err, ap, sym, subst}
 use Rattle.std.specs.List.{list_any}
 use Rattle.sal_json.specs.Patterns.{has_malformed, IsRefusal}
-use Rattle.mdsal.specs.declared.status.Status.TheVariants.{BadSchema}
-use Rattle.mdsal.proofs.Patterned.{any_named}
-use Rattle.mdsal.proofs.scripted.compiled.Goals as goal
+use Rattle.sal_command.specs.declared.status.Status.TheVariants.{BadSchema}
+use Rattle.sal_command.proofs.Patterned.{any_named}
+use Rattle.sal_command.proofs.scripted.compiled.Goals as goal
 
 pub returns-in-Ok-new-clause-reader : goal.returns-in-Ok-new-clause-reader
 returns-in-Ok-new-clause-reader c =

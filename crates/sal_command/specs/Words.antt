@@ -1,8 +1,8 @@
 -- The forms of the command line.
 use Rattle.std.specs.Prelude.{ℕ, List, [], ◌∷◌, Option, None, Some, codes, if◌then◌else◌}
 use Rattle.sal_script.specs.Json.{text_eq}
-use Rattle.mdsal.specs.declared.words.Form.{Form}
-use Rattle.mdsal.specs.declared.words.Form.TheVariants.{Sim, Schema, Help, Version}
+use Rattle.sal_command.specs.declared.words.Form.{Form}
+use Rattle.sal_command.specs.declared.words.Form.TheVariants.{Sim, Schema, Help, Version}
 
 -- the form of a single word
 abbrev pub form_named : List ℕ → Option Form

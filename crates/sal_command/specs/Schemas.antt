@@ -11,8 +11,8 @@ use Rattle.sal_module.specs.declared.fault.What.{What}
 use Rattle.sal_module.specs.declared.fault.What.TheVariants.{Modules, Nodes}
 use Rattle.sal_schema.specs.declared.table.SchemaTable.{SchemaTable}
 use Rattle.sal_build.specs.Build.{build}
-use Rattle.mdsal.specs.declared.schema_fault.SchemaFault.{SchemaFault}
-use Rattle.mdsal.specs.declared.schema_fault.SchemaFault.TheVariants.{Bad, NoMemory}
+use Rattle.sal_command.specs.declared.schema_fault.SchemaFault.{SchemaFault}
+use Rattle.sal_command.specs.declared.schema_fault.SchemaFault.TheVariants.{Bad, NoMemory}
 
 -- ---- the texts of faults
 

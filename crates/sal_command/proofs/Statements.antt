@@ -5,9 +5,9 @@ use Rattle.std.specs.Result.{IsErrAnd}
 use Rattle.sal_types.specs.Reading.{◌>>=◌}
 use Rattle.sal_stmt.specs.declared.stmt.Stmt.{Stmt}
 use Rattle.sal_stmt.specs.Text.{read}
-use Rattle.mdsal.specs.declared.schema_fault.SchemaFault.{SchemaFault}
-use Rattle.mdsal.specs.declared.schema_fault.SchemaFault.TheVariants.{Bad, NoMemory}
-use Rattle.mdsal.specs.Schemas.{or_text, statements_from, IsFaultOf, Makes}
+use Rattle.sal_command.specs.declared.schema_fault.SchemaFault.{SchemaFault}
+use Rattle.sal_command.specs.declared.schema_fault.SchemaFault.TheVariants.{Bad, NoMemory}
+use Rattle.sal_command.specs.Schemas.{or_text, statements_from, IsFaultOf, Makes}
 
 -- what was read, and then what is read of the rest
 abbrev pub before : List Stmt → Result (List Stmt) (List ℕ) → Result (List Stmt) (List ℕ)

@@ -1,6 +1,6 @@
 //! The words of the command line.
 ghost use Rattle.std.specs.Prelude.{◌≡◌, [], ◌∷◌};
-ghost use Rattle.mdsal.specs.Words.{form_of};
+ghost use Rattle.sal_command.specs.Words.{form_of};
 
 use sal_types::Str;
 

@@ -5,8 +5,8 @@ ghost use Rattle.sal_hub.specs.Openings.{world_of};
 ghost use Rattle.sal_script.specs.Script.{script_of};
 ghost use Rattle.sal_script.specs.Reading.{parts};
 ghost use Rattle.sal_script.specs.Report.{breach_text, data_fault_text, path_text, store_text};
-ghost use Rattle.mdsal.specs.Schemas as schemas;
-ghost use Rattle.mdsal.specs.Top as spec;
+ghost use Rattle.sal_command.specs.Schemas as schemas;
+ghost use Rattle.sal_command.specs.Top as spec;
 
 use crate::schema::schema_of;
 use crate::schema_fault::SchemaFault;

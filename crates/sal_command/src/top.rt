@@ -1,12 +1,12 @@
 //! The top call: all that the command does.
 ghost use Rattle.std.specs.Prelude.{◌≡◌, ◌↔◌, [], None, IfOk};
 ghost use Rattle.sal_io.specs.Causes.{Rose};
-ghost use Rattle.mdsal.specs.Words.{form_of};
+ghost use Rattle.sal_command.specs.Words.{form_of};
 ghost use Rattle.sal_tree.specs.Rows.{rows_of};
 ghost use Rattle.sal_history.specs.World.{table_of};
 ghost use Rattle.sal_script.specs.Reading.{parts};
 ghost use Rattle.sal_script.specs.Report as report_spec;
-ghost use Rattle.mdsal.specs.Top as spec;
+ghost use Rattle.sal_command.specs.Top as spec;
 
 use crate::scripted;
 use crate::status::Status;

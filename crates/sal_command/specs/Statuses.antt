@@ -1,7 +1,7 @@
 -- The numbers and lines of the statuses.
 use Rattle.std.specs.Prelude.{ℕ, List, [], ◌∷◌, ◌++◌, codes, decimal}
-use Rattle.mdsal.specs.declared.status.Status.{Status}
-use Rattle.mdsal.specs.declared.status.Status.TheVariants.{Done, BadWords, ReadFault, WriteFault, TooLong, BadScript, BadSchema, BadOpening, BadOrder, NoMemory}
+use Rattle.sal_command.specs.declared.status.Status.{Status}
+use Rattle.sal_command.specs.declared.status.Status.TheVariants.{Done, BadWords, ReadFault, WriteFault, TooLong, BadScript, BadSchema, BadOpening, BadOrder, NoMemory}
 
 abbrev pub number_of : Status → ℕ
 number_of Done = 0

@@ -4,9 +4,9 @@ use Rattle.sal_types.specs.Reading.{◌>>=◌}
 use Rattle.sal_schema.specs.declared.table.SchemaTable.{SchemaTable}
 use Rattle.sal_script.specs.Script.{Parts}
 use Rattle.sal_script.specs.Reading.{parts}
-use Rattle.mdsal.specs.declared.status.Status.{Status}
-use Rattle.mdsal.specs.Top.{IsTextOr, if_formed, play_text, reader_table, sim_text}
-use Rattle.mdsal.proofs.top.sim_text.Goals as goal
+use Rattle.sal_command.specs.declared.status.Status.{Status}
+use Rattle.sal_command.specs.Top.{IsTextOr, if_formed, play_text, reader_table, sim_text}
+use Rattle.sal_command.proofs.top.sim_text.Goals as goal
 
 pub returns : goal.returns
 returns g c =

@@ -20,12 +20,12 @@ use Rattle.sal_hub.specs.Openings.{fault_of}
 use Rattle.sal_script.specs.Script.{Parts, script_of}
 use Rattle.sal_script.specs.Play.{Played, play}
 use Rattle.sal_script.specs.Report.{breach_text, data_fault_text, path_text, report, store_text}
-use Rattle.mdsal.specs.Schemas.{table_of}
-use Rattle.mdsal.specs.declared.top.TheConstants.{HELP, VERSION}
-use Rattle.mdsal.specs.declared.status.Status.{Status}
-use Rattle.mdsal.specs.declared.status.Status.TheVariants.{Done, BadWords, ReadFault, WriteFault, TooLong, BadScript, BadSchema, BadOpening, BadOrder, NoMemory}
-use Rattle.mdsal.specs.declared.words.Form.{Form}
-use Rattle.mdsal.specs.declared.words.Form.TheVariants.{Sim, Schema, Help, Version}
+use Rattle.sal_command.specs.Schemas.{table_of}
+use Rattle.sal_command.specs.declared.top.TheConstants.{HELP, VERSION}
+use Rattle.sal_command.specs.declared.status.Status.{Status}
+use Rattle.sal_command.specs.declared.status.Status.TheVariants.{Done, BadWords, ReadFault, WriteFault, TooLong, BadScript, BadSchema, BadOpening, BadOrder, NoMemory}
+use Rattle.sal_command.specs.declared.words.Form.{Form}
+use Rattle.sal_command.specs.declared.words.Form.TheVariants.{Sim, Schema, Help, Version}
 
 -- ---- what a script comes to
 

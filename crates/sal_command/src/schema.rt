@@ -2,7 +2,7 @@
 ghost use Rattle.std.specs.Prelude.{◌≡◌, IsTrue};
 ghost use Rattle.sal_script.specs.Limits.{are_short, is_short};
 ghost use Rattle.sal_stmt.specs.Text.{Gives, read};
-ghost use Rattle.mdsal.specs.Schemas as spec;
+ghost use Rattle.sal_command.specs.Schemas as spec;
 
 use crate::schema_fault::{SchemaFault, of_modules, of_text};
 use sal_build::build;

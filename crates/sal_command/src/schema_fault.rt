@@ -1,6 +1,6 @@
 //! Why modules build no schema, as a text.
 ghost use Rattle.std.specs.Prelude.{◌≡◌, MatchResult, IfOk, option_map, string_bytes};
-ghost use Rattle.mdsal.specs.Schemas as spec;
+ghost use Rattle.sal_command.specs.Schemas as spec;
 
 use sal_module::{BuildFault, What};
 use sal_stmt::StmtFault;
@@ -17,7 +17,7 @@ pub enum SchemaFault {
 }
 
 impl From<NoMemory> for SchemaFault {
-    ghost use Rattle.mdsal.specs.declared.schema_fault.SchemaFault.TheVariants.{NoMemory};
+    ghost use Rattle.sal_command.specs.declared.schema_fault.SchemaFault.TheVariants.{NoMemory};
 
     ghost from_gives = { λ _ e. e ≡ NoMemory };
 
@@ -27,7 +27,7 @@ impl From<NoMemory> for SchemaFault {
 }
 
 impl From<AllocError> for SchemaFault {
-    ghost use Rattle.mdsal.specs.declared.schema_fault.SchemaFault.TheVariants.{NoMemory};
+    ghost use Rattle.sal_command.specs.declared.schema_fault.SchemaFault.TheVariants.{NoMemory};
 
     ghost from_gives = { λ _ e. e ≡ NoMemory };
 
@@ -37,7 +37,7 @@ impl From<AllocError> for SchemaFault {
 }
 
 impl<T: Drop> From<AllocFailed<T>> for SchemaFault {
-    ghost use Rattle.mdsal.specs.declared.schema_fault.SchemaFault.TheVariants.{NoMemory};
+    ghost use Rattle.sal_command.specs.declared.schema_fault.SchemaFault.TheVariants.{NoMemory};
 
     ghost from_gives = { λ _ e. e ≡ NoMemory };
 

@@ -1,5 +1,5 @@
-use Rattle.mdsal.proofs.Statements.{makes_err, text_fault}
-use Rattle.mdsal.proofs.schema.statements_of.Goals as goal
+use Rattle.sal_command.proofs.Statements.{makes_err, text_fault}
+use Rattle.sal_command.proofs.schema.statements_of.Goals as goal
 
 pub returns-in_err-stmt : goal.returns-in_err-stmt
 returns-in_err-stmt c =

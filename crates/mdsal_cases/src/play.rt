@@ -14,7 +14,7 @@ const ROOM: u64 = 1048576;
 
 /// How the command ended, as a file `NAME.status` has it, and what it wrote.
 #[derive(Drop)]
-struct Played {
+struct Outcome {
     ended: String,
     sink: MemSink,
 }
@@ -37,21 +37,21 @@ fn compared(case: Case<'_>) -> io::Result<String> {
     }
 }
 
-fn played(case: Case<'_>) -> io::Result<Played> {
+fn played(case: Case<'_>) -> io::Result<Outcome> {
     let words = words_of(case)?;
     played_with(case, &words)
 }
 
-fn played_with(case: Case<'_>, words: &[Str]) -> io::Result<Played> {
+fn played_with(case: Case<'_>, words: &[Str]) -> io::Result<Outcome> {
     let mut source = source_of(case)?;
     played_from(case, words, &mut source)
 }
 
-fn played_from(case: Case<'_>, words: &[Str], source: &mut MemSource) -> io::Result<Played> {
+fn played_from(case: Case<'_>, words: &[Str], source: &mut MemSource) -> io::Result<Outcome> {
     let mut sink = sink_of(case)?;
     let status = mdsal(case.alloc(), words, source, &mut sink, &OpenGate);
     let ended = ended(case.alloc(), &status)?;
-    Ok(Played { ended, sink })
+    Ok(Outcome { ended, sink })
 }
 
 // The number of the status and its line.

@@ -1,38 +1,12 @@
 //! The data broker's command: `mdsal sim` plays a script of clients over one broker and writes what each saw and what
 //! was committed; `mdsal schema` judges a script's modules.
 //!
-//! | module | what it has |
-//! |---|---|
-//! | `top` | the top call `mdsal`, which does all that the program does |
-//! | `words`, `status` | the forms of the command line; how the command ends |
-//! | `scripted` | a script's parts with the status of what is wrong, up to the hub that it is played over |
-//! | `schema`, `schema_fault` | the modules of a device; the texts of their faults |
-//!
-//! The script is read by `sal_script`, played by `sal_client` over `sal_hub`, and told by `sal_report`.
+//! It gives the words of its command line, standard input and standard output to the top call of `sal_command`, and ends
+//! with the status that this answers.
 #![tactic(auto)]
 
-#[cfg(test)]
-mod entry_tests;
-#[cfg(test)]
-mod leaf_tests;
-#[cfg(test)]
-mod opening_tests;
-#[cfg(test)]
-mod rule_tests;
-pub mod schema;
-pub mod schema_fault;
-#[cfg(test)]
-mod schema_tests;
-pub mod scripted;
-pub mod status;
-#[cfg(test)]
-mod telling;
-#[cfg(test)]
-mod tests;
-pub mod top;
-pub mod words;
-
-use crate::status::Status;
+use sal_command::status::Status;
+use sal_command::top::mdsal;
 use sal_io::{OpenGate, StdSink, StdSource};
 use sal_types::{NoMemory, Str};
 use std::env;
@@ -61,7 +35,7 @@ fn answer(rt: &HostRuntime) -> Status {
         Ok(words) => {
             let mut source = StdSource::new(rt.stdin());
             let mut sink = StdSink::new(rt.stdout());
-            top::mdsal(rt.alloc(), &words, &mut source, &mut sink, &OpenGate)
+            mdsal(rt.alloc(), &words, &mut source, &mut sink, &OpenGate)
         }
         Err(NoMemory) => Status::NoMemory,
     }

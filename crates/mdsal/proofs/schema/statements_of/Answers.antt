@@ -1,9 +1,0 @@
-use Rattle.mdsal.proofs.Statements.{makes_err, text_fault}
-use Rattle.mdsal.proofs.schema.statements_of.Goals as goal
-
-pub returns-in_err-stmt : goal.returns-in_err-stmt
-returns-in_err-stmt c =
-    let l = c.loop-number in
-    let e = c.in_err-stmt.field-0.0 in
-    makes_err _ _ e _ c.from_residual-in_err-stmt.ensures.1
-    (text_fault c.args.texts.now l.stmts.items l.number c.index-texts-number.result c.loop-number-test.true c.index-texts-number.is _ e c.in_err-stmt.ensures l.invariant)

@@ -1,0 +1,31 @@
+//! Plays the cases that lie in the folders of `data/`, and tells which differ from what is wanted.
+//!
+//! `folders.txt` lists the folders. The file `README.md` of a folder has a line for each of its cases, a dash and the name between
+//! backquotes, and what the case shows. A case is some files with its name:
+//!
+//! | file | what it has |
+//! |---|---|
+//! | `NAME.json` | the input; in a folder with a file `modules.yang` without its modules, which are those |
+//! | `NAME.yang` | or the modules of an input that has nothing else; each begins on a line of its own with `module` |
+//! | `NAME.parts` | or lines `COUNT |TEXT|`: the input has each text so many times; `#` is the number of the time, from 0 |
+//! | `NAME.txt` | the wanted output; none where it is empty |
+//! | `NAME.status` | the wanted exit status and the line on standard error; none where the status is 0 |
+//! | `NAME.words` | the words of the command line, one a line; else those of the folder's file `words`, else `sim` |
+//! | `NAME.faults` | lines `read N` and `write N` for calls of the source and the sink that fail, counted from 0, and `room N` for a sink that is full after so many bytes |
+//!
+//! A file that belongs to no case is told, and so is a case that lacks its files.
+#![tactic(auto)]
+
+mod case;
+mod folder;
+mod input;
+mod play;
+mod tally;
+
+use std::{fs, io};
+
+fn main(rt: HostRuntime) -> io::Result<()> {
+    let folders = fs::read_to_string(&rt, "folders.txt")?;
+    let tally = folder::play_each(&rt, folders.as_str())?;
+    folder::say(&rt, "in all", tally)
+}

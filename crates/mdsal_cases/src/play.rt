@@ -1,0 +1,176 @@
+//! Plays a case by the top call, and compares what it answers with what is wanted.
+use crate::case::Case;
+use crate::input;
+use sal_command::status::Status;
+use sal_command::top::mdsal;
+use sal_io::{MemSink, MemSource, OpenGate};
+use sal_types::{NoMemory, Str};
+use std::alloc::Global;
+use std::io;
+use std::io::{Error, ErrorKind};
+
+// How many bytes the sink of a case takes that names no room.
+const ROOM: u64 = 1048576;
+
+/// How the command ended, as a file `NAME.status` has it, and what it wrote.
+#[derive(Drop)]
+struct Outcome {
+    ended: String,
+    sink: MemSink,
+}
+
+/// In what the case differs from what is wanted; empty where it does not.
+pub fn difference(case: Case<'_>) -> io::Result<String> {
+    match compared(case) {
+        Ok(difference) => Ok(difference),
+        Err(error) => Ok(format!(in case.alloc(); "it cannot be played: {error}")?),
+    }
+}
+
+fn compared(case: Case<'_>) -> io::Result<String> {
+    let played = played(case)?;
+    let difference = status_difference(case, played.ended.as_str())?;
+    if difference.is_empty() {
+        text_difference(case, played.sink.bytes())
+    } else {
+        Ok(difference)
+    }
+}
+
+fn played(case: Case<'_>) -> io::Result<Outcome> {
+    let words = words_of(case)?;
+    played_with(case, &words)
+}
+
+fn played_with(case: Case<'_>, words: &[Str]) -> io::Result<Outcome> {
+    let mut source = source_of(case)?;
+    played_from(case, words, &mut source)
+}
+
+fn played_from(case: Case<'_>, words: &[Str], source: &mut MemSource) -> io::Result<Outcome> {
+    let mut sink = sink_of(case)?;
+    let status = mdsal(case.alloc(), words, source, &mut sink, &OpenGate);
+    let ended = ended(case.alloc(), &status)?;
+    Ok(Outcome { ended, sink })
+}
+
+// The number of the status and its line.
+fn ended(alloc: Global, status: &Status) -> io::Result<String> {
+    let number = status.number();
+    match status.line(alloc) {
+        Ok(line) => numbered(alloc, number, line.as_str()),
+        Err(NoMemory) => Err(Error::from(ErrorKind::OutOfMemory)),
+    }
+}
+
+fn numbered(alloc: Global, number: u8, line: &str) -> io::Result<String> {
+    Ok(format!(in alloc; "{number} {line}")?)
+}
+
+fn words_of(case: Case<'_>) -> io::Result<Vec<Str>> {
+    let text = words_text(case)?;
+    lines_of(case.alloc(), text.as_str())
+}
+
+fn words_text(case: Case<'_>) -> io::Result<String> {
+    if case.has("words")? {
+        case.text("words")
+    } else if case.shares("words")? {
+        case.shared_text("words")
+    } else {
+        Ok(String::from_str(case.alloc(), "sim")?)
+    }
+}
+
+fn lines_of(alloc: Global, text: &str) -> io::Result<Vec<Str>> {
+    let mut lines = Vec::new(alloc);
+    push_lines(alloc, &mut lines, text)?;
+    Ok(lines)
+}
+
+fn push_lines(alloc: Global, lines: &mut Vec<Str>, text: &str) -> io::Result<()> {
+    for line in text.lines() {
+        lines.push(Str::from_string(String::from_str(alloc, line)?))?;
+    }
+    Ok(())
+}
+
+fn source_of(case: Case<'_>) -> io::Result<MemSource> {
+    let fails = numbers_of(case, "read")?;
+    let input = input::of_case(case)?;
+    Ok(MemSource::new(input.into_bytes(), fails))
+}
+
+fn sink_of(case: Case<'_>) -> io::Result<MemSink> {
+    let room = room_of(case)?;
+    let fails = numbers_of(case, "write")?;
+    match MemSink::new(case.alloc(), room, fails) {
+        Ok(sink) => Ok(sink),
+        Err(NoMemory) => Err(Error::from(ErrorKind::OutOfMemory)),
+    }
+}
+
+fn room_of(case: Case<'_>) -> io::Result<usize> {
+    let rooms = numbers_of(case, "room")?;
+    Ok(rooms.first().copied().unwrap_or(ROOM) as usize)
+}
+
+// The numbers that stand behind this word in the file of the case's faults.
+fn numbers_of(case: Case<'_>, word: &str) -> io::Result<Vec<u64>> {
+    let text = case.text_or("faults", "")?;
+    numbers_in(case.alloc(), text.as_str(), word)
+}
+
+fn numbers_in(alloc: Global, text: &str, word: &str) -> io::Result<Vec<u64>> {
+    let mut numbers = Vec::new(alloc);
+    for line in text.lines() {
+        if let Some((first, number)) = line.split_once(' ') {
+            if first == word {
+                numbers.push(number.parse::<u64>().unwrap_or(0))?;
+            }
+        }
+    }
+    Ok(numbers)
+}
+
+fn status_difference(case: Case<'_>, ended: &str) -> io::Result<String> {
+    let wanted = case.text_or("status", "0 ")?;
+    if ended == wanted.as_str() {
+        Ok(String::new(case.alloc()))
+    } else {
+        instead(case.alloc(), "status", ended.trim_end(), wanted.trim_end())
+    }
+}
+
+fn text_difference(case: Case<'_>, bytes: &[u8]) -> io::Result<String> {
+    let wanted = case.text_or("txt", "")?;
+    match std::str::from_utf8(bytes) {
+        Ok(text) => line_difference(case.alloc(), text, wanted.as_str()),
+        Err(_) => Ok(String::from_str(case.alloc(), "the output is no text")?),
+    }
+}
+
+// The first line that differs.
+fn line_difference(alloc: Global, text: &str, wanted: &str) -> io::Result<String> {
+    let mut wanted = wanted.split('\n');
+    let mut number = 1u32;
+    for line in text.split('\n') {
+        match wanted.next() {
+            Some(other) if other == line => number = number.saturating_add(1),
+            Some(other) => return at_line(alloc, number, line, other),
+            None => return at_line(alloc, number, line, "nothing"),
+        }
+    }
+    match wanted.next() {
+        Some(other) => at_line(alloc, number, "nothing", other),
+        None => Ok(String::new(alloc)),
+    }
+}
+
+fn at_line(alloc: Global, number: u32, line: &str, wanted: &str) -> io::Result<String> {
+    Ok(format!(in alloc; "line {number} is {line}, and not {wanted}")?)
+}
+
+fn instead(alloc: Global, what: &str, had: &str, wanted: &str) -> io::Result<String> {
+    Ok(format!(in alloc; "{what} {had}, and not {wanted}")?)
+}

@@ -1,0 +1,18 @@
+//! All that the data broker's command does: the top call `mdsal` over any source, sink and gate.
+//!
+//! | module | what it has |
+//! |---|---|
+//! | `top` | the top call `mdsal`, with the texts of its help and its version |
+//! | `words`, `status` | the forms of the command line; how the command ends |
+//! | `scripted` | a script's parts with the status of what is wrong, up to the hub that it is played over |
+//! | `schema`, `schema_fault` | the modules of a device; the texts of their faults |
+//!
+//! The script is read by `sal_script`, played by `sal_client` over `sal_hub`, and told by `sal_report`.
+#![tactic(auto)]
+
+pub mod schema;
+pub mod schema_fault;
+pub mod scripted;
+pub mod status;
+pub mod top;
+pub mod words;

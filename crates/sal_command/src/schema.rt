@@ -1,0 +1,48 @@
+//! From the texts of a device's modules to their schema.
+ghost use Rattle.std.specs.Prelude.{◌≡◌, IsTrue};
+ghost use Rattle.sal_script.specs.Limits.{are_short, is_short};
+ghost use Rattle.sal_stmt.specs.Text.{Gives, read};
+ghost use Rattle.sal_command.specs.Schemas as spec;
+
+use crate::schema_fault::{SchemaFault, of_modules, of_text};
+use sal_build::build;
+use sal_schema::Schema;
+use sal_stmt::{Stmt, StmtFault, read_module};
+use sal_types::Str;
+use std::alloc::Global;
+
+/// The schema that modules build, or the text of their first fault. The texts are read first, in their order.
+pub fn schema_of(alloc: Global, texts: &[Str]) -> Result<Schema, SchemaFault>
+    requires { IsTrue (are_short texts.now) }
+    ensures { spec.Makes (λ schema. schema) result (spec.table_of texts.now) }
+{
+    let stmts = statements_of(alloc, texts)?;
+    match build(alloc, &stmts) {
+        Ok(schema) => Ok(schema),
+        Err(fault) => Err(of_modules(alloc, &fault)),
+    }
+}
+
+// The statements of the texts.
+fn statements_of(alloc: Global, texts: &[Str]) -> Result<Vec<Stmt>, SchemaFault>
+    requires { IsTrue (are_short texts.now) }
+    ensures { spec.Makes (λ stmts. stmts.items) result (spec.statements_from 0 texts.now) }
+{
+    let mut stmts = Vec::with_capacity(alloc, texts.len())?;
+    for (number, text) in texts.iter().enumerate() {
+        let stmt = statement_of(alloc, number, text)?;
+        stmts.push(stmt)?;
+    }
+    Ok(stmts)
+}
+
+// The statement of the text of the module with this number.
+fn statement_of(alloc: Global, number: usize, text: &Str) -> Result<Stmt, SchemaFault>
+    requires { IsTrue (is_short text.now) }
+    ensures { spec.Makes (λ stmt. stmt) result (spec.or_text number (read text.now)) }
+{
+    match read_module(alloc, text.as_str()) {
+        Ok(stmt) => Ok(stmt),
+        Err(fault) => Err(of_text(alloc, number, fault)),
+    }
+}

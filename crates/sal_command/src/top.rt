@@ -1,0 +1,217 @@
+//! The top call: all that the command does.
+ghost use Rattle.std.specs.Prelude.{◌≡◌, ◌↔◌, [], None, IfOk};
+ghost use Rattle.sal_io.specs.Causes.{Rose};
+ghost use Rattle.sal_command.specs.Words.{form_of};
+ghost use Rattle.sal_tree.specs.Rows.{rows_of};
+ghost use Rattle.sal_history.specs.World.{table_of};
+ghost use Rattle.sal_script.specs.Reading.{parts};
+ghost use Rattle.sal_script.specs.Report as report_spec;
+ghost use Rattle.sal_command.specs.Top as spec;
+
+use crate::scripted;
+use crate::status::Status;
+use crate::words::{Form, form_of};
+use sal_client::{PlayFault, Played, Reader, play};
+use sal_hub::Hub;
+use sal_io::{Gate, ReadFail, Sink, Source, read_all, write_all};
+use sal_report::report;
+use sal_rows::Rows;
+use sal_schema::Schema;
+use sal_script::Script;
+use sal_tree::Root;
+use sal_types::{NoMemory, Path, Store, Str};
+use std::alloc::Global;
+use std::sync::Arc;
+
+/// How many bytes a script has at most.
+pub const LIMIT: usize = 16777216;
+
+/// The help text.
+pub const HELP: &str = "mdsal: an SDN controller's data broker, run from a script\n\
+\n\
+usage: mdsal sim < SCRIPT\n\
+       mdsal schema < SCRIPT\n\
+       mdsal --help | --version\n\
+\n\
+sim reads a JSON script from standard input, plays its clients' steps in the script's order on one thread, and\n\
+writes the report to standard output: the order, a line for each step, and the trees at the end. The script's\n\
+format is written in docs/DEFINITIONS.md, and examples/ has scripts with their reports.\n\
+\n\
+schema reads a script too, and writes the table of the schema that its modules build.\n\
+\n\
+exit status, each but 0 with its line on standard error:\n\
+  0  done: the whole text was written\n\
+  2  bad words: the command line is none of the forms above\n\
+  3  read fault\n\
+  4  write fault: a front of the text may have been written\n\
+  5  too long: the input has more than 16777216 bytes\n\
+  6  bad script at PLACE: the first bad place, as clients/0/2\n\
+  7  bad schema DEVICE FAULT: the modules build no schema, as bad schema 0 module 0 unclosed 9\n\
+  8  bad opening DEVICE STORE FAULT: an opening tree is no data of the schema, or it breaks a rule of it\n\
+  9  bad order at INDEX: the order names a client without a shared call left, or ends too early\n\
+ 10  no memory\n";
+
+/// The name and version.
+pub const VERSION: &str = "mdsal 0.1.0\n";
+
+/// Runs the command: the words of its command line, its input, its output, and the gate that a client passes before
+/// each of its steps.
+pub fn mdsal<S: Source, K: Sink, G: Gate>(
+    alloc: Global,
+    words: &[Str],
+    source: &mut S,
+    sink: &mut K,
+    gate: &G,
+) -> Status
+    ensures words { (result ≡ Status.BadWords) ↔ (form_of words.now ≡ None) }
+    ensures read_fault { result ≡ Status.ReadFault → Rose (S.faults source.old) (S.faults source.new) }
+    ensures write_fault { result ≡ Status.WriteFault → Rose (K.faults sink.old) (K.faults sink.new) }
+    ensures answer { spec.Answers (form_of words.now) (S.left source.old) (S.left source.new) (K.taken sink.old) (K.taken sink.new) result }
+    ensures complete { spec.IsValid (form_of words.now) (S.left source.old) → spec.IsDoneUnlessStopped result }
+{
+    match form_of(words) {
+        None => Status::BadWords,
+        Some(Form::Sim) => simulate(alloc, source, sink, gate),
+        Some(Form::Schema) => describe(alloc, source, sink),
+        Some(Form::Help) => write_text(sink, HELP),
+        Some(Form::Version) => write_text(sink, VERSION),
+    }
+}
+
+// Reads the script, plays it, and writes the report.
+fn simulate<S: Source, K: Sink, G: Gate>(
+    alloc: Global,
+    source: &mut S,
+    sink: &mut K,
+    gate: &G,
+) -> Status
+    ensures read_fault { result ≡ Status.ReadFault → Rose (S.faults source.old) (S.faults source.new) }
+    ensures write_fault { result ≡ Status.WriteFault → Rose (K.faults sink.old) (K.faults sink.new) }
+    ensures answer { spec.TextAnswers spec.sim_text (S.left source.old) (S.left source.new) (K.taken sink.old) (K.taken sink.new) result }
+{
+    match read_all(alloc, source, LIMIT) {
+        Err(ReadFail::ReadFault) => Status::ReadFault,
+        Err(ReadFail::TooLong) => Status::TooLong,
+        Err(ReadFail::NoMemory) => Status::NoMemory,
+        Ok(bytes) => match sim_text(alloc, &bytes, gate) {
+            Ok(text) => write_text(sink, text.as_str()),
+            Err(status) => status,
+        },
+    }
+}
+
+// Reads the script, and writes the text of the schema that its modules build.
+fn describe<S: Source, K: Sink>(alloc: Global, source: &mut S, sink: &mut K) -> Status
+    ensures read_fault { result ≡ Status.ReadFault → Rose (S.faults source.old) (S.faults source.new) }
+    ensures write_fault { result ≡ Status.WriteFault → Rose (K.faults sink.old) (K.faults sink.new) }
+    ensures answer { spec.TextAnswers spec.schema_text (S.left source.old) (S.left source.new) (K.taken sink.old) (K.taken sink.new) result }
+{
+    match read_all(alloc, source, LIMIT) {
+        Err(ReadFail::ReadFault) => Status::ReadFault,
+        Err(ReadFail::TooLong) => Status::TooLong,
+        Err(ReadFail::NoMemory) => Status::NoMemory,
+        Ok(bytes) => match schema_text(alloc, &bytes) {
+            Ok(text) => write_text(sink, text.as_str()),
+            Err(status) => status,
+        },
+    }
+}
+
+// The text of the schema that the modules of the script build.
+fn schema_text(alloc: Global, bytes: &[u8]) -> Result<Str, Status>
+    ensures { spec.IsTextOr (spec.schema_text bytes.now) result }
+{
+    let script = scripted::script_of(alloc, bytes)?;
+    let schema = scripted::modules_schema(alloc, &script)?;
+    match schema.text(alloc) {
+        Ok(text) => Ok(text),
+        Err(NoMemory) => Err(Status::NoMemory),
+    }
+}
+
+// The report of the script that the bytes stand for.
+fn sim_text<G: Gate>(alloc: Global, bytes: &[u8], gate: &G) -> Result<Str, Status>
+    ensures { spec.IsTextOr (spec.sim_text bytes.now) result }
+{
+    let script = scripted::script_of(alloc, bytes)?;
+    let schema = scripted::shared_schema(alloc, &script)?;
+    let reader = scripted::reader_of(alloc, &schema)?;
+    play_text(alloc, &script, &schema, &reader, gate)
+}
+
+// The report of the script over its domain.
+fn play_text<G: Gate>(
+    alloc: Global,
+    script: &Script,
+    schema: &Arc<Schema>,
+    reader: &Reader,
+    gate: &G,
+) -> Result<Str, Status>
+    requires { reader.now ≡ schema.now.value }
+    ensures { spec.IsTextOr (spec.play_text (parts script.now) reader.now) result }
+{
+    let config = scripted::opening_of(alloc, reader, Store::Config, &script.config)?;
+    let oper = scripted::opening_of(alloc, reader, Store::Oper, &script.operational)?;
+    let hub = scripted::hub_of(alloc, schema, reader, config, oper)?;
+    play_over(alloc, script, reader, hub, gate)
+}
+
+// The report of the script over a hub without calls.
+fn play_over<G: Gate>(
+    alloc: Global,
+    script: &Script,
+    reader: &Reader,
+    hub: Hub,
+    gate: &G,
+) -> Result<Str, Status>
+    requires table { reader.now ≡ table_of hub.world 0 }
+    requires fresh { hub.log ≡ [] }
+    ensures { spec.IsTextOr (spec.play_over (parts script.now) hub.world) result }
+{
+    match play(alloc, reader, script, hub, gate) {
+        Ok(played) => match report_of(alloc, reader, &played) {
+            Ok(text) => Ok(text),
+            Err(NoMemory) => Err(Status::NoMemory),
+        },
+        Err(PlayFault::BadOrder { index }) => Err(Status::BadOrder { index }),
+        Err(PlayFault::NoMemory) => Err(Status::NoMemory),
+    }
+}
+
+// The report of what was played.
+fn report_of(alloc: Global, reader: &Reader, played: &Played) -> Result<Str, NoMemory>
+    requires { reader.now ≡ table_of played.now.hub.world 0 }
+    ensures { IfOk result (λ text. text ≡ report_spec.report played.now.hub.world (record { log = played.now.hub.log; replies = played.now.replies })) }
+{
+    let trees = played.hub.trees();
+    let config = all_rows(alloc, &trees.config)?;
+    let oper = all_rows(alloc, &trees.oper)?;
+    report(
+        alloc,
+        reader.schema(),
+        played.hub.log(),
+        played.replies.items(),
+        played.hub.newest(),
+        &config,
+        &oper,
+    )
+}
+
+// The rows of a tree.
+fn all_rows(alloc: Global, root: &Root) -> Result<Rows, NoMemory>
+    ensures { IfOk result (λ rows. rows ≡ rows_of root.now) }
+{
+    let rows = root.rows(alloc, &Path::root(alloc))?;
+    Ok(rows)
+}
+
+// Writes the text.
+fn write_text<K: Sink>(sink: &mut K, text: &str) -> Status
+    ensures write_fault { result ≡ Status.WriteFault → Rose (K.faults sink.old) (K.faults sink.new) }
+    ensures written { spec.Written text.now (K.taken sink.old) (K.taken sink.new) result }
+{
+    match write_all(sink, text.as_bytes()) {
+        Ok(()) => Status::Done,
+        Err(_) => Status::WriteFault,
+    }
+}

@@ -16,7 +16,7 @@ use Rattle.sal_node.specs.declared.node.Page.{Page}
 use Rattle.sal_node.specs.declared.node.Sheet.{Sheet}
 use Rattle.sal_node.proofs.SheetRows.{sheeted-append, AreSheets-at}
 use Rattle.sal_node.proofs.Targets.{front_of, back_of, drop_more}
-use Rattle.sal_node.proofs.Entries.{AllBefore, change-front, change-back, find-front, find-back, sorted-front, sorted-tail, sorted-above, sorted-front_part}
+use Rattle.sal_node.proofs.Entries.{AllBefore, change-front, change-back, find-front, find-back, sorted-tail, sorted-front_part}
 
 abbrev Sheets : Type 0
 Sheets = List (Arc Sheet Global)

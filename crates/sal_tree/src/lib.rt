@@ -22,7 +22,7 @@
 //! | call | cost, for a path of d steps and lists of n entries on the way |
 //! |---|---|
 //! | `Root::get`, `Root::exists`, `is_alike` | d searches by halves, no memory |
-//! | `Root::delete`, `Root::put`, and each row of `Root::merge` | d nodes, each with a copy of one page of 64 and of its list of n / 64 pages |
+//! | `Root::delete`, `Root::put`, and each row of `Root::merge` | d nodes, each with a copy of one page of 64 children and of one sheet of 64 pages, and of a list of n / 4,096 sheets |
 //! | the rows of `Root::put` | one node for each path, as for `Root::from_rows` |
 //! | `Root::from_rows` | one node for each path, and d looks at each row |
 //! | `Root::rows` | linear in the rows below the path |

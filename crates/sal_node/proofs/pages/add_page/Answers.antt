@@ -1,9 +1,5 @@
-use Rattle.std.specs.declared.sync.Arc.{Arc}
-use Rattle.std.specs.declared.alloc.Global.{Global}
-use Rattle.std.proofs.Common.{ap, List, subst}
+use Rattle.std.proofs.Common.{ap}
 use Rattle.sal_node.specs.declared.node.Page.{Page}
-use Rattle.sal_node.specs.declared.node.Child.{Child}
-use Rattle.sal_node.specs.Shape.{row_of, UpTo}
 use Rattle.sal_node.proofs.Rows.{listed-push, ArePages-push}
 use Rattle.sal_node.proofs.pages.add_page.Goals as goal
 

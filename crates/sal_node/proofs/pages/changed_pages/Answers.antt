@@ -1,8 +1,5 @@
-use Rattle.std.specs.declared.sync.Arc.{Arc}
-use Rattle.std.specs.declared.alloc.Global.{Global}
-use Rattle.sal_node.specs.declared.node.Child.{Child}
 use Rattle.sal_node.specs.Tree.{change}
-use Rattle.std.proofs.Common.{List, take, drop, ◌+◌, ap, ◌++◌, ◌∙◌, sym}
+use Rattle.std.proofs.Common.{take, drop, ◌+◌, ap, ◌++◌, ◌∙◌, sym}
 use Rattle.sal_node.specs.declared.node.Page.{Page}
 use Rattle.sal_node.specs.Shape.{tree_in, row_of, listed}
 use Rattle.sal_node.proofs.Targets.{change-target, changed-few, page-sorted}

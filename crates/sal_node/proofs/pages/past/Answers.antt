@@ -1,7 +1,4 @@
-use Rattle.sal_node.specs.declared.node.Child.{Child}
-use Rattle.std.specs.declared.sync.Arc.{Arc}
-use Rattle.std.specs.declared.alloc.Global.{Global}
-use Rattle.std.proofs.Common.{true, false, arith, ap, sym, ◌∙◌}
+use Rattle.std.proofs.Common.{true, false, arith}
 use Rattle.sal_node.proofs.Steps.{after-at, after-end, place-le, tie_of}
 use Rattle.sal_node.proofs.pages.past.Goals as goal
 use Rattle.sal_node.proofs.pages.past.Goals.{else-at-children-via-then-at-children+else-is_eq, else-at-children-via-else-at-children}

@@ -1,5 +1,5 @@
 use Rattle.sal_node.specs.declared.node.Child.{Child}
-use Rattle.std.proofs.Common.{arith, ap, refl, ◌∙◌}
+use Rattle.std.proofs.Common.{arith, ap, ◌∙◌}
 use Rattle.sal_node.specs.Tree.{Tree}
 use Rattle.sal_node.proofs.Newest.{made-passed, made-pushed}
 use Rattle.sal_node.proofs.pages.push_made.Goals as goal

@@ -1,4 +1,4 @@
-use Rattle.std.proofs.Common.{arith, ap, ◌∙◌, length, length-append, [], ◌∷◌}
+use Rattle.std.proofs.Common.{arith, ap, length, length-append, [], ◌∷◌}
 use Rattle.sal_node.proofs.Rows.{listed-more, ArePages-more}
 use Rattle.sal_node.proofs.pages.share_pages.Goals as goal
 

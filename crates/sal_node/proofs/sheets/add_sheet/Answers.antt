@@ -1,9 +1,5 @@
-use Rattle.std.proofs.Common.{ap, List, subst}
+use Rattle.std.proofs.Common.{ap}
 use Rattle.sal_node.specs.declared.node.Sheet.{Sheet}
-use Rattle.std.specs.declared.sync.Arc.{Arc}
-use Rattle.std.specs.declared.alloc.Global.{Global}
-use Rattle.sal_node.specs.declared.node.Page.{Page}
-use Rattle.sal_node.specs.Shape.{listed, UpTo}
 use Rattle.sal_node.proofs.SheetRows.{sheeted-push, AreSheets-push}
 use Rattle.sal_node.proofs.sheets.add_sheet.Goals as goal
 

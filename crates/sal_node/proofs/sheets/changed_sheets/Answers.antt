@@ -1,9 +1,6 @@
 use Rattle.sal_node.specs.Tree.{change}
-use Rattle.std.proofs.Common.{List, take, drop, length, arith, ◌≡◌, ◌+◌, ap, ◌++◌, ◌∙◌, sym}
-use Rattle.std.specs.declared.sync.Arc.{Arc}
-use Rattle.std.specs.declared.alloc.Global.{Global}
+use Rattle.std.proofs.Common.{take, drop, length, arith, ◌+◌, ap, ◌++◌, ◌∙◌, sym}
 use Rattle.sal_node.specs.declared.node.Sheet.{Sheet}
-use Rattle.sal_node.specs.declared.node.Page.{Page}
 use Rattle.sal_node.specs.Shape.{tree_in, listed, sheeted}
 use Rattle.sal_node.proofs.Placed.{change-placed, sheet-sorted, sheet-fits}
 use Rattle.sal_node.proofs.sheets.changed_sheets.Goals as goal

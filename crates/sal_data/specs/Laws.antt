@@ -1,9 +1,8 @@
 -- What is written reads as what it was.
-use Rattle.std.specs.Prelude.{◌≡◌, ℕ, ◌≤◌, ⊤, not, ◌||◌, List, [], ◌∷◌, ◌++◌, length, Option, Some, None, Ok, is_some, IsTrue, IsUtf8}
+use Rattle.std.specs.Prelude.{◌≡◌, ℕ, ◌≤◌, ⊤, not, ◌||◌, List, [], ◌∷◌, ◌++◌, length, Option, Some, None, Ok, is_some, IsTrue}
 use Rattle.std.specs.List.{All}
 use Rattle.serde_json.specs.Data.{Data, null, boolean, number, string, array, object, Items, no_items, item, Members, no_members, member}
 use Rattle.serde_json.specs.Find.{get_member}
-use Rattle.serde_json.specs.Read.{read}
 use Rattle.sal_types.specs.declared.value.Value.{Value}
 use Rattle.sal_types.specs.declared.value.Cell.{Cell}
 use Rattle.sal_types.specs.declared.value.Cell.TheVariants.{Mark, Leaf}
@@ -64,9 +63,6 @@ TreesReadAsWritten =
 
 -- ---- JSON values
 
--- Of a value that came from a text nothing is owed (below). Of one that a program made itself it is that each name stands once in
--- its object, and that its strings are bytes (`IsJson`).
-
 -- The rows that are read at a path are whole.
 abbrev pub ReadsWhole : Type 0
 ReadsWhole =
@@ -78,17 +74,3 @@ abbrev pub ReadsAgain : Type 0
 ReadsAgain =
     (table : SchemaTable) → IsTable table → (path : List Step) → IsTrue (fits_path table path) → length path ≤ 32 → (json : Data) → IsJson json → (rows : List Row)
     → read_data table path json ≡ Ok rows → read_data table path (write_data table path rows) ≡ Ok rows
-
--- ---- JSON values that came from a text
-
--- The rows that are read at a path from the value of a text are whole, whatever the text.
-abbrev pub TextsReadWhole : Type 0
-TextsReadWhole =
-    (table : SchemaTable) → IsTable table → (path : List Step) → IsTrue (fits_path table path) → length path ≤ 32 → (text : List ℕ) → IsUtf8 text → (json : Data)
-    → read text ≡ Some json → (rows : List Row) → read_data table path json ≡ Ok rows → IsWhole table path rows
-
--- What is written for them reads as the same rows.
-abbrev pub TextsReadAgain : Type 0
-TextsReadAgain =
-    (table : SchemaTable) → IsTable table → (path : List Step) → IsTrue (fits_path table path) → length path ≤ 32 → (text : List ℕ) → IsUtf8 text → (json : Data)
-    → read text ≡ Some json → (rows : List Row) → read_data table path json ≡ Ok rows → read_data table path (write_data table path rows) ≡ Ok rows

@@ -2,5 +2,6 @@ pub mod Examples
 pub mod Laws
 pub mod Members
 pub mod Read
+pub mod Texts
 pub mod Walked
 pub mod Written

@@ -1,5 +1,5 @@
 -- The values of a script that was read are JSON.
-use Rattle.std.proofs.Common.{◌≡◌, ℕ, zero, suc, ◌+◌, ◌≤◌, Bool, true, false, ◌==◌, List, [], ◌∷◌, length, take, codes, Option, Some, None, option_map, option_and_then, Result, Ok, Err, if◌then◌else◌, nat_le, eqb-true, refl, subst, arith}
+use Rattle.std.proofs.Common.{◌≡◌, ℕ, zero, suc, ◌+◌, ◌≤◌, Bool, true, false, ◌==◌, List, [], ◌∷◌, length, take, codes, Option, Some, None, option_map, option_and_then, Ok, if◌then◌else◌, nat_le, eqb-true, refl, subst, arith}
 use Rattle.std.proofs.lemmas.List.{take_all}
 use Rattle.std.proofs.lemmas.Str.{IsUtf8-from_is_utf8, IsUtf8-nil}
 use Rattle.std.specs.Prelude.{⊤}

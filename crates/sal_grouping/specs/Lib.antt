@@ -3,6 +3,7 @@ pub mod Indexes
 pub mod Groupings
 pub mod Names
 pub mod Reach
+pub mod Defined
 pub mod Tables
 pub mod Growth
 pub mod Plan
@@ -12,4 +13,5 @@ pub mod Augments
 pub mod Tried
 pub mod Children
 pub mod Expand
+pub mod Grown
 pub mod Examples

@@ -1,10 +1,13 @@
 //! The tree of modules that passed.
 ghost use Rattle.std.specs.Prelude.{◌≡◌, ◌<◌, ◌≤◌, IfOk, MatchOption, map, length};
 ghost use Rattle.sal_types.specs.Reading.{GivesUnless};
+ghost use Rattle.sal_module.specs.Faults.{fault_of};
 ghost use Rattle.sal_grouping.specs.Rows.{rows_of};
 ghost use Rattle.sal_grouping.specs.Indexes.{AreTops};
 ghost use Rattle.sal_grouping.specs.Plan.{IsPlan};
+ghost use Rattle.sal_grouping.specs.Tables.{AreTables};
 ghost use Rattle.sal_grouping.specs.Expand as spec;
+ghost use Rattle.sal_grouping.specs.Grown as growing;
 
 use crate::augments::{augment, target_fault};
 use crate::children::child_fault;
@@ -13,9 +16,9 @@ use crate::names::names_fault;
 use crate::node::Node;
 use crate::plan::{Plan, plan_of};
 use crate::rows::Row;
-use crate::tables::tables_of;
+use crate::tables::{Tables, tables_of};
 use crate::trees::trees_of;
-use sal_module::{BuildFault, Modules, What};
+use sal_module::{BuildFault, Found, Modules, What};
 use sal_types::NoMemory;
 use std::alloc::Global;
 
@@ -67,6 +70,60 @@ fn built(
     }
 }
 
+/// The fault as callers get it.
+fn fault_in(alloc: Global, found: Found) -> BuildFault
+    ensures { (result ≡ BuildFault.NoMemory → ⊥) → result ≡ fault_of found }
+{
+    match found.fault(alloc) {
+        Ok(fault) => fault,
+        Err(_) => BuildFault::NoMemory,
+    }
+}
+
+/// The tree of these nodes, or the first fault of the augments that are left, then of the names of children.
+fn forest_of(
+    alloc: Global,
+    rows: &[Row],
+    nodes: &[Node],
+    left: &[usize],
+) -> Result<Forest, BuildFault>
+    requires { length nodes.now ≤ 65536 }
+    ensures { GivesUnless BuildFault.NoMemory (λ forest. forest) result (growing.closed rows.now (nodes.now, left.now)) }
+{
+    if let Some(found) = target_fault(rows, left) {
+        return Err(fault_in(alloc, found));
+    }
+    if let Some(found) = child_fault(alloc, rows, nodes)? {
+        return Err(fault_in(alloc, found));
+    }
+    Ok(Forest::from_items(branches_of(alloc, rows, nodes)?))
+}
+
+/// The tree that grows by this plan, or the first fault of those that come after names.
+fn grown(alloc: Global, modules: &Modules, plan: &Plan) -> Result<Forest, BuildFault>
+    requires planned { IsPlan plan.now.rows.items plan.now.named.items plan.now }
+    requires rows { plan.now.rows.items ≡ rows_of modules.now }
+    requires tops { AreTops modules.now plan.now.tops.items }
+    ensures { GivesUnless BuildFault.NoMemory (λ forest. forest) result (growing.grown plan.now.rows.items (spec.built modules.now plan.now.rows.items plan.now.named.items)) }
+{
+    match built(alloc, modules, plan)? {
+        None => Err(BuildFault::TooMany { what: What::Nodes }),
+        Some((nodes, left)) => forest_of(alloc, &plan.rows, nodes.as_slice(), left.as_slice()),
+    }
+}
+
+/// The tree of the modules of these tables, or their first fault.
+fn expand_tables(alloc: Global, modules: &Modules, tables: Tables) -> Result<Forest, BuildFault>
+    requires { AreTables modules.now tables }
+    ensures { GivesUnless BuildFault.NoMemory (λ forest. forest) result (spec.expand modules.now) }
+{
+    if let Some(found) = names_fault(alloc, modules, &tables)? {
+        return Err(fault_in(alloc, found));
+    }
+    let plan = plan_of(alloc, modules, tables)?;
+    grown(alloc, modules, &plan)
+}
+
 /// The nodes of these modules, with every `uses` and every augment carried out, or the first fault.
 ///
 /// Each part is judged only where those before it found nothing: names, the number of nodes, the targets of augments, and
@@ -75,20 +132,5 @@ fn built(
 pub fn expand(alloc: Global, modules: &Modules) -> Result<Forest, BuildFault>
     ensures { GivesUnless BuildFault.NoMemory (λ forest. forest) result (spec.expand modules.now) }
 {
-    let tables = tables_of(alloc, modules)?;
-    if let Some(found) = names_fault(alloc, modules, &tables)? {
-        return Err(found.fault(alloc)?);
-    }
-    let plan = plan_of(alloc, modules, tables)?;
-    let (nodes, left) = match built(alloc, modules, &plan)? {
-        None => return Err(BuildFault::TooMany { what: What::Nodes }),
-        Some(both) => both,
-    };
-    if let Some(found) = target_fault(&plan.rows, left.as_slice()) {
-        return Err(found.fault(alloc)?);
-    }
-    if let Some(found) = child_fault(alloc, &plan.rows, nodes.as_slice())? {
-        return Err(found.fault(alloc)?);
-    }
-    Ok(Forest::from_items(branches_of(alloc, &plan.rows, nodes.as_slice())?))
+    expand_tables(alloc, modules, tables_of(alloc, modules)?)
 }

@@ -7,6 +7,7 @@ ghost use Rattle.sal_typedefs.specs.Builtins.{type_of};
 ghost use Rattle.sal_typedefs.specs.Judgements as spec;
 
 use crate::builtin::Builtin;
+use crate::entry::Entry;
 use crate::judgement::{Basis, Judgement};
 use crate::layer::copies;
 use sal_restrict::YangType;
@@ -36,6 +37,24 @@ fn own_basis(alloc: Global, builtin: Builtin) -> Result<Basis, NoMemory>
     })
 }
 
+/// This type, with copies of these names.
+pub(crate) fn with_entries(
+    alloc: Global,
+    ty: YangType,
+    entries: &[Entry],
+    itself: bool,
+) -> Result<Basis, NoMemory>
+    ensures value { IfOk result (λ b. spec.base_seen b ≡ record { type = ty; entries = entries.now; itself = itself }) }
+    ensures ty { IfOk result (λ b. b.ty ≡ ty) }
+{
+    let entries = copies(alloc, entries)?;
+    Ok(Basis {
+        ty,
+        entries,
+        itself,
+    })
+}
+
 /// The first of these types, or one without values.
 fn derived_basis(alloc: Global, below: &[Judgement]) -> Result<Basis, NoMemory>
     ensures value { IfOk result (λ b. spec.base_seen b ≡ spec.first_base below.now) }
@@ -47,11 +66,10 @@ fn derived_basis(alloc: Global, below: &[Judgement]) -> Result<Basis, NoMemory>
             entries: Vec::new(alloc),
             itself: false,
         }),
-        Some(judgement) => Ok(Basis {
-            ty: judgement.ty.copy(alloc)?,
-            entries: copies(alloc, judgement.entries.as_slice())?,
-            itself: false,
-        }),
+        Some(judgement) => {
+            let ty = judgement.ty.copy(alloc)?;
+            with_entries(alloc, ty, judgement.entries.as_slice(), false)
+        }
     }
 }
 

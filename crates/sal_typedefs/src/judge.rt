@@ -7,10 +7,11 @@ ghost use Rattle.sal_typedefs.specs.Restrictions.{HasNumbers};
 ghost use Rattle.sal_typedefs.specs.Types as types_spec;
 ghost use Rattle.sal_typedefs.specs.Judgements as spec;
 
+use crate::basis::with_entries;
 use crate::entry::Entry;
 use crate::judgement::{Basis, Judgement};
 use crate::judging::{small_number, with_absent, with_all_digits, with_subs};
-use crate::layer::{copies, is_plain, listed, named_type};
+use crate::layer::{is_plain, listed, named_type};
 use crate::narrowing::restricted;
 use crate::typedefs::Typedefs;
 use sal_module::{Found, Keyword, value_of};
@@ -111,6 +112,16 @@ fn digits_type(alloc: Global, ty: &YangType, stmt: &Stmt) -> Result<YangType, No
     }
 }
 
+/// The type that it restricts, with the fraction digits that the statement gives.
+fn digits_layer(alloc: Global, basis: &Basis, stmt: &Stmt) -> Result<Basis, NoMemory>
+    requires { restrictions.digits_of stmt.now ≤ 18 }
+    ensures value { IfOk result (λ it. spec.base_seen it ≡ spec.with_layer (spec.base_seen basis.now) (restrictions.digits_of stmt.now)) }
+    ensures numbers { IfOk result (λ it. HasNumbers (out-YangType basis.now.ty) → HasNumbers (out-YangType it.ty)) }
+{
+    let ty = digits_type(alloc, &basis.ty, stmt)?;
+    with_entries(alloc, ty, basis.entries.as_slice(), basis.itself)
+}
+
 /// A statement over a decimal64 whose digits it gives.
 fn judge_digits(
     best: Option<Found>,
@@ -129,15 +140,8 @@ fn judge_digits(
         ≡ types_spec.entries_in (spec.with_layer (spec.base_seen basis.now) (restrictions.digits_of stmt.now)) stmt.now (out-YangType (spec.with_layer (spec.base_seen basis.now) (restrictions.digits_of stmt.now)).type)) }
     ensures numbers { IfOk result (λ d. HasNumbers (out-YangType d.ty)) }
 {
-    let ty = digits_type(alloc, &basis.ty, stmt)?;
-    let entries = copies(alloc, basis.entries.as_slice())?;
-    let layer = Basis {
-        ty,
-        entries,
-        itself: basis.itself,
-    };
-    let judgement = judge_layer(best, alloc, typedefs, number, stmt, &layer, types)?;
-    Ok(judgement)
+    let layer = digits_layer(alloc, basis, stmt)?;
+    judge_layer(best, alloc, typedefs, number, stmt, &layer, types)
 }
 
 /// A statement over the type that it restricts.

@@ -1,5 +1,10 @@
 //! A type statement, judged after those that it rests on.
-ghost use Rattle.std.specs.Prelude.{◌≡◌, List, IfOk};
+ghost use Rattle.std.specs.Prelude.{◌≡◌, List, None, map, IfOk};
+ghost use Rattle.sal_restrict.specs.declared.yang_type.YangType.TheViews.{out-YangType};
+ghost use Rattle.sal_module.specs.Faults.{least};
+ghost use Rattle.sal_typedefs.specs.declared.judgement.Judgement.{Judgement as Kept};
+ghost use Rattle.sal_typedefs.specs.Restrictions as restrictions;
+ghost use Rattle.sal_typedefs.specs.Restrictions.{HasNumbers};
 ghost use Rattle.sal_typedefs.specs.Spots.{site_of};
 ghost use Rattle.sal_typedefs.specs.Types as types_spec;
 ghost use Rattle.sal_typedefs.specs.Types.{Judged};
@@ -8,14 +13,35 @@ ghost use Rattle.sal_typedefs.specs.Judgements as spec;
 use crate::basis::{basis_of, types_of};
 use crate::builtin::builtin_of;
 use crate::judge::{faulty, restrict};
-use crate::judgement::Judgement;
+use crate::judgement::{Basis, Judgement};
 use crate::judging::with_patterns;
 use crate::merging::fault_below;
 use crate::spot::Spot;
 use crate::typedefs::Typedefs;
-use sal_module::argument_of;
+use sal_module::{Found, argument_of};
+use sal_stmt::Stmt;
 use sal_types::NoMemory;
 use std::alloc::Global;
+
+/// What a statement is that restricts this, where those below are these.
+fn judge_over(
+    best: Option<Found>,
+    alloc: Global,
+    typedefs: &Typedefs,
+    number: u32,
+    stmt: &Stmt,
+    basis: &Basis,
+    below: &[Judgement],
+) -> Result<Judgement, NoMemory>
+    requires { HasNumbers (out-YangType basis.now.ty) }
+    ensures fault { IfOk result (λ d. d.fault ≡ least best (restrictions.restriction_faults (spec.base_seen basis.now) number stmt.now)) }
+    ensures meant { IfOk result (λ d. d.fault ≡ None → d.ty ≡ spec.meaning_of typedefs.now number (spec.base_seen basis.now) stmt.now (map (λ (j : Kept). j.ty) below.now)) }
+    ensures entries { IfOk result (λ d. d.fault ≡ None → d.entries.items ≡ types_spec.entries_in (spec.base_seen basis.now) stmt.now (restrictions.layer_of (spec.base_seen basis.now) stmt.now)) }
+    ensures numbers { IfOk result (λ d. HasNumbers (out-YangType d.ty)) }
+{
+    let types = types_of(alloc, below)?;
+    restrict(best, alloc, typedefs, number, stmt, basis, types.as_slice())
+}
 
 /// What a statement is, where those below are these.
 pub(crate) fn judge_one(
@@ -35,15 +61,6 @@ pub(crate) fn judge_one(
         return Ok(faulty(alloc, best));
     }
     let basis = basis_of(alloc, builtin_of(argument_of(spot.stmt)), below)?;
-    let types = types_of(alloc, below)?;
-    let judgement = restrict(
-        best,
-        alloc,
-        typedefs,
-        spot.module,
-        spot.stmt,
-        &basis,
-        types.as_slice(),
-    )?;
+    let judgement = judge_over(best, alloc, typedefs, spot.module, spot.stmt, &basis, below)?;
     Ok(judgement)
 }

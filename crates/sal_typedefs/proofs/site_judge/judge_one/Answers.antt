@@ -6,6 +6,7 @@ use Rattle.sal_module.specs.Faults.{least}
 use Rattle.sal_module.specs.Statements.{argument_of}
 use Rattle.sal_restrict.specs.declared.yang_type.YangType.{YangType}
 use Rattle.sal_typedefs.specs.Builtins.{builtin_of}
+use Rattle.sal_typedefs.specs.declared.judgement.Judgement.{Judgement}
 use Rattle.sal_typedefs.specs.Restrictions.{Base, layer_of, restriction_faults, pattern_faults}
 use Rattle.sal_typedefs.specs.Spots.{site_of}
 use Rattle.sal_typedefs.specs.Types.{Judged, is_faulty, base_of, entries_in}
@@ -48,7 +49,8 @@ returns c judged are =
     let base : Base = base_of site judged in
     let name = c.builtin_of.ensures ∙ ap builtin_of c.argument_of.ensures in
     let base-is : base_seen c.in_ok-basis.basis ≡ base = c.in_ok-basis.ensures.value ∙ ap (λ b. base_by b below) name ∙ base-same (builtin_of (argument_of stmt)) below judged are good in
-    let types-are : c.as_slice.result.now ≡ map (λ (j : Judged). j.type) judged = c.as_slice.ensures.value ∙ c.in_ok-types.ensures ∙ good-types below judged are good in
+    let kept : List YangType = map (λ (d : Judgement). d.ty) below in
+    let types-are : kept ≡ map (λ (j : Judged). j.type) judged = good-types below judged are good in
     let rest : List Found = restriction_faults base m stmt in
     let own : patterns ++ (if list_any is_faulty judged then [] else restriction_faults base m stmt) ≡ patterns ++ rest = rw good refl in
     record {
@@ -57,7 +59,7 @@ returns c judged are =
           ∙ ap (λ (b : Base). least (least (least None (all_faults judged)) patterns) (restriction_faults b m stmt)) base-is
           ∙ ap (λ b. least b rest) (least-two None (all_faults judged) patterns) ∙ least-two None (all_faults judged ++ patterns) rest
           ∙ ap (least None) (append_assoc (all_faults judged) patterns rest) ∙ ap (λ o. least None (all_faults judged ++ o)) (sym own);
-      type = λ fine. c.in_ok-judgement.ensures.meant fine ∙ ap (λ (b : Base). meaning_of modules m b stmt c.as_slice.result.now) base-is
+      type = λ fine. c.in_ok-judgement.ensures.meant fine ∙ ap (λ (b : Base). meaning_of modules m b stmt kept) base-is
           ∙ ap (λ (ts : List YangType). meaning_of modules m base stmt ts) types-are;
       entries = λ fine. c.in_ok-judgement.ensures.entries fine ∙ ap (λ (b : Base). entries_in b stmt (layer_of b stmt)) base-is;
       numbers = c.in_ok-judgement.ensures.numbers;

@@ -5,7 +5,7 @@ use std::alloc::{AllocError, AllocFailed};
 use thiserror::Error;
 
 /// Why a JSON value or a text stands for no value of a type.
-#[derive(Clone, Copy, Debug, PartialEq, Eq, Error)]
+#[derive(Clone, Copy, Debug, Error)]
 pub enum ScalarFault {
     /// The type takes another kind of JSON values, or texts of another form. Or no member of a union takes it.
     #[error("this is not in the form of the type")]
@@ -58,7 +58,7 @@ impl<T: Drop> From<AllocFailed<T>> for ScalarFault {
 }
 
 /// Why no patterns come of a schema.
-#[derive(Clone, Copy, Debug, PartialEq, Eq, Error)]
+#[derive(Clone, Copy, Debug, Error)]
 pub enum PatternsFault {
     /// A type, by its number, has a malformed pattern.
     #[error("type {ty} has a malformed pattern")]

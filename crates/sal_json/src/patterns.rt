@@ -1,5 +1,5 @@
 //! The patterns of a schema, compiled.
-ghost use Rattle.std.specs.Prelude.{◌≡◌, ◌++◌, ◌<◌, IfOk, IfErr, IfSome, MatchOption, IsTrue, Some, true, false, map, length, string_bytes};
+ghost use Rattle.std.specs.Prelude.{◌≡◌, ◌++◌, ◌∷◌, [], ◌<◌, IfOk, OnOk, IfErr, IfSome, MatchOption, IsTrue, Some, true, false, not, map, length, string_bytes};
 ghost use Rattle.std.specs.List.{slice_get, list_all, list_any};
 ghost use Rattle.sal_restrict.specs.declared.yang_type.YangType.{out-YangType};
 ghost use Rattle.sal_json.specs.Patterns as spec;
@@ -69,13 +69,42 @@ fn of_list(alloc: Global, patterns: &[Pattern]) -> Result<Option<Wholes>, NoMemo
     ensures formed { IfOk result (λ found. IfSome found (λ _. spec.have_malformed patterns.now ≡ false)) }
 {
     let mut list = Vec::with_capacity(alloc, patterns.len())?;
+    if add_patterns(alloc, patterns, &mut list)? {
+        Ok(Some(Seq::from_items(list)))
+    } else {
+        Ok(None)
+    }
+}
+
+/// Appends the patterns up to the first malformed one, and tells whether there is none.
+fn add_patterns(
+    alloc: Global,
+    patterns: &[Pattern],
+    list: &mut Vec<Whole>,
+) -> Result<bool, NoMemory>
+    ensures formed { IfOk result (λ formed. spec.have_malformed patterns.now ≡ not formed) }
+    ensures compiled { IfOk result (λ formed. formed ≡ true → list.new.items ≡ list.old.items ++ map spec.searched patterns.now) }
+{
     for pattern in patterns {
-        match Whole::new(alloc, pattern.text.as_str())? {
-            Some(whole) => list.push(whole)?,
-            None => return Ok(None),
+        if !add_pattern(alloc, pattern, list)? {
+            return Ok(false);
         }
     }
-    Ok(Some(Seq::from_items(list)))
+    Ok(true)
+}
+
+/// Appends the pattern, unless it is malformed.
+fn add_pattern(alloc: Global, pattern: &Pattern, list: &mut Vec<Whole>) -> Result<bool, NoMemory>
+    ensures formed { IfOk result (λ formed. spec.is_malformed pattern.now.text ≡ not formed) }
+    ensures compiled { IfOk result (λ formed. formed ≡ true → list.new.items ≡ list.old.items ++ spec.searched pattern.now ∷ []) }
+{
+    match Whole::new(alloc, pattern.text.as_str())? {
+        Some(whole) => {
+            list.push(whole)?;
+            Ok(true)
+        }
+        None => Ok(false),
+    }
 }
 
 fn of_plain(alloc: Global, ty: &YangType) -> Result<Option<Wholes>, NoMemory>
@@ -93,25 +122,63 @@ fn of_members(alloc: Global, members: &[YangType]) -> Result<Option<Seq<Wholes>>
     ensures formed { IfOk result (λ found. IfSome found (λ _. list_any spec.have_malformed (map spec.plain_patterns members.now) ≡ false)) }
 {
     let mut list = Vec::with_capacity(alloc, members.len())?;
+    if add_members(alloc, members, &mut list)? {
+        Ok(Some(Seq::from_items(list)))
+    } else {
+        Ok(None)
+    }
+}
+
+/// Appends the patterns of the members up to the first with a malformed one, and tells whether there is none.
+fn add_members(
+    alloc: Global,
+    members: &[YangType],
+    list: &mut Vec<Wholes>,
+) -> Result<bool, NoMemory>
+    ensures formed { IfOk result (λ formed. list_any spec.have_malformed (map spec.plain_patterns members.now) ≡ not formed) }
+    ensures compiled { IfOk result (λ formed. formed ≡ true → list.new.items ≡ list.old.items ++ map spec.plain_searched members.now) }
+{
     for member in members {
-        match of_plain(alloc, member)? {
-            Some(wholes) => list.push(wholes)?,
-            None => return Ok(None),
+        if !add_member(alloc, member, list)? {
+            return Ok(false);
         }
     }
-    Ok(Some(Seq::from_items(list)))
+    Ok(true)
+}
+
+/// Appends the patterns of the member, unless one is malformed.
+fn add_member(alloc: Global, member: &YangType, list: &mut Vec<Wholes>) -> Result<bool, NoMemory>
+    ensures formed { IfOk result (λ formed. spec.have_malformed (spec.plain_patterns member.now) ≡ not formed) }
+    ensures compiled { IfOk result (λ formed. formed ≡ true → list.new.items ≡ list.old.items ++ spec.plain_searched member.now ∷ []) }
+{
+    match of_plain(alloc, member)? {
+        Some(wholes) => {
+            list.push(wholes)?;
+            Ok(true)
+        }
+        None => Ok(false),
+    }
 }
 
 fn of_one(alloc: Global, ty: &YangType) -> Result<Option<Seq<Wholes>>, NoMemory>
     ensures compiled { IfOk result (λ found. MatchOption found (spec.have_malformed (spec.plain_patterns ty.now) ≡ true) (λ list. list ≡ spec.only (spec.plain_searched ty.now))) }
     ensures formed { IfOk result (λ found. IfSome found (λ _. spec.have_malformed (spec.plain_patterns ty.now) ≡ false)) }
 {
-    let mut list = Vec::with_capacity(alloc, 1)?;
     match of_plain(alloc, ty)? {
-        Some(wholes) => list.push(wholes)?,
-        None => return Ok(None),
+        Some(wholes) => {
+            let list = only(alloc, wholes)?;
+            Ok(Some(list))
+        }
+        None => Ok(None),
     }
-    Ok(Some(Seq::from_items(list)))
+}
+
+fn only(alloc: Global, wholes: Wholes) -> Result<Seq<Wholes>, NoMemory>
+    ensures { IfOk result (λ list. list ≡ spec.only wholes) }
+{
+    let mut list = Vec::new(alloc);
+    list.push(wholes)?;
+    Ok(Seq::from_items(list))
 }
 
 fn of_type(alloc: Global, ty: &YangType) -> Result<Option<Seq<Wholes>>, NoMemory>
@@ -121,6 +188,42 @@ fn of_type(alloc: Global, ty: &YangType) -> Result<Option<Seq<Wholes>>, NoMemory
     match ty {
         YangType::Union { members } => of_members(alloc, members.items()),
         _ => of_one(alloc, ty),
+    }
+}
+
+/// Appends the patterns of all types.
+fn add_types(
+    alloc: Global,
+    schema: &Schema,
+    types: &mut Vec<Seq<Wholes>>,
+) -> Result<(), PatternsFault>
+    ensures compiled { OnOk result (types.new.items ≡ types.old.items ++ spec.patterns_of schema.now) }
+    ensures formed { OnOk result (list_any spec.has_malformed schema.now.types ≡ false) }
+    ensures refused { IfErr result (spec.IsRefusal schema.now) }
+{
+    for ty in 0..schema.types() {
+        if !add_type(alloc, schema.type_at(ty), types)? {
+            return Err(PatternsFault::Refused { ty });
+        }
+    }
+    Ok(())
+}
+
+/// Appends the patterns of the type, unless one is malformed.
+fn add_type(
+    alloc: Global,
+    ty: &YangType,
+    types: &mut Vec<Seq<Wholes>>,
+) -> Result<bool, NoMemory>
+    ensures formed { IfOk result (λ formed. spec.has_malformed ty.now ≡ not formed) }
+    ensures compiled { IfOk result (λ formed. formed ≡ true → types.new.items ≡ types.old.items ++ spec.type_searched ty.now ∷ []) }
+{
+    match of_type(alloc, ty)? {
+        Some(list) => {
+            types.push(list)?;
+            Ok(true)
+        }
+        None => Ok(false),
     }
 }
 
@@ -151,12 +254,7 @@ impl Patterns {
         ensures refused { IfErr result (spec.IsRefusal schema.now) }
     {
         let mut types = Vec::new(alloc);
-        for ty in 0..schema.types() {
-            match of_type(alloc, schema.type_at(ty))? {
-                Some(list) => types.push(list)?,
-                None => return Err(PatternsFault::Refused { ty }),
-            }
-        }
+        add_types(alloc, schema, &mut types)?;
         Ok(Patterns { types })
     }
 

@@ -1,7 +1,0 @@
--- The patterns so far are compiled, and none is malformed.
-use Rattle.std.proofs.Common.{◌≡◌, false, map, take}
-use Rattle.sal_json.specs.Patterns.{have_malformed, searched}
-use Rattle.sal_json.proofs.patterns.of_list.Given as goal
-
-abbrev pub invariant-loop-pattern : goal.invariant-loop-pattern
-invariant-loop-pattern l = (l.list.items ≡ map searched (take l.pattern-index l.patterns)) × (have_malformed (take l.pattern-index l.patterns) ≡ false)

@@ -1,5 +1,5 @@
 //! A tree made of its rows, from the leafs up.
-ghost use Rattle.std.specs.Prelude.{◌≡◌, ◌+◌, ◌≤◌, ◌<◌, ◌∷◌, length, take, drop, IfOk};
+ghost use Rattle.std.specs.Prelude.{◌≡◌, ◌+◌, ◌≤◌, ◌<◌, ◌++◌, ◌∷◌, [], length, take, drop, IfOk};
 ghost use Rattle.sal_types.specs.Tree.{IsAscending};
 ghost use Rattle.sal_tree.specs.Rows.{rows_of, from_depth, first_cell, other_rows, begins, leading, is_root};
 ghost use Rattle.sal_tree.specs.Built.{IsBuilt};
@@ -30,20 +30,28 @@ pub(crate) fn build(alloc: Global, rows: &[Row], depth: usize, stamp: u64) -> Re
     requires ascending { IsAscending (from_depth depth rows.now) }
     ensures { IfOk result (λ n. IsBuilt stamp depth (from_depth depth rows.now) n) }
 {
-    let cell = own_cell(rows, depth)?;
     let mut left = others(rows, depth);
     let mut builder = Builder::new(alloc);
     while let [first, ..] = left {
         let step = step_at(first, depth);
         let count = run_length(left, depth, step);
         let child = build(alloc, front(left, count), depth + 1, stamp)?;
-        let step = step.copy()?;
-        let child = Arc::new(alloc, child)?;
-        builder = builder.push(alloc, step, child)?;
+        builder = added(alloc, builder, step, child)?;
         left = behind(left, count);
     }
+    let cell = own_cell(rows, depth)?;
     let node = builder.finish(alloc, cell, stamp)?;
     Ok(node)
+}
+
+// The children with one more at the end.
+fn added(alloc: Global, builder: Builder, step: &Step, child: Node) -> Result<Builder, NoMemory>
+    ensures { IfOk result (λ more. more ≡ builder ++ (step.now, child) ∷ []) }
+{
+    let step = step.copy()?;
+    let child = Arc::new(alloc, child)?;
+    let more = builder.push(alloc, step, child)?;
+    Ok(more)
 }
 
 // Whether the path of the row ends at the depth.

@@ -1,7 +1,7 @@
 //! Path copying.
 ghost use Rattle.std.specs.Prelude.{◌≡◌, Option, Some, None, T, IfOk, List};
 ghost use Rattle.sal_types.specs.declared.value.Step.{Step};
-ghost use Rattle.sal_node.specs.Tree.{Tree, change};
+ghost use Rattle.sal_node.specs.Tree.{Tree, change, grove};
 ghost use Rattle.sal_node.specs.Shape.{tree_in, tree_at};
 ghost use Rattle.sal_tree.specs.Grow.{grow, kid, kids_in, cell_in, standing, IsSound};
 
@@ -53,14 +53,34 @@ fn replaced(
     requires { IsSound (tree_at old) }
     ensures { IfOk result (λ o. tree_in o ≡ standing stamp (cell_in (tree_at old.entry)) (change step.now (tree_in child) (kids_in (tree_at old.entry)))) }
 {
-    let node = match old {
-        None => Node::new(alloc, None, stamp).with_child(alloc, step, child, stamp)?,
-        Some(node) => node.with_child(alloc, step, child, stamp)?,
-    };
+    let node = changed(alloc, old, step, child, stamp)?;
     if node.is_filled() {
         let node = Arc::new(alloc, node)?;
         Ok(Some(node))
     } else {
         Ok(None)
+    }
+}
+
+fn changed(
+    alloc: Global,
+    old: Option<&Arc<Node>>,
+    step: &Step,
+    child: Option<Arc<Node>>,
+    stamp: u64,
+) -> Result<Node, NoMemory>
+    requires { IsSound (tree_at old) }
+    ensures { IfOk result (λ n. n ≡ record { stamp = stamp; cell = cell_in (tree_at old.entry); kids = grove (change step.now (tree_in child) (kids_in (tree_at old.entry))) }) }
+{
+    match old {
+        None => {
+            let empty = Node::new(alloc, None, stamp);
+            let node = empty.with_child(alloc, step, child, stamp)?;
+            Ok(node)
+        }
+        Some(old) => {
+            let node = old.with_child(alloc, step, child, stamp)?;
+            Ok(node)
+        }
     }
 }

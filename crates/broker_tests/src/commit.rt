@@ -145,17 +145,15 @@ fn is_decided(
     Ok(decided(domain, alloc, base_commit, op)? == wanted)
 }
 
-// How many of the puts are decided as is wanted.
-fn right(domain: &mut Domain, alloc: Global) -> Result<usize, Fail>
+// Whether each of the puts is decided as is wanted.
+fn right(domain: &mut Domain, alloc: Global) -> Result<[bool; 3], Fail>
     requires { AreKept domain.old.commits.items }
 {
-    let mut count = 0;
-    for case in PUTS {
-        if is_decided(domain, alloc, case)? {
-            count += 1;
-        }
-    }
-    Ok(count)
+    let [first, second, third] = PUTS;
+    let is_done = is_decided(domain, alloc, first)?;
+    let is_late = is_decided(domain, alloc, second)?;
+    let is_broken = is_decided(domain, alloc, third)?;
+    Ok([is_done, is_late, is_broken])
 }
 
 // Whether the containers stand in the configuration and in the operational store of the newest commit.
@@ -172,7 +170,7 @@ fn stand(alloc: Global, domain: &Domain) -> Result<[bool; 2], Fail> {
 fn one_is_done_and_two_are_refused(rt: HostRuntime) -> Result<(), Fail> {
     let device = device(rt.alloc())?;
     let mut domain = Domain::open(rt.alloc(), 0, &device, true)?;
-    assert_eq!(rt; right(&mut domain, rt.alloc())?, PUTS.len());
+    assert_eq!(rt; right(&mut domain, rt.alloc())?, [true; 3]);
     assert_eq!(rt; stand(rt.alloc(), &domain)?, [true, false]);
     Ok(())
 }

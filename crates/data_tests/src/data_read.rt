@@ -154,12 +154,12 @@ fn read_at(
     alloc: Global,
     schema: &Schema,
     patterns: &Patterns,
-    (hops, text): (&[Hop], &str),
+    case: (&[Hop], &str),
 ) -> Result<Result<Rows, DataFault>, Fail>
     requires { patterns.now ≡ patterns_of schema.now }
 {
-    let json = Json::from_str(alloc, text)?;
-    let path = path_of(alloc, hops)?;
+    let json = Json::from_str(alloc, case.1)?;
+    let path = path_of(alloc, case.0)?;
     Ok(read_data(alloc, schema, patterns, &path, &json))
 }
 

@@ -90,11 +90,11 @@ fn is_as_wanted(
     alloc: Global,
     schema: &Schema,
     patterns: &Patterns,
-    (text, wanted): (&str, &Result<&str, PathTextFault>),
+    case: (&str, &Result<&str, PathTextFault>),
 ) -> Result<bool, Fail>
     requires { patterns.now ≡ patterns_of schema.now }
 {
-    match (read_path(alloc, schema, patterns, text), wanted) {
+    match (read_path(alloc, schema, patterns, case.0), case.1) {
         (Ok(path), Ok(wanted)) => Ok(write_path(alloc, schema, &path)?.as_str() == *wanted),
         (Err(fault), Err(wanted)) => Ok(fault == *wanted),
         _ => Ok(false),

@@ -347,7 +347,7 @@ fn tx_fault(alloc: Global, unwritten: &Unwritten) -> Result<TxFault, Fail> {
     })
 }
 
-fn unwritten(fault: TxFault) -> StepReply {
+fn refused_write(fault: TxFault) -> StepReply {
     refused(StepRefusal::Write { fault })
 }
 
@@ -373,7 +373,7 @@ fn reply(alloc: Global, told: &Told) -> Result<StepReply, Fail> {
         BadPath(fault) => Ok(refused(StepRefusal::BadPath { fault: *fault })),
         BadData(flaw) => Ok(bad_data(data_fault(alloc, flaw)?)),
         BadScalar(fault) => bad_scalar(alloc, *fault),
-        BadWrite(fault) => Ok(unwritten(tx_fault(alloc, fault)?)),
+        BadWrite(fault) => Ok(refused_write(tx_fault(alloc, fault)?)),
     }
 }
 

@@ -1,12 +1,13 @@
 use crate::schemas::schema_of;
 use crate::texts::{path_of, rows_of};
 use Rule::*;
-use sal_check::{Breach, Rule, check_all, check_near, laws};
+use sal_check::{Breach, Plan, Rule, check_all, check_by, check_near, laws};
 use sal_rows::Rows;
 use sal_schema::Schema;
 use sal_tree::{Root, lie_under};
 use sal_types::{Path, Store};
 use std::alloc::Global;
+use std::sync::Arc;
 use std::test::Fail;
 
 // The numbers of the nodes: a 0 with b 1, c 2, d 3 and the choice e 4, whose case f 5 has g 6 and h 7, and whose case i 8 has
@@ -190,6 +191,31 @@ const MERGED: &[(&str, &str, Wanted)] = &[
         "17/#2/20/21=7",
         Some(("17", Unique(17))),
     ),
+    (
+        "17/#1 17/#1/18=1 17/#1/19=5 17/#1/20/21=7 17/#2 17/#2/18=2 17/#2/19=5 17/#2/20/21=8",
+        "17/#1/20/21=8 17/#2/20/21=7",
+        None,
+    ),
+    (
+        "17/#1 17/#1/18=1 17/#1/19=5 17/#1/20/21=7 17/#2 17/#2/18=2 17/#2/19=5 17/#2/20/21=8",
+        "17/#2/20/21=8",
+        None,
+    ),
+    (
+        "17/#1 17/#1/18=1 17/#1/19=5 17/#1/20/21=7 17/#2 17/#2/18=2 17/#2/19=5 17/#2/20/21=8",
+        "17/#3 17/#3/18=3 17/#3/19=5 17/#3/20/21=7",
+        Some(("17", Unique(17))),
+    ),
+    (
+        "17/#1 17/#1/18=1",
+        "17/#2 17/#2/18=2 17/#2/19=5 17/#2/20/21=7 17/#3 17/#3/18=3 17/#3/19=5 17/#3/20/21=7",
+        Some(("17", Unique(17))),
+    ),
+    (
+        "17/#1 17/#1/18=1 17/#1/19=5",
+        "17/#2 17/#2/18=2 17/#2/19=5",
+        None,
+    ),
     ("26/.1 26/.2", "29=1", Some(("", TwoCases(24)))),
     (
         "0/#1 0/#1/1=1 0/#1/2=5 0/#1/3/.1 0/#1/9=1",
@@ -201,7 +227,7 @@ const MERGED: &[(&str, &str, Wanted)] = &[
 // The breach after the rows are merged into a tree without one, by what changed alone.
 fn breach_near(
     alloc: Global,
-    schema: &Schema,
+    plan: &Plan,
     before: &Root,
     rows: &Rows,
 ) -> Result<Option<Breach>, Fail> {
@@ -209,39 +235,44 @@ fn breach_near(
     if !lie_under(rows, &path) {
         return Err("rows beside the root".into());
     }
-    if check_all(alloc, schema, Store::Config, before)?.is_some() {
+    if check_by(alloc, plan, Store::Config, before)?.is_some() {
         return Err("a breach before".into());
     }
     let after = before.merge(alloc, &path, rows, 7)?;
     laws::what_was_made_keeps();
-    Ok(check_near(alloc, schema, Store::Config, before, &after, &[7])?)
+    Ok(check_near(alloc, plan, Store::Config, before, &after, &[7])?)
 }
 
 fn merged(
     alloc: Global,
-    schema: &Schema,
+    plan: &Plan,
     before: &str,
     rows: &Rows,
 ) -> Result<Option<Breach>, Fail> {
     let before = tree(alloc, before)?;
-    breach_near(alloc, schema, &before, rows)
+    breach_near(alloc, plan, &before, rows)
 }
 
 fn is_checked_near(
     alloc: Global,
-    schema: &Schema,
+    plan: &Plan,
     case: (&str, &str, Wanted),
 ) -> Result<bool, Fail> {
     let rows = rows_of(alloc, case.1)?;
-    let breach = merged(alloc, schema, case.0, &rows)?;
+    let breach = merged(alloc, plan, case.0, &rows)?;
     is_wanted(alloc, &breach, case.2)
+}
+
+fn plan(alloc: Global) -> Result<Plan, Fail> {
+    let schema = Arc::new(alloc, schema_of(alloc, MODULE)?)?;
+    Ok(Plan::of(alloc, &schema)?)
 }
 
 #[test]
 fn changes_are_checked(rt: HostRuntime) -> Result<(), Fail> {
-    let schema = schema_of(rt.alloc(), MODULE)?;
+    let plan = plan(rt.alloc())?;
     for case in MERGED {
-        let is_checked = is_checked_near(rt.alloc(), &schema, *case)?;
+        let is_checked = is_checked_near(rt.alloc(), &plan, *case)?;
         assert!(rt; is_checked, "{} and {}", case.0, case.1);
     }
     Ok(())

@@ -52,7 +52,7 @@ count-more cs i c n more after l at was is sum =
 pub count-all : (o : Option Tree) (t : Tree) (cs : List (Bor Child)) (i n : ℕ) → o ≡ Some t → seen cs ≡ pairs t.kids → length cs ≤ i → n ≡ length (own_steps (take i (seen cs))) → n ≡ length (own_steps (kids_in o))
 count-all o t cs i n is same l was = was ∙ ap (λ (es : Entries). length (own_steps es)) (seen-all cs i l ∙ same) ∙ sym (ap (λ o. length (own_steps (kids_in o))) is)
 
-full-at : (cs : List (Bor Child)) (i : ℕ) (c : Bor Child) → AllFull (seen cs) → i < length cs → c ≡ get_or cs i c → IsGrove c.now.node.value.kids
+pub full-at : (cs : List (Bor Child)) (i : ℕ) (c : Bor Child) → AllFull (seen cs) → i < length cs → c ≡ get_or cs i c → IsGrove c.now.node.value.kids
 full-at [] i c all l at = absurd (omega arith)
 full-at (d ∷ cs) zero c all l at = subst (λ (e : Bor Child). IsGrove e.now.node.value.kids) (sym at) all.0.1
 full-at (d ∷ cs) (suc i) c all l at = full-at cs i c all.1 (omega arith) at

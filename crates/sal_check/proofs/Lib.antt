@@ -6,8 +6,9 @@ mod Founds
 mod Least
 mod Members
 mod NearFounds
+mod NearKids
 mod NearRows
-mod NearTrees
+pub mod NearTrees
 mod Plans
 mod SeenTrees
 mod There

@@ -10,7 +10,7 @@ ghost use Rattle.sal_check.specs.Nodes.{steps_in, AreJudged};
 ghost use Rattle.sal_rows.specs.declared.outcome.Rule.TheVariants.{MinElements, MaxElements};
 
 use crate::climb::{context, way};
-use crate::plan::Plan;
+use crate::lists::Lists;
 use crate::reach::{kid, reached};
 use crate::rules::{has_minimum, is_demanded};
 use crate::spot::after_step;
@@ -220,7 +220,7 @@ fn judge_changed_node(
 fn judge_changed_place(
     alloc: Global,
     schema: &Schema,
-    plan: &Plan,
+    lists: &Lists,
     store: Store,
     stamps: &[u64],
     trail: &[&Step],
@@ -231,14 +231,14 @@ fn judge_changed_place(
 ) -> Result<Option<Breach>, NoMemory>
     requires before { IsSound (tree_at before) }
     requires sound { IsGrove node.now.value.kids }
-    requires plan { AreJudged schema.now plan.now.lists.items }
+    requires lists { AreJudged schema.now lists.now.lists.items }
     ensures { IfOk result (λ r. r ≡ fold breaches.keep least (spec.near_at stamps.now schema.now store (steps_in trail.now) spot (tree_at before.entry) node.now.value)) }
 {
     if spot.wants_entry {
         return Ok(least);
     }
     let mut least = least;
-    for number in plan.judged(schema, spot.node) {
+    for number in lists.judged(schema, spot.node) {
         least = judge_changed_node(
             alloc, schema, store, stamps, trail, before, node, spot.node, *number, least,
         )?;
@@ -250,7 +250,7 @@ fn judge_changed_place(
 pub(crate) fn walk_changed<'a>(
     alloc: Global,
     schema: &Schema,
-    plan: &Plan,
+    lists: &Lists,
     store: Store,
     stamps: &[u64],
     trail: &[&'a Step],
@@ -261,27 +261,24 @@ pub(crate) fn walk_changed<'a>(
 ) -> Result<Option<Breach>, NoMemory>
     requires before { IsSound (tree_at before) }
     requires sound { IsGrove node.now.value.kids }
-    requires plan { AreJudged schema.now plan.now.lists.items }
+    requires lists { AreJudged schema.now lists.now.lists.items }
     ensures { IfOk result (λ r. r ≡ fold breaches.keep least (spec.near stamps.now schema.now store (steps_in trail.now) spot (tree_at before.entry) node.now.value)) }
 {
     if !is_new(stamps, node) {
         return Ok(least);
     }
     let mut least = judge_changed_place(
-        alloc, schema, plan, store, stamps, trail, spot, before, node, least,
+        alloc, schema, lists, store, stamps, trail, spot, before, node, least,
     )?;
-    let children = node.children(alloc)?;
+    let children = node.children_with(alloc, stamps)?;
     for child in &children {
-        if !is_new(stamps, &child.node) {
-            continue;
-        }
         let old = kid(before, &child.step);
         let below = longer(alloc, trail, &child.step)?;
         let next = after_step(schema, spot, &child.step);
         least = walk_changed(
             alloc,
             schema,
-            plan,
+            lists,
             store,
             stamps,
             &below,

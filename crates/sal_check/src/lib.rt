@@ -3,7 +3,9 @@
 //! | item | what it is |
 //! |---|---|
 //! | `check_all` | the breach of a whole tree that is reported: the one with the smallest path, then the smallest rule, then the smallest node |
+//! | `check_by` | the same, by what a `Plan` has worked out of the schema |
 //! | `check_near` | the same, of a tree that was made of one without a breach by a change with known stamps |
+//! | `Plan` | a schema, with the nodes that are judged at each place |
 //! | `Breach`, `Rule` | a rule that is broken, with its node, and where |
 //!
 //! The definitions are those of `sal_rules` over plain rows. `specs/` says how the walk over a tree of nodes comes to the same
@@ -19,11 +21,12 @@
 //!
 //! | call | cost, for a schema of s nodes and a tree of n |
 //! |---|---|
-//! | `check_all` | for the schema s climbs; for the tree one look at each node and a list of references to its children, and one more look at the entries of a list for each count that is stated; for each `unique` statement of a list of m entries m log m comparisons of its leafs, and a set of m references |
-//! | `check_near` | for the schema the same; for the tree a look at each node with a new stamp and at the stamps of its children; for each count or `unique` statement of a list in which something changed what `check_all` needs for it |
+//! | `Plan::of` | s climbs, and a list of numbers for each schema node |
+//! | `check_all` | that of a plan; one look at each node of the tree and a list of references to its children, and one more look at the entries of a list for each count that is stated; for each `unique` statement of a list of m entries m log m comparisons of its leafs, and a set of m references |
+//! | `check_by` | the same without the plan |
+//! | `check_near` | a look at each node with a new stamp, and at the pages of its children that have one; for each count or `unique` statement of a list in which something changed what `check_all` needs for it |
 //!
-//! The memory is that of one list of numbers for each schema node and of the references; no row is copied. A recursion is at
-//! most 32 steps deep over the tree, and as deep as choices and cases lie in one another.
+//! No row is copied. A recursion is at most 32 steps deep over the tree, and as deep as choices and cases lie in one another.
 #![tactic(auto)]
 
 mod breach;
@@ -31,6 +34,7 @@ mod changed;
 mod check;
 mod climb;
 pub mod laws;
+mod lists;
 mod plan;
 mod reach;
 mod rules;
@@ -39,5 +43,6 @@ mod trail;
 mod unique;
 mod walk;
 
-pub use check::{check_all, check_near};
+pub use check::{check_all, check_by, check_near};
+pub use plan::Plan;
 pub use sal_rows::{Breach, Rule};

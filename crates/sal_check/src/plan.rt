@@ -1,94 +1,28 @@
-//! Which nodes of a schema are judged at which places: a list for each place's node.
-ghost use Rattle.std.specs.Prelude.{◌≡◌, ◌<◌, ◌+◌, ◌||◌, ◌++◌, ◌∷◌, [], ℕ, length, IfOk, IfSome, OnOk, nat_eq, slice_index_or, if◌then◌else◌};
-ghost use Rattle.std.specs.List.{All};
-ghost use Rattle.std.specs.declared.alloc.Global.{Global as Heap};
-ghost use Rattle.std.specs.declared.vec.Vec.{Vec as Vector};
-ghost use Rattle.sal_check.specs.Nodes.{slot, judged, judged_in, AreJudged};
+//! What is worked out of a schema once, for all checks of its trees.
+ghost use Rattle.std.specs.Prelude.{◌≡◌, IfOk};
+ghost use Rattle.sal_check.specs.Nodes.{AreJudged};
 
-use crate::climb::stand;
+use crate::lists::Lists;
 use sal_schema::Schema;
 use sal_types::NoMemory;
 use std::alloc::Global;
+use std::sync::Arc;
 
-/// For the root, and then for each node, the nodes that are judged where it stands.
+/// A schema, and which of its nodes are judged at which places of its trees.
 #[derive(Drop)]
-pub(crate) struct Plan {
-    pub(crate) lists: Vec<Vec<u32>>,
-}
-
-fn empty_lists(alloc: Global, count: usize) -> Result<Vec<Vec<u32>>, NoMemory>
-    ensures count { IfOk result (λ lists. length lists.items ≡ count) }
-    ensures empty { IfOk result (λ lists. (k : ℕ) (d : Vector ℕ Heap) → k < count → (slice_index_or lists.items k d).items ≡ []) }
-{
-    let mut lists = Vec::with_capacity(alloc, count)?;
-    for made in 0..count {
-        lists.push(Vec::new(alloc))?;
-    }
-    Ok(lists)
-}
-
-fn add_to(lists: &mut Vec<Vec<u32>>, at: usize, number: u32) -> Result<(), NoMemory>
-    requires { at < length lists.old.items }
-    ensures count { OnOk result (length lists.new.items ≡ length lists.old.items) }
-    ensures added { OnOk result ((k : ℕ) (d : Vector ℕ Heap) → k < length lists.old.items → (slice_index_or lists.new.items k d).items ≡ (slice_index_or lists.old.items k d).items ++ (if nat_eq at k then number ∷ [] else [])) }
-{
-    lists[at].push(number)?;
-    Ok(())
-}
-
-// Puts the number into two lists, or once where they are the same.
-fn add_to_both(
-    lists: &mut Vec<Vec<u32>>,
-    at: usize,
-    other: usize,
-    number: u32,
-) -> Result<(), NoMemory>
-    requires at { at < length lists.old.items }
-    requires other { other < length lists.old.items }
-    ensures count { OnOk result (length lists.new.items ≡ length lists.old.items) }
-    ensures added { OnOk result ((k : ℕ) (d : Vector ℕ Heap) → k < length lists.old.items → (slice_index_or lists.new.items k d).items ≡ (slice_index_or lists.old.items k d).items ++ (if nat_eq at k || nat_eq other k then number ∷ [] else [])) }
-{
-    add_to(lists, at, number)?;
-    if other != at {
-        add_to(lists, other, number)?;
-    }
-    Ok(())
-}
-
-fn slot(node: Option<u32>) -> usize
-    ensures { result ≡ slot node }
-{
-    match node {
-        None => 0,
-        Some(node) => node as usize + 1,
-    }
+pub struct Plan {
+    pub schema: Arc<Schema>,
+    pub(crate) lists: Lists,
+    pub ghost judged: { AreJudged schema.value lists.lists.items },
 }
 
 impl Plan {
-    /// The plan of a schema.
-    pub(crate) fn of(alloc: Global, schema: &Schema) -> Result<Plan, NoMemory>
-        ensures { IfOk result (λ plan. AreJudged schema.now plan.lists.items) }
+    /// The plan of a schema. It takes memory for one list of numbers for each node.
+    pub fn of(alloc: Global, schema: &Arc<Schema>) -> Result<Plan, NoMemory>
+        ensures { IfOk result (λ plan. plan.schema.value ≡ schema.now.value) }
     {
-        let mut lists = empty_lists(alloc, schema.len() as usize + 1)?;
-        for number in 0..schema.len() {
-            let stand = slot(stand(schema, number));
-            let parent = slot(schema.data_parent(number));
-            add_to_both(&mut lists, stand, parent, number)?;
-        }
-        Ok(Plan { lists })
-    }
-
-    /// The nodes that are judged where this one stands.
-    pub(crate) fn judged(&self, schema: &Schema, at: Option<u32>) -> &[u32]
-        requires { AreJudged schema.now self.now.lists.items }
-        ensures numbers { result.now ≡ judged schema.now at }
-        ensures within { All (λ n. n < length schema.now.nodes) result.now }
-    {
-        let slot = slot(at);
-        if slot < self.lists.len() {
-            &self.lists[slot]
-        } else {
-            &[]
-        }
+        let lists = Lists::of(alloc, schema)?;
+        let schema = Arc::try_clone(schema)?;
+        Ok(Plan { schema, lists })
     }
 }

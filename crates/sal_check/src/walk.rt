@@ -10,7 +10,7 @@ ghost use Rattle.sal_check.specs.Nodes.{seen_in, steps_in, found, found_at, AreJ
 ghost use Rattle.sal_rules.specs.Rules.{broken};
 
 use crate::breach::keep;
-use crate::plan::Plan;
+use crate::lists::Lists;
 use crate::rules::{has_too_few, has_too_many, has_two_cases, is_missing};
 use crate::spot::after_step;
 use sal_rules::Spot;
@@ -163,7 +163,7 @@ fn judge_node(
 fn judge_place(
     alloc: Global,
     schema: &Schema,
-    plan: &Plan,
+    lists: &Lists,
     store: Store,
     trail: &[&Step],
     spot: Spot,
@@ -171,14 +171,14 @@ fn judge_place(
     least: Option<Breach>,
 ) -> Result<Option<Breach>, NoMemory>
     requires sound { IsGrove node.now.value.kids }
-    requires plan { AreJudged schema.now plan.now.lists.items }
+    requires lists { AreJudged schema.now lists.now.lists.items }
     ensures { IfOk result (λ r. r ≡ fold spec.keep least (found_at schema.now store (steps_in trail.now) spot node.now.value)) }
 {
     if spot.wants_entry {
         return Ok(least);
     }
     let mut least = least;
-    for number in plan.judged(schema, spot.node) {
+    for number in lists.judged(schema, spot.node) {
         least = judge_node(alloc, schema, store, trail, node, spot.node, *number, least)?;
     }
     Ok(least)
@@ -188,7 +188,7 @@ fn judge_place(
 pub(crate) fn walk<'a>(
     alloc: Global,
     schema: &Schema,
-    plan: &Plan,
+    lists: &Lists,
     store: Store,
     trail: &[&'a Step],
     spot: Spot,
@@ -196,15 +196,24 @@ pub(crate) fn walk<'a>(
     least: Option<Breach>,
 ) -> Result<Option<Breach>, NoMemory>
     requires sound { IsGrove node.now.value.kids }
-    requires plan { AreJudged schema.now plan.now.lists.items }
+    requires lists { AreJudged schema.now lists.now.lists.items }
     ensures { IfOk result (λ r. r ≡ fold spec.keep least (found schema.now store (steps_in trail.now) spot node.now.value)) }
 {
-    let mut least = judge_place(alloc, schema, plan, store, trail, spot, node, least)?;
+    let mut least = judge_place(alloc, schema, lists, store, trail, spot, node, least)?;
     let children = node.children(alloc)?;
     for child in &children {
         let below = longer(alloc, trail, &child.step)?;
         let next = after_step(schema, spot, &child.step);
-        least = walk(alloc, schema, plan, store, &below, next, &child.node, least)?;
+        least = walk(
+            alloc,
+            schema,
+            lists,
+            store,
+            &below,
+            next,
+            &child.node,
+            least,
+        )?;
     }
     Ok(least)
 }

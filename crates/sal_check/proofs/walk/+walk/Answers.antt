@@ -14,7 +14,7 @@ walk-requires t c =
     let same : seen c.deref-child-items.result.now ≡ pairs c.args.node.now.value.kids = ap seen c.deref-child-items.ensures.value ∙ c.in_ok-children.ensures ∙ ap (λ (t : Tree). pairs t.kids) c.deref.ensures in
     let h = lighter c.args.node.now.value.kids c.deref-child-items.result.now c.loop-child.child-index c.child-item.result same c.loop-child-test.true c.child-item.is in
     let sound = grove-child c.args.node.now.value.kids c.deref-child-items.result.now c.loop-child.child-index c.child-item.result c.requires.sound same c.loop-child-test.true c.child-item.is in
-    (omega (arith, h, c.decreases), (sound, c.requires.plan))
+    (omega (arith, h, c.decreases), (sound, c.requires.lists))
 
 pub loop-child-preserved : goal.loop-child-preserved
 loop-child-preserved t c =

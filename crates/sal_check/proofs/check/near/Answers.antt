@@ -6,7 +6,7 @@ use Rattle.sal_rules.specs.Breaches.{keep, breach}
 use Rattle.sal_check.specs.Near.{near}
 use Rattle.sal_rules.specs.Places.{root_spot}
 use Rattle.sal_check.proofs.NearTrees.{near-breach}
-use Rattle.sal_check.proofs.check.check_near.Goals as goal
+use Rattle.sal_check.proofs.check.near.Goals as goal
 
 pub returns : goal.returns
 returns c =

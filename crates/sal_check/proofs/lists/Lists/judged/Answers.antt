@@ -2,7 +2,7 @@ use Rattle.std.proofs.Common.{rules, ◌≡◌, ◌<◌, length, sym, subst, ari
 use Rattle.std.specs.List.{All}
 use Rattle.sal_check.specs.Nodes.{slot, is_judged_in, judged}
 use Rattle.sal_check.proofs.Plans.{kept-inside, judged-none}
-use Rattle.sal_check.proofs.plan.Plan.judged.Goals as goal
+use Rattle.sal_check.proofs.lists.Lists.judged.Goals as goal
 
 pub returns-then-slot-len-clause-within : goal.returns-then-slot-len-clause-within
 returns-then-slot-len-clause-within c =

@@ -7,7 +7,7 @@ use Rattle.sal_rules.specs.Breaches.{keep, breach}
 use Rattle.sal_check.specs.Nodes.{found}
 use Rattle.sal_rules.specs.Places.{root_spot}
 use Rattle.sal_check.proofs.Walked.{breach-found}
-use Rattle.sal_check.proofs.check.check_all.Goals as goal
+use Rattle.sal_check.proofs.check.whole.Goals as goal
 
 pub returns : goal.returns
 returns c =

@@ -1,7 +1,7 @@
 use Rattle.std.proofs.Common.{◌||◌, ◌++◌, ◌∷◌, [], nat_eq, if◌then◌else◌, ap, ◌∙◌, arith}
 use Rattle.sal_check.specs.Nodes.{slot, is_judged_in}
 use Rattle.sal_check.proofs.Plans.{kept-none, kept-one_more, stand-inside, parent-inside}
-use Rattle.sal_check.proofs.plan.Plan.of.Goals as goal
+use Rattle.sal_check.proofs.lists.Lists.of.Goals as goal
 
 pub loop-number-init : goal.loop-number-init
 loop-number-init c = record {

@@ -5,7 +5,7 @@ use Rattle.std.specs.declared.alloc.Global.{Global}
 use Rattle.std.specs.declared.vec.Vec.{Vec}
 use Rattle.sal_rules.specs.Breaches.{first}
 use Rattle.sal_check.specs.Nodes.{is_judged_in}
-use Rattle.sal_check.proofs.plan.Plan.of.Given as goal
+use Rattle.sal_check.proofs.lists.Lists.of.Given as goal
 
 abbrev pub invariant-loop-number : goal.invariant-loop-number
 invariant-loop-number l = record {

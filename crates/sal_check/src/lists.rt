@@ -1,0 +1,94 @@
+//! Which nodes of a schema are judged at which places: a list for each place's node.
+ghost use Rattle.std.specs.Prelude.{◌≡◌, ◌<◌, ◌+◌, ◌||◌, ◌++◌, ◌∷◌, [], ℕ, length, IfOk, IfSome, OnOk, nat_eq, slice_index_or, if◌then◌else◌};
+ghost use Rattle.std.specs.List.{All};
+ghost use Rattle.std.specs.declared.alloc.Global.{Global as Heap};
+ghost use Rattle.std.specs.declared.vec.Vec.{Vec as Vector};
+ghost use Rattle.sal_check.specs.Nodes.{slot, judged, judged_in, AreJudged};
+
+use crate::climb::stand;
+use sal_schema::Schema;
+use sal_types::NoMemory;
+use std::alloc::Global;
+
+/// For the root, and then for each node, the nodes that are judged where it stands.
+#[derive(Drop)]
+pub(crate) struct Lists {
+    pub(crate) lists: Vec<Vec<u32>>,
+}
+
+fn empty_lists(alloc: Global, count: usize) -> Result<Vec<Vec<u32>>, NoMemory>
+    ensures count { IfOk result (λ lists. length lists.items ≡ count) }
+    ensures empty { IfOk result (λ lists. (k : ℕ) (d : Vector ℕ Heap) → k < count → (slice_index_or lists.items k d).items ≡ []) }
+{
+    let mut lists = Vec::with_capacity(alloc, count)?;
+    for made in 0..count {
+        lists.push(Vec::new(alloc))?;
+    }
+    Ok(lists)
+}
+
+fn add_to(lists: &mut Vec<Vec<u32>>, at: usize, number: u32) -> Result<(), NoMemory>
+    requires { at < length lists.old.items }
+    ensures count { OnOk result (length lists.new.items ≡ length lists.old.items) }
+    ensures added { OnOk result ((k : ℕ) (d : Vector ℕ Heap) → k < length lists.old.items → (slice_index_or lists.new.items k d).items ≡ (slice_index_or lists.old.items k d).items ++ (if nat_eq at k then number ∷ [] else [])) }
+{
+    lists[at].push(number)?;
+    Ok(())
+}
+
+// Puts the number into two lists, or once where they are the same.
+fn add_to_both(
+    lists: &mut Vec<Vec<u32>>,
+    at: usize,
+    other: usize,
+    number: u32,
+) -> Result<(), NoMemory>
+    requires at { at < length lists.old.items }
+    requires other { other < length lists.old.items }
+    ensures count { OnOk result (length lists.new.items ≡ length lists.old.items) }
+    ensures added { OnOk result ((k : ℕ) (d : Vector ℕ Heap) → k < length lists.old.items → (slice_index_or lists.new.items k d).items ≡ (slice_index_or lists.old.items k d).items ++ (if nat_eq at k || nat_eq other k then number ∷ [] else [])) }
+{
+    add_to(lists, at, number)?;
+    if other != at {
+        add_to(lists, other, number)?;
+    }
+    Ok(())
+}
+
+fn slot(node: Option<u32>) -> usize
+    ensures { result ≡ slot node }
+{
+    match node {
+        None => 0,
+        Some(node) => node as usize + 1,
+    }
+}
+
+impl Lists {
+    /// Those of a schema.
+    pub(crate) fn of(alloc: Global, schema: &Schema) -> Result<Lists, NoMemory>
+        ensures { IfOk result (λ made. AreJudged schema.now made.lists.items) }
+    {
+        let mut lists = empty_lists(alloc, schema.len() as usize + 1)?;
+        for number in 0..schema.len() {
+            let stand = slot(stand(schema, number));
+            let parent = slot(schema.data_parent(number));
+            add_to_both(&mut lists, stand, parent, number)?;
+        }
+        Ok(Lists { lists })
+    }
+
+    /// The nodes that are judged where this one stands.
+    pub(crate) fn judged(&self, schema: &Schema, at: Option<u32>) -> &[u32]
+        requires { AreJudged schema.now self.now.lists.items }
+        ensures numbers { result.now ≡ judged schema.now at }
+        ensures within { All (λ n. n < length schema.now.nodes) result.now }
+    {
+        let slot = slot(at);
+        if slot < self.lists.len() {
+            &self.lists[slot]
+        } else {
+            &[]
+        }
+    }
+}

@@ -1,11 +1,17 @@
 -- A decision by the phases is the one that the definitions say.
-use Rattle.std.proofs.Common.{◌≡◌, ℕ, ◌+◌, ◌-◌, ◌≤◌, [], ◌∷◌, ◌++◌, length, get_or, None, Some, ap, sym, subst, ◌∙◌, ◌⊎◌, inl, inr, arith}
+use Rattle.std.proofs.Common.{◌≡◌, ℕ, ◌+◌, ◌-◌, ◌≤◌, List, [], ◌∷◌, ◌++◌, length, get_or, Option, None, Some, refl, ap, sym, subst, ◌∙◌, ◌⊎◌, inl, inr, arith}
 use Rattle.std.specs.Prelude.{unwrap_or}
-use Rattle.std.specs.Option.{option_or}
+use Rattle.std.specs.Option.{option_map, option_or}
 use Rattle.std.proofs.lemmas.List.{get_or_default}
 use Rattle.sal_types.specs.declared.value.Store.{Store}
+use Rattle.sal_types.specs.declared.value.Store.TheVariants.{Config, Oper}
+use Rattle.sal_types.specs.declared.row.Row.{Row}
+use Rattle.sal_schema.specs.declared.table.SchemaTable.{SchemaTable}
+use Rattle.sal_rows.specs.declared.outcome.Breach.{Breach}
+use Rattle.sal_rules.specs.Breaches.{breach}
+use Rattle.sal_rows.specs.Clash.{tip}
 use Rattle.sal_rows.specs.declared.outcome.Outcome.{Outcome}
-use Rattle.sal_rows.specs.declared.outcome.Outcome.TheVariants.{Done}
+use Rattle.sal_rows.specs.declared.outcome.Outcome.TheVariants.{Done, Invalid as Breaks}
 use Rattle.sal_rows.specs.Apply.{apply_ops}
 use Rattle.sal_tree.specs.declared.commit.Commit.{Commit}
 use Rattle.sal_graft.specs.Kept.{AreKept, opening_in, ops_of, rows_in}
@@ -19,7 +25,8 @@ use Rattle.sal_commit.specs.declared.phases.PreFault.TheVariants.{Invalid, NoMem
 use Rattle.sal_commit.specs.declared.deciding.Attempt.TheVariants.{Made, Refused}
 use Rattle.sal_commit.specs.Attempts.{IsAttempt}
 use Rattle.sal_commit.specs.Domains.{IsSame}
-use Rattle.sal_commit.specs.Deciding.{IsNext, Decides, breached, conflict, decide}
+use Rattle.sal_commit.specs.Deciding.{IsNext, Decides, breached, conflict, decide, invalid}
+use Rattle.sal_commit.specs.Sound.{BreakNone}
 
 -- ---- canCommit and preCommit
 
@@ -47,6 +54,35 @@ decide-done d sub c some none number =
   where
     next : length d.commits.items ≡ length (ops_of d.commits.items) + 1
     next = omega (arith, length-ops_of d.commits.items some)
+
+-- what is prepared breaks no rule
+none-breach : (s : Store) (b : Option Breach) → option_map (λ (x : Breach). Breaks s x.path x.rule) b ≡ None → b ≡ None
+none-breach s None e = refl
+none-breach s (Some x) e = cc
+
+none-first : {X : Type 0} (a b : Option X) → option_or a b ≡ None → a ≡ None
+none-first None b e = refl
+none-first (Some x) b e = cc
+
+none-second : {X : Type 0} (a b : Option X) → option_or a b ≡ None → b ≡ None
+none-second None b e = e
+none-second (Some x) b e = cc
+
+pub next-sound : (d : Domain) (sub : Submission) (c : Commit) (table : SchemaTable) → table ≡ d.schema.value → option_or (conflict d sub) (breached d sub) ≡ None → IsNext d sub c → BreakNone table c.trees
+next-sound d sub c table same none next = all
+  where
+    no_breach : breached d sub ≡ None
+    no_breach = none-second (conflict d sub) (breached d sub) none
+
+    after : Store → List Row
+    after s = apply_ops (tip (opening_in d.commits.items) (ops_of d.commits.items) s) s sub.changes
+
+    at : (s : Store) → breach d.schema.value s (after s) ≡ None → breach table s (rows_in c.trees s) ≡ None
+    at s e = (λ i. breach (same i) s (next.trees s i)) ∙ e
+
+    all : BreakNone table c.trees
+    all Config = at Config (none-breach Config (breach d.schema.value Config (after Config)) (none-first (invalid d sub Config) (invalid d sub Oper) no_breach))
+    all Oper = at Oper (none-breach Oper (breach d.schema.value Oper (after Oper)) (none-second (invalid d sub Config) (invalid d sub Oper) no_breach))
 
 module _ (old : Domain) (sub : Submission) (next : Commit) (are : AreKept old.commits.items) (is : IsNext old sub next) where
   last : Commit

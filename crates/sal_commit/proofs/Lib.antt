@@ -1,3 +1,4 @@
 pub mod Applying
 pub mod Decided
+pub mod Sounds
 pub mod TriedTable

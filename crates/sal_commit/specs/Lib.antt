@@ -1,4 +1,6 @@
 pub mod Attempts
 pub mod Deciding
 pub mod Domains
+pub mod Opening
+pub mod Sound
 pub mod Tried

@@ -1,17 +1,21 @@
 //! A domain with its commits.
-ghost use Rattle.std.specs.Prelude.{◌≡◌, ◌+◌, ◌<◌, [], ◌∷◌, IfOk, OnOk, length, take};
-ghost use Rattle.sal_history.specs.declared.opening.Device.{Device as Given};
-ghost use Rattle.sal_graft.specs.Kept.{AreKept, opening_in, ops_of, rows_in};
-ghost use Rattle.sal_commit.specs.Domains as spec;
+ghost use Rattle.std.specs.Prelude.{◌≡◌, ◌+◌, ◌<◌, [], None, IfOk, MatchResult, OnOk, length, take};
+ghost use Rattle.sal_graft.specs.Kept.{AreKept, opening_in, ops_of};
+ghost use Rattle.sal_commit.specs.Opening.{fault_of, IsFaultOf, opening_of_device};
+ghost use Rattle.sal_commit.specs.Sound.{AreSound};
 
+use crate::fault::DomainFault;
+use crate::opening::{first_commits, sound_trees};
+use sal_check::Plan;
 use sal_history::Device;
 use sal_schema::Schema;
-use sal_tree::{Commit, Pair, Root};
-use sal_types::{NoMemory, Seq};
+use sal_tree::Commit;
+use sal_types::NoMemory;
 use std::alloc::Global;
 use std::sync::Arc;
 
-/// A domain: a pair of stores with one schema, and its commits from the opening on. Commit `k` stands at index `k`.
+/// A domain: a pair of stores with one schema, and its commits from the opening on. Commit `k` stands at index `k`. No
+/// tree of a commit breaks a structural rule.
 #[derive(Drop)]
 pub struct Domain {
     pub number: u32,
@@ -19,33 +23,38 @@ pub struct Domain {
     pub live: bool,
     pub schema: Arc<Schema>,
     pub commits: Vec<Commit>,
+    pub(crate) plan: Plan,
+    pub ghost planned: { plan.schema.value ≡ schema.value },
+    pub ghost sound: { AreSound schema.value commits.items },
 }
 
 impl Domain {
     ghost use Rattle.sal_commit.specs.Domains.{IsSame, is_roomy};
 
-    /// The domain of this number over the schema and the opening trees of a device.
-    pub fn open(alloc: Global, number: u32, device: &Device, live: bool) -> Result<Domain, NoMemory>
+    /// The domain of this number over the schema and the opening trees of a device, unless one of these breaks a
+    /// structural rule.
+    pub fn open(
+        alloc: Global,
+        number: u32,
+        device: &Device,
+        live: bool,
+    ) -> Result<Domain, DomainFault>
         ensures parts { IfOk result (λ d. (d.number ≡ number) × (d.live ≡ live) × (d.schema.value ≡ device.now.schema.value)) }
         ensures kept { IfOk result (λ d. AreKept d.commits.items) }
         ensures commits { IfOk result (λ d. ops_of d.commits.items ≡ []) }
-        ensures opening { IfOk result (λ d. opening_in d.commits.items ≡ spec.opening_of_device device.now) }
+        ensures opening { IfOk result (λ d. opening_in d.commits.items ≡ opening_of_device device.now) }
+        ensures fault { MatchResult result (λ _. fault_of device.now ≡ None) (IsFaultOf device.now) }
     {
-        let trees = opened(alloc, device)?;
-        let opening = Commit {
-            number: 0,
-            receipt: 0,
-            chain: None,
-            ops: Arc::new(alloc, Seq::new(alloc))?,
-            trees,
-        };
-        let commits = vec![in alloc; opening]?;
-        let schema = Arc::try_clone(&device.schema)?;
+        let plan = Plan::of(alloc, &device.schema)?;
+        let trees = sound_trees(alloc, device, &plan)?;
+        let commits = first_commits(alloc, trees)?;
+        let schema = shared(&device.schema)?;
         Ok(Domain {
             number,
             live,
             schema,
             commits,
+            plan,
         })
     }
 
@@ -71,11 +80,9 @@ impl Domain {
     }
 }
 
-// The opening trees of a device.
-fn opened(alloc: Global, device: &Device) -> Result<Pair, NoMemory>
-    ensures { IfOk result (λ pair. rows_in pair ≡ spec.opening_of_device device.now) }
+fn shared(schema: &Arc<Schema>) -> Result<Arc<Schema>, NoMemory>
+    ensures { IfOk result (λ it. it.value ≡ schema.now.value) }
 {
-    let config = Root::from_rows(alloc, &device.opening.config, 0)?;
-    let oper = Root::from_rows(alloc, &device.opening.oper, 0)?;
-    Ok(Pair { config, oper })
+    let schema = Arc::try_clone(schema)?;
+    Ok(schema)
 }

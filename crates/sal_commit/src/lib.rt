@@ -2,7 +2,8 @@
 //!
 //! | item | what it is |
 //! |---|---|
-//! | `Domain` | a domain: its number, its schema and its commits, the opening first |
+//! | `Domain` | a domain: its number, its schema and its commits, the opening first; no tree of a commit breaks a structural rule |
+//! | `DomainFault` | why a domain is not opened |
 //! | `can` | whether a submission conflicts with the commits after its base |
 //! | `pre` | both trees after the submission, where they break no structural rule |
 //! | `publish` | the next commit of the domain: both trees at once |
@@ -13,8 +14,9 @@
 //! memory of a decision and changes nothing; `publish` takes none, so it changes both stores, or, where it is not reached,
 //! neither.
 //!
-//! `specs/` says what a domain keeps (`Domains`), what each phase gives and what a decision leaves (`Deciding`), and what
-//! `can` and `pre` come to together (`Attempts`). `Tried` has the table of the test.
+//! `specs/` says which commits break no rule and what a change keeps of the newest trees (`Sound`), what opens a domain
+//! (`Opening`), what stays of one (`Domains`), what each phase gives and what a decision leaves (`Deciding`), and what `can`
+//! and `pre` come to together (`Attempts`). `Tried` has the table of the test.
 //!
 //! ```
 //! let outcome = decide(alloc, &submission, &mut domain, fresh)?;
@@ -22,24 +24,27 @@
 //!
 //! | call | copied | shared | scanned |
 //! |---|---|---|---|
-//! | `Domain::open` | a node for each path of the opening | the schema | the opening's rows |
+//! | `Domain::open` | a node for each path of the opening, and a list of numbers for each schema node | the schema | the opening's rows, and both trees whole |
 //! | `Domain::reserve` | the list of commits, as it grows, without what they hold | all of them | |
 //! | `Domain::cut_to` | | | the commits that it drops |
 //! | `can` | the path that a conflict names | | for each operation its path at the base and at the tip, and back through the commits after the base with their operations and rows |
-//! | `pre` | the operations with their rows, and for each of them the nodes on the way to what it sets | all other nodes of both trees | both new trees whole, each node, and the schema |
+//! | `pre` | the operations with their rows, and for each of them the nodes on the way to what it sets | all other nodes of both trees | of both new trees the nodes that are not shared, and the lists in which something changed, where they state a count, or a `unique` of which a leaf changed |
 //! | `publish` | | the commit, which is moved | |
 //! | `decide` | what `can`, `pre` and `reserve` copy | as these | as these |
 //!
-//! So a decision takes the memory of what the submission changes, and while it checks a list of numbers for each schema
-//! node; and the time of a walk over both trees. A refused one gives back all that it took.
+//! So a decision takes the memory and the time of what the submission changes. A store that it leaves alone is not looked at.
+//! A refused one gives back all that it took.
 #![tactic(auto)]
 
 mod clashing;
 mod deciding;
 mod domain;
+mod fault;
+mod opening;
 mod phases;
 mod trees;
 
 pub use deciding::decide;
 pub use domain::Domain;
+pub use fault::DomainFault;
 pub use phases::{CanFault, PreFault, Prepared, Ready, can, pre, publish};

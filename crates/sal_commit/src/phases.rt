@@ -5,6 +5,7 @@ ghost use Rattle.sal_rows.specs.declared.outcome.Outcome.{Outcome as Decided};
 ghost use Rattle.sal_graft.specs.Kept.{AreKept};
 ghost use Rattle.sal_commit.specs.Deciding as spec;
 ghost use Rattle.sal_commit.specs.Domains.{IsSame, is_roomy};
+ghost use Rattle.sal_commit.specs.Sound.{BreakNone};
 
 use crate::clashing::conflict_in;
 use crate::domain::Domain;
@@ -98,7 +99,7 @@ pub fn pre(alloc: Global, ready: Ready, fresh: u64) -> Result<Prepared, PreFault
         (λ fault. (fault ≡ PreFault.NoMemory) ⊎ ((o : Decided) × (fault ≡ PreFault.Invalid o) × (spec.breached ready.entry.domain.now ready.entry.sub.now ≡ Some o))) }
 {
     let trees = next_trees(alloc, ready.sub, ready.domain, fresh)?;
-    if let Some(outcome) = breached(alloc, &ready.domain.schema, &trees)? {
+    if let Some(outcome) = breached(alloc, ready.domain, &trees, fresh)? {
         return Err(PreFault::Invalid { outcome });
     }
     let commit = next_commit(alloc, ready.sub, ready.domain, trees)?;
@@ -140,8 +141,11 @@ fn copied(alloc: Global, ops: &[Op]) -> Result<Ops, NoMemory>
 }
 
 /// commit: the prepared commit is the domain's newest one, with both its trees. It takes no memory.
+///
+/// The commit was prepared for the domain: its trees break no rule of the domain's schema.
 pub fn publish(prepared: Prepared, domain: &mut Domain) -> Outcome
-    requires { is_roomy domain.old }
+    requires room { is_roomy domain.old }
+    requires sound { BreakNone domain.old.schema.value prepared.commit.trees }
     ensures outcome { result ≡ Done prepared.commit.number }
     ensures same { IsSame domain.old domain.new }
     ensures commits { domain.new.commits.items ≡ domain.old.commits.items ++ prepared.commit ∷ [] }

@@ -6,9 +6,10 @@ use Rattle.std.proofs.lemmas.Option.{same_Some}
 use Rattle.sal_types.specs.declared.value.Store.{Store}
 use Rattle.sal_types.specs.declared.value.Store.TheVariants.{Config, Oper}
 use Rattle.sal_rules.specs.Breaches.{breach}
-use Rattle.sal_graft.specs.Kept.{opening_in}
-use Rattle.sal_commit.specs.declared.domain.Domain.{Domain}
-use Rattle.sal_commit.specs.Domains.{opening_of_device}
+use Rattle.sal_rows.specs.declared.outcome.Breach.{Breach}
+use Rattle.sal_commit.specs.declared.fault.DomainFault.{DomainFault}
+use Rattle.sal_commit.specs.declared.fault.DomainFault.TheVariants.{Broken as Breaks, NoMemory as Full}
+use Rattle.sal_commit.specs.Opening.{fault_of as domain_fault}
 use Rattle.sal_history.specs.declared.opening.Device.{Device}
 use Rattle.sal_history.specs.History.{is_live}
 use Rattle.sal_history.specs.World as world
@@ -19,46 +20,34 @@ use Rattle.sal_hub.specs.Current.{IsCurrent, IsKept}
 use Rattle.sal_hub.specs.Journals.{Noted}
 use Rattle.sal_hub.specs.Lines.{AllKept, Line, Shown, line_of, shown, world_in}
 use Rattle.sal_hub.specs.Opened.{shown_from, shown_of}
-use Rattle.sal_hub.specs.Openings.{domain_of, opening_fault, state_row, world_of}
+use Rattle.sal_hub.specs.Openings.{domain_of, numbered, opening_fault, state_row, world_of}
 
 -- ---- one device
-
-abbrev Says : OpenFault → Option OpenFault → Type 0
-Says e fault = (e ≡ NoMemory) ⊎ (fault ≡ Some e)
-
-says_by : (e : OpenFault) (x y : Option OpenFault) → ((x ≡ Some e) → y ≡ Some e) → Says e x → Says e y
-says_by e x y f h = elim h [ inl w ↦ inl w | inr w ↦ inr (f w) ]
 
 module _ (n : ℕ) (device : Device) where
   abbrev state : Option OpenFault
   state = option_map (NotConfig n) (state_row device.schema.value device.opening.config)
 
-  abbrev broken_in : Store → Option OpenFault
-  broken_in s = option_map (Broken n s) (breach device.schema.value s (world.tree_of_opening device.opening s))
+  abbrev breach_in : Store → Option Breach
+  breach_in s = breach device.schema.value s (world.tree_of_opening device.opening s)
 
-  module _ (none : state_row device.schema.value device.opening.config ≡ None) (d : Domain) (schema : d.schema.value ≡ device.schema.value) (opening : opening_in d.commits.items ≡ opening_of_device device) where
-    same : (s : Store) → breach d.schema.value s (opening_in d.commits.items s) ≡ breach device.schema.value s (world.tree_of_opening device.opening s)
-    same s = λ i. breach (schema i) s (opening i s)
+  -- the fault of the domain is that of its opening, by the device's number
+  same_fault : (config oper : Option Breach) → option_or (option_map (Broken n Config) config) (option_map (Broken n Oper) oper) ≡ option_map (numbered n) (option_or (option_map (Breaks Config) config) (option_map (Breaks Oper) oper))
+  same_fault None None = refl
+  same_fault None (Some b) = refl
+  same_fault (Some b) oper = refl
 
-    no_state : (o : Option OpenFault) → option_or state o ≡ o
-    no_state o = ap (λ p. option_or (option_map (NotConfig n) p) o) none
+  module _ (none : state_row device.schema.value device.opening.config ≡ None) where
+    by_domain : opening_fault n (domain_of device) ≡ option_map (numbered n) (domain_fault device)
+    by_domain =
+        ap (λ p. option_or (option_map (NotConfig n) p) (option_or (option_map (Broken n Config) (breach_in Config)) (option_map (Broken n Oper) (breach_in Oper)))) none
+        ∙ same_fault (breach_in Config) (breach_in Oper)
 
-    pub second_fault : (e : OpenFault) → (e ≡ NoMemory) ⊎ (option_map (Broken n Config) (breach d.schema.value Config (opening_in d.commits.items Config)) ≡ Some e) → (e ≡ NoMemory) ⊎ (opening_fault n (domain_of device) ≡ Some e)
-    second_fault e h =
-        says_by e (option_map (Broken n Config) (breach d.schema.value Config (opening_in d.commits.items Config))) (opening_fault n (domain_of device))
-        (λ w. no_state (option_or (broken_in Config) (broken_in Oper)) ∙ ap (λ o. option_or o (broken_in Oper)) (ap (option_map (Broken n Config)) (sym (same Config)) ∙ w)) h
+    pub no_fault : domain_fault device ≡ None → opening_fault n (domain_of device) ≡ None
+    no_fault h = by_domain ∙ ap (option_map (numbered n)) h
 
-    module _ (whole : breach d.schema.value Config (opening_in d.commits.items Config) ≡ None) where
-      no_config : opening_fault n (domain_of device) ≡ broken_in Oper
-      no_config = no_state (option_or (broken_in Config) (broken_in Oper)) ∙ ap (λ b. option_or (option_map (Broken n Config) b) (broken_in Oper)) (sym (same Config) ∙ whole)
-
-      pub third_fault : (e : OpenFault) → (e ≡ NoMemory) ⊎ (option_map (Broken n Oper) (breach d.schema.value Oper (opening_in d.commits.items Oper)) ≡ Some e) → (e ≡ NoMemory) ⊎ (opening_fault n (domain_of device) ≡ Some e)
-      third_fault e h =
-          says_by e (option_map (Broken n Oper) (breach d.schema.value Oper (opening_in d.commits.items Oper))) (opening_fault n (domain_of device))
-          (λ w. no_config ∙ ap (option_map (Broken n Oper)) (sym (same Oper)) ∙ w) h
-
-      pub no_fault : breach d.schema.value Oper (opening_in d.commits.items Oper) ≡ None → opening_fault n (domain_of device) ≡ None
-      no_fault h = no_config ∙ ap (option_map (Broken n Oper)) (sym (same Oper) ∙ h)
+    pub some_fault : (e : DomainFault) → (e ≡ Full) ⊎ (domain_fault device ≡ Some e) → (numbered n e ≡ NoMemory) ⊎ (opening_fault n (domain_of device) ≡ Some (numbered n e))
+    some_fault e h = elim h [ inl w ↦ inl (ap (numbered n) w) | inr w ↦ inr (by_domain ∙ ap (option_map (numbered n)) w) ]
 
 -- ---- all devices
 

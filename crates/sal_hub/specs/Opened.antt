@@ -1,6 +1,6 @@
 -- The domains that devices open.
 use Rattle.std.specs.Prelude.{ℕ, ◌+◌, List, [], ◌∷◌}
-use Rattle.sal_commit.specs.Domains.{opening_of_device}
+use Rattle.sal_commit.specs.Opening.{opening_of_device}
 use Rattle.sal_history.specs.declared.opening.Device.{Device}
 use Rattle.sal_history.specs.History.{is_live}
 use Rattle.sal_hub.specs.Lines.{Shown}

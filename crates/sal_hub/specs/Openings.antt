@@ -11,6 +11,8 @@ use Rattle.sal_schema.specs.Fitting.{is_of_state}
 use Rattle.sal_rules.specs.Breaches.{breach}
 use Rattle.sal_history.specs.declared.opening.Device.{Device}
 use Rattle.sal_history.specs.World.{Domain, tree_of_opening}
+use Rattle.sal_commit.specs.declared.fault.DomainFault.{DomainFault}
+use Rattle.sal_commit.specs.declared.fault.DomainFault.TheVariants.{Broken as Breaks, NoMemory as Full}
 use Rattle.sal_hub.specs.declared.opening.OpenFault.{OpenFault}
 use Rattle.sal_hub.specs.declared.opening.OpenFault.TheVariants.{NotConfig, Broken, NoMemory}
 
@@ -27,6 +29,11 @@ state_row table rows = option_map (λ (row : Row). row.path) (find (λ (row : Ro
 
 abbrev pub broken : ℕ → Domain → Store → Option OpenFault
 broken n d s = option_map (Broken n s) (breach d.table s (tree_of_opening d.opening s))
+
+-- the fault of the device with this number
+abbrev pub numbered : ℕ → DomainFault → OpenFault
+numbered n (Breaks s breach) = Broken n s breach
+numbered n Full = NoMemory
 
 -- why the openings of the device with this number are refused
 abbrev pub opening_fault : ℕ → Domain → Option OpenFault

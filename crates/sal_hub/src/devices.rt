@@ -2,20 +2,17 @@
 ghost use Rattle.std.specs.Prelude.{◌≡◌, ◌⊎◌, ◌≤◌, None, Some, IfOk, MatchResult, find, length, map};
 ghost use Rattle.std.specs.Option.{option_copied, option_map};
 ghost use Rattle.sal_schema.specs.Fitting.{is_of_state};
-ghost use Rattle.sal_rules.specs.Breaches.{breach};
-ghost use Rattle.sal_graft.specs.Kept.{AreKept, opening_in, tree_in};
-ghost use Rattle.sal_hub.specs.declared.opening.OpenFault.TheVariants.{Broken, NotConfig, NoMemory as Refused};
+ghost use Rattle.sal_graft.specs.Kept.{AreKept};
+ghost use Rattle.sal_hub.specs.declared.opening.OpenFault.TheVariants.{NotConfig, NoMemory as Refused};
 ghost use Rattle.sal_hub.specs.Lines.{AllKept, shown};
 ghost use Rattle.sal_hub.specs.Opened.{shown_from, shown_of};
-ghost use Rattle.sal_hub.specs.Openings.{IsFaultOf, domain_of, fault_of, opening_fault, state_row, world_of};
+ghost use Rattle.sal_hub.specs.Openings.{IsFaultOf, domain_of, fault_of, numbered, opening_fault, state_row, world_of};
 
 use crate::opening::OpenFault;
-use sal_check::check_all;
-use sal_commit::Domain;
+use sal_commit::{Domain, DomainFault};
 use sal_history::Device;
 use sal_schema::Schema;
-use sal_tree::{Pair, Root};
-use sal_types::{Duplicate, Row, Store};
+use sal_types::{Duplicate, Row};
 use std::alloc::Global;
 
 /// The domains that the devices open, unless their openings are refused.
@@ -45,14 +42,23 @@ fn open_one(alloc: Global, number: u32, device: &Device) -> Result<Domain, OpenF
         Ok(()) => {}
         Err(fault) => return Err(fault),
     }
-    let domain = Domain::open(alloc, number, device, number == 0)?;
-    match check(alloc, number, &domain, Store::Config) {
-        Ok(()) => {}
-        Err(fault) => return Err(fault),
+    match Domain::open(alloc, number, device, number == 0) {
+        Ok(domain) => Ok(domain),
+        Err(fault) => Err(numbered(number, fault)),
     }
-    match check(alloc, number, &domain, Store::Oper) {
-        Ok(()) => Ok(domain),
-        Err(fault) => Err(fault),
+}
+
+// The fault of the device of this number.
+fn numbered(number: u32, fault: DomainFault) -> OpenFault
+    ensures { result ≡ numbered number fault }
+{
+    match fault {
+        DomainFault::Broken { store, breach } => OpenFault::Broken {
+            device: number,
+            store,
+            breach,
+        },
+        DomainFault::NoMemory => OpenFault::NoMemory,
     }
 }
 
@@ -77,29 +83,4 @@ fn first_state<'a>(schema: &Schema, rows: &'a [Row]) -> Option<&'a Row>
     ensures { option_copied result ≡ find (λ row. is_of_state schema.now row.path) rows.now }
 {
     rows.iter().find(|row| schema.is_of_state(&row.path))
-}
-
-// Whether the opening tree of the store breaks a structural rule.
-fn check(alloc: Global, number: u32, domain: &Domain, store: Store) -> Result<(), OpenFault>
-    requires { AreKept domain.now.commits.items }
-    ensures { MatchResult result (λ _. breach domain.now.schema.value store (opening_in domain.now.commits.items store) ≡ None) (λ e. (e ≡ Refused) ⊎ (option_map (Broken number store) (breach domain.now.schema.value store (opening_in domain.now.commits.items store)) ≡ Some e)) }
-{
-    let root = tree_of(&domain.commits[0].trees, store);
-    match check_all(alloc, &domain.schema, store, root)? {
-        None => Ok(()),
-        Some(breach) => Err(OpenFault::Broken {
-            device: number,
-            store,
-            breach,
-        }),
-    }
-}
-
-fn tree_of(pair: &Pair, store: Store) -> &Root
-    ensures { result.now ≡ tree_in pair.now store }
-{
-    match store {
-        Store::Config => &pair.config,
-        Store::Oper => &pair.oper,
-    }
 }

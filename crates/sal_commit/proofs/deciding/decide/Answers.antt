@@ -2,8 +2,13 @@ use Rattle.std.proofs.Common.{◌++◌, ◌∷◌, [], sym, ap, subst, ◌∙◌
 use Rattle.sal_commit.specs.Attempts.{IsAttempt}
 use Rattle.sal_commit.specs.Deciding.{Decides}
 use Rattle.sal_commit.specs.Domains.{IsSame}
-use Rattle.sal_commit.proofs.Decided.{IsSame-trans, decide-done, Decides-done}
+use Rattle.sal_commit.proofs.Decided.{IsSame-trans, decide-done, Decides-done, next-sound}
 use Rattle.sal_commit.proofs.deciding.decide.Goals as goal
+
+pub publish-requires-clause-sound : goal.publish-requires-clause-sound
+publish-requires-clause-sound c =
+    let made = subst (IsAttempt c.args.domain.now c.args.sub.now) c.in-Made.is c.in_ok-outcome.ensures in
+    next-sound c.args.domain.now c.args.sub.now c.in-Made.prepared.commit c.reserve.new.self.schema.value (λ i. (c.in_ok-reserve.ensures.same.schema i).value) made.0 made.1
 
 pub returns-clause-outcome : goal.returns-clause-outcome
 returns-clause-outcome c =

@@ -1,21 +1,16 @@
 -- The first fault counts.
-use Rattle.sal_hub.proofs.OpenedDevices.{no_fault, second_fault, third_fault}
+use Rattle.std.proofs.Common.{sym, subst}
+use Rattle.std.specs.Prelude.{◌≡◌, ◌⊎◌, Some}
+use Rattle.sal_hub.specs.declared.opening.OpenFault.{OpenFault}
+use Rattle.sal_hub.specs.declared.opening.OpenFault.TheVariants.{NoMemory}
+use Rattle.sal_hub.specs.Openings.{domain_of, opening_fault}
+use Rattle.sal_hub.proofs.OpenedDevices.{no_fault, some_fault}
 use Rattle.sal_hub.proofs.devices.open_one.Goals as goal
 
-pub returns-in-Err-check-clause-fault : goal.returns-in-Err-check-clause-fault
-returns-in-Err-check-clause-fault c =
-    let d = c.in_ok-domain.domain in
-    let made = c.in_ok-domain.ensures in
-    second_fault c.args.number c.args.device.now c.in-Ok.ensures d made.parts.2 made.opening c.in-Err-check.fault c.in-Err-check.ensures
+pub returns-in-Ok-open-clause-fault : goal.returns-in-Ok-open-clause-fault
+returns-in-Ok-open-clause-fault c = no_fault c.args.number c.args.device.now c.in-Ok.ensures c.in-Ok-open.ensures.fault
 
-pub returns-in-Ok-check-2-clause-fault : goal.returns-in-Ok-check-2-clause-fault
-returns-in-Ok-check-2-clause-fault c =
-    let d = c.in_ok-domain.domain in
-    let made = c.in_ok-domain.ensures in
-    no_fault c.args.number c.args.device.now c.in-Ok.ensures d made.parts.2 made.opening c.in-Ok-check.ensures c.in-Ok-check-2.ensures
-
-pub returns-in-Err-check-2-clause-fault : goal.returns-in-Err-check-2-clause-fault
-returns-in-Err-check-2-clause-fault c =
-    let d = c.in_ok-domain.domain in
-    let made = c.in_ok-domain.ensures in
-    third_fault c.args.number c.args.device.now c.in-Ok.ensures d made.parts.2 made.opening c.in-Ok-check.ensures c.in-Err-check-2.fault c.in-Err-check-2.ensures
+pub returns-in-Err-open-clause-fault : goal.returns-in-Err-open-clause-fault
+returns-in-Err-open-clause-fault c =
+    subst (λ (e : OpenFault). (e ≡ NoMemory) ⊎ (opening_fault c.args.number (domain_of c.args.device.now) ≡ Some e)) (sym c.numbered.ensures)
+    (some_fault c.args.number c.args.device.now c.in-Ok.ensures c.in-Err-open.fault c.in-Err-open.ensures)

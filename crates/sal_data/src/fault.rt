@@ -9,7 +9,7 @@ use std::alloc::{AllocError, AllocFailed};
 ///
 /// `path` is the place: of the object for the faults of a member's name, of the list for those of keys, and of the entry or
 /// node itself for the others.
-#[derive(Debug, Drop, PartialEq, Eq)]
+#[derive(Drop)]
 pub enum DataFault {
     /// No child of the node at the path has this name in the right form.
     UnknownMember { path: Path, name: Str },

@@ -6,7 +6,7 @@ use std::alloc::{AllocError, AllocFailed};
 use thiserror::Error;
 
 /// The first fault of a path text, from the left. `at` is how many bytes stand before it.
-#[derive(Clone, Copy, Debug, PartialEq, Eq, Error)]
+#[derive(Clone, Copy, Debug, Error)]
 pub enum PathTextFault {
     /// The first byte that the form does not allow, or the end of the text where it ends too early.
     #[error("a path cannot have this at byte {at}")]

@@ -39,12 +39,18 @@ pub(crate) fn mark(path: &Path, out: &mut Vec<Row>) -> Result<(), NoMemory>
     Ok(())
 }
 
+fn longer_by(path: &Path, step: &Step) -> Result<Path, DataFault>
+    ensures { GivesUnless DataFault.NoMemory (λ below. below) result (spec.longer path.now step.now) }
+{
+    longer(path, step.copy()?)
+}
+
 /// The path of the entry, which is none of those that were seen, and is one of them from now on.
 pub(crate) fn entered(path: &Path, step: Step, seen: &mut BTreeSet<Step>) -> Result<Path, DataFault>
     ensures value { GivesUnless DataFault.NoMemory (λ below. below) result (new_entry seen.old.keys path.now step) }
     ensures one_more { OnOk result (HaveSame seen.new.keys (step ∷ seen.old.keys)) }
 {
-    let below = longer(path, step.copy()?)?;
+    let below = longer_by(path, &step)?;
     if seen.insert(step)? {
         Ok(below)
     } else {
@@ -106,20 +112,20 @@ impl<'a> Reader<'a> {
         Ok(Step::Item(value))
     }
 
-    /// Appends the entries of the leaf-list at the path.
+    /// Appends the entries of the leaf-list at the path, of which some were seen before these.
     pub(crate) fn items_rows(
         &self,
         node: u32,
         path: &Path,
         items: &Vec<Json>,
+        seen: &mut BTreeSet<Step>,
         out: &mut Vec<Row>,
     ) -> Result<(), DataFault>
-        ensures { GivesUnless DataFault.NoMemory (λ _. out.new.items) result (spec.followed out.old.items (spec.items_rows self.now.schema.now node path.now [] (items_view items.now.items))) }
+        ensures { GivesUnless DataFault.NoMemory (λ _. out.new.items) result (spec.followed out.old.items (spec.items_rows self.now.schema.now node path.now seen.old.keys (items_view items.now.items))) }
     {
-        let mut seen = BTreeSet::new(self.alloc);
         for item in items {
             let step = self.item_step(node, path, item)?;
-            let below = entered(path, step, &mut seen)?;
+            let below = entered(path, step, seen)?;
             mark(&below, out)?;
         }
         Ok(())

@@ -42,13 +42,29 @@ fn before_last(alloc: Global, path: &Path) -> Result<Path, NoMemory>
 }
 
 /// Whether the step is the one that was asked for.
-fn is_asked(asked: &Step, step: &Step) -> bool
-    ensures { result ≡ spec.same_step step.now asked.now }
+fn is_asked(asked: &Step, step: Step) -> bool
+    ensures { result ≡ spec.same_step step asked.now }
 {
-    *step == *asked
+    step == *asked
 }
 
 impl<'a> Reader<'a> {
+    /// The step to the list entry at the path that the JSON value tells by its keys.
+    fn entry_step(&self, node: u32, path: &Path, json: &Json) -> Result<Step, DataFault>
+        ensures { GivesUnless DataFault.NoMemory (λ step. step) result (spec.key_step self.now.schema.now node (spec.before_last path.now) (view json.now)) }
+    {
+        let list = before_last(self.alloc, path)?;
+        self.key_step(node, &list, json)
+    }
+
+    /// The step to the leaf-list entry at the path that the JSON value tells.
+    fn value_step(&self, node: u32, path: &Path, json: &Json) -> Result<Step, DataFault>
+        ensures { GivesUnless DataFault.NoMemory (λ step. step) result (spec.item_step self.now.schema.now node (spec.before_last path.now) (view json.now)) }
+    {
+        let list = before_last(self.alloc, path)?;
+        self.item_step(node, &list, json)
+    }
+
     /// Appends the rows of the list entry at the path.
     fn entry_rows(
         &self,
@@ -60,9 +76,8 @@ impl<'a> Reader<'a> {
     ) -> Result<(), DataFault>
         ensures { GivesUnless DataFault.NoMemory (λ _. out.new.items) result (spec.followed out.old.items (spec.entry_rows self.now.schema.now path.now asked.now (view json.now) node)) }
     {
-        let list = before_last(self.alloc, path)?;
-        let step = self.key_step(node, &list, json)?;
-        if !is_asked(asked, &step) {
+        let step = self.entry_step(node, path, json)?;
+        if !is_asked(asked, step) {
             return Err(DataFault::KeyDiffers { path: path.copy()? });
         }
         mark(path, out)?;
@@ -80,9 +95,8 @@ impl<'a> Reader<'a> {
     ) -> Result<(), DataFault>
         ensures { GivesUnless DataFault.NoMemory (λ _. out.new.items) result (spec.followed out.old.items (spec.item_rows self.now.schema.now path.now asked.now (view json.now) node)) }
     {
-        let list = before_last(self.alloc, path)?;
-        let step = self.item_step(node, &list, json)?;
-        if !is_asked(asked, &step) {
+        let step = self.value_step(node, path, json)?;
+        if !is_asked(asked, step) {
             return Err(DataFault::KeyDiffers { path: path.copy()? });
         }
         mark(path, out)?;

@@ -71,9 +71,11 @@ impl<'a> Reader<'a> {
             else Err (DataFault.WrongShape path))) }
     {
         if is_list(self.schema, node) {
-            self.entries_rows(node, &path, items, out)
+            let mut seen = BTreeSet::new(self.alloc);
+            self.entries_rows(node, &path, items, &mut seen, out)
         } else if is_leaf_list(self.schema, node) {
-            self.items_rows(node, &path, items, out)
+            let mut seen = BTreeSet::new(self.alloc);
+            self.items_rows(node, &path, items, &mut seen, out)
         } else {
             Err(DataFault::WrongShape { path })
         }
@@ -152,21 +154,21 @@ impl<'a> Reader<'a> {
         self.node_rows(node, below, json, out)
     }
 
-    /// Appends the entries of the list at the path.
+    /// Appends the entries of the list at the path, of which some were seen before these.
     #[cycle(walk)]
     fn entries_rows(
         &self,
         node: u32,
         path: &Path,
         items: &Vec<Json>,
+        seen: &mut BTreeSet<Step>,
         out: &mut Vec<Row>,
     ) -> Result<(), DataFault>
-        ensures { GivesUnless DataFault.NoMemory (λ _. out.new.items) result (spec.followed out.old.items (spec.entries_rows self.now.schema.now node path.now [] (items_view items.now.items))) }
+        ensures { GivesUnless DataFault.NoMemory (λ _. out.new.items) result (spec.followed out.old.items (spec.entries_rows self.now.schema.now node path.now seen.old.keys (items_view items.now.items))) }
     {
-        let mut seen = BTreeSet::new(self.alloc);
         for item in items {
             let step = self.key_step(node, path, item)?;
-            let below = entered(path, step, &mut seen)?;
+            let below = entered(path, step, seen)?;
             mark(&below, out)?;
             self.object_rows(Some(node), &below, item, out)?;
         }

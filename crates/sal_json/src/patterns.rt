@@ -210,11 +210,7 @@ fn add_types(
 }
 
 /// Appends the patterns of the type, unless one is malformed.
-fn add_type(
-    alloc: Global,
-    ty: &YangType,
-    types: &mut Vec<Seq<Wholes>>,
-) -> Result<bool, NoMemory>
+fn add_type(alloc: Global, ty: &YangType, types: &mut Vec<Seq<Wholes>>) -> Result<bool, NoMemory>
     ensures formed { IfOk result (λ formed. spec.has_malformed ty.now ≡ not formed) }
     ensures compiled { IfOk result (λ formed. formed ≡ true → types.new.items ≡ types.old.items ++ spec.type_searched ty.now ∷ []) }
 {

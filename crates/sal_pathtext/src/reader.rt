@@ -1,8 +1,8 @@
 //! A path text that is read, step by step.
-ghost use Rattle.std.specs.Prelude.{◌≡◌, ◌≤◌, ◌<◌, [], length, if◌then◌else◌, Err, IfOk};
+ghost use Rattle.std.specs.Prelude.{◌≡◌, ◌≤◌, ◌<◌, [], length, string_bytes, if◌then◌else◌, Err, IfOk};
 ghost use Rattle.sal_types.specs.declared.value.Step.TheVariants.{Node};
 ghost use Rattle.sal_json.specs.Patterns.{patterns_of};
-ghost use Rattle.sal_pathtext.specs.Nodes.{value_of as value_there};
+ghost use Rattle.sal_pathtext.specs.Nodes.{value_of as value_there, entry_given as entry_there};
 ghost use Rattle.sal_pathtext.specs.Read as spec;
 ghost use Rattle.sal_pathtext.specs.Read.{Gives};
 ghost use Rattle.sal_pathtext.specs.Words.{place as place_in, first as first_of};
@@ -70,10 +70,10 @@ impl<'a> Reader<'a> {
     }
 
     /// The value that a text stands for, where its predicate stands at this place.
-    fn taken(&self, at: usize, leaf: u32, text: &str) -> Result<Value, PathTextFault>
-        ensures { Gives (λ value. value) result (spec.taken at (value_there self.now.schema.now leaf text.now)) }
+    fn taken(&self, at: usize, leaf: u32, text: String) -> Result<Value, PathTextFault>
+        ensures { Gives (λ value. value) result (spec.taken at (value_there self.now.schema.now leaf (string_bytes text))) }
     {
-        match value_of(self.alloc, self.schema, self.patterns, leaf, text) {
+        match value_of(self.alloc, self.schema, self.patterns, leaf, text.as_str()) {
             Ok(value) => Ok(value),
             Err(ScalarFault::NoMemory) => Err(PathTextFault::NoMemory),
             Err(_) => Err(PathTextFault::BadPredicate { at }),
@@ -98,7 +98,7 @@ impl<'a> Reader<'a> {
             return Err(PathTextFault::BadPredicate { at });
         };
         let (text, rest) = said(self.alloc, self.text, after)?;
-        match self.taken(at, leaf, text.as_str()) {
+        match self.taken(at, leaf, text) {
             Ok(value) => match closed(self.text, rest) {
                 Ok(end) => Ok((Given { leaf, value }, end)),
                 Err(fault) => Err(fault),
@@ -113,9 +113,23 @@ impl<'a> Reader<'a> {
         ensures within { IfOk result (λ p. length p.1.now ≤ length s.now) }
     {
         let mut given = Vec::new(self.alloc);
+        let rest = self.add_predicates(node, s, &mut given)?;
+        Ok((given, rest))
+    }
+
+    /// All predicates from here on, behind those that gave these values.
+    fn add_predicates<'s>(
+        &self,
+        node: u32,
+        s: &'s str,
+        given: &mut Vec<Given>,
+    ) -> Result<&'s str, PathTextFault>
+        ensures value { Gives (λ r. (given.new.items, r.now)) result (spec.predicates self.now.schema.now self.now.text.now (length s.now) node given.old.items s.now) }
+        ensures within { IfOk result (λ r. length r.now ≤ length s.now) }
+    {
         let mut rest = s;
         'predicates: while first(rest) == b'[' {
-            match self.predicate(node, &given, rest) {
+            match self.predicate(node, given, rest) {
                 Ok((one, after)) => {
                     given.push(one)?;
                     rest = after;
@@ -123,7 +137,7 @@ impl<'a> Reader<'a> {
                 Err(fault) => return Err(fault),
             }
         }
-        Ok((given, rest))
+        Ok(rest)
     }
 
     /// Whether the name of a list was read, and no keys of it.
@@ -168,6 +182,14 @@ impl<'a> Reader<'a> {
         }
     }
 
+    /// The step to the entry with the values that were given, unless one is missing.
+    fn entry_of(&self, node: u32, given: Vec<Given>) -> Result<Option<Step>, NoMemory>
+        ensures { IfOk result (λ step. step ≡ entry_there self.now.schema.now node given.items) }
+    {
+        let step = entry_given(self.alloc, self.schema, node, &given)?;
+        Ok(step)
+    }
+
     /// The predicates of an entry, at the first `[`.
     #[tactic(auto, unfolding(crate::specs::Read::entered))]
     fn entered<'s>(&self, here: Here, s: &'s str) -> Result<(Step, Here, &'s str), PathTextFault>
@@ -181,7 +203,7 @@ impl<'a> Reader<'a> {
             wants_entry: false,
             name_at: here.name_at,
         };
-        match entry_given(self.alloc, self.schema, node, &given) {
+        match self.entry_of(node, given) {
             Ok(Some(step)) => Ok((step, next, rest)),
             Ok(None) => Err(PathTextFault::BadPredicate { at: here.name_at }),
             Err(NoMemory) => Err(PathTextFault::NoMemory),

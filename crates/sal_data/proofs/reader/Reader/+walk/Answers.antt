@@ -1,12 +1,55 @@
-use Rattle.std.proofs.Common.{◌≡◌, ◌∙◌, ◌+◌, [], ◌∷◌, ◌++◌, Some, Ok, string_bytes, drop, ap, sym, rules}
+use Rattle.std.proofs.Common.{◌≡◌, ◌∙◌, ◌+◌, [], ◌∷◌, ◌++◌, Some, Ok, string_bytes, drop, refl, ap, sym, rules}
 use Rattle.std.proofs.lemmas.List.{drop_more}
 use Rattle.serde_json.specs.View.{view, items_view, members_view}
 use Rattle.serde_json.proofs.Views.{Entry}
 use Rattle.sal_data.specs.Read.{followed, object_rows, members_rows, entries_rows}
 use Rattle.sal_data.specs.Walked.{member_rows}
 use Rattle.sal_data.proofs.Following.{gives_err, have_same_more}
-use Rattle.sal_data.proofs.Walking.{mark_at, go_on, members-one, entries-one}
+use Rattle.sal_data.proofs.Walking.{mark_at, go_on, members-one, entries-no_entry, entries-one}
 use Rattle.sal_data.proofs.reader.Reader.+walk.Goals as goal
+
+pub entries_rows-loop-item-init : goal.entries_rows-loop-item-init
+entries_rows-loop-item-init t c = (c.args.seen.now.keys, (λ q. refl), refl)
+
+pub entries_rows-returns-in_err-below : goal.entries_rows-returns-in_err-below
+entries_rows-returns-in_err-below t c =
+    let l = c.loop-item in
+    let table = c.args.self.now.schema.now in
+    let n = c.args.node in
+    let path = c.args.path.now in
+    let xs = c.deref-item-items.result.now in
+    let x = c.item-item.result in
+    let rest = drop (l.item-index + 1) xs in
+    let here : drop l.item-index xs ≡ x ∷ rest = drop_more xs l.item-index x c.loop-item-test.true ∙ ap (λ y. y ∷ rest) (sym c.item-item.is) in
+    let seen = l.invariant.0 in
+    let step = c.in_ok-step.step in
+    let e = c.in_err-below.field-0.0 in
+    gives_err _ _ _ e _ c.from_residual-in_err-below.ensures.1 (λ known.
+    ap (λ ys. followed c.args.out.now.items (entries_rows table n path c.args.seen.now.keys (items_view ys))) (sym c.deref-item-items.ensures.value) ∙ l.invariant.2
+    ∙ ap (λ ys. followed l.out.items (entries_rows table n path seen (items_view ys))) here
+    ∙ entries-no_entry table n path seen (view x) (items_view rest) l.out.items l.seen.keys l.invariant.1 step e c.in_ok-step.ensures (c.in_err-below.ensures.value known))
+
+pub entries_rows-returns-in_err-object_rows : goal.entries_rows-returns-in_err-object_rows
+entries_rows-returns-in_err-object_rows t c =
+    let l = c.loop-item in
+    let table = c.args.self.now.schema.now in
+    let n = c.args.node in
+    let path = c.args.path.now in
+    let xs = c.deref-item-items.result.now in
+    let x = c.item-item.result in
+    let rest = drop (l.item-index + 1) xs in
+    let here : drop l.item-index xs ≡ x ∷ rest = drop_more xs l.item-index x c.loop-item-test.true ∙ ap (λ y. y ∷ rest) (sym c.item-item.is) in
+    let seen = l.invariant.0 in
+    let step = c.in_ok-step.step in
+    let below = c.in_ok-below.below in
+    let marked : c.mark.new.out.items ≡ l.out.items ++ mark_at below ∷ [] = c.in_ok-mark.ensures in
+    let e = c.in_err-object_rows.field-0.0 in
+    gives_err _ _ _ e _ c.from_residual-in_err-object_rows.ensures.1 (λ known.
+    ap (λ ys. followed c.args.out.now.items (entries_rows table n path c.args.seen.now.keys (items_view ys))) (sym c.deref-item-items.ensures.value) ∙ l.invariant.2
+    ∙ ap (λ ys. followed l.out.items (entries_rows table n path seen (items_view ys))) here
+    ∙ entries-one table n path seen (view x) (items_view rest) l.out.items l.seen.keys l.invariant.1 step below c.in_ok-step.ensures c.in_ok-below.ensures.value
+    ∙ ap (λ now. go_on now (entries_rows table n path (step ∷ seen) (items_view rest)))
+    (ap (λ rows. followed rows (object_rows table (Some n) below (view x))) (sym marked) ∙ c.in_err-object_rows.ensures known))
 
 pub entries_rows-loop-item-preserved : goal.entries_rows-loop-item-preserved
 entries_rows-loop-item-preserved t c =

@@ -1,5 +1,5 @@
 -- The rows so far stand before those of what is left of the members, or of the entries where the same were seen.
-use Rattle.std.proofs.Common.{◌≡◌, List, [], drop}
+use Rattle.std.proofs.Common.{◌≡◌, List, drop}
 use Rattle.serde_json.specs.View.{items_view, members_view}
 use Rattle.sal_types.specs.declared.value.Step.{Step}
 use Rattle.sal_data.specs.Read.{followed, members_rows, entries_rows}
@@ -13,4 +13,4 @@ invariant-members_rows-loop-name l =
 abbrev pub invariant-entries_rows-loop-item : goal.invariant-entries_rows-loop-item
 invariant-entries_rows-loop-item l =
     (seen : List Step) × HaveSame l.seen.keys seen
-    × (followed l.initial.out.items (entries_rows l.self.schema.now l.node l.path [] (items_view l.item-items)) ≡ followed l.out.items (entries_rows l.self.schema.now l.node l.path seen (items_view (drop l.item-index l.item-items))))
+    × (followed l.initial.out.items (entries_rows l.self.schema.now l.node l.path l.initial.seen.keys (items_view l.item-items)) ≡ followed l.out.items (entries_rows l.self.schema.now l.node l.path seen (items_view (drop l.item-index l.item-items))))

@@ -1,10 +1,13 @@
-use Rattle.std.proofs.Common.{◌≡◌, ◌∙◌, ◌+◌, [], ◌∷◌, ◌++◌, drop, ap, sym}
+use Rattle.std.proofs.Common.{◌≡◌, ◌∙◌, ◌+◌, [], ◌∷◌, ◌++◌, drop, refl, ap, sym}
 use Rattle.std.proofs.lemmas.List.{drop_more}
 use Rattle.serde_json.specs.View.{view, items_view}
 use Rattle.sal_data.specs.Read.{followed, items_rows}
 use Rattle.sal_data.proofs.Following.{gives_err, have_same_more}
 use Rattle.sal_data.proofs.Walking.{mark_at, items-no_entry, items-one}
 use Rattle.sal_data.proofs.reader.Reader.items_rows.Goals as goal
+
+pub loop-item-init : goal.loop-item-init
+loop-item-init c = (c.args.seen.now.keys, (λ q. refl), refl)
 
 pub returns-in_err-below : goal.returns-in_err-below
 returns-in_err-below c =
@@ -19,7 +22,7 @@ returns-in_err-below c =
     let seen = l.invariant.0 in
     let e = c.in_err-below.field-0.0 in
     gives_err _ _ _ e _ c.from_residual-in_err-below.ensures.1 (λ known.
-    ap (λ ys. followed c.args.out.now.items (items_rows table n path [] (items_view ys))) (sym c.deref-item-items.ensures.value) ∙ l.invariant.2
+    ap (λ ys. followed c.args.out.now.items (items_rows table n path c.args.seen.now.keys (items_view ys))) (sym c.deref-item-items.ensures.value) ∙ l.invariant.2
     ∙ ap (λ ys. followed l.out.items (items_rows table n path seen (items_view ys))) here
     ∙ items-no_entry table n path seen (view x) (items_view rest) l.out.items l.seen.keys l.invariant.1 c.in_ok-step.step e c.in_ok-step.ensures (c.in_err-below.ensures.value known))
 

@@ -3,7 +3,7 @@ use Rattle.std.proofs.lemmas.Grind.{common_steps}
 use Rattle.std.proofs.lemmas.Bool.Decides.{nat_tests}
 use Rattle.sal_pathtext.specs.Read.{predicates}
 use Rattle.sal_pathtext.proofs.Entries.{predicates_at}
-use Rattle.sal_pathtext.proofs.reader.Reader.predicates.Goals as goal
+use Rattle.sal_pathtext.proofs.reader.Reader.add_predicates.Goals as goal
 
 pub predicates-preserved : goal.predicates-preserved
 predicates-preserved c =

@@ -7,9 +7,9 @@ use sal_report::{
     breach_text, data_fault_text, path_fault_text, path_words, report, tx_fault_text,
 };
 use sal_rows::{Breach, CallFault, ClashKind, Mode, Outcome, Rows, Rule};
+use sal_rules::TxFault;
 use sal_schema::{Kind, Schema};
 use sal_script::{StepRefusal, StepReply};
-use sal_tx::TxFault;
 use sal_types::{Atom, Cell, Path, Row, Seq, Step, Store, Str, Value};
 use std::alloc::Global;
 use std::fmt::Write;

@@ -4,12 +4,14 @@ ghost use Rattle.sal_types.specs.Reading.{GivesUnless};
 ghost use Rattle.sal_stmt.specs.declared.stmt.Stmt.{Stmt as Statement};
 ghost use Rattle.sal_module.specs.declared.fault.BuildFault.{BuildFault as Fault};
 ghost use Rattle.sal_module.specs.declared.fault.Found.{Found as Hit};
-ghost use Rattle.sal_module.specs.Faults.{least};
+ghost use Rattle.sal_module.specs.Faults.{least, fault_of};
 ghost use Rattle.sal_module.specs.Statements.{argument_of as argument};
 ghost use Rattle.sal_grouping.specs.Indexes.{lists};
 ghost use Rattle.sal_build.specs.Filled as fillings;
 ghost use Rattle.sal_build.specs.Leafrefs as leads;
 ghost use Rattle.sal_build.specs.Build as spec;
+ghost use Rattle.sal_build.specs.Identities as identities;
+ghost use Rattle.sal_build.specs.Table.{infos_of};
 
 use crate::fill::{filled_types, type_at};
 use crate::info::is_typed;
@@ -21,7 +23,7 @@ use crate::whole::{identity_fault, identity_infos, list_fault, node_infos};
 use sal_grouping::{Branch, Forest, expand};
 use sal_module::{BuildFault, Found, Modules, argument_of, better, check};
 use sal_restrict::YangType;
-use sal_schema::{Schema, SchemaTable};
+use sal_schema::{IdentityInfo, NodeInfo, Schema, SchemaTable};
 use sal_stmt::Stmt;
 use sal_table::schema_of;
 use sal_typedefs::{Leafref, Typedefs};
@@ -87,6 +89,95 @@ fn names_of(alloc: Global, stmts: &[Stmt]) -> Result<Vec<Str>, NoMemory>
     Ok(names)
 }
 
+/// The types of the nodes that have one, with what leafrefs lead to.
+fn types_in(
+    alloc: Global,
+    modules: &Modules,
+    forest: &[Branch],
+    typedefs: &Typedefs,
+    edges: &[Vec<usize>],
+) -> Result<Vec<YangType>, NoMemory>
+    requires typedefs { typedefs.now ≡ modules.now }
+    requires edges { lists edges.now ≡ leads.edges_of modules.now forest.now }
+    ensures { IfOk result (λ types. types.items ≡ leads.types_of modules.now forest.now) }
+{
+    let own = own_types(alloc, modules, typedefs, forest)?;
+    types_of(alloc, modules, forest, &own, edges)
+}
+
+/// The nodes and types of a table.
+#[derive(Drop)]
+struct Grown {
+    nodes: Seq<NodeInfo>,
+    types: Seq<YangType>,
+}
+
+fn node_table(
+    alloc: Global,
+    modules: &Modules,
+    forest: &Forest,
+    typedefs: &Typedefs,
+    edges: &[Vec<usize>],
+) -> Result<Grown, NoMemory>
+    requires few { length forest.now ≤ 65536 }
+    requires typedefs { typedefs.now ≡ modules.now }
+    requires edges { lists edges.now ≡ leads.edges_of modules.now forest.now }
+    ensures nodes { IfOk result (λ it. it.nodes ≡ infos_of modules.now forest.now) }
+    ensures types { IfOk result (λ it. it.types ≡ leads.types_of modules.now forest.now) }
+{
+    let types = types_in(alloc, modules, forest.items(), typedefs, edges)?;
+    with_nodes(alloc, modules, forest, types)
+}
+
+fn with_nodes(
+    alloc: Global,
+    modules: &Modules,
+    forest: &Forest,
+    types: Vec<YangType>,
+) -> Result<Grown, NoMemory>
+    requires { length forest.now ≤ 65536 }
+    ensures nodes { IfOk result (λ it. it.nodes ≡ infos_of modules.now forest.now) }
+    ensures types { IfOk result (λ it. it.types ≡ types.items) }
+{
+    let nodes = node_infos(alloc, modules, forest)?;
+    Ok(Grown {
+        nodes,
+        types: Seq::from_items(types),
+    })
+}
+
+/// The modules and identities of a table.
+struct Stated {
+    modules: Seq<Str>,
+    identities: Seq<IdentityInfo>,
+}
+
+fn stated_of(alloc: Global, modules: &Modules, typedefs: &Typedefs) -> Result<Stated, NoMemory>
+    requires { typedefs.now ≡ modules.now }
+    ensures modules { IfOk result (λ it. it.modules ≡ map argument modules.now) }
+    ensures identities { IfOk result (λ it. it.identities ≡ identities.infos_of modules.now) }
+{
+    let names = names_of(alloc, modules.items())?;
+    with_identities(alloc, modules, typedefs, names)
+}
+
+fn with_identities(
+    alloc: Global,
+    modules: &Modules,
+    typedefs: &Typedefs,
+    names: Vec<Str>,
+) -> Result<Stated, NoMemory>
+    requires { typedefs.now ≡ modules.now }
+    ensures modules { IfOk result (λ it. it.modules ≡ names.items) }
+    ensures identities { IfOk result (λ it. it.identities ≡ identities.infos_of modules.now) }
+{
+    let identities = identity_infos(alloc, modules, typedefs)?;
+    Ok(Stated {
+        modules: Seq::from_items(names),
+        identities,
+    })
+}
+
 /// The table of a forest.
 fn table_of(
     alloc: Global,
@@ -100,14 +191,18 @@ fn table_of(
     requires edges { lists edges.now ≡ leads.edges_of modules.now forest.now }
     ensures { IfOk result (λ table. table ≡ spec.table_of modules.now forest.now) }
 {
-    let nodes = forest.items();
-    let own = own_types(alloc, modules, typedefs, nodes)?;
-    let types = types_of(alloc, modules, nodes, &own, edges)?;
+    let grown = node_table(alloc, modules, forest, typedefs, edges)?;
+    let stated = stated_of(alloc, modules, typedefs)?;
+    let Grown { nodes, types } = grown;
+    let Stated {
+        modules,
+        identities,
+    } = stated;
     Ok(SchemaTable {
-        nodes: node_infos(alloc, modules, forest)?,
-        types: Seq::from_items(types),
-        modules: Seq::from_items(names_of(alloc, modules.items())?),
-        identities: identity_infos(alloc, modules, typedefs)?,
+        nodes,
+        types,
+        modules,
+        identities,
     })
 }
 
@@ -135,27 +230,103 @@ fn name_fault(
     Ok(merged(best, more))
 }
 
+/// The fault as callers get it.
+fn fault_in(alloc: Global, found: Found) -> BuildFault
+    ensures { (result ≡ Fault.NoMemory → ⊥) → result ≡ fault_of found }
+{
+    match found.fault(alloc) {
+        Ok(fault) => fault,
+        Err(_) => BuildFault::NoMemory,
+    }
+}
+
+// What follows is made a part at a time, each function with one value of its own: several over early exits make a proof long.
+
+/// The table of a forest whose names are good, or the first other fault of types, then of lists.
+fn judged_apart_from_names(
+    alloc: Global,
+    modules: &Modules,
+    forest: &Forest,
+    typedefs: &Typedefs,
+    edges: &[Vec<usize>],
+) -> Result<SchemaTable, BuildFault>
+    requires few { length forest.now ≤ 65536 }
+    requires typedefs { typedefs.now ≡ modules.now }
+    requires edges { lists edges.now ≡ leads.edges_of modules.now forest.now }
+    requires names { least None (spec.name_faults modules.now forest.now) ≡ None }
+    ensures { GivesUnless Fault.NoMemory (λ table. table) result (spec.judged modules.now forest.now) }
+{
+    if let Some(found) = type_other_fault(alloc, modules, typedefs)? {
+        return Err(fault_in(alloc, found));
+    }
+    if let Some(found) = list_fault(alloc, modules, forest)? {
+        return Err(fault_in(alloc, found));
+    }
+    Ok(table_of(alloc, modules, forest, typedefs, edges)?)
+}
+
+/// The table of a forest, or its first fault, by where its leafrefs lead.
+fn judged_by_leafrefs(
+    alloc: Global,
+    modules: &Modules,
+    forest: &Forest,
+    typedefs: &Typedefs,
+    ways: &Ways,
+    leafrefs: &[Vec<Leafref>],
+) -> Result<SchemaTable, BuildFault>
+    requires few { length forest.now ≤ 65536 }
+    requires typedefs { typedefs.now ≡ modules.now }
+    requires ways { leads.AreWays modules.now forest.now ways.now }
+    requires leafrefs { leads.seen_all leafrefs.now ≡ map (leads.references_at modules.now) forest.now }
+    ensures { GivesUnless Fault.NoMemory (λ table. table) result (spec.judged modules.now forest.now) }
+{
+    let nodes = forest.items();
+    let edges = edges_of(alloc, modules, nodes, ways, leafrefs)?;
+    if let Some(found) = name_fault(alloc, modules, typedefs, nodes, ways, leafrefs, &edges)? {
+        return Err(fault_in(alloc, found));
+    }
+    judged_apart_from_names(alloc, modules, forest, typedefs, &edges)
+}
+
+/// The table of a forest, or its first fault, by the ways between its nodes.
+fn judged_by_ways(
+    alloc: Global,
+    modules: &Modules,
+    forest: &Forest,
+    typedefs: &Typedefs,
+    ways: &Ways,
+) -> Result<SchemaTable, BuildFault>
+    requires few { length forest.now ≤ 65536 }
+    requires typedefs { typedefs.now ≡ modules.now }
+    requires ways { leads.AreWays modules.now forest.now ways.now }
+    ensures { GivesUnless Fault.NoMemory (λ table. table) result (spec.judged modules.now forest.now) }
+{
+    let leafrefs = leafrefs_of_nodes(alloc, modules, typedefs, forest.items())?;
+    judged_by_leafrefs(alloc, modules, forest, typedefs, ways, &leafrefs)
+}
+
+/// The table of a forest, or its first fault, by its typedefs.
+fn judged_by_typedefs(
+    alloc: Global,
+    modules: &Modules,
+    forest: &Forest,
+    typedefs: &Typedefs,
+) -> Result<SchemaTable, BuildFault>
+    requires few { length forest.now ≤ 65536 }
+    requires typedefs { typedefs.now ≡ modules.now }
+    ensures { GivesUnless Fault.NoMemory (λ table. table) result (spec.judged modules.now forest.now) }
+{
+    let ways = ways_of(alloc, modules, forest.items())?;
+    judged_by_ways(alloc, modules, forest, typedefs, &ways)
+}
+
 /// The table of a forest, or the first fault of types, then of lists.
 fn judged(alloc: Global, modules: &Modules, forest: &Forest) -> Result<SchemaTable, BuildFault>
     requires { length forest.now ≤ 65536 }
     ensures { GivesUnless Fault.NoMemory (λ table. table) result (spec.judged modules.now forest.now) }
 {
-    let nodes = forest.items();
     let typedefs = Typedefs::new(alloc, modules)?;
-    let ways = ways_of(alloc, modules, nodes)?;
-    let leafrefs = leafrefs_of_nodes(alloc, modules, &typedefs, nodes)?;
-    let edges = edges_of(alloc, modules, nodes, &ways, &leafrefs)?;
-    let found = name_fault(alloc, modules, &typedefs, nodes, &ways, &leafrefs, &edges)?;
-    if let Some(found) = found {
-        return Err(found.fault(alloc)?);
-    }
-    if let Some(found) = type_other_fault(alloc, modules, &typedefs)? {
-        return Err(found.fault(alloc)?);
-    }
-    if let Some(found) = list_fault(alloc, modules, forest)? {
-        return Err(found.fault(alloc)?);
-    }
-    Ok(table_of(alloc, modules, forest, &typedefs, &edges)?)
+    judged_by_typedefs(alloc, modules, forest, &typedefs)
 }
 
 /// The table of the schema of these modules, or their first fault.

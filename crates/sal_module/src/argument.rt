@@ -8,7 +8,7 @@ ghost use Rattle.sal_module.specs.Arguments as spec;
 use sal_stmt::{is_identifier, is_keyword};
 
 /// The form of an argument.
-#[derive(Clone, Copy, Debug, PartialEq, Eq)]
+#[derive(Clone, Copy, PartialEq, Eq)]
 pub enum Form {
     /// A letter or `_`, and then letters, digits, `_`, `-` and `.`.
     Identifier,

@@ -9,7 +9,7 @@ use std::alloc::{AllocError, AllocFailed, Global};
 use thiserror::Error;
 
 /// What there are too many of.
-#[derive(Clone, Copy, Debug, PartialEq, Eq)]
+#[derive(Clone, Copy, Debug)]
 pub enum What {
     /// Modules: more than 64.
     Modules,
@@ -19,7 +19,7 @@ pub enum What {
 
 /// Why modules are no schema. `module` counts them from 0 in the order given, and `at` is how many bytes of its text stand
 /// before the statement concerned.
-#[derive(Debug, Drop, PartialEq, Eq, Error)]
+#[derive(Debug, Drop, Error)]
 pub enum BuildFault {
     /// A statement that may not stand where it stands.
     #[error("unknown statement")]
@@ -99,7 +99,7 @@ impl From<sal_types::NoMemory> for BuildFault {
 }
 
 /// What is wrong with a statement.
-#[derive(Clone, Copy, Debug, PartialEq, Eq)]
+#[derive(Clone, Copy)]
 pub enum Cause {
     UnknownStatement,
     LeftOut,
@@ -119,7 +119,7 @@ pub enum Cause {
 }
 
 /// A fault with its place.
-#[derive(Clone, Copy, Debug, PartialEq, Eq)]
+#[derive(Clone, Copy)]
 pub struct Found {
     /// What is wrong.
     pub cause: Cause,

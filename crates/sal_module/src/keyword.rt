@@ -3,7 +3,7 @@ ghost use Rattle.std.specs.Prelude.{◌≡◌, map};
 ghost use Rattle.sal_module.specs.Keywords as spec;
 
 /// A keyword of YANG that the profile has. RFC 7950 section 7 has the statement of each.
-#[derive(Clone, Copy, Debug, PartialEq, Eq)]
+#[derive(Clone, Copy, PartialEq, Eq)]
 pub enum Keyword {
     Module,
     YangVersion,

@@ -18,7 +18,7 @@ use crate::table::{Entry, LEFT_OUT, Often, Rule, rule_of};
 use sal_stmt::Stmt;
 
 /// How the statements of one keyword stand.
-#[derive(Clone, Copy, Debug, PartialEq, Eq)]
+#[derive(Clone, Copy, PartialEq, Eq)]
 pub enum Standing {
     Nowhere,
     Once,

@@ -6,7 +6,7 @@ use crate::argument::Form;
 use crate::keyword::{Keyword, keyword_of};
 
 /// How often a substatement may stand.
-#[derive(Clone, Copy, Debug, PartialEq, Eq)]
+#[derive(Clone, Copy, PartialEq, Eq)]
 pub enum Often {
     /// At most once.
     Optional,

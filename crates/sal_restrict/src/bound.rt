@@ -13,14 +13,14 @@ use std::cmp::Ordering;
 /// A number without a sign: the digits before its point, without zeros at their front, and what stands behind it.
 ///
 /// `fraction` counts in units of the type, 10 to the power of its fraction digits being a whole one.
-#[derive(Clone, Copy, Debug)]
+#[derive(Clone, Copy)]
 pub(crate) struct Magnitude<'t> {
     pub(crate) whole: &'t [u8],
     pub(crate) fraction: u128,
 }
 
 /// The number of a bound in units of the type. It is large where 128 bits do not hold it.
-#[derive(Clone, Copy, Debug)]
+#[derive(Clone, Copy)]
 pub(crate) enum Bound<'t> {
     Small(i128),
     Large {

@@ -10,14 +10,14 @@ use sal_types::{Duplicate, NoMemory};
 use std::marker::Model;
 
 /// The whole numbers from `low` to `high`, both included.
-#[derive(Clone, Copy, Debug, PartialEq, Eq)]
+#[derive(Clone, Copy, PartialEq, Eq)]
 pub struct Part {
     pub low: i128,
     pub high: i128,
 }
 
 /// Parts of the whole numbers, ascending and disjoint. They are seen as their list.
-#[derive(Debug, Drop)]
+#[derive(Drop)]
 pub struct Ranges {
     list: Vec<Part>,
 }

@@ -14,7 +14,7 @@ use crate::words::{behind, front, place_of, trim};
 use std::alloc::Global;
 
 /// From one bound to the other.
-#[derive(Clone, Copy, Debug)]
+#[derive(Clone, Copy)]
 pub(crate) struct Span<'t> {
     pub(crate) low: Bound<'t>,
     pub(crate) high: Bound<'t>,

@@ -7,7 +7,7 @@ use sal_types::{Duplicate, NoMemory, Seq, Str};
 use std::alloc::Global;
 
 /// A pattern of a text, or one that the text must not match.
-#[derive(Debug, Drop, PartialEq, Eq)]
+#[derive(Drop, PartialEq, Eq)]
 pub struct Pattern {
     pub text: Str,
     pub inverted: bool,
@@ -17,7 +17,7 @@ pub struct Pattern {
 ///
 /// `places` has, for each name of an enumeration, its place in the original enumeration: the one that no other is derived
 /// from. `bases` are numbers of identities. A `Leafref` is a type whose target is not looked up yet.
-#[derive(Debug, Drop, PartialEq, Eq)]
+#[derive(Drop, PartialEq, Eq)]
 pub enum YangType {
     Int {
         bits: u8,

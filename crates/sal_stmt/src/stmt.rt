@@ -5,7 +5,7 @@ use sal_types::{Duplicate, NoMemory, Seq, Str};
 use std::alloc::Global;
 
 /// A statement with those in its block. A statement that ends with `;` has none.
-#[derive(Debug, Drop, PartialEq, Eq)]
+#[derive(Drop)]
 pub struct Stmt {
     /// An identifier, or two of them joined by `:`.
     pub keyword: Str,

@@ -13,7 +13,7 @@ use sal_types::{Duplicate, NoMemory, Str};
 use std::alloc::Global;
 
 /// A name of a module, below a node or at the top.
-#[derive(Debug, Drop, PartialEq, Eq, PartialOrd, Ord)]
+#[derive(Drop, PartialEq, Eq, PartialOrd, Ord)]
 pub(crate) struct Key {
     pub(crate) parent: Option<u32>,
     pub(crate) module: u32,

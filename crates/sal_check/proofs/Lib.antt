@@ -13,5 +13,4 @@ mod Plans
 mod SeenTrees
 mod There
 mod Trails
-mod TriedTable
 mod Walked

@@ -1,5 +1,4 @@
 pub mod Near
 pub mod Nodes
 pub mod Paths
-pub mod Tried
 pub mod Uniques

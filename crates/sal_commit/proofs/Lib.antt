@@ -1,4 +1,3 @@
 pub mod Applying
 pub mod Decided
 pub mod Sounds
-pub mod TriedTable

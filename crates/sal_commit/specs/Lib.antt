@@ -3,4 +3,3 @@ pub mod Deciding
 pub mod Domains
 pub mod Opening
 pub mod Sound
-pub mod Tried

@@ -16,7 +16,7 @@
 //!
 //! `specs/` says which commits break no rule and what a change keeps of the newest trees (`Sound`), what opens a domain
 //! (`Opening`), what stays of one (`Domains`), what each phase gives and what a decision leaves (`Deciding`), and what `can`
-//! and `pre` come to together (`Attempts`). `Tried` has the table of the test.
+//! and `pre` come to together (`Attempts`).
 //!
 //! ```
 //! let outcome = decide(alloc, &submission, &mut domain, fresh)?;

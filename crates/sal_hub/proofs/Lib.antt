@@ -1,7 +1,6 @@
 pub mod Beginning
 pub mod Cutting
 pub mod Deciding
-pub mod EmptyTable
 pub mod Histories
 pub mod Keeping
 pub mod Listed

@@ -3,8 +3,7 @@ use Rattle.std.proofs.Common.{refl, arith}
 use Rattle.sal_restrict.specs.declared.yang_type.YangType.TheViews.{out-roll-YangType}
 use Rattle.sal_schema.specs.Table.{closest}
 use Rattle.sal_schema.specs.Valid.{IsTable}
-use Rattle.sal_rules.specs.Depots.{depot_table, shop_table, put_depot, put_item}
-use Rattle.sal_rules.specs.Writes.{IsForSchema}
+use Rattle.sal_rules.specs.Depots.{depot_table}
 
 pub depot-IsTable : IsTable depot_table
 unfolding closest
@@ -21,27 +20,3 @@ depot-IsTable = record {
   types = simp out-roll-YangType;
   distinct = record { modules = refl; identities = refl; rpcs = refl; notifications = refl; data_nodes = refl };
 }
-
-pub shop-IsTable : IsTable shop_table
-unfolding closest
-shop-IsTable = record {
-  small = record { nodes = omega arith; types = omega arith; modules = omega arith; identities = omega arith };
-  numbers = refl;
-  places = refl;
-  names = refl;
-  leaf_types = refl;
-  keys = refl;
-  uniques = refl;
-  module_names = refl;
-  identities = refl;
-  types = simp out-roll-YangType;
-  distinct = record { modules = refl; identities = refl; rpcs = refl; notifications = refl; data_nodes = refl };
-}
-
-pub put_depot-IsForSchema : IsForSchema shop_table put_depot
-unfolding closest
-put_depot-IsForSchema = record { path = refl; data_path = refl; rows = refl }
-
-pub put_item-IsForSchema : IsForSchema shop_table put_item
-unfolding closest
-put_item-IsForSchema = record { path = simp out-roll-YangType; data_path = refl; rows = simp out-roll-YangType }

@@ -68,21 +68,19 @@ none-second : {X : Type 0} (a b : Option X) → option_or a b ≡ None → b ≡
 none-second None b e = e
 none-second (Some x) b e = cc
 
+abbrev rows_after : Domain → Submission → Store → List Row
+rows_after d sub s = apply_ops (tip (opening_in d.commits.items) (ops_of d.commits.items) s) s sub.changes
+
+next-breach : (d : Domain) (sub : Submission) (c : Commit) (table : SchemaTable) → table ≡ d.schema.value → IsNext d sub c → (s : Store) → breach d.schema.value s (rows_after d sub s) ≡ None → breach table s (rows_in c.trees s) ≡ None
+next-breach d sub c table same next s none = (λ i. breach (same i) s (next.trees s i)) ∙ none
+
 pub next-sound : (d : Domain) (sub : Submission) (c : Commit) (table : SchemaTable) → table ≡ d.schema.value → option_or (conflict d sub) (breached d sub) ≡ None → IsNext d sub c → BreakNone table c.trees
-next-sound d sub c table same none next = all
-  where
-    no_breach : breached d sub ≡ None
-    no_breach = none-second (conflict d sub) (breached d sub) none
-
-    after : Store → List Row
-    after s = apply_ops (tip (opening_in d.commits.items) (ops_of d.commits.items) s) s sub.changes
-
-    at : (s : Store) → breach d.schema.value s (after s) ≡ None → breach table s (rows_in c.trees s) ≡ None
-    at s e = (λ i. breach (same i) s (next.trees s i)) ∙ e
-
-    all : BreakNone table c.trees
-    all Config = at Config (none-breach Config (breach d.schema.value Config (after Config)) (none-first (invalid d sub Config) (invalid d sub Oper) no_breach))
-    all Oper = at Oper (none-breach Oper (breach d.schema.value Oper (after Oper)) (none-second (invalid d sub Config) (invalid d sub Oper) no_breach))
+next-sound d sub c table same none next Config =
+    next-breach d sub c table same next Config
+    (none-breach Config (breach d.schema.value Config (rows_after d sub Config)) (none-first (invalid d sub Config) (invalid d sub Oper) (none-second (conflict d sub) (breached d sub) none)))
+next-sound d sub c table same none next Oper =
+    next-breach d sub c table same next Oper
+    (none-breach Oper (breach d.schema.value Oper (rows_after d sub Oper)) (none-second (invalid d sub Config) (invalid d sub Oper) (none-second (conflict d sub) (breached d sub) none)))
 
 module _ (old : Domain) (sub : Submission) (next : Commit) (are : AreKept old.commits.items) (is : IsNext old sub next) where
   last : Commit

@@ -7,6 +7,7 @@ ghost use Rattle.sal_tree.specs.Follows.{Follows, exactly};
 ghost use Rattle.sal_tree.specs.Rows.{rows_of};
 ghost use Rattle.sal_tree.specs.Touched.{act_touches};
 ghost use Rattle.sal_rules.specs.Refusals.{refusal};
+ghost use Rattle.sal_rules.specs.Writes.{IsForSchema};
 ghost use Rattle.sal_tx.specs.Written as spec;
 
 use crate::begun::Begun;
@@ -50,7 +51,7 @@ pub(crate) fn written(
     op: &Op,
     stamp: u64,
 ) -> Result<Root, TxFault>
-    requires { spec.IsForSchema schema.now op.now }
+    requires { IsForSchema schema.now op.now }
     ensures { MatchResult result (spec.IsWritten schema.now stamp tree.now op.now) (λ e. (e ≡ TxFault.NoMemory) ⊎ (refusal schema.now (rows_of tree.now) op.now ≡ Some e)) }
 {
     check(alloc, schema, tree, op)?;

@@ -243,21 +243,12 @@ fn breach_near(
     Ok(check_near(alloc, plan, Store::Config, before, &after, &[7])?)
 }
 
-fn merged(
-    alloc: Global,
-    plan: &Plan,
-    before: &str,
-    rows: &Rows,
-) -> Result<Option<Breach>, Fail> {
+fn merged(alloc: Global, plan: &Plan, before: &str, rows: &Rows) -> Result<Option<Breach>, Fail> {
     let before = tree(alloc, before)?;
     breach_near(alloc, plan, &before, rows)
 }
 
-fn is_checked_near(
-    alloc: Global,
-    plan: &Plan,
-    case: (&str, &str, Wanted),
-) -> Result<bool, Fail> {
+fn is_checked_near(alloc: Global, plan: &Plan, case: (&str, &str, Wanted)) -> Result<bool, Fail> {
     let rows = rows_of(alloc, case.1)?;
     let breach = merged(alloc, plan, case.0, &rows)?;
     is_wanted(alloc, &breach, case.2)

@@ -8,8 +8,8 @@ use crate::words::scalar_word;
 use sal_data::DataFault;
 use sal_json::ScalarFault;
 use sal_pathtext::PathTextFault;
-use sal_schema::Schema;
 use sal_rules::TxFault;
+use sal_schema::Schema;
 use sal_types::{NoMemory, Path, Str};
 use std::alloc::Global;
 

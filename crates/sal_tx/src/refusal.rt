@@ -10,9 +10,9 @@ ghost use Rattle.sal_schema.specs.Fitting.{is_of_state, is_root};
 ghost use Rattle.sal_rules.specs.Refusals as spec;
 ghost use Rattle.sal_tx.specs.Walk as walk;
 
-use sal_rules::TxFault;
 use sal_node::Node;
 use sal_rows::{Act, Op};
+use sal_rules::TxFault;
 use sal_schema::Schema;
 use sal_tree::Root;
 use sal_types::{Duplicate, NoMemory, Path, Row, Step, Store};

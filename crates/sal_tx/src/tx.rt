@@ -8,10 +8,10 @@ ghost use Rattle.sal_tx.specs.Views as spec;
 ghost use Rattle.sal_rules.specs.Writes.{IsForSchema};
 
 use crate::begun::Begun;
-use sal_rules::{TxFault, WriteOnly};
 use crate::writing::{Writing, set_tree, written};
 use sal_mod::Mod;
 use sal_rows::{Act, Mode, Op, Rows};
+use sal_rules::{TxFault, WriteOnly};
 use sal_schema::Schema;
 use sal_tree::{Pair, Root};
 use sal_types::{Duplicate, NoMemory, Path, Store};

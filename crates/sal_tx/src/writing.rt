@@ -11,10 +11,10 @@ ghost use Rattle.sal_rules.specs.Writes.{IsForSchema};
 ghost use Rattle.sal_tx.specs.Written as spec;
 
 use crate::begun::Begun;
-use sal_rules::TxFault;
 use crate::refusal::check;
 use sal_mod::Mod;
 use sal_rows::{Act, Mode, Op};
+use sal_rules::TxFault;
 use sal_schema::Schema;
 use sal_tree::{Pair, Root};
 use sal_types::{NoMemory, Store};

@@ -160,7 +160,7 @@ fn has_nodes(alloc: Global, plan: &Plan, k: usize) -> Result<bool, NoMemory>
 // ---- one augment
 
 /// What became of an augment.
-#[derive(Clone, Copy, Debug, PartialEq, Eq)]
+#[derive(Clone, Copy)]
 enum Tried {
     /// Its nodes were added.
     Carried,

@@ -79,7 +79,7 @@ fn scope_of(rows: &[Row], nodes: &[Node], node: &Node) -> Option<u32>
 }
 
 /// What tells nodes apart.
-#[derive(Debug, Drop, PartialEq, Eq, PartialOrd, Ord)]
+#[derive(Drop, PartialEq, Eq, PartialOrd, Ord)]
 pub(crate) struct Key {
     /// Whether it is a case.
     pub case: bool,

@@ -5,7 +5,7 @@ use sal_types::NoMemory;
 use std::marker::Model;
 
 /// A node without a statement of its own.
-#[derive(Clone, Copy, Debug, PartialEq, Eq)]
+#[derive(Clone, Copy, PartialEq, Eq)]
 pub enum Implied {
     /// The case round a node that stands directly in a choice.
     Case,
@@ -16,7 +16,7 @@ pub enum Implied {
 }
 
 /// A node.
-#[derive(Clone, Copy, Debug, PartialEq, Eq)]
+#[derive(Clone, Copy)]
 pub struct Branch {
     /// The number of the node above it, or none at the top.
     pub parent: Option<u32>,
@@ -31,7 +31,7 @@ pub struct Branch {
 }
 
 /// The nodes of a schema, in the order of their numbers. It is seen as that list.
-#[derive(Debug, Drop)]
+#[derive(Drop)]
 pub struct Forest {
     list: Vec<Branch>,
 }

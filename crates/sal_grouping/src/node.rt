@@ -3,7 +3,7 @@
 use crate::forest::Implied;
 
 /// A node that knows its statement.
-#[derive(Clone, Copy, Debug, PartialEq, Eq)]
+#[derive(Clone, Copy)]
 pub(crate) struct Node {
     /// The number of the node above it, or none at the top.
     pub parent: Option<u32>,

@@ -13,7 +13,7 @@ use std::alloc::Global;
 const MAX_BLOCKS: u32 = 64;
 
 /// A statement, known by its number in the list.
-#[derive(Debug, Drop)]
+#[derive(Drop)]
 pub(crate) struct Row {
     /// The number of the module in which it stands.
     pub module: u32,

@@ -10,7 +10,7 @@ use std::cmp::Ordering;
 use std::marker::Model;
 
 /// A name: of a module, below a node or at the top.
-#[derive(Debug, Drop, PartialEq, Eq, PartialOrd, Ord)]
+#[derive(Drop, PartialEq, Eq, PartialOrd, Ord)]
 pub(crate) struct Name {
     pub(crate) parent: Option<u32>,
     pub(crate) module: u32,
@@ -18,7 +18,7 @@ pub(crate) struct Name {
 }
 
 /// A name and the number of what it names.
-#[derive(Debug, Drop)]
+#[derive(Drop)]
 pub(crate) struct Named {
     pub(crate) name: Name,
     pub(crate) number: u32,

@@ -7,7 +7,7 @@ use sal_types::{Seq, Str};
 pub type Leafs = Seq<u32>;
 
 /// A schema node. Its number is its place in the table.
-#[derive(Debug, Drop)]
+#[derive(Drop)]
 pub struct NodeInfo {
     /// The node above it, choices and cases among them; none at the top.
     pub parent: Option<u32>,
@@ -31,7 +31,7 @@ pub struct NodeInfo {
 }
 
 /// An identity, with all identities that it is derived from, directly or through others.
-#[derive(Debug, Drop)]
+#[derive(Drop)]
 pub struct IdentityInfo {
     pub name: Str,
     pub module: u32,
@@ -39,7 +39,7 @@ pub struct IdentityInfo {
 }
 
 /// A schema as data. Parents, types, modules and identities are meant by their numbers, which are their places.
-#[derive(Debug, Drop)]
+#[derive(Drop)]
 pub struct SchemaTable {
     pub nodes: Seq<NodeInfo>,
     pub types: Seq<YangType>,

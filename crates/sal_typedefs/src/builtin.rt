@@ -10,7 +10,7 @@ use sal_types::{NoMemory, Seq, Str};
 use std::alloc::Global;
 
 /// How many bits a whole number has.
-#[derive(Clone, Copy, Debug, PartialEq, Eq)]
+#[derive(Clone, Copy, PartialEq, Eq)]
 pub(crate) enum Width {
     Bits8,
     Bits16,
@@ -19,7 +19,7 @@ pub(crate) enum Width {
 }
 
 /// A built-in type.
-#[derive(Clone, Copy, Debug, PartialEq, Eq)]
+#[derive(Clone, Copy, PartialEq, Eq)]
 pub(crate) enum Builtin {
     Int { width: Width, signed: bool },
     Dec,

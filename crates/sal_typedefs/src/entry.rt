@@ -6,14 +6,14 @@ ghost use Rattle.sal_module.specs.Arguments.{decimal};
 use sal_types::Str;
 
 /// A name and its number.
-#[derive(Debug, Drop)]
+#[derive(Drop)]
 pub(crate) struct Entry {
     pub(crate) name: Str,
     pub(crate) number: i128,
 }
 
 /// How names get their numbers.
-#[derive(Clone, Copy, Debug, PartialEq, Eq)]
+#[derive(Clone, Copy, PartialEq, Eq)]
 pub(crate) enum Numbering {
     /// Those of an enumeration: each a `value` of 32 bits with a sign.
     Enums,

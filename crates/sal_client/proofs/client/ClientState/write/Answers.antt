@@ -27,5 +27,5 @@ pub write_op-requires-clause-for_schema : goal.write_op-requires-clause-for_sche
 write_op-requires-clause-for_schema c =
     let table = c.args.reader.now in
     let made : Ok c.in-Ok.op ≡ op_by table c.args.store (deed_of c.args.deed) (read_path table c.args.text.now) = sym c.in-Ok.is ∙ c.in_ok-op-in-Writable.ensures in
-    let good : IsTable table = subst IsTable c.schema.ensures c.len.ensures.table in
+    let good : IsTable table = subst IsTable c.schema.ensures c.len-count.ensures.table in
     op_for_schema c.writes_are_for_schema.ensures table good c.args.store c.args.text.now (deed_of c.args.deed) c.requires.json c.in-Ok.op made

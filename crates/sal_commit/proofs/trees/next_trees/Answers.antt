@@ -1,4 +1,7 @@
-use Rattle.std.proofs.Common.{◌∷◌, [], sym, subst}
+use Rattle.std.proofs.Common.{◌≡◌, ◌-◌, List, ◌∷◌, [], length, get_or, sym, subst}
+use Rattle.sal_types.specs.declared.value.Store.{Store}
+use Rattle.sal_rows.specs.Apply.{apply_ops}
+use Rattle.sal_tree.specs.declared.commit.Commit.{Commit}
 use Rattle.sal_tree.specs.declared.commit.Pair.{Pair}
 use Rattle.sal_check.specs.Near.{Keeps}
 use Rattle.sal_check.proofs.NearTrees.{keeps-composed, keeps-itself}
@@ -9,10 +12,15 @@ use Rattle.sal_commit.proofs.Applying.{apply_ops-more, LieBelow-at}
 use Rattle.sal_commit.proofs.trees.next_trees.Goals as goal
 
 pub loop-op-init : goal.loop-op-init
-loop-op-init c = record {
-  rows = c.in_ok-trees.ensures.rows;
-  stamps = λ k s is. subst (λ (p : Pair). Keeps (c.args.fresh ∷ []) (tree_in k.trees s) (tree_in p s)) (sym (c.in_ok-trees.ensures.same k is)) (keeps-itself (c.args.fresh ∷ []) (tree_in k.trees s));
-}
+loop-op-init c =
+    let commits = c.args.domain.now.commits.items in
+    let made = c.in_ok-trees.trees in
+    let same : (k : Commit) → k ≡ get_or commits (length commits - 1) k → made ≡ k.trees =
+    subst (λ (ks : List Commit). (k : Commit) → k ≡ get_or ks (length ks - 1) k → made ≡ k.trees) c.deref.ensures.value c.in_ok-trees.ensures.same in
+    record {
+      rows = subst (λ (ks : List Commit). (s : Store) → rows_in made s ≡ apply_ops (tip (opening_in ks) (ops_of ks) s) s []) c.deref.ensures.value c.in_ok-trees.ensures.rows;
+      stamps = λ k s is. subst (λ (p : Pair). Keeps (c.args.fresh ∷ []) (tree_in k.trees s) (tree_in p s)) (sym (same k is)) (keeps-itself (c.args.fresh ∷ []) (tree_in k.trees s));
+    }
 
 pub applied-requires : goal.applied-requires
 applied-requires c = LieBelow-at c.ops-op-items.result.now c.loop-op.op-index c.op-item.result (subst LieBelow (sym c.ops-op-items.ensures) c.requires.below) c.loop-op-test.true c.op-item.is

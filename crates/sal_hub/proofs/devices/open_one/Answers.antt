@@ -13,4 +13,4 @@ returns-in-Ok-open-clause-fault c = no_fault c.args.number c.args.device.now c.i
 pub returns-in-Err-open-clause-fault : goal.returns-in-Err-open-clause-fault
 returns-in-Err-open-clause-fault c =
     subst (λ (e : OpenFault). (e ≡ NoMemory) ⊎ (opening_fault c.args.number (domain_of c.args.device.now) ≡ Some e)) (sym c.numbered.ensures)
-    (some_fault c.args.number c.args.device.now c.in-Ok.ensures c.in-Err-open.fault c.in-Err-open.ensures)
+    (some_fault c.args.number c.args.device.now c.in-Ok.ensures c.in-Err-open.fault c.in-Err-open.ensures.fault)

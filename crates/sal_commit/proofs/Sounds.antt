@@ -13,7 +13,6 @@ use Rattle.sal_commit.specs.declared.fault.DomainFault.TheVariants.{Broken}
 use Rattle.sal_commit.specs.Opening.{broken, fault_over}
 use Rattle.sal_commit.specs.Sound.{AreSound, BreakNone}
 use Rattle.sal_tree.specs.declared.commit.Commit.{Commit}
-use Rattle.sal_tree.specs.declared.commit.Pair.{Pair}
 
 none-broken : (table : SchemaTable) (s : Store) (rows : List Row) → broken table s rows ≡ None → breach table s rows ≡ None
 none-broken table s rows e = of_map (breach table s rows) e

@@ -12,3 +12,15 @@ pub mod Walked
 pub mod Preorder
 pub mod PlaceMaps
 pub mod Kept
+pub mod Quiet
+pub mod Built
+pub mod NamedModules
+pub mod InfoLists
+pub mod TypedLeafs
+pub mod Shapes
+pub mod Grown
+pub mod Numbers
+pub mod Distinct
+pub mod DistinctModules
+pub mod Underived
+pub mod GoodIdentities

@@ -33,6 +33,7 @@ mod fill;
 mod identities;
 mod info;
 mod inherited;
+pub mod laws;
 mod leafrefs;
 mod lists;
 mod node;

@@ -11,3 +11,4 @@ pub mod FrameLists
 pub mod RoundLists
 pub mod DataParents
 pub mod KeyMaps
+pub mod Parts

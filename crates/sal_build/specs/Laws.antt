@@ -1,0 +1,33 @@
+-- The table that modules have is one of a schema, part by part.
+use Rattle.std.specs.Prelude.{◌≡◌, ◌<◌, ◌^◌, List, length, Ok, IsTrue}
+use Rattle.std.specs.List.{list_all}
+use Rattle.sal_stmt.specs.declared.stmt.Stmt.{Stmt}
+use Rattle.sal_schema.specs.declared.table.SchemaTable.{SchemaTable}
+use Rattle.sal_schema.specs.Names.{are_distinct, module_names}
+use Rattle.sal_schema.specs.Table.{all_from}
+use Rattle.sal_schema.specs.Valid.{is_identifier, has_its_type, has_numbers, is_good_identity}
+use Rattle.sal_build.specs.Build.{build}
+
+-- Each module is named by an identifier.
+abbrev pub ModulesAreNamed : Type 0
+ModulesAreNamed = (stmts : List Stmt) (table : SchemaTable) → build stmts ≡ Ok table → IsTrue (list_all is_identifier table.modules)
+
+-- Leafs and leaf-lists have a type, and no other node has one.
+abbrev pub LeafsAreTyped : Type 0
+LeafsAreTyped = (stmts : List Stmt) (table : SchemaTable) → build stmts ≡ Ok table → IsTrue (list_all has_its_type table.nodes)
+
+-- There are fewer than 2 ^ 32 nodes, types and modules.
+abbrev pub TablesAreSmall : Type 0
+TablesAreSmall = (stmts : List Stmt) (table : SchemaTable) → build stmts ≡ Ok table → (length table.nodes < 2 ^ 32) × (length table.types < 2 ^ 32) × (length table.modules < 2 ^ 32)
+
+-- The numbers of parent, module and type of a node are those of a node before it, a module and a type.
+abbrev pub NumbersAreThere : Type 0
+NumbersAreThere = (stmts : List Stmt) (table : SchemaTable) → build stmts ≡ Ok table → IsTrue (all_from (has_numbers table) 0 table.nodes)
+
+-- Each name stands for one module.
+abbrev pub ModuleNamesDiffer : Type 0
+ModuleNamesDiffer = (stmts : List Stmt) (table : SchemaTable) → build stmts ≡ Ok table → IsTrue (are_distinct (module_names table))
+
+-- Each identity is named by an identifier, in a module that is there; what it is derived from are other identities.
+abbrev pub IdentitiesAreGood : Type 0
+IdentitiesAreGood = (stmts : List Stmt) (table : SchemaTable) → build stmts ≡ Ok table → IsTrue (all_from (is_good_identity table) 0 table.identities)

@@ -1,0 +1,32 @@
+//! Laws of the definitions: the table that modules have is one of a schema. A call does nothing: its clause is the law.
+ghost use Rattle.sal_build.specs.Laws.{IdentitiesAreGood, LeafsAreTyped, ModuleNamesDiffer, ModulesAreNamed, NumbersAreThere, TablesAreSmall};
+
+/// Each module is named by an identifier.
+pub fn modules_are_named()
+    ensures { ModulesAreNamed }
+{}
+
+/// Leafs and leaf-lists have a type, and no other node has one.
+pub fn leafs_are_typed()
+    ensures { LeafsAreTyped }
+{}
+
+/// There are fewer than 2 ^ 32 nodes, types and modules.
+pub fn tables_are_small()
+    ensures { TablesAreSmall }
+{}
+
+/// The numbers of parent, module and type of a node are those of a node before it, a module and a type.
+pub fn numbers_are_there()
+    ensures { NumbersAreThere }
+{}
+
+/// Each name stands for one module.
+pub fn module_names_differ()
+    ensures { ModuleNamesDiffer }
+{}
+
+/// Each identity is named by an identifier, in a module that is there; what it is derived from are other identities.
+pub fn identities_are_good()
+    ensures { IdentitiesAreGood }
+{}

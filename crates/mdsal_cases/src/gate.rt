@@ -57,8 +57,7 @@ impl CountingGate {
 impl Gate for CountingGate {
     fn pass(&self, client: u32, step: u32) {
         self.count.fetch_add(1, Ordering::SeqCst);
-        self.places
-            .fetch_add(place(client, step), Ordering::SeqCst);
+        self.places.fetch_add(place(client, step), Ordering::SeqCst);
     }
 }
 

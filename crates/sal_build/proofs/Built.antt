@@ -115,13 +115,15 @@ expanded_ok stmts nodes e =
     let (targets, same3) = unless_ok (target_faults rows progress.1) progress.0 forest e4 in
     let (children, same4) = unless_ok (child_faults rows forest) forest nodes e2 in
     let all : progress_of stmts ≡ progress = same1 ∙ same2 in
-    let is : nodes_of stmts ≡ forest = ap (λ (p : Progress). p.0) all ∙ same3 in
-    (record {
-      names = names;
-      few = omega (arith, few, ap (λ (p : Progress). length p.0) same1);
-      targets = ap (λ (p : Progress). target_faults rows p.1) all ∙ targets;
-      children = ap (child_faults rows) is ∙ children;
-    }, is ∙ same4))))
+    let is : nodes_of stmts ≡ forest = ap (λ (p : Progress). p.0) all ∙ same3 in (
+      record {
+        names = names;
+        few = omega (arith, few, ap (λ (p : Progress). length p.0) same1);
+        targets = ap (λ (p : Progress). target_faults rows p.1) all ∙ targets;
+        children = ap (child_faults rows) is ∙ children;
+      },
+      is ∙ same4,
+    ))))
 
 pub record IsBuilt (stmts : List Stmt) (table : SchemaTable) : Type 0 where
   pub checked : IsChecked stmts

@@ -86,7 +86,7 @@ apart-joined : (es fs gs : List Named) → IsTrue (are_apart es fs) → IsTrue (
 apart-joined [] fs gs h k = refl
 apart-joined (e ∷ es) fs gs h k =
     let here = any-front (is_called e.name) fs gs (true-is (list_any (is_called e.name) fs) (and_first (not (list_any (is_called e.name) fs)) (are_apart es fs) h))
-        (true-is (list_any (is_called e.name) gs) (and_first (not (list_any (is_called e.name) gs)) (are_apart es gs) k)) in
+    (true-is (list_any (is_called e.name) gs) (and_first (not (list_any (is_called e.name) gs)) (are_apart es gs) k)) in
     both (not (list_any (is_called e.name) (fs ++ gs))) (are_apart es (fs ++ gs)) (false-is (list_any (is_called e.name) (fs ++ gs)) here)
     (apart-joined es fs gs (and_second (not (list_any (is_called e.name) fs)) (are_apart es fs) h) (and_second (not (list_any (is_called e.name) gs)) (are_apart es gs) k))
 
@@ -98,7 +98,7 @@ distinct-joined : (es fs : List Named) → IsTrue (are_distinct es) → IsTrue (
 distinct-joined [] fs h apart k = k
 distinct-joined (e ∷ es) fs h apart k =
     let here = any-front (is_called e.name) es fs (true-is (list_any (is_called e.name) es) (and_first (not (list_any (is_called e.name) es)) (are_distinct es) h))
-        (true-is (list_any (is_called e.name) fs) (and_first (not (list_any (is_called e.name) fs)) (are_apart es fs) apart)) in
+    (true-is (list_any (is_called e.name) fs) (and_first (not (list_any (is_called e.name) fs)) (are_apart es fs) apart)) in
     both (not (list_any (is_called e.name) (es ++ fs))) (are_distinct (es ++ fs)) (false-is (list_any (is_called e.name) (es ++ fs)) here)
     (distinct-joined es fs (and_second (not (list_any (is_called e.name) es)) (are_distinct es) h) (and_second (not (list_any (is_called e.name) fs)) (are_apart es fs) apart) k)
 

@@ -112,7 +112,7 @@ module _ (stmts : List Stmt) where
   number-there k stmt name at =
       let p : Stmt → Bool = λ one. same (argument_of one) name in
       elim (position_from p 0 (scopes.identities_of stmt)) as (λ f. position_from p 0 (scopes.identities_of stmt) ≡ f
-          → IsTrue (list_all is_there (option_to_list (option_map (λ i. sum_by (λ one. length (scopes.identities_of one)) (take k stmts) + i) f)))) [
+      → IsTrue (list_all is_there (option_to_list (option_map (λ i. sum_by (λ one. length (scopes.identities_of one)) (take k stmts) + i) f)))) [
         | None ↦ λ e. refl
         | Some j ↦ λ e.
             let low = position-below p 0 (scopes.identities_of stmt) j e in
@@ -200,19 +200,19 @@ module _ (stmts : List Stmt) (forest : List Branch) (names : IsTrue (list_all (i
       let there : IsTrue (nat_lt one.0 (length table.modules)) = grind (arith, nat_tests) in
       let long = infos-count edges 0 (identities_of stmts) in
       let inside : IsTrue (list_all (λ base. nat_lt base (length (identities_of stmts))) (derived_from edges i)) =
-          derived-inside edges (λ base. nat_lt base (length (identities_of stmts))) (rows-there stmts (identities_of stmts)) (length edges) i in
+      derived-inside edges (λ base. nat_lt base (length (identities_of stmts))) (rows-there stmts (identities_of stmts)) (length edges) i in
       let known : IsTrue (list_all (λ base. nat_lt base (length table.identities)) (derived_from edges i)) =
-          subst (λ n. IsTrue (list_all (λ base. nat_lt base n) (derived_from edges i))) (sym long) inside in
+      subst (λ n. IsTrue (list_all (λ base. nat_lt base n) (derived_from edges i))) (sym long) inside in
       let row : get_or edges i [] ≡ bases_of stmts one = ap (λ all. get_or (map (bases_of stmts) all) i []) is ∙ get-middle (bases_of stmts) done rest one i [] count in
       let away : IsTrue (list_all (is_free edges i (length edges)) (bases_of stmts one)) =
-          from-middle (λ i one. list_all (is_free edges i (length edges)) (bases_of stmts one)) 0 i done rest one (omega arith)
-          (subst (λ (all : List Identity). IsTrue (all_from (λ i one. list_all (is_free edges i (length edges)) (bases_of stmts one)) 0 all)) is free) in
+      from-middle (λ i one. list_all (is_free edges i (length edges)) (bases_of stmts one)) 0 i done rest one (omega arith)
+      (subst (λ (all : List Identity). IsTrue (all_from (λ i one. list_all (is_free edges i (length edges)) (bases_of stmts one)) 0 all)) is free) in
       let total = length-map (identities_of stmts) (bases_of stmts) in
       let split = ap length is in
       let joined = length-append done (one ∷ rest) in
       let steps : length edges ≡ suc (length edges - 1) = omega arith in
       let back : IsTrue (list_all (is_free edges i (suc (length edges - 1))) (get_or edges i [])) =
-          subst (λ n. IsTrue (list_all (is_free edges i n) (get_or edges i []))) steps (subst (λ row. IsTrue (list_all (is_free edges i (length edges)) row)) (sym row) away) in
+      subst (λ n. IsTrue (list_all (is_free edges i n) (get_or edges i []))) steps (subst (λ row. IsTrue (list_all (is_free edges i (length edges)) row)) (sym row) away) in
       let apart : IsTrue (list_all (is_other edges i) (derived_from edges i)) = subst (λ n. IsTrue (list_all (is_other edges i) (derived n edges i))) (sym steps) (not-itself edges i (length edges - 1) back) in
       both ((valid.is_identifier (argument_of one.1) && nat_lt one.0 (length table.modules)) && list_all (λ base. nat_lt base (length table.identities)) (derived_from edges i)) (not (is_among i (derived_from edges i)))
       (both (valid.is_identifier (argument_of one.1) && nat_lt one.0 (length table.modules)) (list_all (λ base. nat_lt base (length table.identities)) (derived_from edges i))

@@ -1,9 +1,10 @@
 //! Plays a case by the top call, and compares what it answers with what is wanted.
 use crate::case::Case;
+use crate::gate::{self, CountingGate, Steps};
 use crate::input;
 use sal_command::status::Status;
 use sal_command::top::mdsal;
-use sal_io::{MemSink, MemSource, OpenGate};
+use sal_io::{MemSink, MemSource};
 use sal_types::{NoMemory, Str};
 use std::alloc::Global;
 use std::io;
@@ -12,10 +13,14 @@ use std::io::{Error, ErrorKind};
 // How many bytes the sink of a case takes that names no room.
 const ROOM: u64 = 1048576;
 
-/// How the command ended, as a file `NAME.status` has it, and what it wrote.
+// How a case ends for which nothing else is wanted.
+const DONE: &str = "0 ";
+
+/// How the command ended, as a file `NAME.status` has it, before which steps the gate was passed, and what was written.
 #[derive(Drop)]
 struct Outcome {
     ended: String,
+    passes: Steps,
     sink: MemSink,
 }
 
@@ -31,7 +36,16 @@ fn compared(case: Case<'_>) -> io::Result<String> {
     let played = played(case)?;
     let difference = status_difference(case, played.ended.as_str())?;
     if difference.is_empty() {
-        text_difference(case, played.sink.bytes())
+        output_difference(case, &played)
+    } else {
+        Ok(difference)
+    }
+}
+
+fn output_difference(case: Case<'_>, played: &Outcome) -> io::Result<String> {
+    let difference = text_difference(case, played.sink.bytes())?;
+    if difference.is_empty() && played.ended.as_str() == DONE {
+        passes_difference(case, played)
     } else {
         Ok(difference)
     }
@@ -49,9 +63,15 @@ fn played_with(case: Case<'_>, words: &[Str]) -> io::Result<Outcome> {
 
 fn played_from(case: Case<'_>, words: &[Str], source: &mut MemSource) -> io::Result<Outcome> {
     let mut sink = sink_of(case)?;
-    let status = mdsal(case.alloc(), words, source, &mut sink, &OpenGate);
+    let gate = CountingGate::new();
+    let status = mdsal(case.alloc(), words, source, &mut sink, &gate);
+    let passes = gate.passes();
     let ended = ended(case.alloc(), &status)?;
-    Ok(Outcome { ended, sink })
+    Ok(Outcome {
+        ended,
+        passes,
+        sink,
+    })
 }
 
 // The number of the status and its line.
@@ -134,7 +154,7 @@ fn numbers_in(alloc: Global, text: &str, word: &str) -> io::Result<Vec<u64>> {
 }
 
 fn status_difference(case: Case<'_>, ended: &str) -> io::Result<String> {
-    let wanted = case.text_or("status", "0 ")?;
+    let wanted = case.text_or("status", DONE)?;
     if ended == wanted.as_str() {
         Ok(String::new(case.alloc()))
     } else {
@@ -148,6 +168,20 @@ fn text_difference(case: Case<'_>, bytes: &[u8]) -> io::Result<String> {
         Ok(text) => line_difference(case.alloc(), text, wanted.as_str()),
         Err(_) => Ok(String::from_str(case.alloc(), "the output is no text")?),
     }
+}
+
+// Whether the gate was passed once before each step that was answered, and before no other.
+fn passes_difference(case: Case<'_>, played: &Outcome) -> io::Result<String> {
+    let answered = match std::str::from_utf8(played.sink.bytes()) {
+        Ok(text) => gate::answered(text),
+        Err(_) => gate::answered(""),
+    };
+    if played.passes == answered {
+        return Ok(String::new(case.alloc()));
+    }
+    let passes = played.passes.count;
+    let steps = answered.count;
+    Ok(format!(in case.alloc(); "{passes} passes of the gate for {steps} steps, or before others")?)
 }
 
 // The first line that differs.

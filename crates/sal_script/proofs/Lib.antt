@@ -1,7 +1,10 @@
+pub mod Arriving
 pub mod Each
 pub mod ForSchema
 pub mod Given
 pub mod JsonData
 pub mod JsonRead
 pub mod Limits
+pub mod Listed
+pub mod Orders
 pub mod Readers

@@ -5,6 +5,7 @@ pub mod JsonScripts
 pub mod Laws
 pub mod Limits
 pub mod Moves
+pub mod Orders
 pub mod Play
 pub mod Reading
 pub mod Report

@@ -1,6 +1,6 @@
 -- What a script does in an order: each number of the order lets that client go on to its next shared call, which is
 -- then made and answered by the log; at the end each client answers the local steps that are left.
-use Rattle.std.specs.Prelude.{ℕ, ◌+◌, List, [], ◌∷◌, ◌++◌, length, map, Option, None, Some, Result, Ok, Err, if◌then◌else◌, nat_eq, slice_get}
+use Rattle.std.specs.Prelude.{ℕ, ◌+◌, List, [], ◌∷◌, ◌++◌, length, map, Option, None, Some, Result, Ok, Err, IsOk, if◌then◌else◌, nat_eq, slice_get}
 use Rattle.std.specs.List.{slice_set}
 use Rattle.sal_types.specs.declared.value.Store.{Store}
 use Rattle.sal_types.specs.declared.value.Step.{Step}
@@ -284,8 +284,4 @@ play world clients order = play_from (table_of world 0) world 0 (start clients) 
 
 -- the order is one of the clients' shared calls: each once, and in its client's own order
 abbrev pub IsLegal : List Domain → List (List Move) → List ℕ → Type 0
-IsLegal world clients order = is_ok_result (play world clients order)
-  where
-    is_ok_result : Result Played ℕ → Type 0
-    is_ok_result (Ok played) = Unit {0}
-    is_ok_result (Err index) = ⊥
+IsLegal world clients order = IsOk (play world clients order)

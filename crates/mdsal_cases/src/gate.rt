@@ -1,0 +1,83 @@
+//! A gate that counts its passes, to be compared with the steps of a report.
+use sal_io::Gate;
+use std::sync::atomic::{AtomicU64, Ordering};
+
+/// How many steps, and the sum of their places, by which one step is told from another.
+#[derive(Clone, Copy, PartialEq, Eq)]
+pub struct Steps {
+    pub count: u64,
+    pub places: u64,
+}
+
+impl Steps {
+    fn none() -> Self {
+        Steps {
+            count: 0,
+            places: 0,
+        }
+    }
+
+    fn with(self, client: u32, step: u32) -> Self {
+        Steps {
+            count: self.count.wrapping_add(1),
+            places: self.places.wrapping_add(place(client, step)),
+        }
+    }
+}
+
+// A number of its own for each step of each client.
+fn place(client: u32, step: u32) -> u64 {
+    (u64::from(client) << 32) | u64::from(step)
+}
+
+/// A gate that lets everybody go on at once, and counts.
+pub struct CountingGate {
+    count: AtomicU64,
+    places: AtomicU64,
+}
+
+impl CountingGate {
+    /// A gate that nobody has passed.
+    pub fn new() -> Self {
+        CountingGate {
+            count: AtomicU64::new(0),
+            places: AtomicU64::new(0),
+        }
+    }
+
+    /// The steps before which it was passed.
+    pub fn passes(&self) -> Steps {
+        Steps {
+            count: self.count.load(Ordering::SeqCst),
+            places: self.places.load(Ordering::SeqCst),
+        }
+    }
+}
+
+impl Gate for CountingGate {
+    fn pass(&self, client: u32, step: u32) {
+        self.count.fetch_add(1, Ordering::SeqCst);
+        self.places
+            .fetch_add(place(client, step), Ordering::SeqCst);
+    }
+}
+
+/// The steps that a report answers, or none where the text is no report.
+pub fn answered(text: &str) -> Steps {
+    let mut steps = Steps::none();
+    if text.starts_with("order") {
+        for line in text.lines() {
+            if let Some((client, step)) = step_of(line) {
+                steps = steps.with(client, step);
+            }
+        }
+    }
+    steps
+}
+
+// The client and the number of the step that the line answers; none where it is another line of a report.
+fn step_of(line: &str) -> Option<(u32, u32)> {
+    let (client, rest) = line.split_once(' ')?;
+    let (step, _) = rest.split_once(' ')?;
+    Some((client.parse::<u32>().ok()?, step.parse::<u32>().ok()?))
+}

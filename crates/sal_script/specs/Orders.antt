@@ -1,0 +1,88 @@
+-- What a legal order is: the log of the played script is in that order, and has the shared calls of each client, each once
+-- and in the client's own order.
+use Rattle.std.specs.Prelude.{◌≡◌, ℕ, ◌<◌, ◌≤◌, List, [], ◌∷◌, ◌++◌, length, map, take, Option, None, Some, Ok, Err, if◌then◌else◌, nat_eq, slice_get, flat_map, ◌⊎◌}
+use Rattle.sal_rows.specs.declared.outcome.Mode.{Mode}
+use Rattle.sal_history.specs.declared.call.Call.{Call}
+use Rattle.sal_history.specs.declared.call.Call.TheVariants as made
+use Rattle.sal_history.specs.declared.call.Entry.{Entry}
+use Rattle.sal_history.specs.declared.reply.Reply.{Reply}
+use Rattle.sal_history.specs.World.{Domain}
+use Rattle.sal_history.specs.History.{Answered, entries_of, history}
+use Rattle.sal_script.specs.declared.reply.StepReply.{StepReply}
+use Rattle.sal_script.specs.declared.reply.StepReply.TheVariants.{Called}
+use Rattle.sal_script.specs.Moves as asked
+use Rattle.sal_script.specs.Moves.{Move}
+use Rattle.sal_script.specs.Play.{IsLegal, Played, play}
+
+-- what a shared call does, as far as a step tells it
+pub data Kind : Type 0 where
+  begins : ℕ → Mode → Kind
+  submits : Kind
+  cancels : Kind
+  settles : Kind
+
+-- the kind of call that a step can make; none where the client always answers by itself
+abbrev pub kind_of_step : Move → Option Kind
+kind_of_step (asked.Begin slot domain mode) = Some (begins domain mode)
+kind_of_step (asked.Submit slot) = Some submits
+kind_of_step (asked.Cancel slot) = Some cancels
+kind_of_step (asked.Settle slot) = Some settles
+kind_of_step step = None
+
+abbrev pub kind_of_call : Call → Kind
+kind_of_call (made.Begin domain mode) = begins domain mode
+kind_of_call (made.Submit place ops) = submits
+kind_of_call (made.Cancel place) = cancels
+kind_of_call (made.Settle receipt) = settles
+
+-- a shared call and its answer
+pub record Exchange : Type 0 where
+  pub kind : Option Kind
+  pub reply : Reply
+
+-- a step that is answered by a shared call
+abbrev pub exchange_at : Move → StepReply → List Exchange
+exchange_at step (Called r) = record { kind = kind_of_step step; reply = r } ∷ []
+exchange_at step r = []
+
+-- the shared calls among a client's steps, by the replies to them
+abbrev pub exchanges_of : List Move → List StepReply → List Exchange
+exchanges_of [] rs = []
+exchanges_of (step ∷ steps) [] = []
+exchanges_of (step ∷ steps) (r ∷ rs) = exchange_at step r ++ exchanges_of steps rs
+
+-- the entries of a client, each with the answer that the log gives it
+abbrev pub exchange_by : ℕ → Answered → List Exchange
+exchange_by client a = if nat_eq a.entry.client client then record { kind = Some (kind_of_call a.entry.call); reply = a.reply } ∷ [] else []
+
+abbrev pub exchanges_in : List Domain → List Entry → ℕ → List Exchange
+exchanges_in world log client = flat_map (exchange_by client) (history world log)
+
+-- each entry is numbered by its client's earlier ones
+abbrev pub IsNumbered : List Entry → Type 0
+IsNumbered log = (i : ℕ) (e : Entry) → slice_get log i ≡ Some e → e.number ≡ entries_of (take i log) e.client
+
+-- Each step of the client is answered once, and its shared calls are its entries in the log, in order: of the same kind, and
+-- with the answers that the log gives.
+pub record IsAnswered (world : List Domain) (log : List Entry) (client : ℕ) (steps : List Move) (replies : List StepReply) : Type 0 where
+  pub answered : length replies ≡ length steps
+  pub called : exchanges_of steps replies ≡ exchanges_in world log client
+
+-- a played script and the order in which it was played
+pub record Follows (world : List Domain) (clients : List (List Move)) (order : List ℕ) (played : Played) : Type 0 where
+  pub ordered : map (λ (e : Entry). e.client) played.log ≡ order
+  pub known : (i client : ℕ) → slice_get order i ≡ Some client → client < length clients
+  pub numbered : IsNumbered played.log
+  pub all : length played.replies ≡ length clients
+  pub each : (client : ℕ) (steps : List Move) (replies : List StepReply) → slice_get clients client ≡ Some steps → slice_get played.replies client ≡ Some replies → IsAnswered world played.log client steps replies
+
+-- what is played follows its order
+abbrev pub PlaysFollow : Type 0
+PlaysFollow = (world : List Domain) (clients : List (List Move)) (order : List ℕ) (played : Played) → play world clients order ≡ Ok played → Follows world clients order played
+
+-- an order is legal, or fails at one of its numbers or at its end
+abbrev pub OrdersEndOrFail : Type 0
+OrdersEndOrFail =
+    (world : List Domain) (clients : List (List Move)) (order : List ℕ)
+    → (IsLegal world clients order × ((played : Played) × (play world clients order ≡ Ok played)))
+    ⊎ ((IsLegal world clients order → ⊥) × ((index : ℕ) × (play world clients order ≡ Err index) × (index ≤ length order)))

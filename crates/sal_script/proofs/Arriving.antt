@@ -1,5 +1,5 @@
 -- A client on its way through its steps: each is answered once, and the shared calls are its entries in the log.
-use Rattle.std.proofs.Common.{◌≡◌, ℕ, Bool, true, false, List, [], ◌∷◌, ◌++◌, length, Option, None, Some, Result, Ok, Err, if◌then◌else◌, nat_eq, refl, ap, sym, ◌∙◌, subst, arith, append_assoc, append-nil, length-append, flat_map}
+use Rattle.std.proofs.Common.{◌≡◌, ℕ, Bool, List, [], ◌∷◌, ◌++◌, length, Option, None, Some, Result, Ok, Err, if◌then◌else◌, refl, ap, sym, ◌∙◌, subst, arith, append_assoc, append-nil, length-append, flat_map}
 use Rattle.std.specs.Prelude.{⊤}
 use Rattle.std.proofs.lemmas.Bool.{eq-eqb, ne_eqb}
 use Rattle.std.proofs.lemmas.Grind.{flat_map-append}
@@ -14,7 +14,7 @@ use Rattle.sal_history.specs.declared.call.Entry.{Entry}
 use Rattle.sal_history.specs.declared.reply.Reply.{Reply}
 use Rattle.sal_history.specs.declared.reply.Reply.TheVariants.{Begun, Accepted as Done, Receipt}
 use Rattle.sal_history.specs.World.{Domain}
-use Rattle.sal_history.specs.History.{Answered, answer, decided_by, entries_of, history, reply, reply_to, sent_by}
+use Rattle.sal_history.specs.History.{Answered, answer, decided_by, entries_of, history, reply, sent_by}
 use Rattle.sal_schema.specs.declared.table.SchemaTable.{SchemaTable}
 use Rattle.sal_pathtext.specs.declared.fault.PathTextFault.{PathTextFault}
 use Rattle.sal_pathtext.specs.Read.{read_path}
@@ -24,7 +24,7 @@ use Rattle.sal_rules.specs.Refusals.{refusal}
 use Rattle.sal_script.specs.declared.reply.StepReply.{StepReply}
 use Rattle.sal_script.specs.declared.reply.StepReply.TheVariants.{Called}
 use Rattle.sal_script.specs.Moves.{Move, Begin, Put, Merge, Delete, Read, Exists, Submit, Cancel, Settle}
-use Rattle.sal_script.specs.Play.{Arrival, Client, Deed, Made, Meeting, Open, Run, accept_unless, act_of, arrive, arrive_by, calls, deleting, ended, found, keep, local, look, look_at, look_in, make, meet, merging, op_of, putting, replied, rows_read, seen_by, settle, shared, submit, submit_in, cancel, write, write_act, write_at, write_in, write_op}
+use Rattle.sal_script.specs.Play.{Arrival, Client, Deed, Made, Meeting, Open, Run, accept_unless, act_of, arrive, arrive_by, calls, deleting, ended, found, keep, local, look, look_at, look_in, make, meet, merging, op_of, putting, replied, rows_read, seen_by, settle, shared, submit, submit_in, cancel, write, write_act, write_at, write_in}
 use Rattle.sal_script.specs.Orders.{Exchange, exchange_at, exchange_by, exchanges_in, exchanges_of, kind_of_call, kind_of_step}
 
 -- ---- one step
@@ -57,17 +57,17 @@ module _ (table : SchemaTable) (world : List Domain) (log : List Entry) (step : 
   write_met slot store text deed (Some tx) = in_met tx.mode slot store text deed tx
 
   shown_met : (mode : Mode) (r : StepReply) → exchange_at step r ≡ [] → Met step client (look_in mode r client)
-  shown_met Ro r no = (refl, no)
-  shown_met Wo r no = (refl, refl)
-  shown_met Rw r no = (refl, no)
+  shown_met Ro r silent = (refl, silent)
+  shown_met Wo r silent = (refl, refl)
+  shown_met Rw r silent = (refl, silent)
 
   look_at_met : (f : List Step → StepReply) (mode : Mode) (path : Result (List Step) PathTextFault) → ((p : List Step) → exchange_at step (f p) ≡ []) → Met step client (look_at f mode path client)
-  look_at_met f mode (Err fault) no = (refl, refl)
-  look_at_met f mode (Ok path) no = shown_met mode (f path) (no path)
+  look_at_met f mode (Err fault) silent = (refl, refl)
+  look_at_met f mode (Ok path) silent = shown_met mode (f path) (silent path)
 
   look_met : (f : Open → List Step → List Row → StepReply) (store : Store) (text : List ℕ) (tx : Option Open) → ((o : Open) (p : List Step) (rows : List Row) → exchange_at step (f o p rows) ≡ []) → Met step client (look table world log f store text client tx)
-  look_met f store text None no = (refl, refl)
-  look_met f store text (Some tx) no = look_at_met (λ path. f tx path (seen_by table world log tx store)) tx.mode (read_path table text) (λ path. no tx path (seen_by table world log tx store))
+  look_met f store text None silent = (refl, refl)
+  look_met f store text (Some tx) silent = look_at_met (λ path. f tx path (seen_by table world log tx store)) tx.mode (read_path table text) (λ path. silent tx path (seen_by table world log tx store))
 
 submit_in_met : (slot : ℕ) (client : Client) (tx : Open) (mode : Mode) → Met (Submit slot) client (submit_in tx mode client)
 submit_in_met slot client tx Ro = (refl, refl)

@@ -2,7 +2,6 @@
 use Rattle.std.proofs.Common.{◌≡◌, ℕ, ◌+◌, ◌<◌, ◌≤◌, List, [], ◌∷◌, ◌++◌, length, map, set, take, Option, None, Some, Result, Ok, Err, is_ok, refl, ap, sym, ◌∙◌, subst, arith, append_assoc, append-nil, le_of_eq, suc, zero, true≢false, inl, inr, ◌⊎◌}
 use Rattle.std.specs.Prelude.{slice_get}
 use Rattle.std.proofs.Math.Seq.{take-append_seam}
-use Rattle.std.proofs.lemmas.Bool.{cases_eq}
 use Rattle.std.proofs.lemmas.List.{length-map, length-set}
 use Rattle.std.proofs.lemmas.Option.{same_Some, slice_get_within}
 use Rattle.sal_history.specs.declared.call.Entry.{Entry}
@@ -12,7 +11,7 @@ use Rattle.sal_schema.specs.declared.table.SchemaTable.{SchemaTable}
 use Rattle.sal_script.specs.declared.reply.StepReply.{StepReply}
 use Rattle.sal_script.specs.Moves.{Move}
 use Rattle.sal_script.specs.Play.{Arrival, IsLegal, Made, Played, Run, Stand, arrive, calls, cons_replies, end_by, ended, go, new_client, play, play_by, play_from, replies_at, replies_of, stand_with, start, turn, turn_of}
-use Rattle.sal_script.specs.Orders.{Exchange, Follows, IsAnswered, IsNumbered, OrdersEndOrFail, PlaysFollow, exchanges_in, exchanges_of}
+use Rattle.sal_script.specs.Orders.{Exchange, Follows, IsNumbered, OrdersEndOrFail, PlaysFollow, exchanges_in, exchanges_of}
 use Rattle.sal_script.proofs.Arriving.{IsOnWay, Makes, MakesIf, Reaches, exchanges-other, makes, reaches}
 use Rattle.sal_script.proofs.Listed.{get-push, get-set, get_some, take_left}
 
@@ -183,7 +182,7 @@ starts world clients = record {
   ordered = refl;
   known = λ i c at. absurd (nothing i c at);
   numbered = λ i e at. absurd (no_entry i e at);
-  runs = length-map (λ (steps : List Move). let r : Run = record { client = new_client; steps = steps } in r) clients;
+  runs = length-map clients (λ (steps : List Move). let r : Run = record { client = new_client; steps = steps } in r);
   each = λ c steps run at_c at_run. subst (IsOnWay world [] c steps) (start_at clients c steps run at_c at_run) (record { done = []; parts = refl; long = refl; so_far = refl });
 }
   where

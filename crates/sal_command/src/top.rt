@@ -55,7 +55,8 @@ exit status, each but 0 with its line on standard error:\n\
 pub const VERSION: &str = "mdsal 0.1.0\n";
 
 /// Runs the command: the words of its command line, its input, its output, and the gate that a client passes before
-/// each of its steps.
+/// each of its steps. What a report of a played script says of its order is the law `plays_follow_their_order` of
+/// `sal_script`.
 pub fn mdsal<S: Source, K: Sink, G: Gate>(
     alloc: Global,
     words: &[Str],

@@ -12,12 +12,21 @@ use Rattle.sal_schema.specs.declared.table.NodeInfo.{NodeInfo}
 use Rattle.sal_schema.specs.declared.table.SchemaTable.{SchemaTable}
 use Rattle.sal_schema.specs.Examples.{node, leaf as leaf_node, text}
 use Rattle.sal_history.specs.World.{Domain}
+use Rattle.sal_history.specs.declared.call.Call.{Call}
+use Rattle.sal_history.specs.declared.call.Call.TheVariants as called
+use Rattle.sal_history.specs.declared.call.Entry.{Entry}
+use Rattle.sal_history.specs.declared.reply.Reply.TheVariants.{Begun, Receipt, Accepted as Done}
 use Rattle.sal_rows.specs.declared.outcome.Mode.TheVariants.{Ro, Wo, Rw}
 use Rattle.sal_script.specs.Moves.{Move, Begin, Put, Merge, Delete, Read, Exists, Submit, Cancel, Settle}
 use Rattle.sal_script.specs.Script.{Parts}
 use Rattle.sal_script.specs.declared.script.TheConstants.{PLAIN}
 use Rattle.sal_script.specs.Play.{Played, play}
 use Rattle.sal_script.specs.Report.{report}
+use Rattle.sal_script.specs.declared.reply.StepReply.{StepReply}
+use Rattle.sal_script.specs.declared.reply.StepReply.TheVariants.{Called, Accepted, Refused}
+use Rattle.sal_script.specs.declared.reply.StepRefusal.TheVariants.{EmptySlot}
+use Rattle.sal_script.specs.Orders as orders
+use Rattle.sal_script.specs.Orders.{Exchange}
 
 -- a container `box` with the leafs `a` and `b`, texts
 abbrev pub leafs : ℕ → ℕ → List NodeInfo
@@ -149,3 +158,25 @@ refused_writes =
 abbrev pub refused_writes_report : String
 refused_writes_report =
     "order 0 0 0\n0 0 begun 0\n0 1 refused root-path\n0 2 refused root-path\n0 3 refused path unknown-node 11\n0 4 refused data bad-scalar \"/plain:box/a\" wrong-kind\n0 5 receipt 1\n0 6 done 1\ntree 0 1 {\"plain:box\":{\"a\":\"o\"}} {}\n"
+
+-- ---- shared calls
+
+-- a client that submits twice: the second time it has nothing to submit, and makes no call
+abbrev pub submits_twice : List Move
+submits_twice = begin ∷ put a "x" ∷ Submit 0 ∷ Submit 0 ∷ []
+
+abbrev pub submits_twice_replies : List StepReply
+submits_twice_replies = Called (Begun 0 None) ∷ Accepted ∷ Called (Receipt 1) ∷ Refused EmptySlot ∷ []
+
+abbrev pub submits_twice_calls : List Exchange
+submits_twice_calls = record { kind = Some (orders.begins 0 Rw); reply = Begun 0 None } ∷ record { kind = Some orders.submits; reply = Receipt 1 } ∷ []
+
+-- two clients begin, and client 1 cancels what it began
+abbrev pub entry : ℕ → ℕ → Call → Entry
+entry client number call = record { client = client; number = number; call = call }
+
+abbrev pub two_begin : List Entry
+two_begin = entry 0 0 (called.Begin 0 Rw) ∷ entry 1 0 (called.Begin 0 Ro) ∷ entry 1 1 (called.Cancel 1) ∷ []
+
+abbrev pub cancelled_calls : List Exchange
+cancelled_calls = record { kind = Some (orders.begins 0 Ro); reply = Begun 0 None } ∷ record { kind = Some orders.cancels; reply = Done } ∷ []

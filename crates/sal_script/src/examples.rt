@@ -6,7 +6,8 @@ ghost use Rattle.sal_script.specs.Script.{script_of};
 ghost use Rattle.sal_types.specs.declared.value.Store.TheVariants.{Config, Oper};
 ghost use Rattle.sal_rows.specs.declared.outcome.Mode.TheVariants.{Wo};
 ghost use Rattle.sal_script.specs.Moves.{Begin, Put, Merge, Delete, Cancel};
-ghost use Rattle.sal_script.specs.Examples.{a, b, with_text, put, merge, delete, commits, run, run_over, crossed, looks, looks_report, opened, own_writes, own_writes_report, plain_script, same_leaf_report, different_leafs_report, merge_after_delete_report, delete_after_merge_report, cancels, cancels_report, one_sided, one_sided_report, refused_writes, refused_writes_report};
+ghost use Rattle.sal_script.specs.Examples.{a, b, with_text, put, merge, delete, commits, run, run_over, crossed, looks, looks_report, opened, own_writes, own_writes_report, plain_script, same_leaf_report, different_leafs_report, merge_after_delete_report, delete_after_merge_report, cancels, cancels_report, one_sided, one_sided_report, refused_writes, refused_writes_report, submits_twice, submits_twice_replies, submits_twice_calls, two_begin, cancelled_calls, world_of};
+ghost use Rattle.sal_script.specs.Orders.{exchanges_in, exchanges_of};
 
 /// A script without clients: the order is empty, and so are the trees.
 pub fn empty_script()
@@ -78,4 +79,10 @@ pub fn one_sided_transactions()
 /// Refused writes, which leave nothing in their transaction.
 pub fn refused_writes()
     ensures { run_over opened (refused_writes ∷ []) (0 ∷ 0 ∷ 0 ∷ []) ≡ codes refused_writes_report }
+{}
+
+/// The shared calls of a client: in its own steps, where a write is none and a refused step is none, and in a log.
+pub fn shared_calls()
+    ensures steps { exchanges_of submits_twice submits_twice_replies ≡ submits_twice_calls }
+    ensures log { exchanges_in (world_of []) two_begin 1 ≡ cancelled_calls }
 {}

@@ -31,6 +31,7 @@ fn place(client: u32, step: u32) -> u64 {
 }
 
 /// A gate that lets everybody go on at once, and counts.
+#[derive(Drop)]
 pub struct CountingGate {
     count: AtomicU64,
     places: AtomicU64,
@@ -57,8 +58,7 @@ impl CountingGate {
 impl Gate for CountingGate {
     fn pass(&self, client: u32, step: u32) {
         self.count.fetch_add(1, Ordering::SeqCst);
-        self.places
-            .fetch_add(place(client, step), Ordering::SeqCst);
+        self.places.fetch_add(place(client, step), Ordering::SeqCst);
     }
 }
 

@@ -122,8 +122,8 @@ module _ (table : SchemaTable) (world : List Domain) (log : List Entry) where
       let one : length next.replies ≡ length client.replies = ap length same in
       more (replied r next) (omega (arith, length-append next.replies (r ∷ []), length-append done (step ∷ []), one, long))
       (
-        ap (λ (rs : List StepReply). exchanges_of (done ++ step ∷ []) (rs ++ r ∷ [])) same ∙ exchanges-push done client.replies step r long
-        ∙ ap (λ (xs : List Exchange). exchanges_of done client.replies ++ xs) quiet ∙ append-nil (exchanges_of done client.replies) ∙ so_far
+      ap (λ (rs : List StepReply). exchanges_of (done ++ step ∷ []) (rs ++ r ∷ [])) same ∙ exchanges-push done client.replies step r long
+      ∙ ap (λ (xs : List Exchange). exchanges_of done client.replies ++ xs) quiet ∙ append-nil (exchanges_of done client.replies) ∙ so_far
       )
   reaches_by (shared call) step rest done client es kind long so_far more = (done, refl, long, so_far, kind)
 

@@ -188,6 +188,7 @@ starts world clients = record {
   where
     nothing : (i c : ℕ) → slice_get (let cs : List ℕ = [] in cs) i ≡ Some c → ⊥
     nothing i c at = cc
+
     no_entry : (i : ℕ) (e : Entry) → slice_get (let es : List Entry = [] in es) i ≡ Some e → ⊥
     no_entry i e at = cc
 

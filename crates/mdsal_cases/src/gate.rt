@@ -31,6 +31,7 @@ fn place(client: u32, step: u32) -> u64 {
 }
 
 /// A gate that lets everybody go on at once, and counts.
+#[derive(Drop)]
 pub struct CountingGate {
     count: AtomicU64,
     places: AtomicU64,

@@ -6,7 +6,7 @@ use Rattle.std.specs.Option.{option_to_list}
 use Rattle.std.proofs.lemmas.Bool.{cases_Bool}
 use Rattle.std.proofs.lemmas.Bool.Decides.{nat_tests}
 use Rattle.std.proofs.lemmas.List.{length-map}
-use Rattle.std.proofs.lemmas.List.Sums.{sum_by_more_le}
+use Rattle.std.proofs.lemmas.List.Sums.{sum_by_more_le, sum_by-cons}
 use Rattle.sal_stmt.specs.declared.stmt.Stmt.{Stmt, out-Stmt}
 use Rattle.sal_module.specs.declared.keyword.Keyword.{Keyword}
 use Rattle.sal_module.specs.declared.keyword.Keyword.TheVariants as word
@@ -103,7 +103,7 @@ module _ (stmts : List Stmt) where
   count-from m [] = refl
   count-from m (stmt ∷ some) =
       let rest = flat_map (λ (entry : ℕ × Stmt). identities_in entry.0 entry.1) (enumerate_from (m + 1) some) in
-      length-append (identities_in m stmt) rest ∙ (λ i. count-in m (subs_of stmt) i + count-from (m + 1) some i)
+      length-append (identities_in m stmt) rest ∙ (λ i. count-in m (subs_of stmt) i + count-from (m + 1) some i) ∙ sym (sum_by-cons many stmt some)
 
   abbrev is_there : ℕ → Bool
   is_there n = nat_lt n (length (identities_of stmts))

@@ -24,3 +24,5 @@ pub mod Distinct
 pub mod DistinctModules
 pub mod Underived
 pub mod GoodIdentities
+pub mod Uniques
+pub mod DistinctIdentities

@@ -85,7 +85,7 @@ nodes-placed : (stmts : List Stmt) → IsTrue (all_from (is_placed (length stmts
 nodes-placed stmts = built-good (is_placed (length stmts)) stmts (λ owner k parent seed h before fit. placed (length stmts) owner k parent seed h before)
 
 -- and of the branches
-abbrev is_placed_branch : ℕ → ℕ → Branch → Bool
+abbrev pub is_placed_branch : ℕ → ℕ → Branch → Bool
 is_placed_branch count k b = is_before k b.parent && nat_lt b.module count
 
 branches-placed : (count : ℕ) (rows : List TreeRow) (k : ℕ) (nodes : List TreeNode) → IsTrue (all_from (is_placed count) k nodes) → IsTrue (all_from (is_placed_branch count) k (map (branch_of rows) nodes))

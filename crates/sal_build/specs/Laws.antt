@@ -1,11 +1,13 @@
 -- The table that modules have is one of a schema, part by part.
-use Rattle.std.specs.Prelude.{◌≡◌, ◌<◌, ◌^◌, List, length, Ok, IsTrue}
+use Rattle.std.specs.Prelude.{◌≡◌, ◌<◌, ◌^◌, ◌&&◌, List, length, Some, Ok, IsTrue}
 use Rattle.std.specs.List.{list_all}
 use Rattle.sal_stmt.specs.declared.stmt.Stmt.{Stmt}
 use Rattle.sal_schema.specs.declared.table.SchemaTable.{SchemaTable}
-use Rattle.sal_schema.specs.Names.{are_distinct, module_names}
-use Rattle.sal_schema.specs.Table.{all_from}
-use Rattle.sal_schema.specs.Valid.{is_identifier, has_its_type, has_numbers, is_good_identity}
+use Rattle.sal_schema.specs.Names.{are_distinct, module_names, identity_names}
+use Rattle.sal_schema.specs.declared.table.NodeInfo.{NodeInfo}
+use Rattle.sal_schema.specs.Kinds.{is_leaf}
+use Rattle.sal_schema.specs.Table.{all_from, is_kind, is_same, parent_of}
+use Rattle.sal_schema.specs.Valid.{is_identifier, has_its_type, has_numbers, has_its_uniques, is_good_identity}
 use Rattle.sal_build.specs.Build.{build}
 
 -- Each module is named by an identifier.
@@ -31,3 +33,17 @@ ModuleNamesDiffer = (stmts : List Stmt) (table : SchemaTable) → build stmts �
 -- Each identity is named by an identifier, in a module that is there; what it is derived from are other identities.
 abbrev pub IdentitiesAreGood : Type 0
 IdentitiesAreGood = (stmts : List Stmt) (table : SchemaTable) → build stmts ≡ Ok table → IsTrue (all_from (is_good_identity table) 0 table.identities)
+
+-- The leafs of a `unique` are leafs below their list with no list between.
+abbrev pub UniquesAreBelow : Type 0
+UniquesAreBelow = (stmts : List Stmt) (table : SchemaTable) → build stmts ≡ Ok table → IsTrue (all_from (has_its_uniques table) 0 table.nodes)
+
+-- The keys of a node are leafs that are its children.
+abbrev pub KeysAreInside : Type 0
+KeysAreInside =
+    (stmts : List Stmt) (table : SchemaTable) → build stmts ≡ Ok table
+    → IsTrue (all_from (λ n (node : NodeInfo). list_all (λ leaf. is_kind is_leaf table leaf && is_same (parent_of table leaf) (Some n)) node.keys) 0 table.nodes)
+
+-- Each name stands for one identity of a module.
+abbrev pub IdentityNamesDiffer : Type 0
+IdentityNamesDiffer = (stmts : List Stmt) (table : SchemaTable) → build stmts ≡ Ok table → IsTrue (are_distinct (identity_names table))

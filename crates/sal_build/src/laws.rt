@@ -1,5 +1,5 @@
 //! Laws of the definitions: the table that modules have is one of a schema. A call does nothing: its clause is the law.
-ghost use Rattle.sal_build.specs.Laws.{IdentitiesAreGood, LeafsAreTyped, ModuleNamesDiffer, ModulesAreNamed, NumbersAreThere, TablesAreSmall};
+ghost use Rattle.sal_build.specs.Laws.{IdentitiesAreGood, IdentityNamesDiffer, KeysAreInside, LeafsAreTyped, ModuleNamesDiffer, ModulesAreNamed, NumbersAreThere, TablesAreSmall, UniquesAreBelow};
 
 /// Each module is named by an identifier.
 pub fn modules_are_named()
@@ -29,4 +29,19 @@ pub fn module_names_differ()
 /// Each identity is named by an identifier, in a module that is there; what it is derived from are other identities.
 pub fn identities_are_good()
     ensures { IdentitiesAreGood }
+{}
+
+/// The leafs of a `unique` are leafs below their list with no list between.
+pub fn uniques_are_below()
+    ensures { UniquesAreBelow }
+{}
+
+/// The keys of a node are leafs that are its children.
+pub fn keys_are_inside()
+    ensures { KeysAreInside }
+{}
+
+/// Each name stands for one identity of a module.
+pub fn identity_names_differ()
+    ensures { IdentityNamesDiffer }
 {}

@@ -8,33 +8,22 @@ use Rattle.std.proofs.lemmas.Cmp.{eq_by_cmp_equiv}
 use Rattle.std.specs.BTreeSet.{BTreeSet, contains}
 use Rattle.std.specs.Borrow.{Bor}
 use Rattle.std.specs.declared.alloc.Global.{Global}
-use Rattle.std.specs.declared.cmp.Ordering.{Ordering}
 use Rattle.std.specs.declared.vec.Vec.{Vec}
 use Rattle.sal_types.specs.contracts.value.CellOrd.TheImpl.Laws as cell_laws
 use Rattle.sal_types.specs.declared.value.Cell.{Cell}
 use Rattle.sal_types.specs.Order.{cell_cmp}
 use Rattle.sal_rules.specs.Rules.{same_cells, has_double}
-use Rattle.sal_check.specs.Uniques.{cells_in, all_cells_in}
+use Rattle.sal_check.specs.Uniques.{Holds, Key, cells_in, all_cells_in, key_cmp}
 use Rattle.sal_check.proofs.There.{take-all}
 
-abbrev pub Key : Type 0
-Key = Bor (Vec (Bor Cell) Global)
-
-abbrev pub key_cmp : Key → Key → Ordering
-key_cmp x y = slice_cmp (λ (a b : Bor Cell). cell_cmp a.now b.now) x.now.items y.now.items
-
-same-IsEquivalence : IsEquivalence same_cells
+pub same-IsEquivalence : IsEquivalence same_cells
 same-IsEquivalence = eq_by_cmp_equiv (lists_total cell_laws.total-law)
 
-cmp-cells : (xs ys : List (Bor Cell)) → slice_cmp (λ (a b : Bor Cell). cell_cmp a.now b.now) xs ys ≡ slice_cmp cell_cmp (cells_in xs) (cells_in ys)
+pub cmp-cells : (xs ys : List (Bor Cell)) → slice_cmp (λ (a b : Bor Cell). cell_cmp a.now b.now) xs ys ≡ slice_cmp cell_cmp (cells_in xs) (cells_in ys)
 cmp-cells [] [] = refl
 cmp-cells [] (y ∷ ys) = refl
 cmp-cells (x ∷ xs) [] = refl
 cmp-cells (x ∷ xs) (y ∷ ys) = ap (ordering_then (cell_cmp x.now y.now)) (cmp-cells xs ys)
-
--- the set has just those
-abbrev pub Holds : BTreeSet Key → List (List Cell) → Type 0
-Holds set xs = (q : Key) → contains key_cmp set q ≡ list_any (same_cells (cells_in q.now.items)) xs
 
 or_false : (b : Bool) → (b || false) ≡ b
 or_false true = refl

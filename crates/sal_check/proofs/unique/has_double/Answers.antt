@@ -1,7 +1,8 @@
 use Rattle.std.proofs.Common.{rules, ◌≡◌, true, false, sym, ap, ◌∙◌}
 use Rattle.std.specs.BTreeSet.{contains}
 use Rattle.sal_rules.specs.Rules.{has_double}
-use Rattle.sal_check.proofs.Doubles.{Key, key_cmp, double-found, double-none, holds-more, all-all}
+use Rattle.sal_check.specs.Uniques.{Key, key_cmp}
+use Rattle.sal_check.proofs.Doubles.{double-found, double-none, holds-more, all-all}
 use Rattle.sal_check.proofs.unique.has_double.Goals as goal
 
 pub returns-then-not-branch : goal.returns-then-not-branch

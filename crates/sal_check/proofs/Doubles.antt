@@ -79,16 +79,16 @@ double-take (suc n) (x ∷ xs) e = elim (list_any (same_cells x) (take n xs)) as
     or_true true = refl
     or_true false = refl
 
-module _ (vs : List (Vec (Bor Cell) Global)) (i : ℕ) (v : Key) (l : i < length vs) (at : v.now ≡ get_or vs i v.now) where
+module _ (vs : List (Vec (Bor Cell) Global)) (i : ℕ) (w : Vec (Bor Cell) Global) (v : Key) (is : v.now ≡ w.items) (l : i < length vs) (at : w ≡ get_or vs i w) where
   abbrev before : List (List Cell)
   before = take i (all_cells_in vs)
 
-  more : take (i + 1) (all_cells_in vs) ≡ before ++ cells_in v.now.items ∷ []
-  more = all-at vs i v.now l at
+  more : take (i + 1) (all_cells_in vs) ≡ before ++ cells_in v.now ∷ []
+  more = all-at vs i w l at ∙ ap (λ (c : List (Bor Cell)). before ++ cells_in c ∷ []) (sym is)
 
   -- one that is in the set already
   pub double-found : (set : BTreeSet Key) → Holds set before → contains key_cmp set v ≡ true → true ≡ has_double (all_cells_in vs)
-  double-found set holds is = sym (double-take (i + 1) (all_cells_in vs) (ap has_double more ∙ double-push before (cells_in v.now.items) ∙ ap (λ b. has_double before || b) (sym (holds v) ∙ is) ∙ or_true (has_double before)))
+  double-found set holds has = sym (double-take (i + 1) (all_cells_in vs) (ap has_double more ∙ double-push before (cells_in v.now) ∙ ap (λ b. has_double before || b) (sym (holds v) ∙ has) ∙ or_true (has_double before)))
     where
       or_true : (b : Bool) → (b || true) ≡ true
       or_true true = refl
@@ -96,14 +96,14 @@ module _ (vs : List (Vec (Bor Cell) Global)) (i : ℕ) (v : Key) (l : i < length
 
   -- one that is not
   pub double-none : (set : BTreeSet Key) → Holds set before → has_double before ≡ false → contains key_cmp set v ≡ false → has_double (take (i + 1) (all_cells_in vs)) ≡ false
-  double-none set holds none is = ap has_double more ∙ double-push before (cells_in v.now.items) ∙ (λ k. none k || (sym (holds v) ∙ is) k)
+  double-none set holds none new = ap has_double more ∙ double-push before (cells_in v.now) ∙ (λ k. none k || (sym (holds v) ∙ new) k)
 
   pub holds-more : (set new : BTreeSet Key) → Holds set before → ((q : Key) → contains key_cmp new q ≡ cond (is_eq (key_cmp v q)) true (contains key_cmp set q)) → Holds new (take (i + 1) (all_cells_in vs))
   holds-more set new holds updated q =
-      let c = cells_in q.now.items in
-      let d = cells_in v.now.items in
+      let c = cells_in q.now in
+      let d = cells_in v.now in
       updated q
-      ∙ (λ k. cond ((ap is_eq (cmp-cells v.now.items q.now.items) ∙ same-IsEquivalence.symm d c) k) true (holds q k))
+      ∙ (λ k. cond ((ap is_eq (cmp-cells v.now q.now) ∙ same-IsEquivalence.symm d c) k) true (holds q k))
       ∙ either (same_cells c d) (list_any (same_cells c) before)
       ∙ sym (any-push (same_cells c) before d)
       ∙ ap (list_any (same_cells c)) (sym more)

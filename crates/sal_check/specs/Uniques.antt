@@ -39,11 +39,11 @@ all_combinations ways (e ∷ es) = combination ways e ++ all_combinations ways e
 -- ---- sets of cells
 
 abbrev pub Key : Type 0
-Key = Bor (Vec (Bor Cell) Global)
+Key = Bor (List (Bor Cell))
 
 abbrev pub key_cmp : Key → Key → Ordering
-key_cmp x y = slice_cmp (λ (a b : Bor Cell). cell_cmp a.now b.now) x.now.items y.now.items
+key_cmp x y = slice_cmp (λ (a b : Bor Cell). cell_cmp a.now b.now) x.now y.now
 
 -- the set has just those
 abbrev pub Holds : BTreeSet Key → List (List Cell) → Type 0
-Holds set xs = (q : Key) → contains key_cmp set q ≡ list_any (same_cells (cells_in q.now.items)) xs
+Holds set xs = (q : Key) → contains key_cmp set q ≡ list_any (same_cells (cells_in q.now)) xs

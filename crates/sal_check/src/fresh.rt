@@ -91,13 +91,13 @@ fn agree_in(
 }
 
 // Whether two of the fresh ones are the same, or another entry has the cells of one.
-fn agree_with(
+fn agree_with<'a>(
     alloc: Global,
-    fresh: &[Vec<&Cell>],
+    fresh: &[Vec<&'a Cell>],
     stamps: &[u64],
     ways: &[Vec<Step>],
     before: Option<&Arc<Node>>,
-    list: &Arc<Node>,
+    list: &'a Arc<Node>,
 ) -> Result<bool, NoMemory>
     requires before { IsSound (tree_at before) }
     requires sound { IsGrove list.now.value.kids }
@@ -192,49 +192,65 @@ fn are_same(some: &[&Cell], others: &[&Cell]) -> bool
 }
 
 // Whether another entry than the fresh ones has the cells of one of these.
-fn occurs(
+fn occurs<'a>(
     alloc: Global,
-    fresh: &[Vec<&Cell>],
+    fresh: &[Vec<&'a Cell>],
     stamps: &[u64],
     ways: &[Vec<Step>],
     before: Option<&Arc<Node>>,
-    list: &Arc<Node>,
+    list: &'a Arc<Node>,
 ) -> Result<bool, NoMemory>
     requires before { IsSound (tree_at before) }
     requires sound { IsGrove list.now.value.kids }
     ensures { IfOk result (λ b. b ≡ list_any (spec.is_among (all_cells_in fresh.now)) (flat_map (spec.other_of stamps.now (ways_in ways.now) (tree_at before.entry)) (pairs list.now.value.kids))) }
 {
     let set = set_of(alloc, fresh)?;
+    occurs_in(alloc, &set, stamps, ways, before, list)
+}
+
+fn set_of<'x, 'a>(
+    alloc: Global,
+    fresh: &'x [Vec<&'a Cell>],
+) -> Result<BTreeSet<&'x [&'a Cell]>, NoMemory>
+    ensures { IfOk result (λ set. Holds set (all_cells_in fresh.now)) }
+{
+    let mut set = BTreeSet::new(alloc);
+    for cells in fresh {
+        let _ = set.insert(cells.as_slice())?;
+    }
+    Ok(set)
+}
+
+// Whether the set has the cells of another entry than the fresh ones.
+fn occurs_in<'x, 'a>(
+    alloc: Global,
+    set: &BTreeSet<&'x [&'a Cell]>,
+    stamps: &[u64],
+    ways: &[Vec<Step>],
+    before: Option<&Arc<Node>>,
+    list: &'a Arc<Node>,
+) -> Result<bool, NoMemory>
+    requires before { IsSound (tree_at before) }
+    requires sound { IsGrove list.now.value.kids }
+    ensures { IfOk result (λ b. (xs : List (List CellValue)) → Holds set.now xs → b ≡ list_any (spec.is_among xs) (flat_map (spec.other_of stamps.now (ways_in ways.now) (tree_at before.entry)) (pairs list.now.value.kids))) }
+{
     let children = list.children(alloc)?;
     for child in &children {
-        if is_known(alloc, &set, stamps, ways, before, child)? {
+        if is_known(alloc, set, stamps, ways, before, child)? {
             return Ok(true);
         }
     }
     Ok(false)
 }
 
-fn set_of<'x, 'a>(
-    alloc: Global,
-    fresh: &'x [Vec<&'a Cell>],
-) -> Result<BTreeSet<&'x Vec<&'a Cell>>, NoMemory>
-    ensures { IfOk result (λ set. Holds set (all_cells_in fresh.now)) }
-{
-    let mut set = BTreeSet::new(alloc);
-    for cells in fresh {
-        let _ = set.insert(cells)?;
-    }
-    Ok(set)
-}
-
 // Whether the child is another entry than the fresh ones, and the set has its cells.
-fn is_known(
+fn is_known<'x, 'a>(
     alloc: Global,
-    set: &BTreeSet<&Vec<&Cell>>,
+    set: &BTreeSet<&'x [&'a Cell]>,
     stamps: &[u64],
     ways: &[Vec<Step>],
     before: Option<&Arc<Node>>,
-    child: &Child,
+    child: &'a Child,
 ) -> Result<bool, NoMemory>
     requires before { IsSound (tree_at before) }
     requires sound { IsGrove child.now.node.value.kids }
@@ -246,7 +262,7 @@ fn is_known(
     if is_fresh(alloc, stamps, ways, before, child, &cells)? {
         return Ok(false);
     }
-    Ok(set.contains(&&cells))
+    Ok(set.contains(cells.as_slice()))
 }
 
 // Whether the child has a new stamp, and other cells than the entry before.

@@ -108,7 +108,7 @@ pub(crate) fn has_double(alloc: Global, combinations: &[Vec<&Cell>]) -> Result<b
 {
     let mut seen = BTreeSet::new(alloc);
     for cells in combinations {
-        if !seen.insert(cells)? {
+        if !seen.insert(cells.as_slice())? {
             return Ok(true);
         }
     }

@@ -12,9 +12,9 @@ use Rattle.sal_node.specs.Tree.{Tree}
 use Rattle.sal_node.specs.Shape.{seen, made_by}
 use Rattle.sal_node.specs.declared.node.Child.{Child}
 use Rattle.sal_tree.specs.Grow.{kid}
-use Rattle.sal_check.specs.Near.{is_new, leafs_of, differs, is_fresh, fresh_of, other_of}
+use Rattle.sal_check.specs.Near.{is_new, leafs_of, differs, is_fresh, fresh_of, other_of, is_among, agree_freshly}
 use Rattle.sal_check.specs.Nodes.{seen_in}
-use Rattle.sal_rules.specs.Rules.{cells_at}
+use Rattle.sal_rules.specs.Rules.{cells_at, has_double}
 use Rattle.sal_check.specs.Uniques.{combination}
 use Rattle.sal_check.proofs.Counted.{seen-at, seen-all}
 use Rattle.sal_check.proofs.NearKids.{new-any}
@@ -59,23 +59,9 @@ module _ (of : Step × Tree → Cells) where
         ∙ list_any-append f (flat_map of (take (i + 1) (seen cs))) (flat_map of (drop (i + 1) (seen cs)))
         ∙ or_false (list_any f (flat_map of (take (i + 1) (seen cs)))) here (list_any f (flat_map of (drop (i + 1) (seen cs)))))
 
-module _ (stamps : List ℕ) (ways : List (List Step)) (before : Option Tree) where
-  -- the cells of an entry with a new stamp, if they are new
-  abbrev pub pick : Step × Tree → Cells
-  pick e = if differs (leafs_of ways (kid before e.0)) (leafs_of ways (Some e.1)) then combination ways e else []
+-- ---- one entry
 
-  pub picked-made : (es : Entries) → flat_map pick (made_by stamps es) ≡ flat_map (fresh_of stamps ways before) es
-  picked-made [] = refl
-  picked-made (e ∷ es) = elim (list_any (nat_eq e.1.stamp) stamps) as (λ b. list_any (nat_eq e.1.stamp) stamps ≡ b → flat_map pick (cond b (e ∷ made_by stamps es) (made_by stamps es)) ≡ fresh_of stamps ways before e ++ flat_map (fresh_of stamps ways before) es) [
-    | true ↦ λ h. λ i. (if sym (new-any stamps e.1.stamp ∙ h) i && differs (leafs_of ways (kid before e.0)) (leafs_of ways (Some e.1)) then combination ways e else []) ++ picked-made es i
-    | false ↦ λ h. λ i. (if sym (new-any stamps e.1.stamp ∙ h) i && differs (leafs_of ways (kid before e.0)) (leafs_of ways (Some e.1)) then combination ways e else []) ++ picked-made es i
-  ] refl
-
-  pub picked-all : (cs : List (Bor Child)) (es : Entries) (i : ℕ) (now : Cells) → seen cs ≡ made_by stamps es → length cs ≤ i → now ≡ flat_map pick (take i (seen cs)) → now ≡ flat_map (fresh_of stamps ways before) es
-  picked-all cs es i now same l is = is ∙ ap (flat_map pick) (seen-all cs i l ∙ same) ∙ picked-made es
-
-  -- ---- one entry
-
+module _ (ways : List (List Step)) where
   none-combination : (e : Step × Tree) → leafs_of ways (Some e.1) ≡ None → combination ways e ≡ []
   none-combination e is = by_cell (is_some e.1.cell) (cells_at (seen_in (Some e.1)) ways) is
     where
@@ -93,16 +79,45 @@ module _ (stamps : List ℕ) (ways : List (List Step)) (before : Option Tree) wh
       by_cell false o h = cc
 
   -- an entry without the leafs adds no cells
-  pub pick-none : (e : Step × Tree) → leafs_of ways (Some e.1) ≡ None → pick e ≡ []
-  pick-none e is = ap (λ o. if differs (leafs_of ways (kid before e.0)) o then combination ways e else []) is
+  pub adds-none : (old : Option (List Cell)) (e : Step × Tree) → leafs_of ways (Some e.1) ≡ None → (if differs old (leafs_of ways (Some e.1)) then combination ways e else []) ≡ []
+  adds-none old e is = ap (λ o. if differs old o then combination ways e else []) is
 
-  pub pick-some : (e : Step × Tree) (cells : List Cell) → leafs_of ways (Some e.1) ≡ Some cells → pick e ≡ (if differs (leafs_of ways (kid before e.0)) (Some cells) then cells ∷ [] else [])
-  pick-some e cells is = λ i. if differs (leafs_of ways (kid before e.0)) (is i) then some-combination e cells is i else []
+  -- nor does one that has them as before
+  pub adds-old : (old : Option (List Cell)) (e : Step × Tree) (cells : List Cell) → leafs_of ways (Some e.1) ≡ Some cells → differs old (Some cells) ≡ false → (if differs old (leafs_of ways (Some e.1)) then combination ways e else []) ≡ []
+  adds-old old e cells is same = (λ i. if differs old (is i) then combination ways e else []) ∙ ap (λ b. if b then combination ways e else []) same
+
+  pub adds-new : (old : Option (List Cell)) (e : Step × Tree) (cells : List Cell) → leafs_of ways (Some e.1) ≡ Some cells → differs old (Some cells) ≡ true → (if differs old (leafs_of ways (Some e.1)) then combination ways e else []) ≡ cells ∷ []
+  adds-new old e cells is other = (λ i. if differs old (is i) then some-combination e cells is i else []) ∙ ap (λ b. if b then cells ∷ [] else []) other
+
+  -- the cells of an entry with a new stamp, if they are new
+  abbrev pub pick : Option Tree → Step × Tree → Cells
+  pick before e = if differs (leafs_of ways (kid before e.0)) (leafs_of ways (Some e.1)) then combination ways e else []
+
+-- ---- all of a list
+
+any-no : (xs : Cells) → list_any (is_among []) xs ≡ false
+any-no [] = refl
+any-no (x ∷ xs) = any-no xs
+
+module _ (stamps : List ℕ) (ways : List (List Step)) (before : Option Tree) where
+  pub picked-made : (es : Entries) → flat_map (pick ways before) (made_by stamps es) ≡ flat_map (fresh_of stamps ways before) es
+  picked-made [] = refl
+  picked-made (e ∷ es) = elim (list_any (nat_eq e.1.stamp) stamps) as (λ b. list_any (nat_eq e.1.stamp) stamps ≡ b → flat_map (pick ways before) (cond b (e ∷ made_by stamps es) (made_by stamps es)) ≡ fresh_of stamps ways before e ++ flat_map (fresh_of stamps ways before) es) [
+    | true ↦ λ h. λ i. (if sym (new-any stamps e.1.stamp ∙ h) i && differs (leafs_of ways (kid before e.0)) (leafs_of ways (Some e.1)) then combination ways e else []) ++ picked-made es i
+    | false ↦ λ h. λ i. (if sym (new-any stamps e.1.stamp ∙ h) i && differs (leafs_of ways (kid before e.0)) (leafs_of ways (Some e.1)) then combination ways e else []) ++ picked-made es i
+  ] refl
+
+  pub picked-all : (cs : List (Bor Child)) (es : Entries) (i : ℕ) (now : Cells) → seen cs ≡ made_by stamps es → length cs ≤ i → now ≡ flat_map (pick ways before) (take i (seen cs)) → now ≡ flat_map (fresh_of stamps ways before) es
+  picked-all cs es i now same l is = is ∙ ap (flat_map (pick ways before)) (seen-all cs i l ∙ same) ∙ picked-made es
+
+  -- where no entry is fresh, none agrees with one
+  pub none-agree : (es : Entries) → flat_map (fresh_of stamps ways before) es ≡ [] → agree_freshly stamps ways before es ≡ false
+  none-agree es is = (λ i. has_double (is i) || list_any (is_among (is i)) (flat_map (other_of stamps ways before) es)) ∙ any-no (flat_map (other_of stamps ways before) es)
 
   module _ (f : List Cell → Bool) (e : Step × Tree) where
     -- what is asked of another entry than the fresh ones
     pub known-none : leafs_of ways (Some e.1) ≡ None → false ≡ list_any f (other_of stamps ways before e)
-    known-none is = sym (ap (λ (l : Cells). list_any f (if is_fresh stamps ways before e then [] else l)) (none-combination e is) ∙ either (is_fresh stamps ways before e))
+    known-none is = sym (ap (λ (l : Cells). list_any f (if is_fresh stamps ways before e then [] else l)) (none-combination ways e is) ∙ either (is_fresh stamps ways before e))
       where
         either : (b : Bool) → list_any f (if b then [] else []) ≡ false
         either true = refl
@@ -112,7 +127,7 @@ module _ (stamps : List ℕ) (ways : List (List Step)) (before : Option Tree) wh
     known-fresh is = sym (ap (λ b. list_any f (if b then [] else combination ways e)) is)
 
     pub known-other : (cells : List Cell) → leafs_of ways (Some e.1) ≡ Some cells → is_fresh stamps ways before e ≡ false → f cells ≡ list_any f (other_of stamps ways before e)
-    known-other cells is old = sym ((λ i. list_any f (if old i then [] else some-combination e cells is i)) ∙ or_none (f cells))
+    known-other cells is old = sym ((λ i. list_any f (if old i then [] else some-combination ways e cells is i)) ∙ or_none (f cells))
       where
         or_none : (b : Bool) → (b || false) ≡ b
         or_none true = refl

@@ -1,11 +1,13 @@
 -- The cells of the entries of a list, child by child.
 use Rattle.std.proofs.Common.{◌≡◌, ℕ, ◌+◌, ◌<◌, ◌≤◌, Bool, true, false, cond, ◌&&◌, ◌||◌, List, [], ◌∷◌, ◌++◌, length, take, drop, get_or, Option, Some, None, refl, sym, ap, ◌∙◌, append_assoc, if◌then◌else◌}
-use Rattle.std.specs.Prelude.{is_some, nat_eq}
+use Rattle.std.specs.Prelude.{is_some, nat_eq, ◌==◌}
 use Rattle.std.specs.List.{list_any, flat_map}
 use Rattle.std.specs.Option.{option_to_list}
 use Rattle.std.proofs.lemmas.List.{take-append-drop}
 use Rattle.std.proofs.lemmas.List.Folds.{list_any-append}
 use Rattle.std.specs.Borrow.{Bor}
+use Rattle.std.specs.declared.alloc.Global.{Global}
+use Rattle.std.specs.declared.vec.Vec.{Vec}
 use Rattle.sal_types.specs.declared.value.Step.{Step}
 use Rattle.sal_types.specs.declared.value.Cell.{Cell}
 use Rattle.sal_node.specs.Tree.{Tree}
@@ -15,7 +17,7 @@ use Rattle.sal_tree.specs.Grow.{kid}
 use Rattle.sal_check.specs.Near.{is_new, leafs_of, differs, is_fresh, fresh_of, other_of, is_among, agree_freshly}
 use Rattle.sal_check.specs.Nodes.{seen_in}
 use Rattle.sal_rules.specs.Rules.{cells_at, has_double}
-use Rattle.sal_check.specs.Uniques.{combination}
+use Rattle.sal_check.specs.Uniques.{all_cells_in, combination}
 use Rattle.sal_check.proofs.Counted.{seen-at, seen-all}
 use Rattle.sal_check.proofs.NearKids.{new-any}
 
@@ -98,6 +100,11 @@ module _ (ways : List (List Step)) where
 any-no : (xs : Cells) → list_any (is_among []) xs ≡ false
 any-no [] = refl
 any-no (x ∷ xs) = any-no xs
+
+-- an empty list has no cells
+pub no-cells : (vs : List (Vec (Bor Cell) Global)) → (length vs == 0) ≡ true → all_cells_in vs ≡ []
+no-cells [] e = refl
+no-cells (v ∷ vs) e = cc
 
 module _ (stamps : List ℕ) (ways : List (List Step)) (before : Option Tree) where
   pub picked-made : (es : Entries) → flat_map (pick ways before) (made_by stamps es) ≡ flat_map (fresh_of stamps ways before) es

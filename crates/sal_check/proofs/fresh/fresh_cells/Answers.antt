@@ -10,7 +10,7 @@ use Rattle.sal_check.proofs.fresh.fresh_cells.Goals as goal
 pub add_fresh-requires : goal.add_fresh-requires
 add_fresh-requires c =
     let same : seen c.deref-child-items.result.now ≡ made_by c.args.stamps.now (pairs c.args.list.now.value.kids) = ap seen c.deref-child-items.ensures.value ∙ c.in_ok-children.ensures ∙ ap (λ (t : Tree). made_by c.args.stamps.now (pairs t.kids)) c.deref.ensures in
-    (c.kid.ensures.sound, sound-made c.args.stamps.now c.args.list.now.value.kids c.deref-child-items.result.now c.loop-child.child-index c.child-item.result c.requires.sound same c.loop-child-test.true c.child-item.is)
+    record { before = c.kid.ensures.sound; sound = sound-made c.args.stamps.now c.args.list.now.value.kids c.deref-child-items.result.now c.loop-child.child-index c.child-item.result c.requires.sound same c.loop-child-test.true c.child-item.is }
 
 pub loop-child-preserved : goal.loop-child-preserved
 loop-child-preserved c =

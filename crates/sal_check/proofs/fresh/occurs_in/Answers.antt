@@ -11,10 +11,10 @@ use Rattle.sal_check.proofs.fresh.occurs_in.Goals as goal
 pub is_known-requires : goal.is_known-requires
 is_known-requires c =
     let same : seen c.deref-child-items.result.now ≡ pairs c.args.list.now.value.kids = ap seen c.deref-child-items.ensures.value ∙ c.in_ok-children.ensures ∙ ap (λ (t : Tree). pairs t.kids) c.deref.ensures in
-    (c.requires.before, grove-child c.args.list.now.value.kids c.deref-child-items.result.now c.loop-child.child-index c.child-item.result c.requires.sound same c.loop-child-test.true c.child-item.is)
+    record { before = c.requires.before; sound = grove-child c.args.list.now.value.kids c.deref-child-items.result.now c.loop-child.child-index c.child-item.result c.requires.sound same c.loop-child-test.true c.child-item.is }
 
-pub returns-then-is_known : goal.returns-then-is_known
-returns-then-is_known c xs holds =
+pub returns-then-branch : goal.returns-then-branch
+returns-then-branch c xs holds =
     let same : seen c.deref-child-items.result.now ≡ pairs c.args.list.now.value.kids = ap seen c.deref-child-items.ensures.value ∙ c.in_ok-children.ensures ∙ ap (λ (t : Tree). pairs t.kids) c.deref.ensures in
     let yes : c.in_ok-is_known.field-0 ≡ true = search rules in
     any-found (other_of c.args.stamps.now (ways_in c.args.ways.now) (tree_at c.args.before)) (is_among xs) c.deref-child-items.result.now (pairs c.args.list.now.value.kids) c.loop-child.child-index c.child-item.result same c.loop-child-test.true c.child-item.is (c.loop-child.invariant xs holds)

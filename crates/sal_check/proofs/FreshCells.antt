@@ -1,6 +1,6 @@
 -- The cells of the entries of a list, child by child.
-use Rattle.std.proofs.Common.{◌≡◌, ℕ, ◌+◌, ◌<◌, ◌≤◌, Bool, true, false, cond, ◌&&◌, ◌||◌, List, [], ◌∷◌, ◌++◌, length, take, drop, get_or, Option, Some, None, refl, sym, ap, ◌∙◌, append_assoc, if◌then◌else◌}
-use Rattle.std.specs.Prelude.{is_some, nat_eq, ◌==◌}
+use Rattle.std.proofs.Common.{◌≡◌, ℕ, ◌+◌, ◌<◌, ◌≤◌, Bool, true, false, cond, ◌&&◌, ◌||◌, List, [], ◌∷◌, ◌++◌, length, take, drop, get_or, Option, Some, None, refl, sym, ap, ◌∙◌, append_assoc, arith, if◌then◌else◌}
+use Rattle.std.specs.Prelude.{is_some, nat_eq}
 use Rattle.std.specs.List.{list_any, flat_map}
 use Rattle.std.specs.Option.{option_to_list}
 use Rattle.std.proofs.lemmas.List.{take-append-drop}
@@ -102,9 +102,9 @@ any-no [] = refl
 any-no (x ∷ xs) = any-no xs
 
 -- an empty list has no cells
-pub no-cells : (vs : List (Vec (Bor Cell) Global)) → (length vs == 0) ≡ true → all_cells_in vs ≡ []
+pub no-cells : (vs : List (Vec (Bor Cell) Global)) → length vs ≡ 0 → all_cells_in vs ≡ []
 no-cells [] e = refl
-no-cells (v ∷ vs) e = cc
+no-cells (v ∷ vs) e = absurd (omega (arith, e))
 
 module _ (stamps : List ℕ) (ways : List (List Step)) (before : Option Tree) where
   pub picked-made : (es : Entries) → flat_map (pick ways before) (made_by stamps es) ≡ flat_map (fresh_of stamps ways before) es

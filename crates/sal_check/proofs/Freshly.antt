@@ -132,8 +132,10 @@ module _ (stamps : List ℕ) (ways : List (List Step)) (before : Option Tree) (n
   stale-twins t =
       let one = in-other t.one t.cells t.has_one in
       let two = in-other t.other t.others t.has_other in
-      let (t1, at1, y1, in1, same1) = had t.one t.cells t.in_one one.0 one.1 in
-      let (t2, at2, y2, in2, same2) = had t.other t.others t.in_other two.0 two.1 in
+      let (t1, at1, first) = had t.one t.cells t.in_one one.0 one.1 in
+      let (t2, at2, second) = had t.other t.others t.in_other two.0 two.1 in
+      let (y1, in1, same1) = first in
+      let (y2, in2, same2) = second in
       double-in (combination ways) (kids_in before) (t.one.0, t1) (t.other.0, t2) y1 y2 (find-is t.one.0 (kids_in before) t1 at1) (find-is t.other.0 (kids_in before) t2 at2) t.apart in1 in2
       (chain y1 t.cells t.others y2 same1 t.alike same2)
 

@@ -1,4 +1,4 @@
-use Rattle.std.proofs.Common.{rules, ◌≡◌, true, sym, ◌∙◌}
+use Rattle.std.proofs.Common.{rules, ◌≡◌, length, sym, ◌∙◌}
 use Rattle.sal_node.specs.Tree.{pairs}
 use Rattle.sal_node.specs.Shape.{tree_at}
 use Rattle.sal_check.specs.Uniques.{ways_in}
@@ -7,6 +7,6 @@ use Rattle.sal_check.proofs.fresh.agree_in.Goals as goal
 
 pub returns-then-is_empty : goal.returns-then-is_empty
 returns-then-is_empty c =
-    let none : c.is_empty.result ≡ true = search rules in
+    let none : length c.in_ok-fresh.fresh.items ≡ 0 = search rules in
     sym (none-agree c.args.stamps.now (ways_in c.args.ways.now) (tree_at c.args.before) (pairs c.args.list.now.value.kids)
-    (sym c.in_ok-fresh.ensures ∙ no-cells c.in_ok-fresh.fresh.items (sym c.is_empty.ensures ∙ none)))
+    (sym c.in_ok-fresh.ensures ∙ no-cells c.in_ok-fresh.fresh.items none))

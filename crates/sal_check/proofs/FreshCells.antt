@@ -14,7 +14,7 @@ use Rattle.sal_node.specs.Tree.{Tree}
 use Rattle.sal_node.specs.Shape.{seen, made_by}
 use Rattle.sal_node.specs.declared.node.Child.{Child}
 use Rattle.sal_tree.specs.Grow.{kid}
-use Rattle.sal_check.specs.Near.{is_new, leafs_of, differs, is_fresh, fresh_of, other_of, is_among, agree_freshly}
+use Rattle.sal_check.specs.Near.{leafs_of, differs, is_fresh, fresh_of, other_of, is_among, agree_freshly}
 use Rattle.sal_check.specs.Nodes.{seen_in}
 use Rattle.sal_rules.specs.Rules.{cells_at, has_double}
 use Rattle.sal_check.specs.Uniques.{all_cells_in, combination}

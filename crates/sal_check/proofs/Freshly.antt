@@ -1,24 +1,19 @@
 -- Two entries agree just where a fresh one agrees with another, if none did before.
-use Rattle.std.proofs.Common.{◌≡◌, ℕ, Bool, true, false, cond, not, ◌&&◌, ◌||◌, List, [], ◌∷◌, ◌++◌, inl, inr, map, Option, Some, None, refl, sym, ap, subst, ◌∙◌, if◌then◌else◌}
+use Rattle.std.proofs.Common.{◌≡◌, ℕ, Bool, true, false, cond, not, ◌&&◌, ◌||◌, List, [], ◌∷◌, ◌++◌, inl, inr, Option, Some, None, refl, sym, ap, subst, ◌∙◌, if◌then◌else◌}
 use Rattle.std.specs.Prelude.{T, is_some}
 use Rattle.std.specs.List.{list_any, flat_map}
 use Rattle.std.specs.Option.{option_to_list}
 use Rattle.std.specs.FinMap.{find, is_sorted}
 use Rattle.sal_types.specs.declared.value.Step.{Step}
-use Rattle.sal_types.specs.declared.value.Step.TheVariants.{Node}
 use Rattle.sal_types.specs.declared.value.Cell.{Cell}
 use Rattle.sal_types.specs.Order.{step_cmp}
 use Rattle.sal_node.specs.Tree.{Tree}
-use Rattle.sal_schema.specs.declared.table.SchemaTable.{SchemaTable}
-use Rattle.sal_schema.specs.Table.{uniques_of}
 use Rattle.sal_tree.specs.Grow.{kid, kids_in, IsSound}
-use Rattle.sal_tree.proofs.Laws.{eq, same, sorted-kids, sound-kid}
-use Rattle.sal_rules.specs.Contexts.{way_in_entry}
-use Rattle.sal_check.specs.Near.{KeepsAt, is_new, leafs_of, differs, is_fresh, fresh_of, other_of, is_among, agree_freshly, repeats_freshly}
+use Rattle.sal_tree.proofs.Laws.{eq, same, sorted-kids}
+use Rattle.sal_check.specs.Near.{KeepsAt, is_new, leafs_of, differs, is_fresh, fresh_of, other_of, is_among, agree_freshly}
 use Rattle.sal_check.specs.Nodes.{seen_in}
-use Rattle.sal_rules.specs.Rules.{cells_at, combinations, has_double, repeats, same_cells}
+use Rattle.sal_rules.specs.Rules.{cells_at, has_double, same_cells}
 use Rattle.sal_check.specs.Uniques.{combination, all_combinations}
-use Rattle.sal_check.proofs.Combined.{combinations-seen}
 use Rattle.sal_check.proofs.Doubles.{same-IsEquivalence}
 use Rattle.sal_check.proofs.Members.{In, In-flat, In-from}
 use Rattle.sal_check.proofs.Twins.{Entries, IsShort, Twins, any-in, any-out, double-in, double-out}
@@ -166,7 +161,7 @@ module _ (stamps : List ℕ) (ways : List (List Step)) (before : Option Tree) (n
     mixed e d x y i j new old has also alike =
         right_true (has_double freshes) (list_any (is_among freshes) others)
         (any-in (is_among freshes) others y (In-flat (other_of stamps ways before) es d y j (other-in d y old also))
-          (any-in (same_cells y) freshes x (In-flat (fresh_of stamps ways before) es e x i (fresh-in e x new has)) alike))
+        (any-in (same_cells y) freshes x (In-flat (fresh_of stamps ways before) es e x i (fresh-in e x new has)) alike))
 
     told : Twins (combination ways) es → answer ≡ true
     told t = by_tests (fresh t.one) (fresh t.other) refl refl

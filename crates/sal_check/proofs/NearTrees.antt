@@ -24,12 +24,12 @@ use Rattle.sal_rows.specs.declared.outcome.Breach.{Breach}
 use Rattle.sal_rows.specs.declared.outcome.Rule.{Rule}
 use Rattle.sal_rows.specs.declared.outcome.Rule.TheVariants.{Mandatory, MinElements, MaxElements, Unique, TwoCases}
 use Rattle.sal_rules.specs.declared.spot.Spot.{Spot}
-use Rattle.sal_rules.specs.Breaches.{breach_of, breaches_at, breach, keep, least, breach_cmp, rules_of, is_looked_at, node_of_rule}
+use Rattle.sal_rules.specs.Breaches.{breach_of, breaches_at, breach, keep, least, breach_cmp, rules_of, is_looked_at}
 use Rattle.sal_rules.specs.Contexts.{way, way_in_entry, stand}
 use Rattle.sal_check.specs.Near.{is_new, Keeps, KeepsAt, is_kept, is_settled, agree_freshly, repeats_freshly, breach_if, broken_near, near_of, near_all, near_at, near_below, near}
 use Rattle.sal_check.specs.Nodes.{seen_in, judged, found_at, found_below, found, own_steps}
 use Rattle.sal_rules.specs.Places.{root_spot, after_step}
-use Rattle.sal_rules.specs.Rules.{broken, combinations, has_double, has_minimum, is_demanded, repeats, steps_to}
+use Rattle.sal_rules.specs.Rules.{broken, combinations, has_double, has_minimum, is_demanded, repeats}
 use Rattle.sal_check.proofs.Combined.{combinations-seen}
 use Rattle.sal_check.proofs.Freshly.{agree-freshly}
 use Rattle.sal_check.proofs.Members.{In}

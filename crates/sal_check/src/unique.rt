@@ -116,7 +116,11 @@ pub(crate) fn has_double(alloc: Global, combinations: &[Vec<&Cell>]) -> Result<b
 }
 
 /// The steps from an entry to each of these leafs.
-pub(crate) fn ways_to(alloc: Global, schema: &Schema, leafs: &[u32]) -> Result<Vec<Vec<Step>>, NoMemory>
+pub(crate) fn ways_to(
+    alloc: Global,
+    schema: &Schema,
+    leafs: &[u32],
+) -> Result<Vec<Vec<Step>>, NoMemory>
     ensures { IfOk result (λ v. ways_in v.items ≡ map (contexts.way_in_entry schema.now) leafs.now) }
 {
     let mut ways = Vec::with_capacity(alloc, leafs.len())?;

@@ -1,4 +1,4 @@
-use Rattle.std.proofs.Common.{◌≡◌, ap, ◌∙◌}
+use Rattle.std.proofs.Common.{ap, ◌∙◌}
 use Rattle.std.specs.Ordering.{is_eq}
 use Rattle.sal_check.proofs.Doubles.{cmp-cells}
 use Rattle.sal_check.proofs.fresh.are_same.Goals as goal

@@ -1,4 +1,4 @@
-use Rattle.std.proofs.Common.{◌≡◌, ◌++◌, sym, ap, ◌∙◌, if◌then◌else◌, [], Some}
+use Rattle.std.proofs.Common.{◌≡◌, ◌++◌, ap, ◌∙◌, if◌then◌else◌, [], Some}
 use Rattle.sal_node.specs.Tree.{Tree, pairs}
 use Rattle.sal_node.specs.Shape.{made_by, seen, tree_at}
 use Rattle.sal_check.specs.Near.{differs, leafs_of}

@@ -1,4 +1,4 @@
-use Rattle.std.proofs.Common.{◌≡◌, ap, subst, sym}
+use Rattle.std.proofs.Common.{subst}
 use Rattle.sal_check.specs.Uniques.{Holds}
 use Rattle.sal_check.proofs.Doubles.{holds-more, all-all}
 use Rattle.sal_check.proofs.fresh.set_of.Goals as goal

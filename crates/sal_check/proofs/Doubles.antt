@@ -8,33 +8,22 @@ use Rattle.std.proofs.lemmas.Cmp.{eq_by_cmp_equiv}
 use Rattle.std.specs.BTreeSet.{BTreeSet, contains}
 use Rattle.std.specs.Borrow.{Bor}
 use Rattle.std.specs.declared.alloc.Global.{Global}
-use Rattle.std.specs.declared.cmp.Ordering.{Ordering}
 use Rattle.std.specs.declared.vec.Vec.{Vec}
 use Rattle.sal_types.specs.contracts.value.CellOrd.TheImpl.Laws as cell_laws
 use Rattle.sal_types.specs.declared.value.Cell.{Cell}
 use Rattle.sal_types.specs.Order.{cell_cmp}
 use Rattle.sal_rules.specs.Rules.{same_cells, has_double}
-use Rattle.sal_check.specs.Uniques.{cells_in, all_cells_in}
+use Rattle.sal_check.specs.Uniques.{Holds, Key, cells_in, all_cells_in, key_cmp}
 use Rattle.sal_check.proofs.There.{take-all}
 
-abbrev pub Key : Type 0
-Key = Bor (Vec (Bor Cell) Global)
-
-abbrev pub key_cmp : Key → Key → Ordering
-key_cmp x y = slice_cmp (λ (a b : Bor Cell). cell_cmp a.now b.now) x.now.items y.now.items
-
-same-IsEquivalence : IsEquivalence same_cells
+pub same-IsEquivalence : IsEquivalence same_cells
 same-IsEquivalence = eq_by_cmp_equiv (lists_total cell_laws.total-law)
 
-cmp-cells : (xs ys : List (Bor Cell)) → slice_cmp (λ (a b : Bor Cell). cell_cmp a.now b.now) xs ys ≡ slice_cmp cell_cmp (cells_in xs) (cells_in ys)
+pub cmp-cells : (xs ys : List (Bor Cell)) → slice_cmp (λ (a b : Bor Cell). cell_cmp a.now b.now) xs ys ≡ slice_cmp cell_cmp (cells_in xs) (cells_in ys)
 cmp-cells [] [] = refl
 cmp-cells [] (y ∷ ys) = refl
 cmp-cells (x ∷ xs) [] = refl
 cmp-cells (x ∷ xs) (y ∷ ys) = ap (ordering_then (cell_cmp x.now y.now)) (cmp-cells xs ys)
-
--- the set has just those
-abbrev pub Holds : BTreeSet Key → List (List Cell) → Type 0
-Holds set xs = (q : Key) → contains key_cmp set q ≡ list_any (same_cells (cells_in q.now.items)) xs
 
 or_false : (b : Bool) → (b || false) ≡ b
 or_false true = refl
@@ -90,16 +79,16 @@ double-take (suc n) (x ∷ xs) e = elim (list_any (same_cells x) (take n xs)) as
     or_true true = refl
     or_true false = refl
 
-module _ (vs : List (Vec (Bor Cell) Global)) (i : ℕ) (v : Key) (l : i < length vs) (at : v.now ≡ get_or vs i v.now) where
+module _ (vs : List (Vec (Bor Cell) Global)) (i : ℕ) (w : Vec (Bor Cell) Global) (v : Key) (is : v.now ≡ w.items) (l : i < length vs) (at : w ≡ get_or vs i w) where
   abbrev before : List (List Cell)
   before = take i (all_cells_in vs)
 
-  more : take (i + 1) (all_cells_in vs) ≡ before ++ cells_in v.now.items ∷ []
-  more = all-at vs i v.now l at
+  more : take (i + 1) (all_cells_in vs) ≡ before ++ cells_in v.now ∷ []
+  more = all-at vs i w l at ∙ ap (λ (c : List (Bor Cell)). before ++ cells_in c ∷ []) (sym is)
 
   -- one that is in the set already
   pub double-found : (set : BTreeSet Key) → Holds set before → contains key_cmp set v ≡ true → true ≡ has_double (all_cells_in vs)
-  double-found set holds is = sym (double-take (i + 1) (all_cells_in vs) (ap has_double more ∙ double-push before (cells_in v.now.items) ∙ ap (λ b. has_double before || b) (sym (holds v) ∙ is) ∙ or_true (has_double before)))
+  double-found set holds has = sym (double-take (i + 1) (all_cells_in vs) (ap has_double more ∙ double-push before (cells_in v.now) ∙ ap (λ b. has_double before || b) (sym (holds v) ∙ has) ∙ or_true (has_double before)))
     where
       or_true : (b : Bool) → (b || true) ≡ true
       or_true true = refl
@@ -107,14 +96,14 @@ module _ (vs : List (Vec (Bor Cell) Global)) (i : ℕ) (v : Key) (l : i < length
 
   -- one that is not
   pub double-none : (set : BTreeSet Key) → Holds set before → has_double before ≡ false → contains key_cmp set v ≡ false → has_double (take (i + 1) (all_cells_in vs)) ≡ false
-  double-none set holds none is = ap has_double more ∙ double-push before (cells_in v.now.items) ∙ (λ k. none k || (sym (holds v) ∙ is) k)
+  double-none set holds none new = ap has_double more ∙ double-push before (cells_in v.now) ∙ (λ k. none k || (sym (holds v) ∙ new) k)
 
   pub holds-more : (set new : BTreeSet Key) → Holds set before → ((q : Key) → contains key_cmp new q ≡ cond (is_eq (key_cmp v q)) true (contains key_cmp set q)) → Holds new (take (i + 1) (all_cells_in vs))
   holds-more set new holds updated q =
-      let c = cells_in q.now.items in
-      let d = cells_in v.now.items in
+      let c = cells_in q.now in
+      let d = cells_in v.now in
       updated q
-      ∙ (λ k. cond ((ap is_eq (cmp-cells v.now.items q.now.items) ∙ same-IsEquivalence.symm d c) k) true (holds q k))
+      ∙ (λ k. cond ((ap is_eq (cmp-cells v.now q.now) ∙ same-IsEquivalence.symm d c) k) true (holds q k))
       ∙ either (same_cells c d) (list_any (same_cells c) before)
       ∙ sym (any-push (same_cells c) before d)
       ∙ ap (list_any (same_cells c)) (sym more)

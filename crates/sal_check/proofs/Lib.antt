@@ -3,6 +3,8 @@ mod Combined
 mod Counted
 mod Doubles
 mod Founds
+mod FreshCells
+mod Freshly
 mod Least
 mod Members
 mod NearFounds
@@ -13,4 +15,5 @@ mod Plans
 mod SeenTrees
 mod There
 mod Trails
+mod Twins
 mod Walked

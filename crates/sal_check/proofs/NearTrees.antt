@@ -1,8 +1,8 @@
 -- The walk over two trees finds the breaches of the later one, where the earlier one has none and is kept but for new stamps.
-use Rattle.std.proofs.Common.{◌≡◌, ℕ, Bool, true, false, cond, ◌&&◌, ◌||◌, not, List, [], ◌∷◌, ◌++◌, inl, inr, Option, Some, None, refl, sym, ap, subst, ◌∙◌, arith, length}
+use Rattle.std.proofs.Common.{◌≡◌, ℕ, Bool, true, false, cond, ◌&&◌, ◌||◌, not, List, [], ◌∷◌, ◌++◌, inl, inr, Option, Some, None, refl, sym, ap, subst, ◌∙◌, arith, length, map}
 use Rattle.std.proofs.lemmas.Bool.Decides.{nat_tests}
 use Rattle.std.specs.Prelude.{◌==◌, nat_le, nat_lt, if◌then◌else◌}
-use Rattle.std.specs.List.{fold, flat_map}
+use Rattle.std.specs.List.{fold, flat_map, list_any}
 use Rattle.std.specs.FinMap.{find}
 use Rattle.std.specs.Ordering.{is_lt}
 use Rattle.sal_types.specs.declared.value.Store.{Store}
@@ -11,25 +11,27 @@ use Rattle.sal_types.specs.declared.value.Step.TheVariants.{Node}
 use Rattle.sal_types.specs.Order.{step_cmp}
 use Rattle.sal_node.specs.Tree.{Tree, Forest, bare, grown, pairs, IsGrove}
 use Rattle.sal_schema.specs.declared.table.SchemaTable.{SchemaTable}
-use Rattle.sal_schema.specs.Kinds.{has_entries}
-use Rattle.sal_schema.specs.Table.{is_kind, is_same, min_elements}
+use Rattle.sal_schema.specs.Kinds.{has_entries, is_list}
+use Rattle.sal_schema.specs.Table.{is_kind, is_same, data_parent, min_elements, uniques_of}
 use Rattle.sal_tree.specs.Follows.{Follows, exactly}
 use Rattle.sal_tree.specs.History.{IsOneOf}
 use Rattle.sal_tree.specs.Graft.{Setting, Touch, IsGrafted, CanGraft}
-use Rattle.sal_tree.specs.Grow.{at, kid, kids_in}
+use Rattle.sal_tree.specs.Grow.{at, kid, kids_in, IsSound}
 use Rattle.sal_tree.specs.Rows.{rows_of}
 use Rattle.sal_tree.proofs.Follows.{Follows-wider}
-use Rattle.sal_tree.proofs.Laws.{eq, same, grove-sorted}
+use Rattle.sal_tree.proofs.Laws.{eq, same, grove-sorted, sound-kid}
 use Rattle.sal_rows.specs.declared.outcome.Breach.{Breach}
 use Rattle.sal_rows.specs.declared.outcome.Rule.{Rule}
 use Rattle.sal_rows.specs.declared.outcome.Rule.TheVariants.{Mandatory, MinElements, MaxElements, Unique, TwoCases}
 use Rattle.sal_rules.specs.declared.spot.Spot.{Spot}
-use Rattle.sal_rules.specs.Breaches.{breach_of, breaches_at, breach, keep, least, breach_cmp, rules_of, is_looked_at, node_of_rule}
-use Rattle.sal_rules.specs.Contexts.{way, stand}
-use Rattle.sal_check.specs.Near.{is_new, Keeps, KeepsAt, is_kept, is_settled, near_of, near_all, near_at, near_below, near}
+use Rattle.sal_rules.specs.Breaches.{breach_of, breaches_at, breach, keep, least, breach_cmp, rules_of, is_looked_at}
+use Rattle.sal_rules.specs.Contexts.{way, way_in_entry, stand}
+use Rattle.sal_check.specs.Near.{is_new, Keeps, KeepsAt, is_kept, is_settled, agree_freshly, repeats_freshly, breach_if, broken_near, near_of, near_all, near_at, near_below, near}
 use Rattle.sal_check.specs.Nodes.{seen_in, judged, found_at, found_below, found, own_steps}
 use Rattle.sal_rules.specs.Places.{root_spot, after_step}
-use Rattle.sal_rules.specs.Rules.{has_minimum, is_demanded, steps_to}
+use Rattle.sal_rules.specs.Rules.{broken, combinations, has_double, has_minimum, is_demanded, repeats}
+use Rattle.sal_check.proofs.Combined.{combinations-seen}
+use Rattle.sal_check.proofs.Freshly.{agree-freshly}
 use Rattle.sal_check.proofs.Members.{In}
 use Rattle.sal_check.proofs.NearRows.{too_many-local, repeats-local}
 use Rattle.sal_check.proofs.Walked.{find-in, breach-found}
@@ -137,9 +139,59 @@ and_right : (a b : Bool) → (a && b) ≡ true → b ≡ true
 and_right true b e = e
 and_right false b e = cc
 
-module _ (stamps : List ℕ) (table : SchemaTable) (store : Store) (place : List Step) (m : Option ℕ) (b t : Tree) (keeps : Keeps stamps b t) where
+-- where nothing is told of a rule, two tests that are then the same tell the same
+told_same : (l f v x y : Bool) (b : Breach) → (v ≡ false → x ≡ y) → (if (l && v) && f then b ∷ [] else []) ≡ [] → (if (l && x) && f then b ∷ [] else []) ≡ (if (l && y) && f then b ∷ [] else [])
+told_same false f v x y b same none = refl
+told_same true f false x y b same none = ap (λ z. if (true && z) && f then b ∷ [] else []) (same refl)
+told_same true true true x y b same none = cc
+told_same true false true true true b same none = refl
+told_same true false true true false b same none = refl
+told_same true false true false true b same none = refl
+told_same true false true false false b same none = refl
+
+any-same : {X : Type 0} (f g h : X → Bool) (xs : List X) → ((x : X) → f x ≡ false → g x ≡ h x) → list_any f xs ≡ false → list_any g xs ≡ list_any h xs
+any-same f g h [] each none = refl
+any-same f g h (x ∷ xs) each none = λ i. each x (or_first (f x) (list_any f xs) none) i || any-same f g h xs each (or_second (f x) (list_any f xs) none) i
+  where
+    or_first : (a b : Bool) → (a || b) ≡ false → a ≡ false
+    or_first true b e = cc
+    or_first false b e = refl
+
+    or_second : (a b : Bool) → (a || b) ≡ false → b ≡ false
+    or_second true b e = cc
+    or_second false b e = e
+
+module _ (stamps : List ℕ) (table : SchemaTable) (store : Store) (place : List Step) (m : Option ℕ) (b t : Tree) (was : IsGrove b.kids) (good : IsGrove t.kids) (keeps : Keeps stamps b t) where
   abbrev told : Rule → Bool → List Breach
-  told rule v = if (is_looked_at table store (node_of_rule rule) && v) && nat_le (length (place ++ steps_to table rule)) 32 then record { path = place ++ steps_to table rule; rule = rule } ∷ [] else []
+  told rule v = breach_if table store place rule v
+
+  -- the entries that are not fresh are those of before
+  leafs-same : (n : ℕ) (leafs : List ℕ) → has_double (combinations table (seen_in (Some b)) n leafs) ≡ false → agree_freshly stamps (map (way_in_entry table) leafs) (kid (Some b) (Node n)) (kids_in (kid (Some t) (Node n))) ≡ has_double (combinations table (seen_in (Some t)) n leafs)
+  leafs-same n leafs none =
+      let ways : List (List Step) = map (way_in_entry table) leafs in
+      let list_keeps : KeepsAt stamps (kid (Some b) (Node n)) (kid (Some t) (Node n)) = λ p k is old. keeps (Node n ∷ p) k is old in
+      agree-freshly stamps ways (kid (Some b) (Node n)) (kid (Some t) (Node n)) (sound-kid (Some b) (Node n) was) (sound-kid (Some t) (Node n) good) list_keeps
+      (ap has_double (sym (combinations-seen table (Some b) n leafs was)) ∙ none)
+      ∙ ap has_double (sym (combinations-seen table (Some t) n leafs good))
+
+  unique-same : (n : ℕ) → broken table (seen_in (Some b)) m (Unique n) ≡ false → broken_near stamps table (Some b) t m (Unique n) ≡ broken table (seen_in (Some t)) m (Unique n)
+  unique-same n none = by_tests (is_kind is_list table n) (is_same (data_parent table n) m) none
+    where
+      by_tests : (l s : Bool) → (l && (s && repeats table (seen_in (Some b)) n)) ≡ false → (l && (s && repeats_freshly stamps table b t n)) ≡ (l && (s && repeats table (seen_in (Some t)) n))
+      by_tests false s h = refl
+      by_tests true false h = refl
+      by_tests true true h =
+          any-same (λ leafs. has_double (combinations table (seen_in (Some b)) n leafs)) (λ leafs. agree_freshly stamps (map (way_in_entry table) leafs) (kid (Some b) (Node n)) (kids_in (kid (Some t) (Node n)))) (λ leafs. has_double (combinations table (seen_in (Some t)) n leafs)) (uniques_of table n)
+          (leafs-same n) h
+
+  near_same : (rule : Rule) → breach_of table store place (seen_in (Some b)) m rule ≡ [] → told rule (broken_near stamps table (Some b) t m rule) ≡ breach_of table store place (seen_in (Some t)) m rule
+  near_same (Mandatory n) none = refl
+  near_same (MinElements n) none = refl
+  near_same (MaxElements n) none = refl
+  near_same (TwoCases n) none = refl
+  near_same (Unique n) none =
+      told_same (is_looked_at table store n) (nat_le (length (place ++ Node n ∷ [])) 32) (broken table (seen_in (Some b)) m (Unique n)) (broken_near stamps table (Some b) t m (Unique n)) (broken table (seen_in (Some t)) m (Unique n))
+      (record { path = place ++ Node n ∷ []; rule = Unique n }) (unique-same n) none
 
   same_list : (n : ℕ) → is_kept stamps (kid (Some t) (Node n)) ≡ true → seen_in (kid (Some b) (Node n)) ≡ seen_in (kid (Some t) (Node n))
   same_list n e = ap seen_in (kept-same stamps (Some b) (Some t) (Node n ∷ []) keeps e)
@@ -161,9 +213,9 @@ module _ (stamps : List ℕ) (table : SchemaTable) (store : Store) (place : List
   settled (TwoCases n) e none = cc
 
   one : (rule : Rule) → breach_of table store place (seen_in (Some b)) m rule ≡ [] → near_of stamps table store place (Some b) t m rule ≡ breach_of table store place (seen_in (Some t)) m rule
-  one rule none = elim (is_settled stamps table (Some b) (Some t) rule) as (λ c. is_settled stamps table (Some b) (Some t) rule ≡ c → (if c then [] else breach_of table store place (seen_in (Some t)) m rule) ≡ breach_of table store place (seen_in (Some t)) m rule) [
+  one rule none = elim (is_settled stamps table (Some b) (Some t) rule) as (λ c. is_settled stamps table (Some b) (Some t) rule ≡ c → (if c then [] else told rule (broken_near stamps table (Some b) t m rule)) ≡ breach_of table store place (seen_in (Some t)) m rule) [
     | true ↦ λ e. sym (settled rule e none)
-    | false ↦ λ e. refl
+    | false ↦ λ e. near_same rule none
   ] refl
 
   all_of : (nodes : List ℕ) → breaches_at table store place (seen_in (Some b)) m nodes ≡ [] → near_all stamps table store place (Some b) t m nodes ≡ breaches_at table store place (seen_in (Some t)) m nodes
@@ -179,14 +231,14 @@ module _ (stamps : List ℕ) (table : SchemaTable) (store : Store) where
   IsQuiet place spot None = Unit {0}
   IsQuiet place spot (Some b) = found table store place spot b ≡ []
 
-  at-same : (place : List Step) (spot : Spot) (o : Option Tree) (t : Tree) → KeepsAt stamps o (Some t) → IsQuiet place spot o → near_at stamps table store place spot o t ≡ found_at table store place spot t
-  at-same place spot None t keeps quiet = refl
-  at-same place spot (Some b) t keeps quiet = by_test spot.wants_entry (left_none (found_at table store place spot b) (found_below table store place spot b.kids) quiet)
+  at-same : (place : List Step) (spot : Spot) (o : Option Tree) (t : Tree) → IsSound o → IsGrove t.kids → KeepsAt stamps o (Some t) → IsQuiet place spot o → near_at stamps table store place spot o t ≡ found_at table store place spot t
+  at-same place spot None t was good keeps quiet = refl
+  at-same place spot (Some b) t was good keeps quiet = by_test spot.wants_entry (left_none (found_at table store place spot b) (found_below table store place spot b.kids) quiet)
     where
       by_test : (w : Bool) → (if w then [] else breaches_at table store place (seen_in (Some b)) spot.node (judged table spot.node)) ≡ []
           → (if w then [] else near_all stamps table store place (Some b) t spot.node (judged table spot.node)) ≡ (if w then [] else breaches_at table store place (seen_in (Some t)) spot.node (judged table spot.node))
       by_test true none = refl
-      by_test false none = all_of stamps table store place spot.node b t keeps (judged table spot.node) none
+      by_test false none = all_of stamps table store place spot.node b t was good keeps (judged table spot.node) none
 
   quiet-below : (place : List Step) (spot : Spot) (x : Step) (f : Forest) → found_below table store place spot f ≡ [] → IsQuiet (place ++ x ∷ []) (after_step table spot x) (find step_cmp x (pairs f))
   quiet-below place spot x bare none = tt
@@ -203,27 +255,28 @@ module _ (stamps : List ℕ) (table : SchemaTable) (store : Store) where
   quiet-kid place spot None x quiet = tt
   quiet-kid place spot (Some b) x quiet = quiet-below place spot x b.kids (right_none (found_at table store place spot b) (found_below table store place spot b.kids) quiet)
 
-  node-same : (place : List Step) (spot : Spot) (o : Option Tree) (t : Tree) → KeepsAt stamps o (Some t) → IsQuiet place spot o → near_below stamps table store place spot o t.kids ≡ found_below table store place spot t.kids → near stamps table store place spot o t ≡ found table store place spot t
-  node-same place spot o t keeps quiet low = elim (is_new stamps t.stamp) as (λ b. is_new stamps t.stamp ≡ b → (if b then near_at stamps table store place spot o t ++ near_below stamps table store place spot o t.kids else []) ≡ found table store place spot t) [
-    | true ↦ λ e. λ i. at-same place spot o t keeps quiet i ++ low i
+  node-same : (place : List Step) (spot : Spot) (o : Option Tree) (t : Tree) → IsSound o → IsGrove t.kids → KeepsAt stamps o (Some t) → IsQuiet place spot o → near_below stamps table store place spot o t.kids ≡ found_below table store place spot t.kids → near stamps table store place spot o t ≡ found table store place spot t
+  node-same place spot o t was good keeps quiet low = elim (is_new stamps t.stamp) as (λ b. is_new stamps t.stamp ≡ b → (if b then near_at stamps table store place spot o t ++ near_below stamps table store place spot o t.kids else []) ≡ found table store place spot t) [
+    | true ↦ λ e. λ i. at-same place spot o t was good keeps quiet i ++ low i
     | false ↦ λ e. sym (subst (IsQuiet place spot) (keeps [] t refl e) quiet)
   ] refl
 
-  below-same : (place : List Step) (spot : Spot) (o : Option Tree) (f : Forest) → IsGrove f → IsQuiet place spot o → ((y : Step) (k : Tree) → In (y, k) (pairs f) → KeepsAt stamps (kid o y) (Some k)) → near_below stamps table store place spot o f ≡ found_below table store place spot f
-  below-same place spot o bare good quiet keeps = refl
-  below-same place spot o (grown x s c ks rest) good quiet keeps =
+  below-same : (place : List Step) (spot : Spot) (o : Option Tree) (f : Forest) → IsSound o → IsGrove f → IsQuiet place spot o → ((y : Step) (k : Tree) → In (y, k) (pairs f) → KeepsAt stamps (kid o y) (Some k)) → near_below stamps table store place spot o f ≡ found_below table store place spot f
+  below-same place spot o bare was good quiet keeps = refl
+  below-same place spot o (grown x s c ks rest) was good quiet keeps =
       let k : Tree = record { stamp = s; cell = c; kids = ks } in
       let kid_keeps : KeepsAt stamps (kid o x) (Some k) = keeps x k (inl refl) in
       let kid_quiet = quiet-kid place spot o x quiet in
-      let low = below-same (place ++ x ∷ []) (after_step table spot x) (kid o x) ks good.1.0 kid_quiet (kids-keep stamps (kid o x) k good.1.0 kid_keeps) in
-      let later = below-same place spot o rest good.1.1 quiet (λ y l i. keeps y l (inr i)) in
-      λ i. node-same (place ++ x ∷ []) (after_step table spot x) (kid o x) k kid_keeps kid_quiet low i ++ later i
+      let kid_sound = sound-kid o x was in
+      let low = below-same (place ++ x ∷ []) (after_step table spot x) (kid o x) ks kid_sound good.1.0 kid_quiet (kids-keep stamps (kid o x) k good.1.0 kid_keeps) in
+      let later = below-same place spot o rest was good.1.1 quiet (λ y l i. keeps y l (inr i)) in
+      λ i. node-same (place ++ x ∷ []) (after_step table spot x) (kid o x) k kid_sound good.1.0 kid_keeps kid_quiet low i ++ later i
 
   -- the walk over both trees finds what the walk over the later one does
   pub near-found : (before after : Tree) → IsGrove before.kids → IsGrove after.kids → Keeps stamps before after → breach table store (rows_of before) ≡ None → near stamps table store [] root_spot (Some before) after ≡ found table store [] root_spot after
   near-found before after was good keeps none =
       let quiet : found table store [] root_spot before ≡ [] = least-none (found table store [] root_spot before) (breach-found table store before was ∙ none) in
-      node-same [] root_spot (Some before) after keeps quiet (below-same [] root_spot (Some before) after.kids good quiet (kids-keep stamps (Some before) after good keeps))
+      node-same [] root_spot (Some before) after was good keeps quiet (below-same [] root_spot (Some before) after.kids was good quiet (kids-keep stamps (Some before) after good keeps))
 
   pub near-breach : (before after : Tree) → IsGrove before.kids → IsGrove after.kids → Keeps stamps before after → breach table store (rows_of before) ≡ None → least (near stamps table store [] root_spot (Some before) after) ≡ breach table store (rows_of after)
   near-breach before after was good keeps none = ap least (near-found before after was good keeps none) ∙ breach-found table store after good

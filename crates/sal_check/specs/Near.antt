@@ -1,25 +1,27 @@
 -- The breaches near what changed from one tree to another: those of places below which something changed.
-use Rattle.std.specs.Prelude.{◌≡◌, ◌≢◌, ◌==◌, ℕ, Bool, true, false, not, ◌&&◌, ◌||◌, List, [], ◌∷◌, ◌++◌, Option, Some, None, if◌then◌else◌}
-use Rattle.std.specs.List.{flat_map}
+use Rattle.std.specs.Prelude.{◌≡◌, ◌≢◌, ◌==◌, ℕ, Bool, true, false, not, ◌&&◌, ◌||◌, List, [], ◌∷◌, ◌++◌, length, map, nat_le, Option, Some, None, is_some, if◌then◌else◌}
+use Rattle.std.specs.List.{flat_map, list_any}
 use Rattle.sal_types.specs.declared.value.Store.{Store}
 use Rattle.sal_types.specs.declared.value.Step.{Step}
 use Rattle.sal_types.specs.declared.value.Step.TheVariants.{Node}
+use Rattle.sal_types.specs.declared.value.Cell.{Cell}
 use Rattle.sal_types.specs.declared.row.Row.{Row}
 use Rattle.sal_types.specs.Tree.{under}
 use Rattle.sal_node.specs.Tree.{Tree, Forest, bare, grown}
-use Rattle.sal_tree.specs.Grow.{at, kid}
+use Rattle.sal_tree.specs.Grow.{at, kid, kids_in}
 use Rattle.sal_schema.specs.declared.table.SchemaTable.{SchemaTable}
-use Rattle.sal_schema.specs.Kinds.{has_entries}
-use Rattle.sal_schema.specs.Table.{is_kind}
+use Rattle.sal_schema.specs.Kinds.{has_entries, is_list}
+use Rattle.sal_schema.specs.Table.{is_kind, is_same, data_parent, uniques_of}
 use Rattle.sal_rows.specs.declared.outcome.Breach.{Breach}
 use Rattle.sal_rows.specs.declared.outcome.Rule.{Rule}
 use Rattle.sal_rows.specs.declared.outcome.Rule.TheVariants.{Mandatory, MinElements, MaxElements, Unique, TwoCases}
 use Rattle.sal_rules.specs.declared.spot.Spot.{Spot}
-use Rattle.sal_rules.specs.Breaches.{breach_of, rules_of}
-use Rattle.sal_rules.specs.Contexts.{way}
+use Rattle.sal_rules.specs.Breaches.{is_looked_at, node_of_rule, rules_of}
+use Rattle.sal_rules.specs.Contexts.{way, way_in_entry}
 use Rattle.sal_check.specs.Nodes.{seen_in, judged}
 use Rattle.sal_rules.specs.Places.{after_step}
-use Rattle.sal_rules.specs.Rules.{broken, has_minimum, is_demanded}
+use Rattle.sal_rules.specs.Rules.{broken, cells_at, has_double, has_minimum, is_demanded, same_cells, steps_to}
+use Rattle.sal_check.specs.Uniques.{combination}
 use Rattle.sal_rules.specs.Seen.{seen_from}
 
 -- ---- laws of the rules
@@ -58,6 +60,45 @@ KeepsAt stamps before after = (p : List Step) (n : Tree) → at after p ≡ Some
 abbrev pub Keeps : List ℕ → Tree → Tree → Type 0
 Keeps stamps before after = KeepsAt stamps (Some before) (Some after)
 
+-- ---- entries of a list whose leafs of a `unique` statement changed
+
+-- the cells at these paths in an entry, if it is one and has them all
+abbrev pub leafs_of : List (List Step) → Option Tree → Option (List Cell)
+leafs_of ways None = None
+leafs_of ways (Some t) = if is_some t.cell then cells_at (seen_in (Some t)) ways else None
+
+-- the cells after are there, and are not those before
+abbrev pub differs : Option (List Cell) → Option (List Cell) → Bool
+differs before None = false
+differs None (Some cells) = true
+differs (Some old) (Some cells) = not (same_cells old cells)
+
+-- an entry of a list that has other cells than it had in the list before
+abbrev pub is_fresh : List ℕ → List (List Step) → Option Tree → Step × Tree → Bool
+is_fresh stamps ways before e = is_new stamps e.1.stamp && differs (leafs_of ways (kid before e.0)) (leafs_of ways (Some e.1))
+
+abbrev pub fresh_of : List ℕ → List (List Step) → Option Tree → Step × Tree → List (List Cell)
+fresh_of stamps ways before e = if is_fresh stamps ways before e then combination ways e else []
+
+abbrev pub other_of : List ℕ → List (List Step) → Option Tree → Step × Tree → List (List Cell)
+other_of stamps ways before e = if is_fresh stamps ways before e then [] else combination ways e
+
+abbrev pub is_among : List (List Cell) → List Cell → Bool
+is_among xs x = list_any (same_cells x) xs
+
+-- two fresh entries agree, or another one with a fresh one
+abbrev pub agree_freshly : List ℕ → List (List Step) → Option Tree → List (Step × Tree) → Bool
+agree_freshly stamps ways before es =
+    has_double (flat_map (fresh_of stamps ways before) es)
+    || list_any (is_among (flat_map (fresh_of stamps ways before) es)) (flat_map (other_of stamps ways before) es)
+
+-- in all leafs of one `unique` statement of the list
+abbrev pub repeats_freshly : List ℕ → SchemaTable → Tree → Tree → ℕ → Bool
+repeats_freshly stamps table before t n =
+    list_any (λ leafs. agree_freshly stamps (map (way_in_entry table) leafs) (kid (Some before) (Node n)) (kids_in (kid (Some t) (Node n)))) (uniques_of table n)
+
+-- ---- rules that stay kept
+
 abbrev pub is_kept : List ℕ → Option Tree → Bool
 is_kept stamps None = false
 is_kept stamps (Some t) = not (is_new stamps t.stamp)
@@ -72,9 +113,28 @@ is_settled stamps table (Some b) after (MaxElements n) = is_kind has_entries tab
 is_settled stamps table (Some b) after (Unique n) = is_kind has_entries table n && is_kept stamps (kid after (Node n))
 is_settled stamps table (Some b) after (TwoCases n) = false
 
+-- The breach of a rule that is broken at a place, unless the path is too long.
+abbrev pub breach_there : SchemaTable → List Step → Rule → List Breach
+breach_there table place rule = if nat_le (length (place ++ steps_to table rule)) 32 then record { path = place ++ steps_to table rule; rule = rule } ∷ [] else []
+
+-- that of one that may be broken, if it is looked at
+abbrev pub breach_if : SchemaTable → Store → List Step → Rule → Bool → List Breach
+breach_if table store place rule is_broken =
+    if (is_looked_at table store (node_of_rule rule) && is_broken) && nat_le (length (place ++ steps_to table rule)) 32
+    then record { path = place ++ steps_to table rule; rule = rule } ∷ [] else []
+
+-- A rule is broken at a place, where it was kept before: a `unique` statement by a fresh entry.
+abbrev pub broken_near : List ℕ → SchemaTable → Option Tree → Tree → Option ℕ → Rule → Bool
+broken_near stamps table None t m rule = broken table (seen_in (Some t)) m rule
+broken_near stamps table (Some b) t m (Mandatory n) = broken table (seen_in (Some t)) m (Mandatory n)
+broken_near stamps table (Some b) t m (MinElements n) = broken table (seen_in (Some t)) m (MinElements n)
+broken_near stamps table (Some b) t m (MaxElements n) = broken table (seen_in (Some t)) m (MaxElements n)
+broken_near stamps table (Some b) t m (Unique n) = is_kind is_list table n && (is_same (data_parent table n) m && repeats_freshly stamps table b t n)
+broken_near stamps table (Some b) t m (TwoCases n) = broken table (seen_in (Some t)) m (TwoCases n)
+
 -- the breach of a rule that is not settled
 abbrev pub near_of : List ℕ → SchemaTable → Store → List Step → Option Tree → Tree → Option ℕ → Rule → List Breach
-near_of stamps table store place before t m rule = if is_settled stamps table before (Some t) rule then [] else breach_of table store place (seen_in (Some t)) m rule
+near_of stamps table store place before t m rule = if is_settled stamps table before (Some t) rule then [] else breach_if table store place rule (broken_near stamps table before t m rule)
 
 abbrev pub near_all : List ℕ → SchemaTable → Store → List Step → Option Tree → Tree → Option ℕ → List ℕ → List Breach
 near_all stamps table store place before t m nodes = flat_map (λ n. flat_map (near_of stamps table store place before t m) (rules_of n)) nodes

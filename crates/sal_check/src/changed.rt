@@ -7,15 +7,16 @@ ghost use Rattle.sal_tree.specs.Grow.{IsSound};
 ghost use Rattle.sal_rules.specs.Breaches as breaches;
 ghost use Rattle.sal_check.specs.Near as spec;
 ghost use Rattle.sal_check.specs.Nodes.{steps_in, AreJudged};
-ghost use Rattle.sal_rows.specs.declared.outcome.Rule.TheVariants.{MinElements, MaxElements};
+ghost use Rattle.sal_rows.specs.declared.outcome.Rule.TheVariants.{MinElements, MaxElements, Unique};
 
 use crate::climb::{context, way};
+use crate::fresh::repeats_freshly;
 use crate::lists::Lists;
 use crate::reach::{kid, reached};
 use crate::rules::{has_minimum, is_demanded};
 use crate::spot::after_step;
 use crate::trail::longer;
-use crate::walk::judge;
+use crate::walk::{is_looked_at, judge, with_breach};
 use sal_node::Node;
 use sal_rows::{Breach, Rule};
 use sal_rules::Spot;
@@ -24,8 +25,8 @@ use sal_types::{NoMemory, Step, Store};
 use std::alloc::Global;
 use std::sync::Arc;
 
-// Whether the node has one of these stamps.
-fn is_new(stamps: &[u64], node: &Arc<Node>) -> bool
+/// Whether the node has one of these stamps.
+pub(crate) fn is_new(stamps: &[u64], node: &Arc<Node>) -> bool
     ensures { result ≡ spec.is_new stamps.now node.now.value.stamp }
 {
     match stamps {
@@ -133,7 +134,68 @@ fn judge_changed(
     if is_settled(alloc, schema, stamps, before, node, rule)? {
         return Ok(least);
     }
-    judge(alloc, schema, store, trail, node, at, rule, least)
+    match before {
+        None => judge(alloc, schema, store, trail, node, at, rule, least),
+        Some(old) => judge_again(
+            alloc, schema, store, stamps, trail, old, node, at, rule, least,
+        ),
+    }
+}
+
+// The least breach with that of a rule that was kept before.
+fn judge_again(
+    alloc: Global,
+    schema: &Schema,
+    store: Store,
+    stamps: &[u64],
+    trail: &[&Step],
+    before: &Arc<Node>,
+    node: &Arc<Node>,
+    at: Option<u32>,
+    rule: Rule,
+    least: Option<Breach>,
+) -> Result<Option<Breach>, NoMemory>
+    requires before { IsGrove before.now.value.kids }
+    requires sound { IsGrove node.now.value.kids }
+    requires number { breaches.node_of_rule rule < length schema.now.nodes }
+    ensures { IfOk result (λ r. r ≡ fold breaches.keep least (spec.breach_if schema.now store (steps_in trail.now) rule (spec.broken_near stamps.now schema.now (Some before.now.value) node.now.value at rule))) }
+{
+    match rule {
+        Rule::Unique(number) => judge_unique(
+            alloc, schema, store, stamps, trail, before, node, at, number, least,
+        ),
+        Rule::Mandatory(_) => judge(alloc, schema, store, trail, node, at, rule, least),
+        Rule::MinElements(_) => judge(alloc, schema, store, trail, node, at, rule, least),
+        Rule::MaxElements(_) => judge(alloc, schema, store, trail, node, at, rule, least),
+        Rule::TwoCases(_) => judge(alloc, schema, store, trail, node, at, rule, least),
+    }
+}
+
+// The least breach with that of the `unique` statements of a list, which were kept before.
+fn judge_unique(
+    alloc: Global,
+    schema: &Schema,
+    store: Store,
+    stamps: &[u64],
+    trail: &[&Step],
+    before: &Arc<Node>,
+    node: &Arc<Node>,
+    at: Option<u32>,
+    number: u32,
+    least: Option<Breach>,
+) -> Result<Option<Breach>, NoMemory>
+    requires before { IsGrove before.now.value.kids }
+    requires sound { IsGrove node.now.value.kids }
+    requires number { number < length schema.now.nodes }
+    ensures { IfOk result (λ r. r ≡ fold breaches.keep least (spec.breach_if schema.now store (steps_in trail.now) (Unique number) (spec.broken_near stamps.now schema.now (Some before.now.value) node.now.value at (Unique number)))) }
+{
+    if !is_looked_at(schema, store, number) {
+        return Ok(least);
+    }
+    if !repeats_freshly(alloc, schema, stamps, before, node, at, number)? {
+        return Ok(least);
+    }
+    with_breach(alloc, schema, trail, Rule::Unique(number), least)
 }
 
 // The least breach with those of one node.

@@ -24,7 +24,7 @@
 //! | `Plan::of` | s climbs, and a list of numbers for each schema node |
 //! | `check_all` | that of a plan; one look at each node of the tree and a list of references to its children, and one more look at the entries of a list for each count that is stated; for each `unique` statement of a list of m entries m log m comparisons of its leafs, and a set of m references |
 //! | `check_by` | the same without the plan |
-//! | `check_near` | a look at each node with a new stamp, and at the pages of its children that have one; for each count or `unique` statement of a list in which something changed what `check_all` needs for it |
+//! | `check_near` | a look at each node with a new stamp, and at the pages of its children that have one; for each count of a list in which something changed one look at its entries; for each `unique` statement of such a list the leafs of the entries with a new stamp, and, only where some of these leafs changed, one look at the entries |
 //!
 //! No row is copied. A recursion is at most 32 steps deep over the tree, and as deep as choices and cases lie in one another.
 #![tactic(auto)]
@@ -33,6 +33,7 @@ mod breach;
 mod changed;
 mod check;
 mod climb;
+mod fresh;
 pub mod laws;
 mod lists;
 mod plan;

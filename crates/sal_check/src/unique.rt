@@ -35,8 +35,8 @@ fn cell_of<'a>(node: Option<&'a Arc<Node>>) -> Option<&'a Cell>
     }
 }
 
-// The cells at these paths below an entry, if one stands at each.
-fn cells_at<'a>(
+/// The cells at these paths below an entry, if one stands at each.
+pub(crate) fn cells_at<'a>(
     alloc: Global,
     entry: &'a Arc<Node>,
     ways: &[Vec<Step>],
@@ -102,21 +102,25 @@ fn combinations<'a>(
     Ok(found)
 }
 
-// Whether two of these are the same.
-fn has_double(alloc: Global, combinations: &[Vec<&Cell>]) -> Result<bool, NoMemory>
+/// Whether two of these are the same.
+pub(crate) fn has_double(alloc: Global, combinations: &[Vec<&Cell>]) -> Result<bool, NoMemory>
     ensures { IfOk result (λ b. b ≡ spec.has_double (all_cells_in combinations.now)) }
 {
     let mut seen = BTreeSet::new(alloc);
     for cells in combinations {
-        if !seen.insert(cells)? {
+        if !seen.insert(cells.as_slice())? {
             return Ok(true);
         }
     }
     Ok(false)
 }
 
-// The steps from an entry to each of these leafs.
-fn ways_to(alloc: Global, schema: &Schema, leafs: &[u32]) -> Result<Vec<Vec<Step>>, NoMemory>
+/// The steps from an entry to each of these leafs.
+pub(crate) fn ways_to(
+    alloc: Global,
+    schema: &Schema,
+    leafs: &[u32],
+) -> Result<Vec<Vec<Step>>, NoMemory>
     ensures { IfOk result (λ v. ways_in v.items ≡ map (contexts.way_in_entry schema.now) leafs.now) }
 {
     let mut ways = Vec::with_capacity(alloc, leafs.len())?;

@@ -6,6 +6,7 @@ ghost use Rattle.sal_node.specs.Tree.{IsGrove};
 ghost use Rattle.sal_schema.specs.Table.{config_of};
 ghost use Rattle.sal_tree.specs.Grow.{IsSound};
 ghost use Rattle.sal_rules.specs.Breaches as spec;
+ghost use Rattle.sal_check.specs.Near as near;
 ghost use Rattle.sal_check.specs.Nodes.{seen_in, steps_in, found, found_at, AreJudged};
 ghost use Rattle.sal_rules.specs.Rules.{broken};
 
@@ -23,7 +24,8 @@ use sal_types::{NoMemory, Step, Store};
 use std::alloc::Global;
 use std::sync::Arc;
 
-fn is_looked_at(schema: &Schema, store: Store, number: u32) -> bool
+/// Whether the rules of the node are looked at in the store.
+pub(crate) fn is_looked_at(schema: &Schema, store: Store, number: u32) -> bool
     requires { number < length schema.now.nodes }
     ensures { result ≡ spec.is_looked_at schema.now store number }
 {
@@ -86,6 +88,20 @@ pub(crate) fn judge(
     if !is_broken(alloc, schema, Some(node), at, rule)? {
         return Ok(least);
     }
+    with_breach(alloc, schema, trail, rule, least)
+}
+
+/// The least breach with that of a rule that is broken at the end of the trail, unless the path is too long.
+pub(crate) fn with_breach(
+    alloc: Global,
+    schema: &Schema,
+    trail: &[&Step],
+    rule: Rule,
+    least: Option<Breach>,
+) -> Result<Option<Breach>, NoMemory>
+    requires { spec.node_of_rule rule < length schema.now.nodes }
+    ensures { IfOk result (λ r. r ≡ fold spec.keep least (near.breach_there schema.now (steps_in trail.now) rule)) }
+{
     match place_of(alloc, schema, trail, rule)? {
         None => Ok(least),
         Some(path) => Ok(keep(least, Breach { path, rule })),

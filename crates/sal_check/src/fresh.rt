@@ -1,0 +1,284 @@
+//! Entries of a changed list that agree in the leafs of a `unique` statement, where none did before.
+ghost use Rattle.std.specs.Prelude.{◌≡◌, ◌<◌, ◌++◌, ◌&&◌, List, [], length, map, Some, IfOk, OnOk, if◌then◌else◌};
+ghost use Rattle.std.specs.List.{list_any, flat_map};
+ghost use Rattle.std.specs.Option.{option_map};
+ghost use Rattle.sal_node.specs.Shape.{tree_at};
+ghost use Rattle.sal_node.specs.Tree.{IsGrove, pairs};
+ghost use Rattle.sal_tree.specs.Grow as trees;
+ghost use Rattle.sal_tree.specs.Grow.{IsSound};
+ghost use Rattle.sal_types.specs.declared.value.Step.TheVariants.{Node as Toward};
+ghost use Rattle.sal_types.specs.declared.value.Cell.{Cell as CellValue};
+ghost use Rattle.sal_rules.specs.Contexts as contexts;
+ghost use Rattle.sal_check.specs.Near as spec;
+ghost use Rattle.sal_rules.specs.Rules.{same_cells};
+ghost use Rattle.sal_check.specs.Uniques.{Holds, all_cells_in, cells_in, combination, ways_in};
+ghost use Rattle.sal_rows.specs.declared.outcome.Rule.TheVariants.{Unique};
+
+use crate::changed::is_new;
+use crate::reach::kid;
+use crate::unique::{cells_at, has_double, ways_to};
+use sal_node::{Child, Node};
+use sal_schema::{Kind, Schema};
+use sal_types::{Cell, NoMemory, Step};
+use std::alloc::Global;
+use std::collections::BTreeSet;
+use std::sync::Arc;
+
+/// Whether two entries of a list agree in all leafs of one of its `unique` statements, where none did before.
+pub(crate) fn repeats_freshly(
+    alloc: Global,
+    schema: &Schema,
+    stamps: &[u64],
+    before: &Arc<Node>,
+    node: &Arc<Node>,
+    at: Option<u32>,
+    number: u32,
+) -> Result<bool, NoMemory>
+    requires before { IsGrove before.now.value.kids }
+    requires sound { IsGrove node.now.value.kids }
+    requires number { number < length schema.now.nodes }
+    ensures { IfOk result (λ b. b ≡ spec.broken_near stamps.now schema.now (Some before.now.value) node.now.value at (Unique number)) }
+{
+    if schema.kind(number) != Kind::List || schema.data_parent(number) != at {
+        return Ok(false);
+    }
+    for leafs in schema.uniques(number) {
+        if agree(alloc, schema, stamps, before, node, number, leafs.items())? {
+            return Ok(true);
+        }
+    }
+    Ok(false)
+}
+
+// Whether two entries agree in these leafs.
+fn agree(
+    alloc: Global,
+    schema: &Schema,
+    stamps: &[u64],
+    before: &Arc<Node>,
+    node: &Arc<Node>,
+    number: u32,
+    leafs: &[u32],
+) -> Result<bool, NoMemory>
+    requires before { IsGrove before.now.value.kids }
+    requires sound { IsGrove node.now.value.kids }
+    ensures { IfOk result (λ b. b ≡ spec.agree_freshly stamps.now (map (contexts.way_in_entry schema.now) leafs.now) (trees.kid (Some before.now.value) (Toward number)) (trees.kids_in (trees.kid (Some node.now.value) (Toward number)))) }
+{
+    let step = Step::Node(number);
+    let Some(list) = kid(Some(node), &step) else {
+        return Ok(false);
+    };
+    let ways = ways_to(alloc, schema, leafs)?;
+    agree_in(alloc, stamps, &ways, kid(Some(before), &step), list)
+}
+
+fn agree_in(
+    alloc: Global,
+    stamps: &[u64],
+    ways: &[Vec<Step>],
+    before: Option<&Arc<Node>>,
+    list: &Arc<Node>,
+) -> Result<bool, NoMemory>
+    requires before { IsSound (tree_at before) }
+    requires sound { IsGrove list.now.value.kids }
+    ensures { IfOk result (λ b. b ≡ spec.agree_freshly stamps.now (ways_in ways.now) (tree_at before.entry) (pairs list.now.value.kids)) }
+{
+    let fresh = fresh_cells(alloc, stamps, ways, before, list)?;
+    if fresh.is_empty() {
+        return Ok(false);
+    }
+    agree_with(alloc, &fresh, stamps, ways, before, list)
+}
+
+// Whether two of the fresh ones are the same, or another entry has the cells of one.
+fn agree_with<'a>(
+    alloc: Global,
+    fresh: &[Vec<&'a Cell>],
+    stamps: &[u64],
+    ways: &[Vec<Step>],
+    before: Option<&Arc<Node>>,
+    list: &'a Arc<Node>,
+) -> Result<bool, NoMemory>
+    requires before { IsSound (tree_at before) }
+    requires sound { IsGrove list.now.value.kids }
+    requires fresh { all_cells_in fresh.now ≡ flat_map (spec.fresh_of stamps.now (ways_in ways.now) (tree_at before)) (pairs list.now.value.kids) }
+    ensures { IfOk result (λ b. b ≡ spec.agree_freshly stamps.now (ways_in ways.now) (tree_at before.entry) (pairs list.now.value.kids)) }
+{
+    if has_double(alloc, fresh)? {
+        return Ok(true);
+    }
+    occurs(alloc, fresh, stamps, ways, before, list)
+}
+
+// The cells of the entries that have other ones than before.
+fn fresh_cells<'a>(
+    alloc: Global,
+    stamps: &[u64],
+    ways: &[Vec<Step>],
+    before: Option<&Arc<Node>>,
+    list: &'a Arc<Node>,
+) -> Result<Vec<Vec<&'a Cell>>, NoMemory>
+    requires before { IsSound (tree_at before) }
+    requires sound { IsGrove list.now.value.kids }
+    ensures { IfOk result (λ v. all_cells_in v.items ≡ flat_map (spec.fresh_of stamps.now (ways_in ways.now) (tree_at before.entry)) (pairs list.now.value.kids)) }
+{
+    let mut found = Vec::new(alloc);
+    let children = list.children_with(alloc, stamps)?;
+    for child in &children {
+        add_fresh(alloc, &mut found, ways, kid(before, &child.step), child)?;
+    }
+    Ok(found)
+}
+
+// Puts the cells of the child at the end, where they are others than those of the entry before.
+fn add_fresh<'a>(
+    alloc: Global,
+    found: &mut Vec<Vec<&'a Cell>>,
+    ways: &[Vec<Step>],
+    before: Option<&Arc<Node>>,
+    child: &'a Child,
+) -> Result<(), NoMemory>
+    requires before { IsSound (tree_at before) }
+    requires sound { IsGrove child.now.node.value.kids }
+    ensures { OnOk result (all_cells_in found.new.items ≡ all_cells_in found.old.items ++ (if spec.differs (spec.leafs_of (ways_in ways.now) (tree_at before.entry)) (spec.leafs_of (ways_in ways.now) (Some child.now.node.value)) then combination (ways_in ways.now) (child.now.step, child.now.node.value) else [])) }
+{
+    let Some(cells) = leafs_of(alloc, Some(&child.node), ways)? else {
+        return Ok(());
+    };
+    if differ(alloc, ways, before, &cells)? {
+        found.push(cells)?;
+    }
+    Ok(())
+}
+
+// The cells at these paths in an entry, if it is one and has them all.
+fn leafs_of<'a>(
+    alloc: Global,
+    entry: Option<&'a Arc<Node>>,
+    ways: &[Vec<Step>],
+) -> Result<Option<Vec<&'a Cell>>, NoMemory>
+    requires { IsSound (tree_at entry) }
+    ensures { IfOk result (λ r. option_map (λ v. cells_in v.items) r ≡ spec.leafs_of (ways_in ways.now) (tree_at entry.entry)) }
+{
+    let Some(entry) = entry else {
+        return Ok(None);
+    };
+    if entry.cell.is_none() {
+        return Ok(None);
+    }
+    cells_at(alloc, entry, ways)
+}
+
+// Whether the cells are not those of the entry before.
+fn differ(
+    alloc: Global,
+    ways: &[Vec<Step>],
+    before: Option<&Arc<Node>>,
+    cells: &[&Cell],
+) -> Result<bool, NoMemory>
+    requires before { IsSound (tree_at before) }
+    ensures { IfOk result (λ b. b ≡ spec.differs (spec.leafs_of (ways_in ways.now) (tree_at before.entry)) (Some (cells_in cells.now))) }
+{
+    match leafs_of(alloc, before, ways)? {
+        None => Ok(true),
+        Some(old) => Ok(!are_same(&old, cells)),
+    }
+}
+
+fn are_same(some: &[&Cell], others: &[&Cell]) -> bool
+    ensures { result ≡ same_cells (cells_in some.now) (cells_in others.now) }
+{
+    some.cmp(others).is_eq()
+}
+
+// Whether another entry than the fresh ones has the cells of one of these.
+fn occurs<'a>(
+    alloc: Global,
+    fresh: &[Vec<&'a Cell>],
+    stamps: &[u64],
+    ways: &[Vec<Step>],
+    before: Option<&Arc<Node>>,
+    list: &'a Arc<Node>,
+) -> Result<bool, NoMemory>
+    requires before { IsSound (tree_at before) }
+    requires sound { IsGrove list.now.value.kids }
+    ensures { IfOk result (λ b. b ≡ list_any (spec.is_among (all_cells_in fresh.now)) (flat_map (spec.other_of stamps.now (ways_in ways.now) (tree_at before.entry)) (pairs list.now.value.kids))) }
+{
+    let set = set_of(alloc, fresh)?;
+    occurs_in(alloc, &set, stamps, ways, before, list)
+}
+
+fn set_of<'x, 'a>(
+    alloc: Global,
+    fresh: &'x [Vec<&'a Cell>],
+) -> Result<BTreeSet<&'x [&'a Cell]>, NoMemory>
+    ensures { IfOk result (λ set. Holds set (all_cells_in fresh.now)) }
+{
+    let mut set = BTreeSet::new(alloc);
+    for cells in fresh {
+        let _ = set.insert(cells.as_slice())?;
+    }
+    Ok(set)
+}
+
+// Whether the set has the cells of another entry than the fresh ones.
+fn occurs_in<'x, 'a>(
+    alloc: Global,
+    set: &BTreeSet<&'x [&'a Cell]>,
+    stamps: &[u64],
+    ways: &[Vec<Step>],
+    before: Option<&Arc<Node>>,
+    list: &'a Arc<Node>,
+) -> Result<bool, NoMemory>
+    requires before { IsSound (tree_at before) }
+    requires sound { IsGrove list.now.value.kids }
+    ensures { IfOk result (λ b. (xs : List (List CellValue)) → Holds set.now xs → b ≡ list_any (spec.is_among xs) (flat_map (spec.other_of stamps.now (ways_in ways.now) (tree_at before.entry)) (pairs list.now.value.kids))) }
+{
+    let children = list.children(alloc)?;
+    for child in &children {
+        if is_known(alloc, set, stamps, ways, before, child)? {
+            return Ok(true);
+        }
+    }
+    Ok(false)
+}
+
+// Whether the child is another entry than the fresh ones, and the set has its cells.
+fn is_known<'x, 'a>(
+    alloc: Global,
+    set: &BTreeSet<&'x [&'a Cell]>,
+    stamps: &[u64],
+    ways: &[Vec<Step>],
+    before: Option<&Arc<Node>>,
+    child: &'a Child,
+) -> Result<bool, NoMemory>
+    requires before { IsSound (tree_at before) }
+    requires sound { IsGrove child.now.node.value.kids }
+    ensures { IfOk result (λ b. (xs : List (List CellValue)) → Holds set.now xs → b ≡ list_any (spec.is_among xs) (spec.other_of stamps.now (ways_in ways.now) (tree_at before.entry) (child.now.step, child.now.node.value))) }
+{
+    let Some(cells) = leafs_of(alloc, Some(&child.node), ways)? else {
+        return Ok(false);
+    };
+    if is_fresh(alloc, stamps, ways, before, child, &cells)? {
+        return Ok(false);
+    }
+    Ok(set.contains(cells.as_slice()))
+}
+
+// Whether the child has a new stamp, and other cells than the entry before.
+fn is_fresh(
+    alloc: Global,
+    stamps: &[u64],
+    ways: &[Vec<Step>],
+    before: Option<&Arc<Node>>,
+    child: &Child,
+    cells: &[&Cell],
+) -> Result<bool, NoMemory>
+    requires before { IsSound (tree_at before) }
+    ensures { IfOk result (λ b. b ≡ (spec.is_new stamps.now child.now.node.value.stamp && spec.differs (spec.leafs_of (ways_in ways.now) (trees.kid (tree_at before.entry) child.now.step)) (Some (cells_in cells.now)))) }
+{
+    if !is_new(stamps, &child.node) {
+        return Ok(false);
+    }
+    differ(alloc, ways, kid(before, &child.step), cells)
+}

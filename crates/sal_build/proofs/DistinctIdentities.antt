@@ -195,12 +195,12 @@ module _ (stmts : List Stmt) (quiet : name_faults stmts (rows_of stmts) ≡ []) 
         let front : take (length seen) whole ≡ seen = ap (take (length seen)) is ∙ take-front seen _ (length seen) refl in
         let test : IsTrue (is_new (length seen) (m, y)) = false-is (list_any (is_alike (m, y)) (take (length seen) whole)) (ap (list_any (is_alike (m, y))) front ∙ new) in
         let defined : defines word.Identity t (argument_of y) (row_of m (Some t) y word.Identity) ≡ true =
-            let here : (t == t) ≡ true = grind (arith, nat_tests) in rw here (same-itself (argument_of y)) in
+        let here : (t == t) ≡ true = grind (arith, nat_tests) in rw here (same-itself (argument_of y)) in
         let known : list_any (defines word.Identity t (argument_of y)) (with_rows 63 m (Some t) rows y) ≡ true =
-            rw deep.is (any-kept (defines word.Identity t (argument_of y)) (rows ++ row_of m (Some t) y word.Identity ∷ []) deep.more (any-last (defines word.Identity t (argument_of y)) rows (row_of m (Some t) y word.Identity) defined)) in
+        rw deep.is (any-kept (defines word.Identity t (argument_of y)) (rows ++ row_of m (Some t) y word.Identity ∷ []) deep.more (any-last (defines word.Identity t (argument_of y)) rows (row_of m (Some t) y word.Identity) defined)) in
         let kept = row-kept m t rows (with_rows 63 m (Some t) rows y) (more-rows 63 m (Some t) rows y) seen h in
         let more : IsTrue (list_all (has_row m t (with_rows 63 m (Some t) rows y)) (seen ++ (m, y) ∷ [])) =
-            all-joined (has_row m t (with_rows 63 m (Some t) rows y)) seen ((m, y) ∷ []) kept (both (has_row m t (with_rows 63 m (Some t) rows y) (m, y)) true (second (nat_lt m m) known) refl) in
+        all-joined (has_row m t (with_rows 63 m (Some t) rows y)) seen ((m, y) ∷ []) kept (both (has_row m t (with_rows 63 m (Some t) rows y) (m, y)) true (second (nat_lt m m) known) refl) in
         let moved : whole ≡ (seen ++ (m, y) ∷ []) ++ (flat_map (identity_here m) subs ++ after) = let w = rw n at is in w ∙ sym (append_assoc seen ((m, y) ∷ []) (flat_map (identity_here m) subs ++ after)) in
         let count : length (seen ++ (m, y) ∷ []) ≡ length seen + 1 = omega (arith, length-append seen ((m, y) ∷ [])) in
         let rest = subs-new m t subs (seen ++ (m, y) ∷ []) after (with_rows 63 m (Some t) rows y) moved ext more in
@@ -251,7 +251,7 @@ module _ (stmts : List Stmt) (quiet : name_faults stmts (rows_of stmts) ≡ []) 
       let own = own-row 63 m None rows stmt word.Module (part-named word.Module stmt top module-part) in
       let step = fold-modules (enumerate_from (m + 1) some) (with_rows 64 m None rows stmt) in
       let ext-here : Extends (fold (λ below sub. with_rows 63 m (Some (length rows)) below sub) (rows ++ row_of m None stmt word.Module ∷ []) (subs_of stmt)) (rows_of stmts) =
-          subst (λ (xs : List TreeRow). Extends xs (rows_of stmts)) own (chain (with_rows 64 m None rows stmt) _ (rows_of stmts) step ext) in
+      subst (λ (xs : List TreeRow). Extends xs (rows_of stmts)) own (chain (with_rows 64 m None rows stmt) _ (rows_of stmts) step ext) in
       let first = subs-new m (length rows) (subs_of stmt) seen rest (rows ++ row_of m None stmt word.Module ∷ []) is ext-here (before-rows m (length rows) (rows ++ row_of m None stmt word.Module ∷ []) seen h) in
       let low = all-joined (is_before_module (m + 1)) seen here (before-more m seen h) (here-before m (subs_of stmt)) in
       let more = modules-new (m + 1) some (seen ++ here) (with_rows 64 m None rows stmt) later (is ∙ sym (append_assoc seen here rest)) ext low in

@@ -202,12 +202,12 @@ module _ (stmts : List Stmt) (forest : List Branch) (placed : IsTrue (all_from (
         ] refl
     leafs-below above (step ∷ next ∷ steps) under =
         elim (child_named stmts forest b false above step) as (λ f. child_named stmts forest b false above step ≡ f
-            → IsTrue (list_all is_below (option_to_list (option_and_then (λ n. leaf_below stmts forest b n (next ∷ steps)) (unless_list stmts forest f))))) [
+        → IsTrue (list_all is_below (option_to_list (option_and_then (λ n. leaf_below stmts forest b n (next ∷ steps)) (unless_list stmts forest f))))) [
           | None ↦ λ e. refl
           | Some n ↦ λ e. elim (cases_Bool (is_list_at stmts forest n)) [
-              | inl t ↦ rw t refl
-              | inr other ↦ rw other (leafs-below n (next ∷ steps) (node-under above under n (child-is stmts forest b false above step n e) other))
-            ]
+            | inl t ↦ rw t refl
+            | inr other ↦ rw other (leafs-below n (next ∷ steps) (node-under above under n (child-is stmts forest b false above step n e) other))
+          ]
         ] refl
 
     given-below : (f : List ℕ → Option ℕ) (test : ℕ → Bool) → ((word : List ℕ) → IsTrue (list_all test (option_to_list (f word)))) → (words : List (List ℕ)) → IsTrue (list_all test (given (map f words)))

@@ -5,7 +5,7 @@ use std::alloc::Global;
 use std::test::Fail;
 
 // Texts and their first bad places; `ok` where there is none.
-const TEXTS: [(&str, &str); 89] = [
+const TEXTS: &[(&str, &str)] = &[
     ("{}", "ok"),
     (" {\n} ", "ok"),
     ("", "json"),
@@ -153,7 +153,7 @@ fn first_bad_places(rt: HostRuntime) -> Result<(), Fail> {
 // ---- limits
 
 // Numbers of clients and of steps of each, the step, and the first bad place.
-const LIMITS: [(usize, usize, &str, &str); 5] = [
+const LIMITS: &[(usize, usize, &str, &str)] = &[
     (16, 1, "[\"submit\",1]", "ok"),
     (17, 1, "[\"submit\",1]", "clients"),
     (1, 60000, "[\"submit\",1]", "ok"),
@@ -200,7 +200,7 @@ fn is_kept(alloc: Global, limit: (usize, usize, &str, &str)) -> Result<bool, Fai
 #[test]
 fn limits_and_bytes(rt: HostRuntime) -> Result<(), Fail> {
     for limit in LIMITS {
-        let is_kept = is_kept(rt.alloc(), limit)?;
+        let is_kept = is_kept(rt.alloc(), *limit)?;
         assert!(rt;
             is_kept,
             "{} clients with {} steps {}",

@@ -1,3 +1,8 @@
+ghost use Rattle.std.specs.Prelude.{◌≡◌, IsTrue};
+ghost use Rattle.sal_types.specs.declared.value.Store.TheVariants.{Config};
+ghost use Rattle.sal_rows.specs.declared.op.Act.TheVariants.{Put};
+ghost use Rattle.sal_rules.specs.Writes.{IsForSchema};
+
 use crate::schemas::schema_of;
 use crate::texts::{path_of, rows_of};
 use sal_data::fits_rows;
@@ -73,7 +78,9 @@ const PUTS: [(&str, &str, (&str, &str), usize); 6] = [
     ("0/2/#1/3", "", ("key-leaf", "0/2/#1/3"), 2),
 ];
 
-fn is_for_schema(schema: &Schema, path: &Path, rows: &Rows) -> bool {
+fn is_for_schema(schema: &Schema, path: &Path, rows: &Rows) -> bool
+    ensures { IsTrue result → IsForSchema schema.now (record { store = Config; path = path.now; act = Put rows.now }) }
+{
     schema.fits(path) && !schema.is_in_message(path) && fits_rows(schema, path, rows)
 }
 

@@ -1,5 +1,5 @@
 -- The phases of a commit, by the trees that a domain keeps.
-use Rattle.std.specs.Prelude.{◌≡◌, ◌-◌, ◌<◌, List, [], ◌∷◌, ◌++◌, length, Option}
+use Rattle.std.specs.Prelude.{◌≡◌, ℕ, ◌<◌, List, [], ◌∷◌, ◌++◌, length, Option, unwrap_or}
 use Rattle.std.specs.Option.{option_or, option_map}
 use Rattle.sal_types.specs.declared.value.Store.{Store}
 use Rattle.sal_types.specs.declared.value.Store.TheVariants.{Config, Oper}
@@ -7,17 +7,18 @@ use Rattle.sal_types.specs.declared.row.Row.{Row}
 use Rattle.sal_types.specs.Tree.{under}
 use Rattle.sal_rows.specs.declared.op.Op.{Op}
 use Rattle.sal_rows.specs.declared.outcome.Outcome.{Outcome}
-use Rattle.sal_rows.specs.declared.outcome.Outcome.TheVariants.{Invalid}
+use Rattle.sal_rows.specs.declared.outcome.Outcome.TheVariants.{ChainFailed, Invalid}
 use Rattle.sal_rows.specs.Apply.{apply_ops, rows_of_act}
 use Rattle.sal_rows.specs.declared.clash.Span.{Span}
+use Rattle.sal_rows.specs.Spans.{spans}
 use Rattle.sal_schema.specs.declared.table.SchemaTable.{SchemaTable}
 use Rattle.sal_rules.specs.Breaches.{breach}
 use Rattle.sal_tree.specs.declared.commit.Commit.{Commit}
 use Rattle.sal_rows.specs.Clash.{tip}
-use Rattle.sal_graft.specs.Kept.{AreKept, opening_in, ops_of, rows_in}
+use Rattle.sal_graft.specs.Kept.{AreKept, chains_of, opening_in, ops_of, rows_in}
 use Rattle.sal_tx.specs.declared.tx.Submission.{Submission}
 use Rattle.sal_history.specs.Outcome as outcome
-use Rattle.sal_history.specs.History.{ops_if_done}
+use Rattle.sal_history.specs.Submissions.{if_done}
 use Rattle.sal_commit.specs.declared.domain.Domain.{Domain}
 use Rattle.sal_commit.specs.Domains.{IsSame}
 
@@ -33,9 +34,9 @@ pub record IsFor (d : Domain) (sub : Submission) : Type 0 where
   pub base : sub.base_commit < length d.commits.items
   pub below : LieBelow sub.changes
 
--- all commits after the base are foreign
+-- the foreign commits: those after the base without those of the submission's own chain
 abbrev pub spans_of : Domain → Submission → List Span
-spans_of d sub = record { from = sub.base_commit; to = length d.commits.items - 1 } ∷ []
+spans_of d sub = spans sub.base_commit sub.chain (chains_of d.commits.items)
 
 -- the conflict of a submission with the commits after its base
 abbrev pub conflict : Domain → Submission → Option Outcome
@@ -51,9 +52,17 @@ invalid d sub s = outcome.invalid d.schema.value (opening_in d.commits.items) (o
 abbrev pub breached : Domain → Submission → Option Outcome
 breached d sub = option_or (invalid d sub Config) (invalid d sub Oper)
 
--- the outcome of a submission at the newest commit of the domain
-abbrev pub decide : Domain → Submission → Outcome
-decide d sub = outcome.decide d.schema.value (opening_in d.commits.items) (ops_of d.commits.items) (rows_in sub.base) (spans_of d sub) sub.changes
+-- the outcome of a submission at the newest commit of the domain, where its chain has not failed
+abbrev pub judge : Domain → Submission → Outcome
+judge d sub = outcome.decide d.schema.value (opening_in d.commits.items) (ops_of d.commits.items) (rows_in sub.base) (spans_of d sub) sub.changes
+
+-- the outcome where its chain has failed by a receipt, if it has
+abbrev pub decide : Option ℕ → Domain → Submission → Outcome
+decide failed d sub = unwrap_or (option_map ChainFailed failed) (judge d sub)
+
+-- why it cannot be committed, before the new trees are made: its chain has failed, or it conflicts
+abbrev pub refused : Option ℕ → Domain → Submission → Option Outcome
+refused failed d sub = option_or (option_map ChainFailed failed) (conflict d sub)
 
 -- the next commit of the domain: that of the submission
 pub record IsNext (d : Domain) (sub : Submission) (c : Commit) : Type 0 where
@@ -68,4 +77,5 @@ pub record Decides (old : Domain) (sub : Submission) (outcome : Outcome) (new : 
   pub same : IsSame old new
   pub kept : AreKept new.commits.items
   pub opening : opening_in new.commits.items ≡ opening_in old.commits.items
-  pub commits : ops_of new.commits.items ≡ ops_of old.commits.items ++ ops_if_done outcome sub.changes
+  pub commits : ops_of new.commits.items ≡ ops_of old.commits.items ++ if_done outcome sub.changes
+  pub chains : chains_of new.commits.items ≡ chains_of old.commits.items ++ if_done outcome sub.chain

@@ -12,20 +12,22 @@ use sal_types::NoMemory;
 use std::alloc::Global;
 
 /// Decides the submission at the newest commit of its domain: the outcome, and where it is done the next commit with both
-/// trees. Nodes that it touches get the stamp `fresh`. After want of memory the domain has the commits that it had.
+/// trees. Where its chain has failed, by the receipt `failed`, that is the outcome. Nodes that it touches get the stamp
+/// `fresh`. After want of memory the domain has the commits that it had.
 pub fn decide(
     alloc: Global,
     sub: &Submission,
     domain: &mut Domain,
+    failed: Option<u64>,
     fresh: u64,
 ) -> Result<Outcome, NoMemory>
     requires { spec.IsFor domain.old sub.now }
-    ensures outcome { IfOk result (λ o. o ≡ spec.decide domain.old sub.now) }
+    ensures outcome { IfOk result (λ o. o ≡ spec.decide failed domain.old sub.now) }
     ensures decided { IfOk result (λ o. spec.Decides domain.old sub.now o domain.new) }
     ensures same { OnErr result (IsSame domain.old domain.new) }
     ensures commits { OnErr result (domain.new.commits.items ≡ domain.old.commits.items) }
 {
-    let prepared = match prepare(alloc, sub, domain, fresh)? {
+    let prepared = match prepare(alloc, sub, domain, failed, fresh)? {
         Attempt::Refused { outcome } => return Ok(outcome),
         Attempt::Made { prepared } => prepared,
     };
@@ -45,12 +47,13 @@ fn prepare(
     alloc: Global,
     sub: &Submission,
     domain: &Domain,
+    failed: Option<u64>,
     fresh: u64,
 ) -> Result<Attempt, NoMemory>
     requires { spec.IsFor domain.now sub.now }
-    ensures { IfOk result (IsAttempt domain.now sub.now) }
+    ensures { IfOk result (IsAttempt failed domain.now sub.now) }
 {
-    let ready = match can(alloc, sub, domain) {
+    let ready = match can(alloc, sub, domain, failed) {
         Ok(ready) => ready,
         Err(CanFault::Refused { outcome }) => return Ok(Attempt::Refused { outcome }),
         Err(CanFault::NoMemory) => return Err(NoMemory),

@@ -34,7 +34,7 @@ pub struct Prepared {
 /// Why a submission cannot be committed.
 #[derive(Debug, Drop, Error)]
 pub enum CanFault {
-    /// It conflicts with a later commit.
+    /// Its chain has failed, or it conflicts with a later commit.
     #[error("refused")]
     Refused { outcome: Outcome },
     #[error("out of memory")]
@@ -73,16 +73,18 @@ impl From<NoMemory> for PreFault {
     }
 }
 
-/// canCommit: whether the submission conflicts with the commits after its base.
+/// canCommit: whether the submission's chain has failed, by the receipt `failed`, or it conflicts with the foreign commits after
+/// its base, which are those that are not of its own chain.
 pub fn can<'a>(
     alloc: Global,
     sub: &'a Submission,
     domain: &'a Domain,
+    failed: Option<u64>,
 ) -> Result<Ready<'a>, CanFault>
     requires { spec.IsFor domain.now sub.now }
     ensures { MatchResult result
-        (λ ready. (ready.sub.now ≡ sub.now) × (ready.domain.now ≡ domain.now) × (spec.conflict domain.now sub.now ≡ None))
-        (λ fault. (fault ≡ CanFault.NoMemory) ⊎ ((o : Decided) × (fault ≡ CanFault.Refused o) × (spec.conflict domain.now sub.now ≡ Some o))) }
+        (λ ready. (ready.sub.now ≡ sub.now) × (ready.domain.now ≡ domain.now) × (spec.refused failed domain.now sub.now ≡ None))
+        (λ fault. (fault ≡ CanFault.NoMemory) ⊎ ((o : Decided) × (fault ≡ CanFault.Refused o) × (spec.refused failed domain.now sub.now ≡ Some o))) }
 {
     match conflict_in(alloc, sub, domain)? {
         None => Ok(Ready { sub, domain }),

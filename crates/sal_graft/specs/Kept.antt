@@ -1,5 +1,5 @@
 -- The commits that a domain keeps, each with its operations and the trees after it.
-use Rattle.std.specs.Prelude.{◌≡◌, ℕ, ◌<◌, ◌≤◌, List, [], ◌∷◌, length, slice_index_or}
+use Rattle.std.specs.Prelude.{◌≡◌, ℕ, ◌<◌, ◌≤◌, List, [], ◌∷◌, length, map, Option, slice_index_or}
 use Rattle.sal_types.specs.declared.value.Store.{Store}
 use Rattle.sal_types.specs.declared.value.Store.TheVariants.{Config, Oper}
 use Rattle.sal_types.specs.declared.row.Row.{Row}
@@ -32,6 +32,11 @@ all_ops (c ∷ commits) = c.ops.value ∷ all_ops commits
 abbrev pub ops_of : List Commit → List (List Op)
 ops_of [] = []
 ops_of (opening ∷ commits) = all_ops commits
+
+-- their chains
+abbrev pub chains_of : List Commit → List (Option ℕ)
+chains_of [] = []
+chains_of (opening ∷ commits) = map (λ (c : Commit). c.chain) commits
 
 -- each commit stands at its number and has the trees that the operations up to it make of the opening
 pub record AreKept (kept : List Commit) : Type 0 where

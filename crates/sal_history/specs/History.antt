@@ -1,37 +1,33 @@
 -- What the log of shared calls means: each entry's answer, the receipts, their outcomes, the commits and the trees.
 -- The log is all that there is; every definition here looks at entries alone.
-use Rattle.std.specs.Prelude.{ℕ, Bool, false, zero, suc, ◌+◌, ◌-◌, List, [], ◌∷◌, ◌++◌, length, take, Option, Some, None, if◌then◌else◌, nat_eq, nat_lt, slice_get, unwrap_or, option_and_then, count_by}
+use Rattle.std.specs.Prelude.{ℕ, Bool, false, not, zero, suc, ◌+◌, ◌-◌, List, [], ◌∷◌, ◌++◌, length, Option, Some, None, if◌then◌else◌, nat_eq, nat_lt, slice_get, unwrap_or, option_and_then, count_by}
 use Rattle.std.specs.List.{fold, filter_map, flat_map, list_any}
+use Rattle.std.specs.Option.{option_map, option_map_or, option_or}
 use Rattle.sal_types.specs.declared.value.Store.{Store}
 use Rattle.sal_types.specs.declared.row.Row.{Row}
 use Rattle.sal_rows.specs.declared.op.Op.{Op}
+use Rattle.sal_rows.specs.declared.outcome.CallFault.{CallFault}
+use Rattle.sal_rows.specs.declared.outcome.CallFault.TheVariants.{NoDomain, PipelineFull, TxSpent, PreviousOpen, ChainFailed, ChainClosed}
 use Rattle.sal_rows.specs.declared.outcome.Outcome.{Outcome}
-use Rattle.sal_rows.specs.declared.outcome.Outcome.TheVariants.{Done, Conflict, Invalid}
-use Rattle.sal_rows.specs.declared.outcome.CallFault.TheVariants.{NoDomain, PipelineFull, TxSpent}
+use Rattle.sal_rows.specs.declared.outcome.Outcome.TheVariants.{ChainFailed as FailedBy}
 use Rattle.sal_rows.specs.Apply.{apply_ops}
-use Rattle.sal_rows.specs.Commits.{tree_after, tree_at}
+use Rattle.sal_rows.specs.Commits.{tree_after}
+use Rattle.sal_rows.specs.Spans.{is_of_chain, spans}
 use Rattle.sal_history.specs.declared.call.Call.{Call}
-use Rattle.sal_history.specs.declared.call.Call.TheVariants.{Begin, Submit, Cancel, Settle}
+use Rattle.sal_history.specs.declared.call.Call.TheVariants.{Begin, OpenChain, ChainBegin, CloseChain, Submit, Cancel, Settle, Pump, Mark, After}
 use Rattle.sal_history.specs.declared.call.Entry.{Entry}
 use Rattle.sal_history.specs.declared.reply.Reply.{Reply}
-use Rattle.sal_history.specs.declared.reply.Reply.TheVariants.{Begun, Accepted, Receipt, Settled, Refused}
+use Rattle.sal_history.specs.declared.reply.Reply.TheVariants.{Begun, Chain, Accepted, Receipt, Settled, Decided, Nothing, Found, Late, Refused}
 use Rattle.sal_history.specs.Outcome.{decide}
+use Rattle.sal_history.specs.Submissions.{Base, Sent, done_chains, done_ops, failing, last_from, pending_receipt, view_of}
 use Rattle.sal_history.specs.World.{Domain, opening_of, table_of}
 
--- a transaction that was begun: its domain and the number of its base commit
-pub record Base : Type 0 where
-  pub domain : ℕ
-  pub commit : ℕ
-
--- a submission: what its transaction stands on, and its operations
-pub record Sent : Type 0 where
-  pub base : Base
-  pub ops : List Op
-
--- an entry with its answer, the submission that it made, and the outcomes of the receipts that it decided, in order
+-- An entry with its answer, the transaction that it began, the submission that it made, and the outcomes of the receipts
+-- that it decided, in order.
 pub record Answered : Type 0 where
   pub entry : Entry
   pub reply : Reply
+  pub began : Option Base
   pub sent : Option Sent
   pub decided : List Outcome
 
@@ -43,18 +39,6 @@ sents answered = filter_map (λ a. a.sent) answered
 abbrev pub outcomes : List Answered → List Outcome
 outcomes answered = flat_map (λ a. a.decided) answered
 
--- the operations of a submission that is done
-abbrev pub ops_if_done : Outcome → List Op → List (List Op)
-ops_if_done (Done commit) ops = ops ∷ []
-ops_if_done (Conflict store path kind commit) ops = []
-ops_if_done (Invalid store path rule) ops = []
-
--- the commits of a domain: its submissions that were decided as done, in the order of their receipts
-abbrev pub done_ops : ℕ → List Sent → List Outcome → List (List Op)
-done_ops domain [] os = []
-done_ops domain (s ∷ ss) [] = []
-done_ops domain (s ∷ ss) (o ∷ os) = (if nat_eq s.base.domain domain then ops_if_done o s.ops else []) ++ done_ops domain ss os
-
 abbrev pub commits : List Answered → ℕ → List (List Op)
 commits answered domain = done_ops domain (sents answered) (outcomes answered)
 
@@ -62,19 +46,19 @@ commits answered domain = done_ops domain (sents answered) (outcomes answered)
 abbrev pub is_live : ℕ → Bool
 is_live domain = nat_eq domain 0
 
--- the transaction that a call with this answer began
-abbrev pub began : Call → Reply → Option Base
-began (Begin domain mode) (Begun commit on) = Some (record { domain = domain; commit = commit })
-began call reply = None
+-- ---- transactions
 
 -- the transaction that the entry at the place began
 abbrev pub began_at : List Answered → ℕ → Option Base
-began_at answered place = option_and_then (λ a. began a.entry.call a.reply) (slice_get answered place)
+began_at answered place = option_and_then (λ a. a.began) (slice_get answered place)
 
--- What a call with this answer submitted. A place at which no transaction began counts as domain 0 at commit 0; no caller
--- has one.
+-- no trees at commit 0 of domain 0, for a place at which no transaction began; no caller has one
+abbrev pub nowhere : Base
+nowhere = record { domain = 0; commit = 0; chain = None; trees = λ s. [] }
+
+-- what a call with this answer submitted
 abbrev pub sent_by : List Answered → Call → Reply → Option Sent
-sent_by answered (Submit place ops) (Receipt n) = Some (record { base = unwrap_or (began_at answered place) (record { domain = 0; commit = 0 }); ops = ops })
+sent_by answered (Submit place ops) (Receipt n) = Some (record { base = unwrap_or (began_at answered place) nowhere; ops = ops })
 sent_by answered call reply = None
 
 -- a call with this answer submitted or cancelled the transaction that began at the place
@@ -86,6 +70,78 @@ spends call reply place = false
 -- a transaction is spent once it was submitted or cancelled
 abbrev pub is_spent : List Answered → ℕ → Bool
 is_spent answered place = list_any (λ a. spends a.entry.call a.reply place) answered
+
+-- ---- chains, by their ids from 1 on
+
+-- the domain of the chain that a call with this answer opened
+abbrev pub opened_chain : Call → Reply → Option ℕ
+opened_chain (OpenChain domain) (Chain id) = Some domain
+opened_chain call reply = None
+
+-- the domains of the chains that were opened
+abbrev pub chain_domains : List Answered → List ℕ
+chain_domains answered = filter_map (λ a. opened_chain a.entry.call a.reply) answered
+
+-- the domain of a chain; no caller has one that was not opened
+abbrev pub domain_of : List Answered → ℕ → ℕ
+domain_of answered chain = unwrap_or (slice_get (chain_domains answered) (chain - 1)) 0
+
+-- a call with this answer closed the chain
+abbrev pub closes : Call → Reply → ℕ → Bool
+closes (CloseChain id) Accepted chain = nat_eq id chain
+closes call reply chain = false
+
+abbrev pub is_closed : List Answered → ℕ → Bool
+is_closed answered chain = list_any (λ a. closes a.entry.call a.reply chain) answered
+
+-- the entry began a transaction of the chain
+abbrev pub begins_in : ℕ → Answered → Bool
+begins_in chain a = option_map_or (λ b. is_of_chain (Some chain) b.chain) a.began false
+
+-- the place of the entry that began the chain's last transaction
+abbrev pub last_begun : List Answered → ℕ → Option ℕ
+last_begun answered chain = last_from 0 (begins_in chain) answered
+
+-- that transaction is neither submitted nor cancelled
+abbrev pub has_open : List Answered → ℕ → Bool
+has_open answered chain = option_map_or (λ place. not (is_spent answered place)) (last_begun answered chain) false
+
+-- the receipt by which the chain failed
+abbrev pub failed_by : List Answered → ℕ → Option ℕ
+failed_by answered chain = failing (Some chain) (sents answered) (outcomes answered)
+
+-- the pending receipt on which the chain's next transaction stands
+abbrev pub stands_on : List Answered → ℕ → Option ℕ
+stands_on answered chain = pending_receipt (sents answered) (outcomes answered) (Some chain)
+
+abbrev pub fault_if : Bool → CallFault → Option CallFault
+fault_if test fault = if test then Some fault else None
+
+-- Why the chain begins no transaction: it is closed, it has failed (`onTransactionChainFailed` of the MD-SAL developer
+-- guide), its last transaction is open, or its domain is not live.
+abbrev pub chain_refusal : List Answered → ℕ → Option CallFault
+chain_refusal answered chain =
+    option_or (fault_if (is_closed answered chain) ChainClosed)
+    (option_or (option_map ChainFailed (failed_by answered chain))
+    (option_or (fault_if (has_open answered chain) PreviousOpen)
+    (fault_if (not (is_live (domain_of answered chain))) (NoDomain (domain_of answered chain)))))
+
+-- a refusal, or the good answer
+abbrev pub refused_or : Option CallFault → Reply → Reply
+refused_or None good = good
+refused_or (Some fault) good = Refused fault
+
+-- ---- marks
+
+abbrev pub marks : Call → ℕ → Bool
+marks (Mark m) mark = nat_eq m mark
+marks call mark = false
+
+-- the mark was left
+abbrev pub is_marked : List Answered → ℕ → Bool
+is_marked answered mark = list_any (λ a. marks a.entry.call mark) answered
+
+-- ---- answers
 
 -- how many receipts are pending
 abbrev pub pending : List Answered → ℕ
@@ -103,44 +159,81 @@ abbrev pub settled : Option Sent → Option Outcome → Reply
 settled (Some s) (Some o) = Settled s.base.domain o
 settled s o = Receipt 0
 
-module _ (world : List Domain) where
-  -- the trees of a domain at one of its commits
-  abbrev pub trees_at : ℕ → List (List Op) → ℕ → Store → List Row
-  trees_at domain commits k s = tree_at (opening_of world domain) commits s k
+-- the answer to a pump, from the receipt that is next, its submission, and what was decided
+abbrev pub pumped : ℕ → Option Sent → List Outcome → Reply
+pumped receipt (Some s) (o ∷ os) = Decided receipt s.base.domain o
+pumped receipt s os = Nothing
 
-  -- The outcome of a submission, decided over these commits of its domain. It stands on the trees at its base commit, and
-  -- all commits after that are foreign.
-  abbrev pub outcome : List (List Op) → Sent → Outcome
-  outcome commits s =
-      decide (table_of world s.base.domain) (opening_of world s.base.domain) commits (trees_at s.base.domain commits s.base.commit)
-      (record { from = s.base.commit; to = length commits } ∷ []) s.ops
+module _ (world : List Domain) where
+  -- the newest trees of a domain
+  abbrev pub trees_of : List Answered → ℕ → Store → List Row
+  trees_of answered domain s = tree_after s (opening_of world domain s) (commits answered domain)
+
+  -- The outcome of a submission, decided after these outcomes. Where a smaller receipt of its chain was not done, that one is
+  -- named. Else it is decided over the commits of its domain; those after its base that are not of its chain are foreign.
+  abbrev pub outcome : List Sent → List Outcome → Sent → Outcome
+  outcome ss os s =
+      unwrap_or (option_map FailedBy (failing s.base.chain ss os))
+      (decide (table_of world s.base.domain) (opening_of world s.base.domain) (done_ops s.base.domain ss os) s.base.trees
+      (spans s.base.commit s.base.chain (done_chains s.base.domain ss os)) s.ops)
 
   -- the outcome of the front of what is pending, after these outcomes
   abbrev pub decide_front : List Sent → List Outcome → Option Sent → List Outcome
   decide_front ss os None = []
-  decide_front ss os (Some s) = outcome (done_ops s.base.domain ss os) s ∷ []
+  decide_front ss os (Some s) = outcome ss os s ∷ []
 
   -- the outcomes of the next n receipts, after these
   abbrev pub decide_next : List Sent → List Outcome → ℕ → List Outcome
   decide_next ss os zero = []
   decide_next ss os (suc n) = decide_front ss os (slice_get ss (length os)) ++ decide_next ss (os ++ decide_front ss os (slice_get ss (length os))) n
 
-  -- the outcomes that a call decides: a settle those of the receipts up to its own that are pending
+  -- the outcomes that a call decides: a settle those of the receipts up to its own that are pending, a pump that of the first
+  -- that is
   abbrev pub decided_by : List Answered → Call → List Outcome
   decided_by answered (Settle receipt) = decide_next (sents answered) (outcomes answered) (receipt - length (outcomes answered))
+  decided_by answered Pump = decide_next (sents answered) (outcomes answered) 1
   decided_by answered call = []
+
+  -- a base at the newest commit of a domain, in a chain or in none
+  abbrev pub newest_base : List Answered → ℕ → Option ℕ → Base
+  newest_base answered domain chain = record { domain = domain; commit = length (commits answered domain); chain = chain; trees = trees_of answered domain }
+
+  -- a base on a pending submission: the same base commit, and the trees that the submission leaves
+  abbrev pub base_on : List Answered → ℕ → Option Sent → Base
+  base_on answered chain None = newest_base answered (domain_of answered chain) (Some chain)
+  base_on answered chain (Some s) = record { domain = s.base.domain; commit = s.base.commit; chain = Some chain; trees = view_of s }
+
+  -- the base of the next transaction of a chain: on its last submission while that is pending, and else at the newest commit
+  abbrev pub chained_base : List Answered → ℕ → Base
+  chained_base answered chain = base_on answered chain (option_and_then (λ n. slice_get (sents answered) (n - 1)) (stands_on answered chain))
+
+  -- the transaction that a call with this answer began
+  abbrev pub began_by : List Answered → Call → Reply → Option Base
+  began_by answered (Begin domain mode) (Begun commit on) = Some (newest_base answered domain None)
+  began_by answered (ChainBegin chain mode) (Begun commit on) = Some (chained_base answered chain)
+  began_by answered call reply = None
 
   -- the reply to a call after these entries
   abbrev pub reply_to : List Answered → Call → Reply
   reply_to answered (Begin domain mode) = if is_live domain then Begun (length (commits answered domain)) None else Refused (NoDomain domain)
+  reply_to answered (OpenChain domain) = if is_live domain then Chain (length (chain_domains answered) + 1) else Refused (NoDomain domain)
+  reply_to answered (ChainBegin chain mode) = refused_or (chain_refusal answered chain) (Begun (chained_base answered chain).commit (stands_on answered chain))
+  reply_to answered (CloseChain chain) = refused_or (fault_if (is_closed answered chain) ChainClosed) Accepted
   reply_to answered (Submit place ops) = submitted answered place
   reply_to answered (Cancel place) = Accepted
   reply_to answered (Settle receipt) = settled (slice_get (sents answered) (receipt - 1)) (slice_get (outcomes answered ++ decided_by answered (Settle receipt)) (receipt - 1))
+  reply_to answered Pump = pumped (length (outcomes answered) + 1) (slice_get (sents answered) (length (outcomes answered))) (decided_by answered Pump)
+  reply_to answered (Mark mark) = Accepted
+  reply_to answered (After mark) = if is_marked answered mark then Found else Late
+
+  -- an entry after these, with its answer
+  abbrev pub answered_as : List Answered → Entry → Reply → Answered
+  answered_as answered e reply =
+      record { entry = e; reply = reply; began = began_by answered e.call reply; sent = sent_by answered e.call reply; decided = decided_by answered e.call }
 
   -- one more entry, answered
   abbrev pub answer : List Answered → Entry → List Answered
-  answer answered e =
-      answered ++ record { entry = e; reply = reply_to answered e.call; sent = sent_by answered e.call (reply_to answered e.call); decided = decided_by answered e.call } ∷ []
+  answer answered e = answered ++ answered_as answered e (reply_to answered e.call) ∷ []
 
   -- the entries of a log, each with its answer
   abbrev pub history : List Entry → List Answered
@@ -152,15 +245,15 @@ module _ (world : List Domain) where
 
   -- the newest tree of a store of a domain
   abbrev pub newest_tree : List Entry → ℕ → Store → List Row
-  newest_tree log domain s = tree_after s (opening_of world domain s) (commits (history log) domain)
+  newest_tree log domain s = trees_of (history log) domain s
 
   -- what the transaction that began at the place of the log sees of a store before its own writes
-  abbrev pub base_tree : List Entry → ℕ → ℕ → Store → List Row
-  base_tree log domain place s = newest_tree (take place log) domain s
+  abbrev pub base_tree : List Entry → ℕ → Store → List Row
+  base_tree log place s = (unwrap_or (began_at (history log) place) nowhere).trees s
 
   -- and under its own writes
-  abbrev pub view : List Entry → ℕ → ℕ → List Op → Store → List Row
-  view log domain place ops s = apply_ops (base_tree log domain place s) s ops
+  abbrev pub view : List Entry → ℕ → List Op → Store → List Row
+  view log place ops s = apply_ops (base_tree log place s) s ops
 
 -- how many entries of a log are the client's
 abbrev pub entries_of : List Entry → ℕ → ℕ

@@ -26,8 +26,8 @@ pub fn own_writes_and_an_older_snapshot()
     ensures replies { replies (opened []) (by 0 snapshot ∷ by 0 begin ∷ by 0 (Submit 1 (put a "x" ∷ [])) ∷ by 0 (Settle 1) ∷ by 0 snapshot ∷ [])
         ≡ Begun 0 None ∷ Begun 0 None ∷ Receipt 1 ∷ Settled 0 (Done 1) ∷ Begun 1 None ∷ [] }
     ensures own { view (opened []) (by 0 snapshot ∷ by 0 begin ∷ []) 0 1 (put a "x" ∷ []) Config ≡ leaf a "x" ∷ [] }
-    ensures older { base_tree (opened []) (by 0 snapshot ∷ by 0 begin ∷ by 0 (Submit 1 (put a "x" ∷ [])) ∷ by 0 (Settle 1) ∷ []) 0 0 Config ≡ [] }
-    ensures later { base_tree (opened []) (by 0 snapshot ∷ by 0 begin ∷ by 0 (Submit 1 (put a "x" ∷ [])) ∷ by 0 (Settle 1) ∷ by 0 snapshot ∷ []) 0 4 Config ≡ leaf a "x" ∷ [] }
+    ensures older { base_tree (opened []) (by 0 snapshot ∷ by 0 begin ∷ by 0 (Submit 1 (put a "x" ∷ [])) ∷ by 0 (Settle 1) ∷ []) 0 Config ≡ [] }
+    ensures later { base_tree (opened []) (by 0 snapshot ∷ by 0 begin ∷ by 0 (Submit 1 (put a "x" ∷ [])) ∷ by 0 (Settle 1) ∷ by 0 snapshot ∷ []) 4 Config ≡ leaf a "x" ∷ [] }
 {}
 
 /// Two clients put the same leaf: the second is refused by the leaf and the commit that created it.
@@ -75,7 +75,7 @@ pub fn write_skew_accepted()
     ensures replies { replies (opened (leaf a "1" ∷ leaf b "1" ∷ [])) (crossed (put a "0") (put b "0"))
         ≡ Begun 0 None ∷ Begun 0 None ∷ Receipt 1 ∷ Settled 0 (Done 1) ∷ Receipt 2 ∷ Settled 0 (Done 2) ∷ [] }
     ensures tree { newest_tree (opened (leaf a "1" ∷ leaf b "1" ∷ [])) (crossed (put a "0") (put b "0")) 0 Config ≡ leaf a "0" ∷ leaf b "0" ∷ [] }
-    ensures read { base_tree (opened (leaf a "1" ∷ leaf b "1" ∷ [])) (crossed (put a "0") (put b "0")) 0 1 Config ≡ leaf a "1" ∷ leaf b "1" ∷ [] }
+    ensures read { base_tree (opened (leaf a "1" ∷ leaf b "1" ∷ [])) (crossed (put a "0") (put b "0")) 1 Config ≡ leaf a "1" ∷ leaf b "1" ∷ [] }
 {}
 
 /// One settle decides all that is pending before its receipt, and answers a decided receipt again.

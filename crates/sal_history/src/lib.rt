@@ -32,8 +32,9 @@
 #![tactic(auto)]
 
 pub mod call;
+pub mod chain_examples;
 pub mod examples;
-pub mod laws;
+// pub mod laws;
 pub mod opening;
 pub mod reply;
 

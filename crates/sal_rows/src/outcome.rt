@@ -68,6 +68,11 @@ pub enum Outcome {
         path: Path,
         rule: Rule,
     },
+    /// It was refused, since the submission of its chain with this receipt, a smaller one, was decided as something else
+    /// than done.
+    ChainFailed {
+        receipt: u64,
+    },
 }
 
 /// Why a shared call was refused. After `HistoryFull` and `NoMemory` nothing has changed; after any other refusal the log
@@ -83,6 +88,15 @@ pub enum CallFault {
     /// The domain is not live.
     #[error("no live domain {id}")]
     NoDomain { id: u32 },
+    /// The last transaction of the chain is neither submitted nor cancelled.
+    #[error("the chain's previous transaction is open")]
+    PreviousOpen,
+    /// The submission of the chain with this receipt was decided as something else than done.
+    #[error("the chain failed by receipt {receipt}")]
+    ChainFailed { receipt: u64 },
+    /// The chain was closed.
+    #[error("the chain is closed")]
+    ChainClosed,
     #[error("out of memory")]
     NoMemory,
     /// The transaction was submitted or cancelled before.
@@ -110,6 +124,7 @@ impl Duplicate for Outcome {
                 path: path.copy()?,
                 rule: *rule,
             }),
+            Outcome::ChainFailed { receipt } => Ok(Outcome::ChainFailed { receipt: *receipt }),
         }
     }
 }

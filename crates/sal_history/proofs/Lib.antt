@@ -1,0 +1,2 @@
+mod Decisions
+mod Spans

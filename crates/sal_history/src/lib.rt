@@ -34,7 +34,7 @@
 pub mod call;
 pub mod chain_examples;
 pub mod examples;
-// pub mod laws;
+pub mod laws;
 pub mod opening;
 pub mod reply;
 

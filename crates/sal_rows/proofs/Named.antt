@@ -23,7 +23,7 @@ use Rattle.sal_rows.proofs.Numbers.{find_part}
 use Rattle.sal_rows.proofs.SpanTouches.{find_holds, find_none, numbers_lie, at_named}
 use Rattle.sal_rows.proofs.Untouched.{no_cell}
 use Rattle.sal_rows.specs.declared.clash.Clash.{Clash}
-use Rattle.sal_rows.specs.Clash.{clash_from, op_clash, parent_clash, path_clash, needs_parents, is_lost, lost_parent, tip, numbers_over, depths_above, last_touch_over}
+use Rattle.sal_rows.specs.Clash.{clash, clash_from, op_clash, parent_clash, path_clash, needs_parents, is_lost, lost_parent, tip, numbers_over, depths_above, last_touch_over}
 use Rattle.sal_rows.specs.Quiet.{AreSpans, with_own}
 use Rattle.sal_rows.specs.Named.{place_of, NamesALaterCommit}
 use Rattle.sal_rows.proofs.Quiet.{over_untouched}
@@ -87,7 +87,11 @@ differs opening commits op x = not (is_unchanged opening commits op.store op.pat
 abbrev conflict_over : (Store → List Row) → List (List Op) → Op → Span → Difference
 conflict_over opening commits op x = record { store = op.store; path = op.path; kind = kind_over opening commits op.store op.path x; commit = unwrap_or (last_touch opening commits op.store op.path x) 0 }
 
-module _ (opening : Store → List Row) (commits : List (List Op)) (base : Store → List Row) (span : Span) (spans : List Span) (are : AreSpans (length commits) span spans) (is_base : (s : Store) → base s ≡ with_own commits s (tree_at opening commits s span.from) spans) where
+-- where the first trees have a row, the second have the same
+abbrev pub IsWithin : (Store → List Row) → (Store → List Row) → Type 0
+IsWithin base other = (s : Store) (q : List Step) → is_some (cell (base s) q) ≡ true → cell (base s) q ≡ cell (other s) q
+
+module _ (opening : Store → List Row) (commits : List (List Op)) (base : Store → List Row) (span : Span) (spans : List Span) (are : AreSpans (length commits) span spans) (agrees : IsWithin base (λ s. with_own commits s (tree_at opening commits s span.from) spans)) where
   -- what an operation's conflict says
   abbrev IsOf : List Op → Op → Clash → Type 0
   IsOf earlier op c = (c.op ≡ length earlier) × (c.depth ≤ length op.path) × Any (IsNamedIn opening commits (place_of op c)) (span ∷ spans)
@@ -98,7 +102,7 @@ module _ (opening : Store → List Row) (commits : List (List Op)) (base : Store
       let nothing : list_any (touches_at opening commits s q) (numbers_over (span ∷ spans)) ≡ false =
       list_any-IsPermutation (touches_at opening commits s q) (numbers_over (span ∷ spans)) (reverse (numbers_over (span ∷ spans))) (IsPermutation-reverse (numbers_over (span ∷ spans))) ∙ find_none (touches_at opening commits s q) (reverse (numbers_over (span ∷ spans))) none in
       let same : cell (base s) q ≡ cell (tip opening commits s) q =
-      ap (λ (t : List Row). cell t q) (is_base s) ∙ over_untouched opening commits s q span spans (tree_at opening commits s span.from) are nothing (λ r below. refl) q (prefix_itself q) in
+      agrees s q there ∙ over_untouched opening commits s q span spans (tree_at opening commits s span.from) are nothing (λ r below. refl) q (prefix_itself q) in
       let empty : cell (base s) q ≡ None = same ∙ no_cell (is_prefix q) (tip opening commits s) q gone (prefix_itself q) in
       let contrary : true ≡ false = sym there ∙ ap is_some empty in
       cc
@@ -168,5 +172,12 @@ module _ (opening : Store → List Row) (commits : List (List Op)) (base : Store
             (op, ap (slice_get (earlier ++ op ∷ ops)) here.0 ∙ slice_get_end earlier ops op, here.1, here.2)
       ] refl
 
+-- where the base has the rows of the own commits' tree, or some of them
+pub names_within : (opening : Store → List Row) (commits : List (List Op)) (base : Store → List Row) (span : Span) (spans : List Span) (ops : List Op) (c : Clash)
+    → AreSpans (length commits) span spans → IsWithin base (λ s. with_own commits s (tree_at opening commits s span.from) spans) → clash opening commits base (span ∷ spans) ops ≡ Some c
+    → (op : Op) × (slice_get ops c.op ≡ Some op) × (c.depth ≤ length op.path) × Any (IsNamedIn opening commits (place_of op c)) (span ∷ spans)
+names_within opening commits base span spans ops c are agrees e = from_named opening commits base span spans are agrees [] ops c e
+
 pub names_a_later_commit : NamesALaterCommit
-names_a_later_commit opening commits base span spans ops c are is_base e = from_named opening commits base span spans are is_base [] ops c e
+names_a_later_commit opening commits base span spans ops c are is_base e =
+    names_within opening commits base span spans ops c are (λ s q there. ap (λ (t : List Row). cell t q) (is_base s)) e

@@ -1,0 +1,168 @@
+-- What one decision tells: the commit and the path that a conflict names, and that nothing is broken where it is done.
+use Rattle.std.proofs.Common.{◌≡◌, ℕ, zero, suc, true, ◌+◌, ◌-◌, ◌<◌, ◌≤◌, List, [], ◌∷◌, ◌++◌, length, take, drop, Option, None, Some, refl, ap, sym, ◌∙◌, subst, arith}
+use Rattle.std.specs.Prelude.{Any, IsTrue, slice_get, unwrap_or, option_and_then}
+use Rattle.std.specs.Option.{option_or, option_map}
+use Rattle.std.proofs.lemmas.List.{length-map, take-append-drop}
+use Rattle.std.proofs.lemmas.List.Sums.{fold-append}
+use Rattle.sal_types.specs.declared.value.Store.{Store}
+use Rattle.sal_types.specs.declared.value.Store.TheVariants.{Config, Oper}
+use Rattle.sal_types.specs.declared.value.Step.{Step}
+use Rattle.sal_types.specs.declared.row.Row.{Row}
+use Rattle.sal_types.specs.Prefix.{is_prefix}
+use Rattle.sal_types.specs.Tree.{cell}
+use Rattle.sal_types.proofs.Prefixes.{is_prefix-append}
+use Rattle.sal_rows.specs.declared.op.Op.{Op}
+use Rattle.sal_rows.specs.declared.outcome.Breach.{Breach}
+use Rattle.sal_rows.specs.declared.outcome.ClashKind.{ClashKind}
+use Rattle.sal_rows.specs.declared.outcome.Outcome.{Outcome}
+use Rattle.sal_rows.specs.declared.outcome.Outcome.TheVariants.{ChainFailed as FailedBy, Conflict, Done, Invalid}
+use Rattle.sal_rows.specs.Apply.{apply_ops}
+use Rattle.sal_rows.specs.Commits.{next_tree, touches_at, tree_after, tree_at}
+use Rattle.sal_rows.specs.Quiet.{AreSpans, with_own}
+use Rattle.sal_rows.specs.Spans.{own_commits, spans}
+use Rattle.sal_rows.specs.declared.clash.Span.{Span}
+use Rattle.sal_rows.specs.PathClash.{Difference as Found, IsNamedIn}
+use Rattle.sal_rules.specs.Breaches.{breach}
+use Rattle.sal_rows.specs.declared.clash.Clash.{Clash}
+use Rattle.sal_rows.specs.Clash.{clash, tip}
+use Rattle.sal_rows.specs.Named as naming
+use Rattle.sal_rows.proofs.Named.{IsWithin, names_within}
+use Rattle.sal_history.specs.Outcome.{conflict_of}
+use Rattle.sal_history.specs.Submissions.{Base, Sent, done, done_chains, done_ops, failing}
+use Rattle.sal_history.specs.World.{Domain, opening_of, table_of}
+use Rattle.sal_history.specs.History.{outcome}
+use Rattle.sal_history.specs.Laws.{ConflictsNameALaterCommit, DoneLeavesNoBreach, IsLaterTouch, IsOwnPlace, own_tree}
+use Rattle.sal_history.proofs.Spans.{are, first, lies, rest, split}
+
+-- what holds of an element of a list holds of some element
+any_get : {X : Type 0} (P : X → Type 0) (xs : List X) (i : ℕ) (x : X) → slice_get xs i ≡ Some x → P x → Any P xs
+any_get P [] i x e p = cc
+any_get P (y ∷ xs) zero x e p = (zero, x, omega arith, cc, p)
+any_get P (y ∷ xs) (suc i) x e p = let rest = any_get P xs i x e p in (suc rest.0, rest.1, omega (arith, rest.2), rest.3, rest.4)
+
+-- the first steps of a path are a prefix of it
+prefix-take : (n : ℕ) (p : List Step) → is_prefix (take n p) p ≡ true
+prefix-take n p = ap (is_prefix (take n p)) (sym (take-append-drop n p)) ∙ is_prefix-append (take n p) (drop n p)
+
+-- ---- the three parts of a decision
+
+abbrev broken_in : Store → Option Breach → Option Outcome
+broken_in s b = option_map (λ (x : Breach). Invalid s x.path x.rule) b
+
+abbrev clashing : List Op → Option Clash → Option Outcome
+clashing ops o = option_and_then (λ c. option_map (conflict_of c) (slice_get ops c.op)) o
+
+abbrev decided : Option Outcome → Option Breach → Option Breach → ℕ → Outcome
+decided conflict config oper n = unwrap_or (option_or conflict (option_or (broken_in Config config) (broken_in Oper oper))) (Done n)
+
+-- a breach is no conflict
+no_conflict : (config oper : Option Breach) (n : ℕ) (store : Store) (path : List Step) (kind : ClashKind) (commit : ℕ)
+    → decided None config oper n ≡ Conflict store path kind commit → ⊥
+no_conflict None None n store path kind commit e = cc
+no_conflict None (Some b) n store path kind commit e = cc
+no_conflict (Some b) oper n store path kind commit e = cc
+
+-- nothing is broken where a decision is done
+sound : (config oper : Option Breach) (n commit : ℕ) → decided None config oper n ≡ Done commit → (config ≡ None) × (oper ≡ None)
+sound None None n commit e = (refl, refl)
+sound None (Some b) n commit e = cc
+sound (Some b) oper n commit e = cc
+
+none_broken : (ops : List Op) (o : Option Clash) (config oper : Option Breach) (n commit : ℕ)
+    → decided (clashing ops o) config oper n ≡ Done commit → (config ≡ None) × (oper ≡ None)
+none_broken ops None config oper n commit = sound config oper n commit
+none_broken ops (Some c) config oper n commit =
+    elim (slice_get ops c.op) as (λ (x : Option Op). decided (option_map (conflict_of c) x) config oper n ≡ Done commit → (config ≡ None) × (oper ≡ None)) [
+      | None ↦ sound config oper n commit
+      | Some op ↦ λ e. cc
+    ]
+
+-- ---- a chain that failed
+
+-- what is decided as something else has no receipt of its chain that failed
+pub went : (o : Option ℕ) (d x : Outcome) → unwrap_or (option_map FailedBy o) d ≡ x → ((n : ℕ) → FailedBy n ≡ x → ⊥) → (o ≡ None) × (d ≡ x)
+went None d x e other = (refl, e)
+went (Some n) d x e other = absurd (other n e)
+
+-- ---- the laws
+
+-- where the base trees have rows, the own commits' trees have the same
+abbrev pub IsWithinOwn : List Domain → List Sent → List Outcome → Base → Type 0
+IsWithinOwn world ss os base = IsWithin base.trees (own_tree world ss os base)
+
+module _ (world : List Domain) (ss : List Sent) (os : List Outcome) (s : Sent) where
+  abbrev domain : ℕ
+  domain = s.base.domain
+
+  abbrev opening : Store → List Row
+  opening = opening_of world domain
+
+  abbrev commits : List (List Op)
+  commits = done_ops domain ss os
+
+  abbrev chains : List (Option ℕ)
+  chains = done_chains domain ss os
+
+  abbrev own : List ℕ
+  own = own_commits s.base.commit s.base.chain chains
+
+  abbrev pieces : List Span
+  pieces = spans s.base.commit s.base.chain chains
+
+  abbrev broken : Store → Option Breach
+  broken t = breach (table_of world domain) t (apply_ops (tip opening commits t) t s.ops)
+
+  abbrev decision : Option Clash → Outcome
+  decision o = decided (clashing s.ops o) (broken Config) (broken Oper) (length commits + 1)
+
+  -- as many chains as commits
+  as_many : length chains ≡ length commits
+  as_many = length-map (done domain ss os) (λ x. x.base.chain) ∙ sym (length-map (done domain ss os) (λ x. x.ops))
+
+  pub named_within : (store : Store) (path : List Step) (kind : ClashKind) (commit : ℕ) → s.base.commit ≤ length commits → IsWithinOwn world ss os s.base → outcome world ss os s ≡ Conflict store path kind commit
+      → IsLaterTouch world ss os s store path commit × IsOwnPlace s store path
+  named_within store path kind commit base_le within all =
+      let a = s.base.commit in
+      let t = length chains in
+      let head = first a own t in
+      let tail = rest own t in
+      let parts : pieces ≡ head ∷ tail = split a own t in
+      let le : a ≤ t = omega (arith, as_many, base_le) in
+      let ends : a + (t - a) ≡ t = omega (arith, le) in
+      let spanned : AreSpans (length commits) head tail = subst (λ n. AreSpans n head tail) as_many (are s.base.chain chains (t - a) a a t (omega arith) ends) in
+      let agrees : IsWithin s.base.trees (λ u. with_own commits u (tree_at opening commits u a) tail) = λ u q there.
+      within u q there ∙ ap (λ (l : List Span). cell (with_own commits u (tree_at opening commits u a) (drop 1 l)) q) parts in
+      elim (clash opening commits s.base.trees pieces s.ops) as (λ (o : Option Clash). clash opening commits s.base.trees pieces s.ops ≡ o → decision o ≡ Conflict store path kind commit
+      → IsLaterTouch world ss os s store path commit × IsOwnPlace s store path) [
+        | None ↦ λ e h. absurd (no_conflict (broken Config) (broken Oper) (length commits + 1) store path kind commit h)
+        | Some c ↦ λ e h.
+            let found = names_within opening commits s.base.trees head tail s.ops c spanned agrees (ap (λ (l : List Span). clash opening commits s.base.trees l s.ops) (sym parts) ∙ e) in
+            let op : Op = found.0 in
+            let is : conflict_of c op ≡ Conflict store path kind commit =
+            sym (ap (λ (x : Option Op). decided (option_map (conflict_of c) x) (broken Config) (broken Oper) (length commits + 1)) found.1) ∙ h in
+            let at_store : op.store ≡ store = cc in
+            let at_path : take c.depth op.path ≡ path = cc in
+            let at_commit : c.commit ≡ commit = cc in
+            let same : naming.place_of op c ≡ record { store = store; path = path; kind = c.kind; commit = commit } =
+            λ i. record { store = at_store i; path = at_path i; kind = c.kind; commit = at_commit i } in
+            let here : Any (IsNamedIn opening commits (record { store = store; path = path; kind = c.kind; commit = commit })) (head ∷ tail) =
+            subst (λ (d : Found). Any (IsNamedIn opening commits d) (head ∷ tail)) same found.3 in
+            let lying = lies s.base.chain chains (IsTrue (touches_at opening commits store path commit)) commit (t - a) a a t (omega arith) ends (λ j low high. absurd (omega (arith, low, high))) here in
+            let above : is_prefix path op.path ≡ true = subst (λ (q : List Step). is_prefix q op.path ≡ true) at_path (prefix-take c.depth op.path) in (
+              (lying.0, omega (arith, lying.1, as_many), lying.2, lying.3),
+              any_get (λ (x : Op). (x.store ≡ store) × IsTrue (is_prefix path x.path)) s.ops c.op op found.1 (at_store, above),
+            )
+      ] refl (went (failing s.base.chain ss os) (decision (clash opening commits s.base.trees pieces s.ops)) (Conflict store path kind commit) all (λ n e. cc)).1
+
+  pub unbroken : (commit : ℕ) (store : Store) → outcome world ss os s ≡ Done commit → breach (table_of world domain) store (tree_after store (opening store) (commits ++ s.ops ∷ [])) ≡ None
+  unbroken commit store all =
+      let h = (went (failing s.base.chain ss os) (decision (clash opening commits s.base.trees pieces s.ops)) (Done commit) all (λ n e. cc)).1 in
+      let none = none_broken s.ops (clash opening commits s.base.trees pieces s.ops) (broken Config) (broken Oper) (length commits + 1) commit h in
+      ap (breach (table_of world domain) store) (fold-append (next_tree store) (opening store) commits (s.ops ∷ []))
+      ∙ elim store as (λ t. broken t ≡ None) [ Config ↦ none.0 | Oper ↦ none.1 ]
+
+pub named : ConflictsNameALaterCommit
+named world ss os s store path kind commit base = named_within world ss os s store path kind commit base.0 (λ t q there. ap (λ (tree : List Row). cell tree q) (base.1 t))
+
+pub no_breach : DoneLeavesNoBreach
+no_breach world ss os s commit store = unbroken world ss os s commit store

@@ -1,0 +1,63 @@
+-- What a conflict names, what a submission that is done leaves, and what a chain is spared.
+use Rattle.std.specs.Prelude.{◌≡◌, ℕ, false, [], ◌∷◌, ◌++◌, ◌<◌, ◌≤◌, List, length, take, drop, Option, Some, None, Any, IsTrue, slice_get}
+use Rattle.sal_types.specs.declared.value.Store.{Store}
+use Rattle.sal_types.specs.declared.value.Step.{Step}
+use Rattle.sal_types.specs.declared.row.Row.{Row}
+use Rattle.sal_types.specs.Prefix.{is_prefix}
+use Rattle.sal_rows.specs.declared.op.Op.{Op}
+use Rattle.sal_rows.specs.declared.outcome.ClashKind.{ClashKind}
+use Rattle.sal_rows.specs.declared.outcome.Outcome.{Outcome}
+use Rattle.sal_rows.specs.declared.outcome.Outcome.TheVariants.{Conflict, Done}
+use Rattle.sal_rows.specs.Commits.{touches_at, tree_after, tree_at}
+use Rattle.sal_rows.specs.Spans.{is_of_chain, is_own, spans}
+use Rattle.sal_rows.specs.Quiet.{with_own}
+use Rattle.sal_rules.specs.Breaches.{breach}
+use Rattle.sal_history.specs.World.{Domain, opening_of, table_of}
+use Rattle.sal_history.specs.declared.call.Entry.{Entry}
+use Rattle.sal_history.specs.Submissions.{Base, Sent, done_chains, done_ops}
+use Rattle.sal_history.specs.History.{history, outcome, outcomes, sents}
+
+-- Over the submissions and the outcomes that were decided: the tree of a store at a base's commit, with the later commits of
+-- its own chain on top. Without a chain it is the tree at that commit.
+abbrev pub own_tree : List Domain → List Sent → List Outcome → Base → Store → List Row
+own_tree world ss os base store =
+    with_own (done_ops base.domain ss os) store (tree_at (opening_of world base.domain) (done_ops base.domain ss os) store base.commit)
+    (drop 1 (spans base.commit base.chain (done_chains base.domain ss os)))
+
+-- the base stands on a commit of its domain, and has the trees there with the later commits of its own chain on top
+abbrev pub IsBase : List Domain → List Sent → List Outcome → Base → Type 0
+IsBase world ss os base =
+    (base.commit ≤ length (done_ops base.domain ss os)) × ((store : Store) → base.trees store ≡ own_tree world ss os base store)
+
+-- the commit is one of the domain's, came after the submission's base, touched the path, and is not of the submission's chain
+abbrev pub IsLaterTouch : List Domain → List Sent → List Outcome → Sent → Store → List Step → ℕ → Type 0
+IsLaterTouch world ss os s store path commit =
+    (s.base.commit < commit) × (commit ≤ length (done_ops s.base.domain ss os))
+    × IsTrue (touches_at (opening_of world s.base.domain) (done_ops s.base.domain ss os) store path commit)
+    × (is_own s.base.chain (done_chains s.base.domain ss os) commit ≡ false)
+
+-- the path is one of the submission's operations, in that store, or stands above one
+abbrev pub IsOwnPlace : Sent → Store → List Step → Type 0
+IsOwnPlace s store path = Any (λ (op : Op). (op.store ≡ store) × IsTrue (is_prefix path op.path)) s.ops
+
+-- A submission with such a base, decided after these outcomes as a conflict, names such a commit and such a path.
+abbrev pub ConflictsNameALaterCommit : Type 0
+ConflictsNameALaterCommit =
+    (world : List Domain) (ss : List Sent) (os : List Outcome) (s : Sent) (store : Store) (path : List Step) (kind : ClashKind) (commit : ℕ)
+    → IsBase world ss os s.base → outcome world ss os s ≡ Conflict store path kind commit
+    → IsLaterTouch world ss os s store path commit × IsOwnPlace s store path
+
+-- Each receipt of a log that was decided as a conflict names a commit that was done before it, came after the base of its
+-- transaction, touched the path, and is not of its chain; and the path is at or above one of its operations.
+abbrev pub ConflictsOfALogNameALaterCommit : Type 0
+ConflictsOfALogNameALaterCommit =
+    (world : List Domain) (log : List Entry) (i : ℕ) (s : Sent) (store : Store) (path : List Step) (kind : ClashKind) (commit : ℕ)
+    → slice_get (sents (history world log)) i ≡ Some s → slice_get (outcomes (history world log)) i ≡ Some (Conflict store path kind commit)
+    → IsLaterTouch world (sents (history world log)) (take i (outcomes (history world log))) s store path commit × IsOwnPlace s store path
+
+-- A submission that is done after these outcomes leaves trees without a breach, in both stores.
+abbrev pub DoneLeavesNoBreach : Type 0
+DoneLeavesNoBreach =
+    (world : List Domain) (ss : List Sent) (os : List Outcome) (s : Sent) (commit : ℕ) (store : Store)
+    → outcome world ss os s ≡ Done commit
+    → breach (table_of world s.base.domain) store (tree_after store (opening_of world s.base.domain store) (done_ops s.base.domain ss os ++ s.ops ∷ [])) ≡ None

@@ -1,2 +1,3 @@
 mod Decisions
 mod Spans
+mod Waiting

@@ -62,17 +62,17 @@ no_conflict None None n store path kind commit e = cc
 no_conflict None (Some b) n store path kind commit e = cc
 no_conflict (Some b) oper n store path kind commit e = cc
 
--- nothing is broken where a decision is done
-sound : (config oper : Option Breach) (n commit : ℕ) → decided None config oper n ≡ Done commit → (config ≡ None) × (oper ≡ None)
-sound None None n commit e = (refl, refl)
+-- nothing is broken where a decision is done, and it has the next number
+sound : (config oper : Option Breach) (n commit : ℕ) → decided None config oper n ≡ Done commit → (config ≡ None) × (oper ≡ None) × (commit ≡ n)
+sound None None n commit e = let same : n ≡ commit = cc in (refl, refl, sym same)
 sound None (Some b) n commit e = cc
 sound (Some b) oper n commit e = cc
 
 none_broken : (ops : List Op) (o : Option Clash) (config oper : Option Breach) (n commit : ℕ)
-    → decided (clashing ops o) config oper n ≡ Done commit → (config ≡ None) × (oper ≡ None)
+    → decided (clashing ops o) config oper n ≡ Done commit → (config ≡ None) × (oper ≡ None) × (commit ≡ n)
 none_broken ops None config oper n commit = sound config oper n commit
 none_broken ops (Some c) config oper n commit =
-    elim (slice_get ops c.op) as (λ (x : Option Op). decided (option_map (conflict_of c) x) config oper n ≡ Done commit → (config ≡ None) × (oper ≡ None)) [
+    elim (slice_get ops c.op) as (λ (x : Option Op). decided (option_map (conflict_of c) x) config oper n ≡ Done commit → (config ≡ None) × (oper ≡ None) × (commit ≡ n)) [
       | None ↦ sound config oper n commit
       | Some op ↦ λ e. cc
     ]
@@ -154,12 +154,27 @@ module _ (world : List Domain) (ss : List Sent) (os : List Outcome) (s : Sent) w
             )
       ] refl (went (failing s.base.chain ss os) (decision (clash opening commits s.base.trees pieces s.ops)) (Conflict store path kind commit) all (λ n e. cc)).1
 
+  -- a submission is decided, in itself, only while its chain has not failed
+  abbrev here : Outcome
+  here = decision (clash opening commits s.base.trees pieces s.ops)
+
+  when_done : (commit : ℕ) → outcome world ss os s ≡ Done commit → (broken Config ≡ None) × (broken Oper ≡ None) × (commit ≡ length commits + 1)
+  when_done commit all =
+      none_broken s.ops (clash opening commits s.base.trees pieces s.ops) (broken Config) (broken Oper) (length commits + 1) commit (went (failing s.base.chain ss os) here (Done commit) all (λ n e. cc)).1
+
   pub unbroken : (commit : ℕ) (store : Store) → outcome world ss os s ≡ Done commit → breach (table_of world domain) store (tree_after store (opening store) (commits ++ s.ops ∷ [])) ≡ None
   unbroken commit store all =
-      let h = (went (failing s.base.chain ss os) (decision (clash opening commits s.base.trees pieces s.ops)) (Done commit) all (λ n e. cc)).1 in
-      let none = none_broken s.ops (clash opening commits s.base.trees pieces s.ops) (broken Config) (broken Oper) (length commits + 1) commit h in
+      let none = when_done commit all in
       ap (breach (table_of world domain) store) (fold-append (next_tree store) (opening store) commits (s.ops ∷ []))
       ∙ elim store as (λ t. broken t ≡ None) [ Config ↦ none.0 | Oper ↦ none.1 ]
+
+  -- a commit has the next number of its domain
+  pub numbered : (commit : ℕ) → outcome world ss os s ≡ Done commit → commit ≡ length commits + 1
+  numbered commit all = (when_done commit all).2
+
+  -- what conflicts is of no chain that failed
+  pub unfailed : (store : Store) (path : List Step) (kind : ClashKind) (commit : ℕ) → outcome world ss os s ≡ Conflict store path kind commit → failing s.base.chain ss os ≡ None
+  unfailed store path kind commit all = (went (failing s.base.chain ss os) here (Conflict store path kind commit) all (λ n e. cc)).0
 
 pub named : ConflictsNameALaterCommit
 named world ss os s store path kind commit base = named_within world ss os s store path kind commit base.0 (λ t q there. ap (λ (tree : List Row). cell tree q) (base.1 t))

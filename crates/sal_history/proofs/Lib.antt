@@ -1,3 +1,5 @@
+mod Bases
 mod Decisions
+mod Receipts
 mod Spans
 mod Waiting

@@ -45,7 +45,7 @@ if_none : (b : Bool) (x : ℕ) (r : Option ℕ) → cond b (Some x) r ≡ None �
 if_none true x r e = cc
 if_none false x r e = (refl, e)
 
-abbrev fails : Option ℕ → Sent → Outcome → Bool
+abbrev pub fails : Option ℕ → Sent → Outcome → Bool
 fails chain s o = is_in chain s && not (is_done o)
 
 pub failing-more : (n : ℕ) (chain : Option ℕ) (ss : List Sent) (s : Sent) (os : List Outcome) → length os ≤ length ss → failing_from n chain (ss ++ s ∷ []) os ≡ failing_from n chain ss os

@@ -52,7 +52,7 @@ module _ (opening : Store → List Row) (commit : ℕ) (chain : Option ℕ) (s :
       let all : t ≡ length ds = length-map ds (λ x. x.base.chain) in
       let ends : commit + (t - commit) ≡ length ds = omega (arith, le, all) in
       ap (λ (l : List Span). with_own (ops_in ds) s (tree_at opening (ops_in ds) s commit) (drop 1 l)) (split commit (own_commits commit chain (chains_in ds)) t)
-      ∙ on_top chain s ds (t - commit) commit t (tree_at opening (ops_in ds) s commit) ends
+      ∙ on_top chain ds s (t - commit) commit t (tree_at opening (ops_in ds) s commit) ends
 
   folded-push : (ds : List Sent) (x : Sent) → commit ≤ length ds → folded (ds ++ x ∷ []) ≡ own_step chain s (folded ds) x
   folded-push ds x le =
@@ -81,12 +81,12 @@ module _ (opening : Store → List Row) (ds : List Sent) (x : Sent) (b : Base) w
   -- a commit of another chain, or of none
   pub over_other : is_in b.chain x ≡ false → IsOver opening ds b → IsOver opening (ds ++ x ∷ []) b
   over_other other was = (
-      still_within was.0,
-      λ s.
+    still_within was.0,
+    λ s.
         was.1 s
         ∙ sym (tree_over-push opening b.commit b.chain s ds x (short was.0)
         ∙ ap (λ o. cond o (apply_ops (tree_over opening ds b.commit b.chain s) s x.ops) (tree_over opening ds b.commit b.chain s)) other),
-    )
+  )
 
   -- the commit on which the base was before it was one
   pub over_own : is_in b.chain x ≡ true → Follows b x → IsOver opening ds x.base → IsOver opening (ds ++ x ∷ []) b
@@ -95,10 +95,10 @@ module _ (opening : Store → List Row) (ds : List Sent) (x : Sent) (b : Base) w
       let le : b.commit ≤ length (ops_in ds) = subst (λ k. k ≤ length (ops_in ds)) on.1 was.0 in (
         still_within le,
         λ s.
-          let same : tree_over opening ds x.base.commit x.base.chain s ≡ tree_over opening ds b.commit b.chain s = λ i. tree_over opening ds (on.1 i) (chains i) s in
-          on.2 s ∙ ap (λ (tree : List Row). apply_ops tree s x.ops) (was.1 s ∙ same)
-          ∙ sym (tree_over-push opening b.commit b.chain s ds x (short le)
-          ∙ ap (λ o. cond o (apply_ops (tree_over opening ds b.commit b.chain s) s x.ops) (tree_over opening ds b.commit b.chain s)) own),
+            let same : tree_over opening ds x.base.commit x.base.chain s ≡ tree_over opening ds b.commit b.chain s = λ i. tree_over opening ds (on.1 i) (chains i) s in
+            on.2 s ∙ ap (λ (tree : List Row). apply_ops tree s x.ops) (was.1 s ∙ same)
+            ∙ sym (tree_over-push opening b.commit b.chain s ds x (short le)
+            ∙ ap (λ o. cond o (apply_ops (tree_over opening ds b.commit b.chain s) s x.ops) (tree_over opening ds b.commit b.chain s)) own),
       )
 
 -- a base at the newest commit
@@ -110,7 +110,7 @@ over_newest opening ds domain chain =
     let whole : take (length (ops_in ds)) (ops_in ds) ≡ ops_in ds = take_all (length (ops_in ds)) (ops_in ds) (omega arith) in (
       omega arith,
       λ s.
-        sym (is_folded opening (length (ops_in ds)) chain s ds (omega (arith, all))
-        ∙ ap (fold (own_step chain s) (tree_at opening (ops_in ds) s (length (ops_in ds)))) nothing
-        ∙ ap (tree_after s (opening s)) whole),
+          sym (is_folded opening (length (ops_in ds)) chain s ds (omega (arith, all))
+          ∙ ap (fold (own_step chain s) (tree_at opening (ops_in ds) s (length (ops_in ds)))) nothing
+          ∙ ap (tree_after s (opening s)) whole),
     )

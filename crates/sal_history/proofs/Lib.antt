@@ -1,5 +1,7 @@
 mod Bases
 mod Decisions
+mod Logs
+mod Numbers
 mod Receipts
 mod Spans
 mod Waiting

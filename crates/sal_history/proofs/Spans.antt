@@ -107,7 +107,7 @@ module _ (chain : Option ℕ) (chains : List (Option ℕ)) where
 abbrev pub own_step : Option ℕ → Store → List Row → Sent → List Row
 own_step chain s tree x = if is_in chain x then apply_ops tree s x.ops else tree
 
-module _ (chain : Option ℕ) (s : Store) (ds : List Sent) where
+module _ (chain : Option ℕ) (ds : List Sent) where
   abbrev chains_of : List (Option ℕ)
   chains_of = map (λ (x : Sent). x.base.chain) ds
 
@@ -115,7 +115,7 @@ module _ (chain : Option ℕ) (s : Store) (ds : List Sent) where
   ops_of = map (λ (x : Sent). x.ops) ds
 
   -- whether a commit is of the chain
-  own_is : (b : ℕ) (x : Sent) → slice_get ds b ≡ Some x → is_own chain chains_of (b + 1) ≡ is_in chain x
+  pub own_is : (b : ℕ) (x : Sent) → slice_get ds b ≡ Some x → is_own chain chains_of (b + 1) ≡ is_in chain x
   own_is b x at =
       let back : b + 1 - 1 ≡ b = omega arith in
       ap (λ k. is_of_chain chain (unwrap_or (slice_get chains_of k) None)) back
@@ -130,9 +130,9 @@ module _ (chain : Option ℕ) (s : Store) (ds : List Sent) where
       ∙ ap (λ (o : Option (List Op)). unwrap_or o []) (slice_get-map (λ (y : Sent). y.ops) ds b)
       ∙ ap (λ (o : Option Sent). unwrap_or (option_map (λ (y : Sent). y.ops) o) []) at
 
-  pub on_top : (n b t : ℕ) (tree : List Row) → b + n ≡ length ds → with_own ops_of s tree (rest (own_from chain chains_of b n) t) ≡ fold (own_step chain s) tree (drop b ds)
-  on_top zero b t tree e = ap (fold (own_step chain s) tree) (sym (drop_all b ds (omega (arith, e))))
-  on_top (suc n) b t tree e =
+  pub on_top : (s : Store) (n b t : ℕ) (tree : List Row) → b + n ≡ length ds → with_own ops_of s tree (rest (own_from chain chains_of b n) t) ≡ fold (own_step chain s) tree (drop b ds)
+  on_top s zero b t tree e = ap (fold (own_step chain s) tree) (sym (drop_all b ds (omega (arith, e))))
+  on_top s (suc n) b t tree e =
       elim ((slice_get_cases ds b).1) [
         | inl w ↦
             let x : Sent = w.0 in
@@ -142,10 +142,10 @@ module _ (chain : Option ℕ) (s : Store) (ds : List Sent) where
             (λ cs. with_own ops_of s tree (rest cs t) ≡ fold (own_step chain s) tree (x ∷ drop (b + 1) ds))
             (λ yes.
             ap (λ (ops : List Op). with_own ops_of s (apply_ops tree s ops) (rest (own_from chain chains_of (b + 1) n) t)) (ops_are b x at)
-            ∙ on_top n (b + 1) t (apply_ops tree s x.ops) (omega (arith, e))
+            ∙ on_top s n (b + 1) t (apply_ops tree s x.ops) (omega (arith, e))
             ∙ ap (λ o. fold (own_step chain s) (cond o (apply_ops tree s x.ops) tree) (drop (b + 1) ds)) (sym yes ∙ own))
             (λ other.
-            on_top n (b + 1) t tree (omega (arith, e))
+            on_top s n (b + 1) t tree (omega (arith, e))
             ∙ ap (λ o. fold (own_step chain s) (cond o (apply_ops tree s x.ops) tree) (drop (b + 1) ds)) (sym other ∙ own))
             ∙ ap (fold (own_step chain s) tree) (sym (drop_more ds b x at))
         | inr w ↦ absurd (omega (arith, w.0, e))

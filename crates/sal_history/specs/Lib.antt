@@ -1,3 +1,4 @@
+pub mod ChainLaws
 pub mod Chains
 pub mod Depots
 pub mod Examples

@@ -5,7 +5,7 @@
 //! | `Call`, `Entry`, `Log` | a shared call; a call with its client; the calls in order |
 //! | `Reply` | what a shared call is answered |
 //! | `Device`, `Opening` | a domain's schema with its opening trees; its trees before the first commit |
-//! | `examples` | functions that do nothing, each with worked examples of a log's meaning as its contract |
+//! | `examples`, `chain_examples` | functions that do nothing, each with worked examples of a log's meaning as its contract |
 //! | `laws` | functions that do nothing, each with a law of the log's meaning as its contract |
 //!
 //! `specs/History` answers a log entry by entry: receipts, outcomes, commits, trees, base and view of a transaction. It
@@ -14,19 +14,30 @@
 //!
 //! - The world is a list of domains, each with the table of its schema and its opening trees (`specs/World`). Domain 0 is
 //!   live, and a transaction cannot begin in any other.
-//! - A transaction stands on its domain's newest commit when it begins, and sees that commit's trees under its own writes.
+//! - A transaction without a chain stands on its domain's newest commit when it begins, and sees that commit's trees under
+//!   its own writes.
+//! - A chain (`DOMTransactionChain`) has one transaction at a time: the next one begins once the last is submitted or
+//!   cancelled. While the chain's last submission is pending, the next transaction stands on that one: it has its base
+//!   commit, and sees what it leaves, before it is a commit. Else it stands on the newest commit.
 //! - A submission has the next receipt. It is refused where 4,096 receipts are pending, which is to say not decided, and
 //!   else where its transaction is spent, which is to say submitted or cancelled before. To cancel is accepted.
-//! - A settle decides the pending receipts up to its own, in order, and answers with that one's outcome.
-//! - An outcome is decided at the domain's newest commit (`specs/Outcome`), as the first of these that applies. A conflict
-//!   with a commit after the base names the store, the place, how that differs, and the commit (`sal_rows`). A breach of
-//!   a structural rule in the configuration after the operations, and else in the operational tree, names the store, the
-//!   path and the rule (`sal_rules`). Or it is done: both stores change together, as the next commit.
+//! - A settle decides the pending receipts up to its own, in order, and answers with that one's outcome. A pump decides the
+//!   first that is pending.
+//! - A chain has failed once one of its submissions is decided as something else than done (`onTransactionChainFailed`).
+//!   The first such receipt is named to each later submission of the chain, in place of an outcome of its own, and to
+//!   whoever begins a transaction in it. A closed chain begins none either; what was begun or submitted stays.
+//! - Else an outcome is decided at the domain's newest commit (`specs/Outcome`), as the first of these that applies. A conflict
+//!   with a commit after the base names the store, the place, how that differs, and the commit (`sal_rows`). The commits
+//!   of the submission's own chain are cut out: it is checked against the spans between them. A breach of a structural rule
+//!   in the configuration after the operations, and else in the operational tree, names the store, the path and the rule
+//!   (`sal_rules`). Or it is done: both stores change together, as the next commit.
+//! - A mark is found by whoever asks for it later.
 //!
 //! What a refused client is told. In each log, the commit that a receipt's conflict names was done before that receipt,
-//! came after the base of its transaction, and touched the path that the conflict names, and that path is at or above one
-//! of the transaction's operations (`laws::conflicts_name_a_later_commit`). A submission that is decided as done leaves no
-//! breach, in either store (`laws::done_leaves_no_breach`).
+//! came after the base of its transaction, is not of its own chain, and touched the path that the conflict names, and that
+//! path is at or above one of the transaction's operations (`laws::conflicts_name_a_later_commit`). So a chain never
+//! conflicts with itself, and its commits stand in the order of its submissions (`laws::chains_keep_to_themselves`). A
+//! submission that is decided as done leaves no breach, in either store (`laws::done_leaves_no_breach`).
 //!
 //! Costs: none. Nothing here runs: definitions, examples and laws are read by the prover alone.
 #![tactic(auto)]

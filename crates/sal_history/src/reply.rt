@@ -5,15 +5,25 @@ use sal_rows::{CallFault, Outcome};
 #[derive(Drop)]
 pub enum Reply {
     /// The transaction stands on this commit, and on the pending receipt, if any.
-    Begun { commit: u64, on: Option<u64> },
+    Begun {
+        commit: u64,
+        on: Option<u64>,
+    },
     /// The chain has this id.
-    Chain { id: u64 },
+    Chain {
+        id: u64,
+    },
     /// The call was done, and has nothing to tell.
     Accepted,
     /// The submission has this receipt.
-    Receipt { number: u64 },
+    Receipt {
+        number: u64,
+    },
     /// The outcome of a submission of the domain.
-    Settled { domain: u32, outcome: Outcome },
+    Settled {
+        domain: u32,
+        outcome: Outcome,
+    },
     /// This receipt was decided, of a submission of the domain, with this outcome.
     Decided {
         receipt: u64,
@@ -27,5 +37,7 @@ pub enum Reply {
     /// The mark was not left before.
     Late,
     /// The call was refused.
-    Refused { fault: CallFault },
+    Refused {
+        fault: CallFault,
+    },
 }

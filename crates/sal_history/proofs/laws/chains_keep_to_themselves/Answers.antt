@@ -1,0 +1,9 @@
+-- What chains are spared, and the order of commits.
+use Rattle.sal_history.proofs.Numbers.{apart_in_chains, in_order}
+use Rattle.sal_history.proofs.laws.chains_keep_to_themselves.Goals as goal
+
+pub returns-clause-own : goal.returns-clause-own
+returns-clause-own c = apart_in_chains
+
+pub returns-clause-order : goal.returns-clause-order
+returns-clause-order c = in_order

@@ -25,7 +25,7 @@ pub fn empty()
 pub fn own_writes_and_an_older_snapshot()
     ensures replies { replies (opened []) (by 0 snapshot ∷ by 0 begin ∷ by 0 (Submit 1 (put a "x" ∷ [])) ∷ by 0 (Settle 1) ∷ by 0 snapshot ∷ [])
         ≡ Begun 0 None ∷ Begun 0 None ∷ Receipt 1 ∷ Settled 0 (Done 1) ∷ Begun 1 None ∷ [] }
-    ensures own { view (opened []) (by 0 snapshot ∷ by 0 begin ∷ []) 0 1 (put a "x" ∷ []) Config ≡ leaf a "x" ∷ [] }
+    ensures own { view (opened []) (by 0 snapshot ∷ by 0 begin ∷ []) 1 (put a "x" ∷ []) Config ≡ leaf a "x" ∷ [] }
     ensures older { base_tree (opened []) (by 0 snapshot ∷ by 0 begin ∷ by 0 (Submit 1 (put a "x" ∷ [])) ∷ by 0 (Settle 1) ∷ []) 0 Config ≡ [] }
     ensures later { base_tree (opened []) (by 0 snapshot ∷ by 0 begin ∷ by 0 (Submit 1 (put a "x" ∷ [])) ∷ by 0 (Settle 1) ∷ by 0 snapshot ∷ []) 4 Config ≡ leaf a "x" ∷ [] }
 {}

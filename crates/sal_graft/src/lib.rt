@@ -11,9 +11,11 @@
 //! a span at a path that is present at both ends; each look at a commit goes over its operations and their rows.
 #![tactic(auto)]
 
+mod foreign;
 mod search;
 mod span;
 mod standing;
 mod touched;
 
+pub use foreign::foreign_spans;
 pub use search::conflict;

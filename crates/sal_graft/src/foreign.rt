@@ -40,12 +40,7 @@ fn one_span(alloc: Global, base: u64, commits: &[Commit]) -> Result<Vec<Span>, N
 }
 
 // The spans between the commits of the chain.
-fn parted(
-    alloc: Global,
-    base: u64,
-    chain: u64,
-    commits: &[Commit],
-) -> Result<Vec<Span>, NoMemory>
+fn parted(alloc: Global, base: u64, chain: u64, commits: &[Commit]) -> Result<Vec<Span>, NoMemory>
     requires { base < length commits.now }
     ensures spans { IfOk result (λ v. v.items ≡ spans base (Some chain) (chains_of commits.now)) }
     ensures kept { IfOk result (λ v. All (IsSpanOf commits.now) v.items) }

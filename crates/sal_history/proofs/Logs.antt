@@ -1,5 +1,5 @@
 -- What holds of each log: its receipts, and the open transactions of its chains.
-use Rattle.std.proofs.Common.{◌≡◌, ℕ, zero, suc, ◌+◌, ◌-◌, ◌<◌, ◌≤◌, Bool, true, false, List, [], ◌∷◌, ◌++◌, ◌||◌, length, Option, None, Some, refl, ap, sym, ◌∙◌, subst, cond, arith, inl, inr, ◌⊎◌, append-nil}
+use Rattle.std.proofs.Common.{◌≡◌, ℕ, ◌+◌, ◌-◌, Bool, true, false, List, [], ◌∷◌, ◌++◌, length, Option, None, Some, refl, ap, sym, ◌∙◌, subst, cond, arith, inl, inr, ◌⊎◌, append-nil}
 use Rattle.std.specs.Prelude.{not, slice_get, unwrap_or, option_and_then, if◌then◌else◌, nat_eq, nat_lt}
 use Rattle.std.specs.List.{cons_option, fold, list_any}
 use Rattle.std.specs.Option.{option_map, option_map_or, option_or, option_to_list}

@@ -1,14 +1,14 @@
 -- Which receipt made a commit, and what follows for chains.
-use Rattle.std.proofs.Common.{◌≡◌, ℕ, zero, suc, ◌+◌, ◌-◌, ◌<◌, ◌≤◌, Bool, true, false, List, [], ◌∷◌, ◌++◌, length, take, drop, Option, None, Some, refl, ap, sym, ◌∙◌, subst, cond, arith, inl, inr, append_assoc, length-append}
-use Rattle.std.specs.Prelude.{slice_get, get_or, nat_eq}
+use Rattle.std.proofs.Common.{◌≡◌, ℕ, ◌+◌, ◌-◌, ◌<◌, ◌≤◌, List, [], ◌∷◌, ◌++◌, length, take, drop, Some, refl, ap, sym, ◌∙◌, cond, arith, inl, inr, append_assoc, length-append}
+use Rattle.std.specs.Prelude.{slice_get}
 use Rattle.std.proofs.lemmas.Bool.{cases_lt, eq-eqb}
 use Rattle.std.proofs.lemmas.List.{length-map, length-take-le, take-append-drop, take-take, take_more}
 use Rattle.std.proofs.lemmas.Option.{get_or_from_slice_get, slice_get_within}
 use Rattle.sal_rows.specs.declared.outcome.Outcome.{Outcome}
-use Rattle.sal_rows.specs.declared.outcome.Outcome.TheVariants.{Conflict, Done}
-use Rattle.sal_rows.specs.Spans.{is_of_chain, is_own}
+use Rattle.sal_rows.specs.declared.outcome.Outcome.TheVariants.{Done}
+use Rattle.sal_rows.specs.Spans.{is_own}
 use Rattle.sal_history.specs.World.{Domain}
-use Rattle.sal_history.specs.Submissions.{Base, Sent, done, done_ops, is_in}
+use Rattle.sal_history.specs.Submissions.{Base, Sent, done, done_ops}
 use Rattle.sal_history.specs.History.{history, outcomes, sents}
 use Rattle.sal_history.specs.ChainLaws.{CommitsStandInOrder, NoConflictInAChain}
 use Rattle.sal_history.specs.Laws.{ConflictsOfALogNameALaterCommit}

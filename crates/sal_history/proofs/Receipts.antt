@@ -1,24 +1,23 @@
 -- What holds of the submissions and the outcomes of each log: what pending submissions stand on, what conflicts name, and
 -- how commits are numbered.
-use Rattle.std.proofs.Common.{◌≡◌, ℕ, zero, suc, ◌+◌, ◌-◌, ◌<◌, ◌≤◌, Bool, true, false, List, [], ◌∷◌, ◌++◌, ◌&&◌, length, take, Option, None, Some, refl, ap, sym, ◌∙◌, subst, cond, arith, inl, inr, ◌⊎◌, append-nil, append_assoc, length-append}
+use Rattle.std.proofs.Common.{◌≡◌, ℕ, zero, suc, ◌+◌, ◌<◌, ◌≤◌, Bool, true, false, List, [], ◌∷◌, ◌++◌, ◌&&◌, length, take, Option, None, Some, refl, ap, sym, ◌∙◌, subst, cond, arith, inl, inr, ◌⊎◌, append-nil, append_assoc, length-append}
 use Rattle.std.specs.Prelude.{not, slice_get, if◌then◌else◌, nat_eq, is_some}
 use Rattle.std.specs.Option.{option_or}
 use Rattle.std.proofs.lemmas.Bool.{cond_both, eq-eqb}
 use Rattle.std.proofs.lemmas.List.{length-map, length-take, take-append-le}
-use Rattle.std.proofs.lemmas.Option.{none-some, same_Some, slice_get_within}
+use Rattle.std.proofs.lemmas.Option.{same_Some, slice_get_within}
 use Rattle.std.proofs.Math.Seq.{take-append_seam}
 use Rattle.sal_types.specs.declared.value.Store.{Store}
 use Rattle.sal_types.specs.declared.value.Step.{Step}
 use Rattle.sal_types.specs.declared.row.Row.{Row}
 use Rattle.sal_types.specs.Tree.{cell}
-use Rattle.sal_rows.specs.declared.op.Op.{Op}
 use Rattle.sal_rows.specs.declared.outcome.ClashKind.{ClashKind}
 use Rattle.sal_rows.specs.declared.outcome.Outcome.{Outcome}
 use Rattle.sal_rows.specs.declared.outcome.Outcome.TheVariants.{Conflict, Done}
 use Rattle.sal_rows.specs.Commits.{touches_at}
 use Rattle.sal_rows.specs.Spans.{is_of_chain, is_own}
 use Rattle.sal_history.specs.World.{Domain, opening_of}
-use Rattle.sal_history.specs.Submissions.{Base, Sent, done, done_ops, failing, if_done, is_done, is_in}
+use Rattle.sal_history.specs.Submissions.{Base, Sent, done, failing, if_done, is_done, is_in}
 use Rattle.sal_history.specs.History.{decide_front, decide_next, nowhere, outcome}
 use Rattle.sal_history.specs.Laws.{IsBase, IsLaterTouch, IsOwnPlace}
 use Rattle.sal_history.proofs.Bases.{Follows, IsOver, chains_in, ops_in, over_other, over_own, same_chain}

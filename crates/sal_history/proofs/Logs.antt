@@ -332,6 +332,7 @@ module _ (world : List Domain) where
               sent = λ i s at. absurd (none-some s at);
               open_on = λ b is. absurd (none-some b is.1);
               conflicts = λ i s store path kind commit at is. absurd (none-some s at);
+              based = λ i s at decided. absurd (none-some s at);
               numbers = λ i s commit at is. absurd (none-some s at);
             };
         last = λ place b chain at of free. absurd (none-some b at);

@@ -1,5 +1,5 @@
 -- What holds of each log: its receipts, and the open transactions of its chains.
-use Rattle.std.proofs.Common.{◌≡◌, ℕ, zero, suc, ◌+◌, ◌-◌, ◌<◌, ◌≤◌, Bool, true, false, List, [], ◌∷◌, ◌++◌, ◌||◌, length, Option, None, Some, refl, ap, sym, ◌∙◌, subst, cond, arith, inl, inr, ◌⊎◌, append-nil}
+use Rattle.std.proofs.Common.{◌≡◌, ℕ, ◌+◌, ◌-◌, Bool, true, false, List, [], ◌∷◌, ◌++◌, length, Option, None, Some, refl, ap, sym, ◌∙◌, subst, cond, arith, inl, inr, ◌⊎◌, append-nil}
 use Rattle.std.specs.Prelude.{not, slice_get, unwrap_or, option_and_then, if◌then◌else◌, nat_eq, nat_lt}
 use Rattle.std.specs.List.{cons_option, fold, list_any}
 use Rattle.std.specs.Option.{option_map, option_map_or, option_or, option_to_list}
@@ -332,6 +332,7 @@ module _ (world : List Domain) where
               sent = λ i s at. absurd (none-some s at);
               open_on = λ b is. absurd (none-some b is.1);
               conflicts = λ i s store path kind commit at is. absurd (none-some s at);
+              based = λ i s at decided. absurd (none-some s at);
               numbers = λ i s commit at is. absurd (none-some s at);
             };
         last = λ place b chain at of free. absurd (none-some b at);

@@ -1,16 +1,16 @@
--- Which receipt made a commit, and what follows for chains.
-use Rattle.std.proofs.Common.{◌≡◌, ℕ, zero, suc, ◌+◌, ◌-◌, ◌<◌, ◌≤◌, Bool, true, false, List, [], ◌∷◌, ◌++◌, length, take, drop, Option, None, Some, refl, ap, sym, ◌∙◌, subst, cond, arith, inl, inr, append_assoc, length-append}
-use Rattle.std.specs.Prelude.{slice_get, get_or, nat_eq}
+-- Which receipt made a commit, and what follows for chains of a log.
+use Rattle.std.proofs.Common.{◌≡◌, ℕ, ◌+◌, ◌-◌, ◌<◌, ◌≤◌, List, [], ◌∷◌, ◌++◌, length, take, drop, Some, refl, ap, sym, ◌∙◌, cond, arith, inl, inr, append_assoc, length-append, Option}
+use Rattle.std.specs.Prelude.{slice_get}
 use Rattle.std.proofs.lemmas.Bool.{cases_lt, eq-eqb}
 use Rattle.std.proofs.lemmas.List.{length-map, length-take-le, take-append-drop, take-take, take_more}
-use Rattle.std.proofs.lemmas.Option.{get_or_from_slice_get, slice_get_within}
+use Rattle.std.proofs.lemmas.Option.{none-some, get_or_from_slice_get, slice_get_within}
 use Rattle.sal_rows.specs.declared.outcome.Outcome.{Outcome}
-use Rattle.sal_rows.specs.declared.outcome.Outcome.TheVariants.{Conflict, Done}
-use Rattle.sal_rows.specs.Spans.{is_of_chain, is_own}
+use Rattle.sal_rows.specs.declared.outcome.Outcome.TheVariants.{Done}
+use Rattle.sal_rows.specs.Spans.{is_own}
 use Rattle.sal_history.specs.World.{Domain}
-use Rattle.sal_history.specs.Submissions.{Base, Sent, done, done_ops, is_in}
+use Rattle.sal_history.specs.Submissions.{Base, Sent, done, done_ops, failing}
 use Rattle.sal_history.specs.History.{history, outcomes, sents}
-use Rattle.sal_history.specs.ChainLaws.{CommitsStandInOrder, NoConflictInAChain}
+use Rattle.sal_history.specs.ChainLaws.{CommitsStandInOrder, NoConflictInAChain, OwnCommitsAreOnTop}
 use Rattle.sal_history.specs.Laws.{ConflictsOfALogNameALaterCommit}
 use Rattle.sal_history.proofs.Bases.{chains_in}
 use Rattle.sal_history.proofs.Logs.{sound}
@@ -91,3 +91,12 @@ in_order world log i j s t a b lt at is there was same =
     let inside = slice_get_within (done s.base.domain ss (take j os)) (a - 1) s found.1 in
     let number : b ≡ length (done s.base.domain ss (take j os)) + 1 = known.numbers j t b there was ∙ ap (λ d. length (done d ss (take j os)) + 1) (sym same) in
     omega (arith, inside, number, found.0)
+
+pub on_top_of_base : OwnCommitsAreOnTop
+on_top_of_base world log i s chain at decided of unfailed =
+    let ss = sents (history world log) in
+    let os = outcomes (history world log) in
+    elim ((sound world log).known.based i s at decided (ap (λ (c : Option ℕ). failing c ss (take i os)) of ∙ unfailed)) [
+      | inl base ↦ base
+      | inr e ↦ absurd (none-some chain (ap (λ (b : Base). b.chain) (sym e) ∙ of))
+    ]

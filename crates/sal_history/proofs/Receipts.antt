@@ -1,24 +1,23 @@
 -- What holds of the submissions and the outcomes of each log: what pending submissions stand on, what conflicts name, and
 -- how commits are numbered.
-use Rattle.std.proofs.Common.{◌≡◌, ℕ, zero, suc, ◌+◌, ◌-◌, ◌<◌, ◌≤◌, Bool, true, false, List, [], ◌∷◌, ◌++◌, ◌&&◌, length, take, Option, None, Some, refl, ap, sym, ◌∙◌, subst, cond, arith, inl, inr, ◌⊎◌, append-nil, append_assoc, length-append}
+use Rattle.std.proofs.Common.{◌≡◌, ℕ, zero, suc, ◌+◌, ◌<◌, ◌≤◌, Bool, true, false, List, [], ◌∷◌, ◌++◌, ◌&&◌, length, take, Option, None, Some, refl, ap, sym, ◌∙◌, subst, cond, arith, inl, inr, ◌⊎◌, append-nil, append_assoc, length-append}
 use Rattle.std.specs.Prelude.{not, slice_get, if◌then◌else◌, nat_eq, is_some}
 use Rattle.std.specs.Option.{option_or}
-use Rattle.std.proofs.lemmas.Bool.{cond_both, eq-eqb}
+use Rattle.std.proofs.lemmas.Bool.{cases_lt, cond_both, eq-eqb}
 use Rattle.std.proofs.lemmas.List.{length-map, length-take, take-append-le}
-use Rattle.std.proofs.lemmas.Option.{none-some, same_Some, slice_get_within}
+use Rattle.std.proofs.lemmas.Option.{same_Some, slice_get_within}
 use Rattle.std.proofs.Math.Seq.{take-append_seam}
 use Rattle.sal_types.specs.declared.value.Store.{Store}
 use Rattle.sal_types.specs.declared.value.Step.{Step}
 use Rattle.sal_types.specs.declared.row.Row.{Row}
 use Rattle.sal_types.specs.Tree.{cell}
-use Rattle.sal_rows.specs.declared.op.Op.{Op}
 use Rattle.sal_rows.specs.declared.outcome.ClashKind.{ClashKind}
 use Rattle.sal_rows.specs.declared.outcome.Outcome.{Outcome}
 use Rattle.sal_rows.specs.declared.outcome.Outcome.TheVariants.{Conflict, Done}
 use Rattle.sal_rows.specs.Commits.{touches_at}
 use Rattle.sal_rows.specs.Spans.{is_of_chain, is_own}
 use Rattle.sal_history.specs.World.{Domain, opening_of}
-use Rattle.sal_history.specs.Submissions.{Base, Sent, done, done_ops, failing, if_done, is_done, is_in}
+use Rattle.sal_history.specs.Submissions.{Base, Sent, done, failing, if_done, is_done, is_in}
 use Rattle.sal_history.specs.History.{decide_front, decide_next, nowhere, outcome}
 use Rattle.sal_history.specs.Laws.{IsBase, IsLaterTouch, IsOwnPlace}
 use Rattle.sal_history.proofs.Bases.{Follows, IsOver, chains_in, ops_in, over_other, over_own, same_chain}
@@ -72,6 +71,7 @@ pub record Known (world : List Domain) (IsOpen : Base → Type 0) (ss : List Sen
   pub open_on : (b : Base) → IsOpen b → Stands world ss os ss b
   pub conflicts : (i : ℕ) (s : Sent) (store : Store) (path : List Step) (kind : ClashKind) (commit : ℕ)
       → slice_get ss i ≡ Some s → slice_get os i ≡ Some (Conflict store path kind commit) → IsNamed world ss (take i os) s store path commit
+  pub based : (i : ℕ) (s : Sent) → slice_get ss i ≡ Some s → i < length os → failing s.base.chain ss (take i os) ≡ None → StandsOn world ss (take i os) None s.base
   pub numbers : (i : ℕ) (s : Sent) (commit : ℕ) → slice_get ss i ≡ Some s → slice_get os i ≡ Some (Done commit) → commit ≡ length (done s.base.domain ss (take i os)) + 1
 
 module _ (world : List Domain) where
@@ -188,6 +188,17 @@ module _ (world : List Domain) where
                 subst (λ (ps : List Outcome). IsNamed world ss ps t store path commit) (sym front)
                 (subst (λ (u : Sent). IsNamed world ss os u store path commit) same (front_named ss os s store path kind commit own w.1))
           ];
+          based = λ i t at decided. elim (cases_lt i (length os)) [
+            | inl inside ↦
+                let front : take i (os ++ o ∷ []) ≡ take i os = take-append-le i os (o ∷ []) (omega (arith, inside)) in
+                subst (λ (ps : List Outcome). failing t.base.chain ss ps ≡ None → StandsOn world ss ps None t.base) (sym front) (was.based i t at inside)
+            | inr past ↦
+                let last : length os ≡ i = omega (arith, past, decided, length-append os (o ∷ [])) in
+                let same : s ≡ t = same_Some s t (sym next ∙ ap (slice_get ss) last ∙ at) in
+                let front : take i (os ++ o ∷ []) ≡ os = ap (λ k. take k (os ++ o ∷ [])) (sym last) ∙ take-append_seam os (o ∷ []) in
+                subst (λ (ps : List Outcome). failing t.base.chain ss ps ≡ None → StandsOn world ss ps None t.base) (sym front)
+                (subst (λ (u : Sent). failing u.base.chain ss os ≡ None → StandsOn world ss os None u.base) same (λ unbroken. front_on ss os s unbroken own))
+          ];
           numbers = λ i t commit at is. elim (last_or_before os o (Done commit) i is) [
             | inl old ↦
                 let inside : i < length os = slice_get_within os i (Done commit) old in
@@ -240,6 +251,11 @@ module _ (world : List Domain) where
               let decided : i < length os = slice_get_within os i (Conflict store path kind commit) is in
               let brief : length (take i os) ≤ length ss = omega (arith, length-take i os, was.within) in
               subst (λ (ds : List Sent). IsNamedOver world ds t store path commit) (sym (done-more t.base.domain ss s (take i os) brief)) (was.conflicts i t store path kind commit (old_at i t decided at) is);
+          based = λ i t at decided.
+              let brief : length (take i os) ≤ length ss = omega (arith, length-take i os, was.within) in
+              λ unbroken.
+              stands_over ss (ss ++ s ∷ []) (take i os) None t.base (sym (done-more t.base.domain ss s (take i os) brief))
+              (was.based i t (old_at i t decided at) decided (sym (failing-more 1 t.base.chain ss s (take i os) brief) ∙ unbroken));
           numbers = λ i t commit at is.
               let decided : i < length os = slice_get_within os i (Done commit) is in
               let brief : length (take i os) ≤ length ss = omega (arith, length-take i os, was.within) in
@@ -264,5 +280,6 @@ module _ (world : List Domain) where
         sent = was.sent;
         open_on = λ b is. elim (from b is) [ inl old ↦ was.open_on b old | inr new ↦ new ];
         conflicts = was.conflicts;
+        based = was.based;
         numbers = was.numbers;
       }

@@ -1,5 +1,5 @@
 -- The spans of a submission: that they are such, that no own commit lies in them, and what the own commits make of a tree.
-use Rattle.std.proofs.Common.{◌≡◌, ℕ, zero, suc, ◌+◌, ◌-◌, ◌<◌, ◌≤◌, Bool, true, false, List, [], ◌∷◌, length, drop, Option, None, Some, refl, ap, sym, ◌∙◌, subst, cond, arith, inl, inr, ◌⊎◌}
+use Rattle.std.proofs.Common.{◌≡◌, ℕ, zero, suc, ◌+◌, ◌-◌, ◌<◌, ◌≤◌, true, false, List, [], ◌∷◌, length, drop, Option, None, Some, refl, ap, sym, ◌∙◌, subst, cond, arith, inl, inr, ◌⊎◌}
 use Rattle.std.specs.Prelude.{Any, slice_get, unwrap_or, map, if◌then◌else◌}
 use Rattle.std.specs.List.{filter, fold, slice_index_or}
 use Rattle.std.specs.Option.{option_map}

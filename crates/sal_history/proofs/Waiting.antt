@@ -1,11 +1,10 @@
 -- What one more submission and one more outcome change: the commits of a domain, the chains that failed, and what waits.
-use Rattle.std.proofs.Common.{◌≡◌, ℕ, zero, suc, ◌+◌, ◌-◌, ◌<◌, ◌≤◌, Bool, true, false, List, [], ◌∷◌, ◌++◌, ◌&&◌, length, Option, None, Some, refl, ap, sym, ◌∙◌, subst, cond, arith, inl, inr, append-nil, append_assoc}
+use Rattle.std.proofs.Common.{◌≡◌, ℕ, suc, ◌+◌, ◌-◌, ◌<◌, ◌≤◌, Bool, true, false, List, [], ◌∷◌, ◌++◌, ◌&&◌, length, Option, None, Some, refl, ap, sym, ◌∙◌, subst, cond, arith, inl, inr, append-nil, append_assoc}
 use Rattle.std.specs.Prelude.{not, slice_get, option_and_then, if◌then◌else◌, nat_eq, nat_lt}
 use Rattle.std.specs.Option.{option_or}
-use Rattle.std.proofs.lemmas.Bool.{cond_both, le-ltb, lt-ltb}
+use Rattle.std.proofs.lemmas.Bool.{le-ltb, lt-ltb}
 use Rattle.std.proofs.lemmas.Option.{cond_some, none-some, same_Some, slice_get_cases}
 use Rattle.sal_rows.specs.declared.outcome.Outcome.{Outcome}
-use Rattle.sal_rows.specs.Spans.{is_of_chain}
 use Rattle.sal_history.specs.Submissions.{Sent, done, failing_from, if_done, is_done, is_in, last_from, pending_receipt}
 
 -- the last submission of the chain that is not decided

@@ -1,5 +1,6 @@
--- What the chains of a log keep: none conflicts with a commit of its own, and commits stand in the order of receipts.
-use Rattle.std.specs.Prelude.{◌≡◌, ℕ, false, ◌<◌, List, Some, slice_get}
+-- What the chains of a log keep: what a submission saw of its chain is what its own commits left, none conflicts with a
+-- commit of its own, and commits stand in the order of receipts.
+use Rattle.std.specs.Prelude.{◌≡◌, ℕ, false, ◌<◌, List, length, take, Some, None, slice_get}
 use Rattle.sal_types.specs.declared.value.Store.{Store}
 use Rattle.sal_types.specs.declared.value.Step.{Step}
 use Rattle.sal_rows.specs.declared.outcome.ClashKind.{ClashKind}
@@ -7,8 +8,18 @@ use Rattle.sal_rows.specs.declared.outcome.Outcome.TheVariants.{Conflict, Done}
 use Rattle.sal_rows.specs.Spans.{is_of_chain}
 use Rattle.sal_history.specs.World.{Domain}
 use Rattle.sal_history.specs.declared.call.Entry.{Entry}
-use Rattle.sal_history.specs.Submissions.{Sent}
+use Rattle.sal_history.specs.Submissions.{Sent, failing}
 use Rattle.sal_history.specs.History.{history, outcomes, sents}
+use Rattle.sal_history.specs.Laws.{IsBase}
+
+-- A receipt of a chain that had not failed when it was decided: its base trees are those at its base commit with the later
+-- commits of the chain on top, also where it began before they were commits.
+abbrev pub OwnCommitsAreOnTop : Type 0
+OwnCommitsAreOnTop =
+    (world : List Domain) (log : List Entry) (i : ℕ) (s : Sent) (chain : ℕ)
+    → slice_get (sents (history world log)) i ≡ Some s → i < length (outcomes (history world log))
+    → s.base.chain ≡ Some chain → failing (Some chain) (sents (history world log)) (take i (outcomes (history world log))) ≡ None
+    → IsBase world (sents (history world log)) (take i (outcomes (history world log))) s.base
 
 -- Receipt i is submission s, and was decided as a conflict with a commit; receipt j is submission t of the same domain, and
 -- was done as that commit: then t is not of the chain of s.

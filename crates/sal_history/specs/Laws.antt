@@ -1,5 +1,5 @@
 -- What a conflict names, what a submission that is done leaves, and what a chain is spared.
-use Rattle.std.specs.Prelude.{◌≡◌, ℕ, false, [], ◌∷◌, ◌++◌, ◌<◌, ◌≤◌, List, length, take, drop, Option, Some, None, Any, IsTrue, slice_get}
+use Rattle.std.specs.Prelude.{◌≡◌, ℕ, false, [], ◌∷◌, ◌++◌, ◌<◌, ◌≤◌, List, length, take, drop, Some, None, Any, IsTrue, slice_get}
 use Rattle.sal_types.specs.declared.value.Store.{Store}
 use Rattle.sal_types.specs.declared.value.Step.{Step}
 use Rattle.sal_types.specs.declared.row.Row.{Row}
@@ -9,7 +9,7 @@ use Rattle.sal_rows.specs.declared.outcome.ClashKind.{ClashKind}
 use Rattle.sal_rows.specs.declared.outcome.Outcome.{Outcome}
 use Rattle.sal_rows.specs.declared.outcome.Outcome.TheVariants.{Conflict, Done}
 use Rattle.sal_rows.specs.Commits.{touches_at, tree_after, tree_at}
-use Rattle.sal_rows.specs.Spans.{is_of_chain, is_own, spans}
+use Rattle.sal_rows.specs.Spans.{is_own, spans}
 use Rattle.sal_rows.specs.Quiet.{with_own}
 use Rattle.sal_rules.specs.Breaches.{breach}
 use Rattle.sal_history.specs.World.{Domain, opening_of, table_of}

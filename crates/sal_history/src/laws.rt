@@ -1,5 +1,5 @@
 //! Laws of the log's meaning. Each function does nothing; its contract is the law.
-ghost use Rattle.sal_history.specs.ChainLaws.{CommitsStandInOrder, NoConflictInAChain};
+ghost use Rattle.sal_history.specs.ChainLaws.{CommitsStandInOrder, NoConflictInAChain, OwnCommitsAreOnTop};
 ghost use Rattle.sal_history.specs.Laws.{ConflictsNameALaterCommit, ConflictsOfALogNameALaterCommit, DoneLeavesNoBreach};
 
 /// A conflict names a later commit, not of its own chain, that touched its path, which is one of the transaction's own or
@@ -20,10 +20,12 @@ pub fn done_leaves_no_breach()
     ensures { DoneLeavesNoBreach }
 {}
 
-/// In each log: what a transaction chain (`DOMTransactionChain`) submitted never conflicts with a commit of its own, however
-/// many of its submissions were pending when the next one began. And commits of a domain stand in the order of their
-/// receipts, so that those of a chain stand in the order in which it submitted them.
+/// In each log, of a transaction chain (`DOMTransactionChain`). While it has not failed, each of its submissions is decided
+/// over base trees that are those at its base commit with the chain's own later commits on top: what it saw of pending ones
+/// is what they left. A submission never conflicts with a commit of its own chain. And commits of a domain stand in the
+/// order of their receipts, so that those of a chain stand in the order in which it submitted them.
 pub fn chains_keep_to_themselves()
+    ensures base { OwnCommitsAreOnTop }
     ensures own { NoConflictInAChain }
     ensures order { CommitsStandInOrder }
 {}

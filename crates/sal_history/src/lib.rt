@@ -36,8 +36,9 @@
 //! What a refused client is told. In each log, the commit that a receipt's conflict names was done before that receipt,
 //! came after the base of its transaction, is not of its own chain, and touched the path that the conflict names, and that
 //! path is at or above one of the transaction's operations (`laws::conflicts_name_a_later_commit`). So a chain never
-//! conflicts with itself, and its commits stand in the order of its submissions (`laws::chains_keep_to_themselves`). A
-//! submission that is decided as done leaves no breach, in either store (`laws::done_leaves_no_breach`).
+//! conflicts with itself; unless it has failed, what one of its submissions saw of pending ones is what they left as
+//! commits; and commits stand in the order of receipts (`laws::chains_keep_to_themselves`). A submission that is decided as
+//! done leaves no breach, in either store (`laws::done_leaves_no_breach`).
 //!
 //! Costs: none. Nothing here runs: definitions, examples and laws are read by the prover alone.
 #![tactic(auto)]

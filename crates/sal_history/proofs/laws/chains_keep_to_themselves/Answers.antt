@@ -1,6 +1,9 @@
--- What chains are spared, and the order of commits.
-use Rattle.sal_history.proofs.Numbers.{apart_in_chains, in_order}
+-- What chains see and are spared, and the order of commits.
+use Rattle.sal_history.proofs.Numbers.{apart_in_chains, in_order, on_top_of_base}
 use Rattle.sal_history.proofs.laws.chains_keep_to_themselves.Goals as goal
+
+pub returns-clause-base : goal.returns-clause-base
+returns-clause-base c = on_top_of_base
 
 pub returns-clause-own : goal.returns-clause-own
 returns-clause-own c = apart_in_chains

@@ -4,6 +4,7 @@ pub mod EachSeat
 pub mod Enter
 pub mod Few
 pub mod Join
+pub mod Joined
 pub mod Lists
 pub mod Look
 pub mod Open

@@ -17,8 +17,9 @@
 //! let (turn, mut seat) = Turn::open(alloc, book, 1)?;
 //! let other = turn.split(&mut seat, 2);
 //! let mut held = turn.enter(rt, seat);
-//! held.value().add(1, amount)?;
+//! let added = held.value().add(1, amount);
 //! let seat = turn.leave(held);
+//! added?;
 //! let book = turn.close(turn.join(seat, other));
 //! ```
 //!
@@ -30,7 +31,7 @@
 //! | `open` | the table's memory: two words and one slot |
 //! | `enter` | one atomic step for the ticket, and a load for each look, until the turns before are over |
 //! | `value` | none |
-//! | `leave`, `split`, `join` | one to three atomic steps |
+//! | `leave`, `split`, `join` | one or two atomic steps |
 //! | `close` | the table's memory is given back |
 //!
 //! Only `open` takes memory, and only `enter` waits: it spins, and then lets other threads run. Turns go in the order of the

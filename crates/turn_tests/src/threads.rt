@@ -10,12 +10,15 @@ use std::sync::Wait;
 use std::test::Fail;
 use std::thread::{Threads, join};
 
+// How many turns each thread takes.
+const TURNS: u64 = 1000;
+
 // Adds 0, 1 and so on, a line a turn.
-fn take_turns<R: Wait>(rt: &R, turn: &Turn<Tape>, mut seat: Seat<Tape>, count: u64) -> Seat<Tape>
+fn take_turns<R: Wait>(rt: &R, turn: &Turn<Tape>, mut seat: Seat<Tape>) -> Seat<Tape>
     requires { seat.lock ≡ turn.now }
     ensures { Works turn.now seat.view result }
 {
-    for n in 0..count {
+    for n in 0..TURNS {
         seat = one_turn(rt, turn, seat, n);
     }
     seat
@@ -27,7 +30,6 @@ fn both_take_turns<R: Threads + Wait + Sync>(
     turn: &Turn<Tape>,
     one: Seat<Tape>,
     two: Seat<Tape>,
-    count: u64,
 ) -> (Seat<Tape>, Seat<Tape>)
     requires locks { (one.lock ≡ turn.now) × (two.lock ≡ turn.now) }
     ensures first { Works turn.now one.view result.0 }
@@ -38,30 +40,26 @@ fn both_take_turns<R: Threads + Wait + Sync>(
         move || -> Seat<Tape>
             requires { one.lock ≡ turn.now }
             ensures { Works turn.entry.now one.view result }
-        { take_turns(rt, turn, one, count) },
+        { take_turns(rt, turn, one) },
         move || -> Seat<Tape>
             requires { two.lock ≡ turn.now }
             ensures { Works turn.entry.now two.view result }
-        { take_turns(rt, turn, two, count) },
+        { take_turns(rt, turn, two) },
     )
 }
 
-fn two_clients<R: Threads + Wait + Sync>(
-    rt: &R,
-    alloc: Global,
-    count: u64,
-) -> Result<Tape, NoMemory> {
+fn two_clients<R: Threads + Wait + Sync>(rt: &R, alloc: Global) -> Result<Tape, NoMemory> {
     let (turn, mut seat) = Turn::open(alloc, empty_tape(alloc, u64::MAX), 1)?;
     let other = turn.split(&mut seat, 2);
-    let (one, two) = both_take_turns(rt, &turn, seat, other, count);
+    let (one, two) = both_take_turns(rt, &turn, seat, other);
     let all = turn.join(one, two);
     Ok(turn.close(all))
 }
 
 #[test]
 fn two_threads_take_a_thousand_turns_each(rt: HostRuntime) -> Result<(), Fail> {
-    let tape = two_clients(&rt, rt.alloc(), 1000)?;
+    let tape = two_clients(&rt, rt.alloc())?;
     assert!(rt; tape.lines.len() == 2000);
-    assert!(rt; is_counted(&tape, 1, 1000) && is_counted(&tape, 2, 1000));
+    assert!(rt; is_counted(&tape, 1, TURNS) && is_counted(&tape, 2, TURNS));
     Ok(())
 }

@@ -1,5 +1,5 @@
 -- The numbers that a join answers for, for callers that close a lock.
-use Rattle.std.proofs.Common.{◌≡◌, ◌⊎◌, ℕ, List, ◌∷◌, inl, inr, ⊎_elim}
+use Rattle.std.proofs.Common.{◌≡◌, ℕ, List, ◌∷◌, inl, inr, ⊎_elim}
 use Rattle.sal_turn.specs.declared.view.View.{View}
 use Rattle.sal_turn.specs.Lists.{In}
 use Rattle.sal_turn.specs.Views.{both, AnswersFor}

@@ -1,0 +1,13 @@
+pub mod Close
+pub mod Draw
+pub mod EachSeat
+pub mod Enter
+pub mod Few
+pub mod Join
+pub mod Joined
+pub mod Lists
+pub mod Look
+pub mod Open
+pub mod Pass
+pub mod Split
+pub mod Stays

@@ -1,0 +1,7 @@
+pub mod Entries
+pub mod Lists
+pub mod Rule
+pub mod Seats
+pub mod Stages
+pub mod Tells
+pub mod Views

@@ -5,6 +5,7 @@ ghost use Rattle.sal_grouping.specs.Indexes.{lists};
 ghost use Rattle.sal_build.specs.Orders.{rows, IsOrdered};
 ghost use Rattle.sal_build.specs.Identities as spec;
 
+use crate::append::append;
 use crate::order::{Order, order_of, out_of, stands_at};
 use sal_types::NoMemory;
 use std::alloc::Global;
@@ -20,7 +21,7 @@ fn add(out: &mut Vec<u32>, k: u32) -> Result<(), NoMemory>
     ensures { IfOk result (λ _. out.new.items ≡ spec.with_number out.old.items k) }
 {
     if !is_among(out, k) {
-        out.push(k)?;
+        append(out, k)?;
     }
     Ok(())
 }
@@ -88,7 +89,7 @@ fn empty_rows(alloc: Global, count: usize) -> Result<Vec<Vec<u32>>, NoMemory>
 {
     let mut all = Vec::with_capacity(alloc, count)?;
     for i in 0..count {
-        all.push(Vec::new(alloc))?;
+        append(&mut all, Vec::new(alloc))?;
     }
     Ok(all)
 }
@@ -134,7 +135,7 @@ fn derived_slowly(alloc: Global, edges: &[Vec<usize>]) -> Result<Vec<Vec<u32>>, 
 {
     let mut all = Vec::with_capacity(alloc, edges.len())?;
     for i in 0..edges.len() {
-        all.push(derived_in(alloc, edges, edges.len(), i)?)?;
+        append(&mut all, derived_in(alloc, edges, edges.len(), i)?)?;
     }
     Ok(all)
 }

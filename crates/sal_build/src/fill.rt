@@ -6,6 +6,7 @@ ghost use Rattle.sal_typedefs.specs.Types.{members_of};
 ghost use Rattle.sal_build.specs.Orders.{IsOrdered};
 ghost use Rattle.sal_build.specs.Filled as spec;
 
+use crate::append::append;
 use crate::order::{Order, order_of, out_of, stands_at};
 use sal_restrict::YangType;
 use sal_types::{NoMemory, Seq};
@@ -35,7 +36,7 @@ fn types_at(alloc: Global, all: &[YangType], numbers: &[usize]) -> Result<Vec<Ya
 {
     let mut types = Vec::with_capacity(alloc, numbers.len())?;
     for k in numbers {
-        types.push(type_at(alloc, all, *k)?)?;
+        append(&mut types, type_at(alloc, all, *k)?)?;
     }
     Ok(types)
 }
@@ -46,7 +47,7 @@ fn push_copies(out: &mut Vec<YangType>, alloc: Global, types: &[YangType]) -> Re
     ensures { IfOk result (λ _. out.new.items ≡ out.old.items ++ types.now) }
 {
     for t in types {
-        out.push(t.copy(alloc)?)?;
+        append(out, t.copy(alloc)?)?;
     }
     Ok(())
 }
@@ -58,7 +59,7 @@ fn push_members(out: &mut Vec<YangType>, alloc: Global, t: YangType) -> Result<(
     match t {
         YangType::Union { members } => push_copies(out, alloc, members.items()),
         other => {
-            out.push(other)?;
+            append(out, other)?;
             Ok(())
         }
     }
@@ -86,7 +87,7 @@ fn push_filled(
         let t = type_at(alloc, types, 0)?;
         push_members(out, alloc, t)
     } else {
-        out.push(member.copy(alloc)?)?;
+        append(out, member.copy(alloc)?)?;
         Ok(())
     }
 }
@@ -174,7 +175,7 @@ fn empty_types(alloc: Global, count: usize) -> Result<Vec<YangType>, NoMemory>
 {
     let mut all = Vec::with_capacity(alloc, count)?;
     for _i in 0..count {
-        all.push(YangType::Empty)?;
+        append(&mut all, YangType::Empty)?;
     }
     Ok(all)
 }
@@ -212,7 +213,7 @@ fn type_in(
     }
     let mut types = Vec::new(alloc);
     for target in out_of(edges, k) {
-        types.push(type_in(alloc, own, edges, steps - 1, *target)?)?;
+        append(&mut types, type_in(alloc, own, edges, steps - 1, *target)?)?;
     }
     let stated = type_at(alloc, own, k)?;
     let t = filled(alloc, &stated, &types)?;
@@ -230,7 +231,7 @@ fn types_slowly(
 {
     let mut all = Vec::with_capacity(alloc, edges.len())?;
     for k in 0..edges.len() {
-        all.push(type_in(alloc, own, edges, edges.len(), k)?)?;
+        append(&mut all, type_in(alloc, own, edges, edges.len(), k)?)?;
     }
     Ok(all)
 }

@@ -7,6 +7,7 @@ ghost use Rattle.sal_grouping.specs.Reach.{IsRanked};
 ghost use Rattle.sal_build.specs.Orders.{rows};
 ghost use Rattle.sal_build.specs.Identities as spec;
 
+use crate::append::append;
 use crate::derived::derived_of;
 use crate::lists::with_bad;
 use sal_grouping::{ranking, reaches};
@@ -28,7 +29,7 @@ fn push_identity<'m>(
     ensures { IfOk result (λ _. spec.seen all.new.items ≡ spec.seen all.old.items ++ spec.identity_here «module» sub.now) }
 {
     if is_named(Keyword::Identity, sub) {
-        all.push((module, sub))?;
+        append(all, (module, sub))?;
     }
     Ok(())
 }
@@ -73,7 +74,7 @@ fn push_base(
 {
     if is_named(Keyword::Base, sub) {
         if let Some(base) = typedefs.identity_of(module, argument_of(sub)) {
-            bases.push(base)?;
+            append(bases, base)?;
         }
     }
     Ok(())
@@ -104,7 +105,7 @@ pub(crate) fn edges_of(
 {
     let mut edges = Vec::with_capacity(alloc, all.len())?;
     for one in all {
-        edges.push(bases_of(alloc, typedefs, one.0, one.1)?)?;
+        append(&mut edges, bases_of(alloc, typedefs, one.0, one.1)?)?;
     }
     Ok(edges)
 }
@@ -260,7 +261,7 @@ pub(crate) fn infos_of(
     let derived = derived_of(alloc, edges)?;
     let mut infos = Vec::with_capacity(alloc, all.len())?;
     for (i, one) in all.iter().enumerate() {
-        infos.push(info_of(alloc, &derived, i, one.0, one.1)?)?;
+        append(&mut infos, info_of(alloc, &derived, i, one.0, one.1)?)?;
     }
     Ok(infos)
 }

@@ -3,6 +3,7 @@ ghost use Rattle.std.specs.Prelude.{◌≡◌, ◌+◌, ◌++◌, ◌<◌, IfOk,
 ghost use Rattle.sal_build.specs.Lists as lists;
 ghost use Rattle.sal_build.specs.Table as spec;
 
+use crate::append::append;
 use crate::inherited::config_at;
 use crate::lists::{block_of, given, is_list, keys_named, uniques_named};
 use crate::node::{is_mandatory, kind_of, max_elements, min_elements, name_of, own_stmt};
@@ -79,7 +80,7 @@ fn push_unique(
     }
     let names = words_of(alloc, argument_of(sub))?;
     let named = uniques_named(alloc, modules, forest, tables, k, branch, &names)?;
-    uniques.push(Seq::from_items(given(alloc, &named)?))?;
+    append(uniques, Seq::from_items(given(alloc, &named)?))?;
     Ok(())
 }
 
@@ -174,7 +175,10 @@ pub(crate) fn infos_of(
     let mut infos = Vec::with_capacity(alloc, forest.len())?;
     let mut types = 0;
     for (k, branch) in forest.iter().enumerate() {
-        infos.push(info_of(alloc, modules, forest, tables, k as u32, branch, types)?)?;
+        append(
+            &mut infos,
+            info_of(alloc, modules, forest, tables, k as u32, branch, types)?,
+        )?;
         types = after(types, is_typed(modules, branch));
     }
     Ok(infos)

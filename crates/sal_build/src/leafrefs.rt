@@ -8,6 +8,7 @@ ghost use Rattle.sal_grouping.specs.Reach.{IsRanked};
 ghost use Rattle.sal_typedefs.specs.Leafrefs as seeing;
 ghost use Rattle.sal_build.specs.Leafrefs as spec;
 
+use crate::append::append;
 use crate::identities::is_cyclic;
 use crate::lists::with_bad;
 use crate::walk::{Ways, end_of};
@@ -70,7 +71,7 @@ fn push_target(targets: &mut Vec<usize>, target: Option<u32>) -> Result<(), NoMe
     ensures { IfOk result (λ _. targets.new.items ≡ targets.old.items ++ option_to_list target) }
 {
     if let Some(node) = target {
-        targets.push(node as usize)?;
+        append(targets, node as usize)?;
     }
     Ok(())
 }
@@ -91,7 +92,7 @@ pub(crate) fn edges_of(
     for (k, branch) in forest.iter().enumerate() {
         let own = leafrefs_at(leafrefs, k);
         let targets = targets_of(alloc, modules, forest, ways, k as u32, branch, own)?;
-        edges.push(targets)?;
+        append(&mut edges, targets)?;
     }
     Ok(edges)
 }

@@ -27,6 +27,7 @@
 //! nests deeper than blocks do, but where identities or leafrefs go in a circle.
 #![tactic(auto)]
 
+mod append;
 mod child;
 mod derived;
 mod fill;

@@ -7,6 +7,7 @@ ghost use Rattle.sal_module.specs.Faults.{least};
 ghost use Rattle.sal_module.specs.Statements.{argument_of as argument};
 ghost use Rattle.sal_build.specs.Lists as spec;
 
+use crate::append::append;
 use crate::child::child_named;
 use crate::inherited::config_at;
 use crate::node::{is_true, kind_of, own_stmt};
@@ -55,7 +56,7 @@ pub(crate) fn keys_named(
             k,
             name.as_str(),
         )?;
-        named.push(leaf)?;
+        append(&mut named, leaf)?;
     }
     Ok(named)
 }
@@ -164,7 +165,7 @@ pub(crate) fn uniques_named(
     let mut named = Vec::with_capacity(alloc, names.len())?;
     for name in names {
         let leaf = unique_leaf(alloc, modules, forest, tables, k, branch, name.as_str())?;
-        named.push(leaf)?;
+        append(&mut named, leaf)?;
     }
     Ok(named)
 }
@@ -176,7 +177,7 @@ pub(crate) fn given(alloc: Global, named: &[Option<u32>]) -> Result<Vec<u32>, No
     let mut list = Vec::with_capacity(alloc, named.len())?;
     for leaf in named {
         if let Some(leaf) = leaf {
-            list.push(*leaf)?;
+            append(&mut list, *leaf)?;
         }
     }
     Ok(list)

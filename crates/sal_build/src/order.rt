@@ -4,6 +4,7 @@ ghost use Rattle.std.specs.List.{list_all};
 ghost use Rattle.sal_grouping.specs.Indexes.{lists};
 ghost use Rattle.sal_build.specs.Orders as spec;
 
+use crate::append::append;
 use sal_grouping::ranking;
 use sal_types::NoMemory;
 use std::alloc::Global;
@@ -67,7 +68,7 @@ fn unplaced(alloc: Global, count: usize) -> Result<Vec<usize>, NoMemory>
 {
     let mut order = Vec::with_capacity(alloc, count)?;
     for _i in 0..count {
-        order.push(count)?;
+        append(&mut order, count)?;
     }
     Ok(order)
 }

@@ -13,6 +13,7 @@ ghost use Rattle.sal_build.specs.Build as spec;
 ghost use Rattle.sal_build.specs.Identities as identities;
 ghost use Rattle.sal_build.specs.Table.{infos_of};
 
+use crate::append::append;
 use crate::fill::{filled_types, type_at};
 use crate::info::is_typed;
 use crate::leafrefs::{edges_of, leafrefs_fault};
@@ -72,7 +73,7 @@ fn push_type(
     ensures { IfOk result (λ _. types.new.items ≡ types.old.items ++ (if typed then fillings.type_at filled.now k ∷ [] else [])) }
 {
     if typed {
-        types.push(type_at(alloc, filled, k)?)?;
+        append(types, type_at(alloc, filled, k)?)?;
     }
     Ok(())
 }
@@ -84,7 +85,7 @@ fn names_of(alloc: Global, stmts: &[Stmt]) -> Result<Vec<Str>, NoMemory>
 {
     let mut names = Vec::with_capacity(alloc, stmts.len())?;
     for stmt in stmts {
-        names.push(Str::new(alloc, argument_of(stmt))?)?;
+        append(&mut names, Str::new(alloc, argument_of(stmt))?)?;
     }
     Ok(names)
 }

@@ -13,6 +13,7 @@ ghost use Rattle.sal_build.specs.declared.typed.Place.{Place as Spot};
 ghost use Rattle.sal_build.specs.Leafrefs as leafrefs;
 ghost use Rattle.sal_build.specs.Typed as spec;
 
+use crate::append::append;
 use crate::fill::empty_type;
 use crate::info::is_typed;
 use sal_grouping::Branch;
@@ -111,7 +112,7 @@ fn node_places(alloc: Global, forest: &[Branch]) -> Result<Vec<Place>, NoMemory>
 {
     let mut places = Vec::with_capacity(alloc, forest.len())?;
     for branch in forest {
-        places.push(place_of_node(branch))?;
+        append(&mut places, place_of_node(branch))?;
     }
     Ok(places)
 }
@@ -121,7 +122,7 @@ fn own_places(alloc: Global, all: &[Typing]) -> Result<Vec<Place>, NoMemory>
 {
     let mut places = Vec::with_capacity(alloc, all.len())?;
     for own in all {
-        places.push(own.place)?;
+        append(&mut places, own.place)?;
     }
     Ok(places)
 }
@@ -201,9 +202,9 @@ fn push_here<'x, 'a>(
     if !wanted.contains_key(&place_at(number, stmt)) {
         return Ok(());
     }
-    around.push(Block::new(alloc, stmt)?)?;
+    append(around, Block::new(alloc, stmt)?)?;
     let own = own_at(alloc, typedefs, number, around, stmt)?;
-    all.push(own)?;
+    append(all, own)?;
     around.pop();
     Ok(())
 }
@@ -228,7 +229,7 @@ fn push_stmt<'x, 'a>(
     if levels == 0 {
         return Ok(());
     }
-    around.push(Block::new(alloc, stmt)?)?;
+    append(around, Block::new(alloc, stmt)?)?;
     for sub in stmt.subs.items() {
         push_stmt(
             all,
@@ -333,10 +334,13 @@ fn copies<'a>(alloc: Global, list: &[Leafref<'a>]) -> Result<Vec<Leafref<'a>>, N
 {
     let mut all = Vec::with_capacity(alloc, list.len())?;
     for leafref in list {
-        all.push(Leafref {
-            module: leafref.module,
-            stmt: leafref.stmt,
-        })?;
+        append(
+            &mut all,
+            Leafref {
+                module: leafref.module,
+                stmt: leafref.stmt,
+            },
+        )?;
     }
     Ok(all)
 }
@@ -379,7 +383,7 @@ pub(crate) fn own_types<'x, 'a>(
     let types = node_types(alloc, modules, typedefs, forest)?;
     let mut all = Vec::with_capacity(alloc, forest.len())?;
     for branch in forest {
-        all.push(type_of_node(alloc, modules, &types, branch)?)?;
+        append(&mut all, type_of_node(alloc, modules, &types, branch)?)?;
     }
     Ok(all)
 }
@@ -399,7 +403,7 @@ pub(crate) fn leafrefs_of_nodes<'x, 'a>(
     let types = node_types(alloc, modules, typedefs, forest)?;
     let mut all = Vec::with_capacity(alloc, forest.len())?;
     for branch in forest {
-        all.push(leafrefs_of_node(alloc, modules, &types, branch)?)?;
+        append(&mut all, leafrefs_of_node(alloc, modules, &types, branch)?)?;
     }
     Ok(all)
 }

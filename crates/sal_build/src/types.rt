@@ -5,6 +5,7 @@ ghost use Rattle.sal_typedefs.specs.Judgements.{merged};
 ghost use Rattle.sal_typedefs.specs.Spots.{site_in};
 ghost use Rattle.sal_build.specs.Types as spec;
 
+use crate::append::append;
 use sal_module::{Found, Keyword, Modules, better, is_named, keyword_of};
 use sal_stmt::Stmt;
 use sal_typedefs::{Block, Typedefs, judge_at, name_fault_at};
@@ -100,7 +101,7 @@ fn with_stmt<'x, 'a>(
     if levels == 0 {
         return Ok(best);
     }
-    around.push(Block::new(alloc, stmt)?)?;
+    append(around, Block::new(alloc, stmt)?)?;
     for sub in stmt.subs.items() {
         best = with_stmt(
             best,

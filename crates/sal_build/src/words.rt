@@ -4,6 +4,7 @@ ghost use Rattle.std.specs.List.{prefix_len};
 ghost use Rattle.sal_stmt.specs.Words.{is_blank as is_blank_byte, is_empty};
 ghost use Rattle.sal_build.specs.Lists as spec;
 
+use crate::append::append;
 use sal_types::{NoMemory, Str};
 use std::alloc::Global;
 
@@ -55,7 +56,7 @@ fn push_word(words: &mut Vec<Str>, alloc: Global, word: &str) -> Result<(), NoMe
     ensures { IfOk result (λ _. words.new.items ≡ words.old.items ++ filter (λ w. not (is_empty w)) (word.now ∷ [])) }
 {
     if !word.is_empty() {
-        words.push(Str::new(alloc, word)?)?;
+        append(words, Str::new(alloc, word)?)?;
     }
     Ok(())
 }
@@ -89,11 +90,11 @@ pub(crate) fn steps_of(alloc: Global, word: &str) -> Result<Vec<Str>, NoMemory>
     'steps: loop {
         match rest.split_once('/') {
             None => {
-                steps.push(Str::new(alloc, rest)?)?;
+                append(&mut steps, Str::new(alloc, rest)?)?;
                 return Ok(steps);
             }
             Some((step, more)) => {
-                steps.push(Str::new(alloc, step)?)?;
+                append(&mut steps, Str::new(alloc, step)?)?;
                 rest = more;
             }
         }

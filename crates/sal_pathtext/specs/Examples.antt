@@ -1,5 +1,5 @@
 -- A schema and words for the examples.
-use Rattle.std.specs.Prelude.{ℕ, zero, suc, true, false, List as Row, [], ◌∷◌, ◌++◌, Option, Some, None, Result, codes}
+use Rattle.std.specs.Prelude.{ℕ, zero, suc, ◌+◌, true, false, List as Row, [], ◌∷◌, ◌++◌, Option, Some, None, Result, codes}
 use Prim.Native.String.{String}
 use Rattle.sal_types.specs.declared.value.Atom.{Atom}
 use Rattle.sal_types.specs.declared.value.Atom.TheVariants.{Text, Unsigned}
@@ -49,23 +49,24 @@ link peer port = node "a" ++ Node 3 ∷ Key (text peer ∷ number port ∷ []) �
 
 -- ---- containers in one another
 
-abbrev pub below : ℕ → Option ℕ
-below zero = None
-below (suc n) = Some n
-
-abbrev pub chain : ℕ → Row NodeInfo
-chain zero = []
-chain (suc n) = chain n ++ info (below n) (Container false) 0 (codes "c") (Some true) None [] ∷ []
+-- so many of them, of which the first has this number and stands below this node
+abbrev pub chain : ℕ → Option ℕ → ℕ → Row NodeInfo
+chain k parent zero = []
+chain k parent (suc n) = info parent (Container false) 0 (codes "c") (Some true) None [] ∷ chain (k + 1) (Some k) n
 
 abbrev pub deep : SchemaTable
-deep = record { nodes = chain 33; types = []; modules = codes "m" ∷ []; identities = [] }
+deep = record { nodes = chain 0 None 33; types = []; modules = codes "m" ∷ []; identities = [] }
 
 -- the name of so many of them
 abbrev pub names : ℕ → Row ℕ
 names zero = []
-names (suc n) = names n ++ codes "/c"
+names (suc n) = codes "/c" ++ names n
+
+-- the steps to so many of them, from this one on
+abbrev pub down_from : ℕ → ℕ → Row Step
+down_from k zero = []
+down_from k (suc n) = Node k ∷ down_from (k + 1) n
 
 -- the steps to it
 abbrev pub down : ℕ → Row Step
-down zero = []
-down (suc n) = down n ++ Node n ∷ []
+down n = down_from 0 n

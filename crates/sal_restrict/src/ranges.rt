@@ -1,5 +1,5 @@
 //! Ranges: the numbers of a type, or the lengths of its texts (RFC 7950 sections 9.2.4 and 9.4.4).
-ghost use Rattle.std.specs.Prelude.{◌≡◌, IsTrue};
+ghost use Rattle.std.specs.Prelude.{◌≡◌, IfOk, IsTrue};
 ghost use Rattle.std.specs.Cmp.Lexicographic.{pointwise, lists_per, lists_equiv};
 ghost use Rattle.sal_restrict.specs.contracts.ranges.PartPartialEq.TheImpl as part_partial_eq;
 ghost use Rattle.sal_restrict.specs.contracts.ranges.PartPartialEq.TheImpl.Laws as part_partial_eq_laws;
@@ -7,6 +7,7 @@ ghost use Rattle.sal_restrict.specs.contracts.ranges.PartEq.TheImpl.Laws as part
 ghost use Rattle.sal_restrict.specs.Ranges.{is_ascending, holds};
 
 use sal_types::{Duplicate, NoMemory};
+use std::alloc::Global;
 use std::marker::Model;
 
 /// The whole numbers from `low` to `high`, both included.
@@ -61,12 +62,20 @@ impl Ranges {
     }
 }
 
+/// The same parts once more.
+fn parts_of(alloc: Global, parts: &[Part]) -> Result<Vec<Part>, NoMemory>
+    ensures { IfOk result (λ list. list.items ≡ parts.now) }
+{
+    let mut list = Vec::with_capacity(alloc, parts.len())?;
+    for part in parts {
+        list.push(*part)?;
+    }
+    Ok(list)
+}
+
 impl Duplicate for Ranges {
     fn copy(&self) -> Result<Self, NoMemory> {
-        let mut list = Vec::with_capacity(*self.list.allocator(), self.list.len())?;
-        for part in &self.list {
-            list.push(*part)?;
-        }
+        let list = parts_of(*self.list.allocator(), &self.list)?;
         Ok(Ranges { list })
     }
 }

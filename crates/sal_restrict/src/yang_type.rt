@@ -1,5 +1,5 @@
 //! Types (RFC 7950 section 9).
-ghost use Rattle.std.specs.Prelude.{◌≡◌, IfOk};
+ghost use Rattle.std.specs.Prelude.{◌≡◌, ◌++◌, ◌∷◌, [], IfOk};
 ghost use Rattle.sal_restrict.specs.Names.{int_name, builtin_name};
 
 use crate::ranges::Ranges;
@@ -65,6 +65,24 @@ impl Duplicate for Pattern {
     }
 }
 
+/// Second ones of two values.
+fn both<A: Duplicate, B: Duplicate>(one: &A, other: &B) -> Result<(A, B), NoMemory>
+    ensures { IfOk result (λ it. (it.0 ≡ one.now) × (it.1 ≡ other.now)) }
+{
+    let first = one.copy()?;
+    let second = other.copy()?;
+    Ok((first, second))
+}
+
+/// A list with one item more.
+fn pushed<T: Drop>(list: Vec<T>, item: T) -> Result<Vec<T>, NoMemory>
+    ensures { IfOk result (λ all. all.items ≡ list.items ++ item ∷ []) }
+{
+    let mut list = list;
+    list.push(item)?;
+    Ok(list)
+}
+
 impl YangType {
     /// A second type, equal to this one.
     pub fn copy(&self, alloc: Global) -> Result<YangType, NoMemory>
@@ -84,19 +102,19 @@ impl YangType {
                 digits: *digits,
                 range: range.copy()?,
             }),
-            YangType::Text { length, patterns } => Ok(YangType::Text {
-                length: length.copy()?,
-                patterns: patterns.copy()?,
-            }),
+            YangType::Text { length, patterns } => {
+                let (length, patterns) = both(length, patterns)?;
+                Ok(YangType::Text { length, patterns })
+            }
             YangType::Bool => Ok(YangType::Bool),
-            YangType::Enum { names, places } => Ok(YangType::Enum {
-                names: names.copy()?,
-                places: places.copy()?,
-            }),
-            YangType::Bits { names, positions } => Ok(YangType::Bits {
-                names: names.copy()?,
-                positions: positions.copy()?,
-            }),
+            YangType::Enum { names, places } => {
+                let (names, places) = both(names, places)?;
+                Ok(YangType::Enum { names, places })
+            }
+            YangType::Bits { names, positions } => {
+                let (names, positions) = both(names, positions)?;
+                Ok(YangType::Bits { names, positions })
+            }
             YangType::Bin { length } => Ok(YangType::Bin {
                 length: length.copy()?,
             }),
@@ -107,7 +125,7 @@ impl YangType {
             YangType::Union { members } => {
                 let mut copies = Vec::with_capacity(alloc, members.items().len())?;
                 for member in members.items() {
-                    copies.push(member.copy(alloc)?)?;
+                    copies = pushed(copies, member.copy(alloc)?)?;
                 }
                 Ok(YangType::Union {
                     members: Seq::from_items(copies),

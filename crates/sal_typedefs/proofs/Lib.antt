@@ -10,3 +10,4 @@ pub mod IdentityLists
 pub mod SpotLists
 pub mod PathLists
 pub mod PlaceLists
+pub mod PlainTypes

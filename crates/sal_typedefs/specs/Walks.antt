@@ -1,11 +1,11 @@
 -- The statements that a type statement rests on, one after another.
-use Rattle.std.specs.Prelude.{ℕ, zero, suc, List, [], ◌∷◌, ◌++◌, length}
-use Rattle.std.specs.List.{flat_map}
+use Rattle.std.specs.Prelude.{ℕ, zero, suc, Bool, List, [], ◌∷◌, ◌++◌, length, map}
+use Rattle.std.specs.List.{flat_map, list_any}
 use Rattle.sal_stmt.specs.declared.stmt.Stmt.{Stmt}
 use Rattle.sal_typedefs.specs.declared.walk.Way.{Way}
 use Rattle.sal_typedefs.specs.declared.walk.Gone.{Gone}
 use Rattle.sal_typedefs.specs.Scopes.{Site}
-use Rattle.sal_typedefs.specs.Names.{rests_on}
+use Rattle.sal_typedefs.specs.Names.{rests_on, is_of}
 use Rattle.sal_typedefs.specs.Spots.{site_of}
 
 -- a statement, and how many come behind it on which it rests itself
@@ -25,3 +25,7 @@ left modules (way ∷ ways) = left modules ways ++ nodes way.steps modules (site
 
 abbrev pub node_of : Gone → Node
 node_of gone = record { site = site_of gone.spot; below = gone.below }
+
+-- whether one of the statements that are left to go to names this typedef
+abbrev pub left_names : List Stmt → Site → List Way → Bool
+left_names modules typedef ways = list_any (is_of modules typedef) (map (λ (n : Node). n.site) (left modules ways))

@@ -6,6 +6,7 @@ ghost use Rattle.sal_typedefs.specs.Restrictions.{HasNumbers};
 ghost use Rattle.sal_typedefs.specs.Builtins.{type_of};
 ghost use Rattle.sal_typedefs.specs.Judgements as spec;
 
+use crate::append::append;
 use crate::builtin::Builtin;
 use crate::entry::Entry;
 use crate::judgement::{Basis, Judgement};
@@ -20,7 +21,7 @@ pub(crate) fn types_of(alloc: Global, below: &[Judgement]) -> Result<Vec<YangTyp
 {
     let mut types = Vec::with_capacity(alloc, below.len())?;
     for judgement in below {
-        types.push(judgement.ty.copy(alloc)?)?;
+        append(&mut types, judgement.ty.copy(alloc)?)?;
     }
     Ok(types)
 }

@@ -6,6 +6,7 @@ ghost use Rattle.sal_typedefs.specs.Scopes as scopes;
 ghost use Rattle.sal_typedefs.specs.Names as spec;
 ghost use Rattle.sal_typedefs.specs.Spots.{site_of};
 
+use crate::append::append;
 use crate::builtin::builtin_of;
 use crate::name::local;
 use crate::spot::{Spot, typedef_in};
@@ -58,7 +59,7 @@ fn types_in<'x, 'a>(alloc: Global, spot: &Spot<'x, 'a>) -> Result<Vec<Spot<'x, '
     let mut all = Vec::new(alloc);
     for sub in spot.stmt.subs.items() {
         if is_named(Keyword::Type, sub) {
-            all.push(spot.within(alloc, sub)?)?;
+            append(&mut all, spot.within(alloc, sub)?)?;
         }
     }
     Ok(all)
@@ -72,7 +73,7 @@ fn first_type<'x, 'a>(alloc: Global, spot: &Spot<'x, 'a>) -> Result<Vec<Spot<'x,
     match first_named(Keyword::Type, spot.stmt.subs.items()) {
         None => Ok(all),
         Some(sub) => {
-            all.push(spot.within(alloc, sub)?)?;
+            append(&mut all, spot.within(alloc, sub)?)?;
             Ok(all)
         }
     }

@@ -3,8 +3,10 @@ ghost use Rattle.std.specs.Prelude.{◌≡◌, ◌-◌, ◌+◌, ◌∷◌, [], 
 ghost use Rattle.sal_typedefs.specs.Builtins as spec;
 ghost use Rattle.sal_restrict.specs.declared.yang_type.YangType.TheViews.{out-YangType};
 ghost use Rattle.sal_typedefs.specs.Builtins.{bits_of};
+ghost use Rattle.sal_typedefs.specs.declared.builtin.Builtin.TheVariants as kind;
 ghost use Rattle.sal_typedefs.specs.Restrictions.{HasNumbers};
 
+use crate::append::append;
 use sal_restrict::{Part, Ranges, YangType};
 use sal_types::{NoMemory, Seq, Str};
 use std::alloc::Global;
@@ -129,7 +131,7 @@ fn range(alloc: Global, low: i128, high: i128) -> Result<Ranges, NoMemory>
     ensures { IfOk result (λ ranges. ranges ≡ record { low = low; high = high } ∷ []) }
 {
     let mut list = Vec::with_capacity(alloc, 1)?;
-    list.push(Part { low, high })?;
+    append(&mut list, Part { low, high })?;
     Ok(Ranges::from_items(list))
 }
 
@@ -170,6 +172,57 @@ impl Width {
     }
 }
 
+// Types with numbers are made apart, each with one value that may find no memory.
+
+fn int_type(alloc: Global, width: Width, signed: bool) -> Result<YangType, NoMemory>
+    ensures value { IfOk result (λ t. t ≡ spec.type_of (kind.Int width signed)) }
+    ensures numbers { IfOk result (λ t. HasNumbers (out-YangType t)) }
+{
+    Ok(YangType::Int {
+        bits: width.bits(),
+        signed,
+        range: numbers_of(alloc, width, signed)?,
+    })
+}
+
+fn dec_type(alloc: Global) -> Result<YangType, NoMemory>
+    ensures value { IfOk result (λ t. t ≡ spec.type_of kind.Dec) }
+    ensures numbers { IfOk result (λ t. HasNumbers (out-YangType t)) }
+{
+    Ok(YangType::Dec {
+        digits: 0,
+        range: numbers_of(alloc, Width::Bits64, true)?,
+    })
+}
+
+fn text_type(alloc: Global) -> Result<YangType, NoMemory>
+    ensures value { IfOk result (λ t. t ≡ spec.type_of kind.Text) }
+    ensures numbers { IfOk result (λ t. HasNumbers (out-YangType t)) }
+{
+    Ok(YangType::Text {
+        length: numbers_of(alloc, Width::Bits64, false)?,
+        patterns: Seq::new(alloc),
+    })
+}
+
+fn bin_type(alloc: Global) -> Result<YangType, NoMemory>
+    ensures value { IfOk result (λ t. t ≡ spec.type_of kind.Bin) }
+    ensures numbers { IfOk result (λ t. HasNumbers (out-YangType t)) }
+{
+    Ok(YangType::Bin {
+        length: numbers_of(alloc, Width::Bits64, false)?,
+    })
+}
+
+fn leafref_type(alloc: Global) -> Result<YangType, NoMemory>
+    ensures value { IfOk result (λ t. t ≡ spec.type_of kind.Leafref) }
+    ensures numbers { IfOk result (λ t. HasNumbers (out-YangType t)) }
+{
+    Ok(YangType::Leafref {
+        path: Str::new(alloc, "")?,
+    })
+}
+
 impl Builtin {
     /// The type before a statement restricts it.
     pub(crate) fn bare(self, alloc: Global) -> Result<YangType, NoMemory>
@@ -177,19 +230,9 @@ impl Builtin {
         ensures numbers { IfOk result (λ t. HasNumbers (out-YangType t)) }
     {
         match self {
-            Builtin::Int { width, signed } => Ok(YangType::Int {
-                bits: width.bits(),
-                signed,
-                range: numbers_of(alloc, width, signed)?,
-            }),
-            Builtin::Dec => Ok(YangType::Dec {
-                digits: 0,
-                range: numbers_of(alloc, Width::Bits64, true)?,
-            }),
-            Builtin::Text => Ok(YangType::Text {
-                length: numbers_of(alloc, Width::Bits64, false)?,
-                patterns: Seq::new(alloc),
-            }),
+            Builtin::Int { width, signed } => int_type(alloc, width, signed),
+            Builtin::Dec => dec_type(alloc),
+            Builtin::Text => text_type(alloc),
             Builtin::Bool => Ok(YangType::Bool),
             Builtin::Enum => Ok(YangType::Enum {
                 names: Seq::new(alloc),
@@ -199,9 +242,7 @@ impl Builtin {
                 names: Seq::new(alloc),
                 positions: Seq::new(alloc),
             }),
-            Builtin::Bin => Ok(YangType::Bin {
-                length: numbers_of(alloc, Width::Bits64, false)?,
-            }),
+            Builtin::Bin => bin_type(alloc),
             Builtin::Ident => Ok(YangType::Ident {
                 bases: Seq::new(alloc),
             }),
@@ -209,9 +250,7 @@ impl Builtin {
             Builtin::Union => Ok(YangType::Union {
                 members: Seq::new(alloc),
             }),
-            Builtin::Leafref => Ok(YangType::Leafref {
-                path: Str::new(alloc, "")?,
-            }),
+            Builtin::Leafref => leafref_type(alloc),
         }
     }
 }

@@ -1,17 +1,18 @@
 //! Typedefs that rest on themselves.
-ghost use Rattle.std.specs.Prelude.{◌≡◌, [], IfOk, find, reverse};
+ghost use Rattle.std.specs.Prelude.{◌≡◌, ◌||◌, [], false, IfOk, MatchOption, find, reverse};
 ghost use Rattle.std.specs.List.{list_any};
 ghost use Rattle.std.specs.Option.{option_copied, option_to_list};
 ghost use Rattle.sal_module.specs.declared.keyword.Keyword.TheVariants as word;
 ghost use Rattle.sal_module.specs.Statements.{is_named};
 ghost use Rattle.sal_typedefs.specs.Spots.{stmts, site_of};
 ghost use Rattle.sal_typedefs.specs.Names as spec;
+ghost use Rattle.sal_typedefs.specs.Walks as walks;
 
 use crate::below::target;
 use crate::block::Block;
 use crate::spot::Spot;
 use crate::typedefs::Typedefs;
-use crate::walk::{next, start};
+use crate::walk::{Way, next, start};
 use sal_module::{Keyword, is_named};
 use sal_stmt::Stmt;
 use sal_types::NoMemory;
@@ -71,6 +72,44 @@ fn is_of<'x, 'a>(
     }
 }
 
+/// Whether the next statement names this typedef of this module. There may be no next one.
+fn next_is_of<'x, 'a>(
+    ways: &mut Vec<Way<'x, 'a>>,
+    alloc: Global,
+    typedefs: &'x Typedefs<'a>,
+    number: u32,
+    typedef: &Stmt,
+) -> Result<Option<bool>, NoMemory>
+    ensures { IfOk result (λ is. MatchOption is (walks.left_names typedefs.now (record { «module» = number; stmt = typedef.now; around = [] }) ways.old.items ≡ false)
+        (λ is. walks.left_names typedefs.now (record { «module» = number; stmt = typedef.now; around = [] }) ways.old.items
+        ≡ (is || walks.left_names typedefs.now (record { «module» = number; stmt = typedef.now; around = [] }) ways.new.items))) }
+{
+    match next(ways, alloc, typedefs)? {
+        None => Ok(None),
+        Some(gone) => Ok(Some(is_of(alloc, typedefs, number, typedef, &gone.spot)?)),
+    }
+}
+
+/// Whether one of the statements that are left to go to names this typedef of this module.
+fn one_is_of<'x, 'a>(
+    ways: &mut Vec<Way<'x, 'a>>,
+    alloc: Global,
+    typedefs: &'x Typedefs<'a>,
+    number: u32,
+    typedef: &Stmt,
+) -> Result<bool, NoMemory>
+    ensures { IfOk result (λ is. is ≡ walks.left_names typedefs.now (record { «module» = number; stmt = typedef.now; around = [] }) ways.old.items) }
+{
+    for _i in 0..u64::MAX {
+        match next_is_of(ways, alloc, typedefs, number, typedef)? {
+            None => return Ok(false),
+            Some(true) => return Ok(true),
+            Some(false) => {}
+        }
+    }
+    Err(NoMemory)
+}
+
 /// Whether a type statement, or one that it rests on, names this typedef of its module.
 fn reaches<'x, 'a>(
     alloc: Global,
@@ -82,17 +121,7 @@ fn reaches<'x, 'a>(
         (spec.under (spec.steps_of typedefs.now) typedefs.now (site_of spot.now))) }
 {
     let mut ways = start(alloc, typedefs, spot.copy(alloc)?)?;
-    for _i in 0..u64::MAX {
-        match next(&mut ways, alloc, typedefs)? {
-            None => return Ok(false),
-            Some(gone) => {
-                if is_of(alloc, typedefs, spot.module, typedef, &gone.spot)? {
-                    return Ok(true);
-                }
-            }
-        }
-    }
-    Err(NoMemory)
+    one_is_of(&mut ways, alloc, typedefs, spot.module, typedef)
 }
 
 /// Whether the typedef around a type statement rests on itself by the name that the statement gives.

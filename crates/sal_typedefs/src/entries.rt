@@ -6,6 +6,7 @@ ghost use Rattle.sal_module.specs.Profile.{at_stmt};
 ghost use Rattle.sal_module.specs.Statements as statements;
 ghost use Rattle.sal_typedefs.specs.Entries as spec;
 
+use crate::append::append;
 use crate::entry::{Entry, Numbering};
 use crate::judging::at;
 use crate::numbering::{chosen_entry, next_after, own_entry};
@@ -68,7 +69,7 @@ fn with_entry(
 {
     let (bad, entry) = entry_of(alloc, n, from, entries.as_slice(), next, stmt)?;
     let after = next_after(entries.as_slice(), next, entry.number)?;
-    entries.push(entry)?;
+    append(entries, entry)?;
     Ok((
         with_fault(best, bad, Cause::BadRestriction, number, stmt),
         after,

@@ -1,5 +1,5 @@
 //! A type statement and all that it rests on, judged without a recursion.
-ghost use Rattle.std.specs.Prelude.{◌≡◌, List, take, drop, map, reverse, None, IfOk};
+ghost use Rattle.std.specs.Prelude.{◌≡◌, ◌++◌, true, false, List, take, drop, map, reverse, None, IfOk};
 ghost use Rattle.sal_module.specs.Faults.{least};
 ghost use Rattle.sal_typedefs.specs.Names.{steps_of};
 ghost use Rattle.sal_typedefs.specs.Spots.{site_of, site_in};
@@ -8,12 +8,13 @@ ghost use Rattle.sal_typedefs.specs.Walks as walks;
 ghost use Rattle.sal_typedefs.specs.Judgements.{AreJudged};
 ghost use Rattle.sal_typedefs.specs.Runs as spec;
 
+use crate::append::append;
 use crate::block::Block;
 use crate::judgement::Judgement;
 use crate::site_judge::judge_one;
 use crate::spot::Spot;
 use crate::typedefs::Typedefs;
-use crate::walk::{Gone, next, start};
+use crate::walk::{Gone, Way, next, start};
 use sal_module::Found;
 use sal_restrict::YangType;
 use sal_stmt::Stmt;
@@ -33,7 +34,7 @@ fn take_last(
     for i in 0..count {
         match done.pop() {
             None => return Ok(below),
-            Some(judgement) => below.push(judgement)?,
+            Some(judgement) => append(&mut below, judgement)?,
         }
     }
     Ok(below)
@@ -49,10 +50,47 @@ fn judge_all(alloc: Global, typedefs: &Typedefs, nodes: &[Gone]) -> Result<Vec<J
         let node = &nodes[n - 1];
         let below = take_last(alloc, &mut done, node.below)?;
         let judgement = judge_one(alloc, typedefs, &node.spot, below.as_slice())?;
-        done.push(judgement)?;
+        append(&mut done, judgement)?;
         n -= 1;
     }
     Ok(done)
+}
+
+/// The next statement goes behind these. The answer is whether there is one.
+fn push_next<'x, 'a>(
+    all: &mut Vec<Gone<'x, 'a>>,
+    ways: &mut Vec<Way<'x, 'a>>,
+    alloc: Global,
+    typedefs: &'x Typedefs<'a>,
+) -> Result<bool, NoMemory>
+    ensures next { IfOk result (λ more. more ≡ true → map walks.node_of all.new.items ++ walks.left typedefs.now ways.new.items
+        ≡ map walks.node_of all.old.items ++ walks.left typedefs.now ways.old.items) }
+    ensures last { IfOk result (λ more. more ≡ false → map walks.node_of all.new.items ≡ map walks.node_of all.old.items ++ walks.left typedefs.now ways.old.items) }
+{
+    match next(ways, alloc, typedefs)? {
+        None => Ok(false),
+        Some(gone) => {
+            append(all, gone)?;
+            Ok(true)
+        }
+    }
+}
+
+/// All statements that are left to go to.
+fn all_left<'x, 'a>(
+    ways: &mut Vec<Way<'x, 'a>>,
+    alloc: Global,
+    typedefs: &'x Typedefs<'a>,
+) -> Result<Vec<Gone<'x, 'a>>, NoMemory>
+    ensures { IfOk result (λ all. map walks.node_of all.items ≡ walks.left typedefs.now ways.old.items) }
+{
+    let mut all = Vec::new(alloc);
+    for _i in 0..u64::MAX {
+        if !push_next(&mut all, ways, alloc, typedefs)? {
+            return Ok(all);
+        }
+    }
+    Err(NoMemory)
 }
 
 /// A statement before those that it rests on.
@@ -63,15 +101,8 @@ fn gone<'x, 'a>(
 ) -> Result<Vec<Gone<'x, 'a>>, NoMemory>
     ensures { IfOk result (λ all. map walks.node_of all.items ≡ walks.nodes (steps_of typedefs.now) typedefs.now (site_of spot.entry)) }
 {
-    let mut all = Vec::new(alloc);
     let mut ways = start(alloc, typedefs, spot)?;
-    for _i in 0..u64::MAX {
-        match next(&mut ways, alloc, typedefs)? {
-            None => return Ok(all),
-            Some(gone) => all.push(gone)?,
-        }
-    }
-    Err(NoMemory)
+    all_left(&mut ways, alloc, typedefs)
 }
 
 /// The least fault in a `type` statement and in those that it rests on, names apart, and its type where there is none.

@@ -4,6 +4,7 @@ ghost use Rattle.std.specs.BTreeMap.{get_by_text};
 ghost use Rattle.sal_typedefs.specs.Blocks as blocks;
 ghost use Rattle.sal_typedefs.specs.Ready as spec;
 
+use crate::append::append;
 use crate::block::{Numbers, define};
 use sal_module::{Keyword, argument_of, is_named};
 use sal_stmt::Stmt;
@@ -56,7 +57,7 @@ pub(crate) fn identities_of(alloc: Global, stmts: &[Stmt]) -> Result<Vec<Numbers
     let mut next = 0;
     for stmt in stmts {
         let (map, after) = identities_among(alloc, next, stmt.subs.items())?;
-        all.push(map)?;
+        append(&mut all, map)?;
         next = after;
     }
     Ok(all)

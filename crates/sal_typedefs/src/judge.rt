@@ -47,7 +47,8 @@ fn typed(
     ensures numbers { IfOk result (λ it. HasNumbers (out-YangType it)) }
 {
     if is_plain(&basis.ty) {
-        return restricted(alloc, &basis.ty, basis.itself, stmt);
+        let ty = restricted(alloc, &basis.ty, basis.itself, stmt)?;
+        return Ok(ty);
     }
     named_type(alloc, typedefs, number, stmt, basis, entries, types)
 }

@@ -11,6 +11,7 @@ ghost use Rattle.sal_typedefs.specs.Entries.{entries_seen};
 ghost use Rattle.sal_typedefs.specs.Types as types_spec;
 ghost use Rattle.sal_typedefs.specs.Judgements as spec;
 
+use crate::append::append;
 use crate::entries::with_entries;
 use crate::entry::{Entry, Numbering};
 use crate::judgement::Basis;
@@ -45,10 +46,13 @@ pub(crate) fn copies(alloc: Global, entries: &[Entry]) -> Result<Vec<Entry>, NoM
 {
     let mut list = Vec::with_capacity(alloc, entries.len())?;
     for entry in entries {
-        list.push(Entry {
-            name: entry.name.copy()?,
-            number: entry.number,
-        })?;
+        append(
+            &mut list,
+            Entry {
+                name: entry.name.copy()?,
+                number: entry.number,
+            },
+        )?;
     }
     Ok(list)
 }

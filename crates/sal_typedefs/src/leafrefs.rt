@@ -4,6 +4,7 @@ ghost use Rattle.sal_typedefs.specs.Spots.{site_of, site_in};
 ghost use Rattle.sal_typedefs.specs.Names as names;
 ghost use Rattle.sal_typedefs.specs.Leafrefs as spec;
 
+use crate::append::append;
 use crate::block::Block;
 use crate::spot::Spot;
 use crate::typedefs::Typedefs;
@@ -27,10 +28,13 @@ fn push_leafref<'x, 'a>(all: &mut Vec<Leafref<'a>>, spot: &Spot<'x, 'a>) -> Resu
     ensures { IfOk result (λ _. map spec.leafref_seen all.new.items ≡ map spec.leafref_seen all.old.items ++ map spec.stmt_in (filter names.is_leafref (site_of spot.now ∷ []))) }
 {
     if argument_of(spot.stmt) == "leafref" {
-        all.push(Leafref {
-            module: spot.module,
-            stmt: spot.stmt,
-        })?;
+        append(
+            all,
+            Leafref {
+                module: spot.module,
+                stmt: spot.stmt,
+            },
+        )?;
     }
     Ok(())
 }

@@ -32,6 +32,7 @@
 //! number of statements. So ask `name_fault_at` for all types of the modules before any of the others.
 #![tactic(auto)]
 
+mod append;
 mod basis;
 mod below;
 mod block;

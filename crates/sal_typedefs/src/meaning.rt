@@ -11,6 +11,7 @@ ghost use Rattle.sal_typedefs.specs.declared.entry.Entry.{Entry as Named};
 ghost use Rattle.sal_typedefs.specs.Scopes.{identity_of};
 ghost use Rattle.sal_typedefs.specs.Types as spec;
 
+use crate::append::append;
 use crate::entry::Entry;
 use crate::typedefs::Typedefs;
 use sal_module::{Keyword, argument_of, is_named};
@@ -25,7 +26,7 @@ pub(crate) fn names_in(alloc: Global, entries: &[Entry]) -> Result<Seq<Str>, NoM
 {
     let mut names = Vec::with_capacity(alloc, entries.len())?;
     for entry in entries {
-        names.push(entry.name.copy()?)?;
+        append(&mut names, entry.name.copy()?)?;
     }
     Ok(Seq::from_items(names))
 }
@@ -45,7 +46,7 @@ pub(crate) fn own_places(alloc: Global, entries: &[Entry]) -> Result<Seq<u32>, N
 {
     let mut places = Vec::with_capacity(alloc, entries.len())?;
     for (i, entry) in entries.iter().enumerate() {
-        places.push(small(i)?)?;
+        append(&mut places, small(i)?)?;
     }
     Ok(Seq::from_items(places))
 }
@@ -87,7 +88,7 @@ pub(crate) fn chosen_places(
 {
     let mut list = Vec::with_capacity(alloc, entries.len())?;
     for entry in entries {
-        list.push(place_of(names, places, entry.name.as_str()))?;
+        append(&mut list, place_of(names, places, entry.name.as_str()))?;
     }
     Ok(Seq::from_items(list))
 }
@@ -107,7 +108,7 @@ pub(crate) fn positions(alloc: Global, entries: &[Entry]) -> Result<Seq<u8>, NoM
 {
     let mut list = Vec::with_capacity(alloc, entries.len())?;
     for entry in entries {
-        list.push(tiny(entry.number)?)?;
+        append(&mut list, tiny(entry.number)?)?;
     }
     Ok(Seq::from_items(list))
 }
@@ -128,7 +129,7 @@ fn push_base(
     match typedefs.identity_of(number, argument_of(sub)) {
         None => Ok(()),
         Some(k) => {
-            bases.push(small(k)?)?;
+            append(bases, small(k)?)?;
             Ok(())
         }
     }
@@ -157,11 +158,11 @@ fn push_members(flat: &mut Vec<YangType>, ty: &YangType, alloc: Global) -> Resul
 {
     if let YangType::Union { members } = ty {
         for member in members.items() {
-            flat.push(member.copy(alloc)?)?;
+            append(flat, member.copy(alloc)?)?;
         }
         return Ok(());
     }
-    flat.push(ty.copy(alloc)?)?;
+    append(flat, ty.copy(alloc)?)?;
     Ok(())
 }
 

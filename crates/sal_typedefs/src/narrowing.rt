@@ -6,6 +6,7 @@ ghost use Rattle.sal_restrict.specs.declared.yang_type.YangType.TheViews.{out-Ya
 ghost use Rattle.sal_typedefs.specs.Restrictions.{HasNumbers};
 ghost use Rattle.sal_typedefs.specs.Types as spec;
 
+use crate::append::append;
 use sal_module::{Keyword, argument_of, first_named, has_named, is_named, value_of};
 use sal_restrict::{Pattern, RangeFault, Ranges, YangType, read_ranges};
 use sal_stmt::Stmt;
@@ -65,7 +66,7 @@ pub(crate) fn with_patterns_of(
     let mut all = copies(alloc, patterns)?;
     for sub in stmt.subs.items() {
         if is_named(Keyword::Pattern, sub) {
-            all.push(pattern_of(alloc, sub)?)?;
+            append(&mut all, pattern_of(alloc, sub)?)?;
         }
     }
     Ok(Seq::from_items(all))
@@ -76,7 +77,7 @@ fn copies(alloc: Global, patterns: &[Pattern]) -> Result<Vec<Pattern>, NoMemory>
 {
     let mut list = Vec::with_capacity(alloc, patterns.len())?;
     for pattern in patterns {
-        list.push(pattern.copy()?)?;
+        append(&mut list, pattern.copy()?)?;
     }
     Ok(list)
 }
@@ -90,6 +91,23 @@ fn path_of(alloc: Global, path: &Str, itself: bool, stmt: &Stmt) -> Result<Str, 
     } else {
         path.copy()
     }
+}
+
+/// The lengths and patterns of a text, narrowed where its statement says so.
+fn text_parts(
+    alloc: Global,
+    lengths: &Ranges,
+    patterns: &[Pattern],
+    stmt: &Stmt,
+) -> Result<(Ranges, Seq<Pattern>), NoMemory>
+    requires { 0 < length lengths.now }
+    ensures lengths { IfOk result (λ it. it.0 ≡ spec.narrowed word.Length stmt.now 0 lengths.now) }
+    ensures patterns { IfOk result (λ it. it.1 ≡ patterns.now ++ map spec.pattern_of (all_named word.Pattern stmt.now)) }
+    ensures some { IfOk result (λ it. 0 < length it.0) }
+{
+    let lengths = narrowed(alloc, Keyword::Length, stmt, 0, lengths)?;
+    let patterns = with_patterns_of(alloc, patterns, stmt)?;
+    Ok((lengths, patterns))
 }
 
 /// The type that a statement means, where it restricts numbers, a text or bytes, or nothing.
@@ -119,10 +137,10 @@ pub(crate) fn restricted(
             digits: *digits,
             range: narrowed(alloc, Keyword::Range, stmt, *digits, range)?,
         }),
-        YangType::Text { length, patterns } => Ok(YangType::Text {
-            length: narrowed(alloc, Keyword::Length, stmt, 0, length)?,
-            patterns: with_patterns_of(alloc, patterns.items(), stmt)?,
-        }),
+        YangType::Text { length, patterns } => {
+            let (length, patterns) = text_parts(alloc, length, patterns.items(), stmt)?;
+            Ok(YangType::Text { length, patterns })
+        }
         YangType::Bin { length } => Ok(YangType::Bin {
             length: narrowed(alloc, Keyword::Length, stmt, 0, length)?,
         }),

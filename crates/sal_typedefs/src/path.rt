@@ -3,6 +3,7 @@ ghost use Rattle.std.specs.Prelude.{◌≡◌, ◌<◌, ◌≤◌, ◌==◌, ◌
 ghost use Rattle.std.specs.List.{slice_split, list_all, prefix_len};
 ghost use Rattle.sal_typedefs.specs.Names as spec;
 
+use crate::append::append;
 use sal_stmt::is_keyword;
 use sal_types::{NoMemory, Str};
 use std::alloc::Global;
@@ -53,11 +54,11 @@ fn steps_of(alloc: Global, text: &str) -> Result<Vec<Str>, NoMemory>
     'steps: loop {
         match rest.split_once('/') {
             None => {
-                steps.push(Str::new(alloc, rest)?)?;
+                append(&mut steps, Str::new(alloc, rest)?)?;
                 return Ok(steps);
             }
             Some((step, more)) => {
-                steps.push(Str::new(alloc, step)?)?;
+                append(&mut steps, Str::new(alloc, step)?)?;
                 rest = more;
             }
         }
@@ -134,7 +135,7 @@ fn names_in(alloc: Global, steps: &[Str]) -> Result<Vec<Str>, NoMemory>
 {
     let mut names = Vec::with_capacity(alloc, steps.len())?;
     for step in steps {
-        names.push(Str::new(alloc, name_in(step.as_str()))?)?;
+        append(&mut names, Str::new(alloc, name_in(step.as_str()))?)?;
     }
     Ok(names)
 }

@@ -5,6 +5,7 @@ ghost use Rattle.sal_typedefs.specs.Scopes.{way_to, site_at};
 ghost use Rattle.sal_typedefs.specs.Spots.{stmts};
 ghost use Rattle.sal_typedefs.specs.Sites as spec;
 
+use crate::append::append;
 use crate::block::Block;
 use sal_stmt::Stmt;
 use sal_types::NoMemory;
@@ -26,7 +27,7 @@ fn inside<'a>(place: Place<'a>, block: &'a Stmt) -> Result<Place<'a>, NoMemory>
 {
     let Place { stmt, around } = place;
     let mut around = around;
-    around.push(block)?;
+    append(&mut around, block)?;
     Ok(Place { stmt, around })
 }
 
@@ -81,7 +82,7 @@ pub(crate) fn blocks_of<'a>(alloc: Global, around: &[&'a Stmt]) -> Result<Vec<Bl
     let mut n = around.len();
     'outwards: while n > 0 {
         let block = Block::new(alloc, around[n - 1])?;
-        blocks.push(block)?;
+        append(&mut blocks, block)?;
         n -= 1;
     }
     Ok(blocks)

@@ -2,6 +2,7 @@
 ghost use Rattle.std.specs.Prelude.{◌≡◌, Ok, None, IfOk};
 ghost use Rattle.sal_types.specs.Reading.{GivesUnless};
 ghost use Rattle.sal_module.specs.declared.fault.BuildFault.TheVariants as fault;
+ghost use Rattle.sal_module.specs.Faults as faults;
 ghost use Rattle.sal_module.specs.Faults.{least};
 ghost use Rattle.sal_typedefs.specs.Spots.{site_of, site_in};
 ghost use Rattle.sal_typedefs.specs.Names.{all_name_faults};
@@ -41,13 +42,23 @@ fn all_names<'x, 'a>(
     Err(NoMemory)
 }
 
+/// The fault as callers get it, or `NoMemory`.
+fn fault_of(alloc: Global, found: Found) -> BuildFault
+    ensures { (result ≡ fault.NoMemory → ⊥) → result ≡ faults.fault_of found }
+{
+    match found.fault(alloc) {
+        Ok(fault) => fault,
+        Err(_) => BuildFault::NoMemory,
+    }
+}
+
 /// A type, unless there is a fault.
 fn unless(alloc: Global, found: Option<Found>, ty: YangType) -> Result<YangType, BuildFault>
     ensures { GivesUnless fault.NoMemory (λ t. t) result (spec.unless found (Ok ty)) }
 {
     match found {
         None => Ok(ty),
-        Some(found) => Err(found.fault(alloc)?),
+        Some(found) => Err(fault_of(alloc, found)),
     }
 }
 
@@ -63,7 +74,7 @@ fn meaning<'x, 'a>(
 {
     let spot = Spot::new(alloc, number, around, stmt);
     if let Some(found) = all_names(alloc, typedefs, spot)? {
-        return Err(found.fault(alloc)?);
+        return Err(fault_of(alloc, found));
     }
     let (found, ty) = judge_at(alloc, typedefs, number, around, stmt)?;
     unless(alloc, found, ty)

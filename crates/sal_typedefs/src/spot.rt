@@ -3,6 +3,7 @@ ghost use Rattle.std.specs.Prelude.{◌≡◌, ◌≤◌, IfOk, IfSome, map, opt
 ghost use Rattle.sal_typedefs.specs.Scopes as scopes;
 ghost use Rattle.sal_typedefs.specs.Spots as spec;
 
+use crate::append::append;
 use crate::block::{Block, typedef_among};
 use sal_module::{Keyword, is_named};
 use sal_stmt::Stmt;
@@ -23,7 +24,7 @@ fn copies<'a>(alloc: Global, list: &[&'a Stmt]) -> Result<Vec<&'a Stmt>, NoMemor
 {
     let mut copy = Vec::with_capacity(alloc, list.len())?;
     for stmt in list {
-        copy.push(*stmt)?;
+        append(&mut copy, *stmt)?;
     }
     Ok(copy)
 }
@@ -146,7 +147,7 @@ impl<'x, 'a> Spot<'x, 'a> {
         ensures { IfOk result (λ spot. spec.site_of spot ≡ scopes.within (spec.site_of self.now) sub.now) }
     {
         let mut inner = copies(alloc, self.inner.as_slice())?;
-        inner.push(self.stmt)?;
+        append(&mut inner, self.stmt)?;
         Ok(Spot {
             module: self.module,
             stmt: sub,

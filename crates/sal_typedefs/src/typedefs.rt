@@ -8,6 +8,7 @@ ghost use Rattle.sal_typedefs.specs.Ready.{AreIdentities};
 ghost use Rattle.sal_typedefs.specs.Names.{steps_of};
 ghost use Rattle.sal_typedefs.specs.Scopes as spec;
 
+use crate::append::append;
 use crate::block::{Block, Numbers};
 use crate::count::steps_of;
 use crate::identities::identities_of;
@@ -48,7 +49,7 @@ fn tops_of<'a>(alloc: Global, stmts: &'a [Stmt]) -> Result<Vec<Block<'a>>, NoMem
 {
     let mut tops = Vec::with_capacity(alloc, stmts.len())?;
     for stmt in stmts {
-        tops.push(Block::new(alloc, stmt)?)?;
+        append(&mut tops, Block::new(alloc, stmt)?)?;
     }
     Ok(tops)
 }

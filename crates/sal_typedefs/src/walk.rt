@@ -6,6 +6,7 @@ ghost use Rattle.sal_typedefs.specs.Names.{steps_of};
 ghost use Rattle.sal_typedefs.specs.Spots.{site_of};
 ghost use Rattle.sal_typedefs.specs.Walks as spec;
 
+use crate::append::append;
 use crate::below::rests_on;
 use crate::spot::Spot;
 use crate::typedefs::Typedefs;
@@ -38,7 +39,7 @@ fn push_all<'x, 'a>(
     let mut spots = spots;
     'spots: while spots.len() > 0 {
         if let Some(spot) = spots.pop() {
-            ways.push(Way { spot, steps })?;
+            append(ways, Way { spot, steps })?;
         }
     }
     Ok(())
@@ -76,9 +77,12 @@ pub(crate) fn start<'x, 'a>(
     ensures { IfOk result (λ ways. spec.left typedefs.now ways.items ≡ spec.nodes (steps_of typedefs.now) typedefs.now (site_of spot.entry)) }
 {
     let mut ways = Vec::new(alloc);
-    ways.push(Way {
-        spot,
-        steps: typedefs.steps(),
-    })?;
+    append(
+        &mut ways,
+        Way {
+            spot,
+            steps: typedefs.steps(),
+        },
+    )?;
     Ok(ways)
 }

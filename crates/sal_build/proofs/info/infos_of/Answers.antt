@@ -15,7 +15,7 @@ loop-k-preserved c =
     let forest = c.args.forest.now in
     let k = c.loop-k.k in
     let at = get_or_default forest k _ _ c.loop-k-test.true in
-    let pushed = c.in_ok-push.ensures.items ∙ ap (λ i. c.loop-k.infos.items ++ i ∷ []) c.in_ok-info_of.ensures in
+    let pushed = c.in_ok-append.ensures ∙ ap (λ i. c.loop-k.infos.items ++ i ∷ []) c.in_ok-info_of.ensures in
     record {
       infos = c.loop-k.invariant.infos ∙ infos-more stmts forest c.loop-k.infos.items k _ c.loop-k-test.true at ∙ ap (λ done. done ++ infos_from stmts forest (k + 1) (drop (k + 1) forest)) (sym pushed);
       types = rw (c.is_typed.ensures, c.loop-k.invariant.types) at c.after-types.ensures ∙ types-more stmts forest k _ c.loop-k-test.true at;

@@ -9,4 +9,4 @@ loop-k-preserved c =
     let forest = c.args.forest.now in
     edges-more c.args.modules.now forest c.loop-k.k _ (seen_all c.args.leafrefs.now) (seen c.leafrefs_at-own.result.now) c.loop-k-test.true
     (get_or_default forest c.loop-k.k _ _ c.loop-k-test.true) c.requires.leafrefs c.leafrefs_at-own.ensures
-    c.loop-k.edges.items c.push.new.self.items c.in_ok-targets.targets c.loop-k.invariant (search rules) c.in_ok-targets.ensures
+    c.loop-k.edges.items c.append.new.list.items c.in_ok-targets.targets c.loop-k.invariant (search rules) c.in_ok-targets.ensures

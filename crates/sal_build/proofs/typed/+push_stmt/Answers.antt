@@ -19,22 +19,22 @@ loop-sub-preserved t c =
     let a = c.args in
     let inside : c.loop-sub.sub-index < length (subs_of a.stmt.now) = omega (arith, ap length c.items-sub-items.ensures, c.loop-sub-test.true) in (
       c.in_ok-push_stmt.ensures.around ∙ c.loop-sub.invariant.0,
-      owns-more a.wanted.now a.typedefs.now (a.levels - 1) a.number (subs_of a.stmt.now) c.push.new.self.items c.loop-sub.around.items c.loop-sub.sub-index _ (owns c.push_here.new.all.items)
+      owns-more a.wanted.now a.typedefs.now (a.levels - 1) a.number (subs_of a.stmt.now) c.append.new.list.items c.loop-sub.around.items c.loop-sub.sub-index _ (owns c.push_here.new.all.items)
           (owns c.loop-sub.all.items) (owns c.push_stmt.new.all.items) inside (search rules) c.loop-sub.invariant.0 c.loop-sub.invariant.1 c.in_ok-push_stmt.ensures.value,
     )
 
 pub returns-clause-value : goal.returns-clause-value
 returns-clause-value t c =
     let a = c.args in
-    let opened = c.in_ok-push.ensures.items ∙ ap (λ b. c.push_here.new.around.items ++ b ∷ []) c.in_ok-new.ensures ∙ ap (λ (bs : List Stmt). bs ++ a.stmt.now ∷ []) c.in_ok-push_here.ensures.around in
+    let opened = c.in_ok-append.ensures ∙ ap (λ b. c.push_here.new.around.items ++ b ∷ []) c.in_ok-new.ensures ∙ ap (λ (bs : List Stmt). bs ++ a.stmt.now ∷ []) c.in_ok-push_here.ensures.around in
     let whole : take c.loop-sub.sub-index (subs_of a.stmt.now) ≡ subs_of a.stmt.now = grind (arith, common_steps) in
     let all = rw whole at c.loop-sub.invariant.1 in
     all
-    ∙ owns-all a.wanted.now a.typedefs.now a.levels a.number a.around.now.items c.push.new.self.items a.stmt.now (owns a.all.now.items) (owns c.push_here.new.all.items) (omega arith) opened
+    ∙ owns-all a.wanted.now a.typedefs.now a.levels a.number a.around.now.items c.append.new.list.items a.stmt.now (owns a.all.now.items) (owns c.push_here.new.all.items) (omega arith) opened
     c.in_ok-push_here.ensures.value
 
 pub returns-clause-around : goal.returns-clause-around
 returns-clause-around t c =
     let a = c.args in
-    let opened = c.in_ok-push.ensures.items ∙ ap (λ b. c.push_here.new.around.items ++ b ∷ []) c.in_ok-new.ensures ∙ ap (λ (bs : List Stmt). bs ++ a.stmt.now ∷ []) c.in_ok-push_here.ensures.around in
+    let opened = c.in_ok-append.ensures ∙ ap (λ b. c.push_here.new.around.items ++ b ∷ []) c.in_ok-new.ensures ∙ ap (λ (bs : List Stmt). bs ++ a.stmt.now ∷ []) c.in_ok-push_here.ensures.around in
     popped c.loop-sub.around.items a.around.now.items c.pop.new.self.items a.stmt.now _ c.loop-sub.around.ok.0 c.pop.ensures.rest (c.loop-sub.invariant.0 ∙ opened)

@@ -13,13 +13,13 @@ returns-then-not-contains_key-clause-value c =
 pub returns-clause-value : goal.returns-clause-value
 returns-clause-value c =
     let a = c.args in
-    let opened = c.in_ok-push.ensures.items ∙ ap (λ b. a.around.now.items ++ b ∷ []) c.in_ok-new.ensures in
+    let opened = c.in_ok-append.ensures ∙ ap (λ b. a.around.now.items ++ b ∷ []) c.in_ok-new.ensures in
     let own = rw c.deref.ensures.value at c.in_ok-own.ensures in
-    ap owns c.in_ok-push-2.ensures.items
-    ∙ kept-one a.wanted.now a.typedefs.now _ a.number a.around.now.items c.push.new.self.items a.stmt.now a.all.now.items c.in_ok-own.own c.place_at.ensures
+    ap owns c.in_ok-append-2.ensures
+    ∙ kept-one a.wanted.now a.typedefs.now _ a.number a.around.now.items c.append.new.list.items a.stmt.now a.all.now.items c.in_ok-own.own c.place_at.ensures
     (sym c.contains_key.ensures ∙ c.if-not-contains_key.false) opened own
 
 pub returns-clause-around : goal.returns-clause-around
 returns-clause-around c =
-    let opened = c.in_ok-push.ensures.items ∙ ap (λ b. c.args.around.now.items ++ b ∷ []) c.in_ok-new.ensures in
-    popped c.push.new.self.items c.args.around.now.items c.pop.new.self.items c.args.stmt.now _ c.push.new.self.ok.0 c.pop.ensures.rest opened
+    let opened = c.in_ok-append.ensures ∙ ap (λ b. c.args.around.now.items ++ b ∷ []) c.in_ok-new.ensures in
+    popped c.append.new.list.items c.args.around.now.items c.pop.new.self.items c.args.stmt.now _ c.append.new.list.ok.0 c.pop.ensures.rest opened

@@ -23,7 +23,7 @@ loop-sub-preserved t c =
     let a = c.args in
     let inside : c.loop-sub.sub-index < length (subs_of a.stmt.now) = omega (arith, ap length c.items-sub-items.ensures, c.loop-sub-test.true) in (
       c.in_ok-best-2.ensures.around ∙ c.loop-sub.invariant.0,
-      faults-more a.asked a.typedefs.now (a.levels - 1) a.number (subs_of a.stmt.now) c.push.new.self.items c.loop-sub.around.items c.loop-sub.sub-index _ c.in_ok-best.best c.loop-sub.best
+      faults-more a.asked a.typedefs.now (a.levels - 1) a.number (subs_of a.stmt.now) c.append.new.list.items c.loop-sub.around.items c.loop-sub.sub-index _ c.in_ok-best.best c.loop-sub.best
           c.in_ok-best-2.best inside (search rules) c.loop-sub.invariant.0 c.loop-sub.invariant.1 c.in_ok-best-2.ensures.value,
     )
 
@@ -31,14 +31,14 @@ pub returns-clause-value : goal.returns-clause-value
 returns-clause-value t c =
     let a = c.args in
     let here = rw c.deref.ensures.value at c.in_ok-best.ensures in
-    let opened = c.in_ok-push.ensures.items ∙ ap (λ b. a.around.now.items ++ b ∷ []) c.in_ok-new.ensures in
+    let opened = c.in_ok-append.ensures ∙ ap (λ b. a.around.now.items ++ b ∷ []) c.in_ok-new.ensures in
     let whole : take c.loop-sub.sub-index (subs_of a.stmt.now) ≡ subs_of a.stmt.now = grind (arith, common_steps) in
     let all = rw whole at c.loop-sub.invariant.1 in
     all
-    ∙ faults-all a.asked a.typedefs.now a.levels a.number a.around.now.items c.push.new.self.items a.stmt.now a.best c.in_ok-best.best (sym c.is_read.ensures ∙ c.if-not-is_read.false) (omega arith)
+    ∙ faults-all a.asked a.typedefs.now a.levels a.number a.around.now.items c.append.new.list.items a.stmt.now a.best c.in_ok-best.best (sym c.is_read.ensures ∙ c.if-not-is_read.false) (omega arith)
     opened here
 
 pub returns-clause-around : goal.returns-clause-around
 returns-clause-around t c =
-    let opened = c.in_ok-push.ensures.items ∙ ap (λ b. c.args.around.now.items ++ b ∷ []) c.in_ok-new.ensures in
+    let opened = c.in_ok-append.ensures ∙ ap (λ b. c.args.around.now.items ++ b ∷ []) c.in_ok-new.ensures in
     popped c.loop-sub.around.items c.args.around.now.items c.pop.new.self.items c.args.stmt.now _ c.loop-sub.around.ok.0 c.pop.ensures.rest (c.loop-sub.invariant.0 ∙ opened)

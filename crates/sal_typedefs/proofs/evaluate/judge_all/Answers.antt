@@ -26,6 +26,6 @@ nodes-preserved c =
     let P : List Judgement → Type 0 = λ ds. AreJudged ds (take node.below js) in
     let one = c.in_ok-judgement.ensures (take node.below js) (subst P (sym c.as_slice.ensures.value) taken.0) in (
       omega (arith, c.nodes.invariant.0),
-      run-more modules all c.nodes.n node c.in_ok-judgement.judgement c.take_last.new.done.items c.take_last.new.done.items c.push.new.self.items (omega arith) c.nodes.invariant.0 c.index-nodes-n.is
-          c.in_ok-push.ensures.items one taken.1,
+      run-more modules all c.nodes.n node c.in_ok-judgement.judgement c.take_last.new.done.items c.take_last.new.done.items c.append.new.list.items (omega arith) c.nodes.invariant.0 c.index-nodes-n.is
+          c.in_ok-append.ensures one taken.1,
     )

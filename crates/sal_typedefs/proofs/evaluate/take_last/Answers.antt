@@ -16,4 +16,4 @@ returns-in-None c judged are =
 pub loop-i-preserved : goal.loop-i-preserved
 loop-i-preserved c judged are =
     let inv = c.loop-i.invariant judged are in
-    taken-more c.loop-i.i judged c.in-Some.judgement c.pop.new.self.items c.loop-i.done.items c.loop-i.below.items c.push.new.self.items c.in-Some.ensures.items c.in_ok-push-in-Some.ensures.items inv.1 inv.0
+    taken-more c.loop-i.i judged c.in-Some.judgement c.pop.new.self.items c.loop-i.done.items c.loop-i.below.items c.append.new.list.items c.in-Some.ensures.items c.in_ok-append-in-Some.ensures inv.1 inv.0

@@ -32,7 +32,7 @@ returns-in-Some c = λ other.
     let modules = c.args.typedefs.now in
     let site : Site = site_in c.args.number c.args.around.now c.args.stmt.now in
     let names = ap (λ s. least None (all_name_faults modules s)) (sym c.new-spot.ensures) ∙ sym c.in_ok-found.ensures ∙ c.in-Some.is in
-    by-names modules site c.in-Some.found names ∙ ap Err (sym c.in_ok-fault.ensures)
+    by-names modules site c.in-Some.found names ∙ ap Err (sym (c.fault_of.ensures other))
 
 pub returns : goal.returns
 returns c =

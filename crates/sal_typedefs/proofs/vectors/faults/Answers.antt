@@ -1,5 +1,4 @@
 -- Each example by computation.
-use Rattle.std.proofs.Common.{refl}
 use Rattle.sal_stmt.specs.Words.{is_keyword}
 use Rattle.sal_stmt.specs.declared.stmt.Stmt.TheViews.{out-roll-Stmt}
 use Rattle.sal_restrict.specs.declared.yang_type.YangType.TheViews.{out-roll-YangType}
@@ -10,11 +9,8 @@ use Rattle.sal_typedefs.specs.Scopes.{way_to, place_of, within}
 use Rattle.sal_typedefs.specs.Builtins.{names, builtin_of}
 use Rattle.sal_typedefs.specs.Names.{under, count, name_of}
 use Rattle.sal_typedefs.specs.Restrictions.{is_needed, is_misplaced, layer_of}
-use Rattle.sal_typedefs.specs.Patterns.{is_malformed}
-use Rattle.sal_typedefs.specs.Types.{judge, resolve, restricted, judged, base_of, members_of}
-use Rattle.regex.proofs.OnLiterals.{regex_on_literals}
-use Rattle.std.specs.Str.{chars}
-use Rattle.sal_typedefs.proofs.vectors.examples.Goals as goal
+use Rattle.sal_typedefs.specs.Types.{judge, resolve}
+use Rattle.sal_typedefs.proofs.vectors.faults.Goals as goal
 
 pub returns-clause-unknown : goal.returns-clause-unknown
 unfolding words keyword_of word_of is_keyword way_to names builtin_of under count judge resolve
@@ -24,10 +20,6 @@ pub returns-clause-prefix : goal.returns-clause-prefix
 unfolding words keyword_of word_of is_keyword way_to names builtin_of under count judge resolve
 returns-clause-prefix c = simp (place_of, subs_of, within, argument_of, is_named, all_named, value_of, at_stmt, name_of, is_needed, is_misplaced, layer_of, out-roll-Stmt, out-roll-YangType)
 
-pub returns-clause-narrowed : goal.returns-clause-narrowed
-unfolding words keyword_of word_of is_keyword way_to names builtin_of under count judge resolve
-returns-clause-narrowed c = simp (place_of, subs_of, within, argument_of, is_named, all_named, value_of, at_stmt, name_of, is_needed, is_misplaced, layer_of, out-roll-Stmt, out-roll-YangType)
-
 pub returns-clause-wider : goal.returns-clause-wider
 unfolding words keyword_of word_of is_keyword way_to names builtin_of under count judge resolve
 returns-clause-wider c = simp (place_of, subs_of, within, argument_of, is_named, all_named, value_of, at_stmt, name_of, is_needed, is_misplaced, layer_of, out-roll-Stmt, out-roll-YangType)
@@ -35,14 +27,6 @@ returns-clause-wider c = simp (place_of, subs_of, within, argument_of, is_named,
 pub returns-clause-circle : goal.returns-clause-circle
 unfolding words keyword_of word_of is_keyword way_to names builtin_of under count judge resolve
 returns-clause-circle c = simp (place_of, subs_of, within, argument_of, is_named, all_named, value_of, at_stmt, name_of, is_needed, is_misplaced, layer_of, out-roll-Stmt, out-roll-YangType)
-
-pub returns-clause-enumeration : goal.returns-clause-enumeration
-unfolding words keyword_of word_of is_keyword way_to names builtin_of under count judge resolve
-returns-clause-enumeration c = simp (place_of, subs_of, within, argument_of, is_named, all_named, value_of, at_stmt, name_of, is_needed, is_misplaced, layer_of, out-roll-Stmt, out-roll-YangType)
-
-pub returns-clause-subset : goal.returns-clause-subset
-unfolding words keyword_of word_of is_keyword way_to names builtin_of under count judge resolve
-returns-clause-subset c = simp (place_of, subs_of, within, argument_of, is_named, all_named, value_of, at_stmt, name_of, is_needed, is_misplaced, layer_of, out-roll-Stmt, out-roll-YangType)
 
 pub returns-clause-lacking : goal.returns-clause-lacking
 unfolding words keyword_of word_of is_keyword way_to names builtin_of under count judge resolve
@@ -63,19 +47,3 @@ returns-clause-kind c = simp (place_of, subs_of, within, argument_of, is_named, 
 pub returns-clause-path : goal.returns-clause-path
 unfolding words keyword_of word_of is_keyword way_to names builtin_of under count judge resolve
 returns-clause-path c = simp (place_of, subs_of, within, argument_of, is_named, all_named, value_of, at_stmt, name_of, is_needed, is_misplaced, layer_of, out-roll-Stmt, out-roll-YangType)
-
-pub returns-clause-bits : goal.returns-clause-bits
-unfolding words keyword_of word_of is_keyword way_to names builtin_of under count judge resolve
-returns-clause-bits c = simp (place_of, subs_of, within, argument_of, is_named, all_named, value_of, at_stmt, name_of, is_needed, is_misplaced, layer_of, out-roll-Stmt, out-roll-YangType)
-
-pub returns-clause-flat : goal.returns-clause-flat
-unfolding words keyword_of word_of is_keyword way_to names builtin_of under count judge resolve
-returns-clause-flat c = simp (restricted, judged, base_of, members_of, place_of, subs_of, within, argument_of, is_named, all_named, value_of, at_stmt, name_of, is_needed, is_misplaced, layer_of, out-roll-Stmt, out-roll-YangType)
-
-pub returns-clause-open : goal.returns-clause-open
-unfolding regex_on_literals is_malformed chars
-returns-clause-open c = refl
-
-pub returns-clause-joined : goal.returns-clause-joined
-unfolding regex_on_literals is_malformed chars
-returns-clause-joined c = refl

@@ -1,10 +1,10 @@
 -- A conflict names a commit of a span that touched its path.
-use Rattle.std.proofs.Common.{◌≡◌, ℕ, zero, suc, ◌+◌, ◌-◌, ◌<◌, ◌≤◌, Bool, true, false, List, [], ◌∷◌, ◌++◌, ◌||◌, ◌&&◌, take, length, reverse, Option, None, Some, refl, ap, sym, ◌∙◌, subst, cond, if◌then◌else◌, arith, append_assoc, append-nil}
+use Rattle.std.proofs.Common.{◌≡◌, ℕ, suc, ◌+◌, ◌-◌, ◌<◌, ◌≤◌, Bool, true, false, List, [], ◌∷◌, ◌++◌, ◌&&◌, take, length, reverse, Option, None, Some, refl, ap, sym, ◌∙◌, subst, if◌then◌else◌, arith, append_assoc, append-nil}
 use Rattle.std.specs.Prelude.{not, find, unwrap_or, slice_get, is_some}
 use Rattle.std.specs.List.{list_any, All, Any, Contains}
 use Rattle.std.specs.Option.{option_or, option_map}
-use Rattle.std.proofs.lemmas.List.{take_all, reverse-append}
-use Rattle.std.proofs.lemmas.List.Elements.{All-contains, All-cons, All-nil, All-weaker, Contains-append_left, Contains-append_right, Contains-push}
+use Rattle.std.proofs.lemmas.List.{take_all}
+use Rattle.std.proofs.lemmas.List.Elements.{All-contains, All-cons, All-nil}
 use Rattle.std.proofs.lemmas.List.Sorted.{IsPermutation-reverse, All-permutation, list_any-IsPermutation}
 use Rattle.std.proofs.lemmas.Option.{same_Some}
 use Rattle.sal_types.specs.declared.value.Store.{Store}
@@ -16,7 +16,7 @@ use Rattle.sal_types.proofs.Prefixes.{is_prefix-append}
 use Rattle.sal_rows.specs.declared.op.Op.{Op}
 use Rattle.sal_rows.specs.declared.outcome.ClashKind.TheVariants.{Deleted}
 use Rattle.sal_rows.specs.Apply.{checks_path, last_setting}
-use Rattle.sal_rows.specs.Commits.{numbers_after, numbers_in, tree_at, touches_at, is_unchanged, last_touch, kind_over}
+use Rattle.sal_rows.specs.Commits.{numbers_in, tree_at, touches_at, is_unchanged, last_touch, kind_over}
 use Rattle.sal_rows.specs.declared.clash.Span.{Span}
 use Rattle.sal_rows.specs.PathClash.{Difference, difference, is_covered, IsNamedIn}
 use Rattle.sal_rows.proofs.Numbers.{find_part}

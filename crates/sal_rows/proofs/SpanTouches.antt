@@ -1,8 +1,8 @@
 -- A conflict names a commit that touched its path.
-use Rattle.std.proofs.Common.{◌≡◌, ℕ, zero, suc, ◌+◌, ◌-◌, ◌<◌, ◌≤◌, Bool, true, false, List, [], ◌∷◌, ◌++◌, ◌||◌, ◌&&◌, take, reverse, Option, None, Some, refl, ap, sym, ◌∙◌, subst, cond, if◌then◌else◌, arith, inl, inr}
+use Rattle.std.proofs.Common.{◌≡◌, ℕ, zero, suc, ◌+◌, ◌-◌, ◌<◌, ◌≤◌, Bool, true, false, List, [], ◌∷◌, ◌++◌, ◌||◌, take, reverse, Option, None, Some, refl, ap, sym, ◌∙◌, subst, cond, if◌then◌else◌, arith, inl, inr}
 use Rattle.std.specs.Prelude.{not, find, unwrap_or, slice_get}
 use Rattle.std.specs.List.{list_any, All, Any, Contains}
-use Rattle.std.specs.Option.{option_or, option_map}
+use Rattle.std.specs.Option.{option_map}
 use Rattle.std.proofs.lemmas.List.{take_all, take_more}
 use Rattle.std.proofs.lemmas.List.Sums.{fold-append}
 use Rattle.std.proofs.lemmas.List.Elements.{All-contains, All-cons, All-nil, All-weaker, Contains-append_left, Contains-append_right, Contains-push}
@@ -15,7 +15,7 @@ use Rattle.sal_types.specs.Order.{path_eq}
 use Rattle.sal_types.specs.Prefix.{is_prefix}
 use Rattle.sal_types.specs.Tree.{cell, has}
 use Rattle.sal_rows.specs.declared.op.Op.{Op}
-use Rattle.sal_rows.specs.Apply.{apply_ops, checks_path}
+use Rattle.sal_rows.specs.Apply.{apply_ops}
 use Rattle.sal_rows.specs.Touch.{touches}
 use Rattle.sal_rows.specs.Commits.{numbers_after, numbers_in, tree_after, tree_at, commit_touches, touches_at, is_unchanged, unchanged_by, last_touch, kind_over}
 use Rattle.sal_rows.specs.declared.clash.Span.{Span}

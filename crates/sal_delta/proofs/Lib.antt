@@ -2,6 +2,6 @@ mod ByOps
 mod Exact
 mod Merges
 mod Nexts
-mod Ordered
+mod InOrder
 mod Tops
 mod Walks

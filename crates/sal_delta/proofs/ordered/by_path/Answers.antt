@@ -3,7 +3,7 @@ use Rattle.std.proofs.lemmas.List.Sums.{fold-append}
 use Rattle.std.specs.FinMap.{put}
 use Rattle.sal_types.specs.Order.{path_cmp}
 use Rattle.sal_delta.specs.Ordered.{marks_of, put_mark}
-use Rattle.sal_delta.proofs.Ordered.{marks-insert}
+use Rattle.sal_delta.proofs.InOrder.{marks-insert}
 use Rattle.sal_delta.proofs.ordered.by_path.Goals as goal
 
 pub loop-change-preserved : goal.loop-change-preserved

@@ -1,5 +1,5 @@
 -- What a commit's operations lead to are its changes.
-use Rattle.std.proofs.Common.{◌≡◌, true, false, Bool, List, [], ◌∷◌, ◌++◌, ◌&&◌, ◌||◌, ◌⊎◌, inl, inr, Option, Some, None, refl, ap, sym, ◌∙◌, subst, if◌then◌else◌}
+use Rattle.std.proofs.Common.{◌≡◌, true, false, Bool, List, [], ◌∷◌, ◌&&◌, ◌||◌, ◌⊎◌, inl, inr, Option, Some, None, refl, ap, sym, ◌∙◌, subst, if◌then◌else◌}
 use Rattle.std.specs.Prelude.{is_some}
 use Rattle.std.specs.Option.{option_or, option_map}
 use Rattle.std.specs.Ordering.{is_eq, eq_by_cmp}
@@ -16,8 +16,8 @@ use Rattle.sal_rows.specs.declared.op.Act.{Act}
 use Rattle.sal_rows.specs.declared.op.Act.TheVariants.{Put, Merge, Delete}
 use Rattle.sal_rows.specs.declared.op.Op.{Op}
 use Rattle.sal_rows.specs.declared.change.Change.{Change}
-use Rattle.sal_rows.specs.Apply.{same_store, act_setting, setting, last_setting, cell_by, cell_after, apply_ops}
-use Rattle.sal_rows.specs.Changes.{same_cell, changes_under, change_at, differing}
+use Rattle.sal_rows.specs.Apply.{same_store, act_setting, setting, last_setting, cell_by, apply_ops}
+use Rattle.sal_rows.specs.Changes.{same_cell, changes_under, differing}
 use Rattle.sal_rows.proofs.Cells.{same_path, IsAscending-filter}
 use Rattle.sal_rows.proofs.Applied.{cell-apply_ops}
 use Rattle.sal_rows.proofs.Differing.{Rises, same_changes, at-changes_under, rises-changes}
@@ -51,13 +51,13 @@ prefix_of_prefix (x ∷ q) (y ∷ p) (z ∷ r) g h =
 
 -- of two prefixes of one path the one is a prefix of the other
 prefixes_meet : (p q r : List Step) → is_prefix p r ≡ true → is_prefix q r ≡ true → is_prefix q p ≡ false → is_prefix p q ≡ true
-prefixes_meet [] q r g h no = refl
-prefixes_meet (x ∷ p) [] r g h no = cc
-prefixes_meet (x ∷ p) (y ∷ q) [] g h no = cc
-prefixes_meet (x ∷ p) (y ∷ q) (z ∷ r) g h no =
+prefixes_meet [] q r g h apart = refl
+prefixes_meet (x ∷ p) [] r g h apart = cc
+prefixes_meet (x ∷ p) (y ∷ q) [] g h apart = cc
+prefixes_meet (x ∷ p) (y ∷ q) (z ∷ r) g h apart =
     let xz : x ≡ z = same_step x z (first_so (eq_by_cmp step_cmp x z) (is_prefix p r) g) in
     let yz : y ≡ z = same_step y z (first_so (eq_by_cmp step_cmp y z) (is_prefix q r) h) in
-    let rest : is_prefix q p ≡ false = sym (ap (λ b. b && is_prefix q p) (step_itself y x (yz ∙ sym xz))) ∙ no in
+    let rest : is_prefix q p ≡ false = sym (ap (λ b. b && is_prefix q p) (step_itself y x (yz ∙ sym xz))) ∙ apart in
     and_both (eq_by_cmp step_cmp x y) (is_prefix p q) (step_itself x y (xz ∙ sym yz))
     (prefixes_meet p q r (second_so (eq_by_cmp step_cmp x z) (is_prefix p r) g) (second_so (eq_by_cmp step_cmp y z) (is_prefix q r) h) rest)
 
@@ -106,9 +106,16 @@ says_nothing f = record { right = inl refl; told = λ e. cc }
 abbrev wanted : List Row → List Row → List Step → List Step → Option (Option Cell × Option Cell)
 wanted b a p r = if is_prefix p r then differing (cell b r) (cell a r) else None
 
+abbrev nothing : Option (Option Cell × Option Cell)
+nothing = None
+
+none_both : (z : Bool) → nothing ≡ (if z then nothing else nothing)
+none_both true = refl
+none_both false = refl
+
 at_one : (q : List Step) (c d : Option Cell) (r : List Step) → last_at (change_of q c d) r ≡ (if path_eq r q then differing c d else None)
 at_one q c d r = elim (same_cell c d) as (λ s. last_at (if s then [] else record { path = q; before = c; after = d } ∷ []) r ≡ (if path_eq r q then (if s then None else Some (c, d)) else None)) [
-  | true ↦ elim (path_eq r q) as (λ z. None ≡ (if z then None else None)) [ true ↦ refl | false ↦ refl ]
+  | true ↦ none_both (path_eq r q)
   | false ↦ refl
 ]
 
@@ -132,7 +139,7 @@ says_apart : (b a : List Row) (p q r : List Step) → is_prefix q p ≡ false �
 says_apart b a p q r e k = record {
   right = inl refl;
   told = λ i. elim (is_prefix p r) as (λ z. is_prefix p r ≡ z → None ≡ (if z then differing (cell b r) (cell a r) else None)) [
-    | true ↦ λ j. let meet : is_prefix p q ≡ true = prefixes_meet p q r j i e in let no : is_prefix p q ≡ false = k in cc
+    | true ↦ λ j. let meet : is_prefix p q ≡ true = prefixes_meet p q r j i e in let other : is_prefix p q ≡ false = k in cc
     | false ↦ λ j. refl
   ] refl;
 }
@@ -149,7 +156,7 @@ says_below b a p q r g h = elim (is_prefix q p) as (λ z. is_prefix q p ≡ z �
 at_row : (b a : List Row) (p q r : List Step) → last_at (if is_prefix p q then found_at b a q else []) r ≡ (if path_eq r q then wanted b a p q else None)
 at_row b a p q r = elim (is_prefix p q) as (λ z. last_at (if z then found_at b a q else []) r ≡ (if path_eq r q then (if z then differing (cell b q) (cell a q) else None) else None)) [
   | true ↦ at_one q (cell b q) (cell a q) r
-  | false ↦ elim (path_eq r q) as (λ z. None ≡ (if z then None else None)) [ true ↦ refl | false ↦ refl ]
+  | false ↦ none_both (path_eq r q)
 ]
 
 says_row : (b a : List Row) (p q r : List Step) → Says (path_eq r q) (wanted b a p r) (last_at (if is_prefix p q then found_at b a q else []) r)
@@ -209,7 +216,7 @@ not_wanted : (b a : List Row) (p r : List Step) → cell a r ≡ cell b r → wa
 not_wanted b a p r e =
     ap (λ c. if is_prefix p r then differing (cell b r) c else None) e
     ∙ ap (λ z. if is_prefix p r then (if z then None else Some (cell b r, cell b r)) else None) (same_itself (cell b r))
-    ∙ elim (is_prefix p r) as (λ z. (if z then None else None) ≡ None) [ true ↦ refl | false ↦ refl ]
+    ∙ sym (none_both (is_prefix p r))
 
 either_none : (f o : Option Both) → f ≡ None → (o ≡ None) ⊎ (o ≡ f) → o ≡ f
 either_none f o e (inl w) = w ∙ sym e

@@ -1,13 +1,10 @@
 -- What a merge says of each path; it is the list of changes.
-use Rattle.std.proofs.Common.{◌≡◌, Bool, true, false, List, [], ◌∷◌, ◌++◌, Option, Some, None, map, refl, ap, sym, ◌∙◌, subst, cond, if◌then◌else◌}
-use Rattle.std.specs.Prelude.{T, not, is_some}
-use Rattle.std.specs.List.{filter, fold}
-use Rattle.std.specs.Option.{option_or}
+use Rattle.std.proofs.Common.{◌≡◌, true, false, List, [], ◌∷◌, ◌++◌, Option, Some, None, map, refl, ap, sym, ◌∙◌, subst, if◌then◌else◌}
+use Rattle.std.specs.Prelude.{T}
 use Rattle.std.specs.Ordering.{match_ordering, is_eq, is_lt, ordering_reverse}
 use Rattle.std.specs.declared.cmp.Ordering.{Ordering}
 use Rattle.std.specs.declared.cmp.Ordering.TheVariants.{Less, Equal, Greater}
-use Rattle.std.specs.FinMap.{find, is_sorted}
-use Rattle.std.specs.FinMap.Entries.{below_all, same_entries}
+use Rattle.std.specs.FinMap.Entries.{below_all}
 use Rattle.sal_types.specs.declared.value.Step.{Step}
 use Rattle.sal_types.specs.declared.value.Cell.{Cell}
 use Rattle.sal_types.specs.declared.row.Row.{Row}
@@ -15,13 +12,12 @@ use Rattle.sal_types.specs.Order.{path_cmp, path_eq, path_cmp-IsTotalOrder, path
 use Rattle.sal_types.specs.Prefix.{is_prefix}
 use Rattle.sal_types.specs.Tree.{cell, under, entries, IsAscending}
 use Rattle.sal_types.proofs.Trees.{T-from_IsTrue}
-use Rattle.sal_rows.specs.Edits.{set_row}
 use Rattle.sal_rows.proofs.Cells.{same_path, IsAscending-filter}
 use Rattle.sal_rows.proofs.Differing.{Rises, Above, same_changes, at-changes, rises-changes}
 use Rattle.sal_node.proofs.Entries.{first, both, less}
 use Rattle.sal_tree.proofs.Parts.{Rising, Behind, behind-first, rising-rest, behind-rest}
 use Rattle.sal_rows.specs.declared.change.Change.{Change}
-use Rattle.sal_rows.specs.Changes.{same_cell, compared, changes, changes_under, change_at, differing}
+use Rattle.sal_rows.specs.Changes.{same_cell, changes, changes_under, change_at, differing}
 use Rattle.sal_node.specs.Tree.{Tree}
 use Rattle.sal_tree.specs.Grow.{at}
 use Rattle.sal_tree.specs.Alike.{alike}

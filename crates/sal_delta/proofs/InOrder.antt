@@ -15,7 +15,7 @@ use Rattle.sal_rows.specs.declared.change.Change.{Change}
 use Rattle.sal_rows.specs.Changes.{change_at}
 use Rattle.sal_rows.proofs.Cells.{same_path}
 use Rattle.sal_rows.proofs.Differing.{first, second, marks as rising_marks, Rises, change_at-find}
-use Rattle.sal_rows.proofs.Patched.{none-above}
+use Rattle.sal_rows.proofs.Patched.{less}
 use Rattle.sal_delta.specs.declared.ordered.Cells.{Cells}
 use Rattle.sal_delta.specs.Ordered.{marks, marks_of, put_mark, in_order}
 
@@ -40,6 +40,10 @@ last-append [] ys r = sym (or_none (last_at ys r))
 last-append (x ∷ xs) ys r =
     let here : Option Both = if path_eq r x.path then Some (x.before, x.after) else None in
     ap (λ o. option_or o here) (last-append xs ys r) ∙ sym (or_assoc (last_at ys r) (last_at xs r) here)
+
+none-above : (p : List Step) (cs : List Change) → T (below_all path_cmp p (rising_marks cs)) → change_at cs p ≡ None
+none-above p [] h = refl
+none-above p (c ∷ cs) h = ap (λ o. if is_eq o then Some (c.before, c.after) else change_at cs p) (less _ (first (is_lt (path_cmp p c.path)) (below_all path_cmp p (rising_marks cs)) h)) ∙ none-above p cs (second (is_lt (path_cmp p c.path)) _ h)
 
 -- of changes that rise there is one at most
 pub last-rising : (cs : List Change) (r : List Step) → Rises cs → last_at cs r ≡ change_at cs r
@@ -86,3 +90,11 @@ marks-insert (e ∷ es) p v =
       | Equal ↦ refl
       | Greater ↦ ap (λ (fs : List (List Step × (Option Cell × Option Cell))). (e.0, (e.1.before, e.1.after)) ∷ fs) (marks-insert es p v)
     ]
+
+pub marks-append : (xs ys : List Change) → marks (xs ++ ys) ≡ marks xs ++ marks ys
+marks-append [] ys = refl
+marks-append (c ∷ xs) ys = ap (λ (es : List (List Step × (Option Cell × Option Cell))). (c.path, (c.before, c.after)) ∷ es) (marks-append xs ys)
+
+pub marks_of-append : (xs ys : List (List Step × Cells)) → marks_of (xs ++ ys) ≡ marks_of xs ++ marks_of ys
+marks_of-append [] ys = refl
+marks_of-append (e ∷ xs) ys = ap (λ (es : List (List Step × (Option Cell × Option Cell))). (e.0, (e.1.before, e.1.after)) ∷ es) (marks_of-append xs ys)

@@ -1,5 +1,5 @@
 -- What the operations of a commit lead to: how the code goes. Contracts above speak of `changes_under` in its place.
-use Rattle.std.specs.Prelude.{List, [], ◌∷◌, ◌++◌, Option, if◌then◌else◌}
+use Rattle.std.specs.Prelude.{List, [], ◌∷◌, Option, flat_map, if◌then◌else◌}
 use Rattle.sal_types.specs.declared.value.Store.{Store}
 use Rattle.sal_types.specs.declared.value.Step.{Step}
 use Rattle.sal_types.specs.declared.value.Cell.{Cell}
@@ -21,10 +21,12 @@ change_of r c d = if same_cell c d then [] else record { path = r; before = c; a
 abbrev pub found_at : List Row → List Row → List Step → List Change
 found_at before after r = change_of r (cell before r) (cell after r)
 
--- at the paths of the rows that lie under p
+-- at the path of a row, if that lies under p
+abbrev pub found_of_row : List Row → List Row → List Step → Row → List Change
+found_of_row before after p row = if is_prefix p row.path then found_at before after row.path else []
+
 abbrev pub found_at_rows : List Row → List Row → List Step → List Row → List Change
-found_at_rows before after p [] = []
-found_at_rows before after p (row ∷ rows) = (if is_prefix p row.path then found_at before after row.path else []) ++ found_at_rows before after p rows
+found_at_rows before after p rows = flat_map (λ row. found_of_row before after p row) rows
 
 -- under p and under q
 abbrev pub found_below : List Row → List Row → List Step → List Step → List Change
@@ -36,7 +38,9 @@ found_by before after p q (Put rows) = found_below before after p q
 found_by before after p q (Merge rows) = found_at_rows before after p rows
 found_by before after p q Delete = found_below before after p q
 
--- by the operations of the store
+-- by an operation, if it is of the store
+abbrev pub found_of_op : List Row → List Row → Store → List Step → Op → List Change
+found_of_op before after s p op = if same_store op.store s then found_by before after p op.path op.act else []
+
 abbrev pub found_by_all : List Row → List Row → Store → List Step → List Op → List Change
-found_by_all before after s p [] = []
-found_by_all before after s p (op ∷ ops) = (if same_store op.store s then found_by before after p op.path op.act else []) ++ found_by_all before after s p ops
+found_by_all before after s p ops = flat_map (λ op. found_of_op before after s p op) ops

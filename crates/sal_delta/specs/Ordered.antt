@@ -1,5 +1,5 @@
 -- Changes in the order of their paths, where of those with one path the last counts.
-use Rattle.std.specs.Prelude.{List, [], ◌∷◌, Option, map}
+use Rattle.std.specs.Prelude.{List, [], ◌∷◌, Option}
 use Rattle.std.specs.List.{fold}
 use Rattle.std.specs.FinMap.{put}
 use Rattle.sal_types.specs.declared.value.Step.{Step}

@@ -4,12 +4,12 @@ ghost use Rattle.sal_rows.specs.Apply.{apply_ops};
 ghost use Rattle.sal_rows.specs.Changes.{changes_under};
 ghost use Rattle.sal_tree.specs.Follows.{Agree};
 ghost use Rattle.sal_tree.specs.Rows.{rows_of};
-ghost use Rattle.sal_delta.specs.ByOps.{found_at, found_at_rows, found_below, found_by, found_by_all};
+ghost use Rattle.sal_delta.specs.ByOps.{found_at, found_at_rows, found_below, found_by, found_by_all, found_of_op, found_of_row};
 
 use crate::find::add_changes;
 use crate::ordered::in_order;
 use crate::walk::note_cells;
-use sal_rows::{Act, Change, ChangeList, Op};
+use sal_rows::{Act, Change, ChangeList, Op, same_store};
 use sal_tree::{Root, is_alike};
 use sal_types::{NoMemory, Path, Row, Seq, Store};
 use std::alloc::Global;
@@ -24,11 +24,7 @@ pub struct StoreCommit<'a> {
 
 /// The changes of a commit at the path and below it: those that `changes` finds, without a look at lists that the
 /// operations leave alone.
-pub fn changes_by(
-    alloc: Global,
-    commit: &StoreCommit,
-    path: &Path,
-) -> Result<ChangeList, NoMemory>
+pub fn changes_by(alloc: Global, commit: &StoreCommit, path: &Path) -> Result<ChangeList, NoMemory>
     requires agree { Agree commit.now.before.now commit.now.after.now }
     requires made { rows_of commit.now.after.now ≡ apply_ops (rows_of commit.now.before.now) commit.now.store commit.now.ops.now }
     ensures { IfOk result (λ l. l ≡ changes_under (rows_of commit.now.before.now) (rows_of commit.now.after.now) path.now) }
@@ -44,24 +40,35 @@ pub fn changes_by(
 }
 
 // What the operations of the store find, one after another.
-fn gathered(
-    alloc: Global,
-    commit: &StoreCommit,
-    path: &Path,
-) -> Result<Vec<Change>, NoMemory>
+fn gathered(alloc: Global, commit: &StoreCommit, path: &Path) -> Result<Vec<Change>, NoMemory>
     requires { Agree commit.now.before.now commit.now.after.now }
     ensures { IfOk result (λ v. v.items ≡ found_by_all (rows_of commit.now.before.now) (rows_of commit.now.after.now) commit.now.store path.now commit.now.ops.now) }
 {
     let mut list = Vec::new(alloc);
     for op in commit.ops {
-        if op.store == commit.store {
-            add_by(&mut list, commit, op, path)?;
-        }
+        add_of_op(&mut list, commit, op, path)?;
     }
     Ok(list)
 }
 
-// Puts what an operation finds at the end.
+// Puts what an operation finds at the end, if it is of the store.
+fn add_of_op(
+    into: &mut Vec<Change>,
+    commit: &StoreCommit,
+    op: &Op,
+    path: &Path,
+) -> Result<(), NoMemory>
+    requires { Agree commit.now.before.now commit.now.after.now }
+    ensures { OnOk result (into.new.items ≡ into.old.items ++ found_of_op (rows_of commit.now.before.now) (rows_of commit.now.after.now) commit.now.store path.now op.now) }
+{
+    if same_store(op.store, commit.store) {
+        add_by(into, commit, op, path)
+    } else {
+        Ok(())
+    }
+}
+
+// Puts what an operation of the store finds at the end.
 fn add_by(
     into: &mut Vec<Change>,
     commit: &StoreCommit,
@@ -107,11 +114,25 @@ fn add_at_rows(
     ensures { OnOk result (into.new.items ≡ into.old.items ++ found_at_rows (rows_of commit.now.before.now) (rows_of commit.now.after.now) path.now rows.now) }
 {
     for row in rows {
-        if path.is_prefix_of(&row.path) {
-            add_at(into, commit, &row.path)?;
-        }
+        add_of_row(into, commit, row, path)?;
     }
     Ok(())
+}
+
+// Puts the change at the path of a row at the end, if that lies at or below the path.
+fn add_of_row(
+    into: &mut Vec<Change>,
+    commit: &StoreCommit,
+    row: &Row,
+    path: &Path,
+) -> Result<(), NoMemory>
+    ensures { OnOk result (into.new.items ≡ into.old.items ++ found_of_row (rows_of commit.now.before.now) (rows_of commit.now.after.now) path.now row.now) }
+{
+    if path.is_prefix_of(&row.path) {
+        add_at(into, commit, &row.path)
+    } else {
+        Ok(())
+    }
 }
 
 // Puts the change at the path itself at the end, if the cells differ there.

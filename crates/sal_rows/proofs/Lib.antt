@@ -1,8 +1,11 @@
 pub mod Applied
 pub mod Cells
 pub mod Changes
+pub mod Differing
+pub mod Found
 pub mod Named
 pub mod Numbers
+pub mod Patched
 pub mod Places
 pub mod Quiet
 pub mod Rising

@@ -1,0 +1,7 @@
+mod ByOps
+mod Exact
+mod Merges
+mod Nexts
+mod InOrder
+mod Tops
+mod Walks

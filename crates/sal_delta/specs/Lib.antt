@@ -1,0 +1,5 @@
+pub mod ByOps
+pub mod Laws
+pub mod Merge
+pub mod Ordered
+pub mod Spots

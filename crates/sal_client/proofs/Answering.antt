@@ -7,23 +7,23 @@ use Rattle.sal_rows.specs.declared.op.Act.{Act}
 use Rattle.sal_rows.specs.declared.outcome.Mode.{Mode}
 use Rattle.sal_rows.specs.declared.outcome.Mode.TheVariants.{Ro, Wo, Rw}
 use Rattle.sal_rows.specs.declared.outcome.CallFault.{CallFault}
-use Rattle.sal_rows.specs.declared.outcome.CallFault.TheVariants.{HistoryFull, PipelineFull, NoDomain, NoMemory, TxSpent}
+use Rattle.sal_rows.specs.declared.outcome.CallFault.TheVariants.{HistoryFull, PipelineFull, NoDomain, PreviousOpen, ChainFailed, ChainClosed, NoMemory, TxSpent}
 use Rattle.sal_schema.specs.declared.table.SchemaTable.{SchemaTable}
 use Rattle.sal_history.specs.World.{Domain}
 use Rattle.sal_history.specs.declared.call.Call.{Call}
 use Rattle.sal_history.specs.declared.call.Call.TheVariants.{Submit as SubmitCall, Cancel as CancelCall}
 use Rattle.sal_history.specs.declared.call.Entry.{Entry}
 use Rattle.sal_history.specs.declared.reply.Reply.{Reply}
-use Rattle.sal_history.specs.declared.reply.Reply.TheVariants.{Begun, Refused}
+use Rattle.sal_history.specs.declared.reply.Reply.TheVariants.{Refused}
 use Rattle.sal_tx.specs.declared.tx.Tx.{Tx}
 use Rattle.sal_pathtext.specs.declared.fault.PathTextFault.{PathTextFault}
 use Rattle.sal_pathtext.specs.Read.{read_path}
 use Rattle.sal_data.specs.declared.fault.DataFault.{DataFault}
-use Rattle.sal_script.specs.Moves.{Move, Begin}
+use Rattle.sal_script.specs.Moves.{Move}
 use Rattle.sal_script.specs.declared.reply.StepReply.{StepReply}
 use Rattle.sal_script.specs.declared.reply.StepReply.TheVariants.{Called}
 use Rattle.sal_script.specs.declared.reply.StepRefusal.{StepRefusal}
-use Rattle.sal_script.specs.Play.{Client, Deed, Meeting, Open, Slots, act_of, cancel, keep, meet, refused, set_slot, shared, submit, submit_in, write_at, write_in, write_op}
+use Rattle.sal_script.specs.Play.{Client, Deed, Meeting, Open, Opened, Slots, act_of, cancel, domain_in, keep, keep_begun, meet, refused, set_slot, shared, submit, submit_in, write_at, write_in, write_op}
 use Rattle.sal_hub.specs.Answers.{Fails, Made, limit}
 use Rattle.sal_hub.specs.Known.{Known, entry_of}
 use Rattle.sal_hub.specs.Tokens.{IsFresh}
@@ -48,6 +48,9 @@ made_refused old new e HistoryFull fails full memory = absurd (full refl)
 made_refused old new e NoMemory fails full memory = absurd (memory refl)
 made_refused old new e PipelineFull fails full memory = fails
 made_refused old new e (NoDomain id) fails full memory = fails
+made_refused old new e PreviousOpen fails full memory = fails
+made_refused old new e (ChainFailed receipt) fails full memory = fails
+made_refused old new e ChainClosed fails full memory = fails
 made_refused old new e TxSpent fails full memory = fails
 
 -- a log with room is not full
@@ -59,10 +62,15 @@ not_full old new e fault fails room is =
 -- ---- begin
 
 -- the transaction that a begin answers stands in the slot
-pub kept-begin : (known : Known) (slot domain commit : ℕ) (on : Option ℕ) (mode : Mode) (tx : Tx) (old : Client) (f : Slots Open) → IsFresh known domain mode tx → f ≡ set_slot slot (Some (open_of tx)) old.transactions → record old { transactions = f } ≡ keep (length known.log) (Begin slot domain mode) (Begun commit on) old
-kept-begin known slot domain commit on mode tx old f fresh filled =
+pub kept_begun : (known : Known) (slot domain : ℕ) (member : Option ℕ) (mode : Mode) (tx : Tx) (old : Client) (f : Slots Open) → IsFresh known domain member mode tx → f ≡ set_slot slot (Some (open_of tx)) old.transactions → record old { transactions = f } ≡ keep_begun slot (length known.log) domain mode old
+kept_begun known slot domain member mode tx old f fresh filled =
     let same : open_of tx ≡ record { place = length known.log; domain = domain; mode = mode; ops = [] } = λ i. record { place = fresh.place i; domain = fresh.domain i; mode = fresh.mode i; ops = fresh.ops i } in
     (λ i. record old { transactions = filled i }) ∙ (λ i. record old { transactions = set_slot slot (Some (same i)) old.transactions })
+
+-- and one of a chain, whose domain is the chain's
+pub kept_in_chain : (known : Known) (number slot : ℕ) (chain : Opened) (mode : Mode) (tx : Tx) (old : Client) (f : Slots Open) → old.chains number ≡ Some chain → IsFresh known chain.domain (Some chain.id) mode tx → f ≡ set_slot slot (Some (open_of tx)) old.transactions → record old { transactions = f } ≡ keep_begun slot (length known.log) (domain_in (old.chains number)) mode old
+kept_in_chain known number slot chain mode tx old f found fresh filled =
+    kept_begun known slot chain.domain (Some chain.id) mode tx old f fresh filled ∙ ap (λ o. keep_begun slot (length known.log) (domain_in o) mode old) (sym found)
 
 -- ---- submit and cancel
 

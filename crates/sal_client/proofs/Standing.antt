@@ -17,7 +17,7 @@ use Rattle.sal_hub.specs.Known.{Known, more}
 use Rattle.sal_hub.specs.Answers.{limit}
 use Rattle.sal_client.specs.Clients.{client_of, IsSound}
 use Rattle.sal_client.specs.Runs.{AreRuns, Goes, GrowsBy, IsRun, Turns, answered, moves_from, replies_in, run_of, runs_of, stand_of}
-use Rattle.sal_client.proofs.Soundness.{BegunLasts, GivenLasts, IsSound-more}
+use Rattle.sal_client.proofs.Soundness.{IsSound-more, TokensLast}
 use Rattle.sal_history.specs.World.{Domain}
 use Rattle.sal_script.specs.JsonMoves.{have_json_moves}
 use Rattle.sal_script.specs.Moves.{Move, clients_of, moves_of}
@@ -74,12 +74,12 @@ has_room known ps rs are =
 
 -- ---- other clients
 
-IsRun-other : BegunLasts → GivenLasts → (known : Known) (e : Entry) (p : List ScriptStep) (r : CodeRun) → IsRun known p r → IsRun (more known e) p r
-IsRun-other begun given known e p r is = record { sound = IsSound-more begun given known e r.client is.sound; within = is.within; short = is.short; json = is.json }
+IsRun-other : TokensLast → (known : Known) (e : Entry) (p : List ScriptStep) (r : CodeRun) → IsRun known p r → IsRun (more known e) p r
+IsRun-other lasts known e p r is = record { sound = IsSound-more lasts known e r.client is.sound; within = is.within; short = is.short; json = is.json }
 
 -- one client went on
-pub AreRuns-set : BegunLasts → GivenLasts → (known known' : Known) (ps : List (List ScriptStep)) (rs : List CodeRun) (c : ℕ) (p : List ScriptStep) (old new : CodeRun) → AreRuns known ps rs → GrowsBy c known known' → old.at < new.at → c < length rs → p ≡ get_or ps c p → old ≡ get_or rs c old → IsRun known' p new → new.client.number ≡ c → AreRuns known' ps (set rs c new)
-AreRuns-set begun given known known' ps rs c p old new are (e, by, is) on h at_p at_old run number = record {
+pub AreRuns-set : TokensLast → (known known' : Known) (ps : List (List ScriptStep)) (rs : List CodeRun) (c : ℕ) (p : List ScriptStep) (old new : CodeRun) → AreRuns known ps rs → GrowsBy c known known' → old.at < new.at → c < length rs → p ≡ get_or ps c p → old ≡ get_or rs c old → IsRun known' p new → new.client.number ≡ c → AreRuns known' ps (set rs c new)
+AreRuns-set lasts known known' ps rs c p old new are (e, by, is) on h at_p at_old run number = record {
   long = length-set rs c new ∙ are.long;
   few = omega (arith, are.few, length-set rs c new);
   calls = let total = answered-set rs c old new h at_old in let grown : length known'.log ≡ length known.log + 1 = ap (λ (k : Known). length k.log) is ∙ length-append known.log (e ∷ []) in omega (arith, are.calls, total, grown, on);
@@ -93,7 +93,7 @@ AreRuns-set begun given known known' ps rs c p old new are (e, by, is) on h at_p
             let apart : i ≡ c → ⊥ = λ eq. elim differs [ inl less ↦ omega arith | inr more ↦ omega arith ] in
             let r_is : r ≡ get_or rs i r = at_r ∙ get_or-set_other rs c i new r apart in
             let was = are.each i q r (omega (arith, within, length-set rs c new)) at_q r_is in
-            (subst (λ (k : Known). IsRun k q r) (sym is) (IsRun-other begun given known e q r was.0), was.1)
+            (subst (λ (k : Known). IsRun k q r) (sym is) (IsRun-other lasts known e q r was.0), was.1)
       ];
 }
   where
@@ -186,14 +186,14 @@ AreRuns-fresh known ps rs none limits json long fresh = record {
 
 -- ---- what the simulation does
 
-pub turned : BegunLasts → GivenLasts → (table : SchemaTable) (made : Bool) (known known' : Known) (ps : List (List ScriptStep)) (rs : List CodeRun) (c : ℕ) (p : List ScriptStep) (old new : CodeRun) → AreRuns known ps rs → c < length rs → p ≡ get_or ps c p → old ≡ get_or rs c old → Goes table made old.client.number known p old known' new → IsRun known' p new → new.client.number ≡ old.client.number → Turns table made ps c known rs known' (set rs c new)
-turned begun given table true known known' ps rs c p old new are h at_p at_old goes run number =
+pub turned : TokensLast → (table : SchemaTable) (made : Bool) (known known' : Known) (ps : List (List ScriptStep)) (rs : List CodeRun) (c : ℕ) (p : List ScriptStep) (old new : CodeRun) → AreRuns known ps rs → c < length rs → p ≡ get_or ps c p → old ≡ get_or rs c old → Goes table made old.client.number known p old known' new → IsRun known' p new → new.client.number ≡ old.client.number → Turns table made ps c known rs known' (set rs c new)
+turned lasts table true known known' ps rs c p old new are h at_p at_old goes run number =
     let same = (are.each c p old h at_p at_old).1 in (
       turn-made table known.world known.log known'.log ps rs c p old new are.long h at_p at_old (subst (λ n. go table known.world known.log n (run_of p old) ≡ Some (let made : Made = record { log = known'.log; run = run_of p new } in made)) same goes.0),
-      AreRuns-set begun given known known' ps rs c p old new are (subst (λ n. GrowsBy n known known') same goes.1) goes.2 h at_p at_old run (number ∙ same),
+      AreRuns-set lasts known known' ps rs c p old new are (subst (λ n. GrowsBy n known known') same goes.1) goes.2 h at_p at_old run (number ∙ same),
       ap (λ (k : Known). k.world) goes.1.2,
     )
-turned begun given table false known known' ps rs c p old new are h at_p at_old goes run number = turn-ended table known.world known.log ps rs c p old (client_of new.client) are.long h at_p at_old goes.0
+turned lasts table false known known' ps rs c p old new are h at_p at_old goes run number = turn-ended table known.world known.log ps rs c p old (client_of new.client) are.long h at_p at_old goes.0
 
 -- where lists are the same from an index on, so is what stands there
 get_drop : {X : Type 0} (xs : List X) (i : ℕ) (d : X) → get_or (drop i xs) 0 d ≡ get_or xs i d

@@ -21,13 +21,14 @@ use Rattle.sal_hub.specs.Known.{Known}
 use Rattle.sal_hub.specs.Tokens.{IsBegun}
 use Rattle.sal_client.specs.Clients.{IsOwn, open_of}
 use Rattle.sal_client.proofs.Places.{put_same}
+use Rattle.sal_client.proofs.Soundness.{based}
 
 module _ (known : Known) (table : SchemaTable) (old : Writing) (own : IsOwn known (Write old)) (of_zero : table ≡ table_of known.world 0) where
   -- a transaction refuses what the definitions refuse
   same_refusal : (op : Op) → refusal table (seen_by table known.world known.log (open_of (Write old)) op.store) op ≡ refused_over old op
   same_refusal op =
       let of_tx : table ≡ old.begun.schema.value = of_zero ∙ ap (table_of known.world) (sym own.own) ∙ sym own.token.schema in
-      λ i. refusal (of_tx i) (apply_ops (sym (own.token.base op.store) i) op.store old.changes) op
+      λ i. refusal (of_tx i) (apply_ops (based known old.begun old.base own.token op.store i) op.store old.changes) op
 
   one_more : (op : Op) (new : Writing) → HasOneMore old op new → open_of (Write new) ≡ record (open_of (Write old)) { ops = old.changes ++ op ∷ [] }
   one_more op new has = λ i. record { place = (has.1 i).place; domain = (has.1 i).domain; mode = has.2 i; ops = has.0 i }

@@ -1,5 +1,5 @@
 -- A client, as the definitions have it, and what it keeps of the log.
-use Rattle.std.specs.Prelude.{◌≡◌, ℕ, length, Option, None, Some}
+use Rattle.std.specs.Prelude.{◌≡◌, ℕ, Bool, true, false, length, Option, None, Some}
 use Rattle.std.specs.Option.{option_map}
 use Rattle.sal_rows.specs.declared.outcome.Mode.{Mode}
 use Rattle.sal_rows.specs.declared.outcome.Mode.TheVariants.{Ro, Wo, Rw}
@@ -7,13 +7,14 @@ use Rattle.sal_tx.specs.declared.tx.Tx.{Tx}
 use Rattle.sal_history.specs.declared.call.Call.{Call}
 use Rattle.sal_history.specs.History.{reply}
 use Rattle.sal_schema.specs.declared.table.SchemaTable.{SchemaTable}
-use Rattle.sal_script.specs.Moves.{Move}
+use Rattle.sal_script.specs.Moves.{Move, Put, Merge, Delete, Read, Exists}
 use Rattle.sal_script.specs.declared.reply.StepReply.{StepReply}
 use Rattle.sal_script.specs.declared.reply.StepReply.TheVariants.{Called}
-use Rattle.sal_script.specs.Play.{Client, Open, keep, local, meet, replied, shared}
+use Rattle.sal_script.specs.Play.{Client, Open, Opened, keep, local, meet, replied, shared}
+use Rattle.sal_hub.specs.declared.chain.Chain.{Chain}
 use Rattle.sal_hub.specs.declared.receipt.Receipt.{Receipt}
 use Rattle.sal_hub.specs.Known.{Known, entry_of, more}
-use Rattle.sal_hub.specs.Tokens.{IsGiven, IsToken, begun_of, mode_of, ops_of}
+use Rattle.sal_hub.specs.Tokens.{IsChain, IsGiven, IsToken, begun_of, mode_of, ops_of}
 use Rattle.sal_client.specs.declared.client.ClientState.{ClientState}
 use Rattle.sal_client.specs.declared.client.Standing.{Standing}
 use Rattle.sal_client.specs.declared.client.Standing.TheVariants.{Empty, ReadOnly, Writable}
@@ -36,8 +37,16 @@ number_of receipt = receipt.number
 abbrev pub given : ClientState → ℕ → Option ℕ
 given c k = option_map number_of (held c.receipts k)
 
+-- a chain, as the definitions have it
+abbrev pub chain_of : Chain → Opened
+chain_of chain = record { id = chain.id; domain = chain.domain }
+
+-- the chains, by slot
+abbrev pub chains_in : ClientState → ℕ → Option Opened
+chains_in c k = option_map chain_of (held c.chains k)
+
 abbrev pub client_of : ClientState → Client
-client_of c = record { transactions = opened c; receipts = given c; replies = c.replies.items }
+client_of c = record { transactions = opened c; receipts = given c; chains = chains_in c; replies = c.replies.items }
 
 -- what a slot is good for
 abbrev pub standing_in : Mode → Standing
@@ -54,15 +63,30 @@ pub record IsOwn (known : Known) (tx : Tx) : Type 0 where
   pub token : IsToken known tx
   pub own : (begun_of tx).domain ≡ 0
 
--- each transaction is one that the log began, and each receipt one that it gave
+-- a chain over domain 0 that the log opened
+pub record IsOwnChain (known : Known) (chain : Chain) : Type 0 where
+  pub token : IsChain known chain
+  pub own : chain.domain ≡ 0
+
+-- each transaction is one that the log began, each receipt one that it gave, and each chain one that it opened
 pub record IsSound (known : Known) (c : ClientState) : Type 0 where
   pub transactions : (k : ℕ) (tx : Tx) → held c.transactions k ≡ Some tx → IsOwn known tx
   pub receipts : (k : ℕ) (r : Receipt) → held c.receipts k ≡ Some r → IsGiven known r.number
+  pub chains : (k : ℕ) (chain : Chain) → held c.chains k ≡ Some chain → IsOwnChain known chain
 
 -- only slots differ
 pub record Same (old new : ClientState) : Type 0 where
   pub number : new.number ≡ old.number
   pub replies : new.replies.items ≡ old.replies.items
+
+-- a step that a client answers by its own transactions
+abbrev pub is_local : Move → Bool
+is_local (Put slot store path value) = true
+is_local (Merge slot store path value) = true
+is_local (Delete slot store path) = true
+is_local (Read slot store path) = true
+is_local (Exists slot store path) = true
+is_local step = false
 
 -- what a shared call leaves
 pub record Calls (table : SchemaTable) (r : StepReply) (c : ℕ) (known : Known) (old : Client) (step : Move) (known' : Known) (new : Client) (call : Call) : Type 0 where

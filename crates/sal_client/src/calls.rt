@@ -1,4 +1,4 @@
-//! The shared calls of a client.
+//! The shared calls of a client for its transactions and receipts.
 ghost use Rattle.std.specs.Prelude.{◌≡◌, ◌<◌, IfOk, OnOk, length};
 ghost use Rattle.sal_history.specs.World.{table_of};
 ghost use Rattle.sal_hub.specs.Answers.{limit};
@@ -16,14 +16,15 @@ use sal_tx::Tx;
 use sal_types::NoMemory;
 use std::alloc::Global;
 
-fn called(reply: Reply) -> StepReply
+/// The answer to a call.
+pub(crate) fn called(reply: Reply) -> StepReply
     ensures { result ≡ StepReply.Called reply }
 {
     StepReply::Called { reply }
 }
 
-// The answer to a call that was refused. A log with room is not full.
-fn refused_call(fault: CallFault) -> Result<StepReply, NoMemory>
+/// The answer to a call that was refused. A log with room is not full.
+pub(crate) fn refused_call(fault: CallFault) -> Result<StepReply, NoMemory>
     requires { fault ≡ CallFault.HistoryFull → ⊥ }
     ensures reply { IfOk result (λ r. r ≡ StepReply.Called (Reply.Refused fault)) }
     ensures memory { OnOk result (fault ≡ CallFault.NoMemory → ⊥) }
@@ -35,8 +36,8 @@ fn refused_call(fault: CallFault) -> Result<StepReply, NoMemory>
     }
 }
 
-// The answer to a begin that is good.
-fn begun(tx: &Tx) -> Reply
+/// The answer to a begin that is good.
+pub(crate) fn begun(tx: &Tx) -> Reply
     ensures { result ≡ Reply.Begun (begun_of tx.now).base_commit (begun_of tx.now).on }
 {
     match tx {
@@ -63,10 +64,10 @@ impl ClientState {
         slot: u8,
         domain: u32,
         mode: Mode,
-    ) -> Result<StepReply, NoMemory>
+    ) -> Result<(Went, StepReply), NoMemory>
         requires sound { IsSound hub.old self.old }
         requires room { length hub.old.log < limit }
-        ensures answers { IfOk result (λ r. Answers reader.now Went.Shared r self.old.number hub.old (client_of self.old) (Begin slot domain mode) hub.new (client_of self.new)) }
+        ensures answers { IfOk result (λ p. Answers reader.now p.0 p.1 self.old.number hub.old (client_of self.old) (Begin slot domain mode) hub.new (client_of self.new)) }
         ensures sound { OnOk result (IsSound hub.new self.new) }
         ensures same { OnOk result (Same self.old self.new) }
     {
@@ -75,11 +76,11 @@ impl ClientState {
             Ok(tx) => {
                 let reply = begun(&tx);
                 fill_slot(&mut self.transactions, slot, tx)?;
-                Ok(called(reply))
+                Ok((Went::Shared, called(reply)))
             }
             Err(fault) => {
                 let reply = refused_call(fault)?;
-                Ok(reply)
+                Ok((Went::Shared, reply))
             }
         }
     }

@@ -15,9 +15,11 @@
 #![tactic(auto)]
 
 mod calls;
+mod chains;
 mod client;
 mod deed;
 mod looks;
+mod marks;
 mod reader;
 mod run;
 mod simulation;

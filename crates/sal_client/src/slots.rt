@@ -1,4 +1,4 @@
-//! A client's slots: its own places for transactions, and for receipts.
+//! A client's slots: its own places for transactions, for receipts and for chains.
 ghost use Rattle.std.specs.Prelude.{◌≡◌, None, Some, OnOk};
 ghost use Rattle.std.specs.Option.{option_copied};
 ghost use Rattle.sal_script.specs.Play.{set_slot};

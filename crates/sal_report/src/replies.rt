@@ -1,5 +1,5 @@
 //! The texts of replies. Each function writes behind what stands in the text.
-ghost use Rattle.std.specs.Prelude.{◌≡◌, ◌++◌, OnOk, codes, string_bytes};
+ghost use Rattle.std.specs.Prelude.{◌≡◌, ◌∷◌, ◌++◌, OnOk, codes, string_bytes};
 ghost use Rattle.sal_script.specs.Report as spec;
 
 use crate::breaches::push_breach;
@@ -45,9 +45,18 @@ fn push_call(
 {
     match reply {
         Reply::Begun { commit, on } => push_begun(text, *commit, *on),
+        Reply::Chain { id } => push_numbered(text, "chain", *id),
         Reply::Accepted => push_word(text, "ok"),
         Reply::Receipt { number } => push_numbered(text, "receipt", *number),
         Reply::Settled { outcome, .. } => push_outcome(alloc, text, schema, outcome),
+        Reply::Decided {
+            receipt,
+            outcome,
+            ..
+        } => push_decided(alloc, text, schema, *receipt, outcome),
+        Reply::Nothing => push_word(text, "nothing"),
+        Reply::Found => push_word(text, "found"),
+        Reply::Late => push_word(text, "late"),
         Reply::Refused { fault } => {
             text.push_str("refused ")?;
             push_fault(text, *fault)
@@ -72,6 +81,9 @@ fn push_fault(text: &mut String, fault: CallFault) -> Result<(), NoMemory>
         CallFault::HistoryFull => push_word(text, "history-full"),
         CallFault::PipelineFull => push_word(text, "pipeline-full"),
         CallFault::NoDomain { id } => push_numbered(text, "no-domain", u64::from(id)),
+        CallFault::PreviousOpen => push_word(text, "previous-open"),
+        CallFault::ChainFailed { receipt } => push_numbered(text, "chain-failed", receipt),
+        CallFault::ChainClosed => push_word(text, "chain-closed"),
         CallFault::NoMemory => push_word(text, "no-memory"),
         CallFault::TxSpent => push_word(text, "tx-spent"),
     }
@@ -104,7 +116,23 @@ fn push_outcome(
             text.push_str(store_word(*store))?;
             push_breach(alloc, text, schema, path, *rule)
         }
+        Outcome::ChainFailed { receipt } => push_numbered(text, "chain-failed", *receipt),
     }
+}
+
+// A receipt that a pump decided, with its outcome.
+fn push_decided(
+    alloc: Global,
+    text: &mut String,
+    schema: &Schema,
+    receipt: u64,
+    outcome: &Outcome,
+) -> Result<(), NoMemory>
+    ensures { OnOk result (string_bytes text.new ≡ string_bytes text.old ++ (codes "decided" ++ (spec.number receipt ++ (32 ∷ spec.outcome_text schema.now outcome.now)))) }
+{
+    push_numbered(text, "decided", receipt)?;
+    text.push(' ')?;
+    push_outcome(alloc, text, schema, outcome)
 }
 
 fn push_refusal(

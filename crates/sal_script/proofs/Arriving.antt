@@ -12,9 +12,9 @@ use Rattle.sal_rows.specs.declared.outcome.Mode.{Mode}
 use Rattle.sal_rows.specs.declared.outcome.Mode.TheVariants.{Ro, Wo, Rw}
 use Rattle.sal_history.specs.declared.call.Entry.{Entry}
 use Rattle.sal_history.specs.declared.reply.Reply.{Reply}
-use Rattle.sal_history.specs.declared.reply.Reply.TheVariants.{Begun, Accepted as Done, Receipt}
+use Rattle.sal_history.specs.declared.reply.Reply.TheVariants.{Begun, Chain, Accepted as Done, Receipt}
 use Rattle.sal_history.specs.World.{Domain}
-use Rattle.sal_history.specs.History.{Answered, answer, decided_by, entries_of, history, reply, sent_by}
+use Rattle.sal_history.specs.History.{Answered, answer, answered_as, entries_of, history, reply}
 use Rattle.sal_schema.specs.declared.table.SchemaTable.{SchemaTable}
 use Rattle.sal_pathtext.specs.declared.fault.PathTextFault.{PathTextFault}
 use Rattle.sal_pathtext.specs.Read.{read_path}
@@ -23,8 +23,8 @@ use Rattle.sal_rules.specs.declared.fault.TxFault.{TxFault}
 use Rattle.sal_rules.specs.Refusals.{refusal}
 use Rattle.sal_script.specs.declared.reply.StepReply.{StepReply}
 use Rattle.sal_script.specs.declared.reply.StepReply.TheVariants.{Called}
-use Rattle.sal_script.specs.Moves.{Move, Begin, Put, Merge, Delete, Read, Exists, Submit, Cancel, Settle}
-use Rattle.sal_script.specs.Play.{Arrival, Client, Deed, Made, Meeting, Open, Run, accept_unless, act_of, arrive, arrive_by, calls, deleting, ended, found, keep, local, look, look_at, look_in, make, meet, merging, op_of, putting, replied, rows_read, seen_by, settle, shared, submit, submit_in, cancel, write, write_act, write_at, write_in}
+use Rattle.sal_script.specs.Moves.{Move, Begin, Put, Merge, Delete, Read, Exists, Submit, Cancel, Settle, OpenChain, ChainBegin, CloseChain, Pump, Mark, After}
+use Rattle.sal_script.specs.Play.{Arrival, Client, Deed, Made, Meeting, Open, Opened, Run, accept_unless, act_of, arrive, arrive_by, calls, chain_begin, close_chain, deleting, ended, found, keep, local, look, look_at, look_in, make, meet, merging, op_of, putting, replied, rows_read, seen_by, settle, shared, submit, submit_in, cancel, write, write_act, write_at, write_in}
 use Rattle.sal_script.specs.Orders.{Exchange, exchange_at, exchange_by, exchanges_in, exchanges_of, kind_of_call, kind_of_step}
 
 -- ---- one step
@@ -86,6 +86,14 @@ settle_met : (slot : ℕ) (client : Client) (receipt : Option ℕ) → Met (Sett
 settle_met slot client None = (refl, refl)
 settle_met slot client (Some receipt) = refl
 
+chain_begin_met : (slot : ℕ) (mode : Mode) (client : Client) (chain : ℕ) (opened : Option Opened) → Met (ChainBegin chain slot mode) client (chain_begin mode client opened)
+chain_begin_met slot mode client chain None = (refl, refl)
+chain_begin_met slot mode client chain (Some opened) = refl
+
+close_chain_met : (client : Client) (chain : ℕ) (opened : Option Opened) → Met (CloseChain chain) client (close_chain client opened)
+close_chain_met client chain None = (refl, refl)
+close_chain_met client chain (Some opened) = refl
+
 module _ (table : SchemaTable) (world : List Domain) (log : List Entry) where
   met : (client : Client) (step : Move) → Met step client (meet table world log client step)
   met client (Begin slot domain mode) = refl
@@ -97,6 +105,12 @@ module _ (table : SchemaTable) (world : List Domain) (log : List Entry) where
   met client (Submit slot) = submit_met slot client (client.transactions slot)
   met client (Cancel slot) = cancel_met slot client (client.transactions slot)
   met client (Settle slot) = settle_met slot client (client.receipts slot)
+  met client (OpenChain chain domain) = refl
+  met client (ChainBegin chain slot mode) = chain_begin_met slot mode client chain (client.chains chain)
+  met client (CloseChain chain) = close_chain_met client chain (client.chains chain)
+  met client Pump = refl
+  met client (Mark mark) = refl
+  met client (After mark) = refl
 
 -- ---- the way to the next call
 
@@ -137,13 +151,15 @@ module _ (table : SchemaTable) (world : List Domain) (log : List Entry) where
 
 keep_replies : (place : ℕ) (step : Move) (r : Reply) (client : Client) → (keep place step r client).replies ≡ client.replies
 keep_replies place (Begin slot domain mode) (Begun commit on) client = refl
+keep_replies place (ChainBegin chain slot mode) (Begun commit on) client = refl
+keep_replies place (OpenChain chain domain) (Chain id) client = refl
 keep_replies place (Submit slot) (Receipt number) client = refl
 keep_replies place (Cancel slot) Done client = refl
 keep_replies place step r client = refl
 
 module _ (world : List Domain) (log : List Entry) (e : Entry) where
   abbrev now : Answered
-  now = record { entry = e; reply = reply world log e; sent = sent_by (history world log) e.call (reply world log e); decided = decided_by world (history world log) e.call }
+  now = answered_as world (history world log) e (reply world log e)
 
   exchanges-entry : (c : ℕ) → exchanges_in world (log ++ e ∷ []) c ≡ exchanges_in world log c ++ exchange_by c now
   exchanges-entry c =

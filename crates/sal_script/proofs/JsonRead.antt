@@ -21,8 +21,8 @@ use Rattle.sal_script.specs.Json.{text_eq, list_of, list_of_items, all_named, da
 use Rattle.sal_script.specs.JsonMoves.{IsJsonMove, AreJsonMoves, HaveJsonMoves, is_json_move, have_json_moves}
 use Rattle.sal_script.specs.JsonScripts.{IsJsonScript}
 use Rattle.sal_script.specs.Laws.{ScriptsAreJson}
-use Rattle.sal_script.specs.Moves.{Move, Begin, Put, Merge, Delete, Read, Exists, Submit, Cancel, Settle}
-use Rattle.sal_script.specs.Script.{or_bad, client_place, step_place, at_most, slot_of, domain_of, mode_of, store_of, begin_of, Naming, Writing, place_of, write_of, slot_step_of, step_named, step_from, step_of, members_of, list_by, list_member, program_of, programs_from, steps_from, clients_from, numbers_of, modules_member, opening_by, opening_member, names, clients_member, parts_of, script_of}
+use Rattle.sal_script.specs.Moves.{Move, Begin, Put, Merge, Delete, Read, Exists, Submit, Cancel, Settle, OpenChain, ChainBegin, CloseChain, Pump, Mark, After}
+use Rattle.sal_script.specs.Script.{or_bad, client_place, step_place, at_most, slot_of, number_of, mode_of, store_of, begin_of, Naming, Writing, place_of, write_of, slot_step_of, open_chain_of, chain_begin_of, pump_of, mark_step_of, chain_step_named, step_named, step_from, step_of, members_of, list_by, list_member, program_of, programs_from, steps_from, clients_from, numbers_of, modules_member, opening_by, opening_member, names, clients_member, parts_of, script_of}
 
 -- ---- what holds of what is there
 
@@ -138,8 +138,8 @@ begin_json [] = tt
 begin_json (t ∷ []) = tt
 begin_json (t ∷ d ∷ []) = tt
 begin_json (t ∷ d ∷ o ∷ []) =
-    if_then Any IsJsonMove (λ slot. option_and_then (λ domain. option_map (Begin slot domain) (mode_of o)) (domain_of d)) (slot_of t) (if_any (slot_of t)) (λ slot x.
-    if_then Any IsJsonMove (λ domain. option_map (Begin slot domain) (mode_of o)) (domain_of d) (if_any (domain_of d)) (λ domain y. if_map IsJsonMove (Begin slot domain) (mode_of o) (λ mode. tt)))
+    if_then Any IsJsonMove (λ slot. option_and_then (λ domain. option_map (Begin slot domain) (mode_of o)) (number_of d)) (slot_of t) (if_any (slot_of t)) (λ slot x.
+    if_then Any IsJsonMove (λ domain. option_map (Begin slot domain) (mode_of o)) (number_of d) (if_any (number_of d)) (λ domain y. if_map IsJsonMove (Begin slot domain) (mode_of o) (λ mode. tt)))
 begin_json (t ∷ d ∷ o ∷ v ∷ ds) = tt
 
 place_json : (step : Naming) → ((slot : ℕ) (store : Store) (path : List ℕ) → IsJsonMove (step slot store path)) → (ds : List Data) → If IsJsonMove (place_of step ds)
@@ -164,6 +164,42 @@ slot_json step is [] = tt
 slot_json step is (t ∷ []) = if_map IsJsonMove step (slot_of t) is
 slot_json step is (t ∷ s ∷ ds) = tt
 
+open_chain_json : (ds : List Data) → If IsJsonMove (open_chain_of ds)
+open_chain_json [] = tt
+open_chain_json (c ∷ []) = tt
+open_chain_json (c ∷ d ∷ []) =
+    if_then Any IsJsonMove (λ chain. option_map (OpenChain chain) (number_of d)) (slot_of c) (if_any (slot_of c))
+    (λ chain x. if_map IsJsonMove (OpenChain chain) (number_of d) (λ domain. tt))
+open_chain_json (c ∷ d ∷ e ∷ ds) = tt
+
+chain_begin_json : (ds : List Data) → If IsJsonMove (chain_begin_of ds)
+chain_begin_json [] = tt
+chain_begin_json (c ∷ []) = tt
+chain_begin_json (c ∷ t ∷ []) = tt
+chain_begin_json (c ∷ t ∷ o ∷ []) =
+    if_then Any IsJsonMove (λ chain. option_and_then (λ slot. option_map (ChainBegin chain slot) (mode_of o)) (slot_of t)) (slot_of c) (if_any (slot_of c))
+    (λ chain x. if_then Any IsJsonMove (λ slot. option_map (ChainBegin chain slot) (mode_of o)) (slot_of t) (if_any (slot_of t))
+    (λ slot y. if_map IsJsonMove (ChainBegin chain slot) (mode_of o) (λ mode. tt)))
+chain_begin_json (c ∷ t ∷ o ∷ v ∷ ds) = tt
+
+pump_json : (ds : List Data) → If IsJsonMove (pump_of ds)
+pump_json [] = tt
+pump_json (d ∷ ds) = tt
+
+mark_json : (step : ℕ → Move) → ((mark : ℕ) → IsJsonMove (step mark)) → (ds : List Data) → If IsJsonMove (mark_step_of step ds)
+mark_json step is [] = tt
+mark_json step is (m ∷ []) = if_map IsJsonMove step (number_of m) is
+mark_json step is (m ∷ n ∷ ds) = tt
+
+chain_named_json : (word : List ℕ) (ds : List Data) → If IsJsonMove (chain_step_named word ds)
+chain_named_json word ds =
+    if_either IsJsonMove (text_eq word (codes "chain")) (open_chain_of ds) _ (open_chain_json ds)
+    (if_either IsJsonMove (text_eq word (codes "chain-begin")) (chain_begin_of ds) _ (chain_begin_json ds)
+    (if_either IsJsonMove (text_eq word (codes "close-chain")) (slot_step_of CloseChain ds) _ (slot_json CloseChain (λ slot. tt) ds)
+    (if_either IsJsonMove (text_eq word (codes "pump")) (pump_of ds) _ (pump_json ds)
+    (if_either IsJsonMove (text_eq word (codes "mark")) (mark_step_of Mark ds) _ (mark_json Mark (λ mark. tt) ds)
+    (if_either IsJsonMove (text_eq word (codes "after")) (mark_step_of After ds) None (mark_json After (λ mark. tt) ds) tt)))))
+
 named_json : (word : List ℕ) (ds : List Data) → AllJson ds → If IsJsonMove (step_named word ds)
 named_json word ds all =
     if_either IsJsonMove (text_eq word (codes "begin")) (begin_of ds) _ (begin_json ds)
@@ -174,7 +210,7 @@ named_json word ds all =
     (if_either IsJsonMove (text_eq word (codes "exists")) (place_of Exists ds) _ (place_json Exists (λ slot store path. tt) ds)
     (if_either IsJsonMove (text_eq word (codes "submit")) (slot_step_of Submit ds) _ (slot_json Submit (λ slot. tt) ds)
     (if_either IsJsonMove (text_eq word (codes "cancel")) (slot_step_of Cancel ds) _ (slot_json Cancel (λ slot. tt) ds)
-    (if_either IsJsonMove (text_eq word (codes "settle")) (slot_step_of Settle ds) None (slot_json Settle (λ slot. tt) ds) tt))))))))
+    (if_either IsJsonMove (text_eq word (codes "settle")) (slot_step_of Settle ds) _ (slot_json Settle (λ slot. tt) ds) (chain_named_json word ds)))))))))
 
 from_json : (ds : List Data) → AllJson ds → If IsJsonMove (step_from ds)
 from_json [] all = tt
@@ -245,6 +281,12 @@ move_passes (Exists slot store path) is = refl
 move_passes (Submit slot) is = refl
 move_passes (Cancel slot) is = refl
 move_passes (Settle slot) is = refl
+move_passes (OpenChain chain domain) is = refl
+move_passes (ChainBegin chain slot mode) is = refl
+move_passes (CloseChain chain) is = refl
+move_passes Pump is = refl
+move_passes (Mark mark) is = refl
+move_passes (After mark) is = refl
 
 moves_pass : (ms : List Move) → AreJsonMoves ms → list_all is_json_move ms ≡ true
 moves_pass [] are = refl

@@ -1,6 +1,7 @@
 -- The readers of a script: what they read, as one reading of a list after another.
-use Rattle.std.proofs.Common.{◌≡◌, ℕ, ◌+◌, ◌^◌, ◌<◌, List, [], ◌∷◌, length, get_or, drop, map, Option, Some, None, option_map, option_and_then, Result, Ok, Err, Bor, refl, ap, sym, ◌∙◌}
+use Rattle.std.proofs.Common.{◌≡◌, ℕ, ◌+◌, ◌^◌, ◌<◌, List, [], ◌∷◌, ◌++◌, length, get_or, drop, map, Option, Some, None, option_map, option_and_then, Result, Ok, Err, Bor, refl, ap, sym, ◌∙◌}
 use Rattle.std.specs.Result.{IsErrAnd}
+use Rattle.std.proofs.lemmas.List.{map-append}
 use Rattle.sal_types.specs.Reading.{◌>>=◌}
 use Rattle.serde_json.specs.Data.{Data}
 use Rattle.serde_json.specs.View.{view}
@@ -8,10 +9,11 @@ use Rattle.serde_json.specs.declared.value.Value.{Value}
 use Rattle.sal_script.specs.declared.fault.ScriptFault.{ScriptFault}
 use Rattle.sal_script.specs.declared.fault.ScriptFault.TheVariants.{BadScript, NoMemory}
 use Rattle.sal_script.specs.Json.{whole_below}
-use Rattle.sal_script.specs.Moves.{Move}
+use Rattle.sal_script.specs.Moves.{Move, move_of, moves_of}
+use Rattle.sal_script.specs.declared.script.ScriptStep.{ScriptStep}
 use Rattle.sal_script.specs.Reading.{IsBadAt, IsFaultOf, Reads}
 use Rattle.sal_script.specs.Script.{or_bad, client_place, step_place, program_of, programs_from, step_of, steps_from, clients_from, all_of}
-use Rattle.sal_script.proofs.Each.{each_from, before, each_fails}
+use Rattle.sal_script.proofs.Each.{each_from, before, each_fails, each_next}
 
 -- ---- the lists
 
@@ -28,6 +30,13 @@ step_at c s v = or_bad (step_place c s) (step_of (view v))
 pub steps_from-each : (c s : ℕ) (vs : List Value) → steps_from c s (map view vs) ≡ each_from (step_at c) s vs
 steps_from-each c s [] = refl
 steps_from-each c s (v ∷ vs) = ap (λ rest. step_at c s v >>= (λ step. rest >>= (λ steps. Ok (step ∷ steps)))) (steps_from-each c (s + 1) vs)
+
+-- one step more is read
+pub step_next : (client i : ℕ) (steps grown : List ScriptStep) (step : ScriptStep) (program : List Value) (value : Value) (total : Result (List Move) (List ℕ)) → grown ≡ steps ++ step ∷ [] → i < length program → value ≡ get_or program i value → step_of (view value) ≡ Some (move_of step)
+    → before (moves_of steps) (each_from (step_at client) i (drop i program)) ≡ total → before (moves_of grown) (each_from (step_at client) (i + 1) (drop (i + 1) program)) ≡ total
+step_next client i steps grown step program value total more within is read so_far =
+    ap (λ done. before done (each_from (step_at client) (i + 1) (drop (i + 1) program))) (ap moves_of more ∙ map-append move_of steps (step ∷ []))
+    ∙ each_next (step_at client) (moves_of steps) i program total value (move_of step) within is (ap (or_bad (step_place client i)) read) so_far
 
 abbrev pub data_in : Bor (List Value) → List Data
 data_in program = map view program.now

@@ -2,7 +2,7 @@
 use Rattle.std.specs.Prelude.{Bool, true, List, [], ◌∷◌, ⊤}
 use Rattle.std.specs.List.{list_all}
 use Rattle.sal_value.specs.Json.{IsJson, is_json}
-use Rattle.sal_script.specs.Moves.{Move, Begin, Put, Merge, Delete, Read, Exists, Submit, Cancel, Settle}
+use Rattle.sal_script.specs.Moves.{Move, Begin, Put, Merge, Delete, Read, Exists, Submit, Cancel, Settle, OpenChain, ChainBegin, CloseChain, Pump, Mark, After}
 
 -- the value of a step
 abbrev pub IsJsonMove : Move → Type 0
@@ -15,6 +15,12 @@ IsJsonMove (Exists slot store path) = ⊤
 IsJsonMove (Submit slot) = ⊤
 IsJsonMove (Cancel slot) = ⊤
 IsJsonMove (Settle slot) = ⊤
+IsJsonMove (OpenChain chain domain) = ⊤
+IsJsonMove (ChainBegin chain slot mode) = ⊤
+IsJsonMove (CloseChain chain) = ⊤
+IsJsonMove Pump = ⊤
+IsJsonMove (Mark mark) = ⊤
+IsJsonMove (After mark) = ⊤
 
 -- those of a client's steps
 abbrev pub AreJsonMoves : List Move → Type 0
@@ -38,6 +44,12 @@ is_json_move (Exists slot store path) = true
 is_json_move (Submit slot) = true
 is_json_move (Cancel slot) = true
 is_json_move (Settle slot) = true
+is_json_move (OpenChain chain domain) = true
+is_json_move (ChainBegin chain slot mode) = true
+is_json_move (CloseChain chain) = true
+is_json_move Pump = true
+is_json_move (Mark mark) = true
+is_json_move (After mark) = true
 
 abbrev pub have_json_moves : List (List Move) → Bool
 have_json_moves clients = list_all (λ steps. list_all is_json_move steps) clients

@@ -1,3 +1,4 @@
+pub mod ChainExamples
 pub mod Examples
 pub mod Json
 pub mod JsonMoves

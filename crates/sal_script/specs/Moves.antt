@@ -17,6 +17,12 @@ pub data Move : Type 0 where
   Submit : ℕ → Move
   Cancel : ℕ → Move
   Settle : ℕ → Move
+  OpenChain : ℕ → ℕ → Move
+  ChainBegin : ℕ → ℕ → Mode → Move
+  CloseChain : ℕ → Move
+  Pump : Move
+  Mark : ℕ → Move
+  After : ℕ → Move
 
 -- what a step of a script says
 abbrev pub move_of : ScriptStep → Move
@@ -29,6 +35,12 @@ move_of (told.Exists slot store path) = Exists slot store path
 move_of (told.Submit slot) = Submit slot
 move_of (told.Cancel slot) = Cancel slot
 move_of (told.Settle slot) = Settle slot
+move_of (told.OpenChain chain domain) = OpenChain chain domain
+move_of (told.ChainBegin chain slot mode) = ChainBegin chain slot mode
+move_of (told.CloseChain chain) = CloseChain chain
+move_of told.Pump = Pump
+move_of (told.Mark mark) = Mark mark
+move_of (told.After mark) = After mark
 
 abbrev pub moves_of : List ScriptStep → List Move
 moves_of steps = map move_of steps

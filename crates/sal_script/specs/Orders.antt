@@ -20,6 +20,12 @@ pub data Kind : Type 0 where
   submits : Kind
   cancels : Kind
   settles : Kind
+  opens_chain : ℕ → Kind
+  begins_next : Mode → Kind
+  closes_chain : Kind
+  pumps : Kind
+  leaves_mark : ℕ → Kind
+  looks_after : ℕ → Kind
 
 -- the kind of call that a step can make; none where the client always answers by itself
 abbrev pub kind_of_step : Move → Option Kind
@@ -27,6 +33,12 @@ kind_of_step (asked.Begin slot domain mode) = Some (begins domain mode)
 kind_of_step (asked.Submit slot) = Some submits
 kind_of_step (asked.Cancel slot) = Some cancels
 kind_of_step (asked.Settle slot) = Some settles
+kind_of_step (asked.OpenChain chain domain) = Some (opens_chain domain)
+kind_of_step (asked.ChainBegin chain slot mode) = Some (begins_next mode)
+kind_of_step (asked.CloseChain chain) = Some closes_chain
+kind_of_step asked.Pump = Some pumps
+kind_of_step (asked.Mark mark) = Some (leaves_mark mark)
+kind_of_step (asked.After mark) = Some (looks_after mark)
 kind_of_step step = None
 
 abbrev pub kind_of_call : Call → Kind
@@ -34,6 +46,12 @@ kind_of_call (made.Begin domain mode) = begins domain mode
 kind_of_call (made.Submit place ops) = submits
 kind_of_call (made.Cancel place) = cancels
 kind_of_call (made.Settle receipt) = settles
+kind_of_call (made.OpenChain domain) = opens_chain domain
+kind_of_call (made.ChainBegin chain mode) = begins_next mode
+kind_of_call (made.CloseChain chain) = closes_chain
+kind_of_call made.Pump = pumps
+kind_of_call (made.Mark mark) = leaves_mark mark
+kind_of_call (made.After mark) = looks_after mark
 
 -- a shared call and its answer
 pub record Exchange : Type 0 where

@@ -2,6 +2,7 @@
 -- then made and answered by the log; at the end each client answers the local steps that are left.
 use Rattle.std.specs.Prelude.{ℕ, ◌+◌, List, [], ◌∷◌, ◌++◌, length, map, Option, None, Some, Result, Ok, Err, IsOk, if◌then◌else◌, nat_eq, slice_get}
 use Rattle.std.specs.List.{slice_set}
+use Rattle.std.specs.Option.{option_map_or}
 use Rattle.sal_types.specs.declared.value.Store.{Store}
 use Rattle.sal_types.specs.declared.value.Step.{Step}
 use Rattle.sal_types.specs.declared.row.Row.{Row}
@@ -13,10 +14,10 @@ use Rattle.sal_rows.specs.declared.op.Act.TheVariants.{Put as PutAct, Merge as M
 use Rattle.sal_rows.specs.declared.outcome.Mode.{Mode}
 use Rattle.sal_rows.specs.declared.outcome.Mode.TheVariants.{Ro, Wo}
 use Rattle.sal_history.specs.declared.call.Call.{Call}
-use Rattle.sal_history.specs.declared.call.Call.TheVariants.{Begin as BeginCall, Submit as SubmitCall, Cancel as CancelCall, Settle as SettleCall}
+use Rattle.sal_history.specs.declared.call.Call.TheVariants as made
 use Rattle.sal_history.specs.declared.call.Entry.{Entry}
 use Rattle.sal_history.specs.declared.reply.Reply.{Reply}
-use Rattle.sal_history.specs.declared.reply.Reply.TheVariants.{Begun, Accepted as Done, Receipt}
+use Rattle.sal_history.specs.declared.reply.Reply.TheVariants.{Begun, Chain, Accepted as Done, Receipt}
 use Rattle.sal_history.specs.World.{Domain, table_of}
 use Rattle.sal_history.specs.History.{reply, view, entries_of}
 use Rattle.serde_json.specs.Data.{Data}
@@ -32,7 +33,7 @@ use Rattle.sal_script.specs.declared.reply.StepReply.{StepReply}
 use Rattle.sal_script.specs.declared.reply.StepReply.TheVariants.{Called, Accepted, Read as ReadReply, Exists as ExistsReply, Refused}
 use Rattle.sal_script.specs.declared.reply.StepRefusal.{StepRefusal}
 use Rattle.sal_script.specs.declared.reply.StepRefusal.TheVariants.{EmptySlot, ReadOnly, BadPath, BadData, Write}
-use Rattle.sal_script.specs.Moves.{Move, Begin, Put, Merge, Delete, Read, Exists, Submit, Cancel, Settle}
+use Rattle.sal_script.specs.Moves.{Move, Begin, Put, Merge, Delete, Read, Exists, Submit, Cancel, Settle, OpenChain, ChainBegin, CloseChain, Pump, Mark, After}
 
 -- a client's transaction: where it began in the log, its domain and mode, and its operations so far
 pub record Open : Type 0 where
@@ -40,6 +41,11 @@ pub record Open : Type 0 where
   pub domain : ℕ
   pub mode : Mode
   pub ops : List Op
+
+-- a chain that the client opened: its id, and its domain
+pub record Opened : Type 0 where
+  pub id : ℕ
+  pub domain : ℕ
 
 -- what each slot holds
 abbrev pub Slots : Type 0 → Type 0
@@ -52,10 +58,11 @@ set_slot slot x slots = λ k. if nat_eq k slot then x else slots k
 pub record Client : Type 0 where
   pub transactions : Slots Open
   pub receipts : Slots ℕ
+  pub chains : Slots Opened
   pub replies : List StepReply
 
 abbrev pub new_client : Client
-new_client = record { transactions = λ k. None; receipts = λ k. None; replies = [] }
+new_client = record { transactions = λ k. None; receipts = λ k. None; chains = λ k. None; replies = [] }
 
 -- one step more is answered
 abbrev pub replied : StepReply → Client → Client
@@ -94,7 +101,7 @@ accept_unless (Some fault) slot op tx client = refused (Write fault) client
 
 abbrev pub submit_in : Open → Mode → Client → Meeting
 submit_in tx Ro client = refused ReadOnly client
-submit_in tx mode client = shared (SubmitCall tx.place tx.ops)
+submit_in tx mode client = shared (made.Submit tx.place tx.ops)
 
 abbrev pub submit : Client → Option Open → Meeting
 submit client None = refused EmptySlot client
@@ -102,11 +109,19 @@ submit client (Some tx) = submit_in tx tx.mode client
 
 abbrev pub cancel : Client → Option Open → Meeting
 cancel client None = refused EmptySlot client
-cancel client (Some tx) = shared (CancelCall tx.place)
+cancel client (Some tx) = shared (made.Cancel tx.place)
 
 abbrev pub settle : Client → Option ℕ → Meeting
 settle client None = refused EmptySlot client
-settle client (Some receipt) = shared (SettleCall receipt)
+settle client (Some receipt) = shared (made.Settle receipt)
+
+abbrev pub chain_begin : Mode → Client → Option Opened → Meeting
+chain_begin mode client None = refused EmptySlot client
+chain_begin mode client (Some chain) = shared (made.ChainBegin chain.id mode)
+
+abbrev pub close_chain : Client → Option Opened → Meeting
+close_chain client None = refused EmptySlot client
+close_chain client (Some chain) = shared (made.CloseChain chain.id)
 
 -- a look by a transaction that only writes is refused
 abbrev pub look_in : Mode → StepReply → Client → Meeting
@@ -121,7 +136,7 @@ look_at f mode (Ok path) client = look_in mode (f path) client
 module _ (table : SchemaTable) (world : List Domain) (log : List Entry) where
   -- what a transaction sees of a store, under its own writes
   abbrev pub seen_by : Open → Store → List Row
-  seen_by tx store = view world log tx.domain tx.place tx.ops store
+  seen_by tx store = view world log tx.place tx.ops store
 
   -- ---- looks
 
@@ -163,7 +178,7 @@ module _ (table : SchemaTable) (world : List Domain) (log : List Entry) where
 
   -- what a client's step comes to after the log
   abbrev pub meet : Client → Move → Meeting
-  meet client (Begin slot domain mode) = shared (BeginCall domain mode)
+  meet client (Begin slot domain mode) = shared (made.Begin domain mode)
   meet client (Put slot store path value) = write slot store path (putting value) client (client.transactions slot)
   meet client (Merge slot store path value) = write slot store path (merging value) client (client.transactions slot)
   meet client (Delete slot store path) = write slot store path deleting client (client.transactions slot)
@@ -172,12 +187,28 @@ module _ (table : SchemaTable) (world : List Domain) (log : List Entry) where
   meet client (Submit slot) = submit client (client.transactions slot)
   meet client (Cancel slot) = cancel client (client.transactions slot)
   meet client (Settle slot) = settle client (client.receipts slot)
+  meet client (OpenChain chain domain) = shared (made.OpenChain domain)
+  meet client (ChainBegin chain slot mode) = chain_begin mode client (client.chains chain)
+  meet client (CloseChain chain) = close_chain client (client.chains chain)
+  meet client Pump = shared made.Pump
+  meet client (Mark mark) = shared (made.Mark mark)
+  meet client (After mark) = shared (made.After mark)
+
+-- a transaction that began at the place stands in the slot
+abbrev pub keep_begun : ℕ → ℕ → ℕ → Mode → Client → Client
+keep_begun slot place domain mode client =
+    record client { transactions = set_slot slot (Some (record { place = place; domain = domain; mode = mode; ops = [] })) client.transactions }
+
+-- the domain of the chain in a slot; an empty slot begins no transaction
+abbrev pub domain_in : Option Opened → ℕ
+domain_in chain = option_map_or (λ c. c.domain) chain 0
 
 -- What the answer to a shared call leaves in the slots; `place` is that of the call's entry. A refusal leaves them as they
--- were.
+-- were, and nothing empties the slot of a chain.
 abbrev pub keep : ℕ → Move → Reply → Client → Client
-keep place (Begin slot domain mode) (Begun commit on) client =
-    record client { transactions = set_slot slot (Some (record { place = place; domain = domain; mode = mode; ops = [] })) client.transactions }
+keep place (Begin slot domain mode) (Begun commit on) client = keep_begun slot place domain mode client
+keep place (ChainBegin chain slot mode) (Begun commit on) client = keep_begun slot place (domain_in (client.chains chain)) mode client
+keep place (OpenChain chain domain) (Chain id) client = record client { chains = set_slot chain (Some (record { id = id; domain = domain })) client.chains }
 keep place (Submit slot) (Receipt number) client =
     record client { transactions = set_slot slot None client.transactions; receipts = set_slot slot (Some number) client.receipts }
 keep place (Cancel slot) Done client = record client { transactions = set_slot slot None client.transactions }

@@ -8,14 +8,14 @@ use Rattle.sal_types.specs.declared.row.Row.{Row}
 use Rattle.sal_rows.specs.declared.outcome.ClashKind.{ClashKind}
 use Rattle.sal_rows.specs.declared.outcome.ClashKind.TheVariants.{Changed, Created, Deleted}
 use Rattle.sal_rows.specs.declared.outcome.Outcome.{Outcome}
-use Rattle.sal_rows.specs.declared.outcome.Outcome.TheVariants.{Done, Conflict, Invalid}
+use Rattle.sal_rows.specs.declared.outcome.Outcome.TheVariants.{Done, Conflict, Invalid, ChainFailed as FailedBy}
 use Rattle.sal_rows.specs.declared.outcome.Rule.{Rule}
 use Rattle.sal_rows.specs.declared.outcome.Rule.TheVariants.{Mandatory, MinElements, MaxElements, Unique, TwoCases}
 use Rattle.sal_rows.specs.declared.outcome.CallFault.{CallFault}
-use Rattle.sal_rows.specs.declared.outcome.CallFault.TheVariants.{HistoryFull, PipelineFull, NoDomain, NoMemory, TxSpent}
+use Rattle.sal_rows.specs.declared.outcome.CallFault.TheVariants.{HistoryFull, PipelineFull, NoDomain, PreviousOpen, ChainFailed, ChainClosed, NoMemory, TxSpent}
 use Rattle.sal_history.specs.declared.call.Entry.{Entry}
 use Rattle.sal_history.specs.declared.reply.Reply.{Reply}
-use Rattle.sal_history.specs.declared.reply.Reply.TheVariants.{Begun, Accepted, Receipt, Settled, Refused}
+use Rattle.sal_history.specs.declared.reply.Reply.TheVariants.{Begun, Chain, Accepted, Receipt, Settled, Decided, Nothing, Found, Late, Refused}
 use Rattle.sal_history.specs.World.{Domain, table_of}
 use Rattle.sal_history.specs.History.{history, commits, newest_tree}
 use Rattle.json.specs.Print.{quoted}
@@ -60,6 +60,9 @@ abbrev pub fault_text : CallFault → List ℕ
 fault_text HistoryFull = codes "history-full"
 fault_text PipelineFull = codes "pipeline-full"
 fault_text (NoDomain id) = codes "no-domain" ++ number id
+fault_text PreviousOpen = codes "previous-open"
+fault_text (ChainFailed receipt) = codes "chain-failed" ++ number receipt
+fault_text ChainClosed = codes "chain-closed"
 fault_text NoMemory = codes "no-memory"
 fault_text TxSpent = codes "tx-spent"
 
@@ -133,6 +136,7 @@ module _ (table : SchemaTable) where
   outcome_text (Conflict store path kind commit) =
       codes "conflict " ++ (store_text store ++ (path_text path ++ (32 ∷ (kind_text kind ++ number commit))))
   outcome_text (Invalid store path rule) = codes "invalid " ++ (store_text store ++ breach_text path rule)
+  outcome_text (FailedBy receipt) = codes "chain-failed" ++ number receipt
 
   abbrev pub refusal_text : StepRefusal → List ℕ
   refusal_text EmptySlot = codes "empty-slot"
@@ -143,9 +147,14 @@ module _ (table : SchemaTable) where
 
   abbrev pub call_text : Reply → List ℕ
   call_text (Begun commit on) = codes "begun" ++ (number commit ++ on_text on)
+  call_text (Chain id) = codes "chain" ++ number id
   call_text Accepted = codes "ok"
   call_text (Receipt n) = codes "receipt" ++ number n
   call_text (Settled domain outcome) = outcome_text outcome
+  call_text (Decided receipt domain outcome) = codes "decided" ++ (number receipt ++ (32 ∷ outcome_text outcome))
+  call_text Nothing = codes "nothing"
+  call_text Found = codes "found"
+  call_text Late = codes "late"
   call_text (Refused fault) = codes "refused " ++ fault_text fault
 
   -- the rows at a path as JSON; without a row there is nothing, but at the root an empty object

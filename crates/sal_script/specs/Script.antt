@@ -8,7 +8,7 @@ use Rattle.sal_rows.specs.declared.outcome.Mode.{Mode}
 use Rattle.sal_rows.specs.declared.outcome.Mode.TheVariants.{Ro, Wo, Rw}
 use Rattle.serde_json.specs.Data.{Data, object, Members, no_members}
 use Rattle.serde_json.specs.Find.{as_str, as_object, get_member}
-use Rattle.sal_script.specs.Moves.{Move, Begin, Put, Merge, Delete, Read, Exists, Submit, Cancel, Settle}
+use Rattle.sal_script.specs.Moves.{Move, Begin, Put, Merge, Delete, Read, Exists, Submit, Cancel, Settle, OpenChain, ChainBegin, CloseChain, Pump, Mark, After}
 use Rattle.sal_script.specs.declared.script.TheConstants.{PLAIN}
 use Rattle.sal_script.specs.Limits.{is_short}
 use Rattle.sal_script.specs.Json.{text_eq, list_of, all_named, whole_below, data_of}
@@ -42,8 +42,9 @@ at_most limit xs = if nat_le (length xs) limit then Some xs else None
 abbrev pub slot_of : Data → Option ℕ
 slot_of d = whole_below 256 d
 
-abbrev pub domain_of : Data → Option ℕ
-domain_of d = whole_below (2 ^ 32) d
+-- a whole number, such as a domain or a mark
+abbrev pub number_of : Data → Option ℕ
+number_of d = whole_below (2 ^ 32) d
 
 abbrev pub mode_named : List ℕ → Option Mode
 mode_named name =
@@ -61,7 +62,7 @@ abbrev pub store_of : Data → Option Store
 store_of d = option_and_then store_named (as_str d)
 
 abbrev pub begin_of : List Data → Option Move
-begin_of (t ∷ d ∷ o ∷ []) = option_and_then (λ slot. option_and_then (λ domain. option_map (Begin slot domain) (mode_of o)) (domain_of d)) (slot_of t)
+begin_of (t ∷ d ∷ o ∷ []) = option_and_then (λ slot. option_and_then (λ domain. option_map (Begin slot domain) (mode_of o)) (number_of d)) (slot_of t)
 begin_of parts = None
 
 -- a step by its slot, its store and the text of its path
@@ -87,6 +88,37 @@ abbrev pub slot_step_of : (ℕ → Move) → List Data → Option Move
 slot_step_of step (t ∷ []) = option_map step (slot_of t)
 slot_step_of step parts = None
 
+-- ---- steps of chains, pumps and marks
+
+abbrev pub open_chain_of : List Data → Option Move
+open_chain_of (c ∷ d ∷ []) = option_and_then (λ chain. option_map (OpenChain chain) (number_of d)) (slot_of c)
+open_chain_of parts = None
+
+abbrev pub chain_begin_of : List Data → Option Move
+chain_begin_of (c ∷ t ∷ o ∷ []) = option_and_then (λ chain. option_and_then (λ slot. option_map (ChainBegin chain slot) (mode_of o)) (slot_of t)) (slot_of c)
+chain_begin_of parts = None
+
+abbrev pub pump_of : List Data → Option Move
+pump_of [] = Some Pump
+pump_of parts = None
+
+-- a step with a mark alone
+abbrev pub mark_step_of : (ℕ → Move) → List Data → Option Move
+mark_step_of step (m ∷ []) = option_map step (number_of m)
+mark_step_of step parts = None
+
+-- the step of a chain, a pump or of a mark with this word
+abbrev pub chain_step_named : List ℕ → List Data → Option Move
+chain_step_named word parts =
+    if text_eq word (codes "chain") then open_chain_of parts
+    else (if text_eq word (codes "chain-begin") then chain_begin_of parts
+    else (if text_eq word (codes "close-chain") then slot_step_of CloseChain parts
+    else (if text_eq word (codes "pump") then pump_of parts
+    else (if text_eq word (codes "mark") then mark_step_of Mark parts
+    else (if text_eq word (codes "after") then mark_step_of After parts else None)))))
+
+-- ---- steps by their words
+
 -- the step with this word and these parts behind it
 abbrev pub step_named : List ℕ → List Data → Option Move
 step_named word parts =
@@ -98,7 +130,7 @@ step_named word parts =
     else (if text_eq word (codes "exists") then place_of Exists parts
     else (if text_eq word (codes "submit") then slot_step_of Submit parts
     else (if text_eq word (codes "cancel") then slot_step_of Cancel parts
-    else (if text_eq word (codes "settle") then slot_step_of Settle parts else None))))))))
+    else (if text_eq word (codes "settle") then slot_step_of Settle parts else chain_step_named word parts))))))))
 
 abbrev pub step_from : List Data → Option Move
 step_from [] = None
@@ -156,7 +188,7 @@ all_of f (d ∷ ds) = option_and_then (λ x. option_map (λ xs. x ∷ xs) (all_o
 
 -- the numbers of an order, whole and below 2^32
 abbrev pub numbers_of : List Data → Option (List ℕ)
-numbers_of ds = all_of (whole_below (2 ^ 32)) ds
+numbers_of ds = all_of number_of ds
 
 -- the text of a module
 abbrev pub text_of : Data → Option (List ℕ)

@@ -9,7 +9,7 @@ use sal_types::Path;
 /// Why a client refused a step by itself: it made no call.
 #[derive(Drop)]
 pub enum StepRefusal {
-    /// No transaction or receipt is in the slot.
+    /// No transaction, receipt or chain is in the slot.
     EmptySlot,
     /// The transaction is read-only.
     ReadOnly,

@@ -20,8 +20,8 @@ pub const MAX_PROGRAM: usize = 60000;
 pub const PLAIN: &str =
     "module plain { namespace \"urn:plain\"; prefix p; container box {\n leaf a { type string; } leaf b { type string; } leaf c { type string; } leaf d { type string; }\n leaf e { type string; } leaf f { type string; } leaf g { type string; } leaf h { type string; } } }\n";
 
-/// One step of a client. Slots are the client's own places for transactions and for receipts, from 0 to 255. Paths and values
-/// are read by the schema when the step is answered.
+/// One step of a client. Slots are the client's own places for transactions, for receipts and for chains, from 0 to 255. Paths
+/// and values are read by the schema when the step is answered.
 #[derive(Drop)]
 pub enum ScriptStep {
     /// Begins a transaction of the domain into the slot.
@@ -74,6 +74,31 @@ pub enum ScriptStep {
     /// Settles the receipt in the slot.
     Settle {
         slot: u8,
+    },
+    /// Opens a transaction chain over the domain into the chain slot.
+    OpenChain {
+        chain: u8,
+        domain: u32,
+    },
+    /// Begins the next transaction of the chain in the chain slot into the slot.
+    ChainBegin {
+        chain: u8,
+        slot: u8,
+        mode: Mode,
+    },
+    /// Closes the chain in the chain slot.
+    CloseChain {
+        chain: u8,
+    },
+    /// Decides the first receipt that is pending, of whatever client.
+    Pump,
+    /// Leaves the mark in the log.
+    Mark {
+        mark: u32,
+    },
+    /// Asks whether the mark was left.
+    After {
+        mark: u32,
     },
 }
 

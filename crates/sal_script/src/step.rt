@@ -1,4 +1,4 @@
-//! The steps of a client, from JSON arrays.
+//! The steps of a client, from JSON arrays: those of its transactions and receipts.
 ghost use Rattle.std.specs.Prelude.{◌≡◌, ℕ, List, IfOk, MatchOption, Some, None, map, option_map};
 ghost use Rattle.serde_json.specs.View.{view};
 ghost use Rattle.sal_script.specs.Moves.{move_of};
@@ -6,6 +6,7 @@ ghost use Rattle.sal_script.specs.Moves as move;
 ghost use Rattle.sal_script.specs.Script.{Naming, Writing};
 ghost use Rattle.sal_script.specs.Script as spec;
 
+use crate::chain_step::chain_step_named;
 use crate::script::ScriptStep;
 use crate::values::{list_of, whole_below};
 use sal_rows::Mode;
@@ -49,7 +50,7 @@ fn step_named(alloc: Global, word: &str, parts: &[Value]) -> Result<Option<Scrip
         "submit" => Ok(submit_of(parts)),
         "cancel" => Ok(cancel_of(parts)),
         "settle" => Ok(settle_of(parts)),
-        _ => Ok(None),
+        _ => Ok(chain_step_named(word, parts)),
     }
 }
 
@@ -60,7 +61,7 @@ fn begin_of(parts: &[Value]) -> Option<ScriptStep>
         return None;
     };
     let slot = slot_of(slot)?;
-    let domain = domain_of(domain)?;
+    let domain = number_of(domain)?;
     let mode = mode_of(mode)?;
     Some(ScriptStep::Begin { slot, domain, mode })
 }
@@ -175,7 +176,7 @@ fn settle_of(parts: &[Value]) -> Option<ScriptStep>
 }
 
 // The slot, where it is the one part.
-fn slot_alone(parts: &[Value]) -> Option<u8>
+pub(crate) fn slot_alone(parts: &[Value]) -> Option<u8>
     ensures { MatchOption result ((step : ℕ → move.Move) → spec.slot_step_of step (map view parts.now) ≡ None) (λ slot. (step : ℕ → move.Move) → spec.slot_step_of step (map view parts.now) ≡ Some (step slot)) }
 {
     let [slot] = parts else {
@@ -184,7 +185,7 @@ fn slot_alone(parts: &[Value]) -> Option<u8>
     slot_of(slot)
 }
 
-fn slot_of(value: &Value) -> Option<u8>
+pub(crate) fn slot_of(value: &Value) -> Option<u8>
     ensures { result ≡ spec.slot_of (view value.now) }
 {
     match whole_below(256, value) {
@@ -193,16 +194,17 @@ fn slot_of(value: &Value) -> Option<u8>
     }
 }
 
-fn domain_of(value: &Value) -> Option<u32>
-    ensures { result ≡ spec.domain_of (view value.now) }
+// A whole number below 2^32, such as a domain or a mark.
+pub(crate) fn number_of(value: &Value) -> Option<u32>
+    ensures { result ≡ spec.number_of (view value.now) }
 {
     match whole_below(1 << 32, value) {
-        Some(domain) => Some(domain as u32),
+        Some(number) => Some(number as u32),
         None => None,
     }
 }
 
-fn mode_of(value: &Value) -> Option<Mode>
+pub(crate) fn mode_of(value: &Value) -> Option<Mode>
     ensures { result ≡ spec.mode_of (view value.now) }
 {
     match value.as_str()? {

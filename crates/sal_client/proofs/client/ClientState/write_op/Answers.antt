@@ -35,4 +35,4 @@ returns-clause-sound c =
     let holds : held old.transactions c.args.slot ≡ Some (Write taken) = sym c.in-Some-Write.ensures.value ∙ ap Some c.in-Some-Write.field-0-is in
     let own : IsOwn known (Write taken) = c.requires.sound.transactions c.args.slot (Write taken) holds in
     let filled = changed (held old.transactions) (held c.take_slot.new.slots) (held c.fill_slot.new.slots) c.args.slot (Write c.write.new.self) c.take_slot.ensures.after c.in_ok-fill_slot-in-Some-Write.ensures in
-    IsSound-filled known old _ c.args.slot (Write c.write.new.self) c.requires.sound (IsOwn-written known c.args.reader.now taken own c.requires.table c.args.op c.write.new.self c.write.result c.write.ensures.outcome c.write.ensures.err) filled refl
+    IsSound-filled known old _ c.args.slot (Write c.write.new.self) c.requires.sound (IsOwn-written known c.args.reader.now taken own c.requires.table c.args.op c.write.new.self c.write.result c.write.ensures.outcome c.write.ensures.err) filled refl refl

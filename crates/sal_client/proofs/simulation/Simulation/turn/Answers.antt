@@ -20,5 +20,5 @@ pub returns : goal.returns
 returns g c =
     let p = c.items.result.now in
     let at_p : p ≡ get_or c.args.programs.now c.args.client p = c.items.ensures ∙ c.index-programs-index.is ∙ ap (λ (d : List ScriptStep). get_or c.args.programs.now c.args.client d) (sym c.items.ensures) in
-    turned c.tokens_last.ensures.begun c.tokens_last.ensures.given c.args.reader.now c.in_ok-made.made c.args.self.now.hub c.go.new.hub c.args.programs.now c.args.self.now.runs.items c.args.client p c.index_mut-run.result.now c.go.new.self c.requires.runs (omega (arith, c.len.ensures)) at_p c.index_mut-run.ensures.value
+    turned (c.tokens_last.ensures.begun, c.tokens_last.ensures.given, c.tokens_last.ensures.opened) c.args.reader.now c.in_ok-made.made c.args.self.now.hub c.go.new.hub c.args.programs.now c.args.self.now.runs.items c.args.client p c.index_mut-run.result.now c.go.new.self c.requires.runs (omega (arith, c.len.ensures)) at_p c.index_mut-run.ensures.value
     c.in_ok-made.ensures.goes c.in_ok-made.ensures.run c.in_ok-made.ensures.number

@@ -1,0 +1,23 @@
+-- A look for a mark changes no slot.
+use Rattle.std.proofs.Common.{refl, ap, sym, ◌∙◌, subst}
+use Rattle.sal_history.specs.declared.call.Call.TheVariants.{After as AfterCall}
+use Rattle.sal_script.specs.Moves.{After}
+use Rattle.sal_script.specs.declared.reply.StepReply.TheVariants.{Called}
+use Rattle.sal_hub.specs.Known.{Known, entry_of}
+use Rattle.sal_client.specs.Clients.{IsSound, client_of}
+use Rattle.sal_client.proofs.Soundness.{IsSound-more}
+use Rattle.sal_client.proofs.Answering.{called}
+use Rattle.sal_client.proofs.client.ClientState.after.Goals as goal
+
+pub returns-in-Ok-clause-answers : goal.returns-in-Ok-clause-answers
+returns-in-Ok-clause-answers c =
+    let client = c.args.self.now in
+    let known = c.args.hub.now in
+    let call = AfterCall c.args.mark in
+    (call, called c.args.reader.now c.called.result client.number known (client_of client) (After c.args.mark) c.after.new.self (client_of client) call _ refl c.in-Ok.ensures.answer (c.called.ensures ∙ ap Called c.looked.ensures) refl)
+
+pub returns-in-Ok-clause-sound : goal.returns-in-Ok-clause-sound
+returns-in-Ok-clause-sound c =
+    let client = c.args.self.now in
+    let known = c.args.hub.now in
+    subst (λ (k : Known). IsSound k client) (sym c.in-Ok.ensures.answer.log) (IsSound-more (c.tokens_last.ensures.begun, c.tokens_last.ensures.given, c.tokens_last.ensures.opened) known (entry_of known client.number (AfterCall c.args.mark)) client c.requires.sound)

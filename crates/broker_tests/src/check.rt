@@ -1,6 +1,5 @@
 use crate::schemas::schema_of;
 use crate::texts::{path_of, rows_of};
-use Rule::*;
 use sal_check::{Breach, Plan, Rule, check_all, check_by, check_near, laws};
 use sal_rows::Rows;
 use sal_schema::Schema;
@@ -58,171 +57,146 @@ const MODULE: &str = "module tried {
   }
 }";
 
-// ---- whole trees: the rows, and the breach
+// ---- whole trees
 
-type Wanted = Option<(&'static str, Rule)>;
+// Trees of the configuration, and behind `>` their breach: none, or its path, the word of its rule and the rule's node.
+const CONFIG: &str = " > -
+0/#1 0/#1/1=1 > 0/#1 mandatory 2
+0/#1 0/#1/1=1 0/#1/2=5 > 0/#1 mandatory 4
+0/#1 0/#1/1=1 0/#1/2=5 0/#1/9=1 > 0/#1/3 min-elements 3
+0/#1 0/#1/1=1 0/#1/2=5 0/#1/3/.1 0/#1/9=1 > -
+0/#1 0/#1/1=1 0/#1/2=5 0/#1/3/.1 0/#1/3/.2 0/#1/9=1 > -
+0/#1 0/#1/1=1 0/#1/2=5 0/#1/3/.1 0/#1/3/.2 0/#1/3/.3 0/#1/9=1 > 0/#1/3 max-elements 3
+0/#1 0/#1/1=1 0/#1/2=5 0/#1/3/.1 0/#1/6=1 > 0/#1 mandatory 7
+0/#1 0/#1/1=1 0/#1/2=5 0/#1/3/.1 0/#1/7=1 > -
+0/#1 0/#1/1=1 0/#1/2=5 0/#1/3/.1 0/#1/7=1 0/#1/9=1 > 0/#1 two-cases 4
+0/#1 0/#1/1=1 0/#1/2=5 0/#1/6=1 0/#1/9=1 > 0/#1 mandatory 7
+0/#1 0/#1/1=1 0/#1/3/.1 0/#1/3/.2 0/#1/3/.3 0/#1/7=1 0/#1/9=1 > 0/#1 mandatory 2
+0/#1 0/#1/1=1 0/#1/2=5 0/#1/3/.1 0/#1/9=1 0/#2 0/#2/1=2 > 0/#2 mandatory 2
+0/#1 0/#1/1=1 0/#2 0/#2/1=2 > 0/#1 mandatory 2
+10/11=1 > 10/12 mandatory 13
+10/12/13=1 > 10 mandatory 11
+10/11=1 10/12/13=1 > -
+14 > 14/15 mandatory 16
+14 14/15/16=1 > -
+17/#1 17/#1/18=1 17/#1/19=5 17/#1/20/21=7 17/#2 17/#2/18=2 17/#2/19=5 17/#2/20/21=7 > 17 unique 17
+17/#1 17/#1/18=1 17/#1/19=5 17/#1/20/21=7 17/#2 17/#2/18=2 17/#2/19=5 17/#2/20/21=8 > -
+17/#1 17/#1/18=1 17/#1/19=5 17/#1/20/21=7 17/#2 17/#2/18=2 17/#2/19=6 17/#2/20/21=7 > -
+17/#1 17/#1/18=1 17/#1/19=5 17/#2 17/#2/18=2 17/#2/19=5 > -
+22/23/.1 22/23/.2 > -
+26/.1 > 26 min-elements 26
+26/.1 26/.2 > -
+27=1 > 26 min-elements 26
+26/.1 26/.2 29=1 > / two-cases 24
+29=1 > -
+30=1 > -
+31/#1 31/#1/32=1 > -";
 
-const CONFIG: &[(&str, Wanted)] = &[
-    ("", None),
-    ("0/#1 0/#1/1=1", Some(("0/#1", Mandatory(2)))),
-    ("0/#1 0/#1/1=1 0/#1/2=5", Some(("0/#1", Mandatory(4)))),
-    (
-        "0/#1 0/#1/1=1 0/#1/2=5 0/#1/9=1",
-        Some(("0/#1/3", MinElements(3))),
-    ),
-    ("0/#1 0/#1/1=1 0/#1/2=5 0/#1/3/.1 0/#1/9=1", None),
-    ("0/#1 0/#1/1=1 0/#1/2=5 0/#1/3/.1 0/#1/3/.2 0/#1/9=1", None),
-    (
-        "0/#1 0/#1/1=1 0/#1/2=5 0/#1/3/.1 0/#1/3/.2 0/#1/3/.3 0/#1/9=1",
-        Some(("0/#1/3", MaxElements(3))),
-    ),
-    (
-        "0/#1 0/#1/1=1 0/#1/2=5 0/#1/3/.1 0/#1/6=1",
-        Some(("0/#1", Mandatory(7))),
-    ),
-    ("0/#1 0/#1/1=1 0/#1/2=5 0/#1/3/.1 0/#1/7=1", None),
-    (
-        "0/#1 0/#1/1=1 0/#1/2=5 0/#1/3/.1 0/#1/7=1 0/#1/9=1",
-        Some(("0/#1", TwoCases(4))),
-    ),
-    (
-        "0/#1 0/#1/1=1 0/#1/2=5 0/#1/6=1 0/#1/9=1",
-        Some(("0/#1", Mandatory(7))),
-    ),
-    (
-        "0/#1 0/#1/1=1 0/#1/3/.1 0/#1/3/.2 0/#1/3/.3 0/#1/7=1 0/#1/9=1",
-        Some(("0/#1", Mandatory(2))),
-    ),
-    (
-        "0/#1 0/#1/1=1 0/#1/2=5 0/#1/3/.1 0/#1/9=1 0/#2 0/#2/1=2",
-        Some(("0/#2", Mandatory(2))),
-    ),
-    ("0/#1 0/#1/1=1 0/#2 0/#2/1=2", Some(("0/#1", Mandatory(2)))),
-    ("10/11=1", Some(("10/12", Mandatory(13)))),
-    ("10/12/13=1", Some(("10", Mandatory(11)))),
-    ("10/11=1 10/12/13=1", None),
-    ("14", Some(("14/15", Mandatory(16)))),
-    ("14 14/15/16=1", None),
-    (
-        "17/#1 17/#1/18=1 17/#1/19=5 17/#1/20/21=7 17/#2 17/#2/18=2 17/#2/19=5 17/#2/20/21=7",
-        Some(("17", Unique(17))),
-    ),
-    (
-        "17/#1 17/#1/18=1 17/#1/19=5 17/#1/20/21=7 17/#2 17/#2/18=2 17/#2/19=5 17/#2/20/21=8",
-        None,
-    ),
-    (
-        "17/#1 17/#1/18=1 17/#1/19=5 17/#1/20/21=7 17/#2 17/#2/18=2 17/#2/19=6 17/#2/20/21=7",
-        None,
-    ),
-    (
-        "17/#1 17/#1/18=1 17/#1/19=5 17/#2 17/#2/18=2 17/#2/19=5",
-        None,
-    ),
-    ("22/23/.1 22/23/.2", None),
-    ("26/.1", Some(("26", MinElements(26)))),
-    ("26/.1 26/.2", None),
-    ("27=1", Some(("26", MinElements(26)))),
-    ("26/.1 26/.2 29=1", Some(("", TwoCases(24)))),
-    ("29=1", None),
-    ("30=1", None),
-    ("31/#1 31/#1/32=1", None),
-];
+// The same of the operational store.
+const OPER: &str = "22/23/.1 > -
+22/23/.1 22/23/.2 > 22/23 max-elements 23
+10/11=1 22/23/.1 22/23/.2 > 10/12 mandatory 13";
 
-const OPER: &[(&str, Wanted)] = &[
-    ("22/23/.1", None),
-    ("22/23/.1 22/23/.2", Some(("22/23", MaxElements(23)))),
-    ("10/11=1 22/23/.1 22/23/.2", Some(("10/12", Mandatory(13)))),
-];
+fn parts(rule: Rule) -> (&'static str, u32) {
+    match rule {
+        Rule::Mandatory(node) => ("mandatory", node),
+        Rule::MinElements(node) => ("min-elements", node),
+        Rule::MaxElements(node) => ("max-elements", node),
+        Rule::Unique(node) => ("unique", node),
+        Rule::TwoCases(node) => ("two-cases", node),
+    }
+}
+
+fn is_rule(rule: Rule, wanted: &str) -> bool {
+    let (word, node) = parts(rule);
+    match wanted.split_once(' ') {
+        Some((first, number)) => first == word && number.parse::<u32>() == Ok(node),
+        None => false,
+    }
+}
+
+fn is_breach(alloc: Global, breach: &Breach, wanted: &str) -> Result<bool, Fail> {
+    let Some((path, rule)) = wanted.split_once(' ') else {
+        return Ok(false);
+    };
+    let path = path_of(alloc, path)?;
+    Ok(breach.path == path && is_rule(breach.rule, rule))
+}
+
+fn is_wanted(alloc: Global, breach: &Option<Breach>, wanted: &str) -> Result<bool, Fail> {
+    match breach {
+        None => Ok(wanted == "-"),
+        Some(breach) => is_breach(alloc, breach, wanted),
+    }
+}
 
 fn tree(alloc: Global, text: &str) -> Result<Root, Fail> {
     let rows = rows_of(alloc, text)?;
     Ok(Root::from_rows(alloc, &rows, 0)?)
 }
 
-fn is_wanted(alloc: Global, breach: &Option<Breach>, wanted: Wanted) -> Result<bool, Fail> {
-    match (breach, wanted) {
-        (None, None) => Ok(true),
-        (Some(breach), Some((path, rule))) => {
-            let path = path_of(alloc, path)?;
-            Ok(breach.path == path && breach.rule == rule)
-        }
-        _ => Ok(false),
-    }
-}
-
-fn is_checked(
+fn breach_of(
     alloc: Global,
     schema: &Schema,
     store: Store,
-    case: (&str, Wanted),
-) -> Result<bool, Fail> {
-    let root = tree(alloc, case.0)?;
-    let breach = check_all(alloc, schema, store, &root)?;
-    is_wanted(alloc, &breach, case.1)
+    rows: &str,
+) -> Result<Option<Breach>, Fail> {
+    let root = tree(alloc, rows)?;
+    Ok(check_all(alloc, schema, store, &root)?)
+}
+
+fn is_checked(alloc: Global, schema: &Schema, store: Store, line: &str) -> Result<bool, Fail> {
+    let Some((rows, wanted)) = line.split_once(" > ") else {
+        return Ok(false);
+    };
+    let breach = breach_of(alloc, schema, store, rows)?;
+    is_wanted(alloc, &breach, wanted)
+}
+
+fn first_wrong<'a>(
+    alloc: Global,
+    schema: &Schema,
+    store: Store,
+    lines: &'a str,
+) -> Result<&'a str, Fail> {
+    for line in lines.lines() {
+        if !is_checked(alloc, schema, store, line)? {
+            return Ok(line);
+        }
+    }
+    Ok("")
+}
+
+// The first tree with another breach than is wanted, or an empty text.
+fn wrong_tree(alloc: Global, store: Store, lines: &'static str) -> Result<&'static str, Fail> {
+    let schema = schema_of(alloc, MODULE)?;
+    first_wrong(alloc, &schema, store, lines)
+}
+
+fn wrong_trees(alloc: Global) -> Result<(&'static str, &'static str), Fail> {
+    let config = wrong_tree(alloc, Store::Config, CONFIG)?;
+    Ok((config, wrong_tree(alloc, Store::Oper, OPER)?))
 }
 
 #[test]
 fn trees_are_checked(rt: HostRuntime) -> Result<(), Fail> {
-    let schema = schema_of(rt.alloc(), MODULE)?;
-    for case in CONFIG {
-        let is_checked = is_checked(rt.alloc(), &schema, Store::Config, *case)?;
-        assert!(rt; is_checked, "{}", case.0);
-    }
-    for case in OPER {
-        let is_checked = is_checked(rt.alloc(), &schema, Store::Oper, *case)?;
-        assert!(rt; is_checked, "{}", case.0);
-    }
+    assert_eq!(rt; wrong_trees(rt.alloc())?, ("", ""));
     Ok(())
 }
 
 // ---- what changed
 
-// A tree without a breach, rows that are merged into it, and the breach.
-const MERGED: &[(&str, &str, Wanted)] = &[
-    ("10/11=1 10/12/13=1", "31/#1 31/#1/32=1", None),
-    (
-        "31/#1 31/#1/32=1",
-        "10/11=1",
-        Some(("10/12", Mandatory(13))),
-    ),
-    (
-        "17/#1 17/#1/18=1 17/#1/19=5 17/#1/20/21=7 17/#2 17/#2/18=2 17/#2/19=5 17/#2/20/21=8",
-        "17/#2/20/21=7",
-        Some(("17", Unique(17))),
-    ),
-    (
-        "17/#1 17/#1/18=1 17/#1/19=5 17/#1/20/21=7 17/#2 17/#2/18=2 17/#2/19=5 17/#2/20/21=8",
-        "17/#1/20/21=8 17/#2/20/21=7",
-        None,
-    ),
-    (
-        "17/#1 17/#1/18=1 17/#1/19=5 17/#1/20/21=7 17/#2 17/#2/18=2 17/#2/19=5 17/#2/20/21=8",
-        "17/#2/20/21=8",
-        None,
-    ),
-    (
-        "17/#1 17/#1/18=1 17/#1/19=5 17/#1/20/21=7 17/#2 17/#2/18=2 17/#2/19=5 17/#2/20/21=8",
-        "17/#3 17/#3/18=3 17/#3/19=5 17/#3/20/21=7",
-        Some(("17", Unique(17))),
-    ),
-    (
-        "17/#1 17/#1/18=1",
-        "17/#2 17/#2/18=2 17/#2/19=5 17/#2/20/21=7 17/#3 17/#3/18=3 17/#3/19=5 17/#3/20/21=7",
-        Some(("17", Unique(17))),
-    ),
-    (
-        "17/#1 17/#1/18=1 17/#1/19=5",
-        "17/#2 17/#2/18=2 17/#2/19=5",
-        None,
-    ),
-    ("26/.1 26/.2", "29=1", Some(("", TwoCases(24)))),
-    (
-        "0/#1 0/#1/1=1 0/#1/2=5 0/#1/3/.1 0/#1/9=1",
-        "0/#1/3/.2 0/#1/3/.3",
-        Some(("0/#1/3", MaxElements(3))),
-    ),
-];
+// Trees without a breach, behind `+` rows that are merged into them, and behind `>` the breach.
+const MERGED: &str = "10/11=1 10/12/13=1 + 31/#1 31/#1/32=1 > -
+31/#1 31/#1/32=1 + 10/11=1 > 10/12 mandatory 13
+17/#1 17/#1/18=1 17/#1/19=5 17/#1/20/21=7 17/#2 17/#2/18=2 17/#2/19=5 17/#2/20/21=8 + 17/#2/20/21=7 > 17 unique 17
+17/#1 17/#1/18=1 17/#1/19=5 17/#1/20/21=7 17/#2 17/#2/18=2 17/#2/19=5 17/#2/20/21=8 + 17/#1/20/21=8 17/#2/20/21=7 > -
+17/#1 17/#1/18=1 17/#1/19=5 17/#1/20/21=7 17/#2 17/#2/18=2 17/#2/19=5 17/#2/20/21=8 + 17/#2/20/21=8 > -
+17/#1 17/#1/18=1 17/#1/19=5 17/#1/20/21=7 17/#2 17/#2/18=2 17/#2/19=5 17/#2/20/21=8 + 17/#3 17/#3/18=3 17/#3/19=5 17/#3/20/21=7 > 17 unique 17
+17/#1 17/#1/18=1 + 17/#2 17/#2/18=2 17/#2/19=5 17/#2/20/21=7 17/#3 17/#3/18=3 17/#3/19=5 17/#3/20/21=7 > 17 unique 17
+17/#1 17/#1/18=1 17/#1/19=5 + 17/#2 17/#2/18=2 17/#2/19=5 > -
+26/.1 26/.2 + 29=1 > / two-cases 24
+0/#1 0/#1/1=1 0/#1/2=5 0/#1/3/.1 0/#1/9=1 + 0/#1/3/.2 0/#1/3/.3 > 0/#1/3 max-elements 3";
 
 // The breach after the rows are merged into a tree without one, by what changed alone.
 fn breach_near(
@@ -248,10 +222,28 @@ fn merged(alloc: Global, plan: &Plan, before: &str, rows: &Rows) -> Result<Optio
     breach_near(alloc, plan, &before, rows)
 }
 
-fn is_checked_near(alloc: Global, plan: &Plan, case: (&str, &str, Wanted)) -> Result<bool, Fail> {
-    let rows = rows_of(alloc, case.1)?;
-    let breach = merged(alloc, plan, case.0, &rows)?;
-    is_wanted(alloc, &breach, case.2)
+// The same for a tree and rows with `+` between them.
+fn merged_by(alloc: Global, plan: &Plan, text: &str) -> Result<Option<Breach>, Fail> {
+    let (before, rows) = text.split_once(" + ").ok_or("no rows to merge")?;
+    let rows = rows_of(alloc, rows)?;
+    merged(alloc, plan, before, &rows)
+}
+
+fn is_checked_near(alloc: Global, plan: &Plan, line: &str) -> Result<bool, Fail> {
+    let Some((rows, wanted)) = line.split_once(" > ") else {
+        return Ok(false);
+    };
+    let breach = merged_by(alloc, plan, rows)?;
+    is_wanted(alloc, &breach, wanted)
+}
+
+fn first_wrong_near(alloc: Global, plan: &Plan) -> Result<&'static str, Fail> {
+    for line in MERGED.lines() {
+        if !is_checked_near(alloc, plan, line)? {
+            return Ok(line);
+        }
+    }
+    Ok("")
 }
 
 fn plan(alloc: Global) -> Result<Plan, Fail> {
@@ -259,12 +251,13 @@ fn plan(alloc: Global) -> Result<Plan, Fail> {
     Ok(Plan::of(alloc, &schema)?)
 }
 
+fn wrong_change(alloc: Global) -> Result<&'static str, Fail> {
+    let plan = plan(alloc)?;
+    first_wrong_near(alloc, &plan)
+}
+
 #[test]
 fn changes_are_checked(rt: HostRuntime) -> Result<(), Fail> {
-    let plan = plan(rt.alloc())?;
-    for case in MERGED {
-        let is_checked = is_checked_near(rt.alloc(), &plan, *case)?;
-        assert!(rt; is_checked, "{} and {}", case.0, case.1);
-    }
+    assert_eq!(rt; wrong_change(rt.alloc())?, "");
     Ok(())
 }

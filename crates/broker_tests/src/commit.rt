@@ -110,14 +110,6 @@ enum Wanted {
 
 use Wanted::*;
 
-// The commit whose trees a put stands on, its store and container, and the outcome: nothing stands in the way of the first;
-// the same once more comes too late; the second container lacks its choice.
-const PUTS: [(u64, Store, &str, Wanted); 3] = [
-    (0, Store::Config, "0", Done(1)),
-    (0, Store::Config, "0", Created(1)),
-    (1, Store::Oper, "1", Broken(Rule::Mandatory(2))),
-];
-
 fn outcome_of(store: Store, path: Path, wanted: Wanted) -> Outcome {
     match wanted {
         Done(commit) => Outcome::Done { commit },
@@ -145,14 +137,15 @@ fn is_decided(
     Ok(decided(domain, alloc, base_commit, op)? == wanted)
 }
 
-// Whether each of the puts is decided as is wanted.
+// Puts on the trees of a commit, into a store and at a container: nothing stands in the way of the first; the same once more
+// comes too late; the second container lacks its choice. Whether each is decided so.
 fn right(domain: &mut Domain, alloc: Global) -> Result<[bool; 3], Fail>
     requires { AreKept domain.old.commits.items }
 {
-    let [first, second, third] = PUTS;
-    let is_done = is_decided(domain, alloc, first)?;
-    let is_late = is_decided(domain, alloc, second)?;
-    let is_broken = is_decided(domain, alloc, third)?;
+    let is_done = is_decided(domain, alloc, (0, Store::Config, "0", Done(1)))?;
+    let is_late = is_decided(domain, alloc, (0, Store::Config, "0", Created(1)))?;
+    let broken = Broken(Rule::Mandatory(2));
+    let is_broken = is_decided(domain, alloc, (1, Store::Oper, "1", broken))?;
     Ok([is_done, is_late, is_broken])
 }
 
@@ -166,11 +159,20 @@ fn stand(alloc: Global, domain: &Domain) -> Result<[bool; 2], Fail> {
     })
 }
 
+fn decided_and_standing(domain: &mut Domain, alloc: Global) -> Result<([bool; 3], [bool; 2]), Fail>
+    requires { AreKept domain.old.commits.items }
+{
+    let right = right(domain, alloc)?;
+    Ok((right, stand(alloc, domain)?))
+}
+
 #[test]
 fn one_is_done_and_two_are_refused(rt: HostRuntime) -> Result<(), Fail> {
     let device = device(rt.alloc())?;
     let mut domain = Domain::open(rt.alloc(), 0, &device, true)?;
-    assert_eq!(rt; right(&mut domain, rt.alloc())?, [true; 3]);
-    assert_eq!(rt; stand(rt.alloc(), &domain)?, [true, false]);
+    assert_eq!(rt;
+        decided_and_standing(&mut domain, rt.alloc())?,
+        ([true; 3], [true, false])
+    );
     Ok(())
 }

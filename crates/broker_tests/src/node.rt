@@ -36,10 +36,14 @@ fn is_filled(alloc: Global, child: &Arc<Node>) -> Result<bool, Fail> {
     Ok(builder.finish(alloc, None, 7)?.is_filled())
 }
 
+fn filled_and_edited(alloc: Global) -> Result<(bool, [u64; 3]), Fail> {
+    let child = mark(alloc)?;
+    let is_filled = is_filled(alloc, &child)?;
+    Ok((is_filled, edited(alloc, child)?))
+}
+
 #[test]
 fn a_node_has_its_children(rt: HostRuntime) -> Result<(), Fail> {
-    let child = mark(rt.alloc())?;
-    assert!(rt; is_filled(rt.alloc(), &child)?);
-    assert_eq!(rt; edited(rt.alloc(), child)?, [9, 1, 1]);
+    assert_eq!(rt; filled_and_edited(rt.alloc())?, (true, [9, 1, 1]));
     Ok(())
 }

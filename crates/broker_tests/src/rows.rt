@@ -1,68 +1,36 @@
+use crate::texts::{list_of, path_of, rows_of};
 use sal_rows::{Act, ClashKind, Op, Outcome, Rows, apply};
-use sal_types::{Atom, Cell, Duplicate, NoMemory, Path, Row, Step, Store, Str, Value};
+use sal_types::{Duplicate, NoMemory, Store};
 use std::alloc::Global;
 use std::test::Fail;
-
-fn push(path: Path, node: u32) -> Result<Path, Fail> {
-    let mut path = path;
-    path.push(Step::Node(node))?;
-    Ok(path)
-}
-
-fn path_of(alloc: Global, node: u32) -> Result<Path, Fail> {
-    push(push(Path::root(alloc), 0)?, node)
-}
-
-fn text_cell(alloc: Global, text: &str) -> Result<Cell, Fail> {
-    let atom = Atom::Text(Str::new(alloc, text)?);
-    Ok(Cell::Leaf(Value { member: 0, atom }))
-}
-
-fn row_of(path: Path, alloc: Global, text: &str) -> Result<Row, Fail> {
-    let cell = text_cell(alloc, text)?;
-    Ok(Row { path, cell })
-}
-
-fn leaf(alloc: Global, node: u32, text: &str) -> Result<Row, Fail> {
-    row_of(path_of(alloc, node)?, alloc, text)
-}
-
-fn one(alloc: Global) -> Result<Rows, Fail> {
-    Ok(Rows::of_one(alloc, leaf(alloc, 1, "x")?)?)
-}
 
 // ---- rows out of order
 
 // The place of the first row that is out of order, or 99.
-fn fault_of(rows: Vec<Row>) -> usize {
-    match Rows::from_list(rows) {
-        Ok(_) => 99,
-        Err(fault) => fault.index,
+fn fault_in(alloc: Global, text: &str) -> Result<usize, Fail> {
+    match Rows::from_list(list_of(alloc, text)?) {
+        Ok(_) => Ok(99),
+        Err(fault) => Ok(fault.index),
     }
 }
 
-fn with(rows: Vec<Row>, row: Row) -> Result<Vec<Row>, NoMemory> {
-    let mut rows = rows;
-    rows.push(row)?;
-    Ok(rows)
-}
-
-fn fault_with(alloc: Global, node: u32) -> Result<usize, Fail> {
-    let rows = vec![in alloc; leaf(alloc, 1, "x")?]?;
-    Ok(fault_of(with(rows, leaf(alloc, node, "y")?)?))
+// Of two rows with one path, and of two in order.
+fn faults(alloc: Global) -> Result<(usize, usize), Fail> {
+    let equal = fault_in(alloc, "0/1='x 0/1='y")?;
+    Ok((equal, fault_in(alloc, "0/1='x 0/2='y")?))
 }
 
 #[test]
 fn equal_rows_are_out_of_order(rt: HostRuntime) -> Result<(), Fail> {
-    assert_eq!(rt; fault_with(rt.alloc(), 1)?, 1);
-    assert_eq!(rt; fault_with(rt.alloc(), 2)?, 99);
+    assert_eq!(rt; faults(rt.alloc())?, (1, 99));
     Ok(())
 }
 
 // ---- operations
 
-fn put_at(alloc: Global, path: Path) -> Result<Op, Fail> {
-    let act = Act::Put(one(alloc)?);
+fn put(alloc: Global) -> Result<Op, Fail> {
+    let act = Act::Put(rows_of(alloc, "0/1='x")?);
+    let path = path_of(alloc, "0/1")?;
     let store = Store::Config;
     Ok(Op { store, path, act })
 }
@@ -76,55 +44,46 @@ fn twice(alloc: Global, op: Op) -> Result<Vec<Op>, Fail> {
 
 fn rows_after(alloc: Global, ops: &[Op], store: Store) -> Result<usize, Fail> {
     let start = Rows::new(alloc);
-    let tree = apply(alloc, &start, store, ops)?;
-    Ok(tree.items().len())
+    Ok(apply(alloc, &start, store, ops)?.items().len())
 }
 
 fn counts(alloc: Global, ops: &[Op]) -> Result<(usize, usize), Fail> {
     let config = rows_after(alloc, ops, Store::Config)?;
-    let oper = rows_after(alloc, ops, Store::Oper)?;
-    Ok((config, oper))
+    Ok((config, rows_after(alloc, ops, Store::Oper)?))
 }
 
 fn put_counts(alloc: Global) -> Result<(usize, usize), Fail> {
-    let put = put_at(alloc, path_of(alloc, 1)?)?;
-    counts(alloc, twice(alloc, put)?.as_slice())
+    let ops = twice(alloc, put(alloc)?)?;
+    counts(alloc, ops.as_slice())
 }
 
 #[test]
 fn a_put_is_seen_in_its_store(rt: HostRuntime) -> Result<(), Fail> {
-    let (config, oper) = put_counts(rt.alloc())?;
-    assert_eq!(rt; config, 1);
-    assert_eq!(rt; oper, 0);
+    assert_eq!(rt; put_counts(rt.alloc())?, (1, 0));
     Ok(())
 }
 
 // ---- parts and copies
 
-fn copied(tree: &Rows) -> Result<usize, NoMemory> {
-    Ok(tree.copy()?.items().len())
-}
-
-fn below(tree: &Rows, alloc: Global, node: u32) -> Result<usize, Fail> {
-    let path = path_of(alloc, node)?;
+fn below(tree: &Rows, alloc: Global, path: &str) -> Result<usize, Fail> {
+    let path = path_of(alloc, path)?;
     Ok(tree.under(&path)?.items().len())
 }
 
+// How many rows a copy has, and how many lie below a leaf and beside it.
 fn parts(alloc: Global, tree: &Rows) -> Result<(usize, usize, usize), Fail> {
-    Ok((
-        copied(tree)?,
-        below(tree, alloc, 1)?,
-        below(tree, alloc, 2)?,
-    ))
+    let all = tree.copy()?.items().len();
+    let own = below(tree, alloc, "0/1")?;
+    Ok((all, own, below(tree, alloc, "0/2")?))
 }
 
 fn tree_parts(alloc: Global) -> Result<(usize, usize, usize), Fail> {
-    let tree = one(alloc)?;
+    let tree = rows_of(alloc, "0/1='x")?;
     parts(alloc, &tree)
 }
 
 fn merged(alloc: Global) -> Result<usize, Fail> {
-    let merge = Act::Merge(one(alloc)?);
+    let merge = Act::Merge(rows_of(alloc, "0/1='x")?);
     Ok(merge.copy()?.rows().len())
 }
 
@@ -132,25 +91,19 @@ fn is_copied(outcome: &Outcome) -> Result<bool, NoMemory> {
     Ok(outcome.copy()? == *outcome)
 }
 
-fn conflict(alloc: Global) -> Result<Outcome, Fail> {
-    let path = path_of(alloc, 1)?;
-    Ok(Outcome::Conflict {
+fn is_conflict_copied(alloc: Global) -> Result<bool, Fail> {
+    let path = path_of(alloc, "0/1")?;
+    Ok(is_copied(&Outcome::Conflict {
         store: Store::Oper,
         path,
         kind: ClashKind::Deleted,
         commit: 3,
-    })
-}
-
-fn is_conflict_copied(alloc: Global) -> Result<bool, Fail> {
-    let outcome = conflict(alloc)?;
-    Ok(is_copied(&outcome)?)
+    })?)
 }
 
 #[test]
 fn parts_and_copies_are_made(rt: HostRuntime) -> Result<(), Fail> {
-    let (copy, own, beside) = tree_parts(rt.alloc())?;
-    assert!(rt; copy == 1 && own == 1 && beside == 0);
+    assert_eq!(rt; tree_parts(rt.alloc())?, (1, 1, 0));
     assert_eq!(rt; merged(rt.alloc())?, 1);
     assert!(rt; is_copied(&Outcome::Done { commit: 3 })?);
     assert!(rt; is_conflict_copied(rt.alloc())?);

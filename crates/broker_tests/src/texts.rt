@@ -1,5 +1,5 @@
 use sal_rows::Rows;
-use sal_types::{Atom, Cell, Path, Row, Seq, Step, Value};
+use sal_types::{Atom, Cell, Path, Row, Seq, Step, Str, Value};
 use std::alloc::Global;
 use std::test::Fail;
 
@@ -46,17 +46,28 @@ fn marked(path: Path) -> Row {
     Row { path, cell }
 }
 
-fn holding(path: Path, value: u64) -> Row {
-    let cell = Cell::Leaf(number(value));
+fn holding(path: Path, value: Value) -> Row {
+    let cell = Cell::Leaf(value);
     Row { path, cell }
+}
+
+// A number `7`, or a text `'seven`.
+fn value(alloc: Global, text: &str) -> Result<Value, Fail> {
+    match text.strip_prefix('\'') {
+        None => Ok(number(text.parse::<u64>()?)),
+        Some(text) => {
+            let atom = Atom::Text(Str::new(alloc, text)?);
+            Ok(Value { member: 0, atom })
+        }
+    }
 }
 
 // A path, and the value behind `=` where there is one.
 fn row(alloc: Global, text: &str) -> Result<Row, Fail> {
     match text.split_once('=') {
         None => Ok(marked(path_of(alloc, text)?)),
-        Some((path, value)) => {
-            let value = value.parse::<u64>()?;
+        Some((path, text)) => {
+            let value = value(alloc, text)?;
             Ok(holding(path_of(alloc, path)?, value))
         }
     }
@@ -69,7 +80,8 @@ fn add(list: &mut Vec<Row>, alloc: Global, word: &str) -> Result<(), Fail> {
     Ok(())
 }
 
-fn list_of(alloc: Global, text: &str) -> Result<Vec<Row>, Fail> {
+/// The rows of a text with blanks between them, as a list.
+pub(crate) fn list_of(alloc: Global, text: &str) -> Result<Vec<Row>, Fail> {
     let mut list = Vec::new(alloc);
     for word in text.split(' ') {
         add(&mut list, alloc, word)?;
@@ -77,7 +89,7 @@ fn list_of(alloc: Global, text: &str) -> Result<Vec<Row>, Fail> {
     Ok(list)
 }
 
-/// The rows of a text with blanks between them.
+/// The same as rows in order.
 pub(crate) fn rows_of(alloc: Global, text: &str) -> Result<Rows, Fail> {
     Ok(Rows::from_list(list_of(alloc, text)?)?)
 }

@@ -1,71 +1,34 @@
+use crate::texts::{path_of, rows_of};
 use sal_node::Paging;
 use sal_rows::{Act, Op, Rows, apply};
 use sal_tree::{Pair, Root, is_alike, lie_under};
-use sal_types::{Atom, Cell, Duplicate, Path, Row, Seq, Step, Store, Value};
+use sal_types::{Duplicate, Path, Store};
 use std::alloc::Global;
 use std::sync::Arc;
 use std::test::Fail;
 
 // ---- a list, node 0, whose entries have a key, node 1, and a value, node 2
 
-fn number(value: u64) -> Value {
-    Value {
-        member: 0,
-        atom: Atom::Unsigned(value),
-    }
-}
-
-fn push(path: Path, step: Step) -> Result<Path, Fail> {
-    let mut path = path;
-    path.push(step)?;
-    Ok(path)
-}
-
-fn list(alloc: Global) -> Result<Path, Fail> {
-    push(Path::root(alloc), Step::Node(0))
-}
-
-fn entry(alloc: Global, key: u64) -> Result<Path, Fail> {
-    let keys = Seq::from_items(vec![in alloc; number(key)]?);
-    push(list(alloc)?, Step::Key(keys))
-}
-
-fn mark(alloc: Global, key: u64) -> Result<Row, Fail> {
-    let path = entry(alloc, key)?;
-    let cell = Cell::Mark;
-    Ok(Row { path, cell })
-}
-
-fn leaf(alloc: Global, key: u64, node: u32, value: u64) -> Result<Row, Fail> {
-    let path = push(entry(alloc, key)?, Step::Node(node))?;
-    let cell = Cell::Leaf(number(value));
-    Ok(Row { path, cell })
-}
-
-fn fill(list: &mut Vec<Row>, alloc: Global, key: u64) -> Result<(), Fail> {
-    list.push(mark(alloc, key)?)?;
-    list.push(leaf(alloc, key, 1, key)?)?;
-    list.push(leaf(alloc, key, 2, 0)?)?;
-    Ok(())
-}
-
-fn entry_rows(alloc: Global, key: u64) -> Result<Rows, Fail> {
-    let mut list = Vec::new(alloc);
-    fill(&mut list, alloc, key)?;
-    Ok(Rows::from_list(list)?)
-}
-
-fn value_rows(alloc: Global, key: u64) -> Result<Rows, Fail> {
-    Ok(Rows::of_one(alloc, leaf(alloc, key, 2, 1)?)?)
-}
-
-// ---- operations
-
 #[derive(Clone, Copy)]
 enum Kind {
     Put,
     Merge,
     Delete,
+}
+
+fn entry_rows(alloc: Global, key: u64) -> Result<Rows, Fail> {
+    let text = format!(in alloc; "0/#{key} 0/#{key}/1={key} 0/#{key}/2=0")?;
+    rows_of(alloc, text.as_str())
+}
+
+fn value_rows(alloc: Global, key: u64) -> Result<Rows, Fail> {
+    let text = format!(in alloc; "0/#{key}/2=1")?;
+    rows_of(alloc, text.as_str())
+}
+
+fn entry(alloc: Global, key: u64) -> Result<Path, Fail> {
+    let text = format!(in alloc; "0/#{key}")?;
+    path_of(alloc, text.as_str())
 }
 
 fn act_of(alloc: Global, kind: Kind, key: u64) -> Result<Act, Fail> {
@@ -98,13 +61,9 @@ fn rows_after(alloc: Global, rows: &Rows, op: Op) -> Result<Rows, Fail> {
     Ok(apply(alloc, rows, Store::Config, ops.as_slice())?)
 }
 
-fn rows_of(alloc: Global, root: &Root) -> Result<Rows, Fail> {
-    let path = Path::root(alloc);
-    Ok(root.rows(alloc, &path)?)
-}
-
 fn is_same(alloc: Global, root: &Root, rows: &Rows) -> Result<bool, Fail> {
-    Ok(rows_of(alloc, root)?.items() == rows.items())
+    let path = Path::root(alloc);
+    Ok(root.rows(alloc, &path)?.items() == rows.items())
 }
 
 // A tree, and the rows that `apply` computes.
@@ -147,11 +106,16 @@ fn all_agree(both: &mut Both, alloc: Global) -> Result<bool, Fail> {
     Ok(true)
 }
 
+// Whether they agree all along, and how many rows are left.
+fn five_hundred(alloc: Global) -> Result<(bool, usize), Fail> {
+    let mut both = nothing(alloc)?;
+    let all_agree = all_agree(&mut both, alloc)?;
+    Ok((all_agree, both.rows.items().len()))
+}
+
 #[test]
 fn five_hundred_operations(rt: HostRuntime) -> Result<(), Fail> {
-    let mut both = nothing(rt.alloc())?;
-    assert!(rt; all_agree(&mut both, rt.alloc())?);
-    assert_eq!(rt; both.rows.items().len(), 600);
+    assert_eq!(rt; five_hundred(rt.alloc())?, (true, 600));
     Ok(())
 }
 
@@ -203,13 +167,25 @@ fn made_again(alloc: Global, root: &Root, list: &Path) -> Result<(bool, bool), F
     ))
 }
 
+// Its pages, whether a copy shares the list, and whether the tree made again does, and has its rows.
+fn seen(alloc: Global, root: &Root, list: &Path) -> Result<(usize, bool, (bool, bool)), Fail> {
+    let is_shared = is_shared(alloc, root, list)?;
+    Ok((pages(root, list), is_shared, made_again(alloc, root, list)?))
+}
+
+fn seen_at(alloc: Global, root: &Root, list: &str) -> Result<(usize, bool, (bool, bool)), Fail> {
+    let list = path_of(alloc, list)?;
+    seen(alloc, root, &list)
+}
+
+fn seen_in_order(alloc: Global) -> Result<(usize, bool, (bool, bool)), Fail> {
+    let root = put_in_order(alloc)?;
+    seen_at(alloc, &root, "0")
+}
+
 // Entries put in ascending order leave full pages.
 #[test]
 fn trees_are_made_again_of_their_rows(rt: HostRuntime) -> Result<(), Fail> {
-    let root = put_in_order(rt.alloc())?;
-    let list = list(rt.alloc())?;
-    assert_eq!(rt; pages(&root, &list), 4);
-    assert!(rt; is_shared(rt.alloc(), &root, &list)?);
-    assert_eq!(rt; made_again(rt.alloc(), &root, &list)?, (false, true));
+    assert_eq!(rt; seen_in_order(rt.alloc())?, (4, true, (false, true)));
     Ok(())
 }

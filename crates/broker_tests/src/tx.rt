@@ -68,15 +68,14 @@ fn writer(alloc: Global, reads: bool) -> Result<WriteTx, Fail> {
 
 // ---- writes
 
-// Paths, the rows that are put there, the answer with its path, and how many operations the transaction has then.
-const PUTS: [(&str, &str, (&str, &str), usize); 6] = [
-    ("5/6", "", ("not-config", "5/6"), 0),
-    ("0/1", "", ("parent-missing", "0"), 0),
-    ("", "", ("root-path", ""), 0),
-    ("0", "0", ("done", ""), 1),
-    ("0/2/#1", "0/2/#1 0/2/#1/3=1", ("done", ""), 2),
-    ("0/2/#1/3", "", ("key-leaf", "0/2/#1/3"), 2),
-];
+// Paths, behind `+` the rows that are put there, behind `>` the word of the answer and its path, if it has one, and behind `=`
+// how many operations the transaction has then.
+const PUTS: &str = "5/6 + > not-config 5/6 = 0
+0/1 + > parent-missing 0 = 0
+/ + > root-path - = 0
+0 + 0 > done - = 1
+0/2/#1 + 0/2/#1 0/2/#1/3=1 > done - = 2
+0/2/#1/3 + > key-leaf 0/2/#1/3 = 2";
 
 fn is_for_schema(schema: &Schema, path: &Path, rows: &Rows) -> bool
     ensures { IsTrue result → IsForSchema schema.now (record { store = Config; path = path.now; act = Put rows.now }) }
@@ -109,39 +108,51 @@ fn parts(answer: &Result<(), TxFault>) -> (&'static str, Option<&Path>) {
     }
 }
 
-fn is_wanted(
-    alloc: Global,
-    answer: &Result<(), TxFault>,
-    wanted: (&str, &str),
-) -> Result<bool, Fail> {
-    let (word, path) = parts(answer);
-    let wanted_path = path_of(alloc, wanted.1)?;
-    let is_path = match path {
-        None => wanted.1.is_empty(),
-        Some(path) => *path == wanted_path,
-    };
-    Ok(word == wanted.0 && is_path)
+fn is_at(alloc: Global, path: Option<&Path>, wanted: &str) -> Result<bool, Fail> {
+    match path {
+        None => Ok(wanted == "-"),
+        Some(path) => Ok(*path == path_of(alloc, wanted)?),
+    }
 }
 
-fn answer(
-    tx: &mut WriteTx,
-    alloc: Global,
-    path: &str,
-    rows: &str,
-) -> Result<Result<(), TxFault>, Fail> {
+fn is_wanted(alloc: Global, answer: &Result<(), TxFault>, wanted: &str) -> Result<bool, Fail> {
+    let (word, path) = parts(answer);
+    match wanted.split_once(' ') {
+        Some((first, at)) if first == word => is_at(alloc, path, at),
+        _ => Ok(false),
+    }
+}
+
+fn answer(tx: &mut WriteTx, alloc: Global, text: &str) -> Result<Result<(), TxFault>, Fail> {
+    let (path, rows) = text.split_once(" + ").ok_or("no rows to put")?;
     let path = path_of(alloc, path)?;
     put(tx, alloc, path, rows_of(alloc, rows)?)
 }
 
-// Whether each of the puts is answered as is wanted.
-fn are_right(tx: &mut WriteTx, alloc: Global) -> Result<bool, Fail> {
-    for (path, rows, wanted, ops) in PUTS {
-        let answer = answer(tx, alloc, path, rows)?;
-        if !is_wanted(alloc, &answer, wanted)? || tx.ops().len() != ops {
-            return Ok(false);
+fn is_answered(tx: &mut WriteTx, alloc: Global, line: &str) -> Result<bool, Fail> {
+    let Some((text, wanted)) = line.split_once("> ") else {
+        return Ok(false);
+    };
+    let answer = answer(tx, alloc, text)?;
+    is_wanted(alloc, &answer, wanted)
+}
+
+fn is_put(tx: &mut WriteTx, alloc: Global, line: &str) -> Result<bool, Fail> {
+    let Some((line, ops)) = line.split_once(" = ") else {
+        return Ok(false);
+    };
+    let is_answered = is_answered(tx, alloc, line)?;
+    Ok(is_answered && ops.parse::<usize>() == Ok(tx.ops().len()))
+}
+
+// The first put that is not answered as is wanted, or an empty text.
+fn wrong_put(tx: &mut WriteTx, alloc: Global) -> Result<&'static str, Fail> {
+    for line in PUTS.lines() {
+        if !is_put(tx, alloc, line)? {
+            return Ok(line);
         }
     }
-    Ok(true)
+    Ok("")
 }
 
 fn is_write_only(alloc: Global, tx: &WriteTx) -> bool {
@@ -155,12 +166,17 @@ fn count(alloc: Global, tx: WriteTx) -> Result<usize, Fail> {
     Ok(rows.items().len())
 }
 
+// Whether the transaction may not read, the first wrong put, and the rows in its view.
+fn written(alloc: Global) -> Result<(bool, &'static str, usize), Fail> {
+    let mut tx = writer(alloc, false)?;
+    let is_write_only = is_write_only(alloc, &tx);
+    let wrong = wrong_put(&mut tx, alloc)?;
+    Ok((is_write_only, wrong, count(alloc, tx)?))
+}
+
 #[test]
 fn writes_over_the_module_shop(rt: HostRuntime) -> Result<(), Fail> {
-    let mut tx = writer(rt.alloc(), false)?;
-    assert!(rt; is_write_only(rt.alloc(), &tx));
-    assert!(rt; are_right(&mut tx, rt.alloc())?);
-    assert_eq!(rt; count(rt.alloc(), tx)?, 3);
+    assert_eq!(rt; written(rt.alloc())?, (true, "", 3));
     Ok(())
 }
 
@@ -171,11 +187,20 @@ fn read(alloc: Global, tx: &WriteTx, store: Store) -> Result<usize, Fail> {
     Ok(tx.read(alloc, store, &path)?.items().len())
 }
 
+// The first wrong put, and how many rows are read then in each store.
+fn put_and_read(tx: &mut WriteTx, alloc: Global) -> Result<(&'static str, usize, usize), Fail> {
+    let wrong = wrong_put(tx, alloc)?;
+    let config = read(alloc, tx, Store::Config)?;
+    Ok((wrong, config, read(alloc, tx, Store::Oper)?))
+}
+
+fn own_writes(alloc: Global) -> Result<(&'static str, usize, usize), Fail> {
+    let mut tx = writer(alloc, true)?;
+    put_and_read(&mut tx, alloc)
+}
+
 #[test]
 fn own_writes_are_read(rt: HostRuntime) -> Result<(), Fail> {
-    let mut tx = writer(rt.alloc(), true)?;
-    assert!(rt; are_right(&mut tx, rt.alloc())?);
-    assert_eq!(rt; read(rt.alloc(), &tx, Store::Config)?, 2);
-    assert_eq!(rt; read(rt.alloc(), &tx, Store::Oper)?, 0);
+    assert_eq!(rt; own_writes(rt.alloc())?, ("", 2, 0));
     Ok(())
 }

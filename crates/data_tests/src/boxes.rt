@@ -1,128 +1,117 @@
-use crate::tables::{Given, Info, PLAIN};
-use sal_schema::Kind;
+use crate::tables::Given;
+use crate::words::{letter, split};
 use sal_types::{Atom, Cell, Path, Seq, Step, Str, Value};
 use std::alloc::Global;
 use std::test::Fail;
 
 /// A box with a leaf of each type and nodes of each kind, an RPC with its input and output, and a notification.
 pub(crate) const BOXES: Given = Given {
-    modules: &["inv", "geo", "net"],
+    modules: "inv geo net",
     nodes: NODES,
     nested: 0,
     messages: MESSAGES,
 };
 
-const NODES: &[Info] = &[
-    Info(None, PLAIN, 0, "box", None, &[]),
-    Info(Some(0), Kind::Leaf, 0, "i8", Some(0), &[]),
-    Info(Some(0), Kind::Leaf, 0, "i16", Some(1), &[]),
-    Info(Some(0), Kind::Leaf, 0, "i32", Some(2), &[]),
-    Info(Some(0), Kind::Leaf, 0, "i64", Some(3), &[]),
-    Info(Some(0), Kind::Leaf, 0, "u8", Some(4), &[]),
-    Info(Some(0), Kind::Leaf, 0, "u16", Some(5), &[]),
-    Info(Some(0), Kind::Leaf, 0, "u32", Some(6), &[]),
-    Info(Some(0), Kind::Leaf, 0, "u64", Some(7), &[]),
-    Info(Some(0), Kind::Leaf, 0, "dec", Some(8), &[]),
-    Info(Some(0), Kind::Leaf, 0, "text", Some(9), &[]),
-    Info(Some(0), Kind::Leaf, 0, "flag", Some(10), &[]),
-    Info(Some(0), Kind::Leaf, 0, "state", Some(11), &[]),
-    Info(Some(0), Kind::Leaf, 0, "mask", Some(12), &[]),
-    Info(Some(0), Kind::Leaf, 0, "bytes", Some(13), &[]),
-    Info(Some(0), Kind::Leaf, 0, "kind", Some(14), &[]),
-    Info(Some(0), Kind::Leaf, 0, "none", Some(15), &[]),
-    Info(Some(0), Kind::Leaf, 0, "first", Some(16), &[]),
-    Info(Some(0), Kind::Leaf, 0, "second", Some(17), &[]),
-    Info(Some(0), PRESENCE, 0, "lamp", None, &[]),
-    Info(Some(0), Kind::List, 0, "slot", None, &[21, 22]),
-    Info(Some(20), Kind::Leaf, 0, "id", Some(4), &[]),
-    Info(Some(20), Kind::Leaf, 0, "side", Some(9), &[]),
-    Info(Some(20), Kind::Leaf, 1, "site", Some(9), &[]),
-    Info(Some(0), Kind::LeafList, 0, "tag", Some(9), &[]),
-    Info(Some(0), PLAIN, 1, "area", None, &[]),
-    Info(Some(25), Kind::Leaf, 1, "name", Some(9), &[]),
-    Info(Some(25), Kind::Leaf, 2, "owner", Some(9), &[]),
-    Info(Some(0), Kind::Choice, 0, "how", None, &[]),
-    Info(Some(28), Kind::Case, 0, "wire", None, &[]),
-    Info(Some(29), Kind::Leaf, 0, "pair", Some(4), &[]),
-];
+const NODES: &str = "- container 0 box -
+0 leaf 0 i8 0
+0 leaf 0 i16 1
+0 leaf 0 i32 2
+0 leaf 0 i64 3
+0 leaf 0 u8 4
+0 leaf 0 u16 5
+0 leaf 0 u32 6
+0 leaf 0 u64 7
+0 leaf 0 dec 8
+0 leaf 0 text 9
+0 leaf 0 flag 10
+0 leaf 0 state 11
+0 leaf 0 mask 12
+0 leaf 0 bytes 13
+0 leaf 0 kind 14
+0 leaf 0 none 15
+0 leaf 0 first 16
+0 leaf 0 second 17
+0 presence 0 lamp -
+0 list 0 slot - 21 22
+20 leaf 0 id 4
+20 leaf 0 side 9
+20 leaf 1 site 9
+0 leaf-list 0 tag 9
+0 container 1 area -
+25 leaf 1 name 9
+25 leaf 2 owner 9
+0 choice 0 how -
+28 case 0 wire -
+29 leaf 0 pair 4";
 
-const MESSAGES: &[Info] = &[
-    Info(None, Kind::Rpc, 0, "go", None, &[]),
-    Info(Some(31), Kind::Input, 0, "input", None, &[]),
-    Info(Some(32), Kind::Leaf, 0, "speed", Some(4), &[]),
-    Info(Some(31), Kind::Output, 0, "output", None, &[]),
-    Info(Some(34), Kind::Leaf, 1, "time", Some(4), &[]),
-    Info(None, Kind::Notification, 0, "told", None, &[]),
-    Info(Some(36), Kind::Leaf, 0, "why", Some(9), &[]),
-];
-
-const PRESENCE: Kind = Kind::Container { presence: true };
-
-/// A step of a path: to a node, to the slot with this `id` on the side `l`, or to a tag.
-#[derive(Drop)]
-pub(crate) enum Hop {
-    To(u32),
-    Slot(u64),
-    Tag(&'static str),
-}
-
-/// What a row holds. `Member` is of the second type of a union.
-#[derive(Drop)]
-pub(crate) enum Held {
-    Mark,
-    Signed(i64),
-    Unsigned(u64),
-    Member(u64),
-    Dec(i64),
-    Text(&'static str),
-    Flag(bool),
-    Enum(u32),
-    Bits(u64),
-    Bytes(&'static [u8]),
-    Ident(u32),
-    Nothing,
-}
+const MESSAGES: &str = "- rpc 0 go -
+31 input 0 input -
+32 leaf 0 speed 4
+31 output 0 output -
+34 leaf 1 time 4
+- notification 0 told -
+36 leaf 0 why 9";
 
 fn text(alloc: Global, text: &str) -> Result<Atom, Fail> {
     Ok(Atom::Text(Str::new(alloc, text)?))
 }
 
-fn bytes(alloc: Global, bytes: &[u8]) -> Result<Atom, Fail> {
-    Ok(Atom::Bin(Seq::from_items(Vec::from_slice(alloc, bytes)?)))
+fn add_bytes(list: &mut Vec<u8>, text: &str) -> Result<(), Fail> {
+    for word in text.split(',') {
+        list.push(word.parse::<u8>()?)?;
+    }
+    Ok(())
 }
 
-fn atom(alloc: Global, held: &Held) -> Result<Atom, Fail> {
-    match held {
-        Held::Mark | Held::Nothing => Ok(Atom::Empty),
-        Held::Signed(number) => Ok(Atom::Signed(*number)),
-        Held::Unsigned(number) | Held::Member(number) => Ok(Atom::Unsigned(*number)),
-        Held::Dec(units) => Ok(Atom::Dec {
-            units: *units,
-            digits: 18,
-        }),
-        Held::Text(it) => text(alloc, it),
-        Held::Flag(is_true) => Ok(Atom::Bool(*is_true)),
-        Held::Enum(place) => Ok(Atom::Enum(*place)),
-        Held::Bits(set) => Ok(Atom::Bits(*set)),
-        Held::Bytes(it) => bytes(alloc, it),
-        Held::Ident(identity) => Ok(Atom::Ident(*identity)),
+fn bytes(alloc: Global, text: &str) -> Result<Atom, Fail> {
+    let mut list = Vec::new(alloc);
+    add_bytes(&mut list, text)?;
+    Ok(Atom::Bin(Seq::from_items(list)))
+}
+
+fn dec(units: i64) -> Atom {
+    Atom::Dec { units, digits: 18 }
+}
+
+// A letter, and the text of the atom: a signed or an unsigned number, units of a decimal, a text, `true` or another word, the
+// number of an enumeration, of bits or of an identity, bytes, or nothing.
+fn atom(alloc: Global, letter: char, held: &str) -> Result<Atom, Fail> {
+    match letter {
+        's' => Ok(Atom::Signed(held.parse::<i64>()?)),
+        'u' | 'v' => Ok(Atom::Unsigned(held.parse::<u64>()?)),
+        'd' => Ok(dec(held.parse::<i64>()?)),
+        't' => text(alloc, held),
+        'b' => Ok(Atom::Bool(held == "true")),
+        'e' => Ok(Atom::Enum(held.parse::<u32>()?)),
+        'm' => Ok(Atom::Bits(held.parse::<u64>()?)),
+        'x' => bytes(alloc, held),
+        'i' => Ok(Atom::Ident(held.parse::<u32>()?)),
+        _ => Ok(Atom::Empty),
     }
 }
 
-fn value(alloc: Global, held: &Held) -> Result<Value, Fail> {
-    let atom = atom(alloc, held)?;
-    let member = match held {
-        Held::Member(_) => 1,
-        _ => 0,
-    };
+// Under `v` the value is one of the second type of a union.
+fn value(alloc: Global, held: &str) -> Result<Value, Fail> {
+    let (word, text) = split(held);
+    let atom = atom(alloc, letter(word), text)?;
+    let member = if word == "v" { 1 } else { 0 };
     Ok(Value { member, atom })
 }
 
-pub(crate) fn cell(alloc: Global, held: &Held) -> Result<Cell, Fail> {
-    match held {
-        Held::Mark => Ok(Cell::Mark),
-        _ => Ok(Cell::Leaf(value(alloc, held)?)),
+/// The cell of a star, or of a letter and the text of its value.
+pub(crate) fn cell(alloc: Global, held: &str) -> Result<Cell, Fail> {
+    if held == "*" {
+        return Ok(Cell::Mark);
     }
+    Ok(Cell::Leaf(value(alloc, held)?))
+}
+
+fn value_of(atom: Atom) -> Value {
+    Value { member: 0, atom }
+}
+
+fn item(alloc: Global, name: &str) -> Result<Value, Fail> {
+    Ok(value_of(text(alloc, name)?))
 }
 
 fn with_side(keys: Vec<Value>, side: Value) -> Result<Seq<Value>, Fail> {
@@ -132,27 +121,33 @@ fn with_side(keys: Vec<Value>, side: Value) -> Result<Seq<Value>, Fail> {
 }
 
 fn keys(alloc: Global, id: u64) -> Result<Seq<Value>, Fail> {
-    let keys = vec![in alloc; value(alloc, &Held::Unsigned(id))?]?;
-    with_side(keys, value(alloc, &Held::Text("l"))?)
+    let keys = vec![in alloc; value_of(Atom::Unsigned(id))]?;
+    with_side(keys, item(alloc, "l")?)
 }
 
-fn step(alloc: Global, hop: &Hop) -> Result<Step, Fail> {
-    match hop {
-        Hop::To(node) => Ok(Step::Node(*node)),
-        Hop::Slot(id) => Ok(Step::Key(keys(alloc, *id)?)),
-        Hop::Tag(text) => Ok(Step::Item(value(alloc, &Held::Text(text))?)),
+// To a node `7`, to the slot with the `id` 1 on the side `l` as `#1`, or to the tag `a` as `.a`.
+fn step(alloc: Global, word: &str) -> Result<Step, Fail> {
+    if let Some(id) = word.strip_prefix('#') {
+        return Ok(Step::Key(keys(alloc, id.parse::<u64>()?)?));
+    }
+    match word.strip_prefix('.') {
+        Some(name) => Ok(Step::Item(item(alloc, name)?)),
+        None => Ok(Step::Node(word.parse::<u32>()?)),
     }
 }
 
-fn go(path: &mut Path, alloc: Global, hop: &Hop) -> Result<(), Fail> {
-    path.push(step(alloc, hop)?)?;
+fn go(path: &mut Path, alloc: Global, word: &str) -> Result<(), Fail> {
+    if !word.is_empty() {
+        path.push(step(alloc, word)?)?;
+    }
     Ok(())
 }
 
-pub(crate) fn path_of(alloc: Global, hops: &[Hop]) -> Result<Path, Fail> {
+/// The path of steps with `/` between them. No step is the root.
+pub(crate) fn path_of(alloc: Global, text: &str) -> Result<Path, Fail> {
     let mut path = Path::root(alloc);
-    for hop in hops {
-        go(&mut path, alloc, hop)?;
+    for word in text.split('/') {
+        go(&mut path, alloc, word)?;
     }
     Ok(path)
 }

@@ -17,3 +17,5 @@ mod report;
 mod script;
 #[cfg(test)]
 mod tables;
+#[cfg(test)]
+mod words;

@@ -1,4 +1,5 @@
-use crate::tables::{Given, Info, PLAIN, schema};
+use crate::tables::{Given, schema};
+use crate::words::{letter, split};
 use sal_data::DataFault;
 use sal_history::{Call, Entry, Reply};
 use sal_json::ScalarFault;
@@ -8,7 +9,7 @@ use sal_report::{
 };
 use sal_rows::{Breach, CallFault, ClashKind, Mode, Outcome, Rows, Rule};
 use sal_rules::TxFault;
-use sal_schema::{Kind, Schema};
+use sal_schema::Schema;
 use sal_script::{StepRefusal, StepReply};
 use sal_types::{Atom, Cell, Path, Row, Seq, Step, Store, Str, Value};
 use std::alloc::Global;
@@ -17,210 +18,67 @@ use std::test::Fail;
 
 // A container with a leaf-list.
 const NET: Given = Given {
-    modules: &["topo", "geo"],
-    nodes: &[
-        Info(None, PLAIN, 0, "net", None, &[]),
-        Info(Some(0), Kind::LeafList, 0, "tag", Some(9), &[]),
-    ],
+    modules: "topo geo",
+    nodes: "- container 0 net -
+0 leaf-list 0 tag 9",
     nested: 0,
-    messages: &[],
+    messages: "",
 };
 
-#[derive(Drop)]
-enum At {
-    Root,
-    Net,
-    Tag,
-}
-
-// Faults of data, at the container.
-#[derive(Drop)]
-enum Flaw {
-    UnknownMember,
-    NeedsModule,
-    WrongShape,
-    MissingKey,
-    KeyDiffers,
-    DoubleEntry,
-    TooDeep,
-    NoMemory,
-}
-
-// Faults of writes, at the container.
-#[derive(Drop)]
-enum Unwritten {
-    WriteOnly,
-    NotConfig,
-    KeyLeaf,
-    ParentMissing,
-    RootPath,
-    NoMemory,
-}
-
-// A reply. `Read` says whether there are rows.
-#[derive(Drop)]
-enum Told {
-    Begun(u64, Option<u64>),
-    Receipt(u64),
-    Done(u64),
-    Conflict(Store, At, ClashKind, u64),
-    Invalid(Store, Rule),
-    Call(CallFault),
-    Cancelled,
-    Accepted,
-    Read(At, bool),
-    Exists(bool),
-    EmptySlot,
-    ReadOnly,
-    BadPath(PathTextFault),
-    BadData(Flaw),
-    BadScalar(ScalarFault),
-    BadWrite(Unwritten),
-}
-
-use At::*;
-use ClashKind::*;
-use Store::*;
-use Told::*;
-
-// What is told, and how.
-const REPLIES: &[(Told, &str)] = &[
-    (Begun(7, None), "begun 7"),
-    (Begun(0, Some(12)), "begun 0 on 12"),
-    (Receipt(3), "receipt 3"),
-    (Done(18446744073709551615), "done 18446744073709551615"),
-    (
-        Conflict(Config, Tag, Changed, 4),
-        "conflict config \"/topo:net/tag[.='a\\\"']\" changed 4",
-    ),
-    (
-        Conflict(Config, Net, Created, 5),
-        "conflict config \"/topo:net\" created 5",
-    ),
-    (
-        Conflict(Oper, Root, Deleted, 6),
-        "conflict operational \"/\" deleted 6",
-    ),
-    (Call(CallFault::NoDomain { id: 9 }), "refused no-domain 9"),
-    (Accepted, "ok"),
-    (Read(Net, false), "absent"),
-    (Read(Root, false), "data {}"),
-    (
-        Read(Root, true),
-        "data {\"topo:net\":{\"tag\":[\"a\\\"\"]}}",
-    ),
-    (Exists(true), "true"),
-    (Exists(false), "false"),
-    (EmptySlot, "refused empty-slot"),
-    (ReadOnly, "refused read-only"),
-    (
-        BadPath(PathTextFault::BadText { at: 1 }),
-        "refused path bad-text 1",
-    ),
-    (
-        BadPath(PathTextFault::UnknownNode { at: 2 }),
-        "refused path unknown-node 2",
-    ),
-    (
-        BadPath(PathTextFault::BadPredicate { at: 3 }),
-        "refused path bad-predicate 3",
-    ),
-    (BadPath(PathTextFault::TooDeep), "refused path too-deep"),
-    (BadPath(PathTextFault::NoMemory), "refused path no-memory"),
-    (
-        BadData(Flaw::UnknownMember),
-        "refused data unknown-member \"/topo:net\" \"d\"",
-    ),
-    (
-        BadData(Flaw::NeedsModule),
-        "refused data needs-module \"/topo:net\" \"d\"",
-    ),
-    (
-        BadData(Flaw::WrongShape),
-        "refused data wrong-shape \"/topo:net\"",
-    ),
-    (
-        BadData(Flaw::MissingKey),
-        "refused data missing-key \"/topo:net\"",
-    ),
-    (
-        BadData(Flaw::KeyDiffers),
-        "refused data key-differs \"/topo:net\"",
-    ),
-    (
-        BadData(Flaw::DoubleEntry),
-        "refused data double-entry \"/topo:net\"",
-    ),
-    (
-        BadScalar(ScalarFault::WrongKind),
-        "refused data bad-scalar \"/topo:net\" wrong-kind",
-    ),
-    (
-        BadScalar(ScalarFault::OutOfRange),
-        "refused data bad-scalar \"/topo:net\" out-of-range",
-    ),
-    (
-        BadScalar(ScalarFault::BadLength),
-        "refused data bad-scalar \"/topo:net\" bad-length",
-    ),
-    (
-        BadScalar(ScalarFault::NoMatch),
-        "refused data bad-scalar \"/topo:net\" no-match",
-    ),
-    (
-        BadScalar(ScalarFault::UnknownName),
-        "refused data bad-scalar \"/topo:net\" unknown-name",
-    ),
-    (
-        BadScalar(ScalarFault::NoMemory),
-        "refused data bad-scalar \"/topo:net\" no-memory",
-    ),
-    (
-        BadData(Flaw::TooDeep),
-        "refused data too-deep \"/topo:net\"",
-    ),
-    (BadData(Flaw::NoMemory), "refused data no-memory"),
-    (Cancelled, "ok"),
-    (Call(CallFault::HistoryFull), "refused history-full"),
-    (Call(CallFault::PipelineFull), "refused pipeline-full"),
-    (Call(CallFault::NoMemory), "refused no-memory"),
-    (Call(CallFault::TxSpent), "refused tx-spent"),
-    (
-        Invalid(Config, Rule::Mandatory(0)),
-        "invalid config \"/topo:net\" mandatory topo:net",
-    ),
-    (
-        Invalid(Oper, Rule::MinElements(1)),
-        "invalid operational \"/topo:net\" min-elements topo:tag",
-    ),
-    (
-        Invalid(Config, Rule::MaxElements(1)),
-        "invalid config \"/topo:net\" max-elements topo:tag",
-    ),
-    (
-        Invalid(Config, Rule::Unique(1)),
-        "invalid config \"/topo:net\" unique topo:tag",
-    ),
-    (
-        Invalid(Config, Rule::TwoCases(2)),
-        "invalid config \"/topo:net\" two-cases :",
-    ),
-    (BadWrite(Unwritten::WriteOnly), "refused write-only"),
-    (
-        BadWrite(Unwritten::NotConfig),
-        "refused not-config \"/topo:net\"",
-    ),
-    (
-        BadWrite(Unwritten::KeyLeaf),
-        "refused key-leaf \"/topo:net\"",
-    ),
-    (
-        BadWrite(Unwritten::ParentMissing),
-        "refused parent-missing \"/topo:net\"",
-    ),
-    (BadWrite(Unwritten::RootPath), "refused root-path"),
-    (BadWrite(Unwritten::NoMemory), "refused no-memory"),
-];
+// Replies, and behind the arrow how they are told. The words of a reply are told apart by their first letters alone: a ticket is
+// a receipt, a quit the answer to a cancel, a look rows that are read, a slot an empty slot, an only a write by a transaction
+// that only reads. What is refused has words for the faults of calls, paths, names in data, values in data and writes.
+const REPLIES: &str = r#"begun 7 => begun 7
+begun 0 12 => begun 0 on 12
+ticket 3 => receipt 3
+done 18446744073709551615 => done 18446744073709551615
+conflict config tag edited 4 => conflict config "/topo:net/tag[.='a\"']" changed 4
+conflict config net created 5 => conflict config "/topo:net" created 5
+conflict operational root deleted 6 => conflict operational "/" deleted 6
+fault domain 9 => refused no-domain 9
+accepted => ok
+look net bare => absent
+look root bare => data {}
+look root tagged => data {"topo:net":{"tag":["a\""]}}
+exists yes => true
+exists no => false
+slot => refused empty-slot
+only => refused read-only
+path text 1 => refused path bad-text 1
+path node 2 => refused path unknown-node 2
+path predicate 3 => refused path bad-predicate 3
+path deep => refused path too-deep
+path memory => refused path no-memory
+named unknown => refused data unknown-member "/topo:net" "d"
+named needs => refused data needs-module "/topo:net" "d"
+named shape => refused data wrong-shape "/topo:net"
+named key => refused data missing-key "/topo:net"
+named differs => refused data key-differs "/topo:net"
+named twice => refused data double-entry "/topo:net"
+value kind => refused data bad-scalar "/topo:net" wrong-kind
+value range => refused data bad-scalar "/topo:net" out-of-range
+value length => refused data bad-scalar "/topo:net" bad-length
+value pattern => refused data bad-scalar "/topo:net" no-match
+value name => refused data bad-scalar "/topo:net" unknown-name
+value memory => refused data bad-scalar "/topo:net" no-memory
+named below => refused data too-deep "/topo:net"
+named memory => refused data no-memory
+quit => ok
+fault history => refused history-full
+fault pipeline => refused pipeline-full
+fault memory => refused no-memory
+fault spent => refused tx-spent
+invalid config mandatory 0 => invalid config "/topo:net" mandatory topo:net
+invalid operational fewest 1 => invalid operational "/topo:net" min-elements topo:tag
+invalid config greatest 1 => invalid config "/topo:net" max-elements topo:tag
+invalid config unique 1 => invalid config "/topo:net" unique topo:tag
+invalid config two-cases 2 => invalid config "/topo:net" two-cases :
+write write-only => refused write-only
+write config => refused not-config "/topo:net"
+write key => refused key-leaf "/topo:net"
+write parent => refused parent-missing "/topo:net"
+write root => refused root-path
+write memory => refused no-memory"#;
 
 // ---- paths and rows
 
@@ -250,16 +108,17 @@ fn tagged(alloc: Global) -> Result<Rows, Fail> {
     Ok(Rows::of_one(alloc, Row { path, cell })?)
 }
 
-fn path_at(alloc: Global, at: &At) -> Result<Path, Fail> {
-    match at {
-        Root => Ok(Path::root(alloc)),
-        Net => net(alloc),
-        Tag => tag(alloc),
+// The root, the container, or its entry.
+fn path_at(alloc: Global, at: &str) -> Result<Path, Fail> {
+    match letter(at) {
+        'r' => Ok(Path::root(alloc)),
+        'n' => net(alloc),
+        _ => tag(alloc),
     }
 }
 
-fn rows_if(alloc: Global, there: bool) -> Result<Rows, Fail> {
-    if there {
+fn rows_if(alloc: Global, is_there: bool) -> Result<Rows, Fail> {
+    if is_there {
         tagged(alloc)
     } else {
         Ok(Rows::new(alloc))
@@ -280,27 +139,99 @@ fn refused(refusal: StepRefusal) -> StepReply {
     StepReply::Refused { refusal }
 }
 
-fn conflict(store: Store, path: Path, kind: ClashKind, commit: u64) -> StepReply {
-    settled(Outcome::Conflict {
-        store,
-        path,
-        kind,
-        commit,
-    })
+fn begun(text: &str) -> Result<StepReply, Fail> {
+    let (commit, on) = split(text);
+    let commit = commit.parse::<u64>()?;
+    let on = on.parse::<u64>().ok();
+    Ok(called(Reply::Begun { commit, on }))
 }
 
-fn invalid(alloc: Global, store: Store, rule: Rule) -> Result<StepReply, Fail> {
+fn store_of(word: &str) -> Store {
+    match letter(word) {
+        'c' => Store::Config,
+        _ => Store::Oper,
+    }
+}
+
+fn clash_kind(word: &str) -> ClashKind {
+    match letter(word) {
+        'e' => ClashKind::Changed,
+        'c' => ClashKind::Created,
+        _ => ClashKind::Deleted,
+    }
+}
+
+// A store, a path, a kind and a commit.
+fn conflict(alloc: Global, text: &str) -> Result<StepReply, Fail> {
+    let (store, rest) = split(text);
+    let (at, rest) = split(rest);
+    let (kind, commit) = split(rest);
+    let commit = commit.parse::<u64>()?;
+    let path = path_at(alloc, at)?;
+    Ok(settled(Outcome::Conflict {
+        store: store_of(store),
+        path,
+        kind: clash_kind(kind),
+        commit,
+    }))
+}
+
+fn rule_of(word: &str, node: u32) -> Rule {
+    match letter(word) {
+        'm' => Rule::Mandatory(node),
+        'f' => Rule::MinElements(node),
+        'g' => Rule::MaxElements(node),
+        'u' => Rule::Unique(node),
+        _ => Rule::TwoCases(node),
+    }
+}
+
+// A store, a rule and its node.
+fn invalid(alloc: Global, text: &str) -> Result<StepReply, Fail> {
+    let (store, rest) = split(text);
+    let (rule, node) = split(rest);
+    let rule = rule_of(rule, node.parse::<u32>()?);
     let path = net(alloc)?;
+    let store = store_of(store);
     Ok(settled(Outcome::Invalid { store, path, rule }))
 }
 
-fn read(alloc: Global, path: Path, there: bool) -> Result<StepReply, Fail> {
-    let rows = rows_if(alloc, there)?;
+fn call_fault(text: &str) -> Result<CallFault, Fail> {
+    let (word, id) = split(text);
+    Ok(match letter(word) {
+        'd' => CallFault::NoDomain {
+            id: id.parse::<u32>()?,
+        },
+        'h' => CallFault::HistoryFull,
+        'p' => CallFault::PipelineFull,
+        's' => CallFault::TxSpent,
+        _ => CallFault::NoMemory,
+    })
+}
+
+// A path, and whether there are rows.
+fn read(alloc: Global, text: &str) -> Result<StepReply, Fail> {
+    let (at, there) = split(text);
+    let path = path_at(alloc, at)?;
+    let rows = rows_if(alloc, there == "tagged")?;
     Ok(StepReply::Read {
         domain: 0,
         path,
         rows,
     })
+}
+
+// A fault, and its place where it has one.
+fn path_fault(text: &str) -> PathTextFault {
+    let (word, at) = split(text);
+    let at = at.parse::<usize>().unwrap_or(0);
+    match letter(word) {
+        't' => PathTextFault::BadText { at },
+        'n' => PathTextFault::UnknownNode { at },
+        'p' => PathTextFault::BadPredicate { at },
+        'd' => PathTextFault::TooDeep,
+        _ => PathTextFault::NoMemory,
+    }
 }
 
 fn named(alloc: Global, path: Path, is_unknown: bool) -> Result<DataFault, Fail> {
@@ -312,17 +243,24 @@ fn named(alloc: Global, path: Path, is_unknown: bool) -> Result<DataFault, Fail>
     }
 }
 
-fn data_fault(alloc: Global, flaw: &Flaw) -> Result<DataFault, Fail> {
+fn fault_at(path: Path, word: &str) -> DataFault {
+    match letter(word) {
+        's' => DataFault::WrongShape { path },
+        'k' => DataFault::MissingKey { path },
+        'd' => DataFault::KeyDiffers { path },
+        't' => DataFault::DoubleEntry { path },
+        'b' => DataFault::TooDeep { path },
+        _ => DataFault::NoMemory,
+    }
+}
+
+// A fault of data, at the container.
+fn data_fault(alloc: Global, word: &str) -> Result<DataFault, Fail> {
     let path = net(alloc)?;
-    match flaw {
-        Flaw::UnknownMember => named(alloc, path, true),
-        Flaw::NeedsModule => named(alloc, path, false),
-        Flaw::WrongShape => Ok(DataFault::WrongShape { path }),
-        Flaw::MissingKey => Ok(DataFault::MissingKey { path }),
-        Flaw::KeyDiffers => Ok(DataFault::KeyDiffers { path }),
-        Flaw::DoubleEntry => Ok(DataFault::DoubleEntry { path }),
-        Flaw::TooDeep => Ok(DataFault::TooDeep { path }),
-        Flaw::NoMemory => Ok(DataFault::NoMemory),
+    match letter(word) {
+        'u' => named(alloc, path, true),
+        'n' => named(alloc, path, false),
+        _ => Ok(fault_at(path, word)),
     }
 }
 
@@ -330,20 +268,32 @@ fn bad_data(fault: DataFault) -> StepReply {
     refused(StepRefusal::BadData { fault })
 }
 
+fn scalar_fault(word: &str) -> ScalarFault {
+    match letter(word) {
+        'k' => ScalarFault::WrongKind,
+        'r' => ScalarFault::OutOfRange,
+        'l' => ScalarFault::BadLength,
+        'p' => ScalarFault::NoMatch,
+        'n' => ScalarFault::UnknownName,
+        _ => ScalarFault::NoMemory,
+    }
+}
+
 fn bad_scalar(alloc: Global, fault: ScalarFault) -> Result<StepReply, Fail> {
     let path = net(alloc)?;
     Ok(bad_data(DataFault::BadScalar { path, fault }))
 }
 
-fn tx_fault(alloc: Global, unwritten: &Unwritten) -> Result<TxFault, Fail> {
+// A fault of a write, at the container.
+fn tx_fault(alloc: Global, word: &str) -> Result<TxFault, Fail> {
     let path = net(alloc)?;
-    Ok(match unwritten {
-        Unwritten::WriteOnly => TxFault::WriteOnly,
-        Unwritten::NotConfig => TxFault::NotConfig { path },
-        Unwritten::KeyLeaf => TxFault::KeyLeaf { path },
-        Unwritten::ParentMissing => TxFault::ParentMissing { path },
-        Unwritten::RootPath => TxFault::RootPath,
-        Unwritten::NoMemory => TxFault::NoMemory,
+    Ok(match letter(word) {
+        'w' => TxFault::WriteOnly,
+        'c' => TxFault::NotConfig { path },
+        'k' => TxFault::KeyLeaf { path },
+        'p' => TxFault::ParentMissing { path },
+        'r' => TxFault::RootPath,
+        _ => TxFault::NoMemory,
     })
 }
 
@@ -351,37 +301,55 @@ fn refused_write(fault: TxFault) -> StepReply {
     refused(StepRefusal::Write { fault })
 }
 
-fn reply(alloc: Global, told: &Told) -> Result<StepReply, Fail> {
-    match told {
-        Begun(commit, on) => Ok(called(Reply::Begun {
-            commit: *commit,
-            on: *on,
+fn refusal(alloc: Global, text: &str) -> Result<StepReply, Fail> {
+    let (word, rest) = split(text);
+    match letter(word) {
+        'f' => Ok(called(Reply::Refused {
+            fault: call_fault(rest)?,
         })),
-        Receipt(number) => Ok(called(Reply::Receipt { number: *number })),
-        Done(commit) => Ok(settled(Outcome::Done { commit: *commit })),
-        Conflict(store, at, kind, commit) => {
-            Ok(conflict(*store, path_at(alloc, at)?, *kind, *commit))
-        }
-        Invalid(store, rule) => invalid(alloc, *store, *rule),
-        Call(fault) => Ok(called(Reply::Refused { fault: *fault })),
-        Cancelled => Ok(called(Reply::Accepted)),
-        Accepted => Ok(StepReply::Accepted),
-        Read(at, there) => read(alloc, path_at(alloc, at)?, *there),
-        Exists(found) => Ok(StepReply::Exists { found: *found }),
-        EmptySlot => Ok(refused(StepRefusal::EmptySlot)),
-        ReadOnly => Ok(refused(StepRefusal::ReadOnly)),
-        BadPath(fault) => Ok(refused(StepRefusal::BadPath { fault: *fault })),
-        BadData(flaw) => Ok(bad_data(data_fault(alloc, flaw)?)),
-        BadScalar(fault) => bad_scalar(alloc, *fault),
-        BadWrite(fault) => Ok(refused_write(tx_fault(alloc, fault)?)),
+        's' => Ok(refused(StepRefusal::EmptySlot)),
+        'o' => Ok(refused(StepRefusal::ReadOnly)),
+        'p' => Ok(refused(StepRefusal::BadPath {
+            fault: path_fault(rest),
+        })),
+        'n' => Ok(bad_data(data_fault(alloc, rest)?)),
+        'v' => bad_scalar(alloc, scalar_fault(rest)),
+        _ => Ok(refused_write(tx_fault(alloc, rest)?)),
+    }
+}
+
+fn reply(alloc: Global, text: &str) -> Result<StepReply, Fail> {
+    let (word, rest) = split(text);
+    match letter(word) {
+        'b' => begun(rest),
+        't' => Ok(called(Reply::Receipt {
+            number: rest.parse::<u64>()?,
+        })),
+        'd' => Ok(settled(Outcome::Done {
+            commit: rest.parse::<u64>()?,
+        })),
+        'c' => conflict(alloc, rest),
+        'i' => invalid(alloc, rest),
+        'q' => Ok(called(Reply::Accepted)),
+        'a' => Ok(StepReply::Accepted),
+        'l' => read(alloc, rest),
+        'e' => Ok(StepReply::Exists {
+            found: rest == "yes",
+        }),
+        _ => refusal(alloc, text),
     }
 }
 
 // ---- the report
 
+fn reply_of(alloc: Global, line: &str) -> Result<StepReply, Fail> {
+    let (form, _) = line.split_once(" => ").ok_or("no arrow")?;
+    reply(alloc, form)
+}
+
 fn add_replies(list: &mut Vec<StepReply>, alloc: Global, count: usize) -> Result<(), Fail> {
-    for (told, _) in REPLIES.iter().take(count) {
-        list.push(reply(alloc, told)?)?;
+    for line in REPLIES.lines().take(count) {
+        list.push(reply_of(alloc, line)?)?;
     }
     Ok(())
 }
@@ -401,7 +369,7 @@ fn add_client(clients: &mut Vec<Seq<StepReply>>, alloc: Global, count: usize) ->
 // The replies of three clients: two, none, and one of each form.
 fn clients(alloc: Global) -> Result<Vec<Seq<StepReply>>, Fail> {
     let mut clients = Vec::new(alloc);
-    for count in [2, 0, REPLIES.len()] {
+    for count in [2, 0, usize::MAX] {
         add_client(&mut clients, alloc, count)?;
     }
     Ok(clients)
@@ -435,10 +403,16 @@ fn report_of(alloc: Global, schema: &Schema) -> Result<Str, Fail> {
     reported(alloc, schema, clients.as_slice(), &oper)
 }
 
+fn push_told(out: &mut String, step: usize, line: &str) -> Result<(), Fail> {
+    let (_, text) = line.split_once(" => ").ok_or("no arrow")?;
+    write!(out, "2 {step} {text}\n")?;
+    Ok(())
+}
+
 fn push_wanted(out: &mut String) -> Result<(), Fail> {
     out.push_str("order 2 0 10\n0 0 begun 7\n0 1 begun 0 on 12\n")?;
-    for (step, (_, text)) in REPLIES.iter().enumerate() {
-        write!(out, "2 {step} {text}\n")?;
+    for (step, line) in REPLIES.lines().enumerate() {
+        push_told(out, step, line)?;
     }
     out.push_str("tree 0 2 {} {\"topo:net\":{\"tag\":[\"a\\\"\"]}}\n")?;
     Ok(())
@@ -463,13 +437,13 @@ fn is_path_fault_told(alloc: Global) -> Result<bool, Fail> {
 }
 
 fn is_data_fault_told(alloc: Global, schema: &Schema) -> Result<bool, Fail> {
-    let fault = data_fault(alloc, &Flaw::MissingKey)?;
+    let fault = data_fault(alloc, "key")?;
     let text = data_fault_text(alloc, schema, &fault)?;
     Ok(text.as_str() == "missing-key \"/topo:net\"")
 }
 
 fn is_tx_fault_told(alloc: Global, schema: &Schema) -> Result<bool, Fail> {
-    let fault = tx_fault(alloc, &Unwritten::KeyLeaf)?;
+    let fault = tx_fault(alloc, "key")?;
     let text = tx_fault_text(alloc, schema, &fault)?;
     Ok(text.as_str() == "key-leaf \"/topo:net\"")
 }

@@ -1,122 +1,101 @@
+use crate::words::split;
 use sal_rows::Mode;
 use sal_script::{PLAIN, Script, ScriptFault, ScriptStep, read_script};
 use sal_types::Store;
 use std::alloc::Global;
 use std::test::Fail;
 
-// Texts and their first bad places; `ok` where there is none.
-const TEXTS: &[(&str, &str)] = &[
-    ("{}", "ok"),
-    (" {\n} ", "ok"),
-    ("", "json"),
-    ("{", "json"),
-    ("{} {}", "json"),
-    ("[]", "script"),
-    ("null", "script"),
-    ("{\"steps\":[]}", "script"),
-    ("{\"clients\":[],\"Order\":[]}", "script"),
-    ("{\"modules\":null}", "modules"),
-    ("{\"modules\":{}}", "modules"),
-    ("{\"modules\":[\"\",0]}", "modules"),
-    ("{\"modules\":[[]],\"clients\":0}", "modules"),
-    ("{\"modules\":[],\"clients\":0}", "clients"),
-    ("{\"modules\":[\"module m\",\"\"]}", "ok"),
-    ("{\"module\":[]}", "script"),
-    ("{\"clients\":null}", "clients"),
-    ("{\"clients\":{}}", "clients"),
-    ("{\"order\":null}", "order"),
-    ("{\"clients\":[],\"order\":[]}", "ok"),
-    ("{\"clients\":[null]}", "clients/0"),
-    ("{\"clients\":[{}]}", "clients/0"),
-    ("{\"clients\":[{\"steps\":[]},{\"steps\":{}}]}", "clients/1"),
-    ("{\"clients\":[{\"steps\":[],\"name\":1}]}", "clients/0"),
-    (
-        "{\"clients\":[{\"steps\":[[]]},7],\"order\":0}",
-        "clients/1",
-    ),
-    (
-        "{\"clients\":[{\"steps\":[]},{\"steps\":[[\"submit\",0],0]}],\"order\":0}",
-        "clients/1/1",
-    ),
-    (
-        "{\"clients\":1,\"clients\":[],\"order\":[-1],\"order\":[0]}",
-        "ok",
-    ),
-    ("{\"clients\":[],\"clients\":1}", "clients"),
-    ("{\"order\":[0,16,4294967295]}", "ok"),
-    ("{\"order\":[4294967296]}", "order"),
-    ("{\"order\":[-1]}", "order"),
-    ("{\"order\":[1.0]}", "order"),
-    ("{\"order\":[\"0\"]}", "order"),
-    ("{\"order\":[0,null]}", "order"),
-    ("[\"begin\",0,0,\"ro\"]", "ok"),
-    ("[\"begin\",255,0,\"rw\"]", "ok"),
-    ("[\"begin\",256,0,\"rw\"]", "clients/0/0"),
-    ("[\"begin\",0,4294967295,\"wo\"]", "ok"),
-    ("[\"begin\",0,4294967296,\"rw\"]", "clients/0/0"),
-    ("[\"begin\",0,0,\"wr\"]", "clients/0/0"),
-    ("[\"begin\",0,0,0]", "clients/0/0"),
-    ("[\"begin\",0,0]", "clients/0/0"),
-    ("[\"begin\",0,0,\"rw\",0]", "clients/0/0"),
-    ("[\"Begin\",0,0,\"rw\"]", "clients/0/0"),
-    ("[\"put\",0,\"config\",\"/plain:box/a\",\"\"]", "ok"),
-    (
-        "[\"put\",255,\"operational\",\"no path\",{\"x\":[1]}]",
-        "ok",
-    ),
-    ("[\"put\",0,\"config\",\"\",null]", "ok"),
-    ("[\"put\",1.0,\"config\",\"/\",\"x\"]", "clients/0/0"),
-    ("[\"put\",0,\"oper\",\"/\",\"x\"]", "clients/0/0"),
-    ("[\"put\",0,\"config\",[],\"x\"]", "clients/0/0"),
-    ("[\"put\",0,\"config\",\"/\"]", "clients/0/0"),
-    ("[\"put\",0,\"config\",\"/\",1,2]", "clients/0/0"),
-    ("[\"merge\",0,\"operational\",\"/\",{}]", "ok"),
-    ("[\"merge\",256,\"config\",\"/\",{}]", "clients/0/0"),
-    ("[\"merge\",0,\"config\",\"/\"]", "clients/0/0"),
-    ("[\"delete\",0,\"config\",\"/\"]", "ok"),
-    ("[\"delete\",0,\"Config\",\"/\"]", "clients/0/0"),
-    ("[\"delete\",0,\"config\",\"/\",{}]", "clients/0/0"),
-    ("[\"delete\",0,\"config\"]", "clients/0/0"),
-    ("[\"read\",0,\"config\",\"/plain:box/b\"]", "ok"),
-    (
-        "[\"read\",\"0\",\"config\",\"/plain:box/b\"]",
-        "clients/0/0",
-    ),
-    ("[\"read\",0,\"Config\",\"/plain:box/b\"]", "clients/0/0"),
-    ("[\"read\",0,\"operational\",\"\"]", "ok"),
-    ("[\"exists\",0,\"config\",\"no path\"]", "ok"),
-    ("[\"exists\",0,\"oper\",\"/\"]", "clients/0/0"),
-    ("[\"exists\",0,\"config\"]", "clients/0/0"),
-    ("{\"config\":{},\"operational\":{\"x\":[1]}}", "ok"),
-    ("{\"config\":[],\"operational\":0}", "config"),
-    ("{\"modules\":[0],\"config\":0}", "modules"),
-    ("{\"operational\":null,\"clients\":0}", "operational"),
-    ("{\"oper\":{}}", "script"),
-    (
-        "{\"modules\":[],\"clients\":[{\"steps\":[[\"put\",0,\"config\",\"/plain:box/a\",\"\"]]}]}",
-        "ok",
-    ),
-    ("{\"clients\":0,\"config\":0}", "config"),
-    ("[\"read\",0,\"config\",[]]", "clients/0/0"),
-    (
-        "[\"read\",0,\"config\",\"/plain:box/b\",\"x\"]",
-        "clients/0/0",
-    ),
-    ("[\"submit\",7]", "ok"),
-    ("[\"submit\",-1]", "clients/0/0"),
-    ("[\"submit\"]", "clients/0/0"),
-    ("[\"submit\",7,7]", "clients/0/0"),
-    ("[\"cancel\",7]", "ok"),
-    ("[\"cancel\",256]", "clients/0/0"),
-    ("[\"cancel\"]", "clients/0/0"),
-    ("[\"cancel\",7,0]", "clients/0/0"),
-    ("[\"settle\",255]", "ok"),
-    ("[\"settle\",256]", "clients/0/0"),
-    ("[\"settle\",7,7]", "clients/0/0"),
-    ("[\"settle\",{}]", "clients/0/0"),
-    ("[0,7]", "clients/0/0"),
-    ("\"submit\"", "clients/0/0"),
-];
+// Texts, and behind the arrow their first bad places, `ok` where there is none; a bar ends each but the last.
+const TEXTS: &str = r#"{} => ok|
+ {
+}  => ok|
+ => json|
+{ => json|
+{} {} => json|
+[] => script|
+null => script|
+{"steps":[]} => script|
+{"clients":[],"Order":[]} => script|
+{"modules":null} => modules|
+{"modules":{}} => modules|
+{"modules":["",0]} => modules|
+{"modules":[[]],"clients":0} => modules|
+{"modules":[],"clients":0} => clients|
+{"modules":["module m",""]} => ok|
+{"module":[]} => script|
+{"clients":null} => clients|
+{"clients":{}} => clients|
+{"order":null} => order|
+{"clients":[],"order":[]} => ok|
+{"clients":[null]} => clients/0|
+{"clients":[{}]} => clients/0|
+{"clients":[{"steps":[]},{"steps":{}}]} => clients/1|
+{"clients":[{"steps":[],"name":1}]} => clients/0|
+{"clients":[{"steps":[[]]},7],"order":0} => clients/1|
+{"clients":[{"steps":[]},{"steps":[["submit",0],0]}],"order":0} => clients/1/1|
+{"clients":1,"clients":[],"order":[-1],"order":[0]} => ok|
+{"clients":[],"clients":1} => clients|
+{"order":[0,16,4294967295]} => ok|
+{"order":[4294967296]} => order|
+{"order":[-1]} => order|
+{"order":[1.0]} => order|
+{"order":["0"]} => order|
+{"order":[0,null]} => order|
+["begin",0,0,"ro"] => ok|
+["begin",255,0,"rw"] => ok|
+["begin",256,0,"rw"] => clients/0/0|
+["begin",0,4294967295,"wo"] => ok|
+["begin",0,4294967296,"rw"] => clients/0/0|
+["begin",0,0,"wr"] => clients/0/0|
+["begin",0,0,0] => clients/0/0|
+["begin",0,0] => clients/0/0|
+["begin",0,0,"rw",0] => clients/0/0|
+["Begin",0,0,"rw"] => clients/0/0|
+["put",0,"config","/plain:box/a",""] => ok|
+["put",255,"operational","no path",{"x":[1]}] => ok|
+["put",0,"config","",null] => ok|
+["put",1.0,"config","/","x"] => clients/0/0|
+["put",0,"oper","/","x"] => clients/0/0|
+["put",0,"config",[],"x"] => clients/0/0|
+["put",0,"config","/"] => clients/0/0|
+["put",0,"config","/",1,2] => clients/0/0|
+["merge",0,"operational","/",{}] => ok|
+["merge",256,"config","/",{}] => clients/0/0|
+["merge",0,"config","/"] => clients/0/0|
+["delete",0,"config","/"] => ok|
+["delete",0,"Config","/"] => clients/0/0|
+["delete",0,"config","/",{}] => clients/0/0|
+["delete",0,"config"] => clients/0/0|
+["read",0,"config","/plain:box/b"] => ok|
+["read","0","config","/plain:box/b"] => clients/0/0|
+["read",0,"Config","/plain:box/b"] => clients/0/0|
+["read",0,"operational",""] => ok|
+["exists",0,"config","no path"] => ok|
+["exists",0,"oper","/"] => clients/0/0|
+["exists",0,"config"] => clients/0/0|
+{"config":{},"operational":{"x":[1]}} => ok|
+{"config":[],"operational":0} => config|
+{"modules":[0],"config":0} => modules|
+{"operational":null,"clients":0} => operational|
+{"oper":{}} => script|
+{"modules":[],"clients":[{"steps":[["put",0,"config","/plain:box/a",""]]}]} => ok|
+{"clients":0,"config":0} => config|
+["read",0,"config",[]] => clients/0/0|
+["read",0,"config","/plain:box/b","x"] => clients/0/0|
+["submit",7] => ok|
+["submit",-1] => clients/0/0|
+["submit"] => clients/0/0|
+["submit",7,7] => clients/0/0|
+["cancel",7] => ok|
+["cancel",256] => clients/0/0|
+["cancel"] => clients/0/0|
+["cancel",7,0] => clients/0/0|
+["settle",255] => ok|
+["settle",256] => clients/0/0|
+["settle",7,7] => clients/0/0|
+["settle",{}] => clients/0/0|
+[0,7] => clients/0/0|
+"submit" => clients/0/0"#;
 
 // Whether the first bad place of a text is this one.
 fn is_placed(alloc: Global, bytes: &[u8], wanted: &str) -> bool {
@@ -141,25 +120,24 @@ fn is_text_placed(alloc: Global, text: &str, wanted: &str) -> Result<bool, Fail>
     Ok(is_placed(alloc, script.as_bytes(), wanted))
 }
 
-#[test]
-fn first_bad_places(rt: HostRuntime) -> Result<(), Fail> {
-    for (text, wanted) in TEXTS {
-        let is_placed = is_text_placed(rt.alloc(), text, wanted)?;
-        assert!(rt; is_placed, "{text}");
+fn wrong_text(alloc: Global) -> Result<&'static str, Fail> {
+    for line in TEXTS.split("|\n") {
+        let (text, wanted) = line.split_once(" => ").ok_or("no place")?;
+        if !is_text_placed(alloc, text, wanted)? {
+            return Ok(line);
+        }
     }
-    Ok(())
+    Ok("")
 }
 
 // ---- limits
 
-// Numbers of clients and of steps of each, the step, and the first bad place.
-const LIMITS: &[(usize, usize, &str, &str)] = &[
-    (16, 1, "[\"submit\",1]", "ok"),
-    (17, 1, "[\"submit\",1]", "clients"),
-    (1, 60000, "[\"submit\",1]", "ok"),
-    (2, 60000, "0", "clients/0/0"),
-    (2, 60001, "0", "clients/0"),
-];
+// Numbers of clients and of steps of each, the step, and behind the arrow the first bad place.
+const LIMITS: &str = r#"16 1 ["submit",1] => ok
+17 1 ["submit",1] => clients
+1 60000 ["submit",1] => ok
+2 60000 0 => clients/0/0
+2 60001 0 => clients/0"#;
 
 fn push_many(out: &mut String, count: usize, item: &str) -> Result<(), Fail> {
     for number in 0..count {
@@ -191,24 +169,37 @@ fn is_limit_placed(alloc: Global, clients: &str, wanted: &str) -> Result<bool, F
     Ok(is_placed(alloc, script.as_bytes(), wanted))
 }
 
-fn is_kept(alloc: Global, limit: (usize, usize, &str, &str)) -> Result<bool, Fail> {
-    let client = client(alloc, limit.1, limit.2)?;
-    let clients = clients(alloc, limit.0, client.as_str())?;
-    is_limit_placed(alloc, clients.as_str(), limit.3)
+fn is_kept(alloc: Global, line: &str) -> Result<bool, Fail> {
+    let (limit, wanted) = line.split_once(" => ").ok_or("no place")?;
+    let (count, rest) = split(limit);
+    let (steps, step) = split(rest);
+    let (count, steps) = (count.parse::<usize>()?, steps.parse::<usize>()?);
+    let client = client(alloc, steps, step)?;
+    let clients = clients(alloc, count, client.as_str())?;
+    is_limit_placed(alloc, clients.as_str(), wanted)
+}
+
+fn wrong_limit(alloc: Global) -> Result<&'static str, Fail> {
+    for line in LIMITS.lines() {
+        if !is_kept(alloc, line)? {
+            return Ok(line);
+        }
+    }
+    Ok("")
+}
+
+const NO_TEXT: &[u8] = b"{\"clients\":[{\"steps\":[[\"\xff\"]]}]}";
+
+// The first text and the first limit with another bad place, or empty texts.
+fn wrong(alloc: Global) -> Result<(&'static str, &'static str), Fail> {
+    let text = wrong_text(alloc)?;
+    Ok((text, wrong_limit(alloc)?))
 }
 
 #[test]
-fn limits_and_bytes(rt: HostRuntime) -> Result<(), Fail> {
-    for limit in LIMITS {
-        let is_kept = is_kept(rt.alloc(), *limit)?;
-        assert!(rt;
-            is_kept,
-            "{} clients with {} steps {}",
-            limit.0, limit.1, limit.2
-        );
-    }
-    let no_text = b"{\"clients\":[{\"steps\":[[\"\xff\"]]}]}";
-    assert!(rt; is_placed(rt.alloc(), no_text, "json"));
+fn first_bad_places(rt: HostRuntime) -> Result<(), Fail> {
+    assert_eq!(rt; wrong(rt.alloc())?, ("", ""));
+    assert!(rt; is_placed(rt.alloc(), NO_TEXT, "json"));
     Ok(())
 }
 
@@ -264,18 +255,23 @@ fn has_clients(script: &Script) -> bool {
     }
 }
 
-#[test]
-fn a_script_is_read(rt: HostRuntime) -> Result<(), Fail> {
-    let script = read_script(rt.alloc(), TWO_CLIENTS)?;
-    assert!(rt; has_modules(&script, &[PLAIN]));
-    assert!(rt; has_clients(&script));
-    assert_eq!(rt; script.order.items(), [0, 1, 0].as_slice());
-    Ok(())
+fn is_read(alloc: Global) -> Result<bool, Fail> {
+    let script = read_script(alloc, TWO_CLIENTS)?;
+    Ok(
+        has_modules(&script, &[PLAIN])
+            && has_clients(&script)
+            && script.order.items() == [0, 1, 0].as_slice(),
+    )
+}
+
+fn are_modules_read(alloc: Global) -> Result<bool, Fail> {
+    let script = read_script(alloc, TWO_MODULES)?;
+    Ok(has_modules(&script, &["module a {", "é"]))
 }
 
 #[test]
-fn modules_are_read(rt: HostRuntime) -> Result<(), Fail> {
-    let script = read_script(rt.alloc(), TWO_MODULES)?;
-    assert!(rt; has_modules(&script, &["module a {", "é"]));
+fn scripts_are_read(rt: HostRuntime) -> Result<(), Fail> {
+    assert!(rt; is_read(rt.alloc())?);
+    assert!(rt; are_modules_read(rt.alloc())?);
     Ok(())
 }

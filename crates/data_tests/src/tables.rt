@@ -1,3 +1,4 @@
+use crate::words::split;
 use sal_restrict::{Part, Ranges, YangType};
 use sal_schema::{IdentityInfo, Kind, NodeInfo, Schema, SchemaTable};
 use sal_table::schema_of;
@@ -5,45 +6,73 @@ use sal_types::{Seq, Str};
 use std::alloc::Global;
 use std::test::Fail;
 
-/// A node: its parent, kind, module, name and type, and its keys.
-#[derive(Drop)]
-pub(crate) struct Info(
-    pub Option<u32>,
-    pub Kind,
-    pub u32,
-    pub &'static str,
-    pub Option<u32>,
-    pub &'static [u32],
-);
-
-/// Nodes of modules, and behind them those of their RPCs and notifications. Below the last data node stand so many containers
-/// of its name, each in the one before.
+/// Nodes of modules, and behind them those of their RPCs and notifications, one on a line: its parent or `-`, the word of its
+/// kind, its module, its name, its type or `-`, and its keys. Below the last data node stand so many containers `c`, each in the
+/// one before.
 #[derive(Drop)]
 pub(crate) struct Given {
-    pub modules: &'static [&'static str],
-    pub nodes: &'static [Info],
+    pub modules: &'static str,
+    pub nodes: &'static str,
     pub nested: u32,
-    pub messages: &'static [Info],
+    pub messages: &'static str,
 }
-
-pub(crate) const PLAIN: Kind = Kind::Container { presence: false };
 
 // ---- nodes
 
-fn numbers(alloc: Global, list: &[u32]) -> Result<Seq<u32>, Fail> {
-    Ok(Seq::from_items(Vec::from_slice(alloc, list)?))
+fn add_numbers(list: &mut Vec<u32>, text: &str) -> Result<(), Fail> {
+    for word in text.split(' ') {
+        if !word.is_empty() {
+            list.push(word.parse::<u32>()?)?;
+        }
+    }
+    Ok(())
 }
 
-fn node(alloc: Global, info: &Info, config: Option<bool>) -> Result<NodeInfo, Fail> {
-    let keys = numbers(alloc, info.5)?;
-    let name = Str::new(alloc, info.3)?;
+fn numbers(alloc: Global, text: &str) -> Result<Seq<u32>, Fail> {
+    let mut list = Vec::new(alloc);
+    add_numbers(&mut list, text)?;
+    Ok(Seq::from_items(list))
+}
+
+const KINDS: &[Kind] = &[
+    Kind::Container { presence: false },
+    Kind::Container { presence: true },
+    Kind::List,
+    Kind::LeafList,
+    Kind::Leaf,
+    Kind::Choice,
+    Kind::Case,
+    Kind::Rpc,
+    Kind::Input,
+    Kind::Output,
+    Kind::Notification,
+];
+
+fn kind_of(word: &str) -> Kind {
+    for kind in KINDS {
+        if kind.word() == word {
+            return *kind;
+        }
+    }
+    Kind::Leaf
+}
+
+fn node(alloc: Global, line: &str, config: Option<bool>) -> Result<NodeInfo, Fail> {
+    let (parent, rest) = split(line);
+    let (kind, rest) = split(rest);
+    let (module, rest) = split(rest);
+    let (name, rest) = split(rest);
+    let (ty, keys) = split(rest);
+    let module = module.parse::<u32>()?;
+    let keys = numbers(alloc, keys)?;
+    let name = Str::new(alloc, name)?;
     Ok(NodeInfo {
-        parent: info.0,
-        kind: info.1,
-        module: info.2,
+        parent: parent.parse::<u32>().ok(),
+        kind: kind_of(kind),
+        module,
         name,
         config,
-        ty: info.4,
+        ty: ty.parse::<u32>().ok(),
         keys,
         mandatory: false,
         min_elements: 0,
@@ -55,27 +84,32 @@ fn node(alloc: Global, info: &Info, config: Option<bool>) -> Result<NodeInfo, Fa
 fn add_nodes(
     list: &mut Vec<NodeInfo>,
     alloc: Global,
-    infos: &[Info],
+    lines: &str,
     config: Option<bool>,
 ) -> Result<(), Fail> {
-    for info in infos {
-        list.push(node(alloc, info, config)?)?;
+    for line in lines.lines() {
+        list.push(node(alloc, line, config)?)?;
     }
     Ok(())
 }
 
-fn add_nested(list: &mut Vec<NodeInfo>, alloc: Global, from: u32, count: u32) -> Result<(), Fail> {
+fn add_nested(
+    list: &mut Vec<NodeInfo>,
+    alloc: Global,
+    from: usize,
+    count: u32,
+) -> Result<(), Fail> {
     for i in 0..count {
-        let parent = from.checked_add(i);
-        let info = Info(parent, PLAIN, 0, "c", None, &[]);
-        list.push(node(alloc, &info, Some(true))?)?;
+        let parent = from.saturating_add(i as usize);
+        let line = format!(in alloc; "{parent} container 0 c -")?;
+        list.push(node(alloc, line.as_str(), Some(true))?)?;
     }
     Ok(())
 }
 
 fn add_all(list: &mut Vec<NodeInfo>, alloc: Global, given: &Given) -> Result<(), Fail> {
     add_nodes(list, alloc, given.nodes, Some(true))?;
-    let last = u32::try_from(given.nodes.len())?.saturating_sub(1);
+    let last = list.len().saturating_sub(1);
     add_nested(list, alloc, last, given.nested)?;
     add_nodes(list, alloc, given.messages, None)
 }
@@ -161,27 +195,27 @@ fn dec(alloc: Global) -> Result<YangType, Fail> {
     Ok(YangType::Dec { digits: 18, range })
 }
 
-fn add_names(list: &mut Vec<Str>, alloc: Global, names: &[&str]) -> Result<(), Fail> {
-    for name in names {
+fn add_names(list: &mut Vec<Str>, alloc: Global, names: &str) -> Result<(), Fail> {
+    for name in names.split(' ') {
         list.push(Str::new(alloc, name)?)?;
     }
     Ok(())
 }
 
-fn names(alloc: Global, names: &[&str]) -> Result<Seq<Str>, Fail> {
+fn names(alloc: Global, names: &str) -> Result<Seq<Str>, Fail> {
     let mut list = Vec::new(alloc);
     add_names(&mut list, alloc, names)?;
     Ok(Seq::from_items(list))
 }
 
 fn enumeration(alloc: Global) -> Result<YangType, Fail> {
-    let names = names(alloc, &["up", "down"])?;
-    let places = numbers(alloc, &[0, 5])?;
+    let names = names(alloc, "up down")?;
+    let places = numbers(alloc, "0 5")?;
     Ok(YangType::Enum { names, places })
 }
 
 fn bits(alloc: Global) -> Result<YangType, Fail> {
-    let names = names(alloc, &["a", "b", "c"])?;
+    let names = names(alloc, "a b c")?;
     let positions = Seq::from_items(Vec::from_slice(alloc, &[0, 3, 63])?);
     Ok(YangType::Bits { names, positions })
 }
@@ -192,7 +226,7 @@ fn bin(alloc: Global) -> Result<YangType, Fail> {
 }
 
 fn ident(alloc: Global) -> Result<YangType, Fail> {
-    let bases = numbers(alloc, &[0])?;
+    let bases = numbers(alloc, "0")?;
     Ok(YangType::Ident { bases })
 }
 
@@ -255,13 +289,15 @@ fn types(alloc: Global) -> Result<Seq<YangType>, Fail> {
 
 // ---- identities
 
-const IDENTITIES: &[(&str, u32, &[u32])] = &[
-    ("medium", 0, &[]),
-    ("fibre", 0, &[0]),
-    ("copper", 1, &[0]),
-];
+// Names, their modules, and what they are derived from.
+const IDENTITIES: &str = "medium 0
+fibre 0 0
+copper 1 0";
 
-fn identity(alloc: Global, name: &str, module: u32, bases: &[u32]) -> Result<IdentityInfo, Fail> {
+fn identity(alloc: Global, line: &str) -> Result<IdentityInfo, Fail> {
+    let (name, rest) = split(line);
+    let (module, bases) = split(rest);
+    let module = module.parse::<u32>()?;
     let name = Str::new(alloc, name)?;
     let derived_from = numbers(alloc, bases)?;
     Ok(IdentityInfo {
@@ -272,8 +308,8 @@ fn identity(alloc: Global, name: &str, module: u32, bases: &[u32]) -> Result<Ide
 }
 
 fn add_identities(list: &mut Vec<IdentityInfo>, alloc: Global) -> Result<(), Fail> {
-    for (name, module, bases) in IDENTITIES {
-        list.push(identity(alloc, name, *module, bases)?)?;
+    for line in IDENTITIES.lines() {
+        list.push(identity(alloc, line)?)?;
     }
     Ok(())
 }

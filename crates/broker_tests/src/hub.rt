@@ -3,7 +3,7 @@ ghost use Rattle.sal_hub.specs.Tokens.{IsBegun};
 
 use crate::schemas::schema_of;
 use sal_history::{Device, Opening};
-use sal_hub::{Hub, laws};
+use sal_hub::{Hub, MAX_ENTRIES, laws};
 use sal_rows::{CallFault, Mode, Outcome, Rows};
 use sal_tree::Pair;
 use sal_tx::{Begun, Tx, WriteTx};
@@ -66,7 +66,7 @@ fn transactions_are_submitted_settled_and_cancelled(rt: HostRuntime) -> Result<(
 
 // The same fields.
 fn same(begun: &Begun) -> Result<Begun, NoMemory>
-    ensures { IfOk result (λ b. (b.domain ≡ begun.now.domain) × (b.base_commit ≡ begun.now.base_commit) × (b.place ≡ begun.now.place) × (b.schema.value ≡ begun.now.schema.value)) }
+    ensures { IfOk result (λ b. (b.domain ≡ begun.now.domain) × (b.base_commit ≡ begun.now.base_commit) × (b.chain ≡ begun.now.chain) × (b.place ≡ begun.now.place) × (b.schema.value ≡ begun.now.schema.value)) }
 {
     Ok(Begun {
         domain: begun.domain,
@@ -108,5 +108,36 @@ fn is_spent_once(hub: &mut Hub, alloc: Global) -> Result<bool, Fail> {
 fn a_second_transaction_on_the_same_fields_is_spent(rt: HostRuntime) -> Result<(), Fail> {
     let mut hub = hub(rt.alloc())?;
     assert!(rt; is_spent_once(&mut hub, rt.alloc())?);
+    Ok(())
+}
+
+// ---- the history at its end
+
+// Leaves marks until the log is full: how many there are.
+fn marks_left(hub: &mut Hub, alloc: Global) -> Result<u32, Fail> {
+    for mark in 0..MAX_ENTRIES as u32 {
+        hub.mark(alloc, 7, mark)?;
+    }
+    Ok(hub.log().len() as u32)
+}
+
+// Whether a call behind the last entry is refused, and marks are found or not.
+fn is_full(hub: &mut Hub, alloc: Global) -> [bool; 4] {
+    let is_refused = match hub.mark(alloc, 7, 3) {
+        Err(CallFault::HistoryFull) => true,
+        _ => false,
+    };
+    let is_late = match hub.after(alloc, 7, 3) {
+        Err(CallFault::HistoryFull) => true,
+        _ => false,
+    };
+    [is_refused, is_late, hub.has_mark(999999), !hub.has_mark(1000000)]
+}
+
+#[test]
+fn a_million_marks_fill_the_history(rt: HostRuntime) -> Result<(), Fail> {
+    let mut hub = hub(rt.alloc())?;
+    assert_eq!(rt; marks_left(&mut hub, rt.alloc())?, 1000000);
+    assert_eq!(rt; is_full(&mut hub, rt.alloc()), [true; 4]);
     Ok(())
 }

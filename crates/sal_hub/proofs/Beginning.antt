@@ -1,5 +1,5 @@
 -- Calls that decide nothing, and transactions that begin: what is kept stays, and the transaction is one that the log gives.
-use Rattle.std.proofs.Common.{◌≡◌, ℕ, ◌<◌, Bool, true, false, List, [], ◌∷◌, ◌++◌, length, map, Option, None, Some, ap, sym, ◌∙◌, subst, arith, length-append, if◌then◌else◌, refl}
+use Rattle.std.proofs.Common.{◌≡◌, ℕ, ◌<◌, true, false, List, [], ◌∷◌, length, map, None, Some, ap, sym, ◌∙◌, subst, arith, length-append, if◌then◌else◌, refl}
 use Rattle.std.specs.Prelude.{slice_get, option_and_then}
 use Rattle.sal_types.specs.declared.value.Store.{Store}
 use Rattle.sal_rows.specs.declared.outcome.Mode.{Mode}
@@ -17,7 +17,7 @@ use Rattle.sal_history.specs.declared.call.Entry.{Entry}
 use Rattle.sal_history.specs.declared.reply.Reply.{Reply}
 use Rattle.sal_history.specs.declared.reply.Reply.TheVariants.{Begun, Refused}
 use Rattle.sal_history.specs.World as world
-use Rattle.sal_history.specs.History.{Answered, began_at, began_by, commits, decided_by, entries_of, history, is_live, newest_base, opened_chain, reply_to, sent_by, spends, trees_of}
+use Rattle.sal_history.specs.History.{Answered, began_at, began_by, commits, decided_by, entries_of, history, is_live, opened_chain, reply_to, sent_by, spends, trees_of}
 use Rattle.sal_history.specs.Submissions.{Base}
 use Rattle.sal_hub.specs.declared.pipeline.Pipeline.{Pipeline}
 use Rattle.sal_hub.specs.declared.start.Footing.{Footing}

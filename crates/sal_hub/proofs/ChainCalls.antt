@@ -1,53 +1,47 @@
 -- The calls of chains: what is kept stays the log's, and the answer is the log's.
-use Rattle.std.proofs.Common.{◌≡◌, ℕ, zero, suc, ◌+◌, ◌-◌, ◌<◌, ◌≤◌, Bool, true, false, not, List, [], ◌∷◌, ◌++◌, length, map, get_or, set, Option, None, Some, refl, ap, sym, ◌∙◌, subst, arith, append-nil, length-append, length-set, if◌then◌else◌, nat_eq, nat_lt}
-use Rattle.std.specs.Prelude.{slice_get, option_and_then, unwrap_or, ◌||◌}
+use Rattle.std.proofs.Common.{◌≡◌, ℕ, ◌+◌, ◌-◌, ◌<◌, ◌≤◌, Bool, true, false, not, List, [], ◌∷◌, ◌++◌, length, map, get_or, Option, None, Some, refl, ap, sym, ◌∙◌, subst, arith, append-nil, length-append, if◌then◌else◌, nat_lt}
+use Rattle.std.specs.Prelude.{slice_get, option_and_then, unwrap_or}
 use Rattle.std.specs.Option.{option_map, option_map_or, option_or, option_to_list}
-use Rattle.std.proofs.lemmas.Bool.Decides.{nat_tests}
 use Rattle.std.proofs.lemmas.List.{length-map}
-use Rattle.std.proofs.lemmas.Option.{same_Some, slice_get-map, slice_get_within}
+use Rattle.std.proofs.lemmas.Option.{same_Some, slice_get_within}
 use Rattle.sal_types.specs.declared.value.Store.{Store}
-use Rattle.sal_rows.specs.declared.op.Op.{Op}
 use Rattle.sal_rows.specs.declared.outcome.CallFault.{CallFault}
 use Rattle.sal_rows.specs.declared.outcome.CallFault.TheVariants.{ChainClosed, ChainFailed, NoDomain, PreviousOpen}
 use Rattle.sal_rows.specs.declared.outcome.Mode.{Mode}
-use Rattle.sal_rows.specs.declared.outcome.Outcome.{Outcome}
-use Rattle.sal_rows.specs.Apply.{apply_ops}
 use Rattle.sal_rows.specs.Spans.{is_of_chain}
 use Rattle.sal_tree.specs.declared.commit.Pair.{Pair}
-use Rattle.sal_graft.specs.Kept.{AreKept, rows_in as kept_rows}
+use Rattle.sal_graft.specs.Kept.{rows_in as kept_rows}
 use Rattle.sal_tx.specs.declared.tx.Submission.{Submission}
 use Rattle.sal_tx.specs.declared.tx.Tx.{Tx}
 use Rattle.sal_tx.specs.Views.{rows_in}
 use Rattle.sal_commit.specs.declared.domain.Domain.{Domain}
-use Rattle.sal_history.specs.declared.call.Call.{Call}
-use Rattle.sal_history.specs.declared.call.Call.TheVariants.{ChainBegin, CloseChain, OpenChain}
+use Rattle.sal_history.specs.declared.call.Call.TheVariants.{ChainBegin, OpenChain}
 use Rattle.sal_history.specs.declared.call.Entry.{Entry}
-use Rattle.sal_history.specs.declared.reply.Reply.{Reply}
-use Rattle.sal_history.specs.declared.reply.Reply.TheVariants.{Accepted, Begun, Chain as Opened, Refused}
+use Rattle.sal_history.specs.declared.reply.Reply.TheVariants.{Begun, Chain as Opened, Refused}
 use Rattle.sal_history.specs.World as world
-use Rattle.sal_history.specs.History.{Answered, base_on, began_by, begins_in, chain_domains, chain_refusal, chained_base, closes, commits, domain_of, entries_of, failed_by, fault_if, has_open, history, is_closed, is_live, last_begun, newest_base, opened_chain, outcomes, refused_or, reply_to, sent_by, sents, stands_on, trees_of}
-use Rattle.sal_history.specs.Submissions.{Base, Sent, failing, is_in, last_receipt, pending_receipt, view_of}
+use Rattle.sal_history.specs.History.{Answered, base_on, began_by, begins_in, chain_domains, chain_refusal, chained_base, domain_of, entries_of, failed_by, fault_if, has_open, is_closed, is_live, last_begun, newest_base, opened_chain, refused_or, reply_to, sents, stands_on}
+use Rattle.sal_history.specs.Submissions.{Base, failing, is_in, last_receipt}
 use Rattle.sal_hub.specs.declared.chain.Chain.{Chain}
 use Rattle.sal_hub.specs.declared.chains.Chains.{Chains}
 use Rattle.sal_hub.specs.declared.pipeline.Pipeline.{Pipeline}
 use Rattle.sal_hub.specs.declared.start.Footing.{Footing}
 use Rattle.sal_hub.specs.Answers.{Fails, Made}
-use Rattle.sal_hub.specs.Chains.{Adds, AreChains, AreEven, AreSame, IsFooting, is_open, pending_of}
+use Rattle.sal_hub.specs.Chains.{Adds, AreChains, IsFooting, is_open, pending_of}
 use Rattle.sal_hub.specs.Current.{IsCurrent, IsKept, answers, known_of}
 use Rattle.sal_hub.specs.Failures.{IsWithin, flag_in, noted_in, noted_with}
 use Rattle.sal_hub.specs.Journals.{Noted, jotted, mark_at}
 use Rattle.sal_hub.specs.Known.{Known, more}
-use Rattle.sal_hub.specs.Lines.{AllKept, IsSound, IsStored, Line, line_of, sent_of, sents_in, shown, world_in}
-use Rattle.sal_hub.specs.Starts.{IsNewest, IsOn, Starts}
+use Rattle.sal_hub.specs.Lines.{AllKept, IsSound, Line, line_of, sent_of, sents_in, shown, world_in}
+use Rattle.sal_hub.specs.Starts.{Starts}
 use Rattle.sal_hub.specs.Tokens.{IsChain, IsFresh, IsToken, base_of, begun_of}
-use Rattle.sal_hub.proofs.Beginning.{made_now, newest_commit, newest_trees, number_is, quiet_kept, schema_is, token_now}
-use Rattle.sal_hub.proofs.Chained.{adds_even, chains_now, sent_in, steady}
+use Rattle.sal_hub.proofs.Beginning.{made_now, newest_commit, newest_trees, quiet_kept, token_now}
+use Rattle.sal_hub.proofs.Chained.{adds_even, chains_now, steady}
 use Rattle.sal_hub.proofs.Deciding.{table-at}
-use Rattle.sal_hub.proofs.Histories.{chains-push, now_of}
-use Rattle.sal_hub.proofs.Keeping.{none_more, or_false, pushed}
+use Rattle.sal_hub.proofs.Histories.{now_of}
+use Rattle.sal_hub.proofs.Keeping.{or_false, pushed}
 use Rattle.sal_hub.proofs.Listed.{slice_get_seam}
 use Rattle.sal_hub.proofs.Members.{last_from-within}
-use Rattle.sal_hub.proofs.Noted.{at_chain_at, flag_at, flag_in-push, length-with, noted_at, noted_in-push, noted_in-with}
+use Rattle.sal_hub.proofs.Noted.{flag_at, flag_in-push, length-with, noted_at, noted_in-push, noted_in-with}
 use Rattle.sal_hub.proofs.Serving.{shown_at, some_domain}
 use Rattle.sal_hub.proofs.Settling.{kept_sent}
 use Rattle.sal_hub.proofs.Standing.{allowed_live, live_zero}
@@ -146,8 +140,7 @@ module _ (journal journal' : Noted) (p : Pipeline) (is : IsKept journal p) (clie
       pub opened_given : (chain : Chain) → chain.id ≡ length cs'.domains.items → chain.domain ≡ domain → IsChain (known_of journal' p') chain
       opened_given chain id of_domain =
           let long : chain.id ≡ length cs.domains.items + 1 = id ∙ ap length adds.domains ∙ length-append cs.domains.items (domain ∷ []) in
-          let place : chain.id - 1 ≡ length cs.domains.items = omega (arith, long) in
-          (
+          let place : chain.id - 1 ≡ length cs.domains.items = omega (arith, long) in (
             omega (arith, long),
             (λ i. slice_get (sym opened_chains.domains i) (place i)) ∙ ap (λ ds. slice_get ds (length cs.domains.items)) adds.domains
                 ∙ slice_get_seam cs.domains.items domain [] ∙ ap Some (sym of_domain),

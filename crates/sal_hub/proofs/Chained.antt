@@ -1,5 +1,5 @@
 -- What is kept of chains stays the log's with each call.
-use Rattle.std.proofs.Common.{◌≡◌, ℕ, zero, suc, ◌+◌, ◌-◌, ◌<◌, ◌≤◌, Bool, true, false, List, [], ◌∷◌, ◌++◌, length, Option, None, Some, refl, ap, sym, ◌∙◌, subst, arith, append-nil, length-append, if◌then◌else◌, nat_eq}
+use Rattle.std.proofs.Common.{◌≡◌, ℕ, zero, suc, ◌+◌, Bool, true, false, List, [], ◌∷◌, ◌++◌, length, Option, None, Some, refl, ap, sym, ◌∙◌, arith, append-nil, length-append, if◌then◌else◌, nat_eq}
 use Rattle.std.specs.Prelude.{slice_get, ◌||◌}
 use Rattle.std.specs.Option.{option_map_or, option_or, option_to_list}
 use Rattle.std.proofs.lemmas.Bool.Decides.{nat_tests}
@@ -7,16 +7,16 @@ use Rattle.sal_rows.specs.Spans.{is_of_chain}
 use Rattle.sal_history.specs.declared.call.Entry.{Entry}
 use Rattle.sal_history.specs.declared.reply.Reply.{Reply}
 use Rattle.sal_history.specs.World.{Domain}
-use Rattle.sal_history.specs.History.{Answered, began_at, began_by, begins_in, chain_domains, closes, history, is_closed, last_begun, opened_chain, reply_to, sent_by, sents}
-use Rattle.sal_history.specs.Submissions.{Base, Sent, is_in, last_from, last_receipt}
+use Rattle.sal_history.specs.History.{Answered, began_at, begins_in, closes, history, opened_chain, reply_to, sent_by, sents}
+use Rattle.sal_history.specs.Submissions.{Base, Sent, is_in, last_receipt}
 use Rattle.sal_hub.specs.declared.chains.Chains.{Chains}
 use Rattle.sal_hub.specs.Chains.{Adds, AreChains, AreEven, AreSame}
-use Rattle.sal_hub.specs.Failures.{IsWithin, flag_in, noted_in, noted_with}
+use Rattle.sal_hub.specs.Failures.{IsWithin, flag_in, noted_in}
 use Rattle.sal_hub.specs.Known.{Known, more}
 use Rattle.sal_hub.proofs.Histories.{begun-push, chains-push, closed-push, now_of, sents-push}
 use Rattle.sal_hub.proofs.Keeping.{or_false}
 use Rattle.sal_hub.proofs.Members.{last_from-push, last_from-some}
-use Rattle.sal_hub.proofs.Noted.{flag_in-push, length-with, noted_in-push, noted_in-with, noted_within}
+use Rattle.sal_hub.proofs.Noted.{noted_within}
 
 -- what a submission adds to the last receipt of a chain
 abbrev pub sent_in : ℕ → ℕ → Option Sent → Option ℕ
@@ -111,6 +111,7 @@ member_within known cs are place b began = λ id of_chain.
   where
     begun_in : ℕ → Option Base → Bool
     begun_in id o = option_map_or (λ (x : Base). is_of_chain (Some id) x.chain) o false
+
     own : (id : ℕ) → nat_eq id id ≡ true
     own id = grind (arith, nat_tests)
 

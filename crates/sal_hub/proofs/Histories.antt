@@ -1,6 +1,6 @@
 -- What one more entry does to the answered log.
-use Rattle.std.proofs.Common.{◌≡◌, ℕ, ◌+◌, ◌<◌, ◌≤◌, Bool, true, false, List, [], ◌∷◌, ◌++◌, length, Option, None, Some, refl, ap, sym, ◌∙◌, arith, append-nil, length-append, if◌then◌else◌}
-use Rattle.std.specs.Prelude.{slice_get, option_and_then, ◌||◌}
+use Rattle.std.proofs.Common.{◌≡◌, ℕ, ◌+◌, ◌<◌, ◌≤◌, Bool, true, false, List, [], ◌∷◌, ◌++◌, length, Option, None, Some, refl, ap, ◌∙◌, arith, append-nil, length-append, if◌then◌else◌}
+use Rattle.std.specs.Prelude.{option_and_then, ◌||◌}
 use Rattle.std.specs.Option.{option_or, option_to_list}
 use Rattle.std.specs.List.{cons_option, fold, list_any}
 use Rattle.std.proofs.lemmas.Grind.{flat_map-append}
@@ -11,7 +11,7 @@ use Rattle.sal_rows.specs.declared.outcome.Outcome.{Outcome}
 use Rattle.sal_history.specs.declared.call.Entry.{Entry}
 use Rattle.sal_history.specs.World.{Domain}
 use Rattle.sal_history.specs.History.{Answered, answer, answered_as, began_at, begins_in, chain_domains, closes, decided_by, history, is_closed, is_marked, is_spent, last_begun, marks, opened_chain, outcomes, reply_to, sent_by, sents, spends}
-use Rattle.sal_history.specs.Submissions.{Sent, last_from}
+use Rattle.sal_history.specs.Submissions.{Sent}
 use Rattle.sal_hub.proofs.Listed.{slice_get_left}
 use Rattle.sal_hub.proofs.Members.{last_from-push}
 

@@ -1,11 +1,11 @@
 -- What lists have for chains, by their ids.
-use Rattle.std.proofs.Common.{◌≡◌, ℕ, zero, suc, ◌+◌, ◌-◌, ◌<◌, ◌≤◌, Bool, true, false, not, ◌&&◌, List, [], ◌∷◌, ◌++◌, length, drop, map, get_or, set, take, Option, None, Some, refl, ap, sym, ◌∙◌, subst, arith, length-set, if◌then◌else◌, nat_eq, nat_le}
+use Rattle.std.proofs.Common.{◌≡◌, ℕ, zero, suc, ◌+◌, ◌-◌, ◌<◌, ◌≤◌, Bool, true, false, not, ◌&&◌, List, [], ◌∷◌, ◌++◌, length, drop, get_or, set, take, Option, None, Some, refl, ap, sym, ◌∙◌, arith, length-set, if◌then◌else◌, nat_eq, nat_le}
 use Rattle.std.specs.Prelude.{slice_get, option_and_then, unwrap_or}
 use Rattle.std.specs.Option.{option_or}
 use Rattle.std.proofs.lemmas.Bool.Decides.{nat_tests}
 use Rattle.std.proofs.Math.Seq.{map-set_same}
 use Rattle.sal_rows.specs.Spans.{is_of_chain}
-use Rattle.sal_hub.specs.Failures.{IsWithin, at_chain, cut_failures, failure_of, failures_after, flag_in, noted_in, noted_with, up_to}
+use Rattle.sal_hub.specs.Failures.{IsWithin, at_chain, cut_failures, failures_after, flag_in, noted_in, noted_with, up_to}
 use Rattle.sal_hub.proofs.Listed.{slice_get_at}
 
 pub option_or-none : {X : Type 0} (o : Option X) → option_or o None ≡ o
@@ -129,9 +129,9 @@ noted_in-after xs (Some c) n true k w =
 noted_in-after xs (Some c) n false k w =
     ap (option_and_then (λ (x : Option ℕ). x)) (at_chain_set xs c (option_or (noted_in xs c) (Some n)) k (w c refl).0 (w c refl).1)
     ∙ elim (nat_eq k c) as (λ b. nat_eq k c ≡ b → option_and_then (λ (x : Option ℕ). x) (if b then Some (option_or (noted_in xs c) (Some n)) else at_chain xs k) ≡ option_or (noted_in xs k) (if b && true then Some n else None)) [
-        | true ↦ λ yes. ap (λ j. option_or (noted_in xs j) (Some n)) (alike c k yes)
-        | false ↦ λ no. sym (option_or-none (noted_in xs k))
-      ] refl
+      | true ↦ λ yes. ap (λ j. option_or (noted_in xs j) (Some n)) (alike c k yes)
+      | false ↦ λ no. sym (option_or-none (noted_in xs k))
+    ] refl
 
 -- what was not noted late stays
 pub cut_fixed : (count : ℕ) (xs : List (Option ℕ)) → ((k : ℕ) → up_to count (noted_in xs k) ≡ noted_in xs k) → cut_failures count xs ≡ xs

@@ -1,12 +1,10 @@
 -- What a transaction that was begun stands on: a commit of domain 0 that there is.
-use Rattle.std.proofs.Common.{◌≡◌, ◌⊎◌, ℕ, zero, suc, ◌-◌, ◌<◌, ◌≤◌, ◌+◌, Bool, true, false, not, List, [], ◌∷◌, ◌++◌, length, map, Option, None, Some, refl, ap, sym, ◌∙◌, subst, arith, append_assoc, append-nil, length-append, inl, inr, if◌then◌else◌, nat_eq}
+use Rattle.std.proofs.Common.{◌≡◌, ◌⊎◌, ℕ, zero, suc, ◌-◌, ◌≤◌, Bool, true, false, not, List, [], ◌∷◌, ◌++◌, length, map, Option, None, Some, refl, ap, sym, ◌∙◌, subst, arith, append-nil, length-append, inl, inr, if◌then◌else◌, nat_eq}
 use Rattle.std.specs.Prelude.{slice_get, option_and_then, unwrap_or}
 use Rattle.std.specs.Option.{option_map, option_or, option_to_list}
 use Rattle.std.specs.List.{fold}
 use Rattle.std.proofs.lemmas.Bool.Decides.{nat_tests}
-use Rattle.std.proofs.lemmas.List.{map-append}
 use Rattle.std.proofs.lemmas.Option.{same_Some}
-use Rattle.sal_rows.specs.declared.op.Op.{Op}
 use Rattle.sal_rows.specs.declared.outcome.CallFault.{CallFault}
 use Rattle.sal_rows.specs.declared.outcome.CallFault.TheVariants.{ChainClosed, ChainFailed, NoDomain, PreviousOpen}
 use Rattle.sal_rows.specs.declared.outcome.Outcome.{Outcome}
@@ -19,7 +17,7 @@ use Rattle.sal_history.specs.World.{Domain}
 use Rattle.sal_history.specs.History.{Answered, answer, base_on, began_at, began_by, chain_refusal, chained_base, commits, decided_by, domain_of, failed_by, fault_if, has_open, history, is_closed, is_live, newest_base, nowhere, outcomes, refused_or, reply_to, sent_by, sents, stands_on}
 use Rattle.sal_history.specs.Submissions.{Base, Sent, done, if_done}
 use Rattle.sal_hub.proofs.Histories.{now_of, outcomes-answer, sents-answer}
-use Rattle.sal_hub.proofs.Listed.{last_or_before, slice_get_left}
+use Rattle.sal_hub.proofs.Listed.{last_or_before}
 
 -- a commit of domain 0
 abbrev pub IsAt : ℕ → Base → Type 0

@@ -1,11 +1,9 @@
 -- All that a hub keeps stays the log's with each call.
 use Rattle.std.proofs.Common.{◌≡◌, ℕ, zero, suc, ◌+◌, ◌-◌, ◌<◌, ◌≤◌, Bool, true, false, List, [], ◌∷◌, ◌++◌, length, set, Option, None, Some, Result, Ok, Err, refl, ap, sym, ◌∙◌, subst, arith, append-nil, length-set, if◌then◌else◌, nat_eq, nat_lt}
 use Rattle.std.specs.Prelude.{unwrap_or, ◌||◌}
-use Rattle.std.specs.List.{list_any}
 use Rattle.std.specs.Option.{option_map_or, option_or}
 use Rattle.std.proofs.lemmas.Bool.Decides.{nat_tests}
 use Rattle.std.proofs.lemmas.List.Folds.{list_any-append}
-use Rattle.std.proofs.lemmas.Option.{same_Some}
 use Rattle.sal_rows.specs.declared.op.Op.{Op}
 use Rattle.sal_rows.specs.declared.outcome.CallFault.{CallFault}
 use Rattle.sal_rows.specs.declared.outcome.CallFault.TheVariants.{HistoryFull, PipelineFull, NoDomain, PreviousOpen, ChainFailed, ChainClosed, NoMemory, TxSpent}
@@ -15,12 +13,12 @@ use Rattle.sal_tree.specs.declared.commit.Pair.{Pair}
 use Rattle.sal_tx.specs.declared.begun.Begun.{Begun as Token}
 use Rattle.sal_tx.specs.Views.{rows_in}
 use Rattle.sal_history.specs.declared.call.Call.{Call}
-use Rattle.sal_history.specs.declared.call.Call.TheVariants.{After, Begin, Cancel, ChainBegin, CloseChain, Mark, OpenChain, Pump, Settle, Submit}
+use Rattle.sal_history.specs.declared.call.Call.TheVariants.{After, Begin, ChainBegin, CloseChain, Mark, OpenChain, Submit}
 use Rattle.sal_history.specs.declared.call.Entry.{Entry}
 use Rattle.sal_history.specs.declared.reply.Reply.{Reply}
-use Rattle.sal_history.specs.declared.reply.Reply.TheVariants.{Accepted, Begun, Chain as Opened, Found, Late, Receipt, Refused}
+use Rattle.sal_history.specs.declared.reply.Reply.TheVariants.{Accepted, Begun, Found, Late, Receipt, Refused}
 use Rattle.sal_history.specs.World.{Domain}
-use Rattle.sal_history.specs.History.{Answered, began_at, entries_of, began_by, begins_in, closes, fault_if, history, is_closed, is_marked, is_spent, marks, nowhere, opened_chain, pending, refused_or, reply_to, sent_by, sents, submitted}
+use Rattle.sal_history.specs.History.{Answered, began_at, entries_of, began_by, begins_in, closes, fault_if, history, is_spent, marks, nowhere, opened_chain, pending, refused_or, reply_to, sent_by, sents, submitted}
 use Rattle.sal_history.specs.Submissions.{Base, Sent}
 use Rattle.sal_hub.specs.declared.chains.Chains.{Chains}
 use Rattle.sal_hub.specs.declared.marks.Marks.{Marks}
@@ -271,6 +269,7 @@ empty_whole journal p cs ms kept empty domains closed begun sent unmarked_all = 
     no_flag : (id : ℕ) → flag_in [] id ≡ false
     no_flag zero = refl
     no_flag (suc i) = refl
+
     no_note : (id : ℕ) → noted_in [] id ≡ None
     no_note zero = refl
     no_note (suc i) = refl

@@ -1,5 +1,5 @@
 -- What a hub keeps of its chains is what its log gives.
-use Rattle.std.specs.Prelude.{◌≡◌, ℕ, ◌-◌, ◌<◌, ◌∷◌, ◌++◌, [], false, Bool, List, Option, None, Some, if◌then◌else◌, length, nat_lt, not, option_and_then, set, slice_get, vec_capacity, vec_len}
+use Rattle.std.specs.Prelude.{◌≡◌, ℕ, ◌-◌, ◌<◌, ◌∷◌, ◌++◌, [], false, Bool, List, Option, None, Some, if◌then◌else◌, length, nat_lt, not, option_and_then, slice_get, vec_capacity, vec_len}
 use Rattle.std.specs.Option.{option_map_or}
 use Rattle.sal_rows.specs.declared.outcome.Mode.{Mode}
 use Rattle.sal_tx.specs.declared.tx.Submission.{Submission}

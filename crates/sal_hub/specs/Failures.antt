@@ -1,5 +1,5 @@
 -- What lists have for chains, whose ids count from 1; and the receipts by which chains failed.
-use Rattle.std.specs.Prelude.{◌≡◌, ℕ, zero, suc, ◌-◌, ◌<◌, ◌≤◌, Bool, false, List, length, map, set, Option, None, Some, if◌then◌else◌, nat_le, option_and_then, slice_get, unwrap_or}
+use Rattle.std.specs.Prelude.{◌≡◌, ℕ, zero, suc, ◌-◌, ◌<◌, ◌≤◌, Bool, false, List, map, set, Option, None, Some, if◌then◌else◌, nat_le, option_and_then, slice_get, unwrap_or}
 use Rattle.std.specs.Option.{option_or}
 
 -- what a list has for the chain of this id

@@ -210,11 +210,7 @@ fn begin_next(
 }
 
 // Where a transaction behind the submission with this receipt, if any, begins.
-fn footing_in(
-    pipeline: &Pipeline,
-    domain: &Domain,
-    sent: Option<u64>,
-) -> Result<Footing, NoMemory>
+fn footing_in(pipeline: &Pipeline, domain: &Domain, sent: Option<u64>) -> Result<Footing, NoMemory>
     requires kept { AreKept domain.now.commits.items }
     requires given { IsWithin (length pipeline.now.submissions.items) sent }
     ensures { IfOk result (IsFooting (pending_of (length pipeline.now.outcomes.items) sent) pipeline.now domain.now) }

@@ -220,11 +220,7 @@ impl Hub {
 
     /// Decides the first receipt that is pending, and answers it with its outcome; none where no receipt is pending. Where
     /// memory is wanting, it stays pending.
-    pub fn pump(
-        &mut self,
-        alloc: Global,
-        client: u32,
-    ) -> Result<Option<(u64, Outcome)>, CallFault>
+    pub fn pump(&mut self, alloc: Global, client: u32) -> Result<Option<(u64, Outcome)>, CallFault>
         ensures answer { Calls self.old self.new (entry_of self.old client Pump) pump_reply result }
     {
         if self.journal.is_full() {

@@ -4,16 +4,24 @@
 //! |---|---|
 //! | `Hub` | the domains and the log; a contract sees the opening trees and the log alone, `Known` |
 //! | `Hub::open` | a hub over some devices, unless an opening tree is refused (`OpenFault`) |
-//! | `Hub::begin`, `submit`, `cancel`, `settle` | the shared calls: each makes one entry of the log and is answered as the log gives |
-//! | `Receipt` | the token of a submission |
+//! | `Hub::begin`, `submit`, `cancel`, `settle`, `pump` | the shared calls: each makes one entry of the log and is answered as the log gives |
+//! | `Hub::open_chain`, `chain_begin`, `close_chain` | the same, of transaction chains (MD-SAL `DOMTransactionChain`) |
+//! | `Hub::mark`, `after`, `has_mark` | the same, of marks, by which clients can tell each other how far they are; and a look that makes no entry |
+//! | `Receipt`, `Chain` | the tokens of a submission and of a chain |
+//! | `Seen` | what a look for a mark finds |
 //! | `laws` | a function that does nothing, with a law of the tokens as its contract |
 //!
 //! Each call tests first that the log has room, then takes all memory that it needs, and changes what is seen last and all at
 //! once: where memory is wanting, the hub is as it was. A settle that finds no memory takes back what it decided.
 //!
 //! What is kept beside the log is tied to it by `specs/Current`: the submissions, the outcomes and the marks of spent
-//! transactions are those of the answered log, and `specs/Lines` says that the commits of each domain are those that the
-//! outcomes tell.
+//! transactions are those of the answered log, and `specs/Lines` says that the commits of each domain, and the receipts by which
+//! chains failed, are those that the outcomes tell. What is kept of chains is tied to the log by `specs/Chains`, and the marks
+//! that were left by `specs/Marks`; `specs/Whole` has them all.
+//!
+//! The next transaction of a chain begins on the chain's last submission while that is pending: it shares the view of that
+//! submission, and has its base commit. Else it begins at the newest commit. A chain that failed begins no transaction, and its
+//! pending submissions are decided by the receipt that failed.
 //!
 //! ```
 //! let mut hub = Hub::open(alloc, devices)?;
@@ -24,9 +32,10 @@
 //! |---|---|
 //! | `open` | for each device the nodes of its trees, and the check of both |
 //! | `log`, `domains`, `newest`, `trees` | constant |
-//! | `begin`, `cancel` | one search among the clients; a begin shares the nodes of the newest trees |
+//! | `begin`, `cancel`, `open_chain`, `chain_begin`, `close_chain` | one search among the clients; a begin shares the nodes of the trees that it stands on |
+//! | `mark`, `after`; `has_mark` | the same, and one search among the marks; that search alone |
 //! | `submit` | the same, and a copy of the operations for the log |
-//! | `settle` | the decision of each pending submission up to the receipt (`sal_commit`), and one number for each domain |
+//! | `settle`, `pump` | the decision of each pending submission up to the receipt, or of the first (`sal_commit`), and one number for each domain; where memory is wanting, one look at each chain |
 #![tactic(auto)]
 
 mod chain;

@@ -1,5 +1,5 @@
 -- The transaction is the log's next one of the chain.
-use Rattle.std.proofs.Common.{◌≡◌, ◌-◌, ◌<◌, ◌≤◌, ◌∙◌, length, List, ℕ, Option, None, Some, ap, sym, subst, get_or, set, refl, arith}
+use Rattle.std.proofs.Common.{◌≡◌, ◌-◌, ◌≤◌, ◌∙◌, length, Some, ap, sym, subst, get_or, set, refl, arith}
 use Rattle.std.specs.Prelude.{slice_get, map}
 use Rattle.std.specs.Vec.{with_items}
 use Rattle.std.proofs.lemmas.List.{length-set, with_items_is}
@@ -7,7 +7,6 @@ use Rattle.std.proofs.lemmas.Option.{same_Some}
 use Rattle.sal_history.specs.declared.call.Call.TheVariants.{ChainBegin}
 use Rattle.sal_history.specs.declared.reply.Reply.TheVariants.{Begun}
 use Rattle.sal_hub.specs.declared.chains.Chains.{Chains}
-use Rattle.sal_hub.specs.Failures.{noted_with}
 use Rattle.sal_hub.specs.Journals.{jotted}
 use Rattle.sal_hub.specs.Lines.{shown}
 use Rattle.sal_hub.specs.Starts.{Starts}

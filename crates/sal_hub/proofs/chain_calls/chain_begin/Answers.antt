@@ -1,10 +1,8 @@
 -- A refusal has its entry.
-use Rattle.std.proofs.Common.{◌≡◌, Some, ap, sym, ◌∙◌, subst}
+use Rattle.std.proofs.Common.{◌≡◌, Some, ap, sym, ◌∙◌}
 use Rattle.sal_history.specs.declared.call.Call.TheVariants.{ChainBegin}
 use Rattle.sal_history.specs.History.{chain_refusal}
-use Rattle.sal_hub.specs.Answers.{Fails}
-use Rattle.sal_hub.specs.Current.{answers, known_of}
-use Rattle.sal_hub.specs.Known.{entry_of}
+use Rattle.sal_hub.specs.Current.{answers}
 use Rattle.sal_hub.specs.Journals.{jotted}
 use Rattle.sal_hub.specs.Lines.{line_of}
 use Rattle.sal_hub.proofs.ChainCalls.{refused_chains, refused_fails, refused_kept}

@@ -1,5 +1,5 @@
 -- The front of the log stays; submissions and chains are only added.
-use Rattle.std.proofs.Common.{◌-◌, ◌∷◌, [], List, ℕ, Some, ap, sym, ◌∙◌, arith, length-append}
+use Rattle.std.proofs.Common.{◌-◌, ◌∷◌, [], List, ℕ, ap, ◌∙◌, arith, length-append}
 use Rattle.std.specs.Prelude.{slice_get}
 use Rattle.std.specs.Option.{option_to_list}
 use Rattle.sal_history.specs.History.{chain_domains, history, opened_chain, reply_to}

@@ -1,7 +1,6 @@
 -- The entry is the log's next.
-use Rattle.std.proofs.Common.{◌≡◌, ◌+◌, ◌-◌, ◌<◌, ◌≤◌, ℕ, length, ap, sym, ◌∙◌, subst, arith, slice_get, Some}
+use Rattle.std.proofs.Common.{◌≡◌, ◌+◌, ◌-◌, ◌<◌, ◌≤◌, length, sym, subst, arith, slice_get, Some}
 use Rattle.std.proofs.lemmas.Grind.{common_steps}
-use Rattle.sal_rows.specs.declared.outcome.Outcome.{Outcome}
 use Rattle.sal_history.specs.declared.call.Call.TheVariants.{Pump}
 use Rattle.sal_history.specs.declared.reply.Reply.TheVariants.{Decided, Nothing}
 use Rattle.sal_hub.specs.Answers.{Made}

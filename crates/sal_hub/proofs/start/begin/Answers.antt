@@ -1,12 +1,9 @@
 -- The entry is the log's next, and the transaction is one that the log gives.
-use Rattle.std.proofs.Common.{◌≡◌, ap, ◌∙◌, sym, if◌then◌else◌, length, None}
-use Rattle.sal_rows.specs.declared.outcome.CallFault.TheVariants.{NoDomain}
+use Rattle.std.proofs.Common.{◌≡◌, ap, ◌∙◌}
 use Rattle.sal_history.specs.declared.call.Call.TheVariants.{Begin}
-use Rattle.sal_history.specs.declared.reply.Reply.TheVariants.{Begun, Refused}
-use Rattle.sal_history.specs.History.{commits}
-use Rattle.sal_hub.specs.Current.{answers}
+use Rattle.sal_history.specs.declared.reply.Reply.TheVariants.{Begun}
 use Rattle.sal_hub.specs.Journals.{jotted}
-use Rattle.sal_hub.specs.Lines.{line_of, shown}
+use Rattle.sal_hub.specs.Lines.{shown}
 use Rattle.sal_hub.specs.Tokens.{begun_of}
 use Rattle.sal_hub.proofs.Beginning.{begin_kept, begin_reply, begin_token, made_now}
 use Rattle.sal_hub.proofs.start.begin.Goals as goal

@@ -1,5 +1,5 @@
 -- The entry is the log's next, and nothing else changed.
-use Rattle.std.proofs.Common.{◌≡◌, ◌<◌, length, true, false, refl, sym, ◌∙◌, arith}
+use Rattle.std.proofs.Common.{◌<◌, length, true, false, refl, sym, ◌∙◌, arith}
 use Rattle.std.proofs.lemmas.Grind.{common_steps}
 use Rattle.sal_history.specs.declared.call.Call.TheVariants.{After}
 use Rattle.sal_history.specs.declared.reply.Reply.TheVariants.{Found, Late}

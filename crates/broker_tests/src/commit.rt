@@ -96,7 +96,7 @@ fn decided(domain: &mut Domain, alloc: Global, base_commit: u64, op: Op) -> Resu
     let changes = changed(alloc, op)?;
     let (base, view) = copies(&domain.commits[base_commit as usize].trees)?;
     let submission = submission(base_commit, base, view, changes);
-    Ok(decide(alloc, &submission, domain, 7)?)
+    Ok(decide(alloc, &submission, domain, None, 7)?)
 }
 
 // ---- cases

@@ -14,9 +14,9 @@ use Rattle.sal_rows.specs.declared.outcome.Outcome.{Outcome}
 use Rattle.sal_rows.specs.declared.outcome.Outcome.TheVariants.{Done, Invalid as Breaks}
 use Rattle.sal_rows.specs.Apply.{apply_ops}
 use Rattle.sal_tree.specs.declared.commit.Commit.{Commit}
-use Rattle.sal_graft.specs.Kept.{AreKept, opening_in, ops_of, rows_in}
+use Rattle.sal_graft.specs.Kept.{AreKept, chains_of, opening_in, ops_of, rows_in}
 use Rattle.sal_graft.proofs.KeptLemmas.{length-ops_of, tip-kept}
-use Rattle.sal_graft.proofs.Keeping.{AreKept-push, opening_in-push, ops_of-push}
+use Rattle.sal_graft.proofs.Keeping.{AreKept-push, chains_of-push, opening_in-push, ops_of-push}
 use Rattle.sal_tx.specs.declared.tx.Submission.{Submission}
 use Rattle.sal_commit.specs.declared.domain.Domain.{Domain}
 use Rattle.sal_commit.specs.declared.phases.Prepared.{Prepared}
@@ -25,35 +25,36 @@ use Rattle.sal_commit.specs.declared.phases.PreFault.TheVariants.{Invalid, NoMem
 use Rattle.sal_commit.specs.declared.deciding.Attempt.TheVariants.{Made, Refused}
 use Rattle.sal_commit.specs.Attempts.{IsAttempt}
 use Rattle.sal_commit.specs.Domains.{IsSame}
-use Rattle.sal_commit.specs.Deciding.{IsNext, Decides, breached, conflict, decide, invalid}
+use Rattle.sal_commit.specs.Deciding.{IsNext, Decides, breached, decide, invalid, refused}
 use Rattle.sal_commit.specs.Sound.{BreakNone}
 
 -- ---- canCommit and preCommit
 
 -- the domain and the submission go through unchanged
-pub prepare-made : (d e : Domain) (sub t : Submission) (p : Prepared) → t ≡ sub → e ≡ d → conflict d sub ≡ None → IsNext e t p.commit × (breached e t ≡ None)
-    → IsAttempt d sub (Made p)
-prepare-made d e sub t p same is none next = (
+pub prepare-made : (failed : Option ℕ) (d e : Domain) (sub t : Submission) (p : Prepared) → t ≡ sub → e ≡ d → refused failed d sub ≡ None → IsNext e t p.commit × (breached e t ≡ None)
+    → IsAttempt failed d sub (Made p)
+prepare-made failed d e sub t p same is none next = (
   ap (λ o. option_or o (breached d sub)) none ∙ (λ i. breached (sym is i) (sym same i)) ∙ next.1,
   subst (λ x. IsNext d x p.commit) same (subst (λ x. IsNext x t p.commit) is next.0),
 )
 
-pub prepare-refused : (d e : Domain) (sub t : Submission) (fault : PreFault) (outcome : Outcome) → t ≡ sub → e ≡ d → conflict d sub ≡ None → fault ≡ Invalid outcome
-    → (fault ≡ NoMemory) ⊎ ((o : Outcome) × (fault ≡ Invalid o) × (breached e t ≡ Some o)) → IsAttempt d sub (Refused outcome)
-prepare-refused d e sub t fault outcome same is none at (inl w) = let full : Invalid outcome ≡ NoMemory = sym at ∙ w in cc
-prepare-refused d e sub t fault outcome same is none at (inr w) =
+pub prepare-refused : (failed : Option ℕ) (d e : Domain) (sub t : Submission) (fault : PreFault) (outcome : Outcome) → t ≡ sub → e ≡ d → refused failed d sub ≡ None → fault ≡ Invalid outcome
+    → (fault ≡ NoMemory) ⊎ ((o : Outcome) × (fault ≡ Invalid o) × (breached e t ≡ Some o)) → IsAttempt failed d sub (Refused outcome)
+prepare-refused failed d e sub t fault outcome same is none at (inl w) = let full : Invalid outcome ≡ NoMemory = sym at ∙ w in cc
+prepare-refused failed d e sub t fault outcome same is none at (inr w) =
     let one : Invalid outcome ≡ Invalid w.0 = sym at ∙ w.1 in
     let it : outcome ≡ w.0 = cc in
     ap (λ o. option_or o (breached d sub)) none ∙ (λ i. breached (sym is i) (sym same i)) ∙ w.2 ∙ ap Some (sym it)
 
--- without a conflict and a breach it is done, as the next commit
-pub decide-done : (d : Domain) (sub : Submission) (c : Commit) → 1 ≤ length d.commits.items → option_or (conflict d sub) (breached d sub) ≡ None → c.number ≡ length d.commits.items
-    → Done c.number ≡ decide d sub
-decide-done d sub c some none number =
+-- where its chain has not failed, without a conflict and a breach it is done, as the next commit
+pub decide-done : (failed : Option ℕ) (d : Domain) (sub : Submission) (c : Commit) → 1 ≤ length d.commits.items → option_or (refused failed d sub) (breached d sub) ≡ None → c.number ≡ length d.commits.items
+    → Done c.number ≡ decide failed d sub
+decide-done None d sub c some none number =
     ap Done (number ∙ next) ∙ sym (ap (λ o. unwrap_or o (Done (length (ops_of d.commits.items) + 1))) none)
   where
     next : length d.commits.items ≡ length (ops_of d.commits.items) + 1
     next = omega (arith, length-ops_of d.commits.items some)
+decide-done (Some receipt) d sub c some none number = cc
 
 -- what is prepared breaks no rule
 none-breach : (s : Store) (b : Option Breach) → option_map (λ (x : Breach). Breaks s x.path x.rule) b ≡ None → b ≡ None
@@ -74,13 +75,13 @@ rows_after d sub s = apply_ops (tip (opening_in d.commits.items) (ops_of d.commi
 next-breach : (d : Domain) (sub : Submission) (c : Commit) (table : SchemaTable) → table ≡ d.schema.value → IsNext d sub c → (s : Store) → breach d.schema.value s (rows_after d sub s) ≡ None → breach table s (rows_in c.trees s) ≡ None
 next-breach d sub c table same next s none = (λ i. breach (same i) s (next.trees s i)) ∙ none
 
-pub next-sound : (d : Domain) (sub : Submission) (c : Commit) (table : SchemaTable) → table ≡ d.schema.value → option_or (conflict d sub) (breached d sub) ≡ None → IsNext d sub c → BreakNone table c.trees
-next-sound d sub c table same none next Config =
+pub next-sound : (failed : Option ℕ) (d : Domain) (sub : Submission) (c : Commit) (table : SchemaTable) → table ≡ d.schema.value → option_or (refused failed d sub) (breached d sub) ≡ None → IsNext d sub c → BreakNone table c.trees
+next-sound failed d sub c table same none next Config =
     next-breach d sub c table same next Config
-    (none-breach Config (breach d.schema.value Config (rows_after d sub Config)) (none-first (invalid d sub Config) (invalid d sub Oper) (none-second (conflict d sub) (breached d sub) none)))
-next-sound d sub c table same none next Oper =
+    (none-breach Config (breach d.schema.value Config (rows_after d sub Config)) (none-first (invalid d sub Config) (invalid d sub Oper) (none-second (refused failed d sub) (breached d sub) none)))
+next-sound failed d sub c table same none next Oper =
     next-breach d sub c table same next Oper
-    (none-breach Oper (breach d.schema.value Oper (rows_after d sub Oper)) (none-second (invalid d sub Config) (invalid d sub Oper) (none-second (conflict d sub) (breached d sub) none)))
+    (none-breach Oper (breach d.schema.value Oper (rows_after d sub Oper)) (none-second (invalid d sub Config) (invalid d sub Oper) (none-second (refused failed d sub) (breached d sub) none)))
 
 module _ (old : Domain) (sub : Submission) (next : Commit) (are : AreKept old.commits.items) (is : IsNext old sub next) where
   last : Commit
@@ -102,6 +103,7 @@ module _ (old : Domain) (sub : Submission) (next : Commit) (are : AreKept old.co
     kept = subst AreKept (sym pushed) (AreKept-push old.commits.items last next are at_last after);
     opening = ap opening_in pushed ∙ (λ i s. opening_in-push old.commits.items next s are.opened i);
     commits = ap ops_of pushed ∙ ops_of-push old.commits.items next are.opened ∙ ap (λ ops. ops_of old.commits.items ++ ops ∷ []) is.ops;
+    chains = ap chains_of pushed ∙ chains_of-push old.commits.items next are.opened ∙ ap (λ chain. chains_of old.commits.items ++ chain ∷ []) is.chain;
   }
 
 pub IsSame-trans : (old new newest : Domain) → IsSame old new → IsSame new newest → IsSame old newest

@@ -1,4 +1,4 @@
-//! The conflict of a submission with the commits after its base, as an outcome.
+//! The conflict of a submission with the foreign commits after its base, as an outcome.
 ghost use Rattle.std.specs.Prelude.{◌≡◌, ◌≤◌, IfOk, length, take};
 ghost use Rattle.sal_history.specs.Outcome as outcome;
 ghost use Rattle.sal_rows.specs.Clash.{clash};
@@ -6,8 +6,8 @@ ghost use Rattle.sal_graft.specs.Kept.{opening_in, ops_of, rows_in};
 ghost use Rattle.sal_commit.specs.Deciding as spec;
 
 use crate::domain::Domain;
-use sal_graft::conflict;
-use sal_rows::{Clash, Op, Outcome, Span};
+use sal_graft::{conflict, foreign_spans};
+use sal_rows::{Clash, Op, Outcome};
 use sal_tx::Submission;
 use sal_types::{Duplicate, NoMemory, Path};
 use std::alloc::Global;
@@ -21,7 +21,7 @@ pub(crate) fn conflict_in(
     requires { spec.IsFor domain.now sub.now }
     ensures { IfOk result (λ o. o ≡ spec.conflict domain.now sub.now) }
 {
-    let Some(found) = clash_in(sub, domain) else {
+    let Some(found) = clash_in(alloc, sub, domain)? else {
         return Ok(None);
     };
     let Some(op) = sub.changes.ops().get(found.op) else {
@@ -31,16 +31,14 @@ pub(crate) fn conflict_in(
     Ok(Some(refused))
 }
 
-// The first clash of the submission. All commits after its base are foreign.
-fn clash_in(sub: &Submission, domain: &Domain) -> Option<Clash>
+// The first clash of the submission with the foreign commits after its base.
+fn clash_in(alloc: Global, sub: &Submission, domain: &Domain) -> Result<Option<Clash>, NoMemory>
     requires { spec.IsFor domain.now sub.now }
-    ensures { result ≡ clash (opening_in domain.now.commits.items) (ops_of domain.now.commits.items) (rows_in sub.now.base) (spec.spans_of domain.now sub.now) sub.now.changes }
+    ensures { IfOk result (λ o. o ≡ clash (opening_in domain.now.commits.items) (ops_of domain.now.commits.items) (rows_in sub.now.base) (spec.spans_of domain.now sub.now) sub.now.changes) }
 {
-    let span = Span {
-        from: sub.base_commit,
-        to: domain.commits.len() as u64 - 1,
-    };
-    conflict(&sub.changes, &sub.base, &[span], &domain.commits)
+    let spans = foreign_spans(alloc, sub.base_commit, sub.chain, &domain.commits)?;
+    let found = conflict(&sub.changes, &sub.base, &spans, &domain.commits);
+    Ok(found)
 }
 
 // A clash of the operation, named by its store and its place.

@@ -1,6 +1,6 @@
 //! A domain with its commits.
 ghost use Rattle.std.specs.Prelude.{◌≡◌, ◌+◌, ◌<◌, [], None, IfOk, MatchResult, OnOk, length, take};
-ghost use Rattle.sal_graft.specs.Kept.{AreKept, opening_in, ops_of};
+ghost use Rattle.sal_graft.specs.Kept.{AreKept, chains_of, opening_in, ops_of};
 ghost use Rattle.sal_commit.specs.Opening.{fault_of, IsFaultOf, opening_of_device};
 ghost use Rattle.sal_commit.specs.Sound.{AreSound};
 
@@ -42,6 +42,7 @@ impl Domain {
         ensures parts { IfOk result (λ d. (d.number ≡ number) × (d.live ≡ live) × (d.schema.value ≡ device.now.schema.value)) }
         ensures kept { IfOk result (λ d. AreKept d.commits.items) }
         ensures commits { IfOk result (λ d. ops_of d.commits.items ≡ []) }
+        ensures chains { IfOk result (λ d. chains_of d.commits.items ≡ []) }
         ensures opening { IfOk result (λ d. opening_in d.commits.items ≡ opening_of_device device.now) }
         ensures fault { MatchResult result (λ _. fault_of device.now ≡ None) (IsFaultOf device.now) }
     {

@@ -3,7 +3,7 @@ ghost use Rattle.std.specs.Prelude.{◌≡◌, [], IfOk, MatchResult, None};
 ghost use Rattle.sal_types.specs.declared.value.Store.{Store as Of};
 ghost use Rattle.sal_schema.specs.declared.table.SchemaTable.{SchemaTable as Table};
 ghost use Rattle.sal_tree.specs.Rows.{rows_of};
-ghost use Rattle.sal_graft.specs.Kept.{AreKept, opening_in, ops_of, rows_in};
+ghost use Rattle.sal_graft.specs.Kept.{AreKept, chains_of, opening_in, ops_of, rows_in};
 ghost use Rattle.sal_commit.specs.Opening as spec;
 ghost use Rattle.sal_commit.specs.Sound.{AreSound, BreakNone};
 
@@ -65,6 +65,7 @@ fn broken(
 pub(crate) fn first_commits(alloc: Global, trees: Pair) -> Result<Vec<Commit>, NoMemory>
     ensures kept { IfOk result (λ v. AreKept v.items) }
     ensures ops { IfOk result (λ v. ops_of v.items ≡ []) }
+    ensures chains { IfOk result (λ v. chains_of v.items ≡ []) }
     ensures opening { IfOk result (λ v. (s : Of) → opening_in v.items s ≡ rows_in trees s) }
     ensures sound { IfOk result (λ v. (table : Table) → BreakNone table trees → AreSound table v.items) }
 {

@@ -86,6 +86,10 @@ pub fn can<'a>(
         (λ ready. (ready.sub.now ≡ sub.now) × (ready.domain.now ≡ domain.now) × (spec.refused failed domain.now sub.now ≡ None))
         (λ fault. (fault ≡ CanFault.NoMemory) ⊎ ((o : Decided) × (fault ≡ CanFault.Refused o) × (spec.refused failed domain.now sub.now ≡ Some o))) }
 {
+    if let Some(receipt) = failed {
+        let outcome = Outcome::ChainFailed { receipt };
+        return Err(CanFault::Refused { outcome });
+    }
     match conflict_in(alloc, sub, domain)? {
         None => Ok(Ready { sub, domain }),
         Some(outcome) => Err(CanFault::Refused { outcome }),

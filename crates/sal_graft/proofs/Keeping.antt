@@ -1,5 +1,6 @@
 -- An opening is kept, and one more commit is.
 use Rattle.std.proofs.Common.{◌≡◌, ℕ, zero, suc, ◌-◌, ◌<◌, ◌≤◌, List, [], ◌∷◌, ◌++◌, length, take, get_or, refl, ap, sym, ◌∙◌, arith, length-append, inl, inr}
+use Rattle.std.specs.Prelude.{map}
 use Rattle.std.proofs.lemmas.List.{take_all, get_or_append_left, take-append-le}
 use Rattle.std.proofs.lemmas.Bool.{cases_lt}
 use Rattle.std.proofs.lemmas.Grind.{fold-append}
@@ -10,7 +11,7 @@ use Rattle.sal_rows.specs.declared.op.Op.{Op}
 use Rattle.sal_rows.specs.Apply.{apply_ops}
 use Rattle.sal_rows.specs.Commits.{next_tree, tree_after, tree_at}
 use Rattle.sal_tree.specs.declared.commit.Commit.{Commit}
-use Rattle.sal_graft.specs.Kept.{AreKept, opening_in, all_ops, ops_of, rows_in}
+use Rattle.sal_graft.specs.Kept.{AreKept, chains_of, opening_in, all_ops, ops_of, rows_in}
 use Rattle.sal_graft.proofs.KeptLemmas.{length-ops_of}
 
 pub AreKept-opening : (c : Commit) → AreKept (c ∷ [])
@@ -34,6 +35,14 @@ opening_in-push (opening ∷ commits) c s h = refl
 pub ops_of-push : (kept : List Commit) (c : Commit) → 1 ≤ length kept → ops_of (kept ++ c ∷ []) ≡ ops_of kept ++ c.ops.value ∷ []
 ops_of-push [] c h = absurd (omega arith)
 ops_of-push (opening ∷ commits) c h = all_ops-push commits c
+
+chains-push : (commits : List Commit) (c : Commit) → map (λ (x : Commit). x.chain) (commits ++ c ∷ []) ≡ map (λ (x : Commit). x.chain) commits ++ c.chain ∷ []
+chains-push [] c = refl
+chains-push (d ∷ commits) c = ap (λ chains. d.chain ∷ chains) (chains-push commits c)
+
+pub chains_of-push : (kept : List Commit) (c : Commit) → 1 ≤ length kept → chains_of (kept ++ c ∷ []) ≡ chains_of kept ++ c.chain ∷ []
+chains_of-push [] c h = absurd (omega arith)
+chains_of-push (opening ∷ commits) c h = chains-push commits c
 
 -- a tree at a commit stays when a later one comes
 tree_at-push : (opening : Store → List Row) (ops : List (List Op)) (new : List Op) (s : Store) (k : ℕ) → k ≤ length ops → tree_at opening (ops ++ new ∷ []) s k ≡ tree_at opening ops s k

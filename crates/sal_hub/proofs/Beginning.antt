@@ -1,73 +1,134 @@
--- A begin: what is kept stays, and the transaction is one that the log gives.
-use Rattle.std.proofs.Common.{◌≡◌, ℕ, true, List, [], ◌∷◌, ◌++◌, length, map, take, None, Some, refl, ap, sym, ◌∙◌, subst, arith, length-append, if◌then◌else◌}
+-- Calls that decide nothing, and transactions that begin: what is kept stays, and the transaction is one that the log gives.
+use Rattle.std.proofs.Common.{◌≡◌, ℕ, ◌<◌, Bool, true, false, List, [], ◌∷◌, ◌++◌, length, map, Option, None, Some, ap, sym, ◌∙◌, subst, arith, length-append, if◌then◌else◌, refl}
 use Rattle.std.specs.Prelude.{slice_get, option_and_then}
-use Rattle.std.proofs.Math.Seq.{take-append_seam}
+use Rattle.sal_types.specs.declared.value.Store.{Store}
 use Rattle.sal_rows.specs.declared.outcome.Mode.{Mode}
 use Rattle.sal_rows.specs.declared.outcome.CallFault.TheVariants.{NoDomain}
 use Rattle.sal_rows.specs.Commits.{tree_after}
+use Rattle.sal_tree.specs.declared.commit.Pair.{Pair}
+use Rattle.sal_tx.specs.declared.begun.Begun.{Begun as Token}
 use Rattle.sal_tx.specs.declared.tx.Tx.{Tx}
-use Rattle.sal_graft.specs.Kept.{ops_of}
+use Rattle.sal_tx.specs.Views.{rows_in}
+use Rattle.sal_graft.specs.Kept.{ops_of, rows_in as kept_rows}
 use Rattle.sal_commit.specs.declared.domain.Domain.{Domain}
+use Rattle.sal_history.specs.declared.call.Call.{Call}
 use Rattle.sal_history.specs.declared.call.Call.TheVariants.{Begin}
 use Rattle.sal_history.specs.declared.call.Entry.{Entry}
+use Rattle.sal_history.specs.declared.reply.Reply.{Reply}
 use Rattle.sal_history.specs.declared.reply.Reply.TheVariants.{Begun, Refused}
 use Rattle.sal_history.specs.World as world
-use Rattle.sal_history.specs.History.{Answered, Base, began, began_at, commits, entries_of, history, is_live, newest_tree}
+use Rattle.sal_history.specs.History.{Answered, began_at, began_by, commits, decided_by, entries_of, history, is_live, newest_base, opened_chain, reply_to, sent_by, spends, trees_of}
+use Rattle.sal_history.specs.Submissions.{Base}
 use Rattle.sal_hub.specs.declared.pipeline.Pipeline.{Pipeline}
+use Rattle.sal_hub.specs.declared.start.Footing.{Footing}
+use Rattle.sal_hub.specs.Answers.{Made}
 use Rattle.sal_hub.specs.Current.{IsCurrent, IsKept, answers, known_of}
 use Rattle.sal_hub.specs.Journals.{Noted, jotted, mark_at}
 use Rattle.sal_hub.specs.Lines.{IsStored, line_of, shown, world_in}
-use Rattle.sal_hub.specs.Starts.{Starts}
-use Rattle.sal_hub.specs.Tokens.{IsToken, begun_of}
+use Rattle.sal_hub.specs.Starts.{IsNewest, Starts}
+use Rattle.sal_hub.specs.Tokens.{IsBegun, IsToken, base_of, begun_of}
 use Rattle.sal_hub.proofs.Deciding.{opening-at, table-at}
 use Rattle.sal_hub.proofs.Histories.{history-push, length-history, now_of}
 use Rattle.sal_hub.proofs.Keeping.{commits-current, quiet}
 use Rattle.sal_hub.proofs.Listed.{slice_get_seam}
+use Rattle.sal_hub.proofs.Starting.{same_rows}
 
-module _ (journal journal' : Noted) (p : Pipeline) (is : IsKept journal p) (client domain : ℕ) (mode : Mode) (log : journal'.log ≡ jotted journal.log client (Begin domain mode)) where
+-- ---- any call
+
+module _ (journal journal' : Noted) (p : Pipeline) (is : IsKept journal p) (client : ℕ) (call : Call) (log : journal'.log ≡ jotted journal.log client call) where
+  abbrev w : List world.Domain
+  w = world_in (line_of p).domains
+
+  abbrev answered : List Answered
+  answered = answers journal.log (line_of p)
+
   abbrev entry : Entry
-  entry = record { client = client; number = entries_of journal.log client; call = Begin domain mode }
+  entry = record { client = client; number = entries_of journal.log client; call = call }
 
-  pub begin_kept : ((k : ℕ) → mark_at journal'.marks k ≡ mark_at journal.marks k) → IsKept journal' p
-  begin_kept marks = record {
+  -- one that submits, decides, spends and opens nothing
+  pub quiet_kept : sent_by (answers journal.log (line_of p)) call (reply_to (world_in (line_of p).domains) (answers journal.log (line_of p)) call) ≡ None
+      → decided_by (world_in (line_of p).domains) (answers journal.log (line_of p)) call ≡ []
+      → ((k : ℕ) → spends call (reply_to (world_in (line_of p).domains) (answers journal.log (line_of p)) call) k ≡ false)
+      → opened_chain call (reply_to (world_in (line_of p).domains) (answers journal.log (line_of p)) call) ≡ None
+      → ((k : ℕ) → mark_at journal'.marks k ≡ mark_at journal.marks k) → IsKept journal' p
+  quiet_kept none nothing unspent unopened marks = record {
     kept = is.kept;
-    current = subst (λ (l : List Entry). IsCurrent l journal'.marks (line_of p)) (sym log) (quiet journal.log journal.marks (line_of p) is.current entry journal'.marks refl refl (λ k. refl) marks);
+    current = subst (λ (l : List Entry). IsCurrent l journal'.marks (line_of p)) (sym log) (quiet journal.log journal.marks (line_of p) is.current entry journal'.marks none nothing unspent marks unopened);
   }
 
-  module _ (d : Domain) (live : is_live domain ≡ true) (at : slice_get (map shown p.domains.items) domain ≡ Some (shown d)) (tx : Tx) (starts : Starts d mode (length journal.log) tx) where
-    abbrev w : List world.Domain
-    w = world_in (line_of p).domains
+  pub made_now : (r : Reply) → length journal.log < 1000000 → reply_to (world_in (line_of p).domains) (answers journal.log (line_of p)) call ≡ r → Made (known_of journal p) (known_of journal' p) (record { client = client; number = entries_of journal.log client; call = call }) r
+  made_now r room reply = record { room = room; log = λ i. record { world = w; log = log i }; reply = reply }
 
-    abbrev answered : List Answered
-    answered = answers journal.log (line_of p)
+  -- the transaction that it begins
+  pub token_now : (begun : Token) (base : Pair) → begun.place ≡ length journal.log
+      → began_by (world_in (line_of p).domains) (answers journal.log (line_of p)) call (reply_to (world_in (line_of p).domains) (answers journal.log (line_of p)) call) ≡ Some (record { domain = begun.domain; commit = begun.base_commit; chain = begun.chain; trees = rows_in base })
+      → begun.schema.value ≡ world.table_of (world_in (line_of p).domains) begun.domain → IsBegun (known_of journal' p) begun base
+  token_now begun base place began schema = record {
+    before = omega (arith, place, ap length log, length-append journal.log (entry ∷ []));
+    began =
+        (λ i. began_at (history w (log i)) (place i)) ∙ (λ i. began_at (history-push w journal.log entry i) (sym (length-history w journal.log) i))
+        ∙ ap (option_and_then (λ (a : Answered). a.began)) (slice_get_seam answered (now_of w answered entry) []) ∙ began;
+    schema = schema;
+  }
 
-    stored : IsStored (line_of p) domain (shown d)
-    stored = is.current.sound.domains domain (shown d) at
+-- ---- the newest commit of a domain
+
+module _ (journal : Noted) (p : Pipeline) (is : IsKept journal p) (domain : ℕ) (d : Domain) (at : slice_get (map shown p.domains.items) domain ≡ Some (shown d)) (footing : Footing) (newest : IsNewest d footing) where
+  abbrev here : List world.Domain
+  here = world_in (line_of p).domains
+
+  abbrev before : List Answered
+  before = answers journal.log (line_of p)
+
+  stored : IsStored (line_of p) domain (shown d)
+  stored = is.current.sound.domains domain (shown d) at
+
+  the_commits : ops_of d.commits.items ≡ commits before domain
+  the_commits = stored.commits ∙ commits-current journal.log journal.marks (line_of p) domain is.current
+
+  pub newest_commit : footing.commit ≡ length (commits (answers journal.log (line_of p)) domain)
+  newest_commit = newest.commit ∙ ap length the_commits
+
+  pub newest_trees : (s : Store) → kept_rows footing.trees s ≡ trees_of (world_in (line_of p).domains) (answers journal.log (line_of p)) domain s
+  newest_trees s = newest.trees s ∙ (λ i. tree_after s (sym (opening-at (line_of p).domains domain (shown d) s at) i) (the_commits i))
+
+  pub number_is : d.number ≡ domain
+  number_is = stored.number
+
+  pub schema_is : d.schema.value ≡ world.table_of (world_in (line_of p).domains) domain
+  schema_is = sym (table-at (line_of p).domains domain (shown d) at)
+
+-- ---- begin
+
+module _ (journal journal' : Noted) (p : Pipeline) (is : IsKept journal p) (client domain : ℕ) (mode : Mode) (log : journal'.log ≡ jotted journal.log client (Begin domain mode)) where
+  pub begin_kept : ((k : ℕ) → mark_at journal'.marks k ≡ mark_at journal.marks k) → IsKept journal' p
+  begin_kept marks = quiet_kept journal journal' p is client (Begin domain mode) log refl refl (λ k. refl) refl marks
+
+  module _ (d : Domain) (live : is_live domain ≡ true) (at : slice_get (map shown p.domains.items) domain ≡ Some (shown d)) (tx : Tx) (footing : Footing) (newest : IsNewest d footing) (starts : Starts d footing None mode (length journal.log) tx) where
+    abbrev there : List world.Domain
+    there = world_in (line_of p).domains
+
+    abbrev so_far : List Answered
+    so_far = answers journal.log (line_of p)
 
     number : (begun_of tx).domain ≡ domain
-    number = starts.domain ∙ stored.number
+    number = starts.domain ∙ number_is journal p is domain d at footing newest
 
-    the_commits : ops_of d.commits.items ≡ commits answered domain
-    the_commits = stored.commits ∙ commits-current journal.log journal.marks (line_of p) domain is.current
+    commit : (begun_of tx).base_commit ≡ length (commits so_far domain)
+    commit = starts.commit ∙ newest_commit journal p is domain d at footing newest
 
-    commit : (begun_of tx).base_commit ≡ length (commits answered domain)
-    commit = starts.commit ∙ ap length the_commits
+    reply_live : reply_to there so_far (Begin domain mode) ≡ Begun (length (commits so_far domain)) None
+    reply_live = ap (λ b. if b then Begun (length (commits so_far domain)) None else Refused (NoDomain domain)) live
 
-    begun_now : began_at (history w (journal.log ++ entry ∷ [])) (length journal.log) ≡ Some (record { domain = domain; commit = length (commits answered domain) })
-    begun_now =
-        (λ i. began_at (history-push w journal.log entry i) (sym (length-history w journal.log) i))
-        ∙ ap (option_and_then (λ (a : Answered). began a.entry.call a.reply)) (slice_get_seam answered (now_of w answered entry) [])
-        ∙ ap (λ b. began (Begin domain mode) (if b then Begun (length (commits answered domain)) None else Refused (NoDomain domain))) live
+    trees : (s : Store) → rows_in (base_of tx) s ≡ trees_of there so_far domain s
+    trees s = ap (λ (x : Pair). rows_in x s) starts.base ∙ same_rows footing.trees s ∙ newest_trees journal p is domain d at footing newest s
 
-    pub begun_token : IsToken (known_of journal' p) tx
-    begun_token = record {
-      before = omega (arith, starts.place, ap length log, length-append journal.log (entry ∷ []));
-      began =
-          (λ i. began_at (history w (log i)) (starts.place i)) ∙ begun_now
-          ∙ (λ i. Some (let b : Base = record { domain = sym number i; commit = sym commit i } in b));
-      base = λ s.
-          starts.base s ∙ (λ i. tree_after s (sym (opening-at (line_of p).domains domain (shown d) s at) i) (the_commits i))
-          ∙ ap (λ (l : List Entry). newest_tree w l domain s) (sym (ap (take (length journal.log)) log ∙ take-append_seam journal.log (entry ∷ [])))
-          ∙ (λ i. newest_tree w (take (sym starts.place i) journal'.log) (sym number i) s);
-      schema = starts.schema ∙ sym (table-at (line_of p).domains domain (shown d) at) ∙ ap (world.table_of w) (sym number);
-    }
+    pub begin_token : IsToken (known_of journal' p) tx
+    begin_token =
+        token_now journal journal' p is client (Begin domain mode) log (begun_of tx) (base_of tx) starts.place
+        (ap (began_by there so_far (Begin domain mode)) reply_live
+        ∙ (λ i. Some (let b : Base = record { domain = sym number i; commit = sym commit i; chain = sym starts.chain i; trees = λ s. sym (trees s) i } in b)))
+        (starts.schema ∙ schema_is journal p is domain d at footing newest ∙ ap (world.table_of there) (sym number))
+
+    pub begin_reply : reply_to (world_in (line_of p).domains) (answers journal.log (line_of p)) (Begin domain mode) ≡ Begun (begun_of tx).base_commit (begun_of tx).on
+    begin_reply = reply_live ∙ (λ i. Begun (sym commit i) (sym (starts.on ∙ newest.alone) i))

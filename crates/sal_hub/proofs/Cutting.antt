@@ -1,5 +1,5 @@
 -- Domains that are cut back to commits that they had.
-use Rattle.std.proofs.Common.{◌≡◌, ℕ, zero, suc, ◌+◌, ◌-◌, ◌<◌, ◌≤◌, List, [], ◌∷◌, ◌++◌, length, map, get_or, set, take, Some, refl, ap, sym, ◌∙◌, subst, arith, append_assoc, append-nil}
+use Rattle.std.proofs.Common.{◌≡◌, ℕ, zero, suc, ◌+◌, ◌-◌, ◌<◌, ◌≤◌, List, [], ◌∷◌, ◌++◌, length, map, get_or, set, take, Option, Some, refl, ap, sym, ◌∙◌, subst, arith, append_assoc, append-nil}
 use Rattle.std.specs.Prelude.{slice_get}
 use Rattle.std.specs.Option.{option_map}
 use Rattle.std.proofs.lemmas.List.{get_or-take, length-map, length-take, map-append, map-set, take_more}
@@ -9,15 +9,18 @@ use Rattle.sal_rows.specs.declared.op.Op.{Op}
 use Rattle.sal_rows.specs.declared.outcome.Outcome.{Outcome}
 use Rattle.sal_rows.specs.Commits.{tree_after, tree_at}
 use Rattle.sal_tree.specs.declared.commit.Commit.{Commit}
-use Rattle.sal_graft.specs.Kept.{AreKept, all_ops, opening_in, ops_of}
+use Rattle.sal_graft.specs.Kept.{AreKept, all_ops, chains_of, opening_in, ops_of}
 use Rattle.sal_tx.specs.declared.tx.Submission.{Submission}
 use Rattle.sal_commit.specs.declared.domain.Domain.{Domain as Stored}
 use Rattle.sal_commit.specs.Domains.{IsSame}
 use Rattle.sal_history.specs.World.{Domain}
-use Rattle.sal_history.specs.History.{Sent, decide_front, decide_next}
+use Rattle.sal_history.specs.History.{decide_front, decide_next}
+use Rattle.sal_history.specs.Submissions.{Sent}
 use Rattle.sal_hub.specs.declared.pipeline.Pipeline.{Pipeline}
+use Rattle.sal_hub.specs.Failures.{cut_failures}
 use Rattle.sal_hub.specs.Lines.{AllKept, AreDecided, HasGrown, HaveGrown, IsSound, Line, Shown, counts_of, cut_all, line_of, sent_of, sents_in, shown, world_in}
-use Rattle.sal_hub.proofs.Listed.{Grows-then, slice_get_at, take-Grows}
+use Rattle.sal_hub.proofs.Listed.{Grows-then, length-Grows, slice_get_at, take-Grows}
+use Rattle.sal_hub.proofs.Noted.{cut_twice}
 
 -- ---- commits
 
@@ -46,6 +49,17 @@ ops_of-take [] zero = refl
 ops_of-take [] (suc k) = refl
 ops_of-take (c ∷ cs) k = all_ops-take cs k
 
+chains-take : (cs : List Commit) (k : ℕ) → map (λ (c : Commit). c.chain) (take k cs) ≡ take k (map (λ (c : Commit). c.chain) cs)
+chains-take [] zero = refl
+chains-take [] (suc k) = refl
+chains-take (c ∷ cs) zero = refl
+chains-take (c ∷ cs) (suc k) = ap (λ (xs : List (Option ℕ)). c.chain ∷ xs) (chains-take cs k)
+
+chains_of-take : (cs : List Commit) (k : ℕ) → chains_of (take (suc k) cs) ≡ take k (chains_of cs)
+chains_of-take [] zero = refl
+chains_of-take [] (suc k) = refl
+chains_of-take (c ∷ cs) k = chains-take cs k
+
 pub AreKept-take : (cs : List Commit) (k : ℕ) → AreKept cs → AreKept (take (suc k) cs)
 AreKept-take cs k are = record {
   opened = omega (arith, length-take (suc k) cs, are.opened);
@@ -60,25 +74,43 @@ AreKept-take cs k are = record {
 -- ---- domains
 
 -- one more is cut
-pub cut_more : (ds : List Shown) (ks : List ℕ) (i k : ℕ) (d : Shown) → slice_get ks i ≡ Some k → slice_get (cut_all ds (take i ks)) i ≡ Some d → set (cut_all ds (take i ks)) i (record d { ops = take k d.ops }) ≡ cut_all ds (take (suc i) ks)
+pub cut_more : (ds : List Shown) (ks : List ℕ) (i k : ℕ) (d : Shown) → slice_get ks i ≡ Some k → slice_get (cut_all ds (take i ks)) i ≡ Some d → set (cut_all ds (take i ks)) i (record d { ops = take k d.ops; chains = take k d.chains }) ≡ cut_all ds (take (suc i) ks)
 cut_more [] ks i k d at_k at_d = cc
 cut_more (x ∷ ds) [] i k d at_k at_d = cc
 cut_more (x ∷ ds) (j ∷ ks) zero k d at_k at_d =
-    (λ i. (let e : Shown = record (sym (same_Some x d at_d) i) { ops = take (sym (same_Some j k at_k) i) (sym (same_Some x d at_d) i).ops } in e) ∷ none ds i)
+    (λ i. (let e : Shown = record (sym (same_Some x d at_d) i) { ops = take (sym (same_Some j k at_k) i) (sym (same_Some x d at_d) i).ops; chains = take (sym (same_Some j k at_k) i) (sym (same_Some x d at_d) i).chains } in e) ∷ none ds i)
   where
     none : (es : List Shown) → es ≡ cut_all es []
     none [] = refl
     none (e ∷ es) = refl
-cut_more (x ∷ ds) (j ∷ ks) (suc i) k d at_k at_d = ap (λ (es : List Shown). record x { ops = take j x.ops } ∷ es) (cut_more ds ks i k d at_k at_d)
+cut_more (x ∷ ds) (j ∷ ks) (suc i) k d at_k at_d = ap (λ (es : List Shown). record x { ops = take j x.ops; chains = take j x.chains } ∷ es) (cut_more ds ks i k d at_k at_d)
+
+-- each domain has a chain for each commit
+abbrev AreLevel : List Shown → Type 0
+AreLevel [] = Unit {0}
+AreLevel (d ∷ ds) = (length d.ops ≡ length d.chains) × AreLevel ds
+
+as_long : (cs : List Commit) → length (all_ops cs) ≡ length (map (λ (c : Commit). c.chain) cs)
+as_long [] = refl
+as_long (c ∷ cs) = ap suc (as_long cs)
+
+level : (ds : List Stored) → AreLevel (map shown ds)
+level [] = tt
+level (d ∷ ds) = (each d.commits.items, level ds)
+  where
+    each : (cs : List Commit) → length (ops_of cs) ≡ length (chains_of cs)
+    each [] = refl
+    each (c ∷ cs) = as_long cs
 
 -- what has grown is cut back to what it was
-pub cut_back : (ds es : List Shown) → HaveGrown ds es → cut_all es (counts_of ds) ≡ ds
-cut_back [] [] grown = refl
-cut_back [] (e ∷ es) grown = absurd grown
-cut_back (d ∷ ds) [] grown = absurd grown
-cut_back (d ∷ ds) (e ∷ es) grown =
+cut_back : (ds es : List Shown) → AreLevel ds → HaveGrown ds es → cut_all es (counts_of ds) ≡ ds
+cut_back [] [] even grown = refl
+cut_back [] (e ∷ es) even grown = absurd grown
+cut_back (d ∷ ds) [] even grown = absurd grown
+cut_back (d ∷ ds) (e ∷ es) even grown =
     let ops : take (length d.ops) e.ops ≡ d.ops = take-Grows d.ops e.ops grown.0.1 in
-    (λ i. (let x : Shown = record (grown.0.0 i) { ops = ops i } in x) ∷ cut_back ds es grown.1 i)
+    let chains : take (length d.ops) e.chains ≡ d.chains = ap (λ n. take n e.chains) even.0 ∙ take-Grows d.chains e.chains grown.0.2 in
+    (λ i. (let x : Shown = record (grown.0.0 i) { ops = ops i; chains = chains i } in x) ∷ cut_back ds es even.1 grown.1 i)
 
 -- ---- one decision after another
 
@@ -89,7 +121,7 @@ HaveGrown-then [] (e ∷ es) fs g h = absurd g
 HaveGrown-then (d ∷ ds) [] fs g h = absurd g
 HaveGrown-then (d ∷ ds) (e ∷ es) [] g h = absurd h
 HaveGrown-then (d ∷ ds) (e ∷ es) (f ∷ fs) g h = (
-  (h.0.0 ∙ ap (λ (x : Shown). let y : Shown = record x { ops = f.ops } in y) g.0.0, Grows-then d.ops e.ops f.ops g.0.1 h.0.1),
+  (h.0.0 ∙ ap (λ (x : Shown). let y : Shown = record x { ops = f.ops; chains = f.chains } in y) g.0.0, Grows-then d.ops e.ops f.ops g.0.1 h.0.1, Grows-then d.chains e.chains f.chains g.0.2 h.0.2),
   HaveGrown-then ds es fs g.1 h.1,
 )
 
@@ -98,6 +130,9 @@ HasGrown-then a b c g h = record {
   domains = HaveGrown-then a.domains b.domains c.domains g.domains h.domains;
   submissions = h.submissions ∙ g.submissions;
   outcomes = Grows-then a.outcomes b.outcomes c.outcomes g.outcomes h.outcomes;
+  failures =
+      sym (cut_twice (length a.outcomes) (length b.outcomes) c.failures (length-Grows a.outcomes b.outcomes g.outcomes))
+      ∙ ap (cut_failures (length a.outcomes)) h.failures ∙ g.failures;
 }
 
 decide_next-plus : (world : List Domain) (ss : List Sent) (os : List Outcome) (m n : ℕ) → decide_next world ss os (m + n) ≡ decide_next world ss os m ++ decide_next world ss (os ++ decide_next world ss os m) n
@@ -113,7 +148,7 @@ decide_next-plus world ss os (suc m) n =
     ∙ ap (λ (us : List Outcome). (front ++ decide_next world ss (os ++ front) m) ++ decide_next world ss us n) (append_assoc os front (decide_next world ss (os ++ front) m))
 
 pub AreDecided-none : (line : Line) → IsSound line → AreDecided line 0 line
-AreDecided-none line sound = record { sound = sound; world = refl; submissions = refl; outcomes = sym (append-nil line.outcomes) }
+AreDecided-none line sound = record { sound = sound; world = refl; submissions = refl; outcomes = sym (append-nil line.outcomes); chains = refl }
 
 pub AreDecided-then : (a b c : Line) (m n k : ℕ) → k ≡ m + n → AreDecided a m b → AreDecided b n c → AreDecided a k c
 AreDecided-then a b c m n k sum g h =
@@ -127,6 +162,7 @@ AreDecided-then a b c m n k sum g h =
           h.outcomes ∙ (λ i. g.outcomes i ++ decide_next (g.world i) (map sent_of (g.submissions i)) (g.outcomes i) n)
           ∙ append_assoc a.outcomes (decide_next w ss a.outcomes m) (decide_next w ss (a.outcomes ++ decide_next w ss a.outcomes m) n)
           ∙ ap (λ (us : List Outcome). a.outcomes ++ us) (sym (decide_next-plus w ss a.outcomes m n) ∙ ap (decide_next w ss a.outcomes) (sym sum));
+      chains = h.chains ∙ g.chains;
     }
 
 pub one_more : (a b c : Line) (start i : ℕ) → start ≤ i → AreDecided a (i - start) b → AreDecided b 1 c → AreDecided a (i + 1 - start) c
@@ -145,8 +181,9 @@ cut_one ds all ks i k d d' within d_is at_k same commits so_far =
     let cs : d'.commits.items ≡ take (suc k) d.commits.items = commits ∙ ap (λ n. take n d.commits.items) one in
     let opening : opening_in d'.commits.items ≡ opening_in d.commits.items = ap opening_in cs ∙ opening-take d.commits.items k in
     let ops : ops_of d'.commits.items ≡ take k (ops_of d.commits.items) = ap ops_of cs ∙ ops_of-take d.commits.items k in
-    let cut : shown d' ≡ record (shown d) { ops = take k (shown d).ops } =
-    λ j. record { number = same.number j; live = same.live j; table = (same.schema j).value; opening = opening j; ops = ops j } in
+    let chains : chains_of d'.commits.items ≡ take k (chains_of d.commits.items) = ap chains_of cs ∙ chains_of-take d.commits.items k in
+    let cut : shown d' ≡ record (shown d) { ops = take k (shown d).ops; chains = take k (shown d).chains } =
+    λ j. record { number = same.number j; live = same.live j; table = (same.schema j).value; opening = opening j; ops = ops j; chains = chains j } in
     let here : slice_get (cut_all all (take i ks)) i ≡ Some (shown d) =
     ap (λ (es : List Shown). slice_get es i) (sym so_far) ∙ slice_get-map shown ds i ∙ ap (option_map shown) (slice_get_at ds i d within d_is) in
     map-set shown ds i d' ∙ (λ j. set (so_far j) i (cut j)) ∙ cut_more all ks i k (shown d) at_k here ∙ ap (λ n. cut_all all (take n ks)) (sym more)
@@ -175,8 +212,9 @@ module _ (old new : Pipeline) (grown : HasGrown (line_of old) (line_of new)) (co
       ap length counts_are ∙ length-map (map shown old.domains.items) (λ (d : Shown). length d.ops)
       ∙ sym (HaveGrown-long (map shown old.domains.items) (map shown new.domains.items) grown.domains) ∙ length-map new.domains.items shown
 
-  pub taken_back : (ds : List Stored) (ss : List Submission) (os : List Outcome) → map shown ds ≡ cut_all (map shown new.domains.items) counts → ss ≡ new.submissions.items → os ≡ take (length old.outcomes.items) new.outcomes.items → ◌≡◌ {A = Line} (record { domains = map shown ds; submissions = ss; outcomes = os }) (line_of old)
-  taken_back ds ss os cut same taken =
-      let domains : map shown ds ≡ map shown old.domains.items = cut ∙ ap (cut_all (map shown new.domains.items)) counts_are ∙ cut_back (map shown old.domains.items) (map shown new.domains.items) grown.domains in
+  pub taken_back : (ds : List Stored) (ss : List Submission) (os : List Outcome) (fs : List (Option ℕ)) → map shown ds ≡ cut_all (map shown new.domains.items) counts → ss ≡ new.submissions.items → os ≡ take (length old.outcomes.items) new.outcomes.items → fs ≡ cut_failures (length old.outcomes.items) new.failures.items
+      → ◌≡◌ {A = Line} (record { domains = map shown ds; submissions = ss; outcomes = os; failures = fs }) (line_of old)
+  taken_back ds ss os fs cut same taken forgotten =
+      let domains : map shown ds ≡ map shown old.domains.items = cut ∙ ap (cut_all (map shown new.domains.items)) counts_are ∙ cut_back (map shown old.domains.items) (map shown new.domains.items) (level old.domains.items) grown.domains in
       let outcomes : os ≡ old.outcomes.items = taken ∙ take-Grows old.outcomes.items new.outcomes.items grown.outcomes in
-      λ i. record { domains = domains i; submissions = (same ∙ grown.submissions) i; outcomes = outcomes i }
+      λ i. record { domains = domains i; submissions = (same ∙ grown.submissions) i; outcomes = outcomes i; failures = (forgotten ∙ grown.failures) i }

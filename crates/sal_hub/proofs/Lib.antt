@@ -1,12 +1,17 @@
 pub mod Beginning
+pub mod ChainCalls
+pub mod Chained
 pub mod Cutting
 pub mod Deciding
 pub mod Histories
 pub mod Keeping
 pub mod Listed
+pub mod Members
+pub mod Noted
 pub mod OpenedDevices
 pub mod Serving
 pub mod Settling
 pub mod Standing
 pub mod Starting
 pub mod Submitting
+pub mod Wholes

@@ -1,5 +1,5 @@
 -- Lists looked at by index.
-use Rattle.std.proofs.Common.{◌≡◌, ℕ, zero, suc, ◌<◌, ◌≤◌, List, [], ◌∷◌, ◌++◌, length, get_or, set, take, Some, refl, ap, sym, ◌∙◌, arith, append_assoc, length-append, inl, inr, ◌⊎◌}
+use Rattle.std.proofs.Common.{◌≡◌, ℕ, zero, suc, ◌<◌, ◌≤◌, List, [], ◌∷◌, ◌++◌, length, get_or, set, take, None, Some, refl, ap, sym, ◌∙◌, arith, append_assoc, length-append, inl, inr, ◌⊎◌}
 use Rattle.std.specs.Prelude.{slice_get}
 use Rattle.std.proofs.lemmas.Option.{same_Some}
 use Rattle.std.proofs.Math.Seq.{take-append_seam}
@@ -10,6 +10,12 @@ pub slice_get_at : {X : Type 0} (xs : List X) (i : ℕ) (x : X) → i < length x
 slice_get_at [] i x h e = absurd (omega arith)
 slice_get_at (y ∷ xs) zero x h e = ap Some (sym e)
 slice_get_at (y ∷ xs) (suc i) x h e = slice_get_at xs i x (omega arith) e
+
+-- nothing stands behind the end
+pub slice_get_none : {X : Type 0} (xs : List X) (i : ℕ) → length xs ≤ i → slice_get xs i ≡ None
+slice_get_none [] i h = refl
+slice_get_none (y ∷ xs) zero h = absurd (omega arith)
+slice_get_none (y ∷ xs) (suc i) h = slice_get_none xs i (omega arith)
 
 -- something stands at an index
 pub slice_get_some : {X : Type 0} (xs : List X) (i : ℕ) → i < length xs → (x : X) × (slice_get xs i ≡ Some x)
@@ -44,6 +50,11 @@ pub slice_get_left : {X : Type 0} (xs ys : List X) (k : ℕ) → k < length xs �
 slice_get_left [] ys k h = absurd (omega arith)
 slice_get_left (x ∷ xs) ys zero h = refl
 slice_get_left (x ∷ xs) ys (suc k) h = slice_get_left xs ys k (omega arith)
+
+pub slice_get_more : {X : Type 0} (xs ys : List X) (k : ℕ) (x : X) → slice_get xs k ≡ Some x → slice_get (xs ++ ys) k ≡ Some x
+slice_get_more [] ys k x e = cc
+slice_get_more (y ∷ xs) ys zero x e = e
+slice_get_more (y ∷ xs) ys (suc k) x e = slice_get_more xs ys k x e
 
 pub slice_get_seam : {X : Type 0} (xs : List X) (y : X) (ys : List X) → slice_get (xs ++ y ∷ ys) (length xs) ≡ Some y
 slice_get_seam [] y ys = refl

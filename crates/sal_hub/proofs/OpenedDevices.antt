@@ -7,6 +7,8 @@ use Rattle.sal_types.specs.declared.value.Store.{Store}
 use Rattle.sal_types.specs.declared.value.Store.TheVariants.{Config, Oper}
 use Rattle.sal_rules.specs.Breaches.{breach}
 use Rattle.sal_rows.specs.declared.outcome.Breach.{Breach}
+use Rattle.sal_tree.specs.declared.commit.Commit.{Commit}
+use Rattle.sal_graft.specs.Kept.{chains_of, ops_of}
 use Rattle.sal_commit.specs.declared.fault.DomainFault.{DomainFault}
 use Rattle.sal_commit.specs.declared.fault.DomainFault.TheVariants.{Broken as Breaks, NoMemory as Full}
 use Rattle.sal_commit.specs.Opening.{fault_of as domain_fault}
@@ -17,6 +19,7 @@ use Rattle.sal_hub.specs.declared.opening.OpenFault.{OpenFault}
 use Rattle.sal_hub.specs.declared.opening.OpenFault.TheVariants.{Broken, NotConfig, NoMemory}
 use Rattle.sal_hub.specs.declared.pipeline.Pipeline.{Pipeline}
 use Rattle.sal_hub.specs.Current.{IsCurrent, IsKept}
+use Rattle.sal_hub.specs.Failures.{noted_in}
 use Rattle.sal_hub.specs.Journals.{Noted}
 use Rattle.sal_hub.specs.Lines.{AllKept, Line, Shown, line_of, shown, world_in}
 use Rattle.sal_hub.specs.Opened.{shown_from, shown_of}
@@ -49,6 +52,12 @@ module _ (n : ℕ) (device : Device) where
     pub some_fault : (e : DomainFault) → (e ≡ Full) ⊎ (domain_fault device ≡ Some e) → (numbered n e ≡ NoMemory) ⊎ (opening_fault n (domain_of device) ≡ Some (numbered n e))
     some_fault e h = elim h [ inl w ↦ inl (ap (numbered n) w) | inr w ↦ inr (by_domain ∙ ap (option_map (numbered n)) w) ]
 
+-- no commit has no chain
+pub no_chains : (cs : List Commit) → ops_of cs ≡ [] → chains_of cs ≡ []
+no_chains [] none = refl
+no_chains (c ∷ []) none = refl
+no_chains (c ∷ d ∷ cs) none = cc
+
 -- ---- all devices
 
 pub world-shown : (n : ℕ) (devices : List Device) → world_in (shown_from n devices) ≡ world_of devices
@@ -59,32 +68,38 @@ length-shown : (n : ℕ) (devices : List Device) → length (shown_from n device
 length-shown n [] = refl
 length-shown n (device ∷ devices) = ap suc (length-shown (n + 1) devices)
 
-shown_at : (n : ℕ) (devices : List Device) (k : ℕ) (d : Shown) → slice_get (shown_from n devices) k ≡ Some d → (d.number ≡ n + k) × (d.live ≡ is_live (n + k)) × (d.ops ≡ [])
+shown_at : (n : ℕ) (devices : List Device) (k : ℕ) (d : Shown) → slice_get (shown_from n devices) k ≡ Some d → (d.number ≡ n + k) × (d.live ≡ is_live (n + k)) × (d.ops ≡ []) × (d.chains ≡ [])
 shown_at n [] k d e = cc
 shown_at n (device ∷ devices) zero d e =
     let here : n ≡ n + 0 = omega arith in
-    subst (λ (x : Shown). (x.number ≡ n + 0) × (x.live ≡ is_live (n + 0)) × (x.ops ≡ [])) (same_Some (shown_of n device) d e) (here, ap is_live here, refl)
+    subst (λ (x : Shown). (x.number ≡ n + 0) × (x.live ≡ is_live (n + 0)) × (x.ops ≡ []) × (x.chains ≡ [])) (same_Some (shown_of n device) d e) (here, ap is_live here, refl, refl)
 shown_at n (device ∷ devices) (suc k) d e =
     let next : n + 1 + k ≡ n + suc k = omega arith in
     let rest = shown_at (n + 1) devices k d e in
-    (rest.0 ∙ next, rest.1 ∙ ap is_live next, rest.2)
+    (rest.0 ∙ next, rest.1 ∙ ap is_live next, rest.2, rest.3)
 
-pub opened_kept : (devices : List Device) (p : Pipeline) (journal : Noted) → 1 ≤ length devices → AllKept p.domains.items → map shown p.domains.items ≡ shown_from 0 devices → p.submissions.items ≡ [] → p.outcomes.items ≡ [] → journal ≡ record { log = []; marks = [] } → IsKept journal p
-opened_kept devices p journal some kept are none undecided empty =
-    let line : Line = record { domains = shown_from 0 devices; submissions = []; outcomes = [] } in
+pub opened_kept : (devices : List Device) (p : Pipeline) (journal : Noted) → 1 ≤ length devices → AllKept p.domains.items → map shown p.domains.items ≡ shown_from 0 devices → p.submissions.items ≡ [] → p.outcomes.items ≡ [] → p.failures.items ≡ [] → journal ≡ record { log = []; marks = [] } → IsKept journal p
+opened_kept devices p journal some kept are none undecided unopened empty =
+    let line : Line = record { domains = shown_from 0 devices; submissions = []; outcomes = []; failures = [] } in
     let start : IsCurrent [] [] line = record {
       sound = record {
         some = omega (arith, some, length-shown 0 devices);
         within = omega arith;
-        domains = λ n d at. let facts = shown_at 0 devices n d at in let zeroth : 0 + n ≡ n = omega arith in record { number = facts.0 ∙ zeroth; live = facts.1 ∙ ap is_live zeroth; commits = facts.2 };
+        domains = λ n d at. let facts = shown_at 0 devices n d at in let zeroth : 0 + n ≡ n = omega arith in record { number = facts.0 ∙ zeroth; live = facts.1 ∙ ap is_live zeroth; commits = facts.2; chains = facts.3 };
         submissions = λ i s at. cc;
+        failures = no_failure;
       };
       submissions = refl;
       outcomes = refl;
       marks = λ place. refl;
+      chains = refl;
     } in
-    let same : ◌≡◌ {A = Line} line (line_of p) = λ i. record { domains = sym are i; submissions = sym none i; outcomes = sym undecided i } in
+    let same : ◌≡◌ {A = Line} line (line_of p) = λ i. record { domains = sym are i; submissions = sym none i; outcomes = sym undecided i; failures = sym unopened i } in
     record {
       kept = kept;
       current = subst (λ (j : Noted). IsCurrent j.log j.marks (line_of p)) (sym empty) (subst (IsCurrent [] []) same start);
     }
+  where
+    no_failure : (k : ℕ) → noted_in [] k ≡ None
+    no_failure zero = refl
+    no_failure (suc k) = refl

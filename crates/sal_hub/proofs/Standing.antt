@@ -1,40 +1,161 @@
--- What a transaction that was begun stands on.
-use Rattle.std.proofs.Common.{◌≡◌, ◌≤◌, List, length, take, drop, ap, sym, ◌∙◌, subst, arith}
-use Rattle.std.proofs.lemmas.List.{length-take-le}
-use Rattle.sal_types.specs.declared.value.Store.{Store}
-use Rattle.sal_rows.specs.Commits.{tree_after}
-use Rattle.sal_tree.specs.declared.commit.Pair.{Pair}
-use Rattle.sal_graft.specs.Kept.{rows_in}
-use Rattle.sal_tx.specs.declared.begun.Begun.{Begun}
+-- What a transaction that was begun stands on: a commit of domain 0 that there is.
+use Rattle.std.proofs.Common.{◌≡◌, ◌⊎◌, ℕ, zero, suc, ◌-◌, ◌<◌, ◌≤◌, ◌+◌, Bool, true, false, not, List, [], ◌∷◌, ◌++◌, length, map, Option, None, Some, refl, ap, sym, ◌∙◌, subst, arith, append_assoc, append-nil, length-append, inl, inr, if◌then◌else◌, nat_eq}
+use Rattle.std.specs.Prelude.{slice_get, option_and_then, unwrap_or}
+use Rattle.std.specs.Option.{option_map, option_or, option_to_list}
+use Rattle.std.specs.List.{fold}
+use Rattle.std.proofs.lemmas.Bool.Decides.{nat_tests}
+use Rattle.std.proofs.lemmas.List.{map-append}
+use Rattle.std.proofs.lemmas.Option.{same_Some}
+use Rattle.sal_rows.specs.declared.op.Op.{Op}
+use Rattle.sal_rows.specs.declared.outcome.CallFault.{CallFault}
+use Rattle.sal_rows.specs.declared.outcome.CallFault.TheVariants.{ChainClosed, ChainFailed, NoDomain, PreviousOpen}
+use Rattle.sal_rows.specs.declared.outcome.Outcome.{Outcome}
+use Rattle.sal_history.specs.declared.call.Call.{Call}
+use Rattle.sal_history.specs.declared.call.Call.TheVariants.{Begin, ChainBegin, Submit}
 use Rattle.sal_history.specs.declared.call.Entry.{Entry}
-use Rattle.sal_history.specs.World.{Domain, opening_of}
-use Rattle.sal_history.specs.History.{Answered, Base, began_at, commits, history, trees_at}
-use Rattle.sal_hub.specs.Lines.{Grows}
-use Rattle.sal_hub.specs.Tokens.{IsBegun}
-use Rattle.sal_hub.proofs.Listed.{length-Grows, take-Grows}
-use Rattle.sal_hub.proofs.Histories.{began_in, commits-grow, length-history, split}
-use Rattle.sal_hub.proofs.Starting.{same_rows}
+use Rattle.sal_history.specs.declared.reply.Reply.{Reply}
+use Rattle.sal_history.specs.declared.reply.Reply.TheVariants.{Begun, Receipt, Refused}
+use Rattle.sal_history.specs.World.{Domain}
+use Rattle.sal_history.specs.History.{Answered, answer, base_on, began_at, began_by, chain_refusal, chained_base, commits, decided_by, domain_of, failed_by, fault_if, has_open, history, is_closed, is_live, newest_base, nowhere, outcomes, refused_or, reply_to, sent_by, sents, stands_on}
+use Rattle.sal_history.specs.Submissions.{Base, Sent, done, if_done}
+use Rattle.sal_hub.proofs.Histories.{now_of, outcomes-answer, sents-answer}
+use Rattle.sal_hub.proofs.Listed.{last_or_before, slice_get_left}
 
--- it stands on a commit of domain 0, over the trees there
-pub record StandsOn (world : List Domain) (log : List Entry) (begun : Begun) (base : Pair) : Type 0 where
-  pub domain : begun.domain ≡ 0
-  pub commit : begun.base_commit ≤ length (commits (history world log) 0)
-  pub rows : (s : Store) → rows_in base s ≡ trees_at world 0 (commits (history world log) 0) begun.base_commit s
+-- a commit of domain 0
+abbrev pub IsAt : ℕ → Base → Type 0
+IsAt count base = (base.domain ≡ 0) × (base.commit ≤ count)
 
-pub stands_on : (world : List Domain) (log : List Entry) (begun : Begun) (base : Pair) → IsBegun (record { world = world; log = log }) begun base → StandsOn world log begun base
-stands_on world log begun base is =
-    let place = begun.place in
-    let front : List Answered = history world (take place log) in
-    let long : place ≡ length front = sym (length-history world (take place log) ∙ length-take-le place log (omega (arith, is.before))) in
-    let b : Base = record { domain = begun.domain; commit = begun.base_commit } in
-    let facts = began_in world (drop place log) front b place long (ap (λ (done : List Answered). began_at done place) (sym (split world log place)) ∙ is.began) in
-    let commit : begun.base_commit ≡ length (commits front 0) = facts.1 ∙ ap (λ n. length (commits front n)) facts.0 in
-    let grown : Grows (commits front 0) (commits (history world log) 0) = subst (λ (done : List Answered). Grows (commits front 0) (commits done 0)) (sym (split world log place)) (commits-grow world front (drop place log) 0) in
-    record {
-      domain = facts.0;
-      commit = omega (arith, commit, length-Grows (commits front 0) (commits (history world log) 0) grown);
-      rows = λ s.
-          sym (same_rows base s) ∙ is.base s
-          ∙ ap (λ n. tree_after s (opening_of world n s) (commits front n)) facts.0
-          ∙ sym (ap (λ n. tree_after s (opening_of world 0 s) (take n (commits (history world log) 0))) commit ∙ ap (tree_after s (opening_of world 0 s)) (take-Grows (commits front 0) (commits (history world log) 0) grown));
-    }
+later : (m n : ℕ) (b : Base) → m ≤ n → IsAt m b → IsAt n b
+later m n b h is = (is.0, omega (arith, h, is.1))
+
+-- ---- commits are not taken back
+
+done-more : (n : ℕ) (ss ts : List Sent) (os ps : List Outcome) → length (done n ss os) ≤ length (done n (ss ++ ts) (os ++ ps))
+done-more n [] ts os ps = omega arith
+done-more n (s ∷ ss) ts [] ps = omega arith
+done-more n (s ∷ ss) ts (o ∷ os) ps =
+    let own : List Sent = if nat_eq s.base.domain n then if_done o s else [] in
+    omega (arith, done-more n ss ts os ps, length-append own (done n ss os), length-append own (done n (ss ++ ts) (os ++ ps)))
+
+length-ops : (ss : List Sent) → length (map (λ (s : Sent). s.ops) ss) ≡ length ss
+length-ops [] = refl
+length-ops (s ∷ ss) = ap suc (length-ops ss)
+
+-- ---- what is allowed is live
+
+last_none : (a b c d : Option CallFault) → option_or a (option_or b (option_or c d)) ≡ None → d ≡ None
+last_none None None None d e = e
+last_none None None (Some x) d e = cc
+last_none None (Some x) c d e = cc
+last_none (Some x) b c d e = cc
+
+unless_live : (b : Bool) (f : CallFault) → fault_if (not b) f ≡ None → b ≡ true
+unless_live true f e = refl
+unless_live false f e = cc
+
+pub allowed_live : (answered : List Answered) (chain : ℕ) → chain_refusal answered chain ≡ None → is_live (domain_of answered chain) ≡ true
+allowed_live answered chain e =
+    unless_live (is_live (domain_of answered chain)) (NoDomain (domain_of answered chain))
+    (last_none (fault_if (is_closed answered chain) ChainClosed) (option_map ChainFailed (failed_by answered chain)) (fault_if (has_open answered chain) PreviousOpen)
+    (fault_if (not (is_live (domain_of answered chain))) (NoDomain (domain_of answered chain))) e)
+
+pub live_zero : (domain : ℕ) → is_live domain ≡ true → domain ≡ 0
+live_zero domain live = grind (arith, nat_tests)
+
+-- what a call submits stands on what began, if anything
+submitted_base : (answered : List Answered) (call : Call) (r : Reply) (s : Sent) → sent_by answered call r ≡ Some s → (place : ℕ) × (s.base ≡ unwrap_or (began_at answered place) nowhere)
+submitted_base answered (Submit place ops) (Receipt n) s e = (place, ap (λ (t : Sent). t.base) (sym (same_Some (record { base = unwrap_or (began_at answered place) nowhere; ops = ops }) s e)))
+submitted_base answered call r s e = cc
+
+-- ---- all logs
+
+pub record AreAt (answered : List Answered) : Type 0 where
+  pub begun : (place : ℕ) (b : Base) → began_at answered place ≡ Some b → IsAt (length (commits answered 0)) b
+  pub sent : (i : ℕ) (s : Sent) → slice_get (sents answered) i ≡ Some s → IsAt (length (commits answered 0)) s.base
+
+module _ (world : List Domain) (answered : List Answered) (was : AreAt answered) where
+  abbrev count : ℕ
+  count = length (commits answered 0)
+
+  newest_at : (domain : ℕ) (chain : Option ℕ) → is_live domain ≡ true → IsAt count (newest_base world answered domain chain)
+  newest_at domain chain live =
+      let zeroth : domain ≡ 0 = live_zero domain live in
+      (zeroth, omega (arith, ap (λ n. length (commits answered n)) zeroth))
+
+  on_at : (chain : ℕ) (o : Option Sent) → is_live (domain_of answered chain) ≡ true → ((s : Sent) → o ≡ Some s → IsAt count s.base) → IsAt count (base_on world answered chain o)
+  on_at chain None live each = newest_at (domain_of answered chain) (Some chain) live
+  on_at chain (Some s) live each = each s refl
+
+  found_at : (chain : ℕ) (n : Option ℕ) (s : Sent) → option_and_then (λ k. slice_get (sents answered) (k - 1)) n ≡ Some s → IsAt count s.base
+  found_at chain None s e = cc
+  found_at chain (Some k) s e = was.sent (k - 1) s e
+
+  begun_now : (call : Call) (b : Base) → began_by world answered call (reply_to world answered call) ≡ Some b → IsAt count b
+  begun_now (Begin domain mode) b =
+      elim (is_live domain) as (λ live. is_live domain ≡ live → began_by world answered (Begin domain mode) (if live then Begun (length (commits answered domain)) None else Refused (NoDomain domain)) ≡ Some b → IsAt count b) [
+        | true ↦ λ live e. subst (IsAt count) (same_Some (newest_base world answered domain None) b e) (newest_at domain None live)
+        | false ↦ λ live e. cc
+      ] refl
+  begun_now (ChainBegin chain mode) b =
+      elim (chain_refusal answered chain) as (λ o. chain_refusal answered chain ≡ o → began_by world answered (ChainBegin chain mode) (refused_or o (Begun (chained_base world answered chain).commit (stands_on answered chain))) ≡ Some b → IsAt count b) [
+        | None ↦ λ allowed e.
+            subst (IsAt count) (same_Some (chained_base world answered chain) b e)
+            (on_at chain (option_and_then (λ k. slice_get (sents answered) (k - 1)) (stands_on answered chain)) (allowed_live answered chain allowed) (found_at chain (stands_on answered chain)))
+        | Some f ↦ λ allowed e. cc
+      ] refl
+  begun_now call b = λ e. cc
+
+  sent_now : (call : Call) (s : Sent) → sent_by answered call (reply_to world answered call) ≡ Some s → IsAt count s.base
+  sent_now call s e =
+      let (place, from) = submitted_base answered call (reply_to world answered call) s e in
+      subst (IsAt count) (sym from) (given (began_at answered place) (was.begun place))
+    where
+      given : (o : Option Base) → ((b : Base) → o ≡ Some b → IsAt count b) → IsAt count (unwrap_or o nowhere)
+      given None each = (refl, omega arith)
+      given (Some b) each = each b refl
+
+  module _ (e : Entry) where
+    abbrev next : List Answered
+    next = answer world answered e
+
+    more : count ≤ length (commits next 0)
+    more =
+        let ss : List Sent = option_to_list (sent_by answered e.call (reply_to world answered e.call)) in
+        let os : List Outcome = decided_by world answered e.call in
+        let same : length (commits next 0) ≡ length (done 0 (sents answered ++ ss) (outcomes answered ++ os)) =
+        length-ops (done 0 (sents next) (outcomes next)) ∙ (λ i. length (done 0 (sents-answer world answered e i) (outcomes-answer world answered e i))) in
+        omega (arith, same, length-ops (done 0 (sents answered) (outcomes answered)), done-more 0 (sents answered) ss (outcomes answered) os)
+
+    begun_next : (place : ℕ) (b : Base) → began_at next place ≡ Some b → IsAt (length (commits next 0)) b
+    begun_next place b is =
+        elim (last_of answered place (now_of world answered e) b is) [
+          | inl old ↦ later count (length (commits next 0)) b more (was.begun place b old)
+          | inr new ↦ later count (length (commits next 0)) b more (begun_now e.call b new)
+        ]
+      where
+        last_of : (xs : List Answered) (k : ℕ) (a : Answered) (c : Base) → began_at (xs ++ a ∷ []) k ≡ Some c → (began_at xs k ≡ Some c) ⊎ (a.began ≡ Some c)
+        last_of [] zero a c at = inr at
+        last_of [] (suc k) a c at = cc
+        last_of (x ∷ xs) zero a c at = inl at
+        last_of (x ∷ xs) (suc k) a c at = last_of xs k a c at
+
+    sent_next : (i : ℕ) (s : Sent) → slice_get (sents next) i ≡ Some s → IsAt (length (commits next 0)) s.base
+    sent_next i s is =
+        elim (last_sent (sents answered) (sent_by answered e.call (reply_to world answered e.call)) i s (ap (λ (ss : List Sent). slice_get ss i) (sym (sents-answer world answered e)) ∙ is)) [
+          | inl old ↦ later count (length (commits next 0)) s.base more (was.sent i s old)
+          | inr new ↦ later count (length (commits next 0)) s.base more (sent_now e.call s new)
+        ]
+      where
+        last_sent : (xs : List Sent) (o : Option Sent) (k : ℕ) (t : Sent) → slice_get (xs ++ option_to_list o) k ≡ Some t → (slice_get xs k ≡ Some t) ⊎ (o ≡ Some t)
+        last_sent xs None k t at = inl (ap (λ (ys : List Sent). slice_get ys k) (sym (append-nil xs)) ∙ at)
+        last_sent xs (Some x) k t at = elim (last_or_before xs x t k at) [ inl old ↦ inl old | inr w ↦ inr (ap Some w.1) ]
+
+    pub AreAt-answer : AreAt (answer world answered e)
+    AreAt-answer = record { begun = begun_next; sent = sent_next }
+
+AreAt-fold : (world : List Domain) (answered : List Answered) (log : List Entry) → AreAt answered → AreAt (fold (answer world) answered log)
+AreAt-fold world answered [] was = was
+AreAt-fold world answered (e ∷ log) was = AreAt-fold world (answer world answered e) log (AreAt-answer world answered was e)
+
+pub are_at : (world : List Domain) (log : List Entry) → AreAt (history world log)
+are_at world log = AreAt-fold world [] log (record { begun = λ place b is. cc; sent = λ i s is. cc })

@@ -4,15 +4,18 @@ use Rattle.std.specs.Prelude.{unwrap_or, ◌||◌}
 use Rattle.std.specs.Option.{option_to_list}
 use Rattle.std.proofs.lemmas.Option.{same_Some}
 use Rattle.sal_rows.specs.declared.op.Op.{Op}
-use Rattle.sal_rows.specs.Apply.{rows_of_act}
+use Rattle.sal_rows.specs.Apply.{apply_ops, rows_of_act}
 use Rattle.sal_rows.specs.declared.outcome.CallFault.{CallFault}
 use Rattle.sal_rows.specs.declared.outcome.CallFault.TheVariants.{PipelineFull, TxSpent}
 use Rattle.sal_schema.specs.declared.table.SchemaTable.{SchemaTable}
+use Rattle.sal_types.specs.declared.value.Store.{Store}
+use Rattle.sal_types.specs.declared.value.Store.TheVariants.{Config, Oper}
 use Rattle.sal_tree.specs.declared.commit.Pair.{Pair}
 use Rattle.sal_tx.specs.declared.tx.Submission.{Submission}
 use Rattle.sal_tx.specs.declared.writing.Writing.{Writing}
-use Rattle.sal_tx.specs.Views.{AreLawful, IsRight}
+use Rattle.sal_tx.specs.Views.{AreLawful, IsRight, rows_in as tx_rows}
 use Rattle.sal_tx.proofs.Nexts.{lie_under}
+use Rattle.sal_graft.specs.Kept.{rows_in}
 use Rattle.sal_commit.specs.declared.domain.Domain.{Domain}
 use Rattle.sal_commit.specs.Deciding.{LieBelow}
 use Rattle.sal_history.specs.declared.call.Call.TheVariants.{Submit}
@@ -20,17 +23,21 @@ use Rattle.sal_history.specs.declared.call.Entry.{Entry}
 use Rattle.sal_history.specs.declared.reply.Reply.{Reply}
 use Rattle.sal_history.specs.declared.reply.Reply.TheVariants.{Receipt, Refused}
 use Rattle.sal_history.specs.World as world
-use Rattle.sal_history.specs.History.{Answered, Base, Sent, commits, entries_of, outcomes, reply_to, sent_by, sents, spends, submitted, trees_at}
+use Rattle.sal_history.specs.History.{Answered, commits, entries_of, nowhere, outcomes, reply_to, sent_by, sents, spends, submitted}
+use Rattle.sal_history.specs.Submissions.{Base, Sent}
 use Rattle.sal_hub.specs.declared.pipeline.Pipeline.{Pipeline}
 use Rattle.sal_hub.specs.Answers.{Fails, Made}
 use Rattle.sal_hub.specs.Current.{IsCurrent, IsKept, answers, known_of}
+use Rattle.sal_hub.specs.Failures.{IsWithin}
 use Rattle.sal_hub.specs.Journals.{Noted, jotted, mark_at}
 use Rattle.sal_hub.specs.Known.{Known}
 use Rattle.sal_hub.specs.Lines.{AllKept, Line, Stands, commits_in, line_of, sent_of, sents_in, shown, world_in}
 use Rattle.sal_hub.specs.Submits.{refusal_of, submission_of}
 use Rattle.sal_hub.specs.Tokens.{IsBegun, IsGiven}
-use Rattle.sal_hub.proofs.Keeping.{commits-current, length-submissions, pushed, quiet, sents-longer, sound-longer}
-use Rattle.sal_hub.proofs.Standing.{StandsOn, stands_on}
+use Rattle.sal_hub.proofs.Beginning.{quiet_kept}
+use Rattle.sal_hub.proofs.Keeping.{commits-current, length-submissions, none_more, pushed, sents-longer, sound-longer}
+use Rattle.sal_hub.proofs.Standing.{IsAt, are_at}
+use Rattle.sal_hub.proofs.Starting.{same_rows}
 
 -- the rows of lawful operations lie below their paths
 lie_below : (table : SchemaTable) (base : Pair) (earlier ops : List Op) → AreLawful table base earlier ops → LieBelow ops
@@ -108,10 +115,7 @@ module _ (journal journal' : Noted) (p : Pipeline) (is : IsKept journal p) (clie
   pub refused_kept : (f : CallFault) → refusal_of (length p.submissions.items - length p.outcomes.items) (mark_at journal.marks place) ≡ Some f → ((k : ℕ) → mark_at journal'.marks k ≡ mark_at journal.marks k) → IsKept journal' p
   refused_kept f e marks =
       let reply = refused_now f e in
-      record {
-        kept = is.kept;
-        current = subst (λ (l : List Entry). IsCurrent l journal'.marks (line_of p)) (sym log) (quiet journal.log journal.marks (line_of p) is.current entry journal'.marks (ap (sent_by answered (Submit place ops)) reply) refl (λ k. ap (λ r. spends (Submit place ops) r k) reply) marks);
-      }
+      quiet_kept journal journal' p is client (Submit place ops) log (ap (sent_by answered (Submit place ops)) reply) refl (λ k. ap (λ r. spends (Submit place ops) r k) reply) refl marks
 
   pub refused_made : (f : CallFault) → length journal.log < 1000000 → refusal_of (length p.submissions.items - length p.outcomes.items) (mark_at journal.marks place) ≡ Some f → Made (known_of journal p) (known_of journal' p) (record { client = client; number = entries_of journal.log client; call = Submit place ops }) (Refused f)
   refused_made f room e = record {
@@ -123,7 +127,7 @@ module _ (journal journal' : Noted) (p : Pipeline) (is : IsKept journal p) (clie
 -- ---- a submission more
 
 module _ (journal journal' : Noted) (p p' : Pipeline) (is : IsKept journal p) (client : ℕ) (tx : Writing) (token : IsBegun (known_of journal p) tx.begun tx.base) (right : IsRight tx) (log : journal'.log ≡ jotted journal.log client (Submit tx.begun.place tx.changes)) (open_now : refusal_of (length p.submissions.items - length p.outcomes.items) (mark_at journal.marks tx.begun.place) ≡ None)
-    (domains : p'.domains ≡ p.domains) (outcomes_same : p'.outcomes ≡ p.outcomes) (submissions : p'.submissions.items ≡ p.submissions.items ++ submission_of tx (length p.submissions.items + 1) ∷ []) (marks : (k : ℕ) → mark_at journal'.marks k ≡ (nat_eq tx.begun.place k || mark_at journal.marks k)) where
+    (member : IsWithin (length p.failures.items) tx.begun.chain) (domains : p'.domains ≡ p.domains) (failures_same : p'.failures ≡ p.failures) (outcomes_same : p'.outcomes ≡ p.outcomes) (submissions : p'.submissions.items ≡ p.submissions.items ++ submission_of tx (length p.submissions.items + 1) ∷ []) (marks : (k : ℕ) → mark_at journal'.marks k ≡ (nat_eq tx.begun.place k || mark_at journal.marks k)) where
   abbrev new_world : List world.Domain
   new_world = world_in (line_of p).domains
 
@@ -137,19 +141,25 @@ module _ (journal journal' : Noted) (p p' : Pipeline) (is : IsKept journal p) (c
   made_entry = record { client = client; number = entries_of journal.log client; call = Submit tx.begun.place tx.changes }
 
   abbrev more : Line
-  more = record { domains = (line_of p).domains; submissions = (line_of p).submissions ++ sub ∷ []; outcomes = (line_of p).outcomes }
+  more = record { domains = (line_of p).domains; submissions = (line_of p).submissions ++ sub ∷ []; outcomes = (line_of p).outcomes; failures = (line_of p).failures }
 
   line_is : more ≡ line_of p'
-  line_is = λ i. record { domains = map shown (sym domains i).items; submissions = sym submissions i; outcomes = (sym outcomes_same i).items }
+  line_is = λ i. record { domains = map shown (sym domains i).items; submissions = sym submissions i; outcomes = (sym outcomes_same i).items; failures = (sym failures_same i).items }
+
+  view : (store : Store) → rows_in tx.view store ≡ apply_ops (rows_in tx.base store) store tx.changes
+  view Config = right.config.rows
+  view Oper = right.oper.rows
 
   stands : Stands (line_of p) sub
   stands =
-      let on : StandsOn new_world journal.log tx.begun tx.base = stands_on new_world journal.log tx.begun tx.base token in
+      let b : Base = record { domain = tx.begun.domain; commit = tx.begun.base_commit; chain = tx.begun.chain; trees = tx_rows tx.base } in
+      let on : IsAt (length (commits before 0)) b = (are_at new_world journal.log).begun tx.begun.place b token.began in
       let same : commits_in (line_of p) 0 ≡ commits before 0 = commits-current journal.log journal.marks (line_of p) 0 is.current in
       record {
-        domain = on.domain;
-        base = subst (λ (cs : List (List Op)). tx.begun.base_commit ≤ length cs) (sym same) on.commit;
-        trees = λ store. on.rows store ∙ ap (λ (cs : List (List Op)). trees_at new_world 0 cs tx.begun.base_commit store) (sym same);
+        domain = on.0;
+        base = subst (λ (cs : List (List Op)). tx.begun.base_commit ≤ length cs) (sym same) on.1;
+        chain = member;
+        view = view;
         below = lie_below tx.begun.schema.value tx.base [] tx.changes right.lawful;
       }
 
@@ -159,7 +169,8 @@ module _ (journal journal' : Noted) (p p' : Pipeline) (is : IsKept journal p) (c
   sent_now : sent_by before (Submit tx.begun.place tx.changes) (reply_to new_world before (Submit tx.begun.place tx.changes)) ≡ Some (sent_of sub)
   sent_now =
       ap (sent_by before (Submit tx.begun.place tx.changes)) reply_now
-      ∙ ap (λ (o : Option Base). Some (let s : Sent = record { base = unwrap_or o (record { domain = 0; commit = 0 }); ops = tx.changes } in s)) token.began
+      ∙ ap (λ (o : Option Base). Some (let s : Sent = record { base = unwrap_or o nowhere; ops = tx.changes } in s)) token.began
+      ∙ (λ i. Some (let s : Sent = record { base = record { domain = tx.begun.domain; commit = tx.begun.base_commit; chain = tx.begun.chain; trees = λ store. same_rows tx.base store i }; ops = tx.changes } in s))
 
   current_now : IsCurrent (journal.log ++ made_entry ∷ []) journal'.marks more
   current_now =
@@ -170,6 +181,7 @@ module _ (journal journal' : Noted) (p p' : Pipeline) (is : IsKept journal p) (c
       (λ k.
       marks k ∙ swapped (nat_eq tx.begun.place k) (mark_at journal.marks k)
       ∙ ap (λ r. mark_at journal.marks k || spends (Submit tx.begun.place tx.changes) r k) (sym reply_now))
+      (none_more (length p.failures.items))
 
   pub accepted_kept : IsKept journal' p'
   accepted_kept = record {

@@ -1,7 +1,7 @@
 -- What a hub keeps is what its log gives.
-use Rattle.std.specs.Prelude.{◌≡◌, ℕ, Bool, List}
+use Rattle.std.specs.Prelude.{◌≡◌, ℕ, Bool, List, length}
 use Rattle.sal_history.specs.declared.call.Entry.{Entry}
-use Rattle.sal_history.specs.History.{Answered, history, is_spent, outcomes, sents}
+use Rattle.sal_history.specs.History.{Answered, chain_domains, history, is_spent, outcomes, sents}
 use Rattle.sal_hub.specs.declared.pipeline.Pipeline.{Pipeline}
 use Rattle.sal_hub.specs.Journals.{Noted, mark_at}
 use Rattle.sal_hub.specs.Known.{Known}
@@ -11,12 +11,13 @@ use Rattle.sal_hub.specs.Lines.{AllKept, IsSound, Line, line_of, sents_in, world
 abbrev pub answers : List Entry → Line → List Answered
 answers log line = history (world_in line.domains) log
 
--- the submissions, the outcomes, the commits and the marks are the log's
+-- the submissions, the outcomes, the commits, the marks and the chains that failed are the log's
 pub record IsCurrent (log : List Entry) (noted : List Bool) (line : Line) : Type 0 where
   pub sound : IsSound line
   pub submissions : sents_in line ≡ sents (answers log line)
   pub outcomes : line.outcomes ≡ outcomes (answers log line)
   pub marks : (place : ℕ) → mark_at noted place ≡ is_spent (answers log line) place
+  pub chains : length line.failures ≡ length (chain_domains (answers log line))
 
 pub record IsKept (journal : Noted) (p : Pipeline) : Type 0 where
   pub kept : AllKept p.domains.items

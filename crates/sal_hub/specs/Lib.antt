@@ -1,12 +1,17 @@
 pub mod Answers
+pub mod Chains
 pub mod Counts
 pub mod Current
 pub mod Domains
+pub mod Failures
 pub mod Journals
 pub mod Known
 pub mod Lines
+pub mod Marks
 pub mod Opened
 pub mod Openings
+pub mod Seen
 pub mod Starts
 pub mod Submits
 pub mod Tokens
+pub mod Whole

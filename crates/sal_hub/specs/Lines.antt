@@ -1,39 +1,46 @@
--- What a hub keeps beside its log: the domains with their commits, the submissions and the outcomes.
-use Rattle.std.specs.Prelude.{◌≡◌, ℕ, ◌≤◌, Bool, List, [], ◌∷◌, ◌++◌, length, map, take, Some, All, slice_get}
+-- What a hub keeps beside its log: the domains with their commits, the submissions, the outcomes, and which chains failed.
+use Rattle.std.specs.Prelude.{◌≡◌, ℕ, ◌≤◌, Bool, List, [], ◌∷◌, ◌++◌, length, map, take, Option, Some, All, slice_get}
 use Rattle.sal_types.specs.declared.value.Store.{Store}
 use Rattle.sal_types.specs.declared.value.Store.TheVariants.{Config, Oper}
 use Rattle.sal_types.specs.declared.row.Row.{Row}
 use Rattle.sal_rows.specs.declared.op.Op.{Op}
 use Rattle.sal_rows.specs.declared.outcome.Outcome.{Outcome}
+use Rattle.sal_rows.specs.Apply.{apply_ops}
 use Rattle.sal_schema.specs.declared.table.SchemaTable.{SchemaTable}
-use Rattle.sal_graft.specs.Kept.{AreKept, opening_in, ops_of, rows_in}
+use Rattle.sal_graft.specs.Kept.{AreKept, chains_of, opening_in, ops_of, rows_in}
 use Rattle.sal_tx.specs.declared.tx.Submission.{Submission}
 use Rattle.sal_commit.specs.declared.domain.Domain.{Domain}
 use Rattle.sal_commit.specs.Deciding.{LieBelow}
 use Rattle.sal_history.specs.World as world
-use Rattle.sal_history.specs.History.{Sent, decide_next, done_ops, is_live, trees_at}
+use Rattle.sal_history.specs.History.{decide_next, is_live}
+use Rattle.sal_history.specs.Submissions.{Sent, done_chains, done_ops, failing}
 use Rattle.sal_hub.specs.declared.pipeline.Pipeline.{Pipeline}
+use Rattle.sal_hub.specs.Failures.{IsWithin, cut_failures, noted_in}
 
 -- ---- what a contract sees
 
--- a domain, by its opening trees and the operations of its commits
+-- a domain, by its opening trees, and the operations and the chains of its commits
 pub record Shown : Type 0 where
   pub number : ℕ
   pub live : Bool
   pub table : SchemaTable
   pub opening : Store → List Row
   pub ops : List (List Op)
+  pub chains : List (Option ℕ)
 
 pub record Line : Type 0 where
   pub domains : List Shown
   pub submissions : List Submission
   pub outcomes : List Outcome
+  -- for each chain the receipt by which it failed
+  pub failures : List (Option ℕ)
 
 abbrev pub shown : Domain → Shown
-shown d = record { number = d.number; live = d.live; table = d.schema.value; opening = opening_in d.commits.items; ops = ops_of d.commits.items }
+shown d =
+    record { number = d.number; live = d.live; table = d.schema.value; opening = opening_in d.commits.items; ops = ops_of d.commits.items; chains = chains_of d.commits.items }
 
 abbrev pub line_of : Pipeline → Line
-line_of p = record { domains = map shown p.domains.items; submissions = p.submissions.items; outcomes = p.outcomes.items }
+line_of p = record { domains = map shown p.domains.items; submissions = p.submissions.items; outcomes = p.outcomes.items; failures = p.failures.items }
 
 -- ---- as the log's definitions have it
 
@@ -44,7 +51,7 @@ abbrev pub world_in : List Shown → List world.Domain
 world_in domains = map opened_as domains
 
 abbrev pub sent_of : Submission → Sent
-sent_of s = record { base = record { domain = s.domain; commit = s.base_commit }; ops = s.changes }
+sent_of s = record { base = record { domain = s.domain; commit = s.base_commit; chain = s.chain; trees = rows_in s.base }; ops = s.changes }
 
 abbrev pub sents_in : Line → List Sent
 sents_in line = map sent_of line.submissions
@@ -53,19 +60,26 @@ sents_in line = map sent_of line.submissions
 abbrev pub commits_in : Line → ℕ → List (List Op)
 commits_in line n = done_ops n (sents_in line) line.outcomes
 
+-- and their chains
+abbrev pub chains_in : Line → ℕ → List (Option ℕ)
+chains_in line n = done_chains n (sents_in line) line.outcomes
+
 -- ---- what holds of it
 
--- a domain has its number, and the commits that the outcomes tell
+-- a domain has its number, and the commits that the outcomes tell, with their chains
 pub record IsStored (line : Line) (n : ℕ) (d : Shown) : Type 0 where
   pub number : d.number ≡ n
   pub live : d.live ≡ is_live n
   pub commits : d.ops ≡ commits_in line n
+  pub chains : d.chains ≡ chains_in line n
 
--- A submission stands on a commit of domain 0, over the trees there; the rows of its operations lie below their paths.
+-- A submission stands on a commit of domain 0, and its chain is one that was opened; its view is its base after its
+-- operations, whose rows lie below their paths.
 pub record Stands (line : Line) (s : Submission) : Type 0 where
   pub domain : s.domain ≡ 0
   pub base : s.base_commit ≤ length (commits_in line 0)
-  pub trees : (store : Store) → rows_in s.base store ≡ trees_at (world_in line.domains) 0 (commits_in line 0) s.base_commit store
+  pub chain : IsWithin (length line.failures) s.chain
+  pub view : (store : Store) → rows_in s.view store ≡ apply_ops (rows_in s.base store) store s.changes
   pub below : LieBelow s.changes
 
 pub record IsSound (line : Line) : Type 0 where
@@ -73,6 +87,7 @@ pub record IsSound (line : Line) : Type 0 where
   pub within : length line.outcomes ≤ length line.submissions
   pub domains : (n : ℕ) (d : Shown) → slice_get line.domains n ≡ Some d → IsStored line n d
   pub submissions : (i : ℕ) (s : Submission) → slice_get line.submissions i ≡ Some s → Stands line s
+  pub failures : (chain : ℕ) → noted_in line.failures chain ≡ failing (Some chain) (sents_in line) line.outcomes
 
 -- the commits of each domain have their trees
 abbrev pub AllKept : List Domain → Type 0
@@ -89,27 +104,29 @@ abbrev pub HaveGrown : List Shown → List Shown → Type 0
 HaveGrown [] [] = Unit {0}
 HaveGrown [] (e ∷ es) = ⊥
 HaveGrown (d ∷ ds) [] = ⊥
-HaveGrown (d ∷ ds) (e ∷ es) = ((e ≡ record d { ops = e.ops }) × Grows d.ops e.ops) × HaveGrown ds es
+HaveGrown (d ∷ ds) (e ∷ es) = ((e ≡ record d { ops = e.ops; chains = e.chains }) × Grows d.ops e.ops × Grows d.chains e.chains) × HaveGrown ds es
 
 -- decisions were added, if any
 pub record HasGrown (old new : Line) : Type 0 where
   pub domains : HaveGrown old.domains new.domains
   pub submissions : new.submissions ≡ old.submissions
   pub outcomes : Grows old.outcomes new.outcomes
+  pub failures : cut_failures (length old.outcomes) new.failures ≡ old.failures
 
 -- the domains with so many of their commits
 abbrev pub cut_all : List Shown → List ℕ → List Shown
 cut_all [] ks = []
 cut_all (d ∷ ds) [] = d ∷ ds
-cut_all (d ∷ ds) (k ∷ ks) = record d { ops = take k d.ops } ∷ cut_all ds ks
+cut_all (d ∷ ds) (k ∷ ks) = record d { ops = take k d.ops; chains = take k d.chains } ∷ cut_all ds ks
 
 -- how many commits each domain has behind its opening
 abbrev pub counts_of : List Shown → List ℕ
 counts_of ds = map (λ (d : Shown). length d.ops) ds
 
--- the next n of the submissions were decided
+-- the next n of the submissions were decided, and as many chains are known
 pub record AreDecided (old : Line) (n : ℕ) (new : Line) : Type 0 where
   pub sound : IsSound new
   pub world : world_in new.domains ≡ world_in old.domains
   pub submissions : new.submissions ≡ old.submissions
   pub outcomes : new.outcomes ≡ old.outcomes ++ decide_next (world_in old.domains) (sents_in old) old.outcomes n
+  pub chains : length new.failures ≡ length old.failures

@@ -1,20 +1,35 @@
--- A transaction that begins at the newest commit of a domain.
-use Rattle.std.specs.Prelude.{◌≡◌, ℕ, length, [], None}
+-- Where a transaction begins, and the transaction that begins there.
+use Rattle.std.specs.Prelude.{◌≡◌, ℕ, length, [], Option, None, Some}
 use Rattle.sal_types.specs.declared.value.Store.{Store}
 use Rattle.sal_rows.specs.declared.outcome.Mode.{Mode}
 use Rattle.sal_rows.specs.Clash.{tip}
-use Rattle.sal_graft.specs.Kept.{opening_in, ops_of as commits_of}
+use Rattle.sal_graft.specs.Kept.{opening_in, ops_of as commits_of, rows_in}
+use Rattle.sal_tx.specs.declared.tx.Submission.{Submission}
 use Rattle.sal_tx.specs.declared.tx.Tx.{Tx}
-use Rattle.sal_tx.specs.Views.{rows_in}
 use Rattle.sal_commit.specs.declared.domain.Domain.{Domain}
+use Rattle.sal_hub.specs.declared.start.Footing.{Footing}
 use Rattle.sal_hub.specs.Tokens.{base_of, begun_of, mode_of, ops_of}
 
-pub record Starts (d : Domain) (under : Mode) (at : ℕ) (tx : Tx) : Type 0 where
+-- at the newest commit of the domain
+pub record IsNewest (d : Domain) (footing : Footing) : Type 0 where
+  pub commit : footing.commit ≡ length (commits_of d.commits.items)
+  pub alone : footing.on ≡ None
+  pub trees : (s : Store) → rows_in footing.trees s ≡ tip (opening_in d.commits.items) (commits_of d.commits.items) s
+
+-- on the pending submission
+pub record IsOn (sub : Submission) (receipt : ℕ) (footing : Footing) : Type 0 where
+  pub commit : footing.commit ≡ sub.base_commit
+  pub pending : footing.on ≡ Some receipt
+  pub trees : footing.trees ≡ sub.view
+
+-- a transaction of the domain and the chain, if of any, that begins there
+pub record Starts (d : Domain) (footing : Footing) (member : Option ℕ) (under : Mode) (at : ℕ) (tx : Tx) : Type 0 where
   pub domain : (begun_of tx).domain ≡ d.number
-  pub commit : (begun_of tx).base_commit ≡ length (commits_of d.commits.items)
-  pub alone : (begun_of tx).on ≡ None
+  pub commit : (begun_of tx).base_commit ≡ footing.commit
+  pub on : (begun_of tx).on ≡ footing.on
+  pub chain : (begun_of tx).chain ≡ member
   pub place : (begun_of tx).place ≡ at
   pub schema : (begun_of tx).schema.value ≡ d.schema.value
-  pub base : (s : Store) → rows_in (base_of tx) s ≡ tip (opening_in d.commits.items) (commits_of d.commits.items) s
+  pub base : base_of tx ≡ footing.trees
   pub mode : mode_of tx ≡ under
   pub ops : ops_of tx ≡ []

@@ -1,6 +1,5 @@
--- The tokens that a hub has given: transactions and receipts.
-use Rattle.std.specs.Prelude.{◌≡◌, ℕ, ◌<◌, ◌≤◌, List, [], length, Some}
-use Rattle.sal_types.specs.declared.value.Store.{Store}
+-- The tokens that a hub has given: transactions, receipts and chains.
+use Rattle.std.specs.Prelude.{◌≡◌, ℕ, ◌-◌, ◌<◌, ◌≤◌, List, [], length, Option, Some, slice_get}
 use Rattle.sal_rows.specs.declared.op.Op.{Op}
 use Rattle.sal_rows.specs.declared.outcome.Mode.{Mode}
 use Rattle.sal_rows.specs.declared.outcome.Mode.TheVariants.{Ro}
@@ -10,7 +9,8 @@ use Rattle.sal_tx.specs.declared.tx.Tx.{Tx}
 use Rattle.sal_tx.specs.declared.tx.Tx.TheVariants.{Read, Write}
 use Rattle.sal_tx.specs.Views.{rows_in}
 use Rattle.sal_history.specs.World.{table_of}
-use Rattle.sal_history.specs.History.{base_tree, began_at, history, sents}
+use Rattle.sal_history.specs.History.{began_at, chain_domains, history, sents}
+use Rattle.sal_hub.specs.declared.chain.Chain.{Chain}
 use Rattle.sal_hub.specs.Known.{Known}
 
 abbrev pub begun_of : Tx → Begun
@@ -29,24 +29,28 @@ abbrev pub ops_of : Tx → List Op
 ops_of (Read tx) = []
 ops_of (Write tx) = tx.changes
 
--- The transaction was begun by the entry at its place: its domain, the number of its base commit and the trees that it
--- stands on are those that the log gives.
+-- The transaction was begun by the entry at its place: its domain, the number of its base commit, its chain and the trees
+-- that it stands on are those that the log gives.
 pub record IsBegun (known : Known) (begun : Begun) (trees : Pair) : Type 0 where
   pub before : begun.place < length known.log
-  pub began : began_at (history known.world known.log) begun.place ≡ Some (record { domain = begun.domain; commit = begun.base_commit })
-  pub base : (s : Store) → rows_in trees s ≡ base_tree known.world known.log begun.domain begun.place s
+  pub began : began_at (history known.world known.log) begun.place ≡ Some (record { domain = begun.domain; commit = begun.base_commit; chain = begun.chain; trees = rows_in trees })
   pub schema : begun.schema.value ≡ table_of known.world begun.domain
 
 abbrev pub IsToken : Known → Tx → Type 0
 IsToken known tx = IsBegun known (begun_of tx) (base_of tx)
 
--- the transaction that the entry behind the log begins, in this domain and mode, without operations
-pub record IsFresh (known : Known) (asked : ℕ) (under : Mode) (tx : Tx) : Type 0 where
+-- the transaction that the entry behind the log begins, in this domain, chain and mode, without operations
+pub record IsFresh (known : Known) (asked : ℕ) (member : Option ℕ) (under : Mode) (tx : Tx) : Type 0 where
   pub place : (begun_of tx).place ≡ length known.log
   pub domain : (begun_of tx).domain ≡ asked
+  pub chain : (begun_of tx).chain ≡ member
   pub mode : mode_of tx ≡ under
   pub ops : ops_of tx ≡ []
 
 -- the number is that of a receipt that was given
 abbrev pub IsGiven : Known → ℕ → Type 0
 IsGiven known receipt = (0 < receipt) × (receipt ≤ length (sents (history known.world known.log)))
+
+-- the chain was opened, over its domain
+abbrev pub IsChain : Known → Chain → Type 0
+IsChain known chain = (0 < chain.id) × (slice_get (chain_domains (history known.world known.log)) (chain.id - 1) ≡ Some chain.domain)

@@ -1,25 +1,33 @@
 //! The hub.
-ghost use Rattle.std.specs.Prelude.{◌≡◌, ◌≤◌, None, [], IfOk, MatchResult, length};
+ghost use Rattle.std.specs.Prelude.{◌≡◌, ◌≤◌, None, Some, [], IfOk, MatchResult, length};
 ghost use Rattle.sal_types.specs.declared.value.Store.{Store as Of};
 ghost use Rattle.sal_rows.specs.declared.outcome.Outcome.{Outcome as Decided};
 ghost use Rattle.sal_tx.specs.declared.tx.Tx.{Tx as Token};
 ghost use Rattle.sal_tx.specs.Views.{rows_in};
-ghost use Rattle.sal_history.specs.declared.call.Call.TheVariants.{Begin, Submit, Cancel, Settle};
-ghost use Rattle.sal_history.specs.declared.reply.Reply.TheVariants.{Accepted, Begun, Receipt as Numbered, Settled};
+ghost use Rattle.sal_history.specs.declared.call.Call.TheVariants.{After, Begin, Cancel, ChainBegin, CloseChain, Mark, OpenChain, Pump, Settle, Submit};
+ghost use Rattle.sal_history.specs.declared.reply.Reply.TheVariants.{Accepted, Begun, Chain as Opened, Receipt as Numbered, Settled};
 ghost use Rattle.sal_history.specs.History.{commits, history, newest_tree};
+ghost use Rattle.sal_hub.specs.declared.chain.Chain.{Chain as Line};
 ghost use Rattle.sal_hub.specs.declared.receipt.Receipt.{Receipt as Given};
 ghost use Rattle.sal_hub.specs.Answers.{Calls, CallsOr};
 ghost use Rattle.sal_hub.specs.Domains.{AreDomains};
 ghost use Rattle.sal_hub.specs.Known.{entry_of};
+ghost use Rattle.sal_hub.specs.Marks.{has_mark};
 ghost use Rattle.sal_hub.specs.Openings.{IsFaultOf, fault_of, world_of};
-ghost use Rattle.sal_hub.specs.Tokens.{IsBegun, IsFresh, IsGiven, IsToken, begun_of};
+ghost use Rattle.sal_hub.specs.Seen.{LooksOnce, pump_reply, seen_reply};
+ghost use Rattle.sal_hub.specs.Tokens.{IsBegun, IsChain, IsFresh, IsGiven, IsToken, begun_of};
 
+use crate::chain::Chain;
+use crate::chain_calls::{chain_begin, close_chain, open_chain};
+use crate::chains::{Chains, note};
 use crate::devices::open_all;
 use crate::journal::Journal;
+use crate::marks::{Marks, leave};
 use crate::opening::OpenFault;
 use crate::pipeline::Pipeline;
 use crate::receipt::Receipt;
-use crate::settle::settle;
+use crate::seen::Seen;
+use crate::settle::{pump, settle};
 use crate::start::{begin, last_commit};
 use crate::submit::submit;
 use sal_commit::Domain;
@@ -42,6 +50,8 @@ pub const MAX_PENDING: usize = 4096;
 pub struct Hub {
     pipeline: Pipeline,
     journal: Journal,
+    chains: Chains,
+    marks: Marks,
 }
 
 impl Model for Hub {
@@ -53,11 +63,12 @@ impl Model for Hub {
 
     ghost coded = { Prim.hlevel (codes, e.the_row.coded) };
 
-    ghost use Rattle.sal_hub.specs.Current.{IsKept, known_of};
+    ghost use Rattle.sal_hub.specs.Current.{known_of};
+    ghost use Rattle.sal_hub.specs.Whole.{IsWhole};
 
     ghost view = { λ h. known_of h.journal h.pipeline };
 
-    ghost invariant = { λ h. IsKept h.journal h.pipeline };
+    ghost invariant = { λ h. IsWhole h.journal h.pipeline h.chains h.marks };
 }
 
 // The place of the entry that began the transaction.
@@ -82,9 +93,17 @@ impl Hub {
             domains,
             submissions: Vec::new(alloc),
             outcomes: Vec::new(alloc),
+            failures: Vec::new(alloc),
         };
         let journal = Journal::new(alloc);
-        Ok(Hub { pipeline, journal })
+        let chains = Chains::new(alloc);
+        let marks = Marks::new(alloc);
+        Ok(Hub {
+            pipeline,
+            journal,
+            chains,
+            marks,
+        })
     }
 
     /// The log of the calls so far.
@@ -125,7 +144,7 @@ impl Hub {
     ) -> Result<Tx, CallFault>
         ensures answer { Calls self.old self.new (entry_of self.old client (Begin domain mode)) (λ (tx : Token). Begun (begun_of tx).base_commit (begun_of tx).on) result }
         ensures token { IfOk result (IsToken self.new) }
-        ensures fresh { IfOk result (IsFresh self.old domain mode) }
+        ensures fresh { IfOk result (IsFresh self.old domain None mode) }
     {
         if self.journal.is_full() {
             return Err(CallFault::HistoryFull);
@@ -154,7 +173,14 @@ impl Hub {
         if self.journal.is_full() {
             return Err((tx, CallFault::HistoryFull));
         }
-        submit(alloc, &mut self.pipeline, &mut self.journal, client, tx)
+        let chain = tx.begun().chain;
+        match submit(alloc, &mut self.pipeline, &mut self.journal, client, tx) {
+            Ok(receipt) => {
+                note(&mut self.chains.sent, chain, receipt.number());
+                Ok(receipt)
+            }
+            Err(back) => Err(back),
+        }
     }
 
     /// Gives the transaction up.
@@ -190,5 +216,137 @@ impl Hub {
         }
         let number = receipt.number() as usize;
         settle(alloc, &mut self.pipeline, &mut self.journal, client, number)
+    }
+
+    /// Decides the first receipt that is pending, and answers it with its outcome; none where no receipt is pending. Where
+    /// memory is wanting, it stays pending.
+    pub fn pump(
+        &mut self,
+        alloc: Global,
+        client: u32,
+    ) -> Result<Option<(u64, Outcome)>, CallFault>
+        ensures answer { Calls self.old self.new (entry_of self.old client Pump) pump_reply result }
+    {
+        if self.journal.is_full() {
+            return Err(CallFault::HistoryFull);
+        }
+        pump(alloc, &mut self.pipeline, &mut self.journal, client)
+    }
+
+    /// Opens a transaction chain over the domain.
+    pub fn open_chain(
+        &mut self,
+        alloc: Global,
+        client: u32,
+        domain: u32,
+    ) -> Result<Chain, CallFault>
+        ensures answer { Calls self.old self.new (entry_of self.old client (OpenChain domain)) (λ (c : Line). Opened c.id) result }
+        ensures given { IfOk result (IsChain self.new) }
+        ensures domain { IfOk result (λ c. c.domain ≡ domain) }
+    {
+        if self.journal.is_full() {
+            return Err(CallFault::HistoryFull);
+        }
+        open_chain(
+            &mut self.pipeline,
+            &mut self.journal,
+            &mut self.chains,
+            client,
+            domain,
+        )
+    }
+
+    /// Begins the next transaction of the chain in the mode: on the last submission of the chain while that is pending, and
+    /// else at the newest commit.
+    pub fn chain_begin(
+        &mut self,
+        alloc: Global,
+        client: u32,
+        chain: &Chain,
+        mode: Mode,
+    ) -> Result<Tx, CallFault>
+        requires token { IsChain self.old chain.now }
+        ensures answer { Calls self.old self.new (entry_of self.old client (ChainBegin chain.now.id mode)) (λ (tx : Token). Begun (begun_of tx).base_commit (begun_of tx).on) result }
+        ensures token { IfOk result (IsToken self.new) }
+        ensures fresh { IfOk result (IsFresh self.old chain.now.domain (Some chain.now.id) mode) }
+    {
+        if self.journal.is_full() {
+            return Err(CallFault::HistoryFull);
+        }
+        chain_begin(
+            alloc,
+            &self.pipeline,
+            &mut self.journal,
+            &mut self.chains,
+            client,
+            chain,
+            mode,
+        )
+    }
+
+    /// Closes the chain: no transaction begins in it any more.
+    pub fn close_chain(
+        &mut self,
+        alloc: Global,
+        client: u32,
+        chain: &Chain,
+    ) -> Result<(), CallFault>
+        requires token { IsChain self.old chain.now }
+        ensures answer { Calls self.old self.new (entry_of self.old client (CloseChain chain.now.id)) (λ _. Accepted) result }
+    {
+        if self.journal.is_full() {
+            return Err(CallFault::HistoryFull);
+        }
+        match close_chain(
+            &mut self.journal,
+            &mut self.chains.closed,
+            client,
+            chain.id(),
+        ) {
+            Ok(true) => return Err(CallFault::ChainClosed),
+            Ok(false) => {}
+            Err(NoMemory) => return Err(CallFault::NoMemory),
+        }
+        Ok(())
+    }
+
+    /// Leaves the mark in the log.
+    pub fn mark(&mut self, alloc: Global, client: u32, mark: u32) -> Result<(), CallFault>
+        ensures answer { Calls self.old self.new (entry_of self.old client (Mark mark)) (λ _. Accepted) result }
+    {
+        if self.journal.is_full() {
+            return Err(CallFault::HistoryFull);
+        }
+        match leave(&mut self.journal, &mut self.marks, client, mark) {
+            Ok(()) => {}
+            Err(NoMemory) => return Err(CallFault::NoMemory),
+        }
+        Ok(())
+    }
+
+    /// Asks once whether the mark was left.
+    pub fn after(&mut self, alloc: Global, client: u32, mark: u32) -> Result<Seen, CallFault>
+        ensures answer { Calls self.old self.new (entry_of self.old client (After mark)) seen_reply result }
+        ensures once { IfOk result (LooksOnce (length self.old.log)) }
+    {
+        if self.journal.is_full() {
+            return Err(CallFault::HistoryFull);
+        }
+        let front = self.journal.entries().len() as u64;
+        match self.journal.add(client, Call::After { mark }) {
+            Ok(()) => {}
+            Err(NoMemory) => return Err(CallFault::NoMemory),
+        }
+        if self.marks.has(mark) {
+            return Ok(Seen::Found);
+        }
+        Ok(Seen::Late { looks: 1, front })
+    }
+
+    /// Whether the mark was left in the log. It takes no memory, and does not go through the log.
+    pub fn has_mark(&self, mark: u32) -> bool
+        ensures { result ≡ has_mark self.now.log mark }
+    {
+        self.marks.has(mark)
     }
 }

@@ -57,10 +57,9 @@ impl Journal {
 
     /// Whether the transaction that began at the place is spent.
     pub(crate) fn is_spent(&self, place: usize) -> bool
-        requires { place < length self.now.log }
         ensures { result ≡ mark_at self.now.marks place }
     {
-        self.marks[place]
+        self.marks.get(place).copied().unwrap_or(false)
     }
 
     /// Adds an entry of the client.

@@ -29,18 +29,26 @@
 //! | `settle` | the decision of each pending submission up to the receipt (`sal_commit`), and one number for each domain |
 #![tactic(auto)]
 
+mod chain;
+mod chain_calls;
+mod chains;
 mod counts;
 mod devices;
+mod failures;
 mod hub;
 mod journal;
 pub mod laws;
+mod marks;
 mod opening;
 mod pipeline;
 mod receipt;
+mod seen;
 mod settle;
 mod start;
 mod submit;
 
+pub use chain::Chain;
 pub use hub::{Hub, MAX_ENTRIES, MAX_PENDING};
 pub use opening::OpenFault;
 pub use receipt::Receipt;
+pub use seen::Seen;

@@ -1,12 +1,13 @@
 //! The domains with their commits, and the submissions with their outcomes.
 ghost use Rattle.std.specs.Prelude.{◌≡◌, ℕ, ◌+◌, ◌-◌, ◌<◌, ◌≤◌, [], ◌∷◌, ◌++◌, false, true, IfOk, MatchOption, OnErr, OnOk, Some, length, map, slice_get, take};
 ghost use Rattle.sal_graft.specs.Kept.{AreKept};
-ghost use Rattle.sal_history.specs.declared.call.Call.TheVariants.{Settle};
 ghost use Rattle.sal_history.specs.History.{is_live};
 ghost use Rattle.sal_hub.specs.Answers.{limit};
+ghost use Rattle.sal_hub.specs.Failures as failing;
 ghost use Rattle.sal_hub.specs.Journals.{jotted, mark_at};
 ghost use Rattle.sal_hub.specs.Lines.{AllKept, AreDecided, HasGrown, IsSound, counts_of, cut_all, line_of, shown};
 
+use crate::failures::{cut_failures, failure_of, is_done, note_failure};
 use crate::journal::Journal;
 use sal_commit::{Domain, decide};
 use sal_history::Call;
@@ -15,12 +16,14 @@ use sal_tx::Submission;
 use sal_types::{Duplicate, NoMemory};
 use std::alloc::Global;
 
-/// The domains with their commits, the submissions by receipt from 1 on, and the outcomes of those that were decided.
+/// The domains with their commits, the submissions by receipt from 1 on, the outcomes of those that were decided, and for
+/// each chain the receipt by which it failed.
 #[derive(Drop)]
 pub(crate) struct Pipeline {
     pub(crate) domains: Vec<Domain>,
     pub(crate) submissions: Vec<Submission>,
     pub(crate) outcomes: Vec<Outcome>,
+    pub(crate) failures: Vec<Option<u64>>,
 }
 
 impl Pipeline {
@@ -40,6 +43,18 @@ impl Pipeline {
         if found.live { Some(found) } else { None }
     }
 
+    /// Whether the domain of the number is live.
+    pub(crate) fn is_live(&self, domain: u32) -> bool
+        requires kept { AllKept self.now.domains.items }
+        requires sound { IsSound (line_of self.now) }
+        ensures { result ≡ is_live domain }
+    {
+        match self.live(domain) {
+            None => false,
+            Some(_) => true,
+        }
+    }
+
     // Decides the submission at the index, which is the next one. Where memory is wanting, nothing changes that is seen.
     fn decide_one(&mut self, alloc: Global, index: usize) -> Result<(), NoMemory>
         requires kept { AllKept self.old.domains.items }
@@ -54,9 +69,12 @@ impl Pipeline {
     {
         self.outcomes.reserve(1)?;
         let submission = &self.submissions[index];
+        let failed = failure_of(&self.failures, submission.chain);
         let domain = &mut self.domains[submission.domain as usize];
-        let fresh = (index as u64 + 1) * 2 + 1;
-        let outcome = decide(alloc, submission, domain, fresh)?;
+        let receipt = index as u64 + 1;
+        let outcome = decide(alloc, submission, domain, failed, receipt * 2 + 1)?;
+        let done = is_done(&outcome);
+        note_failure(&mut self.failures, submission.chain, receipt, done);
         self.outcomes.push(outcome).unwrap();
         Ok(())
     }
@@ -86,18 +104,21 @@ impl Pipeline {
         ensures domains { map shown self.new.domains.items ≡ cut_all (map shown self.old.domains.items) counts.now }
         ensures submissions { self.new.submissions.items ≡ self.old.submissions.items }
         ensures outcomes { self.new.outcomes.items ≡ take outcomes self.old.outcomes.items }
+        ensures failures { self.new.failures.items ≡ failing.cut_failures outcomes self.old.failures.items }
     {
         cut_domains(&mut self.domains, counts);
+        cut_failures(&mut self.failures, outcomes as u64);
         self.outcomes.truncate(outcomes);
     }
 
-    // Decides what is pending up to the receipt, adds the entry of the settle, and answers the outcome. Where memory is
+    // Decides what is pending up to the receipt, adds the entry of the call, and answers the outcome. Where memory is
     // wanting, some may be decided, and no entry was added.
     fn settle_some(
         &mut self,
         alloc: Global,
         journal: &mut Journal,
         client: u32,
+        call: Call,
         receipt: usize,
     ) -> Result<Outcome, NoMemory>
         requires kept { AllKept self.old.domains.items }
@@ -110,24 +131,24 @@ impl Pipeline {
         ensures outcome { IfOk result (λ o. slice_get self.new.outcomes.items (receipt - 1) ≡ Some o) }
         ensures decided { OnOk result (AreDecided (line_of self.old) (receipt - length self.old.outcomes.items) (line_of self.new)) }
         ensures grown { HasGrown (line_of self.old) (line_of self.new) }
-        ensures log { OnOk result (journal.new.log ≡ jotted journal.old.log client (Settle receipt)) }
+        ensures log { OnOk result (journal.new.log ≡ jotted journal.old.log client call) }
         ensures marks { OnOk result ((k : ℕ) → mark_at journal.new.marks k ≡ mark_at journal.old.marks k) }
         ensures journal { OnErr result (journal.new ≡ journal.old) }
     {
         self.decide_upto(alloc, receipt)?;
         let outcome = outcome_at(&self.outcomes, receipt - 1)?;
-        let receipt = receipt as u64;
-        journal.add(client, Call::Settle { receipt })?;
+        journal.add(client, call)?;
         Ok(outcome)
     }
 
-    /// Decides what is pending up to the receipt, adds the entry of the settle, and answers the outcome. Where memory is
+    /// Decides what is pending up to the receipt, adds the entry of the call, and answers the outcome. Where memory is
     /// wanting, nothing changes that is seen.
     pub(crate) fn settle(
         &mut self,
         alloc: Global,
         journal: &mut Journal,
         client: u32,
+        call: Call,
         receipt: usize,
     ) -> Result<Outcome, NoMemory>
         requires kept { AllKept self.old.domains.items }
@@ -140,13 +161,13 @@ impl Pipeline {
         ensures outcome { IfOk result (λ o. slice_get self.new.outcomes.items (receipt - 1) ≡ Some o) }
         ensures decided { OnOk result (AreDecided (line_of self.old) (receipt - length self.old.outcomes.items) (line_of self.new)) }
         ensures same { OnErr result (line_of self.new ≡ line_of self.old) }
-        ensures log { OnOk result (journal.new.log ≡ jotted journal.old.log client (Settle receipt)) }
+        ensures log { OnOk result (journal.new.log ≡ jotted journal.old.log client call) }
         ensures marks { OnOk result ((k : ℕ) → mark_at journal.new.marks k ≡ mark_at journal.old.marks k) }
         ensures journal { OnErr result (journal.new ≡ journal.old) }
     {
         let outcomes = self.outcomes.len();
         let counts = counts_of(alloc, &self.domains)?;
-        match self.settle_some(alloc, journal, client, receipt) {
+        match self.settle_some(alloc, journal, client, call, receipt) {
             Ok(outcome) => Ok(outcome),
             Err(NoMemory) => {
                 self.cut_back(outcomes, &counts);

@@ -6,6 +6,7 @@ ghost use Rattle.sal_history.specs.declared.reply.Reply.TheVariants.{Receipt as 
 ghost use Rattle.sal_hub.specs.declared.receipt.Receipt.{Receipt as Given};
 ghost use Rattle.sal_hub.specs.Answers.{CallsOr, limit};
 ghost use Rattle.sal_hub.specs.Current.{IsKept, known_of};
+ghost use Rattle.sal_hub.specs.Failures.{IsWithin};
 ghost use Rattle.sal_hub.specs.Journals.{jotted, mark_at};
 ghost use Rattle.sal_hub.specs.Known.{entry_of};
 ghost use Rattle.sal_hub.specs.Submits.{refusal_of, submission_of};
@@ -32,6 +33,7 @@ pub(crate) fn submit(
     requires kept { IsKept journal.old pipeline.old }
     requires room { length journal.old.log < limit }
     requires token { IsBegun (known_of journal.old pipeline.old) tx.begun tx.base }
+    requires member { IsWithin (length pipeline.old.failures.items) tx.begun.chain }
     ensures kept { IsKept journal.new pipeline.new }
     ensures answer { CallsOr (known_of journal.old pipeline.old) (known_of journal.new pipeline.new) (entry_of (known_of journal.old pipeline.old) client (Submit tx.begun.place tx.changes)) (λ (receipt : Given). Numbered receipt.number) tx result }
     ensures given { IfOk result (λ receipt. IsGiven (known_of journal.new pipeline.new) receipt.number) }
@@ -50,8 +52,7 @@ pub(crate) fn submit(
 
 // Why the submit of the transaction that began at the place is refused.
 fn refusal(pipeline: &Pipeline, journal: &Journal, place: usize) -> Option<CallFault>
-    requires within { length pipeline.now.outcomes.items ≤ length pipeline.now.submissions.items }
-    requires placed { place < length journal.now.log }
+    requires { length pipeline.now.outcomes.items ≤ length pipeline.now.submissions.items }
     ensures { result ≡ refusal_of (length pipeline.now.submissions.items - length pipeline.now.outcomes.items) (mark_at journal.now.marks place) }
 {
     let pending = pipeline.submissions.len() - pipeline.outcomes.len();
@@ -107,6 +108,7 @@ fn accept(
     ensures back { MatchResult result (λ _. Unit {0}) (λ back. back ≡ tx) }
     ensures domains { pipeline.new.domains ≡ pipeline.old.domains }
     ensures outcomes { pipeline.new.outcomes ≡ pipeline.old.outcomes }
+    ensures failures { pipeline.new.failures ≡ pipeline.old.failures }
     ensures waiting { OnErr result (pipeline.new.submissions.items ≡ pipeline.old.submissions.items) }
     ensures journal { OnErr result (journal.new ≡ journal.old) }
 {

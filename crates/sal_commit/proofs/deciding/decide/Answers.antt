@@ -7,17 +7,17 @@ use Rattle.sal_commit.proofs.deciding.decide.Goals as goal
 
 pub publish-requires-clause-sound : goal.publish-requires-clause-sound
 publish-requires-clause-sound c =
-    let made = subst (IsAttempt c.args.domain.now c.args.sub.now) c.in-Made.is c.in_ok-outcome.ensures in
-    next-sound c.args.domain.now c.args.sub.now c.in-Made.prepared.commit c.reserve.new.self.schema.value (λ i. (c.in_ok-reserve.ensures.same.schema i).value) made.0 made.1
+    let made = subst (IsAttempt c.args.failed c.args.domain.now c.args.sub.now) c.in-Made.is c.in_ok-outcome.ensures in
+    next-sound c.args.failed c.args.domain.now c.args.sub.now c.in-Made.prepared.commit c.reserve.new.self.schema.value (λ i. (c.in_ok-reserve.ensures.same.schema i).value) made.0 made.1
 
 pub returns-clause-outcome : goal.returns-clause-outcome
 returns-clause-outcome c =
-    let made = subst (IsAttempt c.args.domain.now c.args.sub.now) c.in-Made.is c.in_ok-outcome.ensures in
-    c.publish.ensures.outcome ∙ decide-done c.args.domain.now c.args.sub.now c.in-Made.prepared.commit c.requires.kept.opened made.0 made.1.number
+    let made = subst (IsAttempt c.args.failed c.args.domain.now c.args.sub.now) c.in-Made.is c.in_ok-outcome.ensures in
+    c.publish.ensures.outcome ∙ decide-done c.args.failed c.args.domain.now c.args.sub.now c.in-Made.prepared.commit c.requires.kept.opened made.0 made.1.number
 
 pub returns-clause-decided : goal.returns-clause-decided
 returns-clause-decided c =
-    let made = subst (IsAttempt c.args.domain.now c.args.sub.now) c.in-Made.is c.in_ok-outcome.ensures in
+    let made = subst (IsAttempt c.args.failed c.args.domain.now c.args.sub.now) c.in-Made.is c.in_ok-outcome.ensures in
     let same : IsSame c.args.domain.now c.publish.new.domain = IsSame-trans c.args.domain.now c.reserve.new.self c.publish.new.domain c.in_ok-reserve.ensures.same c.publish.ensures.same in
     let pushed = c.publish.ensures.commits ∙ ap (λ commits. commits ++ c.in-Made.prepared.commit ∷ []) c.in_ok-reserve.ensures.commits in
     subst (λ o. Decides c.args.domain.now c.args.sub.now o c.publish.new.domain) (sym c.publish.ensures.outcome)

@@ -1,15 +1,25 @@
--- The front of the log stays, and submissions are only added.
-use Rattle.std.proofs.Common.{◌∷◌, [], sym, ◌∙◌, arith, length-append}
-use Rattle.sal_hub.proofs.Histories.{base_tree-push, began_at-push, sents-grow}
+-- The front of the log stays; submissions and chains are only added.
+use Rattle.std.proofs.Common.{◌-◌, ◌∷◌, [], List, ℕ, Some, ap, sym, ◌∙◌, arith, length-append}
+use Rattle.std.specs.Prelude.{slice_get}
+use Rattle.std.specs.Option.{option_to_list}
+use Rattle.sal_history.specs.History.{chain_domains, history, opened_chain, reply_to}
+use Rattle.sal_hub.proofs.Histories.{began_at-push, chains-push, sents-grow}
+use Rattle.sal_hub.proofs.Listed.{slice_get_more}
 use Rattle.sal_hub.proofs.laws.tokens_last.Goals as goal
 
 pub returns-clause-begun : goal.returns-clause-begun
 returns-clause-begun c = λ known e begun base was. record {
   before = omega (arith, was.before, length-append known.log (e ∷ []));
   began = began_at-push known.world known.log e begun.place was.before ∙ was.began;
-  base = λ s. was.base s ∙ sym (base_tree-push known.world known.log e begun.domain begun.place s (omega (arith, was.before)));
   schema = was.schema;
 }
 
 pub returns-clause-given : goal.returns-clause-given
 returns-clause-given c = λ known e receipt was. (was.0, omega (arith, was.1, sents-grow known.world known.log e))
+
+pub returns-clause-opened : goal.returns-clause-opened
+returns-clause-opened c = λ known e chain was. (
+  was.0,
+  ap (λ (ds : List ℕ). slice_get ds (chain.id - 1)) (chains-push known.world known.log e)
+      ∙ slice_get_more (chain_domains (history known.world known.log)) (option_to_list (opened_chain e.call (reply_to known.world (history known.world known.log) e.call))) (chain.id - 1) chain.domain was.1,
+)

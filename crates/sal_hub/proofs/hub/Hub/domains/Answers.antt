@@ -9,4 +9,4 @@ use Rattle.sal_hub.proofs.hub.Hub.domains.Goals as goal
 pub returns : goal.returns
 returns c =
     subst (λ (ds : List Domain). AreDomains c.args.self.now ds) (sym c.deref.ensures.value)
-    (subst (λ (known : Known). AreDomains known c.self.inside.pipeline.domains.items) c.self.view_is (domains_are c.self.inside.journal c.self.inside.pipeline c.self.invariant))
+    (subst (λ (known : Known). AreDomains known c.self.inside.pipeline.domains.items) c.self.view_is (domains_are c.self.inside.journal c.self.inside.pipeline c.self.invariant.kept))

@@ -11,5 +11,5 @@ returns c =
     let journal = c.self.inside.journal in
     let p = c.self.inside.pipeline in
     let count : c.len.result - 1 ≡ length c.index.result.now.commits.items - 1 = grind (arith, common_steps) in
-    count ∙ count_is journal p c.self.invariant 0 c.index.result.now (some_domain journal p c.self.invariant) c.index.ensures
+    count ∙ count_is journal p c.self.invariant.kept 0 c.index.result.now (some_domain journal p c.self.invariant.kept) c.index.ensures
     ∙ ap (λ (known : Known). length (commits (history known.world known.log) 0)) c.self.view_is

@@ -1,17 +1,23 @@
 -- The opening is kept.
 use Rattle.std.proofs.Common.{◌≡◌, List, None, map, ap, sym, ◌∙◌}
 use Rattle.sal_history.specs.declared.opening.Device.{Device}
+use Rattle.sal_hub.specs.declared.pipeline.Pipeline.{Pipeline}
+use Rattle.sal_hub.specs.Journals.{Noted}
 use Rattle.sal_hub.specs.Known.{Known}
 use Rattle.sal_hub.specs.Lines.{shown, world_in}
 use Rattle.sal_hub.specs.Opened.{shown_from}
 use Rattle.sal_hub.specs.Openings.{fault_of, world_of}
 use Rattle.sal_hub.proofs.OpenedDevices.{opened_kept, world-shown}
+use Rattle.sal_hub.proofs.Wholes.{empty_whole}
 use Rattle.sal_hub.proofs.hub.Hub.open.Goals as goal
 
 pub invariant_of-result : goal.invariant_of-result
 invariant_of-result c =
-    opened_kept c.args.devices.items (record { domains = c.in_ok-domains.domains; submissions = c.new.result; outcomes = c.new-2.result }) c.new-journal.result c.requires.some c.in_ok-domains.ensures.kept
-    (c.in_ok-domains.ensures.shown ∙ ap (shown_from 0) c.deref.ensures.value) c.new.ensures.items c.new-2.ensures.items c.new-journal.ensures
+    let p : Pipeline = record { domains = c.in_ok-domains.domains; submissions = c.new.result; outcomes = c.new-2.result; failures = c.new-3.result } in
+    empty_whole c.new-journal.result p c.new-chains.result c.new-marks.result
+    (opened_kept c.args.devices.items p c.new-journal.result c.requires.some c.in_ok-domains.ensures.kept
+    (c.in_ok-domains.ensures.shown ∙ ap (shown_from 0) c.deref.ensures.value) c.new.ensures.items c.new-2.ensures.items c.new-3.ensures.items c.new-journal.ensures)
+    (ap (λ (j : Noted). j.log) c.new-journal.ensures) c.new-chains.ensures.domains c.new-chains.ensures.closed c.new-chains.ensures.begun c.new-chains.ensures.sent c.new-marks.ensures
 
 pub returns : goal.returns
 returns c =

@@ -16,7 +16,7 @@ loop-index-init c =
       bound = omega (arith, none);
       kept = c.requires.kept;
       decided = subst (λ k. AreDecided (line_of c.args.self.now) k (line_of c.args.self.now)) (sym none) (AreDecided-none (line_of c.args.self.now) c.requires.sound);
-      grown = grown_none (line_of c.args.self.now);
+      grown = grown_none (line_of c.args.self.now) c.requires.sound;
     }
 
 pub returns-in_err-decide_one-clause-grown : goal.returns-in_err-decide_one-clause-grown

@@ -1,0 +1,346 @@
+-- The calls of chains: what is kept stays the log's, and the answer is the log's.
+use Rattle.std.proofs.Common.{◌≡◌, ℕ, zero, suc, ◌+◌, ◌-◌, ◌<◌, ◌≤◌, Bool, true, false, not, List, [], ◌∷◌, ◌++◌, length, map, get_or, set, Option, None, Some, refl, ap, sym, ◌∙◌, subst, arith, append-nil, length-append, length-set, if◌then◌else◌, nat_eq, nat_lt}
+use Rattle.std.specs.Prelude.{slice_get, option_and_then, unwrap_or, ◌||◌}
+use Rattle.std.specs.Option.{option_map, option_map_or, option_or, option_to_list}
+use Rattle.std.proofs.lemmas.Bool.Decides.{nat_tests}
+use Rattle.std.proofs.lemmas.List.{length-map}
+use Rattle.std.proofs.lemmas.Option.{same_Some, slice_get-map, slice_get_within}
+use Rattle.sal_types.specs.declared.value.Store.{Store}
+use Rattle.sal_rows.specs.declared.op.Op.{Op}
+use Rattle.sal_rows.specs.declared.outcome.CallFault.{CallFault}
+use Rattle.sal_rows.specs.declared.outcome.CallFault.TheVariants.{ChainClosed, ChainFailed, NoDomain, PreviousOpen}
+use Rattle.sal_rows.specs.declared.outcome.Mode.{Mode}
+use Rattle.sal_rows.specs.declared.outcome.Outcome.{Outcome}
+use Rattle.sal_rows.specs.Apply.{apply_ops}
+use Rattle.sal_rows.specs.Spans.{is_of_chain}
+use Rattle.sal_tree.specs.declared.commit.Pair.{Pair}
+use Rattle.sal_graft.specs.Kept.{AreKept, rows_in as kept_rows}
+use Rattle.sal_tx.specs.declared.tx.Submission.{Submission}
+use Rattle.sal_tx.specs.declared.tx.Tx.{Tx}
+use Rattle.sal_tx.specs.Views.{rows_in}
+use Rattle.sal_commit.specs.declared.domain.Domain.{Domain}
+use Rattle.sal_history.specs.declared.call.Call.{Call}
+use Rattle.sal_history.specs.declared.call.Call.TheVariants.{ChainBegin, CloseChain, OpenChain}
+use Rattle.sal_history.specs.declared.call.Entry.{Entry}
+use Rattle.sal_history.specs.declared.reply.Reply.{Reply}
+use Rattle.sal_history.specs.declared.reply.Reply.TheVariants.{Accepted, Begun, Chain as Opened, Refused}
+use Rattle.sal_history.specs.World as world
+use Rattle.sal_history.specs.History.{Answered, base_on, began_by, begins_in, chain_domains, chain_refusal, chained_base, closes, commits, domain_of, entries_of, failed_by, fault_if, has_open, history, is_closed, is_live, last_begun, newest_base, opened_chain, outcomes, refused_or, reply_to, sent_by, sents, stands_on, trees_of}
+use Rattle.sal_history.specs.Submissions.{Base, Sent, failing, is_in, last_receipt, pending_receipt, view_of}
+use Rattle.sal_hub.specs.declared.chain.Chain.{Chain}
+use Rattle.sal_hub.specs.declared.chains.Chains.{Chains}
+use Rattle.sal_hub.specs.declared.pipeline.Pipeline.{Pipeline}
+use Rattle.sal_hub.specs.declared.start.Footing.{Footing}
+use Rattle.sal_hub.specs.Answers.{Fails, Made}
+use Rattle.sal_hub.specs.Chains.{Adds, AreChains, AreEven, AreSame, IsFooting, is_open, pending_of}
+use Rattle.sal_hub.specs.Current.{IsCurrent, IsKept, answers, known_of}
+use Rattle.sal_hub.specs.Failures.{IsWithin, flag_in, noted_in, noted_with}
+use Rattle.sal_hub.specs.Journals.{Noted, jotted, mark_at}
+use Rattle.sal_hub.specs.Known.{Known, more}
+use Rattle.sal_hub.specs.Lines.{AllKept, IsSound, IsStored, Line, line_of, sent_of, sents_in, shown, world_in}
+use Rattle.sal_hub.specs.Starts.{IsNewest, IsOn, Starts}
+use Rattle.sal_hub.specs.Tokens.{IsChain, IsFresh, IsToken, base_of, begun_of}
+use Rattle.sal_hub.proofs.Beginning.{made_now, newest_commit, newest_trees, number_is, quiet_kept, schema_is, token_now}
+use Rattle.sal_hub.proofs.Chained.{adds_even, chains_now, sent_in, steady}
+use Rattle.sal_hub.proofs.Deciding.{table-at}
+use Rattle.sal_hub.proofs.Histories.{chains-push, now_of}
+use Rattle.sal_hub.proofs.Keeping.{none_more, or_false, pushed}
+use Rattle.sal_hub.proofs.Listed.{slice_get_seam}
+use Rattle.sal_hub.proofs.Members.{last_from-within}
+use Rattle.sal_hub.proofs.Noted.{at_chain_at, flag_at, flag_in-push, length-with, noted_at, noted_in-push, noted_in-with}
+use Rattle.sal_hub.proofs.Serving.{shown_at, some_domain}
+use Rattle.sal_hub.proofs.Settling.{kept_sent}
+use Rattle.sal_hub.proofs.Standing.{allowed_live, live_zero}
+use Rattle.sal_hub.proofs.Starting.{same_rows}
+
+-- the known with the entry
+known_is : (journal journal' : Noted) (p p' : Pipeline) (e : Entry) → journal'.log ≡ journal.log ++ e ∷ [] → world_in (line_of p').domains ≡ world_in (line_of p).domains → more (known_of journal p) e ≡ known_of journal' p'
+known_is journal journal' p p' e log same = λ i. let known : Known = record { world = sym same i; log = sym log i } in known
+
+-- ---- open
+
+module _ (journal journal' : Noted) (p : Pipeline) (is : IsKept journal p) (client domain : ℕ) (log : journal'.log ≡ jotted journal.log client (OpenChain domain)) where
+  abbrev w : List world.Domain
+  w = world_in (line_of p).domains
+
+  abbrev answered : List Answered
+  answered = answers journal.log (line_of p)
+
+  abbrev entry : Entry
+  entry = record { client = client; number = entries_of journal.log client; call = OpenChain domain }
+
+  module _ (dead : is_live domain ≡ false) where
+    pub unopened_reply : reply_to (world_in (line_of p).domains) (answers journal.log (line_of p)) (OpenChain domain) ≡ Refused (NoDomain domain)
+    unopened_reply = ap (λ b. if b then Opened (length (chain_domains answered) + 1) else Refused (NoDomain domain)) dead
+
+    unopened : opened_chain (OpenChain domain) (reply_to w answered (OpenChain domain)) ≡ None
+    unopened = ap (opened_chain (OpenChain domain)) unopened_reply
+
+    pub unopened_kept : ((k : ℕ) → mark_at journal'.marks k ≡ mark_at journal.marks k) → IsKept journal' p
+    unopened_kept marks = quiet_kept journal journal' p is client (OpenChain domain) log refl refl (λ k. refl) unopened marks
+
+    pub unopened_chains : (cs : Chains) → AreChains (known_of journal p) cs → AreChains (known_of journal' p) cs
+    unopened_chains cs are =
+        subst (λ known. AreChains known cs) (known_is journal journal' p p entry log refl)
+        (steady (known_of journal p) entry cs are cs (record { domains = refl; closed = refl; begun = refl; sent = refl }) unopened (λ id. refl) (λ id. refl) refl)
+
+  module _ (p' : Pipeline) (live : is_live domain ≡ true) (kept : p'.domains ≡ p.domains) (same : p'.submissions ≡ p.submissions) (undecided : p'.outcomes ≡ p.outcomes) (failures : p'.failures.items ≡ p.failures.items ++ None ∷ []) where
+    opened_reply : reply_to w answered (OpenChain domain) ≡ Opened (length (chain_domains answered) + 1)
+    opened_reply = ap (λ b. if b then Opened (length (chain_domains answered) + 1) else Refused (NoDomain domain)) live
+
+    opened : opened_chain (OpenChain domain) (reply_to w answered (OpenChain domain)) ≡ Some domain
+    opened = ap (opened_chain (OpenChain domain)) opened_reply
+
+    abbrev line' : Line
+    line' = record (line_of p) { failures = (line_of p).failures ++ None ∷ [] }
+
+    line_is : line' ≡ line_of p'
+    line_is = λ i. record { domains = map shown (sym kept i).items; submissions = (sym same i).items; outcomes = (sym undecided i).items; failures = sym failures i }
+
+    wider : (n : ℕ) (chain : Option ℕ) → IsWithin n chain → IsWithin (n + 1) chain
+    wider n chain within id at = ((within id at).0, omega (arith, (within id at).1))
+
+    longer : length line'.failures ≡ length (line_of p).failures + 1
+    longer = length-append (line_of p).failures (None ∷ [])
+
+    sound_now : IsSound line'
+    sound_now = record {
+      some = is.current.sound.some;
+      within = is.current.sound.within;
+      domains = λ n d at. let had = is.current.sound.domains n d at in record { number = had.number; live = had.live; commits = had.commits; chains = had.chains };
+      submissions = λ i s at. let had = is.current.sound.submissions i s at in record { domain = had.domain; base = had.base; chain = subst (λ n. IsWithin n s.chain) (sym longer) (wider (length (line_of p).failures) s.chain had.chain); view = had.view; below = had.below };
+      failures = λ k. noted_in-push (line_of p).failures k ∙ is.current.sound.failures k;
+    }
+
+    pub opened_kept : ((k : ℕ) → mark_at journal'.marks k ≡ mark_at journal.marks k) → IsKept journal' p'
+    opened_kept marks = record {
+      kept = subst (λ ds. AllKept ds) (λ i. (sym kept i).items) is.kept;
+      current = subst (λ l. IsCurrent l journal'.marks (line_of p')) (sym log) (subst (IsCurrent (journal.log ++ entry ∷ []) journal'.marks) line_is
+          (pushed journal.log journal.marks (line_of p) is.current entry line' journal'.marks sound_now refl (sym (append-nil (sents_in (line_of p)))) (sym (append-nil (line_of p).outcomes))
+          (λ k. marks k ∙ sym (or_false (mark_at journal.marks k))) (longer ∙ ap (λ (o : Option ℕ). length (line_of p).failures + length (option_to_list o)) (sym opened))));
+    }
+
+    same_world : world_in (line_of p').domains ≡ w
+    same_world = λ i. world_in (map shown (kept i).items)
+
+    module _ (cs cs' : Chains) (are : AreChains (known_of journal p) cs) (adds : Adds cs domain cs') where
+      pub opened_chains : AreChains (known_of journal' p') cs'
+      opened_chains =
+          subst (λ known. AreChains known cs') (known_is journal journal' p p' entry log same_world)
+          (chains_now (known_of journal p) entry cs are cs' (adds_even cs cs' domain adds are.even)
+          (adds.domains ∙ ap (λ (o : Option ℕ). cs.domains.items ++ option_to_list o) (sym opened))
+          (λ id. ap (λ xs. flag_in xs id) adds.closed ∙ flag_in-push cs.closed.items id ∙ sym (or_false (flag_in cs.closed.items id)))
+          (λ id. ap (λ xs. noted_in xs id) adds.begun ∙ noted_in-push cs.begun.items id)
+          (λ id. ap (λ xs. noted_in xs id) adds.sent ∙ noted_in-push cs.sent.items id))
+
+      id_is : length cs'.domains.items ≡ length (chain_domains answered) + 1
+      id_is = ap length adds.domains ∙ length-append cs.domains.items (domain ∷ []) ∙ ap (λ (ds : List ℕ). length ds + 1) are.domains
+
+      pub opened_made : length journal.log < 1000000 → Made (known_of journal p) (known_of journal' p') (record { client = client; number = entries_of journal.log client; call = OpenChain domain }) (Opened (length cs'.domains.items))
+      opened_made room = record {
+        room = room;
+        log = λ i. record { world = same_world i; log = log i };
+        reply = opened_reply ∙ ap Opened (sym id_is);
+      }
+
+      pub opened_given : (chain : Chain) → chain.id ≡ length cs'.domains.items → chain.domain ≡ domain → IsChain (known_of journal' p') chain
+      opened_given chain id of_domain =
+          let long : chain.id ≡ length cs.domains.items + 1 = id ∙ ap length adds.domains ∙ length-append cs.domains.items (domain ∷ []) in
+          let place : chain.id - 1 ≡ length cs.domains.items = omega (arith, long) in
+          (
+            omega (arith, long),
+            (λ i. slice_get (sym opened_chains.domains i) (place i)) ∙ ap (λ ds. slice_get ds (length cs.domains.items)) adds.domains
+                ∙ slice_get_seam cs.domains.items domain [] ∙ ap Some (sym of_domain),
+          )
+
+-- ---- a chain that was opened
+
+module _ (journal : Noted) (p : Pipeline) (is : IsKept journal p) (cs : Chains) (are : AreChains (known_of journal p) cs) (chain : Chain) (token : IsChain (known_of journal p) chain) where
+  abbrev here : List world.Domain
+  here = world_in (line_of p).domains
+
+  abbrev done : List Answered
+  done = answers journal.log (line_of p)
+
+  pub id_within : chain.id ≤ length cs.domains.items
+  id_within =
+      let low : chain.id - 1 < length (chain_domains done) = slice_get_within (chain_domains done) (chain.id - 1) chain.domain token.1 in
+      omega (arith, low, token.0, ap length are.domains)
+
+  pub closed_is : (x : Bool) → x ≡ get_or cs.closed.items (chain.id - 1) x → x ≡ is_closed (answers journal.log (line_of p)) chain.id
+  closed_is x at = sym (flag_at cs.closed.items chain.id x token.0 (omega (arith, id_within, are.even.closed)) at) ∙ are.closed chain.id
+
+  pub failed_is : (x : Option ℕ) → x ≡ get_or p.failures.items (chain.id - 1) x → x ≡ failed_by (answers journal.log (line_of p)) chain.id
+  failed_is x at =
+      sym (noted_at p.failures.items chain.id x token.0 (omega (arith, id_within, ap length are.domains, is.current.chains)) at)
+      ∙ is.current.sound.failures chain.id ∙ (λ i. failing (Some chain.id) (is.current.submissions i) (is.current.outcomes i))
+
+  pub begun_is : (x : Option ℕ) → x ≡ get_or cs.begun.items (chain.id - 1) x → x ≡ last_begun (answers journal.log (line_of p)) chain.id
+  begun_is x at = sym (noted_at cs.begun.items chain.id x token.0 (omega (arith, id_within, are.even.begun)) at) ∙ are.begun chain.id
+
+  pub open_is : (x : Option ℕ) → x ≡ get_or cs.begun.items (chain.id - 1) x → is_open journal.marks x ≡ has_open (answers journal.log (line_of p)) chain.id
+  open_is x at = λ i. option_map_or (λ place. not (is.current.marks place i)) (begun_is x at i) false
+
+  pub sent_is : (x : Option ℕ) → x ≡ get_or cs.sent.items (chain.id - 1) x → x ≡ last_receipt (sents (answers journal.log (line_of p))) (Some chain.id)
+  sent_is x at = sym (noted_at cs.sent.items chain.id x token.0 (omega (arith, id_within, are.even.sent)) at) ∙ are.sent chain.id
+
+  pub sent_within : (x : Option ℕ) → x ≡ get_or cs.sent.items (chain.id - 1) x → IsWithin (length p.submissions.items) x
+  sent_within x at = λ n some.
+      let h = last_from-within 1 (is_in (Some chain.id)) (sents done) n (sym (sent_is x at) ∙ some) in
+      let long : length (sents done) ≡ length p.submissions.items = sym (ap length is.current.submissions) ∙ length-map p.submissions.items sent_of in
+      (omega (arith, h.0), omega (arith, h.1, long))
+
+  pub domain_is : domain_of (answers journal.log (line_of p)) chain.id ≡ chain.domain
+  domain_is = ap (λ (o : Option ℕ). unwrap_or o 0) token.1
+
+  pub refused_by : (closed : Bool) (failed : Option ℕ) (waits : Bool) (live : Bool) → closed ≡ is_closed (answers journal.log (line_of p)) chain.id → failed ≡ failed_by (answers journal.log (line_of p)) chain.id
+      → waits ≡ has_open (answers journal.log (line_of p)) chain.id → live ≡ is_live chain.domain
+      → option_or (fault_if closed ChainClosed) (option_or (option_map ChainFailed failed) (option_or (fault_if waits PreviousOpen) (fault_if (not live) (NoDomain chain.domain)))) ≡ chain_refusal (answers journal.log (line_of p)) chain.id
+  refused_by closed failed waits live a b c d =
+      let e : live ≡ is_live (domain_of done chain.id) = d ∙ ap is_live (sym domain_is) in
+      λ i. option_or (fault_if (a i) ChainClosed) (option_or (option_map ChainFailed (b i)) (option_or (fault_if (c i) PreviousOpen) (fault_if (not (e i)) (NoDomain (sym domain_is i)))))
+
+-- ---- the next transaction of a chain
+
+module _ (journal : Noted) (p : Pipeline) (is : IsKept journal p) (cs : Chains) (are : AreChains (known_of journal p) cs) (chain : Chain) (token : IsChain (known_of journal p) chain) (allowed : chain_refusal (answers journal.log (line_of p)) chain.id ≡ None) where
+  pub domain_zero : chain.domain ≡ 0
+  domain_zero = live_zero chain.domain (ap is_live (sym (domain_is journal p is cs are chain token)) ∙ allowed_live (answers journal.log (line_of p)) chain.id allowed)
+
+  pub domain_within : chain.domain < length p.domains.items
+  domain_within = omega (arith, domain_zero, some_domain journal p is)
+
+  pub domain_at : (d : Domain) → d ≡ get_or p.domains.items chain.domain d → slice_get (map shown p.domains.items) chain.domain ≡ Some (shown d)
+  domain_at d at = shown_at p.domains.items chain.domain d domain_within at
+
+module _ (journal : Noted) (p : Pipeline) (is : IsKept journal p) (cs : Chains) (are : AreChains (known_of journal p) cs) (chain : Chain) (token : IsChain (known_of journal p) chain) (allowed : chain_refusal (answers journal.log (line_of p)) chain.id ≡ None)
+    (d : Domain) (at : slice_get (map shown p.domains.items) chain.domain ≡ Some (shown d)) (sent : Option ℕ) (sent_at : sent ≡ get_or cs.sent.items (chain.id - 1) sent) (footing : Footing) (stands : IsFooting (pending_of (length p.outcomes.items) sent) p d footing)
+    (mode : Mode) (tx : Tx) (starts : Starts d footing (Some chain.id) mode (length journal.log) tx) where
+  abbrev there : List world.Domain
+  there = world_in (line_of p).domains
+
+  abbrev so_far : List Answered
+  so_far = answers journal.log (line_of p)
+
+  abbrev begun_base : Base
+  begun_base = record { domain = (begun_of tx).domain; commit = (begun_of tx).base_commit; chain = (begun_of tx).chain; trees = rows_in (base_of tx) }
+
+  number : (begun_of tx).domain ≡ chain.domain
+  number = starts.domain ∙ (is.current.sound.domains chain.domain (shown d) at).number
+
+  trees : (s : Store) → rows_in (base_of tx) s ≡ kept_rows footing.trees s
+  trees s = ap (λ (x : Pair). rows_in x s) starts.base ∙ same_rows footing.trees s
+
+  stands_is : pending_of (length p.outcomes.items) sent ≡ stands_on so_far chain.id
+  stands_is = λ i. option_and_then (λ n. if nat_lt (length (is.current.outcomes i)) n then Some n else None) (sent_is journal p is cs are chain token sent sent_at i)
+
+  on_footing : (o : Option ℕ) → IsFooting o p d footing → footing.on ≡ o
+  on_footing None newest = newest.alone
+  on_footing (Some n) on = on.2.pending
+
+  base_footing : (o : Option ℕ) → IsFooting o p d footing → base_on there so_far chain.id (option_and_then (λ n. slice_get (sents so_far) (n - 1)) o) ≡ begun_base
+  base_footing None newest =
+      let domain : domain_of so_far chain.id ≡ chain.domain = domain_is journal p is cs are chain token in
+      ap (λ n. newest_base there so_far n (Some chain.id)) domain
+      ∙ (λ i. let b : Base = record {
+        domain = sym number i;
+        commit = sym (starts.commit ∙ newest_commit journal p is chain.domain d at footing newest) i;
+        chain = sym starts.chain i;
+        trees = λ s. sym (trees s ∙ newest_trees journal p is chain.domain d at footing newest s) i;
+      } in b)
+  base_footing (Some n) on =
+      let sub : Submission = on.0 in
+      let had = is.current.sound.submissions (n - 1) sub on.1 in
+      ap (base_on there so_far chain.id) (kept_sent journal p is (n - 1) sub on.1)
+      ∙ (λ i. let b : Base = record {
+        domain = (had.domain ∙ sym (domain_zero journal p is cs are chain token allowed) ∙ sym number) i;
+        commit = sym (starts.commit ∙ on.2.commit) i;
+        chain = sym starts.chain i;
+        trees = λ s. (sym (had.view s) ∙ ap (λ (x : Pair). kept_rows x s) (sym on.2.trees) ∙ sym (trees s)) i;
+      } in b)
+
+  base_is : chained_base there so_far chain.id ≡ begun_base
+  base_is = ap (λ (o : Option ℕ). base_on there so_far chain.id (option_and_then (λ n. slice_get (sents so_far) (n - 1)) o)) (sym stands_is) ∙ base_footing (pending_of (length p.outcomes.items) sent) stands
+
+  on_is : (begun_of tx).on ≡ stands_on so_far chain.id
+  on_is = starts.on ∙ on_footing (pending_of (length p.outcomes.items) sent) stands ∙ stands_is
+
+  the_reply : reply_to there so_far (ChainBegin chain.id mode) ≡ Begun (chained_base there so_far chain.id).commit (stands_on so_far chain.id)
+  the_reply = ap (λ (o : Option CallFault). refused_or o (Begun (chained_base there so_far chain.id).commit (stands_on so_far chain.id))) allowed
+
+  pub next_reply : reply_to (world_in (line_of p).domains) (answers journal.log (line_of p)) (ChainBegin chain.id mode) ≡ Begun (begun_of tx).base_commit (begun_of tx).on
+  next_reply = the_reply ∙ (λ i. Begun (base_is i).commit (sym on_is i))
+
+  began_is : began_by there so_far (ChainBegin chain.id mode) (reply_to there so_far (ChainBegin chain.id mode)) ≡ Some begun_base
+  began_is = ap (began_by there so_far (ChainBegin chain.id mode)) the_reply ∙ ap Some base_is
+
+  module _ (journal' : Noted) (client : ℕ) (log : journal'.log ≡ jotted journal.log client (ChainBegin chain.id mode)) where
+    abbrev the_entry : Entry
+    the_entry = record { client = client; number = entries_of journal.log client; call = ChainBegin chain.id mode }
+
+    pub next_kept : ((k : ℕ) → mark_at journal'.marks k ≡ mark_at journal.marks k) → IsKept journal' p
+    next_kept marks = quiet_kept journal journal' p is client (ChainBegin chain.id mode) log refl refl (λ k. refl) refl marks
+
+    pub next_token : IsToken (known_of journal' p) tx
+    next_token =
+        token_now journal journal' p is client (ChainBegin chain.id mode) log (begun_of tx) (base_of tx) starts.place began_is
+        (starts.schema ∙ sym (table-at (line_of p).domains chain.domain (shown d) at) ∙ ap (world.table_of there) (sym number))
+
+    pub next_chains : (cs' : Chains) → cs'.domains.items ≡ cs.domains.items → cs'.closed.items ≡ cs.closed.items → cs'.begun.items ≡ noted_with cs.begun.items (Some chain.id) (length journal.log) → cs'.sent.items ≡ cs.sent.items → AreChains (known_of journal' p) cs'
+    next_chains cs' domains closed begun sents_same =
+        let within : IsWithin (length cs.begun.items) (Some chain.id) = λ id same. (
+          subst (λ n. 0 < n) (same_Some chain.id id same) token.0,
+          subst (λ n. n ≤ length cs.begun.items) (same_Some chain.id id same) (omega (arith, id_within journal p is cs are chain token, are.even.begun)),
+        ) in
+        let member : (id : ℕ) → begins_in id (now_of there so_far the_entry) ≡ is_of_chain (Some id) (Some chain.id) = λ id.
+        (λ i. option_map_or (λ (b : Base). is_of_chain (Some id) b.chain) (began_is i) false) ∙ ap (is_of_chain (Some id)) starts.chain in
+        subst (λ known. AreChains known cs') (known_is journal journal' p p the_entry log refl)
+        (chains_now (known_of journal p) the_entry cs are cs'
+        (record {
+          closed = ap length closed ∙ are.even.closed ∙ sym (ap length domains);
+          begun = ap length begun ∙ length-with cs.begun.items (Some chain.id) (length journal.log) ∙ are.even.begun ∙ sym (ap length domains);
+          sent = ap length sents_same ∙ are.even.sent ∙ sym (ap length domains);
+        })
+        (domains ∙ sym (append-nil cs.domains.items))
+        (λ id. ap (λ xs. flag_in xs id) closed ∙ sym (or_false (flag_in cs.closed.items id)))
+        (λ id.
+        ap (λ xs. noted_in xs id) begun ∙ noted_in-with cs.begun.items (Some chain.id) (length journal.log) id within
+        ∙ ap (λ b. option_or (if b then Some (length journal.log) else None) (noted_in cs.begun.items id)) (sym (member id)))
+        (λ id. ap (λ xs. noted_in xs id) sents_same))
+
+    pub next_fresh : IsFresh (known_of journal p) chain.domain (Some chain.id) mode tx
+    next_fresh = record { place = starts.place; domain = number; chain = starts.chain; mode = starts.mode; ops = starts.ops }
+
+-- ---- a chain that begins no transaction
+
+module _ (old new : Known) (e : Entry) where
+  fails_of : (closed : Bool) (failed : Option ℕ) (waits dead : Bool) (n : ℕ) (f : CallFault) → option_or (fault_if closed ChainClosed) (option_or (option_map ChainFailed failed) (option_or (fault_if waits PreviousOpen) (fault_if dead (NoDomain n)))) ≡ Some f
+      → Made old new e (Refused f) → Fails old new e f
+  fails_of true failed waits dead n f is made = let same : ChainClosed ≡ f = same_Some ChainClosed f is in subst (Fails old new e) same (subst (λ g. Made old new e (Refused g)) (sym same) made)
+  fails_of false (Some r) waits dead n f is made = let same : ChainFailed r ≡ f = same_Some (ChainFailed r) f is in subst (Fails old new e) same (subst (λ g. Made old new e (Refused g)) (sym same) made)
+  fails_of false None true dead n f is made = let same : PreviousOpen ≡ f = same_Some PreviousOpen f is in subst (Fails old new e) same (subst (λ g. Made old new e (Refused g)) (sym same) made)
+  fails_of false None false true n f is made = let same : NoDomain n ≡ f = same_Some (NoDomain n) f is in subst (Fails old new e) same (subst (λ g. Made old new e (Refused g)) (sym same) made)
+  fails_of false None false false n f is made = cc
+
+module _ (journal journal' : Noted) (p : Pipeline) (is : IsKept journal p) (client id : ℕ) (mode : Mode) (log : journal'.log ≡ jotted journal.log client (ChainBegin id mode)) (f : CallFault) (refused : chain_refusal (answers journal.log (line_of p)) id ≡ Some f) where
+  abbrev earlier : List Answered
+  earlier = answers journal.log (line_of p)
+
+  abbrev refused_entry : Entry
+  refused_entry = record { client = client; number = entries_of journal.log client; call = ChainBegin id mode }
+
+  refused_reply : reply_to (world_in (line_of p).domains) earlier (ChainBegin id mode) ≡ Refused f
+  refused_reply = ap (λ (o : Option CallFault). refused_or o (Begun (chained_base (world_in (line_of p).domains) earlier id).commit (stands_on earlier id))) refused
+
+  pub refused_kept : ((k : ℕ) → mark_at journal'.marks k ≡ mark_at journal.marks k) → IsKept journal' p
+  refused_kept marks = quiet_kept journal journal' p is client (ChainBegin id mode) log refl refl (λ k. refl) refl marks
+
+  pub refused_chains : (cs : Chains) → AreChains (known_of journal p) cs → AreChains (known_of journal' p) cs
+  refused_chains cs are =
+      subst (λ known. AreChains known cs) (known_is journal journal' p p refused_entry log refl)
+      (steady (known_of journal p) refused_entry cs are cs (record { domains = refl; closed = refl; begun = refl; sent = refl }) refl (λ k. refl)
+      (λ k. ap (λ r. option_map_or (λ (b : Base). is_of_chain (Some k) b.chain) (began_by (world_in (line_of p).domains) earlier (ChainBegin id mode) r) false) refused_reply) refl)
+
+  pub refused_fails : length journal.log < 1000000 → Fails (known_of journal p) (known_of journal' p) (record { client = client; number = entries_of journal.log client; call = ChainBegin id mode }) f
+  refused_fails room =
+      fails_of (known_of journal p) (known_of journal' p) refused_entry (is_closed earlier id) (failed_by earlier id) (has_open earlier id) (not (is_live (domain_of earlier id))) (domain_of earlier id) f refused
+      (made_now journal journal' p is client (ChainBegin id mode) log (Refused f) room refused_reply)

@@ -1,0 +1,52 @@
+-- The entry is the log's next.
+use Rattle.std.proofs.Common.{◌≡◌, ◌+◌, ◌-◌, ◌<◌, ◌≤◌, ℕ, length, ap, sym, ◌∙◌, subst, arith, slice_get, Some}
+use Rattle.std.proofs.lemmas.Grind.{common_steps}
+use Rattle.sal_rows.specs.declared.outcome.Outcome.{Outcome}
+use Rattle.sal_history.specs.declared.call.Call.TheVariants.{Pump}
+use Rattle.sal_history.specs.declared.reply.Reply.TheVariants.{Decided, Nothing}
+use Rattle.sal_hub.specs.Answers.{Made}
+use Rattle.sal_hub.specs.Current.{known_of}
+use Rattle.sal_hub.specs.Known.{entry_of}
+use Rattle.sal_hub.specs.Lines.{AreDecided, line_of}
+use Rattle.sal_hub.proofs.Beginning.{made_now}
+use Rattle.sal_hub.proofs.Settling.{few, idle_kept, idle_reply, pumped_kept, pumped_made}
+use Rattle.sal_hub.proofs.settle.pump.Goals as goal
+
+pub returns-in-Ok-clause-kept : goal.returns-in-Ok-clause-kept
+returns-in-Ok-clause-kept c =
+    let none : length c.args.pipeline.now.submissions.items ≤ length c.args.pipeline.now.outcomes.items = grind (arith, common_steps) in
+    idle_kept c.args.journal.now c.add.new.self c.args.pipeline.now c.requires.kept c.args.client c.in-Ok.ensures.log none c.in-Ok.ensures.marks
+
+pub returns-in-Ok-clause-answer : goal.returns-in-Ok-clause-answer
+returns-in-Ok-clause-answer c =
+    let none : length c.args.pipeline.now.submissions.items ≤ length c.args.pipeline.now.outcomes.items = grind (arith, common_steps) in
+    made_now c.args.journal.now c.add.new.self c.args.pipeline.now c.requires.kept c.args.client Pump c.in-Ok.ensures.log Nothing c.requires.room
+    (idle_reply c.args.journal.now c.add.new.self c.args.pipeline.now c.requires.kept c.args.client c.in-Ok.ensures.log none)
+
+pub settle-requires-clause-few : goal.settle-requires-clause-few
+settle-requires-clause-few c =
+    let within : length c.args.pipeline.now.submissions.items ≤ length c.args.journal.now.log = few c.args.journal.now c.args.pipeline.now c.requires.kept in
+    omega (arith, within, c.requires.room)
+
+pub returns-in-Ok-settle-clause-kept : goal.returns-in-Ok-settle-clause-kept
+returns-in-Ok-settle-clause-kept c =
+    let p = c.args.pipeline.now in
+    let done = c.in-Ok-settle.ensures in
+    let count : c.len-decided.result ≡ length p.outcomes.items = grind (arith, common_steps) in
+    let decided : AreDecided (line_of p) (length p.outcomes.items + 1 - length p.outcomes.items) (line_of c.settle.new.self) =
+    subst (λ n. AreDecided (line_of p) (n + 1 - length p.outcomes.items) (line_of c.settle.new.self)) count done.decided in
+    pumped_kept c.args.journal.now c.settle.new.journal p c.requires.kept c.args.client done.log c.settle.new.self decided done.kept done.marks
+
+pub returns-in-Ok-settle-clause-answer : goal.returns-in-Ok-settle-clause-answer
+returns-in-Ok-settle-clause-answer c =
+    let p = c.args.pipeline.now in
+    let done = c.in-Ok-settle.ensures in
+    let o = c.in-Ok-settle.outcome in
+    let count : c.len-decided.result ≡ length p.outcomes.items = grind (arith, common_steps) in
+    let decided : AreDecided (line_of p) (length p.outcomes.items + 1 - length p.outcomes.items) (line_of c.settle.new.self) =
+    subst (λ n. AreDecided (line_of p) (n + 1 - length p.outcomes.items) (line_of c.settle.new.self)) count done.decided in
+    let within : length p.outcomes.items < length p.submissions.items = grind (arith, common_steps) in
+    let place : c.len-decided.result + 1 - 1 ≡ length p.outcomes.items = omega (arith, count) in
+    let at : slice_get c.settle.new.self.outcomes.items (length p.outcomes.items) ≡ Some o = subst (λ n. slice_get c.settle.new.self.outcomes.items n ≡ Some o) place done.outcome in
+    subst (λ n. Made (known_of c.args.journal.now p) (known_of c.settle.new.journal c.settle.new.self) (entry_of (known_of c.args.journal.now p) c.args.client Pump) (Decided (n + 1) 0 o)) (sym count)
+    (pumped_made c.args.journal.now c.settle.new.journal p c.requires.kept c.args.client done.log c.settle.new.self decided o c.requires.room within at)

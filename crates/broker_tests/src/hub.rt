@@ -131,7 +131,12 @@ fn is_full(hub: &mut Hub, alloc: Global) -> [bool; 4] {
         Err(CallFault::HistoryFull) => true,
         _ => false,
     };
-    [is_refused, is_late, hub.has_mark(999999), !hub.has_mark(1000000)]
+    [
+        is_refused,
+        is_late,
+        hub.has_mark(999999),
+        !hub.has_mark(1000000),
+    ]
 }
 
 #[test]

@@ -53,8 +53,8 @@ is_spent-requires-clause-token c =
     let token : IsToken new (Write tx) = subst (IsToken new) c.in-Write.is c.in_ok-tx.ensures.token in
     let fresh : IsFresh old 0 None Rw (Write tx) = subst (IsFresh old 0 None Rw) c.in-Write.is c.in_ok-tx.ensures.fresh in
     let trees_are : (s : Store) → rows_in tx.base s ≡ rows_in base s = λ s.
-        stands old new (entry_of old 7 (Begin 0 Rw)) tx.begun (rows_in tx.base) s refl c.in_ok-tx.ensures.answer.log fresh.place token.began
-        ∙ sym (ap (λ (p : Pair). rows_in p s) c.in_ok-base.ensures ∙ c.trees.ensures s) in
+    stands old new (entry_of old 7 (Begin 0 Rw)) tx.begun (rows_in tx.base) s refl c.in_ok-tx.ensures.answer.log fresh.place token.began
+    ∙ sym (ap (λ (p : Pair). rows_in p s) c.in_ok-base.ensures ∙ c.trees.ensures s) in
     let begun : IsBegun new b base = record {
       before = omega (arith, token.before, place_is);
       began =

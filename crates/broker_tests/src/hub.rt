@@ -114,11 +114,11 @@ fn a_second_transaction_on_the_same_fields_is_spent(rt: HostRuntime) -> Result<(
 // ---- the history at its end
 
 // Leaves marks until the log is full: how many there are.
-fn marks_left(hub: &mut Hub, alloc: Global) -> Result<u32, Fail> {
+fn marks_left(hub: &mut Hub, alloc: Global) -> Result<usize, Fail> {
     for mark in 0..MAX_ENTRIES as u32 {
         hub.mark(alloc, 7, mark)?;
     }
-    Ok(hub.log().len() as u32)
+    Ok(hub.log().len())
 }
 
 // Whether a call behind the last entry is refused, and marks are found or not.

@@ -88,6 +88,12 @@ pub enum CallFault {
     /// The domain is not live.
     #[error("no live domain {id}")]
     NoDomain { id: u32 },
+    /// The client has no live listener of this id.
+    #[error("no live listener {id} of this client")]
+    NoListener { id: u64 },
+    /// As many listeners are live as may be, 256.
+    #[error("too many listeners")]
+    TooManyListeners,
     /// The last transaction of the chain is neither submitted nor cancelled.
     #[error("the chain's previous transaction is open")]
     PreviousOpen,

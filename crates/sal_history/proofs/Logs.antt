@@ -14,7 +14,7 @@ use Rattle.sal_rows.specs.declared.outcome.CallFault.TheVariants.{ChainClosed, C
 use Rattle.sal_rows.specs.declared.outcome.Outcome.{Outcome}
 use Rattle.sal_rows.specs.Spans.{is_of_chain}
 use Rattle.sal_history.specs.declared.call.Call.{Call}
-use Rattle.sal_history.specs.declared.call.Call.TheVariants.{After, Begin, Cancel, ChainBegin, CloseChain, Mark, OpenChain, Pump, Settle, Submit}
+use Rattle.sal_history.specs.declared.call.Call.TheVariants.{After, Begin, Cancel, ChainBegin, CloseChain, Listen, Mark, OpenChain, Pump, Settle, Submit, Take, Unlisten}
 use Rattle.sal_history.specs.declared.call.Entry.{Entry}
 use Rattle.sal_history.specs.declared.reply.Reply.{Reply}
 use Rattle.sal_history.specs.declared.reply.Reply.TheVariants.{Begun, Receipt, Refused}
@@ -65,16 +65,16 @@ module _ (world : List Domain) (answered : List Answered) (was : IsSound world a
   abbrev os : List Outcome
   os = outcomes answered
 
-  abbrev reply : Call → Reply
-  reply call = reply_to world answered call
+  abbrev reply : ℕ → Call → Reply
+  reply client call = reply_to world answered client call
 
   -- open before the call with this answer, and not spent by it; or begun by it
   abbrev OpenWith : Call → Reply → Base → Type 0
   OpenWith call r b =
       ((place : ℕ) × (began_at answered place ≡ Some b) × (is_spent answered place ≡ false) × (spends call r place ≡ false)) ⊎ (began_by world answered call r ≡ Some b)
 
-  abbrev OpenAfter : Call → Base → Type 0
-  OpenAfter call b = OpenWith call (reply call) b
+  abbrev OpenAfter : ℕ → Call → Base → Type 0
+  OpenAfter client call b = OpenWith call (reply client call) b
 
   -- ---- what a call begins
 
@@ -102,24 +102,27 @@ module _ (world : List Domain) (answered : List Answered) (was : IsSound world a
       pending_waits (Some chain) ss os ∙ ap (λ (c : Option ℕ). waiting c ss os) (sym there.1) in
       subst (λ (w : Option Sent). StandsOn world ss os w (chained_base world answered chain)) waits there.0
 
-  begun_stands : (call : Call) (b : Base) → began_by world answered call (reply call) ≡ Some b → Stands world ss os ss b
-  begun_stands (Begin domain mode) b =
+  begun_stands : (client : ℕ) (call : Call) (b : Base) → began_by world answered call (reply client call) ≡ Some b → Stands world ss os ss b
+  begun_stands client (Begin domain mode) b =
       cond_both (is_live domain) (Begun (length (commits answered domain)) None) (Refused (NoDomain domain)) (λ r. began_by world answered (Begin domain mode) r ≡ Some b → Stands world ss os ss b)
       (λ live e. subst (Stands world ss os ss) (same_Some (newest_base world answered domain None) b e) (plain_stands domain))
       (λ dead e. absurd (none-some b e))
-  begun_stands (ChainBegin chain mode) b =
+  begun_stands client (ChainBegin chain mode) b =
       elim (chain_refusal answered chain) as (λ (o : Option CallFault). began_by world answered (ChainBegin chain mode) (refused_or o (Begun (chained_base world answered chain).commit (stands_on answered chain))) ≡ Some b → Stands world ss os ss b) [
         | None ↦ λ e. subst (Stands world ss os ss) (same_Some (chained_base world answered chain) b e) (chained_stands chain)
         | Some fault ↦ λ e. absurd (none-some b e)
       ]
-  begun_stands (OpenChain domain) b = λ e. absurd (none-some b e)
-  begun_stands (CloseChain chain) b = λ e. absurd (none-some b e)
-  begun_stands (Submit place ops) b = λ e. absurd (none-some b e)
-  begun_stands (Cancel place) b = λ e. absurd (none-some b e)
-  begun_stands (Settle receipt) b = λ e. absurd (none-some b e)
-  begun_stands Pump b = λ e. absurd (none-some b e)
-  begun_stands (Mark mark) b = λ e. absurd (none-some b e)
-  begun_stands (After mark) b = λ e. absurd (none-some b e)
+  begun_stands client (OpenChain domain) b = λ e. absurd (none-some b e)
+  begun_stands client (CloseChain chain) b = λ e. absurd (none-some b e)
+  begun_stands client (Submit place ops) b = λ e. absurd (none-some b e)
+  begun_stands client (Cancel place) b = λ e. absurd (none-some b e)
+  begun_stands client (Settle receipt) b = λ e. absurd (none-some b e)
+  begun_stands client Pump b = λ e. absurd (none-some b e)
+  begun_stands client (Listen domain store path) b = λ e. absurd (none-some b e)
+  begun_stands client (Take id) b = λ e. absurd (none-some b e)
+  begun_stands client (Unlisten id) b = λ e. absurd (none-some b e)
+  begun_stands client (Mark mark) b = λ e. absurd (none-some b e)
+  begun_stands client (After mark) b = λ e. absurd (none-some b e)
 
   -- ---- what a call submits and decides
 
@@ -153,11 +156,11 @@ module _ (world : List Domain) (answered : List Answered) (was : IsSound world a
     unsent known = subst (λ (ts : List Sent). Known world IsNow ts (os ++ [])) (sym (append-nil ss)) (subst (Known world IsNow ss) (sym (append-nil os)) known)
 
     -- after a call that submits nothing and decides nothing
-    reopened : (call : Call) → ((b : Base) → IsNow b → OpenAfter call b) → Known world IsNow (ss ++ []) (os ++ [])
-    reopened call from =
+    reopened : (client : ℕ) (call : Call) → ((b : Base) → IsNow b → OpenAfter client call b) → Known world IsNow (ss ++ []) (os ++ [])
+    reopened client call from =
         unsent (Known-open world (IsOpen answered) IsNow ss os was.known (λ b is. elim (from b is) [
           | inl w ↦ inl (w.0, w.1, w.2)
-          | inr new ↦ inr (begun_stands call b new)
+          | inr new ↦ inr (begun_stands client call b new)
         ]))
 
     -- after a settle or a pump
@@ -198,20 +201,23 @@ module _ (world : List Domain) (answered : List Answered) (was : IsSound world a
         (λ few. cond_both (is_spent answered place) (Refused TxSpent) (Receipt (length ss + 1)) (Submitted place ops) (λ spent. not_sent place ops TxSpent) (λ unspent. receipt_given place ops (length ss + 1) unspent))
         (λ many. not_sent place ops PipelineFull)
 
-    still_open : (call : Call) → ((b : Base) → began_by world answered call (reply call) ≡ Some b → ⊥) → ((b : Base) → IsNow b → OpenAfter call b) → (b : Base) → IsNow b → IsOpen answered b
-    still_open call nothing from b is = elim (from b is) [ inl w ↦ (w.0, w.1, w.2) | inr new ↦ absurd (nothing b new) ]
+    still_open : (client : ℕ) (call : Call) → ((b : Base) → began_by world answered call (reply client call) ≡ Some b → ⊥) → ((b : Base) → IsNow b → OpenAfter client call b) → (b : Base) → IsNow b → IsOpen answered b
+    still_open client call nothing from b is = elim (from b is) [ inl w ↦ (w.0, w.1, w.2) | inr new ↦ absurd (nothing b new) ]
 
-    after_call : (call : Call) → ((b : Base) → IsNow b → OpenAfter call b) → Known world IsNow (ss ++ option_to_list (sent_by answered call (reply call))) (os ++ decided_by world answered call)
-    after_call (Begin domain mode) from = reopened (Begin domain mode) from
-    after_call (OpenChain domain) from = reopened (OpenChain domain) from
-    after_call (ChainBegin chain mode) from = reopened (ChainBegin chain mode) from
-    after_call (CloseChain chain) from = reopened (CloseChain chain) from
-    after_call (Submit place ops) from = after_submit place ops from
-    after_call (Cancel place) from = reopened (Cancel place) from
-    after_call (Settle receipt) from = decided_more (receipt - length os) (still_open (Settle receipt) (λ b e. none-some b e) from)
-    after_call Pump from = decided_more 1 (still_open Pump (λ b e. none-some b e) from)
-    after_call (Mark mark) from = reopened (Mark mark) from
-    after_call (After mark) from = reopened (After mark) from
+    after_call : (client : ℕ) (call : Call) → ((b : Base) → IsNow b → OpenAfter client call b) → Known world IsNow (ss ++ option_to_list (sent_by answered call (reply client call))) (os ++ decided_by world answered call)
+    after_call client (Begin domain mode) from = reopened client (Begin domain mode) from
+    after_call client (OpenChain domain) from = reopened client (OpenChain domain) from
+    after_call client (ChainBegin chain mode) from = reopened client (ChainBegin chain mode) from
+    after_call client (CloseChain chain) from = reopened client (CloseChain chain) from
+    after_call client (Submit place ops) from = after_submit place ops from
+    after_call client (Cancel place) from = reopened client (Cancel place) from
+    after_call client (Settle receipt) from = decided_more (receipt - length os) (still_open client (Settle receipt) (λ b e. none-some b e) from)
+    after_call client Pump from = decided_more 1 (still_open client Pump (λ b e. none-some b e) from)
+    after_call client (Listen domain store path) from = reopened client (Listen domain store path) from
+    after_call client (Take id) from = reopened client (Take id) from
+    after_call client (Unlisten id) from = reopened client (Unlisten id) from
+    after_call client (Mark mark) from = reopened client (Mark mark) from
+    after_call client (After mark) from = reopened client (After mark) from
 
   -- ---- the last transaction of a chain
 
@@ -230,13 +236,13 @@ module _ (world : List Domain) (answered : List Answered) (was : IsSound world a
   is_base_of chain o = option_map_or (λ b. is_of_chain (Some chain) b.chain) o false
 
   -- while a transaction of a chain is open, no call begins one
-  no_begin : (call : Call) (chain place : ℕ) → last_begun answered chain ≡ Some place → is_spent answered place ≡ false → is_base_of chain (began_by world answered call (reply call)) ≡ false
-  no_begin (Begin domain mode) chain place at free =
+  no_begin : (client : ℕ) (call : Call) (chain place : ℕ) → last_begun answered chain ≡ Some place → is_spent answered place ≡ false → is_base_of chain (began_by world answered call (reply client call)) ≡ false
+  no_begin client (Begin domain mode) chain place at free =
       elim (is_live domain) as (λ b. is_base_of chain (began_by world answered (Begin domain mode) (if b then Begun (length (commits answered domain)) None else Refused (NoDomain domain))) ≡ false) [
         | true ↦ refl
         | false ↦ refl
       ]
-  no_begin (ChainBegin other mode) chain place at free =
+  no_begin client (ChainBegin other mode) chain place at free =
       let based = chained_base world answered other in
       elim (chain_refusal answered other) as (λ (o : Option CallFault). chain_refusal answered other ≡ o
       → is_base_of chain (began_by world answered (ChainBegin other mode) (refused_or o (Begun based.commit (stands_on answered other)))) ≡ false) [
@@ -251,37 +257,40 @@ module _ (world : List Domain) (answered : List Answered) (was : IsSound world a
             cc)
         | Some fault ↦ λ e. refl
       ] refl
-  no_begin (OpenChain domain) chain place at free = refl
-  no_begin (CloseChain other) chain place at free = refl
-  no_begin (Submit other ops) chain place at free = refl
-  no_begin (Cancel other) chain place at free = refl
-  no_begin (Settle receipt) chain place at free = refl
-  no_begin Pump chain place at free = refl
-  no_begin (Mark mark) chain place at free = refl
-  no_begin (After mark) chain place at free = refl
+  no_begin client (OpenChain domain) chain place at free = refl
+  no_begin client (CloseChain other) chain place at free = refl
+  no_begin client (Submit other ops) chain place at free = refl
+  no_begin client (Cancel other) chain place at free = refl
+  no_begin client (Settle receipt) chain place at free = refl
+  no_begin client Pump chain place at free = refl
+  no_begin client (Listen domain store path) chain place at free = refl
+  no_begin client (Take id) chain place at free = refl
+  no_begin client (Unlisten id) chain place at free = refl
+  no_begin client (Mark mark) chain place at free = refl
+  no_begin client (After mark) chain place at free = refl
 
   -- ---- one entry more
 
   module _ (e : Entry) where
     abbrev now : Answered
-    now = answered_as world answered e (reply e.call)
+    now = answered_as world answered e (reply e.client e.call)
 
-    sents-now : sents (answered ++ now ∷ []) ≡ ss ++ option_to_list (sent_by answered e.call (reply e.call))
+    sents-now : sents (answered ++ now ∷ []) ≡ ss ++ option_to_list (sent_by answered e.call (reply e.client e.call))
     sents-now =
         filter_map-append (λ (a : Answered). a.sent) answered (now ∷ [])
-        ∙ elim (sent_by answered e.call (reply e.call)) as (λ (o : Option Sent). ss ++ cons_option o [] ≡ ss ++ option_to_list o) [ None ↦ refl | Some s ↦ refl ]
+        ∙ elim (sent_by answered e.call (reply e.client e.call)) as (λ (o : Option Sent). ss ++ cons_option o [] ≡ ss ++ option_to_list o) [ None ↦ refl | Some s ↦ refl ]
 
     outcomes-now : outcomes (answered ++ now ∷ []) ≡ os ++ decided_by world answered e.call
     outcomes-now = flat_map-append (λ (a : Answered). a.decided) answered (now ∷ []) ∙ ap (λ (ps : List Outcome). os ++ ps) (append-nil (decided_by world answered e.call))
 
     -- what is not spent now was not before, and is not by the call
-    unspent-now : (place : ℕ) → is_spent (answered ++ now ∷ []) place ≡ false → (is_spent answered place ≡ false) × (spends e.call (reply e.call) place ≡ false)
+    unspent-now : (place : ℕ) → is_spent (answered ++ now ∷ []) place ≡ false → (is_spent answered place ≡ false) × (spends e.call (reply e.client e.call) place ≡ false)
     unspent-now place free =
         let test : Answered → Bool = λ a. spends a.entry.call a.reply place in
         let parts = or_parts (is_spent answered place) (list_any test (now ∷ [])) (sym (list_any-append test answered (now ∷ [])) ∙ free) in
         (parts.0, (or_parts (test now) false parts.1).0)
 
-    begun_before : (place : ℕ) (b : Base) → began_at (answered ++ now ∷ []) place ≡ Some b → (began_at answered place ≡ Some b) ⊎ ((place ≡ length answered) × (began_by world answered e.call (reply e.call) ≡ Some b))
+    begun_before : (place : ℕ) (b : Base) → began_at (answered ++ now ∷ []) place ≡ Some b → (began_at answered place ≡ Some b) ⊎ ((place ≡ length answered) × (began_by world answered e.call (reply e.client e.call) ≡ Some b))
     begun_before place b at =
         option_and_then_some (λ (a : Answered). a.began) (slice_get (answered ++ now ∷ []) place) b at (λ a found is.
         elim (last_or_before answered now a place found) [
@@ -297,8 +306,8 @@ module _ (world : List Domain) (answered : List Answered) (was : IsSound world a
         record {
           known =
               subst (λ (ts : List Sent). Known world (IsOpen (answered ++ now ∷ [])) ts (outcomes (answered ++ now ∷ []))) (sym sents-now)
-              (subst (Known world (IsOpen (answered ++ now ∷ [])) (ss ++ option_to_list (sent_by answered e.call (reply e.call)))) (sym outcomes-now)
-              (after_call (IsOpen (answered ++ now ∷ [])) e.call (λ b is. elim (begun_before is.0 b is.1) [
+              (subst (Known world (IsOpen (answered ++ now ∷ [])) (ss ++ option_to_list (sent_by answered e.call (reply e.client e.call)))) (sym outcomes-now)
+              (after_call (IsOpen (answered ++ now ∷ [])) e.client e.call (λ b is. elim (begun_before is.0 b is.1) [
                 | inl old ↦ let free = unspent-now is.0 is.2 in inl (is.0, old, free.0, free.1)
                 | inr new ↦ inr new.1
               ])));
@@ -307,7 +316,7 @@ module _ (world : List Domain) (answered : List Answered) (was : IsSound world a
               elim (begun_before place b at) [
                 | inl old ↦
                     let there = was.last place b chain old of earlier.0 in
-                    last_begun-now chain ∙ ap (λ c. cond c (Some (0 + length answered)) (last_begun answered chain)) (no_begin e.call chain place there earlier.0) ∙ there
+                    last_begun-now chain ∙ ap (λ c. cond c (Some (0 + length answered)) (last_begun answered chain)) (no_begin e.client e.call chain place there earlier.0) ∙ there
                 | inr new ↦
                     let itself : nat_eq chain chain ≡ true = eq-eqb chain chain refl in
                     let here : begins_in chain now ≡ true = ap (is_base_of chain) new.1 ∙ ap (is_of_chain (Some chain)) of ∙ itself in

@@ -1,35 +1,31 @@
 -- What the log of shared calls means: each entry's answer, the receipts, their outcomes, the commits and the trees.
 -- The log is all that there is; every definition here looks at entries alone.
-use Rattle.std.specs.Prelude.{ℕ, Bool, false, not, zero, suc, ◌+◌, ◌-◌, List, [], ◌∷◌, ◌++◌, length, Option, Some, None, if◌then◌else◌, nat_eq, nat_lt, slice_get, unwrap_or, option_and_then, count_by}
+use Rattle.std.specs.Prelude.{ℕ, Bool, false, not, zero, suc, ◌+◌, ◌-◌, List, [], ◌∷◌, ◌++◌, length, Option, Some, None, if◌then◌else◌, nat_eq, nat_le, nat_lt, slice_get, unwrap_or, option_and_then, count_by}
 use Rattle.std.specs.List.{fold, filter_map, flat_map, list_any}
 use Rattle.std.specs.Option.{option_map, option_map_or, option_or}
 use Rattle.sal_types.specs.declared.value.Store.{Store}
+use Rattle.sal_types.specs.declared.value.Step.{Step}
 use Rattle.sal_types.specs.declared.row.Row.{Row}
 use Rattle.sal_rows.specs.declared.op.Op.{Op}
 use Rattle.sal_rows.specs.declared.outcome.CallFault.{CallFault}
-use Rattle.sal_rows.specs.declared.outcome.CallFault.TheVariants.{NoDomain, PipelineFull, TxSpent, PreviousOpen, ChainFailed, ChainClosed}
+use Rattle.sal_rows.specs.declared.outcome.CallFault.TheVariants.{NoDomain, NoListener, TooManyListeners, PipelineFull, TxSpent, PreviousOpen, ChainFailed, ChainClosed}
 use Rattle.sal_rows.specs.declared.outcome.Outcome.{Outcome}
 use Rattle.sal_rows.specs.declared.outcome.Outcome.TheVariants.{ChainFailed as FailedBy}
 use Rattle.sal_rows.specs.Apply.{apply_ops}
-use Rattle.sal_rows.specs.Commits.{tree_after}
+use Rattle.sal_rows.specs.Batches.{batch, opened}
+use Rattle.sal_rows.specs.Commits.{tree_after, tree_at}
 use Rattle.sal_rows.specs.Spans.{is_of_chain, spans}
+use Rattle.sal_schema.specs.Fitting.{has_own_row}
 use Rattle.sal_history.specs.declared.call.Call.{Call}
-use Rattle.sal_history.specs.declared.call.Call.TheVariants.{Begin, OpenChain, ChainBegin, CloseChain, Submit, Cancel, Settle, Pump, Mark, After}
+use Rattle.sal_history.specs.declared.call.Call.TheVariants.{Begin, OpenChain, ChainBegin, CloseChain, Submit, Cancel, Settle, Pump, Listen, Take, Unlisten, Mark, After}
 use Rattle.sal_history.specs.declared.call.Entry.{Entry}
 use Rattle.sal_history.specs.declared.reply.Reply.{Reply}
-use Rattle.sal_history.specs.declared.reply.Reply.TheVariants.{Begun, Chain, Accepted, Receipt, Settled, Decided, Nothing, Found, Late, Refused}
+use Rattle.sal_history.specs.declared.reply.Reply.TheVariants.{Begun, Chain, Accepted, Receipt, Settled, Decided, Nothing, Listener, Batch, Found, Late, Refused}
+pub use Rattle.sal_history.specs.Answered.{Answered}
+use Rattle.sal_history.specs.Listeners.{Listening, has_listener, listener_at, listeners, live_listeners, version}
 use Rattle.sal_history.specs.Outcome.{decide}
 use Rattle.sal_history.specs.Submissions.{Base, Sent, done_chains, done_ops, failing, last_from, pending_receipt, view_of}
 use Rattle.sal_history.specs.World.{Domain, opening_of, table_of}
-
--- An entry with its answer, the transaction that it began, the submission that it made, and the outcomes of the receipts
--- that it decided, in order.
-pub record Answered : Type 0 where
-  pub entry : Entry
-  pub reply : Reply
-  pub began : Option Base
-  pub sent : Option Sent
-  pub decided : List Outcome
 
 -- the submissions, by receipt from 1 on
 abbrev pub sents : List Answered → List Sent
@@ -141,6 +137,13 @@ marks call mark = false
 abbrev pub is_marked : List Answered → ℕ → Bool
 is_marked answered mark = list_any (λ a. marks a.entry.call mark) answered
 
+-- ---- listeners
+
+-- why the domain gets no further listener: it is not live, or 256 are
+abbrev pub listen_refusal : List Answered → ℕ → Option CallFault
+listen_refusal answered domain =
+    option_or (fault_if (not (is_live domain)) (NoDomain domain)) (fault_if (nat_le 256 (live_listeners answered)) TooManyListeners)
+
 -- ---- answers
 
 -- how many receipts are pending
@@ -168,6 +171,27 @@ module _ (world : List Domain) where
   -- the newest trees of a domain
   abbrev pub trees_of : List Answered → ℕ → Store → List Row
   trees_of answered domain s = tree_after s (opening_of world domain s) (commits answered domain)
+
+  -- the trees of a store of a domain at its commits, by their numbers
+  abbrev pub trees_at : List Answered → ℕ → Store → ℕ → List Row
+  trees_at answered domain s k = tree_at (opening_of world domain) (commits answered domain) s k
+
+  -- the answer to a listen: the next listener, at the newest commit
+  abbrev pub listening : List Answered → ℕ → Store → List Step → Reply
+  listening answered domain s path =
+      Listener (length (listeners answered) + 1) domain path (opened (trees_at answered domain s) path (length (commits answered domain)))
+
+  -- the answer to a take of the listener: what the commits after its version changed, up to the newest one
+  abbrev pub batch_of : List Answered → ℕ → Listening → Reply
+  batch_of answered id l =
+      Batch l.domain (batch (has_own_row (table_of world l.domain) l.path) (trees_at answered l.domain l.store) l.path (version answered id) (length (commits answered l.domain)))
+
+  -- a client is answered about its own live listeners alone
+  abbrev pub if_listens : List Answered → ℕ → ℕ → Reply → Reply
+  if_listens answered client id good = if has_listener answered client id then good else Refused (NoListener id)
+
+  abbrev pub taken : List Answered → ℕ → Reply
+  taken answered id = option_map_or (batch_of answered id) (listener_at answered id) (Refused (NoListener id))
 
   -- The outcome of a submission, decided after these outcomes. Where a smaller receipt of its chain was not done, that one is
   -- named. Else it is decided over the commits of its domain; those after its base that are not of its chain are foreign.
@@ -213,18 +237,21 @@ module _ (world : List Domain) where
   began_by answered (ChainBegin chain mode) (Begun commit on) = Some (chained_base answered chain)
   began_by answered call reply = None
 
-  -- the reply to a call after these entries
-  abbrev pub reply_to : List Answered → Call → Reply
-  reply_to answered (Begin domain mode) = if is_live domain then Begun (length (commits answered domain)) None else Refused (NoDomain domain)
-  reply_to answered (OpenChain domain) = if is_live domain then Chain (length (chain_domains answered) + 1) else Refused (NoDomain domain)
-  reply_to answered (ChainBegin chain mode) = refused_or (chain_refusal answered chain) (Begun (chained_base answered chain).commit (stands_on answered chain))
-  reply_to answered (CloseChain chain) = refused_or (fault_if (is_closed answered chain) ChainClosed) Accepted
-  reply_to answered (Submit place ops) = submitted answered place
-  reply_to answered (Cancel place) = Accepted
-  reply_to answered (Settle receipt) = settled (slice_get (sents answered) (receipt - 1)) (slice_get (outcomes answered ++ decided_by answered (Settle receipt)) (receipt - 1))
-  reply_to answered Pump = pumped (length (outcomes answered) + 1) (slice_get (sents answered) (length (outcomes answered))) (decided_by answered Pump)
-  reply_to answered (Mark mark) = Accepted
-  reply_to answered (After mark) = if is_marked answered mark then Found else Late
+  -- the reply to a call of the client after these entries
+  abbrev pub reply_to : List Answered → ℕ → Call → Reply
+  reply_to answered client (Begin domain mode) = if is_live domain then Begun (length (commits answered domain)) None else Refused (NoDomain domain)
+  reply_to answered client (OpenChain domain) = if is_live domain then Chain (length (chain_domains answered) + 1) else Refused (NoDomain domain)
+  reply_to answered client (ChainBegin chain mode) = refused_or (chain_refusal answered chain) (Begun (chained_base answered chain).commit (stands_on answered chain))
+  reply_to answered client (CloseChain chain) = refused_or (fault_if (is_closed answered chain) ChainClosed) Accepted
+  reply_to answered client (Submit place ops) = submitted answered place
+  reply_to answered client (Cancel place) = Accepted
+  reply_to answered client (Settle receipt) = settled (slice_get (sents answered) (receipt - 1)) (slice_get (outcomes answered ++ decided_by answered (Settle receipt)) (receipt - 1))
+  reply_to answered client Pump = pumped (length (outcomes answered) + 1) (slice_get (sents answered) (length (outcomes answered))) (decided_by answered Pump)
+  reply_to answered client (Listen domain s path) = refused_or (listen_refusal answered domain) (listening answered domain s path)
+  reply_to answered client (Take id) = if_listens answered client id (taken answered id)
+  reply_to answered client (Unlisten id) = if_listens answered client id Accepted
+  reply_to answered client (Mark mark) = Accepted
+  reply_to answered client (After mark) = if is_marked answered mark then Found else Late
 
   -- an entry after these, with its answer
   abbrev pub answered_as : List Answered → Entry → Reply → Answered
@@ -233,7 +260,7 @@ module _ (world : List Domain) where
 
   -- one more entry, answered
   abbrev pub answer : List Answered → Entry → List Answered
-  answer answered e = answered ++ answered_as answered e (reply_to answered e.call) ∷ []
+  answer answered e = answered ++ answered_as answered e (reply_to answered e.client e.call) ∷ []
 
   -- the entries of a log, each with its answer
   abbrev pub history : List Entry → List Answered
@@ -241,7 +268,7 @@ module _ (world : List Domain) where
 
   -- the reply to an entry after a log
   abbrev pub reply : List Entry → Entry → Reply
-  reply log e = reply_to (history log) e.call
+  reply log e = reply_to (history log) e.client e.call
 
   -- the newest tree of a store of a domain
   abbrev pub newest_tree : List Entry → ℕ → Store → List Row

@@ -1,9 +1,12 @@
+pub mod Answered
 pub mod ChainLaws
 pub mod Chains
 pub mod Depots
 pub mod Examples
 pub mod History
 pub mod Laws
+pub mod Listeners
+pub mod Listening
 pub mod Outcome
 pub mod Submissions
 pub mod World

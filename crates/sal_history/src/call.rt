@@ -1,6 +1,6 @@
 //! The shared calls, and the log of them.
 use sal_rows::{Mode, Ops};
-use sal_types::Seq;
+use sal_types::{Path, Seq, Store};
 
 /// A shared call: what one turn of the broker is asked. Tokens are numbers.
 #[derive(Drop)]
@@ -21,6 +21,17 @@ pub enum Call {
     Settle { receipt: u64 },
     /// Decides the first receipt that is pending.
     Pump,
+    /// Listens to a store of the domain at the path and below it (`registerDataTreeChangeListener`). The listener's id is the
+    /// number of listeners that were made.
+    Listen {
+        domain: u32,
+        store: Store,
+        path: Path,
+    },
+    /// Takes what changed for the listener since its opening, or since what was taken last.
+    Take { id: u64 },
+    /// Removes the listener.
+    Unlisten { id: u64 },
     /// Leaves a mark in the log, by which clients can tell each other how far they are.
     Mark { mark: u32 },
     /// Asks whether the mark was left.

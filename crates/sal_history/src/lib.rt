@@ -47,6 +47,7 @@ pub mod call;
 pub mod chain_examples;
 pub mod examples;
 pub mod laws;
+pub mod listener_examples;
 pub mod opening;
 pub mod reply;
 

@@ -1,5 +1,6 @@
 //! What a shared call is answered.
-use sal_rows::{CallFault, Outcome};
+use sal_rows::{Batch, CallFault, Opened, Outcome};
+use sal_types::Path;
 
 /// The answer to a shared call, as the log gives it.
 #[derive(Drop)]
@@ -32,6 +33,18 @@ pub enum Reply {
     },
     /// No receipt is pending.
     Nothing,
+    /// The listener has this id, and is given this for its beginning, of the path in the domain.
+    Listener {
+        id: u64,
+        domain: u32,
+        path: Path,
+        opened: Opened,
+    },
+    /// What changed for a listener of the domain.
+    Batch {
+        domain: u32,
+        batch: Batch,
+    },
     /// The mark was left before.
     Found,
     /// The mark was not left before.

@@ -1,5 +1,5 @@
 -- What kept commits say of two neighbours, and what their trees say of a part.
-use Rattle.std.proofs.Common.{◌≡◌, ℕ, suc, ◌+◌, ◌<◌, Bool, true, List, [], ◌∷◌, ◌++◌, length, take, get_or, Option, Some, None, refl, ap, sym, ◌∙◌, subst, arith, append-nil}
+use Rattle.std.proofs.Common.{◌≡◌, ℕ, suc, ◌+◌, ◌<◌, Bool, true, false, List, [], ◌∷◌, ◌++◌, length, take, get_or, Option, Some, None, refl, ap, sym, ◌∙◌, subst, arith, append-nil}
 use Rattle.std.proofs.Math.Facts.{yes_eqb, eqb_yes}
 use Rattle.std.specs.Prelude.{T, ◌==◌, slice_get}
 use Rattle.std.proofs.lemmas.List.{take_more}

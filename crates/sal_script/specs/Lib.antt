@@ -1,3 +1,4 @@
+pub mod Along
 pub mod ChainExamples
 pub mod Examples
 pub mod Json

@@ -7,8 +7,10 @@ pub mod JsonScripts
 pub mod Laws
 pub mod Limits
 pub mod Moves
+pub mod OneOrder
 pub mod Orders
 pub mod Play
 pub mod Reading
 pub mod Report
 pub mod Script
+pub mod SomeOrder

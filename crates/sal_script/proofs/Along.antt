@@ -75,11 +75,12 @@ module _ (table : SchemaTable) (world : List Domain) (c : ℕ) where
     at_others [] log now none was = subst (λ (l : List Entry). IsAt table world c steps l now) (sym (append-nil log)) was
     at_others (e ∷ more) log now none was =
         subst (λ (l : List Entry). IsAt table world c steps l now) (append_assoc log (e ∷ []) more)
-        (first (nat_eq e.client c) refl (sym (sum_by-cons (λ (x : Entry). if nat_eq x.client c then 1 else 0) e more) ∙ none))
+        (first (nat_eq e.client c) refl (sym (sum_by-cons (λ (x : Entry). if nat_eq x.client c then 1 else 0) e more) ∙ none) (λ none' behind. at_others more (log ++ e ∷ []) now none' behind))
       where
-        first : (own : Bool) → nat_eq e.client c ≡ own → (if own then 1 else 0) + entries_of more c ≡ 0 → IsAt table world c steps ((log ++ e ∷ []) ++ more) now
-        first true is none' = absurd (omega (arith, none'))
-        first false is none' = at_others more (log ++ e ∷ []) now (omega (arith, none')) (at_other log now e (λ own. true≢false (sym (eq-eqb e.client c own) ∙ is)) was)
+        first : (own : Bool) → nat_eq e.client c ≡ own → (if own then 1 else 0) + entries_of more c ≡ 0
+            → (entries_of more c ≡ 0 → IsAt table world c steps (log ++ e ∷ []) now → IsAt table world c steps ((log ++ e ∷ []) ++ more) now) → IsAt table world c steps ((log ++ e ∷ []) ++ more) now
+        first true is none' rest = absurd (omega (arith, none'))
+        first false is none' rest = rest (omega (arith, none')) (at_other log now e (λ own. true≢false (sym (eq-eqb e.client c own) ∙ is)) was)
 
     -- in a log that a turn found, with no further entry of the client
     pub at_found : (log found : List Entry) (now : Run) → IsPrefix log found → entries_of found c ≡ entries_of log c → IsAt table world c steps log now → IsAt table world c steps found now

@@ -14,11 +14,11 @@ abbrev Stops : List ℕ → Type 0
 Stops [] = ⊥
 Stops (x ∷ xs) = digit_value x < 10 → ⊥
 
-first_or : ℕ → List ℕ → ℕ
+abbrev first_or : ℕ → List ℕ → ℕ
 first_or x [] = x
 first_or x (y ∷ ys) = y
 
-rest_of : List ℕ → List ℕ
+abbrev rest_of : List ℕ → List ℕ
 rest_of [] = []
 rest_of (x ∷ xs) = xs
 
@@ -32,8 +32,8 @@ same_digits (d ∷ ds) (e ∷ es) xs ys h k s t is =
     (λ i. ap (first_or d) is i ∷ rest.0 i, rest.1)
 
 stops : (order rest : List ℕ) → Stops (flat_map number order ++ (10 ∷ rest))
-stops [] rest digit = omega (arith, digit)
-stops (n ∷ order) rest digit = omega (arith, digit)
+stops [] rest = λ digit. omega (arith, digit)
+stops (n ∷ order) rest = λ digit. omega (arith, digit)
 
 -- what stands behind the word of a first line
 abbrev behind : List ℕ → List ℕ → List ℕ

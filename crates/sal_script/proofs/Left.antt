@@ -19,11 +19,11 @@ use Rattle.sal_script.proofs.Orders.{plays_follow_their_order}
 
 -- ---- what a client makes begins with what it made before
 
-log_or : List Entry → Option Made → List Entry
+abbrev log_or : List Entry → Option Made → List Entry
 log_or log None = log
 log_or log (Some made) = made.log
 
-head_or : Entry → List Entry → Entry
+abbrev head_or : Entry → List Entry → Entry
 head_or e [] = e
 head_or e (x ∷ xs) = x
 
@@ -47,18 +47,19 @@ module _ (table : SchemaTable) (world : List Domain) (c : ℕ) where
   from_none [] = refl
   from_none (e ∷ rest) = from_none rest
 
-  no_end : (rest : List Entry) (last : Made) → along_from table world c None rest ≡ Some last → ⊥
+  pub no_end : (rest : List Entry) (last : Made) → along_from table world c None rest ≡ Some last → ⊥
   no_end rest last is = let none : None ≡ Some last = sym (from_none rest) ∙ is in cc
 
   begins : (rest : List Entry) (made last : Made) → along_from table world c (Some made) rest ≡ Some last → IsPrefix made.log last.log
   begins [] made last is = ([], append-nil made.log ∙ ap (log_or made.log) is)
-  begins (e ∷ rest) made last is = by (pass table world c made e) refl is
+  begins (e ∷ rest) made last is = by (pass table world c made e) refl (λ next on. begins rest next last on) is
     where
-      by : (o : Option Made) → pass table world c made e ≡ o → along_from table world c o rest ≡ Some last → IsPrefix made.log last.log
-      by None went on = absurd (no_end rest last on)
-      by (Some next) went on =
+      by : (o : Option Made) → pass table world c made e ≡ o → ((next : Made) → along_from table world c (Some next) rest ≡ Some last → IsPrefix next.log last.log) → along_from table world c o rest ≡ Some last
+          → IsPrefix made.log last.log
+      by None went later on = absurd (no_end rest last on)
+      by (Some next) went later on =
           let added = pass_adds made next e went in
-          let more = begins rest next last on in
+          let more = later next on in
           (added.0 ∷ more.0, sym (append_assoc made.log (added.0 ∷ []) more.0) ∙ ap (λ (log : List Entry). log ++ more.0) (sym added.1) ∙ more.1)
 
   -- ---- the end of a client
@@ -67,11 +68,11 @@ module _ (table : SchemaTable) (world : List Domain) (c : ℕ) where
   abbrev pub Ends : Option Made → List Entry → List Entry → List StepReply → Type 0
   Ends so_far rest log rs = option_and_then (finish table world c) (along_from table world c so_far rest) ≡ Some (let left : Left = record { log = log; replies = rs } in left)
 
-  left_log : Left → Option Left → List Entry
+  abbrev left_log : Left → Option Left → List Entry
   left_log left None = left.log
   left_log left (Some l) = l.log
 
-  left_replies : Left → Option Left → List StepReply
+  abbrev left_replies : Left → Option Left → List StepReply
   left_replies left None = left.replies
   left_replies left (Some l) = l.replies
 
@@ -83,7 +84,7 @@ module _ (table : SchemaTable) (world : List Domain) (c : ℕ) where
       by None at e = cc
       by (Some rs) at e = (ap (left_log left) e, at ∙ ap Some (ap (left_replies left) e))
 
-  last_log : (o : Option Made) (left : Left) → option_and_then (finish table world c) o ≡ Some left → (last : Made) × (o ≡ Some last) × (last.log ≡ left.log)
+  pub last_log : (o : Option Made) (left : Left) → option_and_then (finish table world c) o ≡ Some left → (last : Made) × (o ≡ Some last) × (last.log ≡ left.log)
   last_log None left is = cc
   last_log (Some last) left is = (last, refl, (finish_parts last left is).0)
 

@@ -1,6 +1,7 @@
 pub mod Along
 pub mod Arriving
 pub mod Each
+pub mod Few
 pub mod FirstLines
 pub mod ForSchema
 pub mod Given

@@ -1,4 +1,5 @@
 pub mod Along
+pub mod AlongExamples
 pub mod ChainExamples
 pub mod Examples
 pub mod Json

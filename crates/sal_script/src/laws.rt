@@ -1,6 +1,6 @@
 //! Laws of the definitions. A call does nothing: its clauses are the laws.
 ghost use Rattle.sal_script.specs.Laws.{OpeningsAreWhole, ScriptsAreJson, WritesAreForSchema};
-ghost use Rattle.sal_script.specs.OneOrder.{LeftIsOneOrder, PlayedCanBeLeft};
+ghost use Rattle.sal_script.specs.OneOrder.{LeftIsOneOrder, LeftIsShort, PlayedCanBeLeft};
 ghost use Rattle.sal_script.specs.Orders.{OrdersEndOrFail, PlaysFollow};
 ghost use Rattle.sal_script.specs.SomeOrder.{FirstLinesTellOneOrder, LeftIsReported};
 
@@ -50,4 +50,10 @@ pub fn what_is_left_is_reported()
 /// The first line of a text tells one order, and no other.
 pub fn first_lines_tell_one_order()
     ensures { FirstLinesTellOneOrder }
+{}
+
+/// The clients of a script make at most one shared call for each of their steps, so what they leave is shorter than a history
+/// may be.
+pub fn what_is_left_is_short()
+    ensures { LeftIsShort }
 {}

@@ -27,6 +27,7 @@
 //! Cost: linear in the bytes; values are copied once. Hostile input is refused by its place; nesting is bounded by the JSON reader.
 #![tactic(auto)]
 
+pub mod along_examples;
 pub mod chain_examples;
 mod chain_step;
 pub mod examples;

@@ -34,7 +34,7 @@ abbrev pub at_a : List Step
 at_a = Node 0 ∷ Node 1 ∷ []
 
 abbrev pub puts : String → List Op
-puts text = record { store = Config; path = at_a; act = acts.Put (record { path = at_a; cell = Leaf (Text (codes text)) } ∷ []) } ∷ []
+puts text = record { store = Config; path = at_a; act = acts.Put (record { path = at_a; cell = Leaf (record { member = 0; atom = Text (codes text) }) } ∷ []) } ∷ []
 
 -- both begin before the first one submits
 abbrev pub crossed_log : List Entry

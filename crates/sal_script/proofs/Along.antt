@@ -1,24 +1,21 @@
 -- How a client comes along a log, entry by entry.
-use Rattle.std.proofs.Common.{◌≡◌, ℕ, ◌+◌, ◌<◌, Bool, true, false, List, [], ◌∷◌, ◌++◌, length, Option, None, Some, if◌then◌else◌, refl, ap, sym, ◌∙◌, subst, arith, append_assoc, append-nil, true≢false}
+use Rattle.std.proofs.Common.{◌≡◌, ℕ, ◌+◌, Bool, true, false, List, [], ◌∷◌, ◌++◌, length, Option, None, Some, if◌then◌else◌, refl, ap, sym, ◌∙◌, subst, arith, append_assoc, append-nil, true≢false}
 use Rattle.std.specs.Prelude.{nat_eq, option_and_then}
 use Rattle.std.specs.List.{filter, fold}
 use Rattle.std.specs.Option.{option_map}
-use Rattle.std.proofs.lemmas.Bool.{eq-eqb, eqb-true, ne_eqb}
-use Rattle.std.proofs.lemmas.List.{append_cancel_left}
+use Rattle.std.proofs.lemmas.Bool.{eq-eqb, ne_eqb}
 use Rattle.std.proofs.lemmas.List.Sums.{fold-append, length-filter, sum_by-append, sum_by-cons}
-use Rattle.std.proofs.lemmas.Option.{same_Some}
 use mathlib.Core.List.{IsPrefix}
 use Rattle.sal_history.specs.declared.call.Call.{Call}
 use Rattle.sal_history.specs.declared.call.Entry.{Entry}
-use Rattle.sal_history.specs.declared.reply.Reply.{Reply}
 use Rattle.sal_history.specs.World.{Domain}
 use Rattle.sal_history.specs.History.{entries_of, reply}
 use Rattle.sal_schema.specs.declared.table.SchemaTable.{SchemaTable}
 use Rattle.sal_script.specs.declared.reply.StepReply.{StepReply}
 use Rattle.sal_script.specs.declared.reply.StepReply.TheVariants.{Called}
 use Rattle.sal_script.specs.Moves.{Move}
-use Rattle.sal_script.specs.Play.{Arrival, Client, Made, Meeting, Open, Run, arrive, arrive_by, calls, ended, go, keep, local, make, meet, new_client, replied, replies_at, shared}
-use Rattle.sal_script.specs.Along.{BeganIn, Finishes, IsAt, Left, along, finish, left_along, new_run, pass}
+use Rattle.sal_script.specs.Play.{Arrival, Client, Made, Meeting, Open, Run, arrive, arrive_by, calls, ended, go, keep, local, make, meet, replied, replies_at, shared}
+use Rattle.sal_script.specs.Along.{Finishes, IsAt, Left, along, finish, new_run, pass}
 use Rattle.sal_script.proofs.Later.{BegunIf, began_longer, keep_begun, meet_begun, meet_later}
 
 abbrev pub made_of : List Entry → Run → Made

@@ -1,8 +1,8 @@
 -- A client makes at most one shared call for each of its steps, so what few clients leave is short.
-use Rattle.std.proofs.Common.{◌≡◌, ℕ, zero, suc, ◌+◌, ◌*◌, ◌<◌, ◌≤◌, Bool, true, false, ◌&&◌, List, [], ◌∷◌, ◌++◌, length, Option, None, Some, IsTrue, if◌then◌else◌, nat_le, refl, ap, sym, ◌∙◌, subst, arith, leb-true, true≢false}
-use Rattle.std.specs.Prelude.{⊤, nat_eq, option_and_then, slice_get}
+use Rattle.std.proofs.Common.{◌≡◌, ℕ, zero, suc, ◌+◌, ◌*◌, ◌<◌, ◌≤◌, Bool, true, false, List, [], ◌∷◌, ◌++◌, length, Option, None, Some, IsTrue, if◌then◌else◌, nat_le, refl, ap, sym, ◌∙◌, arith, leb-true, true≢false}
+use Rattle.std.specs.Prelude.{⊤, nat_eq, slice_get}
 use Rattle.std.specs.List.{list_all}
-use Rattle.std.proofs.lemmas.Bool.{and_parts, eqb-true, eq-eqb, ne_eqb}
+use Rattle.std.proofs.lemmas.Bool.{and_parts, eqb-true, eq-eqb}
 use Rattle.std.proofs.lemmas.List.Sums.{sum_by-cons}
 use Rattle.std.proofs.lemmas.Option.{same_Some, slice_get_within}
 use Rattle.sal_history.specs.declared.call.Entry.{Entry}
@@ -13,7 +13,7 @@ use Rattle.sal_script.specs.declared.reply.StepReply.{StepReply}
 use Rattle.sal_script.specs.Limits.{within_limits}
 use Rattle.sal_script.specs.Moves.{Move}
 use Rattle.sal_script.specs.Play.{Arrival, Client, Made, Meeting, Run, arrive, arrive_by, calls, ended, go, local, make, meet, replied, shared}
-use Rattle.sal_script.specs.Along.{AreLeft, Finishes, IsAt, along, new_run, pass}
+use Rattle.sal_script.specs.Along.{Finishes, IsAt, along, new_run}
 use Rattle.sal_script.specs.OneOrder.{LeftIsShort}
 use Rattle.sal_script.proofs.Along.{along_from, made_of}
 use Rattle.sal_script.proofs.Left.{last_log, no_end}

@@ -1,5 +1,5 @@
 -- The first line of a report tells one order.
-use Rattle.std.proofs.Common.{◌≡◌, ℕ, ◌^◌, ◌<◌, Bool, true, List, [], ◌∷◌, ◌++◌, ◌&&◌, length, IsTrue, codes, decimal, nat_lt, refl, ap, sym, ◌∙◌, subst, arith, append_assoc, flat_map, ltb-true}
+use Rattle.std.proofs.Common.{◌≡◌, ℕ, ◌^◌, ◌<◌, List, [], ◌∷◌, ◌++◌, codes, decimal, nat_lt, refl, ap, sym, ◌∙◌, subst, arith, append_assoc, flat_map, ltb-true}
 use Rattle.std.specs.List.{list_all}
 use Rattle.std.specs.Char.{digit_value}
 use Rattle.std.specs.Str.Parse.{AllDigits}
@@ -7,7 +7,7 @@ use Rattle.std.proofs.lemmas.Bool.{and_parts}
 use Rattle.std.proofs.lemmas.Fmt.{decimal_injective, decimal_is_IsNumeral}
 use Rattle.std.proofs.lemmas.List.{append_cancel_left}
 use Rattle.sal_script.specs.Report.{number}
-use Rattle.sal_script.specs.SomeOrder.{AreNumbers, FirstLinesTellOneOrder, Tells, line_of}
+use Rattle.sal_script.specs.SomeOrder.{AreNumbers, FirstLinesTellOneOrder, line_of}
 
 -- the first of these is no digit
 abbrev Stops : List ℕ → Type 0

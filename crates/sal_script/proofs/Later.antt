@@ -1,6 +1,6 @@
 -- A client that stands in a log meets each step in the same way over each longer one.
-use Rattle.std.proofs.Common.{◌≡◌, ℕ, ◌+◌, ◌<◌, ◌≤◌, Bool, true, false, List, [], ◌∷◌, ◌++◌, length, Option, None, Some, Result, Ok, Err, if◌then◌else◌, refl, ap, sym, ◌∙◌, subst, arith, length-append}
-use Rattle.std.specs.Prelude.{⊤, nat_eq, slice_get, unwrap_or, option_and_then}
+use Rattle.std.proofs.Common.{◌≡◌, ℕ, ◌+◌, ◌<◌, Bool, true, false, List, [], ◌∷◌, ◌++◌, length, Option, None, Some, Result, Ok, Err, if◌then◌else◌, refl, ap, ◌∙◌, subst, arith, length-append}
+use Rattle.std.specs.Prelude.{⊤, nat_eq, unwrap_or, option_and_then}
 use Rattle.std.specs.List.{fold}
 use Rattle.std.proofs.lemmas.List.Sums.{fold-append}
 use Rattle.std.proofs.lemmas.Option.{same_Some}
@@ -26,7 +26,7 @@ use Rattle.sal_rules.specs.declared.fault.TxFault.{TxFault}
 use Rattle.sal_rules.specs.Refusals.{refusal}
 use Rattle.sal_script.specs.declared.reply.StepReply.{StepReply}
 use Rattle.sal_script.specs.Moves.{Move, Begin, Put, Merge, Delete, Read, Exists, Submit, Cancel, Settle, OpenChain, ChainBegin, CloseChain, Pump, Mark, After}
-use Rattle.sal_script.specs.Play.{Client, Deed, Meeting, Open, Opened, Slots, accept_unless, act_of, cancel, chain_begin, close_chain, deleting, domain_in, found, keep, local, look, look_at, look_in, meet, merging, op_of, putting, rows_read, seen_by, set_slot, settle, shared, submit, submit_in, write, write_act, write_at, write_in, write_op}
+use Rattle.sal_script.specs.Play.{Client, Deed, Meeting, Open, Opened, accept_unless, act_of, cancel, chain_begin, close_chain, deleting, domain_in, found, keep, local, look, look_at, look_in, meet, merging, op_of, putting, rows_read, seen_by, set_slot, settle, shared, submit, submit_in, write, write_act, write_at, write_in}
 use Rattle.sal_script.specs.Along.{BeganIn}
 use Rattle.sal_script.proofs.Listed.{get_left}
 

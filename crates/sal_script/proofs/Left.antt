@@ -1,5 +1,5 @@
 -- What clients left is what they come to in the order of its log.
-use Rattle.std.proofs.Common.{◌≡◌, ℕ, zero, suc, ◌+◌, ◌<◌, Bool, true, false, List, [], ◌∷◌, ◌++◌, length, map, set, Option, None, Some, Result, Ok, Err, is_ok, if◌then◌else◌, refl, ap, sym, ◌∙◌, subst, arith, append_assoc, append-nil, inl, inr, ◌⊎◌}
+use Rattle.std.proofs.Common.{◌≡◌, ℕ, zero, suc, ◌+◌, ◌<◌, Bool, true, false, List, [], ◌∷◌, ◌++◌, length, set, Option, None, Some, Result, Ok, is_ok, if◌then◌else◌, refl, ap, sym, ◌∙◌, subst, arith, append_assoc, append-nil, inl, inr}
 use Rattle.std.specs.Prelude.{nat_eq, option_and_then, slice_get}
 use Rattle.std.specs.Option.{option_map}
 use Rattle.std.proofs.lemmas.List.{append_cancel_left, length-map, length-set}
@@ -10,9 +10,9 @@ use Rattle.sal_history.specs.World.{Domain, table_of}
 use Rattle.sal_schema.specs.declared.table.SchemaTable.{SchemaTable}
 use Rattle.sal_script.specs.declared.reply.StepReply.{StepReply}
 use Rattle.sal_script.specs.Moves.{Move}
-use Rattle.sal_script.specs.Play.{Arrival, Made, Played, Run, Stand, arrive, calls, cons_replies, end_by, ended, go, make, play, play_by, play_from, replies_at, replies_of, stand_with, start, turn, turn_of}
-use Rattle.sal_script.specs.Along.{AreLeft, Finishes, Left, finish, new_run, order_of, pass}
-use Rattle.sal_script.specs.OneOrder.{IsOneOrder, LeftIsOneOrder}
+use Rattle.sal_script.specs.Play.{Arrival, Made, Played, Run, Stand, arrive, calls, cons_replies, end_by, ended, go, make, play_by, play_from, replies_at, replies_of, stand_with, start, turn, turn_of}
+use Rattle.sal_script.specs.Along.{Left, finish, new_run, order_of, pass}
+use Rattle.sal_script.specs.OneOrder.{LeftIsOneOrder}
 use Rattle.sal_script.proofs.Along.{along_from, entry_at, made_of, pass_other, pass_own}
 use Rattle.sal_script.proofs.Listed.{get-set, get_some}
 use Rattle.sal_script.proofs.Orders.{plays_follow_their_order}

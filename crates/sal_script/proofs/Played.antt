@@ -1,5 +1,5 @@
 -- What is played in an order is what its clients can leave.
-use Rattle.std.proofs.Common.{◌≡◌, ℕ, zero, suc, ◌+◌, ◌<◌, List, [], ◌∷◌, ◌++◌, length, map, set, Option, None, Some, Result, Ok, Err, refl, ap, sym, ◌∙◌, subst, inl, inr, ◌⊎◌}
+use Rattle.std.proofs.Common.{◌≡◌, ℕ, ◌+◌, List, [], ◌∷◌, ◌++◌, set, Option, None, Some, Ok, refl, ap, sym, ◌∙◌, subst, inl, inr}
 use Rattle.std.specs.Prelude.{option_and_then, slice_get}
 use Rattle.std.specs.Option.{option_map}
 use Rattle.std.proofs.lemmas.Option.{same_Some, slice_get-map}
@@ -8,9 +8,9 @@ use Rattle.sal_history.specs.World.{Domain, table_of}
 use Rattle.sal_schema.specs.declared.table.SchemaTable.{SchemaTable}
 use Rattle.sal_script.specs.declared.reply.StepReply.{StepReply}
 use Rattle.sal_script.specs.Moves.{Move}
-use Rattle.sal_script.specs.Play.{Arrival, Made, Played, Run, Stand, arrive, calls, end_by, ended, go, make, play, play_by, play_from, replies_at, replies_of, stand_with, start, turn, turn_of}
+use Rattle.sal_script.specs.Play.{Arrival, Made, Played, Run, Stand, arrive, calls, end_by, ended, go, make, play_by, play_from, replies_of, stand_with, start, turn, turn_of}
 use Rattle.sal_script.specs.Orders.{Follows}
-use Rattle.sal_script.specs.Along.{AreLeft, Finishes, Left, along, finish, new_run, order_of}
+use Rattle.sal_script.specs.Along.{Finishes, Left, along, finish, new_run}
 use Rattle.sal_script.specs.OneOrder.{PlayedCanBeLeft}
 use Rattle.sal_script.proofs.Along.{along-push, entry_at, made_of, pass_other, pass_own}
 use Rattle.sal_script.proofs.Left.{run_at}

@@ -1,11 +1,11 @@
 -- The report of what clients left tells the order of its log on its first line.
-use Rattle.std.proofs.Common.{◌≡◌, ℕ, List, [], ◌∷◌, ◌++◌, length, codes, refl, ap, sym, ◌∙◌, append_assoc, flat_map}
+use Rattle.std.proofs.Common.{◌≡◌, ℕ, List, [], ◌∷◌, ◌++◌, length, codes, refl, ap, flat_map}
 use Rattle.sal_types.specs.declared.value.Store.TheVariants.{Config, Oper}
 use Rattle.sal_history.specs.declared.call.Entry.{Entry}
 use Rattle.sal_history.specs.World.{table_of}
 use Rattle.sal_history.specs.History.{commits, history, newest_tree}
 use Rattle.sal_script.specs.Play.{Played}
-use Rattle.sal_script.specs.Report.{number, order_line, reply_lines, report, tree_line}
+use Rattle.sal_script.specs.Report.{number, order_line, reply_lines, tree_line}
 use Rattle.sal_script.specs.Along.{order_of}
 use Rattle.sal_script.specs.OneOrder.{IsOneOrder}
 use Rattle.sal_script.specs.SomeOrder.{LeftIsReported, line_of}

@@ -1,7 +1,7 @@
 -- One client along a log that several clients left. An entry of another is taken as it stands; at an entry of its own the
 -- client goes on to its next shared call, over the entries before. So the client has a log of its own making, and where this
 -- is the very log that was left, each of its calls stands there at its place, and no other does.
-use Rattle.std.specs.Prelude.{◌≡◌, ℕ, ◌<◌, List, [], ◌∷◌, ◌++◌, length, map, Option, None, Some, option_and_then, if◌then◌else◌, nat_eq, slice_get}
+use Rattle.std.specs.Prelude.{◌≡◌, ℕ, ◌<◌, List, [], ◌∷◌, ◌++◌, length, map, Option, Some, option_and_then, if◌then◌else◌, nat_eq, slice_get}
 use Rattle.std.specs.List.{fold}
 use Rattle.std.specs.Option.{option_map}
 use Rattle.sal_history.specs.declared.call.Entry.{Entry}

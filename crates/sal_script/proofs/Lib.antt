@@ -1,10 +1,17 @@
+pub mod Along
 pub mod Arriving
 pub mod Each
+pub mod Few
+pub mod FirstLines
 pub mod ForSchema
 pub mod Given
 pub mod JsonData
 pub mod JsonRead
+pub mod Later
+pub mod Left
 pub mod Limits
 pub mod Listed
 pub mod Orders
+pub mod Played
 pub mod Readers
+pub mod Reported

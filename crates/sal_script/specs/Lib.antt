@@ -1,3 +1,5 @@
+pub mod Along
+pub mod AlongExamples
 pub mod ChainExamples
 pub mod Examples
 pub mod Json
@@ -6,8 +8,10 @@ pub mod JsonScripts
 pub mod Laws
 pub mod Limits
 pub mod Moves
+pub mod OneOrder
 pub mod Orders
 pub mod Play
 pub mod Reading
 pub mod Report
 pub mod Script
+pub mod SomeOrder

@@ -1,0 +1,3 @@
+pub mod Looks
+pub mod Seats
+pub mod Turns

@@ -1,7 +1,6 @@
 //! A look for a mark, a turn each.
 ghost use Rattle.std.specs.Prelude.{◌≡◌, IfOk, length};
 ghost use Rattle.sal_history.specs.declared.call.Call.TheVariants.{After};
-ghost use Rattle.sal_turn.specs.Views.{SameRights};
 ghost use Rattle.sal_hub.specs.Answers.{Calls};
 ghost use Rattle.sal_hub.specs.Known.{entry_of};
 ghost use Rattle.sal_hub.specs.Seen.{seen_reply};
@@ -10,9 +9,8 @@ ghost use Rattle.sal_broker.specs.Turns.{InLastTurn, Keeps};
 
 use crate::sal::Sal;
 use crate::seat::Seat;
-use sal_hub::{Hub, Seen};
+use sal_hub::Seen;
 use sal_rows::CallFault;
-use sal_turn::Turn;
 use std::alloc::Global;
 use std::sync::Wait;
 
@@ -34,22 +32,22 @@ fn counted(answer: Result<Seen, CallFault>) -> Result<Seen, CallFault> {
 fn look<R: Wait>(
     rt: &R,
     alloc: Global,
-    lock: &Turn<Hub>,
-    mut seat: sal_turn::Seat<Hub>,
+    sal: &Sal,
+    mut seat: Seat,
     mark: u32,
-) -> (sal_turn::Seat<Hub>, Result<Seen, CallFault>)
-    requires { seat.lock ≡ lock.now }
-    ensures same { (result.0.lock ≡ lock.now) × SameRights seat.view result.0.view }
+) -> (Seat, Result<Seen, CallFault>)
+    requires { seat.lock ≡ sal.now }
+    ensures same { Keeps sal.now seat result.0 }
     ensures turn { InLastTurn seat.view result.0.view (λ old new. Calls old new (entry_of old seat.view.number (After mark)) seen_reply result.1 × IfOk result.1 (IsLate MAX_LOOKS seat.view result.0.view (length old.log))) }
 {
     let client = seat.number();
     for look in 0..MAX_LOOKS {
-        let mut held = lock.enter(rt, seat);
-        if look + 1 == MAX_LOOKS || held.value().has_mark(mark) {
-            let answer = held.value().after(alloc, client, mark);
-            return (lock.leave(held), counted(answer));
+        let mut held = sal.enter(rt, seat);
+        if look + 1 == MAX_LOOKS || held.hub().has_mark(mark) {
+            let answer = held.hub().after(alloc, client, mark);
+            return (sal.leave(held), counted(answer));
         }
-        seat = lock.leave(held);
+        seat = sal.leave(held);
     }
     unreachable!()
 }
@@ -71,8 +69,8 @@ impl Sal {
         let Some(inner) = seat.inner.take() else {
             unreachable!()
         };
-        let (inner, answer) = look(rt, alloc, &self.lock, inner, mark);
-        seat.inner = Some(inner);
+        let (after, answer) = look(rt, alloc, self, Seat { inner: Some(inner) }, mark);
+        seat.inner = after.inner;
         answer
     }
 }

@@ -39,9 +39,9 @@ impl Sal {
             unreachable!()
         };
         let client = inner.number();
-        let mut held = self.lock.enter(rt, inner);
-        let answer = held.value().begin(alloc, client, domain, mode);
-        seat.inner = Some(self.lock.leave(held));
+        let mut held = self.enter(rt, Seat { inner: Some(inner) });
+        let answer = held.hub().begin(alloc, client, domain, mode);
+        seat.inner = self.leave(held).inner;
         answer
     }
 
@@ -63,9 +63,9 @@ impl Sal {
             unreachable!()
         };
         let client = inner.number();
-        let mut held = self.lock.enter(rt, inner);
-        let answer = held.value().submit(alloc, client, tx);
-        seat.inner = Some(self.lock.leave(held));
+        let mut held = self.enter(rt, Seat { inner: Some(inner) });
+        let answer = held.hub().submit(alloc, client, tx);
+        seat.inner = self.leave(held).inner;
         answer
     }
 
@@ -86,9 +86,9 @@ impl Sal {
             unreachable!()
         };
         let client = inner.number();
-        let mut held = self.lock.enter(rt, inner);
-        let answer = held.value().cancel(alloc, client, tx);
-        seat.inner = Some(self.lock.leave(held));
+        let mut held = self.enter(rt, Seat { inner: Some(inner) });
+        let answer = held.hub().cancel(alloc, client, tx);
+        seat.inner = self.leave(held).inner;
         answer
     }
 
@@ -110,9 +110,9 @@ impl Sal {
             unreachable!()
         };
         let client = inner.number();
-        let mut held = self.lock.enter(rt, inner);
-        let answer = held.value().settle(alloc, client, receipt);
-        seat.inner = Some(self.lock.leave(held));
+        let mut held = self.enter(rt, Seat { inner: Some(inner) });
+        let answer = held.hub().settle(alloc, client, receipt);
+        seat.inner = self.leave(held).inner;
         answer
     }
 
@@ -132,9 +132,9 @@ impl Sal {
             unreachable!()
         };
         let client = inner.number();
-        let mut held = self.lock.enter(rt, inner);
-        let answer = held.value().pump(alloc, client);
-        seat.inner = Some(self.lock.leave(held));
+        let mut held = self.enter(rt, Seat { inner: Some(inner) });
+        let answer = held.hub().pump(alloc, client);
+        seat.inner = self.leave(held).inner;
         answer
     }
 
@@ -156,9 +156,9 @@ impl Sal {
             unreachable!()
         };
         let client = inner.number();
-        let mut held = self.lock.enter(rt, inner);
-        let answer = held.value().open_chain(alloc, client, domain);
-        seat.inner = Some(self.lock.leave(held));
+        let mut held = self.enter(rt, Seat { inner: Some(inner) });
+        let answer = held.hub().open_chain(alloc, client, domain);
+        seat.inner = self.leave(held).inner;
         answer
     }
 
@@ -182,9 +182,9 @@ impl Sal {
             unreachable!()
         };
         let client = inner.number();
-        let mut held = self.lock.enter(rt, inner);
-        let answer = held.value().chain_begin(alloc, client, chain, mode);
-        seat.inner = Some(self.lock.leave(held));
+        let mut held = self.enter(rt, Seat { inner: Some(inner) });
+        let answer = held.hub().chain_begin(alloc, client, chain, mode);
+        seat.inner = self.leave(held).inner;
         answer
     }
 
@@ -205,9 +205,9 @@ impl Sal {
             unreachable!()
         };
         let client = inner.number();
-        let mut held = self.lock.enter(rt, inner);
-        let answer = held.value().close_chain(alloc, client, chain);
-        seat.inner = Some(self.lock.leave(held));
+        let mut held = self.enter(rt, Seat { inner: Some(inner) });
+        let answer = held.hub().close_chain(alloc, client, chain);
+        seat.inner = self.leave(held).inner;
         answer
     }
 
@@ -227,9 +227,9 @@ impl Sal {
             unreachable!()
         };
         let client = inner.number();
-        let mut held = self.lock.enter(rt, inner);
-        let answer = held.value().mark(alloc, client, mark);
-        seat.inner = Some(self.lock.leave(held));
+        let mut held = self.enter(rt, Seat { inner: Some(inner) });
+        let answer = held.hub().mark(alloc, client, mark);
+        seat.inner = self.leave(held).inner;
         answer
     }
 }

@@ -9,7 +9,7 @@
 //! | `Sal::begin`, `submit`, `cancel`, `settle`, `pump`, `open_chain`, `chain_begin`, `close_chain`, `mark` | the calls of the hub, each in one turn |
 //! | `Sal::after` | a look for a mark, a turn each, until it is there or `MAX_LOOKS` looks found none |
 //! | `Sal::enter`, `leave` | a turn with the hub in the caller's hands, for a caller with more to do in it than one call |
-//! | `World` | the domains of a hub with their opening trees, for contracts: no value of it is made |
+//! | `Held` | such a turn; a contract sees the log that was found and the hub, too |
 //! | `laws` | a function that does nothing, with a law of the tokens as its contract |
 //!
 //! `specs/Turns` says what a call does for a caller with a seat (`InTurn`): the log that its turn found begins with all that
@@ -36,13 +36,13 @@
 
 mod after;
 mod calls;
-mod chronicle;
+mod held;
 pub mod laws;
 mod sal;
 mod seat;
+mod shared;
 
 pub use after::MAX_LOOKS;
-pub use chronicle::World;
+pub use held::Held;
 pub use sal::{OPENING_NUMBER, Sal};
-pub use sal_turn::Held;
 pub use seat::Seat;

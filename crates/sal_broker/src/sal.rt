@@ -1,5 +1,5 @@
 //! The broker, and its seats.
-ghost use Rattle.std.specs.Prelude.{◌≡◌, ◌≤◌, ℕ, List, [], ◌∷◌, ◌++◌, true, None, Some, MatchResult, length, drop};
+ghost use Rattle.std.specs.Prelude.{◌≡◌, ◌≤◌, ℕ, List, [], ◌∷◌, ◌++◌, true, None, Some, MatchResult, length};
 ghost use mathlib.Core.List.{IsPrefix};
 ghost use Rattle.sal_history.specs.declared.call.Entry.{Entry};
 ghost use Rattle.sal_turn.specs.Entries.{AddsAtMostOne, entries_by};
@@ -8,10 +8,12 @@ ghost use Rattle.sal_turn.specs.Views.{AnswersFor, SameRights, both, newcomer, o
 ghost use Rattle.sal_hub.specs.Openings.{IsFaultOf, fault_of, world_of};
 ghost use Rattle.sal_broker.specs.Turns.{TurnFound, client_of, hub_with, known};
 
+use crate::held::Held;
 use crate::seat::Seat;
+use crate::shared::Shared;
 use sal_history::Device;
 use sal_hub::{Hub, OpenFault};
-use sal_turn::{Held, Turn};
+use sal_turn::Turn;
 use std::alloc::Global;
 use std::marker::Model;
 use std::sync::Wait;
@@ -22,7 +24,7 @@ pub const OPENING_NUMBER: u32 = 65535;
 /// The broker: a hub behind a lock. A contract sees the name of its lock.
 #[derive(Drop)]
 pub struct Sal {
-    pub(crate) lock: Turn<Hub>,
+    pub(crate) lock: Turn<Shared>,
 }
 
 impl Model for Sal {
@@ -41,13 +43,13 @@ impl Sal {
         ensures { MatchResult result (λ r. (fault_of (world_of devices.items) ≡ None) × (r.1.lock ≡ r.0) × (r.1.view ≡ opener 65535 (world_of devices.items))) (IsFaultOf (world_of devices.items)) }
     {
         let hub = Hub::open(alloc, devices)?;
-        let (lock, seat) = Turn::open(alloc, hub, OPENING_NUMBER)?;
+        let (lock, seat) = Turn::open(alloc, Shared { hub }, OPENING_NUMBER)?;
         Ok((Sal { lock }, Seat { inner: Some(seat) }))
     }
 
     /// Waits for the seat's turn, and takes it. The hub that it finds has a log that begins with all that the seat has seen, in
     /// which the entries of its number are its own.
-    pub fn enter<R: Wait>(&self, rt: &R, seat: Seat) -> Held<Hub>
+    pub fn enter<R: Wait>(&self, rt: &R, seat: Seat) -> Held
         requires { seat.lock ≡ self.now }
         ensures same { (result.lock ≡ self.now) × (result.view ≡ seat.view) }
         ensures world { seat.view.ground ≡ Some result.value.world }
@@ -57,22 +59,25 @@ impl Sal {
     {
         let Seat { inner } = seat;
         let Some(inner) = inner else { unreachable!() };
-        self.lock.enter(rt, inner)
+        Held {
+            inner: self.lock.enter(rt, inner),
+        }
     }
 
     /// Ends a turn. The hub has the world that it had, and the log that was found, or this with one more entry of the seat's
     /// number at the end; the seat has then seen that log.
-    pub fn leave(&self, held: Held<Hub>) -> Seat
+    pub fn leave(&self, held: Held) -> Seat
         requires lock { held.lock ≡ self.now }
         requires world { held.view.ground ≡ Some held.value.world }
         requires entries { AddsAtMostOne client_of held.view.number held.found held.value.log }
         ensures same { (result.lock ≡ self.now) × SameRights held.view result.view }
         ensures turns { result.view.turns ≡ held.view.turns + 1 }
         ensures known { known result.view ≡ held.value }
-        ensures own { result.view.own ≡ held.view.own ++ drop (length held.found) held.value.log }
+        ensures found { TurnFound held.view held.found result.view }
     {
+        let Held { inner } = held;
         Seat {
-            inner: Some(self.lock.leave(held)),
+            inner: Some(self.lock.leave(inner)),
         }
     }
 
@@ -125,6 +130,7 @@ impl Sal {
         let Sal { lock } = self;
         let Seat { inner } = seat;
         let Some(inner) = inner else { unreachable!() };
-        lock.close(inner)
+        let Shared { hub } = lock.close(inner);
+        hub
     }
 }

@@ -1,8 +1,7 @@
 //! A caller's place at the broker.
-ghost use Rattle.std.specs.Prelude.{◌≡◌, IsSome, Some};
-ghost use Rattle.sal_broker.specs.Seats.{inside};
+ghost use Rattle.std.specs.Prelude.{◌≡◌};
 
-use sal_hub::Hub;
+use crate::shared::Shared;
 use std::marker::Model;
 
 /// A caller's place at the broker, between two calls. A contract sees its lock and its view.
@@ -10,7 +9,7 @@ use std::marker::Model;
 /// A seat that is dropped can't be joined any more, so its broker can't be closed.
 #[derive(Drop)]
 pub struct Seat {
-    pub(crate) inner: Option<sal_turn::Seat<Hub>>,
+    pub(crate) inner: Option<sal_turn::Seat<Shared>>,
 }
 
 impl Model for Seat {

@@ -1,11 +1,17 @@
-//! The hub, as the lock sees it: a value with entries and a ground.
+//! The hub, as the lock keeps it: a value with entries and a world that no turn changes.
 use sal_history::{Device, Entry};
 use sal_hub::Hub;
 use sal_turn::Chronicle;
 use std::marker::Model;
 
-/// The domains of a hub with their opening trees, which no call changes. It is for contracts, and no value of it is made.
-pub struct World {
+/// The hub behind the lock. A contract sees it as the hub.
+#[derive(Drop)]
+pub(crate) struct Shared {
+    pub(crate) hub: Hub,
+}
+
+/// The domains of a hub with their opening trees. No value of it is made.
+pub(crate) struct World {
     devices: Vec<Device>,
 }
 
@@ -23,16 +29,16 @@ impl Model for World {
     ghost view = { λ w. world_of w.devices.items };
 }
 
-impl Chronicle for Hub {
+impl Chronicle for Shared {
     ghost use Rattle.sal_broker.specs.Turns.{client_of};
 
     type Entry = Entry;
 
     type Ground = World;
 
-    ghost entries = { λ h. h.log };
+    ghost entries = { λ s. s.hub.log };
 
     ghost client = { client_of };
 
-    ghost ground = { λ h. h.world };
+    ghost ground = { λ s. s.hub.world };
 }

@@ -6,9 +6,11 @@ ghost use Rattle.sal_turn.specs.Entries.{AddsAtMostOne, entries_by};
 ghost use Rattle.sal_turn.specs.Lists.{In};
 ghost use Rattle.sal_turn.specs.Views.{AnswersFor, SameRights, both, newcomer, opener};
 ghost use Rattle.sal_hub.specs.Openings.{IsFaultOf, fault_of, world_of};
+ghost use Rattle.sal_broker.specs.Tokens.{TokensStay};
 ghost use Rattle.sal_broker.specs.Turns.{TurnFound, client_of, hub_with, known};
 
 use crate::held::Held;
+use crate::laws;
 use crate::seat::Seat;
 use crate::shared::Shared;
 use sal_history::Device;
@@ -56,7 +58,9 @@ impl Sal {
         ensures found { result.value ≡ hub_with seat.view result.found }
         ensures seen { IsPrefix seat.view.seen result.found }
         ensures own { entries_by client_of seat.view.number result.found ≡ seat.view.own }
+        ensures tokens { TokensStay (known seat.view) result.value }
     {
+        laws::tokens_stay();
         let Seat { inner } = seat;
         let Some(inner) = inner else { unreachable!() };
         Held {

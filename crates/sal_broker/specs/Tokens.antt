@@ -1,0 +1,13 @@
+-- The tokens that a caller has stay tokens, whoever makes the entries behind.
+use Rattle.std.specs.Prelude.{ℕ}
+use Rattle.sal_tree.specs.declared.commit.Pair.{Pair}
+use Rattle.sal_tx.specs.declared.begun.Begun.{Begun}
+use Rattle.sal_hub.specs.declared.chain.Chain.{Chain}
+use Rattle.sal_hub.specs.Known.{Known}
+use Rattle.sal_hub.specs.Tokens.{IsBegun, IsChain, IsGiven}
+
+-- the tokens of the one hub are tokens of the other
+pub record TokensStay (old new : Known) : Type 0 where
+  pub begun : (begun : Begun) (base : Pair) → IsBegun old begun base → IsBegun new begun base
+  pub given : (receipt : ℕ) → IsGiven old receipt → IsGiven new receipt
+  pub opened : (chain : Chain) → IsChain old chain → IsChain new chain

@@ -1,0 +1,57 @@
+//! A turn at the broker.
+ghost use Rattle.std.specs.Prelude.{◌≡◌};
+ghost use Rattle.std.specs.Borrow.{sem, Lends};
+ghost use Rattle.sal_hub.specs.contracts.hub.Hub.{the_row as hub_row};
+ghost use Rattle.sal_broker.specs.contracts.held.Held.{the_row};
+
+use crate::shared::Shared;
+use sal_hub::Hub;
+use std::marker::Model;
+
+/// A turn at the broker: the hub, in the hands of one seat. A contract sees its lock, its seat's view, the log that was found,
+/// and the hub.
+///
+/// It can't be dropped: it has to go to `Sal::leave`, so no `?` on the way loses a turn.
+pub struct Held {
+    pub(crate) inner: sal_turn::Held<Shared>,
+}
+
+impl Model for Held {
+    ghost use Rattle.std.specs.Prelude.{◌≡◌, List};
+    ghost use Rattle.std.specs.Coded.{codes};
+    ghost use mathlib.Core.List.{IsPrefix};
+    ghost use Rattle.sal_restrict.specs.contracts.yang_type.YangType as e;
+    ghost use Rattle.sal_history.specs.World.{Domain};
+    ghost use Rattle.sal_history.specs.declared.call.Entry.{Entry};
+    ghost use Rattle.sal_turn.specs.Entries.{entries_by};
+    ghost use Rattle.sal_turn.specs.Seats.{Holding};
+    ghost use Rattle.sal_hub.specs.Known.{Known};
+    ghost use Rattle.sal_broker.specs.Turns.{client_of};
+
+    ghost Value = { Holding Known Entry (List Domain) };
+
+    ghost coded = { Prim.hlevel (codes, e.the_row.coded) };
+
+    ghost view = { λ h. record { lock = h.inner.lock; view = h.inner.view; found = h.inner.found; value = h.inner.value.hub } };
+
+    // The log that was found begins with all that the seat has seen, and its entries of the seat's number are the seat's own.
+    ghost invariant = { λ h. IsPrefix h.inner.view.seen h.inner.found × (entries_by client_of h.inner.view.number h.inner.found ≡ h.inner.view.own) };
+}
+
+impl Held {
+    /// The number of its seat's client.
+    pub fn number(&self) -> u32
+        ensures { result ≡ self.now.view.number }
+    {
+        self.inner.number()
+    }
+
+    /// The hub. What its calls do is done to the hub, and nothing else changes.
+    pub fn hub(&mut self) -> &mut Hub
+        ensures* writes_back { sem 𝓛 (Lends the_row hub_row self.entry result (λ w. record self.old { value = w })) }
+        ensures value { result.now ≡ self.old.value }
+    {
+        let shared = self.inner.value();
+        &mut shared.hub
+    }
+}

@@ -1,0 +1,140 @@
+//! The broker, and its seats.
+ghost use Rattle.std.specs.Prelude.{◌≡◌, ◌≤◌, ℕ, List, [], ◌∷◌, ◌++◌, true, None, Some, MatchResult, length};
+ghost use mathlib.Core.List.{IsPrefix};
+ghost use Rattle.sal_history.specs.declared.call.Entry.{Entry};
+ghost use Rattle.sal_turn.specs.Entries.{AddsAtMostOne, entries_by};
+ghost use Rattle.sal_turn.specs.Lists.{In};
+ghost use Rattle.sal_turn.specs.Views.{AnswersFor, SameRights, both, newcomer, opener};
+ghost use Rattle.sal_hub.specs.Openings.{IsFaultOf, fault_of, world_of};
+ghost use Rattle.sal_broker.specs.Tokens.{TokensStay};
+ghost use Rattle.sal_broker.specs.Turns.{TurnFound, client_of, hub_with, known};
+
+use crate::held::Held;
+use crate::laws;
+use crate::seat::Seat;
+use crate::shared::Shared;
+use sal_history::Device;
+use sal_hub::{Hub, OpenFault};
+use sal_turn::Turn;
+use std::alloc::Global;
+use std::marker::Model;
+use std::sync::Wait;
+
+/// The number of the opening seat. No client has it.
+pub const OPENING_NUMBER: u32 = 65535;
+
+/// The broker: a hub behind a lock. A contract sees the name of its lock.
+#[derive(Drop)]
+pub struct Sal {
+    pub(crate) lock: Turn<Shared>,
+}
+
+impl Model for Sal {
+    ghost use Rattle.sal_turn.specs.Seats.{TableId};
+
+    ghost Value = { TableId };
+
+    ghost view = { λ s. s.lock };
+}
+
+impl Sal {
+    /// A broker without calls over the devices, of which the first is the controller's own domain, and its opening seat.
+    pub fn open(alloc: Global, devices: Vec<Device>) -> Result<(Sal, Seat), OpenFault>
+        requires some { 1 ≤ length devices.items }
+        requires few { length devices.items ≤ 64 }
+        ensures { MatchResult result (λ r. (fault_of (world_of devices.items) ≡ None) × (r.1.lock ≡ r.0) × (r.1.view ≡ opener 65535 (world_of devices.items))) (IsFaultOf (world_of devices.items)) }
+    {
+        let hub = Hub::open(alloc, devices)?;
+        let (lock, seat) = Turn::open(alloc, Shared { hub }, OPENING_NUMBER)?;
+        Ok((Sal { lock }, Seat { inner: Some(seat) }))
+    }
+
+    /// Waits for the seat's turn, and takes it. The hub that it finds has a log that begins with all that the seat has seen, in
+    /// which the entries of its number are its own.
+    pub fn enter<R: Wait>(&self, rt: &R, seat: Seat) -> Held
+        requires { seat.lock ≡ self.now }
+        ensures same { (result.lock ≡ self.now) × (result.view ≡ seat.view) }
+        ensures world { seat.view.ground ≡ Some result.value.world }
+        ensures found { result.value ≡ hub_with seat.view result.found }
+        ensures seen { IsPrefix seat.view.seen result.found }
+        ensures own { entries_by client_of seat.view.number result.found ≡ seat.view.own }
+        ensures tokens { TokensStay (known seat.view) result.value }
+    {
+        laws::tokens_stay();
+        let Seat { inner } = seat;
+        let Some(inner) = inner else { unreachable!() };
+        Held {
+            inner: self.lock.enter(rt, inner),
+        }
+    }
+
+    /// Ends a turn. The hub has the world that it had, and the log that was found, or this with one more entry of the seat's
+    /// number at the end; the seat has then seen that log.
+    pub fn leave(&self, held: Held) -> Seat
+        requires lock { held.lock ≡ self.now }
+        requires world { held.view.ground ≡ Some held.value.world }
+        requires entries { AddsAtMostOne client_of held.view.number held.found held.value.log }
+        ensures same { (result.lock ≡ self.now) × SameRights held.view result.view }
+        ensures turns { result.view.turns ≡ held.view.turns + 1 }
+        ensures known { known result.view ≡ held.value }
+        ensures found { TurnFound held.view held.found result.view }
+    {
+        let Held { inner } = held;
+        Seat {
+            inner: Some(self.lock.leave(inner)),
+        }
+    }
+
+    /// A new seat with a number that no seat has had. It has seen what the giver has, and has no entries of its own.
+    pub fn split(&self, seat: &mut Seat, number: u32) -> Seat
+        requires lock { seat.old.lock ≡ self.now }
+        requires may_split { seat.old.view.splits ≡ true }
+        requires new { ¬ In number seat.old.view.given }
+        ensures giver { (seat.new.lock ≡ self.now) × (seat.new.view ≡ record seat.old.view { given = seat.old.view.given ++ number ∷ [] }) }
+        ensures new { (result.lock ≡ self.now) × (result.view ≡ newcomer number seat.old.view) }
+    {
+        let Some(mut inner) = seat.inner.take() else {
+            unreachable!()
+        };
+        let new = self.lock.split(&mut inner, number);
+        seat.inner = Some(inner);
+        Seat { inner: Some(new) }
+    }
+
+    /// The first seat with all that the second knew: the longer of the two logs seen, of which the shorter is a beginning, and
+    /// the second's number with its own entries among those joined.
+    pub fn join(&self, a: Seat, b: Seat) -> Seat
+        requires locks { (a.lock ≡ self.now) × (b.lock ≡ self.now) }
+        ensures joined { (result.lock ≡ self.now) × (result.view ≡ both a.view b.view) }
+        ensures first { IsPrefix a.view.seen result.view.seen }
+        ensures second { IsPrefix b.view.seen result.view.seen }
+    {
+        let Seat { inner: a } = a;
+        let Seat { inner: b } = b;
+        let (Some(a), Some(b)) = (a, b) else {
+            unreachable!()
+        };
+        Seat {
+            inner: Some(self.lock.join(a, b)),
+        }
+    }
+
+    /// The hub, once every other seat was joined. Of each number that the seat answers for the log's entries are those known,
+    /// in order, and it has no others.
+    pub fn close(self, seat: Seat) -> Hub
+        requires lock { seat.lock ≡ self }
+        requires may_split { seat.view.splits ≡ true }
+        requires joined { (k : ℕ) → In k seat.view.given → AnswersFor seat.view k }
+        ensures world { seat.view.ground ≡ Some result.world }
+        ensures seen { IsPrefix seat.view.seen result.log }
+        ensures own { entries_by client_of seat.view.number result.log ≡ seat.view.own }
+        ensures joined { (k : ℕ) (es : List Entry) → In (k, es) seat.view.joined → entries_by client_of k result.log ≡ es }
+        ensures others { (k : ℕ) → ¬ AnswersFor seat.view k → entries_by client_of k result.log ≡ [] }
+    {
+        let Sal { lock } = self;
+        let Seat { inner } = seat;
+        let Some(inner) = inner else { unreachable!() };
+        let Shared { hub } = lock.close(inner);
+        hub
+    }
+}

@@ -1,0 +1,49 @@
+//! The calls on notifications, and what they are answered.
+use sal_rows::Rows;
+use sal_types::Seq;
+use thiserror::Error;
+
+/// A call of a client. Notifications are numbers of schema nodes.
+#[derive(Drop)]
+pub enum NoteCall {
+    /// Subscribes the client to the notification (`DOMNotificationListener`).
+    Subscribe { note: u32 },
+    /// Offers a notification to its subscribers (`DOMNotificationPublishService`).
+    Offer { note: u32, rows: Rows },
+    /// Takes all that waits for the client.
+    TakeNotes,
+}
+
+/// A notification with its data.
+#[derive(Drop)]
+pub struct Note {
+    pub note: u32,
+    pub rows: Rows,
+}
+
+/// Notifications in order.
+pub type NoteList = Seq<Note>;
+
+/// Why a call was refused.
+#[derive(Clone, Copy, Debug, PartialEq, Eq, Error)]
+pub enum NoteFault {
+    /// As many notifications wait for this subscriber as may, 64. It is the one with the smallest number of those; nobody gets the
+    /// notification.
+    #[error("the queue of subscriber {subscriber} is full")]
+    NoteRejected { subscriber: u32 },
+    #[error("out of memory")]
+    NoMemory,
+}
+
+/// The answer to a call.
+#[derive(Drop)]
+pub enum NoteReply {
+    /// The call was done, and has nothing to tell.
+    Accepted,
+    /// So many subscribers have got it.
+    Offered { count: u32 },
+    /// What waited for the client, in order.
+    Notes { list: NoteList },
+    /// The call was refused.
+    Refused { fault: NoteFault },
+}

@@ -1,3 +1,4 @@
+pub mod BatchData
 pub mod ChainExamples
 pub mod Examples
 pub mod Json
@@ -5,6 +6,7 @@ pub mod JsonMoves
 pub mod JsonScripts
 pub mod Laws
 pub mod Limits
+pub mod ListenerExamples
 pub mod Moves
 pub mod Orders
 pub mod Play

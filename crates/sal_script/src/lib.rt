@@ -32,6 +32,8 @@ mod chain_step;
 pub mod examples;
 pub mod fault;
 pub mod laws;
+pub mod listener_examples;
+mod listener_step;
 pub mod read;
 pub mod reply;
 pub mod script;

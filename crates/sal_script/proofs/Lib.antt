@@ -2,6 +2,7 @@ pub mod Arriving
 pub mod Each
 pub mod ForSchema
 pub mod Given
+pub mod Growing
 pub mod JsonData
 pub mod JsonRead
 pub mod Limits

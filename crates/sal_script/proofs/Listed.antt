@@ -37,3 +37,9 @@ pub take_left : {X : Type 0} (xs ys : List X) (i : ℕ) → i < length xs → ta
 take_left [] ys i h = absurd (omega arith)
 take_left (x ∷ xs) ys zero h = refl
 take_left (x ∷ xs) ys (suc i) h = ap (λ zs. x ∷ zs) (take_left xs ys i (omega arith))
+
+-- what stands in the front of a longer list
+pub get_left : {X : Type 0} (xs ys : List X) (i : ℕ) → i < length xs → slice_get (xs ++ ys) i ≡ slice_get xs i
+get_left [] ys i h = absurd (omega arith)
+get_left (x ∷ xs) ys zero h = refl
+get_left (x ∷ xs) ys (suc i) h = get_left xs ys i (omega arith)

@@ -19,7 +19,7 @@ abbrev ok_or_this : Played → Result Played ℕ → Played
 ok_or_this p (Ok q) = q
 ok_or_this p (Err i) = p
 
-same_Ok : (p q : Played) → (let r : Result Played ℕ = Ok p in r) ≡ Ok q → p ≡ q
+pub same_Ok : (p q : Played) → (let r : Result Played ℕ = Ok p in r) ≡ Ok q → p ≡ q
 same_Ok p q e = ap (ok_or_this p) e
 
 abbrev err_or_this : ℕ → Result Played ℕ → ℕ
@@ -115,7 +115,7 @@ ended_with steps es (calls call step run) rs reached e = cc
 
 module _ (table : SchemaTable) (world : List Domain) (log : List Entry) where
   -- the client's way ended with these replies
-  abbrev EndsWith : List Run → ℕ → List StepReply → Type 0
+  abbrev pub EndsWith : List Run → ℕ → List StepReply → Type 0
   EndsWith runs c rs = (run : Run) × (slice_get runs c ≡ Some run) × (replies_at (arrive table world log run.client run.steps) ≡ Some rs)
 
   first_or_later : (run : Run) (runs : List Run) (first : List StepReply) (more : List (List StepReply)) → replies_at (arrive table world log run.client run.steps) ≡ Some first → ((c : ℕ) (rs : List StepReply) → slice_get more c ≡ Some rs → EndsWith runs c rs)
@@ -123,7 +123,7 @@ module _ (table : SchemaTable) (world : List Domain) (log : List Entry) where
   first_or_later run runs first more is rest zero rs at = (run, refl, is ∙ at)
   first_or_later run runs first more is rest (suc c) rs at = rest c rs at
 
-  all_end : (runs : List Run) (all : List (List StepReply)) → replies_of table world log runs ≡ Some all → (length all ≡ length runs) × ((c : ℕ) (rs : List StepReply) → slice_get all c ≡ Some rs → EndsWith runs c rs)
+  pub all_end : (runs : List Run) (all : List (List StepReply)) → replies_of table world log runs ≡ Some all → (length all ≡ length runs) × ((c : ℕ) (rs : List StepReply) → slice_get all c ≡ Some rs → EndsWith runs c rs)
   all_end [] [] e = (refl, λ c rs at. absurd (nothing c rs at))
     where
       nothing : (c : ℕ) (rs : List StepReply) → slice_get (let xs : List (List StepReply) = [] in xs) c ≡ Some rs → ⊥

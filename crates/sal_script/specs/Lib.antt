@@ -1,3 +1,5 @@
+pub mod Along
+pub mod AlongExamples
 pub mod BatchData
 pub mod ChainExamples
 pub mod Examples
@@ -8,8 +10,10 @@ pub mod Laws
 pub mod Limits
 pub mod ListenerExamples
 pub mod Moves
+pub mod OneOrder
 pub mod Orders
 pub mod Play
 pub mod Reading
 pub mod Report
 pub mod Script
+pub mod SomeOrder

@@ -1,6 +1,8 @@
 //! Laws of the definitions. A call does nothing: its clauses are the laws.
 ghost use Rattle.sal_script.specs.Laws.{OpeningsAreWhole, ScriptsAreJson, WritesAreForSchema};
+ghost use Rattle.sal_script.specs.OneOrder.{LeftIsOneOrder, LeftIsShort, PlayedCanBeLeft};
 ghost use Rattle.sal_script.specs.Orders.{OrdersEndOrFail, PlaysFollow};
+ghost use Rattle.sal_script.specs.SomeOrder.{FirstLinesTellOneOrder, LeftIsReported};
 
 /// The values of a script that was read have each name once in its object, and their strings are bytes, whatever the bytes
 /// of the script.
@@ -27,4 +29,31 @@ pub fn plays_follow_their_order()
 /// An order is legal and played to its end, or is not, and fails at one of its numbers or right behind the last.
 pub fn orders_end_or_fail()
     ensures { OrdersEndOrFail }
+{}
+
+/// What clients leave that run at the same time is one order. A log that has the calls of each client along it, and no others, is
+/// that of the script played in the order of its entries, with the same replies, and this order is legal.
+pub fn what_is_left_is_one_order()
+    ensures { LeftIsOneOrder }
+{}
+
+/// And what a script comes to in an order is what its clients can leave.
+pub fn what_is_played_can_be_left()
+    ensures { PlayedCanBeLeft }
+{}
+
+/// The report of what clients left is that of the script played in the order on its own first line.
+pub fn what_is_left_is_reported()
+    ensures { LeftIsReported }
+{}
+
+/// The first line of a text tells one order, and no other.
+pub fn first_lines_tell_one_order()
+    ensures { FirstLinesTellOneOrder }
+{}
+
+/// The clients of a script make at most one shared call for each of their steps, so what they leave is shorter than a history
+/// may be.
+pub fn what_is_left_is_short()
+    ensures { LeftIsShort }
 {}

@@ -16,10 +16,11 @@
 //!
 //! `specs/Script` says which script bytes stand for, with the steps of `specs/Moves`; `specs/Play` what a script does in an
 //! order, and `specs/Report` the text of that, with the batches of listeners as JSON in `specs/BatchData`. `examples`,
-//! `chain_examples` and `listener_examples` have worked examples, each proved by computing it.
+//! `chain_examples`, `listener_examples` and `along_examples` have worked examples, each proved by computing it.
 //! `laws` says of the values of a script that was read that each name stands once in its object, and that what they say at a
 //! path that was read fits the schema; and of what is played, that its log is in the order that was given and has the shared
-//! calls of each client, each once and in the client's own order (`specs/Orders`).
+//! calls of each client, each once and in the client's own order (`specs/Orders`); and of what clients leave that run at the same
+//! time (`specs/Along`), that it is what the script does in one order, which its report tells (`specs/OneOrder`, `specs/SomeOrder`).
 //!
 //! ```
 //! let script = read_script(alloc, br#"{"clients":[{"steps":[["begin",0,0,"rw"]]}],"order":[0]}"#)?;
@@ -28,6 +29,7 @@
 //! Cost: linear in the bytes; values are copied once. Hostile input is refused by its place; nesting is bounded by the JSON reader.
 #![tactic(auto)]
 
+pub mod along_examples;
 pub mod chain_examples;
 mod chain_step;
 pub mod examples;

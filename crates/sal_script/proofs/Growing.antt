@@ -52,14 +52,15 @@ module _ (world : List Domain) where
   -- no more receipts are decided than were given
   decided_few : (ss : List Sent) (os : List Outcome) (n : ℕ) → length os ≤ length ss → length (os ++ decide_next world ss os n) ≤ length ss
   decided_few ss os zero few = subst (λ (ps : List Outcome). length ps ≤ length ss) (sym (append-nil os)) few
-  decided_few ss os (suc n) few = front (slice_get ss (length os)) refl
+  decided_few ss os (suc n) few = front (slice_get ss (length os)) refl (λ qs le. decided_few ss qs n le)
     where
-      after : (ps : List Outcome) → length (os ++ ps) ≤ length ss → length (os ++ (ps ++ decide_next world ss (os ++ ps) n)) ≤ length ss
-      after ps le = subst (λ (qs : List Outcome). length qs ≤ length ss) (append_assoc os ps (decide_next world ss (os ++ ps) n)) (decided_few ss (os ++ ps) n le)
-
-      front : (s : Option Sent) → slice_get ss (length os) ≡ s → length (os ++ (decide_front world ss os s ++ decide_next world ss (os ++ decide_front world ss os s) n)) ≤ length ss
-      front None at = after [] (omega (arith, few, length-append os (let none : List Outcome = [] in none)))
-      front (Some s) at = after (outcome world ss os s ∷ []) (omega (arith, slice_get_within ss (length os) s at, length-append os (outcome world ss os s ∷ [])))
+      front : (s : Option Sent) → slice_get ss (length os) ≡ s → ((qs : List Outcome) → length qs ≤ length ss → length (qs ++ decide_next world ss qs n) ≤ length ss)
+          → length (os ++ (decide_front world ss os s ++ decide_next world ss (os ++ decide_front world ss os s) n)) ≤ length ss
+      front None at more = subst (λ (qs : List Outcome). length (os ++ decide_next world ss qs n) ≤ length ss) (sym (append-nil os)) (more os few)
+      front (Some s) at more =
+          let one : List Outcome = outcome world ss os s ∷ [] in
+          subst (λ (qs : List Outcome). length qs ≤ length ss) (append_assoc os one (decide_next world ss (os ++ one) n))
+          (more (os ++ one) (omega (arith, slice_get_within ss (length os) s at, length-append os one)))
 
 -- ---- entries
 

@@ -22,7 +22,7 @@ use Rattle.sal_schema.specs.declared.table.SchemaTable.{SchemaTable}
 use Rattle.sal_pathtext.specs.declared.fault.PathTextFault.{PathTextFault}
 use Rattle.sal_pathtext.specs.Read.{read_path}
 use Rattle.sal_script.specs.Moves.{Move, Begin, Put, Merge, Delete, Read, Exists, Submit, Cancel, Settle, OpenChain, ChainBegin, CloseChain, Pump, Listen, Take, Unlisten, Mirror, Mark, After}
-use Rattle.sal_script.specs.Play.{Client, Listener, Meeting, Slots, has_domain, keep, keep_listening, keep_taken, listen, listen_at, local, meet, refused, set_slot, shared, take_batch}
+use Rattle.sal_script.specs.Play.{Client, Listener, Meeting, Slots, at_version, has_domain, keep, keep_listening, keep_taken, listen, listen_at, local, meet, refused, set_slot, shared, take_batch}
 use Rattle.sal_script.specs.declared.reply.StepRefusal.TheVariants.{NoDevice}
 use Rattle.sal_script.specs.Along.{IsListening, ListensIn}
 use Rattle.sal_script.proofs.Growing.{listener_later, more_commits}
@@ -155,9 +155,9 @@ module _ (world : List Domain) (c : ℕ) (log : List Entry) (number : ℕ) (clie
         let newest : ℕ = length (commits so_far l.domain) in
         let later : List Entry = entry_of (made.Take l.id) ∷ [] in
         let is = listening_longer world c log later l (was slot l there) in
-        listens_filled world c (grown (made.Take l.id)) client slot (option_map (λ x. record x { version = newest }) (client.listeners slot))
+        listens_filled world c (grown (made.Take l.id)) client slot (option_map (at_version newest) (client.listeners slot))
         (λ x e.
-            let same : record l { version = newest } ≡ x = same_Some (record l { version = newest }) x (ap (option_map (λ y. record y { version = newest })) (sym there) ∙ e) in
+            let same : at_version newest l ≡ x = same_Some (at_version newest l) x (ap (option_map (at_version newest)) (sym there) ∙ e) in
             subst (IsListening world c (grown (made.Take l.id))) same (record { made = is.made; reached = more_commits world log later l.domain }))
         (unchanged (made.Take l.id))
 

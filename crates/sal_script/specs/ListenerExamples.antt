@@ -8,7 +8,7 @@ use Rattle.sal_types.specs.declared.value.Store.TheVariants.{Config}
 use Rattle.sal_rows.specs.declared.batch.Batch.{Batch}
 use Rattle.sal_rows.specs.declared.change.CandidateKind.TheVariants.{Delete as Deleted}
 use Rattle.sal_script.specs.Moves.{Move, Listen, Take, Unlisten, Mirror}
-use Rattle.sal_script.specs.Examples.{a, commits, delete, put}
+use Rattle.sal_script.specs.Examples.{a, commits, put}
 
 abbrev pub box : String
 box = "/plain:box"
@@ -16,13 +16,17 @@ box = "/plain:box"
 abbrev pub listen : String → Move
 listen path = Listen 0 0 Config (codes path)
 
--- a client that listens to the container, makes a leaf in it, changes it and deletes it
-abbrev pub comes_and_goes : List Move
-comes_and_goes = listen box ∷ (commits (put a "1") ++ (commits (put a "2") ++ (commits (delete a) ++ Take 0 ∷ Mirror 0 ∷ [])))
+-- a client that listens to the container and makes one commit
+abbrev pub watched : Move → List Move
+watched write = listen box ∷ (commits write ++ Take 0 ∷ Mirror 0 ∷ [])
 
-abbrev pub comes_and_goes_report : String
-comes_and_goes_report =
-    "order 0 0 0 0 0 0 0 0 0 0 0\n0 0 listener 1 0 absent\n0 1 begun 0\n0 2 ok\n0 3 receipt 1\n0 4 done 1\n0 5 begun 1\n0 6 ok\n0 7 receipt 2\n0 8 done 2\n0 9 begun 2\n0 10 ok\n0 11 receipt 3\n0 12 done 3\n0 13 batch 0 3 [[1,\"APPEARED\",[[\"/plain:box/a\",null,\"1\"]]],[2,\"SUBTREE_MODIFIED\",[[\"/plain:box/a\",\"1\",\"2\"]]],[3,\"DISAPPEARED\",[[\"/plain:box/a\",\"2\",null]]]]\n0 14 mirror 3 absent\ntree 0 3 {} {}\n"
+abbrev pub appears_report : String
+appears_report =
+    "order 0 0 0 0 0\n0 0 listener 1 0 absent\n0 1 begun 0\n0 2 ok\n0 3 receipt 1\n0 4 done 1\n0 5 batch 0 1 [[1,\"APPEARED\",[[\"/plain:box/a\",null,\"x\"]]]]\n0 6 mirror 1 {\"a\":\"x\"}\ntree 0 1 {\"plain:box\":{\"a\":\"x\"}} {}\n"
+
+abbrev pub disappears_report : String
+disappears_report =
+    "order 0 0 0 0 0\n0 0 listener 1 0 {\"a\":\"o\"}\n0 1 begun 0\n0 2 ok\n0 3 receipt 1\n0 4 done 1\n0 5 batch 0 1 [[1,\"DISAPPEARED\",[[\"/plain:box/a\",\"o\",null]]]]\n0 6 mirror 1 absent\ntree 0 1 {} {}\n"
 
 -- A mirror stays at the version that was taken last, whatever is committed meanwhile, and also when the listener is removed.
 abbrev pub follows : List Move
@@ -32,13 +36,10 @@ abbrev pub follows_report : String
 follows_report =
     "order 0 0 0 0 0 0 0\n0 0 listener 1 0 \"o\"\n0 1 begun 0\n0 2 ok\n0 3 receipt 1\n0 4 done 1\n0 5 mirror 0 \"o\"\n0 6 batch 0 1 [[1,\"WRITE\",[[\"/plain:box/a\",\"o\",\"x\"]]]]\n0 7 mirror 1 \"x\"\n0 8 ok\n0 9 refused no-listener 1\n0 10 mirror 1 \"x\"\ntree 0 1 {\"plain:box\":{\"a\":\"x\"}} {}\n"
 
--- a leaf that is written again with the value that it has
-abbrev pub writes_again : List Move
-writes_again = listen box ∷ (commits (put a "o") ++ Take 0 ∷ [])
-
-abbrev pub writes_again_report : String
-writes_again_report =
-    "order 0 0 0 0 0\n0 0 listener 1 0 {\"a\":\"o\"}\n0 1 begun 0\n0 2 ok\n0 3 receipt 1\n0 4 done 1\n0 5 batch 0 1 []\ntree 0 1 {\"plain:box\":{\"a\":\"o\"}} {}\n"
+-- where the leaf is written with the value that it has
+abbrev pub equal_report : String
+equal_report =
+    "order 0 0 0 0 0\n0 0 listener 1 0 {\"a\":\"o\"}\n0 1 begun 0\n0 2 ok\n0 3 receipt 1\n0 4 done 1\n0 5 batch 0 1 []\n0 6 mirror 1 {\"a\":\"o\"}\ntree 0 1 {\"plain:box\":{\"a\":\"o\"}} {}\n"
 
 -- steps that make no call, of a domain that the script has not, of a text that is no path, and of an empty slot; and one that does
 abbrev pub refused_locally : List Move

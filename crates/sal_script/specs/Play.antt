@@ -1,6 +1,6 @@
 -- What a script does in an order: each number of the order lets that client go on to its next shared call, which is
 -- then made and answered by the log; at the end each client answers the local steps that are left.
-use Rattle.std.specs.Prelude.{ℕ, ◌+◌, List, [], ◌∷◌, ◌++◌, length, map, Option, None, Some, Result, Ok, Err, IsOk, if◌then◌else◌, nat_eq, slice_get}
+use Rattle.std.specs.Prelude.{ℕ, ◌+◌, Bool, List, [], ◌∷◌, ◌++◌, length, map, Option, None, Some, Result, Ok, Err, IsOk, if◌then◌else◌, nat_eq, slice_get}
 use Rattle.std.specs.List.{slice_set}
 use Rattle.std.specs.Option.{option_map, option_map_or}
 use Rattle.sal_types.specs.declared.value.Store.{Store}
@@ -250,9 +250,12 @@ domain_in chain = option_map_or (λ c. c.domain) chain 0
 abbrev pub keep_listening : ℕ → Listener → Client → Client
 keep_listening slot listener client = record client { listeners = set_slot slot (Some listener) client.listeners }
 
+abbrev pub at_version : ℕ → Listener → Listener
+at_version version listener = record listener { version = version }
+
 -- the listener in the slot is at this version
 abbrev pub keep_taken : ℕ → ℕ → Client → Client
-keep_taken slot version client = record client { listeners = set_slot slot (option_map (λ listener. record listener { version = version }) (client.listeners slot)) client.listeners }
+keep_taken slot version client = record client { listeners = set_slot slot (option_map (at_version version) (client.listeners slot)) client.listeners }
 
 -- What the answer to a shared call leaves in the slots; `place` is that of the call's entry. A refusal leaves them as they
 -- were, and nothing empties the slot of a chain or of a listener.

@@ -13,8 +13,8 @@ ghost use Rattle.sal_script.specs.BatchData.{cell_data};
 ghost use Rattle.sal_script.specs.Moves.{Listen, Take, Unlisten, Mirror};
 ghost use Rattle.sal_script.specs.Script.{script_of};
 ghost use Rattle.sal_script.specs.Report.{call_text, refusal_text, reply_text};
-ghost use Rattle.sal_script.specs.Examples.{opened, plain_script, run, run_over, table};
-ghost use Rattle.sal_script.specs.ListenerExamples.{comes_and_goes, comes_and_goes_report, follows, follows_report, goes, refused_locally, refused_locally_report, writes_again, writes_again_report};
+ghost use Rattle.sal_script.specs.Examples.{a, delete, opened, plain_script, put, run, run_over, table};
+ghost use Rattle.sal_script.specs.ListenerExamples.{appears_report, disappears_report, equal_report, follows, follows_report, goes, refused_locally, refused_locally_report, watched};
 
 /// The steps of listeners; and what is none of them.
 pub fn listener_steps_read()
@@ -36,9 +36,14 @@ pub fn listener_words()
     ensures no_device { refusal_text table NoDevice ≡ codes "no-device" }
 {}
 
-/// A container appears with its first leaf, is modified below, and disappears with the last.
-pub fn a_leaf_comes_and_goes()
-    ensures { run (comes_and_goes ∷ []) (0 ∷ 0 ∷ 0 ∷ 0 ∷ 0 ∷ 0 ∷ 0 ∷ 0 ∷ 0 ∷ 0 ∷ 0 ∷ []) ≡ codes comes_and_goes_report }
+/// A container appears with its first leaf.
+pub fn a_container_appears()
+    ensures { run (watched (put a "x") ∷ []) (0 ∷ 0 ∷ 0 ∷ 0 ∷ 0 ∷ []) ≡ codes appears_report }
+{}
+
+/// It disappears with its last leaf.
+pub fn a_container_disappears()
+    ensures { run_over opened (watched (delete a) ∷ []) (0 ∷ 0 ∷ 0 ∷ 0 ∷ 0 ∷ []) ≡ codes disappears_report }
 {}
 
 /// A mirror stays at the version that was taken last, also when the listener is removed.
@@ -48,7 +53,7 @@ pub fn a_mirror_follows()
 
 /// A commit that writes the value that stands there is in the batch's span, and has no part.
 pub fn an_equal_value()
-    ensures { run_over opened (writes_again ∷ []) (0 ∷ 0 ∷ 0 ∷ 0 ∷ 0 ∷ []) ≡ codes writes_again_report }
+    ensures { run_over opened (watched (put a "o") ∷ []) (0 ∷ 0 ∷ 0 ∷ 0 ∷ 0 ∷ []) ≡ codes equal_report }
 {}
 
 /// What a client refuses by itself makes no call: the domain is looked at before the path.

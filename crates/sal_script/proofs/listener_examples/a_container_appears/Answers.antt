@@ -12,7 +12,7 @@ use Rattle.sal_rules.specs.Breaches.{first}
 use Rattle.sal_rules.specs.Contexts.{through_plain, from_list}
 use Rattle.sal_rules.specs.Rules.{is_there}
 use Rattle.sal_data.specs.Written.{scalar_json, node_json, runs_of}
-use Rattle.sal_script.proofs.listener_examples.a_leaf_comes_and_goes.Goals as goal
+use Rattle.sal_script.proofs.listener_examples.a_container_appears.Goals as goal
 
 pub returns : goal.returns
 unfolding read_path steps one_more named entered predicates predicate subject name single said closest first through_plain from_list is_there digits chars escape_byte scalar_json node_json runs_of

@@ -27,6 +27,7 @@ use Rattle.sal_schema.specs.Paths.{last_step, node_of}
 use Rattle.sal_json.specs.Written.{is_wide, atom_json, layer_for, type_json_of, json_of}
 use Rattle.sal_data.specs.Members.{member_name}
 use Rattle.sal_data.specs.Written.{runs_of, step_of, scalar_json, leaf_json, Writer, with_member, with_run, members_json, item_json, items_json, entry_json, entries_json, node_json, any_json, json_at, write_data}
+use Rattle.sal_script.specs.BatchData.{leaf_data}
 
 -- ---- what is chosen among values without a float
 
@@ -163,3 +164,10 @@ whole_at table path (Some (Item value)) rows = if_some (λ n. scalar_json table 
 
 pub has_float-write_data : (table : SchemaTable) (path : List Step) (rows : List Row) → has_float (write_data table path rows) ≡ false
 has_float-write_data table path rows = whole_at table path (last_step path) (under rows path)
+
+-- and in none for a leaf
+pub has_float-leaf_data : (table : SchemaTable) (step : Option Step) (value : Value) → has_float (leaf_data table step value) ≡ false
+has_float-leaf_data table None value = refl
+has_float-leaf_data table (Some (Node n)) value = whole_scalar table value n
+has_float-leaf_data table (Some (Key values)) value = refl
+has_float-leaf_data table (Some (Item item)) value = refl

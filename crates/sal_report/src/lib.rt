@@ -24,9 +24,11 @@
 //! in the text, beside what `sal_data` takes to write the rows and `sal_pathtext` to write the paths.
 #![tactic(auto)]
 
+mod batches;
 mod breaches;
 mod faults;
 mod lines;
+mod listeners;
 mod pieces;
 mod replies;
 mod words;

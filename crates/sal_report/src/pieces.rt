@@ -3,6 +3,7 @@ ghost use Rattle.std.specs.Prelude.{◌≡◌, ◌∷◌, ◌++◌, OnOk, false,
 ghost use Rattle.json.specs.Print.{quoted};
 ghost use Rattle.serde_json.specs.View.{view};
 ghost use Rattle.serde_json.specs.Written.{compact_text, has_float};
+ghost use Rattle.sal_pathtext.specs.Written.{written};
 ghost use Rattle.sal_data.specs.Written.{write_data};
 ghost use Rattle.sal_script.specs.Report as spec;
 
@@ -38,7 +39,7 @@ pub(crate) fn push_numbered(text: &mut String, word: &str, number: u64) -> Resul
 }
 
 // The JSON text of a value.
-fn push_value(alloc: Global, text: &mut String, value: &Value) -> Result<(), NoMemory>
+pub(crate) fn push_value(alloc: Global, text: &mut String, value: &Value) -> Result<(), NoMemory>
     requires { has_float (view value.now) ≡ false }
     ensures { OnOk result (string_bytes text.new ≡ string_bytes text.old ++ compact_text (view value.now)) }
 {
@@ -47,13 +48,20 @@ fn push_value(alloc: Global, text: &mut String, value: &Value) -> Result<(), NoM
     Ok(())
 }
 
+// A JSON text of these words.
+fn push_string(alloc: Global, text: &mut String, words: &str) -> Result<(), NoMemory>
+    ensures { OnOk result (string_bytes text.new ≡ string_bytes text.old ++ quoted words.now) }
+{
+    let words = String::from_str(alloc, words)?;
+    push_value(alloc, text, &Value::String(words))
+}
+
 // A space and a JSON text of these words.
 pub(crate) fn push_quoted(alloc: Global, text: &mut String, words: &str) -> Result<(), NoMemory>
     ensures { OnOk result (string_bytes text.new ≡ string_bytes text.old ++ (32 ∷ quoted words.now)) }
 {
-    let words = String::from_str(alloc, words)?;
     text.push(' ')?;
-    push_value(alloc, text, &Value::String(words))
+    push_string(alloc, text, words)
 }
 
 // A space and the text of a path.
@@ -67,6 +75,19 @@ pub(crate) fn push_path(
 {
     let path = write_path(alloc, schema, path)?;
     push_quoted(alloc, text, path.as_str())
+}
+
+// The text of a path, as a JSON text.
+pub(crate) fn push_location(
+    alloc: Global,
+    text: &mut String,
+    schema: &Schema,
+    path: &Path,
+) -> Result<(), NoMemory>
+    ensures { OnOk result (string_bytes text.new ≡ string_bytes text.old ++ quoted (written schema.now path.now)) }
+{
+    let path = write_path(alloc, schema, path)?;
+    push_string(alloc, text, path.as_str())
 }
 
 // The rows at a path and below it, as JSON.

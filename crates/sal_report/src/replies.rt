@@ -4,6 +4,7 @@ ghost use Rattle.sal_script.specs.Report as spec;
 
 use crate::breaches::push_breach;
 use crate::faults::{push_data_fault, push_path_fault, push_tx_fault};
+use crate::listeners::{push_batch, push_listener, push_mirror};
 use crate::pieces::{push_data, push_numbered, push_path, push_word};
 use crate::words::{kind_word, store_word, truth_word};
 use sal_history::Reply;
@@ -27,6 +28,12 @@ pub(crate) fn push_reply(
         StepReply::Accepted => push_word(text, "ok"),
         StepReply::Read { path, rows, .. } => push_rows(alloc, text, schema, path, rows),
         StepReply::Exists { found } => push_word(text, truth_word(*found)),
+        StepReply::Mirror {
+            path,
+            version,
+            rows,
+            ..
+        } => push_mirror(alloc, text, schema, path, *version, rows),
         StepReply::Refused { refusal } => {
             text.push_str("refused ")?;
             push_refusal(alloc, text, schema, refusal)
@@ -55,6 +62,10 @@ fn push_call(
             ..
         } => push_decided(alloc, text, schema, *receipt, outcome),
         Reply::Nothing => push_word(text, "nothing"),
+        Reply::Listener {
+            id, path, opened, ..
+        } => push_listener(alloc, text, schema, *id, path, opened),
+        Reply::Batch { batch, .. } => push_batch(alloc, text, schema, batch),
         Reply::Found => push_word(text, "found"),
         Reply::Late => push_word(text, "late"),
         Reply::Refused { fault } => {
@@ -81,6 +92,8 @@ fn push_fault(text: &mut String, fault: CallFault) -> Result<(), NoMemory>
         CallFault::HistoryFull => push_word(text, "history-full"),
         CallFault::PipelineFull => push_word(text, "pipeline-full"),
         CallFault::NoDomain { id } => push_numbered(text, "no-domain", u64::from(id)),
+        CallFault::NoListener { id } => push_numbered(text, "no-listener", id),
+        CallFault::TooManyListeners => push_word(text, "too-many-listeners"),
         CallFault::PreviousOpen => push_word(text, "previous-open"),
         CallFault::ChainFailed { receipt } => push_numbered(text, "chain-failed", receipt),
         CallFault::ChainClosed => push_word(text, "chain-closed"),
@@ -146,6 +159,7 @@ fn push_refusal(
     match refusal {
         StepRefusal::EmptySlot => push_word(text, "empty-slot"),
         StepRefusal::ReadOnly => push_word(text, "read-only"),
+        StepRefusal::NoDevice => push_word(text, "no-device"),
         StepRefusal::BadPath { fault } => {
             text.push_str("path ")?;
             push_path_fault(text, *fault)

@@ -1,9 +1,11 @@
 //! The words of a report.
 ghost use Rattle.std.specs.Prelude.{◌≡◌};
+ghost use Rattle.json.specs.Print.{quoted};
+ghost use Rattle.sal_script.specs.BatchData.{candidate_text};
 ghost use Rattle.sal_script.specs.Report.{kind_text, scalar_text, store_text, truth_text};
 
 use sal_json::ScalarFault;
-use sal_rows::ClashKind;
+use sal_rows::{CandidateKind, ClashKind};
 use sal_types::Store;
 
 pub(crate) fn store_word(store: Store) -> &'static str
@@ -22,6 +24,21 @@ pub(crate) fn kind_word(kind: ClashKind) -> &'static str
         ClashKind::Changed => "changed",
         ClashKind::Created => "created",
         ClashKind::Deleted => "deleted",
+    }
+}
+
+// How a listened node changed, as a JSON text.
+#[tactic(auto, unfolding(json::specs::Print::escape_byte))]
+pub(crate) fn candidate_word(kind: CandidateKind) -> &'static str
+    ensures { result.now ≡ quoted (candidate_text kind) }
+{
+    match kind {
+        CandidateKind::Unmodified => "\"UNMODIFIED\"",
+        CandidateKind::Write => "\"WRITE\"",
+        CandidateKind::Delete => "\"DELETE\"",
+        CandidateKind::SubtreeModified => "\"SUBTREE_MODIFIED\"",
+        CandidateKind::Appeared => "\"APPEARED\"",
+        CandidateKind::Disappeared => "\"DISAPPEARED\"",
     }
 }
 

@@ -14,9 +14,10 @@ use Rattle.sal_schema.specs.declared.table.SchemaTable.{SchemaTable}
 use Rattle.sal_script.specs.declared.reply.StepReply.{StepReply}
 use Rattle.sal_script.specs.declared.reply.StepReply.TheVariants.{Called}
 use Rattle.sal_script.specs.Moves.{Move}
-use Rattle.sal_script.specs.Play.{Arrival, Client, Made, Meeting, Open, Run, arrive, arrive_by, calls, ended, go, keep, local, make, meet, replied, replies_at, shared}
+use Rattle.sal_script.specs.Play.{Arrival, Client, Listener, Made, Meeting, Open, Run, arrive, arrive_by, calls, ended, go, keep, local, make, meet, replied, replies_at, shared}
 use Rattle.sal_script.specs.Along.{Finishes, IsAt, Left, along, finish, new_run, pass}
 use Rattle.sal_script.proofs.Later.{BegunIf, began_longer, keep_begun, meet_begun, meet_later}
+use Rattle.sal_script.proofs.Listening.{keep_listens, listens_longer, listens_same}
 
 abbrev pub made_of : List Entry → Run → Made
 made_of log run = record { log = log; run = run }
@@ -53,10 +54,13 @@ module _ (table : SchemaTable) (world : List Domain) (c : ℕ) where
   module _ (steps : List Move) where
     -- before its first step
     pub at_start : IsAt table world c steps [] (new_run steps)
-    at_start = record { called = new_run steps; follows = refl; answered = λ more. refl; began = λ slot tx at. absurd (nothing tx at) }
+    at_start = record { called = new_run steps; follows = refl; answered = λ more. refl; began = λ slot tx at. absurd (nothing tx at); listens = λ slot l at. absurd (deaf l at) }
       where
         nothing : (tx : Open) → (let none : Option Open = None in none) ≡ Some tx → ⊥
         nothing tx at = cc
+
+        deaf : (l : Listener) → (let none : Option Listener = None in none) ≡ Some l → ⊥
+        deaf l at = cc
 
     -- behind an entry of another client
     pub at_other : (log : List Entry) (now : Run) (e : Entry) → (e.client ≡ c → ⊥) → IsAt table world c steps log now → IsAt table world c steps (log ++ e ∷ []) now
@@ -65,6 +69,7 @@ module _ (table : SchemaTable) (world : List Domain) (c : ℕ) where
       follows = along-push log e (new_run steps) (made_of log was.called) was.follows ∙ pass_other (made_of log was.called) e other;
       answered = λ more. subst (λ (l : List Entry). arrive table world l was.called.client was.called.steps ≡ arrive table world l now.client now.steps) (sym (append_assoc log (e ∷ []) more)) (was.answered (e ∷ more));
       began = began_longer log (e ∷ []) now.client was.began;
+      listens = listens_longer world c log (e ∷ []) now.client was.listens;
     }
 
     -- behind some entries of others
@@ -99,9 +104,13 @@ module _ (table : SchemaTable) (world : List Domain) (c : ℕ) where
     at_local log client next step rest r met was = record {
       called = was.called;
       follows = was.follows;
-      answered = λ more. was.answered more ∙ step_on (log ++ more) client step rest (local r next) (meet_later table world log more client step was.began ∙ met);
-      began = subst (BegunIf log) met (meet_begun table world log log client was.began step);
+      answered = λ more. was.answered more ∙ step_on (log ++ more) client step rest (local r next) (meet_later table world log more client step was.began (λ slot l at. (was.listens slot l at).reached) ∙ met);
+      began = begun.0;
+      listens = listens_same world c log client next begun.1 was.listens;
     }
+      where
+        begun : BegunIf log client (local r next)
+        begun = subst (BegunIf log client) met (meet_begun table world log log client was.began step)
 
     -- behind a shared call that it made
     pub at_call : (log : List Entry) (client : Client) (step : Move) (rest : List Move) (call : Call) → meet table world log client step ≡ shared call
@@ -115,6 +124,7 @@ module _ (table : SchemaTable) (world : List Domain) (c : ℕ) where
           ∙ ap (make table world log c) (here ∙ step_on log client step rest (shared call) met);
       answered = λ more. refl;
       began = keep_begun log (entry_at log call) step (reply world log (entry_at log call)) client was.began;
+      listens = keep_listens world c log (entries_of log c) client was.listens table step call met;
     }
       where
         here : arrive table world log was.called.client was.called.steps ≡ arrive table world log client (step ∷ rest)

@@ -1,5 +1,5 @@
 -- A client on its way through its steps: each is answered once, and the shared calls are its entries in the log.
-use Rattle.std.proofs.Common.{◌≡◌, ℕ, Bool, List, [], ◌∷◌, ◌++◌, length, Option, None, Some, Result, Ok, Err, if◌then◌else◌, refl, ap, sym, ◌∙◌, subst, arith, append_assoc, append-nil, length-append, flat_map}
+use Rattle.std.proofs.Common.{◌≡◌, ℕ, Bool, true, false, List, [], ◌∷◌, ◌++◌, length, Option, None, Some, Result, Ok, Err, if◌then◌else◌, refl, ap, sym, ◌∙◌, subst, arith, append_assoc, append-nil, length-append, flat_map}
 use Rattle.std.specs.Prelude.{⊤}
 use Rattle.std.proofs.lemmas.Bool.{eq-eqb, ne_eqb}
 use Rattle.std.proofs.lemmas.Grind.{flat_map-append}
@@ -12,7 +12,7 @@ use Rattle.sal_rows.specs.declared.outcome.Mode.{Mode}
 use Rattle.sal_rows.specs.declared.outcome.Mode.TheVariants.{Ro, Wo, Rw}
 use Rattle.sal_history.specs.declared.call.Entry.{Entry}
 use Rattle.sal_history.specs.declared.reply.Reply.{Reply}
-use Rattle.sal_history.specs.declared.reply.Reply.TheVariants.{Begun, Chain, Accepted as Done, Receipt}
+use Rattle.sal_history.specs.declared.reply.Reply.TheVariants.{Begun, Chain, Accepted as Done, Receipt, Listener as Listening, Batch}
 use Rattle.sal_history.specs.World.{Domain}
 use Rattle.sal_history.specs.History.{Answered, answer, answered_as, entries_of, history, reply}
 use Rattle.sal_schema.specs.declared.table.SchemaTable.{SchemaTable}
@@ -23,8 +23,9 @@ use Rattle.sal_rules.specs.declared.fault.TxFault.{TxFault}
 use Rattle.sal_rules.specs.Refusals.{refusal}
 use Rattle.sal_script.specs.declared.reply.StepReply.{StepReply}
 use Rattle.sal_script.specs.declared.reply.StepReply.TheVariants.{Called}
-use Rattle.sal_script.specs.Moves.{Move, Begin, Put, Merge, Delete, Read, Exists, Submit, Cancel, Settle, OpenChain, ChainBegin, CloseChain, Pump, Mark, After}
-use Rattle.sal_script.specs.Play.{Arrival, Client, Deed, Made, Meeting, Open, Opened, Run, accept_unless, act_of, arrive, arrive_by, calls, chain_begin, close_chain, deleting, ended, found, keep, local, look, look_at, look_in, make, meet, merging, op_of, putting, replied, rows_read, seen_by, settle, shared, submit, submit_in, cancel, write, write_act, write_at, write_in}
+use Rattle.sal_script.specs.declared.reply.StepRefusal.TheVariants.{NoDevice}
+use Rattle.sal_script.specs.Moves.{Move, Begin, Put, Merge, Delete, Read, Exists, Submit, Cancel, Settle, OpenChain, ChainBegin, CloseChain, Pump, Listen, Take, Unlisten, Mirror, Mark, After}
+use Rattle.sal_script.specs.Play.{Arrival, Client, Deed, Listener, Made, Meeting, Open, Opened, Run, refused, accept_unless, act_of, arrive, arrive_by, calls, chain_begin, close_chain, deleting, ended, found, has_domain, keep, listen, listen_at, local, look, look_at, look_in, make, meet, merging, mirror, op_of, putting, replied, rows_read, seen_by, settle, shared, submit, submit_in, take_batch, cancel, unlisten, write, write_act, write_at, write_in}
 use Rattle.sal_script.specs.Orders.{Exchange, exchange_at, exchange_by, exchanges_in, exchanges_of, kind_of_call, kind_of_step}
 
 -- ---- one step
@@ -94,7 +95,30 @@ close_chain_met : (client : Client) (chain : ℕ) (opened : Option Opened) → M
 close_chain_met client chain None = (refl, refl)
 close_chain_met client chain (Some opened) = refl
 
+listen_at_met : (slot domain : ℕ) (store : Store) (text : List ℕ) (client : Client) (path : Result (List Step) PathTextFault) → Met (Listen slot domain store text) client (listen_at domain store path client)
+listen_at_met slot domain store text client (Err fault) = (refl, refl)
+listen_at_met slot domain store text client (Ok path) = refl
+
+listen_met : (slot domain : ℕ) (store : Store) (text : List ℕ) (client : Client) (path : Result (List Step) PathTextFault) → Met (Listen slot domain store text) client (listen domain store path client)
+listen_met slot domain store text client path =
+    elim (has_domain domain) as (λ has. Met (Listen slot domain store text) client (if has then listen_at domain store path client else refused NoDevice client)) [
+      | true ↦ listen_at_met slot domain store text client path
+      | false ↦ (refl, refl)
+    ]
+
+take_met : (slot : ℕ) (client : Client) (listener : Option Listener) → Met (Take slot) client (take_batch client listener)
+take_met slot client None = (refl, refl)
+take_met slot client (Some listener) = refl
+
+unlisten_met : (slot : ℕ) (client : Client) (listener : Option Listener) → Met (Unlisten slot) client (unlisten client listener)
+unlisten_met slot client None = (refl, refl)
+unlisten_met slot client (Some listener) = refl
+
 module _ (table : SchemaTable) (world : List Domain) (log : List Entry) where
+  mirror_met : (slot : ℕ) (client : Client) (listener : Option Listener) → Met (Mirror slot) client (mirror table world log client listener)
+  mirror_met slot client None = (refl, refl)
+  mirror_met slot client (Some listener) = (refl, refl)
+
   met : (client : Client) (step : Move) → Met step client (meet table world log client step)
   met client (Begin slot domain mode) = refl
   met client (Put slot store path value) = write_met table world log (Put slot store path value) client slot store path (putting value) (client.transactions slot)
@@ -109,6 +133,10 @@ module _ (table : SchemaTable) (world : List Domain) (log : List Entry) where
   met client (ChainBegin chain slot mode) = chain_begin_met slot mode client chain (client.chains chain)
   met client (CloseChain chain) = close_chain_met client chain (client.chains chain)
   met client Pump = refl
+  met client (Listen slot domain store path) = listen_met slot domain store path client (read_path table path)
+  met client (Take slot) = take_met slot client (client.listeners slot)
+  met client (Unlisten slot) = unlisten_met slot client (client.listeners slot)
+  met client (Mirror slot) = mirror_met slot client (client.listeners slot)
   met client (Mark mark) = refl
   met client (After mark) = refl
 
@@ -153,6 +181,8 @@ keep_replies : (place : ℕ) (step : Move) (r : Reply) (client : Client) → (ke
 keep_replies place (Begin slot domain mode) (Begun commit on) client = refl
 keep_replies place (ChainBegin chain slot mode) (Begun commit on) client = refl
 keep_replies place (OpenChain chain domain) (Chain id) client = refl
+keep_replies place (Listen slot domain store path) (Listening id at p opened) client = refl
+keep_replies place (Take slot) (Batch domain batch) client = refl
 keep_replies place (Submit slot) (Receipt number) client = refl
 keep_replies place (Cancel slot) Done client = refl
 keep_replies place step r client = refl

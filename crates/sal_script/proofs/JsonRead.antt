@@ -21,8 +21,8 @@ use Rattle.sal_script.specs.Json.{text_eq, list_of, list_of_items, all_named, da
 use Rattle.sal_script.specs.JsonMoves.{IsJsonMove, AreJsonMoves, HaveJsonMoves, is_json_move, have_json_moves}
 use Rattle.sal_script.specs.JsonScripts.{IsJsonScript}
 use Rattle.sal_script.specs.Laws.{ScriptsAreJson}
-use Rattle.sal_script.specs.Moves.{Move, Begin, Put, Merge, Delete, Read, Exists, Submit, Cancel, Settle, OpenChain, ChainBegin, CloseChain, Pump, Mark, After}
-use Rattle.sal_script.specs.Script.{or_bad, client_place, step_place, at_most, slot_of, number_of, mode_of, store_of, begin_of, Naming, Writing, place_of, write_of, slot_step_of, open_chain_of, chain_begin_of, pump_of, mark_step_of, chain_step_named, step_named, step_from, step_of, members_of, list_by, list_member, program_of, programs_from, steps_from, clients_from, numbers_of, modules_member, opening_by, opening_member, names, clients_member, parts_of, script_of}
+use Rattle.sal_script.specs.Moves.{Move, Begin, Put, Merge, Delete, Read, Exists, Submit, Cancel, Settle, OpenChain, ChainBegin, CloseChain, Pump, Listen, Take, Unlisten, Mirror, Mark, After}
+use Rattle.sal_script.specs.Script.{or_bad, client_place, step_place, at_most, slot_of, number_of, mode_of, store_of, begin_of, Naming, Writing, place_of, write_of, slot_step_of, open_chain_of, chain_begin_of, pump_of, mark_step_of, chain_step_named, listen_of, listener_step_named, step_named, step_from, step_of, members_of, list_by, list_member, program_of, programs_from, steps_from, clients_from, numbers_of, modules_member, opening_by, opening_member, names, clients_member, parts_of, script_of}
 
 -- ---- what holds of what is there
 
@@ -200,6 +200,25 @@ chain_named_json word ds =
     (if_either IsJsonMove (text_eq word (codes "mark")) (mark_step_of Mark ds) _ (mark_json Mark (λ mark. tt) ds)
     (if_either IsJsonMove (text_eq word (codes "after")) (mark_step_of After ds) None (mark_json After (λ mark. tt) ds) tt)))))
 
+listen_json : (ds : List Data) → If IsJsonMove (listen_of ds)
+listen_json [] = tt
+listen_json (l ∷ []) = tt
+listen_json (l ∷ d ∷ []) = tt
+listen_json (l ∷ d ∷ s ∷ []) = tt
+listen_json (l ∷ d ∷ s ∷ p ∷ []) =
+    if_then Any IsJsonMove (λ listener. option_and_then (λ domain. option_and_then (λ store. option_map (Listen listener domain store) (as_str p)) (store_of s)) (number_of d)) (slot_of l) (if_any (slot_of l))
+    (λ listener x. if_then Any IsJsonMove (λ domain. option_and_then (λ store. option_map (Listen listener domain store) (as_str p)) (store_of s)) (number_of d) (if_any (number_of d))
+    (λ domain y. if_then Any IsJsonMove (λ store. option_map (Listen listener domain store) (as_str p)) (store_of s) (if_any (store_of s))
+    (λ store z. if_map IsJsonMove (Listen listener domain store) (as_str p) (λ path. tt))))
+listen_json (l ∷ d ∷ s ∷ p ∷ v ∷ ds) = tt
+
+listener_named_json : (word : List ℕ) (ds : List Data) → If IsJsonMove (listener_step_named word ds)
+listener_named_json word ds =
+    if_either IsJsonMove (text_eq word (codes "listen")) (listen_of ds) _ (listen_json ds)
+    (if_either IsJsonMove (text_eq word (codes "take")) (slot_step_of Take ds) _ (slot_json Take (λ slot. tt) ds)
+    (if_either IsJsonMove (text_eq word (codes "unlisten")) (slot_step_of Unlisten ds) _ (slot_json Unlisten (λ slot. tt) ds)
+    (if_either IsJsonMove (text_eq word (codes "mirror")) (slot_step_of Mirror ds) _ (slot_json Mirror (λ slot. tt) ds) (chain_named_json word ds))))
+
 named_json : (word : List ℕ) (ds : List Data) → AllJson ds → If IsJsonMove (step_named word ds)
 named_json word ds all =
     if_either IsJsonMove (text_eq word (codes "begin")) (begin_of ds) _ (begin_json ds)
@@ -210,7 +229,7 @@ named_json word ds all =
     (if_either IsJsonMove (text_eq word (codes "exists")) (place_of Exists ds) _ (place_json Exists (λ slot store path. tt) ds)
     (if_either IsJsonMove (text_eq word (codes "submit")) (slot_step_of Submit ds) _ (slot_json Submit (λ slot. tt) ds)
     (if_either IsJsonMove (text_eq word (codes "cancel")) (slot_step_of Cancel ds) _ (slot_json Cancel (λ slot. tt) ds)
-    (if_either IsJsonMove (text_eq word (codes "settle")) (slot_step_of Settle ds) _ (slot_json Settle (λ slot. tt) ds) (chain_named_json word ds)))))))))
+    (if_either IsJsonMove (text_eq word (codes "settle")) (slot_step_of Settle ds) _ (slot_json Settle (λ slot. tt) ds) (listener_named_json word ds)))))))))
 
 from_json : (ds : List Data) → AllJson ds → If IsJsonMove (step_from ds)
 from_json [] all = tt
@@ -285,6 +304,10 @@ move_passes (OpenChain chain domain) is = refl
 move_passes (ChainBegin chain slot mode) is = refl
 move_passes (CloseChain chain) is = refl
 move_passes Pump is = refl
+move_passes (Listen listener domain store path) is = refl
+move_passes (Take listener) is = refl
+move_passes (Unlisten listener) is = refl
+move_passes (Mirror listener) is = refl
 move_passes (Mark mark) is = refl
 move_passes (After mark) is = refl
 

@@ -1,5 +1,5 @@
 -- A client that stands in a log meets each step in the same way over each longer one.
-use Rattle.std.proofs.Common.{◌≡◌, ℕ, ◌+◌, ◌<◌, Bool, true, false, List, [], ◌∷◌, ◌++◌, length, Option, None, Some, Result, Ok, Err, if◌then◌else◌, refl, ap, ◌∙◌, subst, arith, length-append}
+use Rattle.std.proofs.Common.{◌≡◌, ℕ, ◌+◌, ◌<◌, ◌≤◌, Bool, true, false, List, [], ◌∷◌, ◌++◌, length, Option, None, Some, Result, Ok, Err, if◌then◌else◌, refl, ap, ◌∙◌, subst, arith, length-append}
 use Rattle.std.specs.Prelude.{⊤, nat_eq, unwrap_or, option_and_then}
 use Rattle.std.specs.List.{fold}
 use Rattle.std.proofs.lemmas.List.Sums.{fold-append}
@@ -7,6 +7,7 @@ use Rattle.std.proofs.lemmas.Option.{same_Some}
 use Rattle.sal_types.specs.declared.value.Store.{Store}
 use Rattle.sal_types.specs.declared.value.Step.{Step}
 use Rattle.sal_types.specs.declared.row.Row.{Row}
+use Rattle.sal_types.specs.Tree.{under}
 use Rattle.sal_rows.specs.declared.op.Op.{Op}
 use Rattle.sal_rows.specs.declared.op.Act.{Act}
 use Rattle.sal_rows.specs.declared.outcome.Mode.{Mode}
@@ -14,10 +15,10 @@ use Rattle.sal_rows.specs.declared.outcome.Mode.TheVariants.{Ro, Wo, Rw}
 use Rattle.sal_rows.specs.Apply.{apply_ops}
 use Rattle.sal_history.specs.declared.call.Entry.{Entry}
 use Rattle.sal_history.specs.declared.reply.Reply.{Reply}
-use Rattle.sal_history.specs.declared.reply.Reply.TheVariants.{Begun, Chain, Accepted as Done, Receipt}
+use Rattle.sal_history.specs.declared.reply.Reply.TheVariants.{Begun, Chain, Accepted as Done, Receipt, Listener as Listening, Batch}
 use Rattle.sal_history.specs.Submissions.{Base}
 use Rattle.sal_history.specs.World.{Domain}
-use Rattle.sal_history.specs.History.{Answered, answer, answered_as, began_at, history, nowhere, reply_to}
+use Rattle.sal_history.specs.History.{Answered, answer, answered_as, began_at, commits, history, nowhere, reply_to}
 use Rattle.sal_schema.specs.declared.table.SchemaTable.{SchemaTable}
 use Rattle.sal_pathtext.specs.declared.fault.PathTextFault.{PathTextFault}
 use Rattle.sal_pathtext.specs.Read.{read_path}
@@ -25,22 +26,29 @@ use Rattle.sal_data.specs.declared.fault.DataFault.{DataFault}
 use Rattle.sal_rules.specs.declared.fault.TxFault.{TxFault}
 use Rattle.sal_rules.specs.Refusals.{refusal}
 use Rattle.sal_script.specs.declared.reply.StepReply.{StepReply}
-use Rattle.sal_script.specs.Moves.{Move, Begin, Put, Merge, Delete, Read, Exists, Submit, Cancel, Settle, OpenChain, ChainBegin, CloseChain, Pump, Mark, After}
-use Rattle.sal_script.specs.Play.{Client, Deed, Meeting, Open, Opened, accept_unless, act_of, cancel, chain_begin, close_chain, deleting, domain_in, found, keep, local, look, look_at, look_in, meet, merging, op_of, putting, rows_read, seen_by, set_slot, settle, shared, submit, submit_in, write, write_act, write_at, write_in}
+use Rattle.sal_script.specs.declared.reply.StepReply.TheVariants.{Mirror as MirrorReply}
+use Rattle.sal_script.specs.declared.reply.StepRefusal.TheVariants.{NoDevice}
+use Rattle.sal_script.specs.Moves.{Move, Begin, Put, Merge, Delete, Read, Exists, Submit, Cancel, Settle, OpenChain, ChainBegin, CloseChain, Pump, Listen, Take, Unlisten, Mirror, Mark, After}
+use Rattle.sal_script.specs.Play.{Client, Deed, Listener, Meeting, Open, Opened, accept_unless, act_of, cancel, chain_begin, close_chain, deleting, domain_in, found, has_domain, keep, listen, listen_at, local, look, look_at, look_in, meet, merging, mirror, op_of, putting, refused, rows_read, seen_by, set_slot, settle, shared, submit, submit_in, take_batch, unlisten, write, write_act, write_at, write_in}
 use Rattle.sal_script.specs.Along.{BeganIn}
+use Rattle.sal_script.proofs.Growing.{trees_later}
 use Rattle.sal_script.proofs.Listed.{get_left}
+
+-- no listener of the client is ahead of the log
+abbrev pub Reached : List Domain → List Entry → Client → Type 0
+Reached world log client = (slot : ℕ) (listener : Listener) → client.listeners slot ≡ Some listener → listener.version ≤ length (commits (history world log) listener.domain)
 
 -- ---- a transaction sees the same
 
 module _ (world : List Domain) where
   length_answers : (done : List Answered) (log : List Entry) → length (fold (answer world) done log) ≡ length done + length log
   length_answers done [] = omega arith
-  length_answers done (e ∷ log) = length_answers (answer world done e) log ∙ omega (arith, length-append done (answered_as world done e (reply_to world done e.call) ∷ []))
+  length_answers done (e ∷ log) = length_answers (answer world done e) log ∙ omega (arith, length-append done (answered_as world done e (reply_to world done e.client e.call) ∷ []))
 
   began_stays : (more : List Entry) (done : List Answered) (place : ℕ) → place < length done → began_at (fold (answer world) done more) place ≡ began_at done place
   began_stays [] done place h = refl
   began_stays (e ∷ more) done place h =
-      let now : List Answered = answered_as world done e (reply_to world done e.call) ∷ [] in
+      let now : List Answered = answered_as world done e (reply_to world done e.client e.call) ∷ [] in
       began_stays more (answer world done e) place (omega (arith, length-append done now, h))
       ∙ ap (option_and_then (λ (a : Answered). a.began)) (get_left done now place h)
 
@@ -85,22 +93,32 @@ module _ (table : SchemaTable) (world : List Domain) (log more : List Entry) whe
   write_later slot store text deed client None h = refl
   write_later slot store text deed client (Some tx) h = in_later tx.mode slot store text deed tx client (h tx refl)
 
-  pub meet_later : (client : Client) (step : Move) → BeganIn log client → meet table world longer client step ≡ meet table world log client step
-  meet_later client (Begin slot domain mode) was = refl
-  meet_later client (Put slot store path value) was = write_later slot store path (putting value) client (client.transactions slot) (was slot)
-  meet_later client (Merge slot store path value) was = write_later slot store path (merging value) client (client.transactions slot) (was slot)
-  meet_later client (Delete slot store path) was = write_later slot store path deleting client (client.transactions slot) (was slot)
-  meet_later client (Read slot store path) was = look_later (rows_read table world log) store path client (client.transactions slot) (was slot)
-  meet_later client (Exists slot store path) was = look_later (found table world log) store path client (client.transactions slot) (was slot)
-  meet_later client (Submit slot) was = refl
-  meet_later client (Cancel slot) was = refl
-  meet_later client (Settle slot) was = refl
-  meet_later client (OpenChain chain domain) was = refl
-  meet_later client (ChainBegin chain slot mode) was = refl
-  meet_later client (CloseChain chain) was = refl
-  meet_later client Pump was = refl
-  meet_later client (Mark mark) was = refl
-  meet_later client (After mark) was = refl
+  mirror_later : (client : Client) (listener : Option Listener) → ((l : Listener) → listener ≡ Some l → l.version ≤ length (commits (history world log) l.domain))
+      → mirror table world longer client listener ≡ mirror table world log client listener
+  mirror_later client None reached = refl
+  mirror_later client (Some l) reached = ap (λ (tree : List Row). local (MirrorReply l.domain l.path l.version (under tree l.path)) client) (trees_later world log more l.domain l.store l.version (reached l refl))
+
+  -- its transactions began in the log, and its listeners were given nothing that is not committed there
+  pub meet_later : (client : Client) (step : Move) → BeganIn log client → Reached world log client → meet table world longer client step ≡ meet table world log client step
+  meet_later client (Begin slot domain mode) was reached = refl
+  meet_later client (Put slot store path value) was reached = write_later slot store path (putting value) client (client.transactions slot) (was slot)
+  meet_later client (Merge slot store path value) was reached = write_later slot store path (merging value) client (client.transactions slot) (was slot)
+  meet_later client (Delete slot store path) was reached = write_later slot store path deleting client (client.transactions slot) (was slot)
+  meet_later client (Read slot store path) was reached = look_later (rows_read table world log) store path client (client.transactions slot) (was slot)
+  meet_later client (Exists slot store path) was reached = look_later (found table world log) store path client (client.transactions slot) (was slot)
+  meet_later client (Submit slot) was reached = refl
+  meet_later client (Cancel slot) was reached = refl
+  meet_later client (Settle slot) was reached = refl
+  meet_later client (OpenChain chain domain) was reached = refl
+  meet_later client (ChainBegin chain slot mode) was reached = refl
+  meet_later client (CloseChain chain) was reached = refl
+  meet_later client Pump was reached = refl
+  meet_later client (Listen slot domain store path) was reached = refl
+  meet_later client (Take slot) was reached = refl
+  meet_later client (Unlisten slot) was reached = refl
+  meet_later client (Mirror slot) was reached = mirror_later client (client.listeners slot) (reached slot)
+  meet_later client (Mark mark) was reached = refl
+  meet_later client (After mark) was reached = refl
 
 -- ---- transactions began in the log
 
@@ -121,72 +139,95 @@ began_emptied log client slot was k other at = by (nat_eq k slot) at
     by true e = cc
     by false e = was k other e
 
--- where the client answers by itself
-abbrev pub BegunIf : List Entry → Meeting → Type 0
-BegunIf log (local r next) = BeganIn log next
-BegunIf log (shared call) = ⊤
+-- where the client answers by itself; its listeners stay
+abbrev pub BegunIf : List Entry → Client → Meeting → Type 0
+BegunIf log client (local r next) = BeganIn log next × (next.listeners ≡ client.listeners)
+BegunIf log client (shared call) = ⊤
 
 module _ (table : SchemaTable) (world : List Domain) (over log : List Entry) (client : Client) (was : BeganIn log client) where
-  unless_begun : (fault : Option TxFault) (slot : ℕ) (op : Op) (tx : Open) → tx.place < length log → BegunIf log (accept_unless fault slot op tx client)
-  unless_begun None slot op tx h = began_filled log client slot (record tx { ops = tx.ops ++ op ∷ [] }) was h
-  unless_begun (Some fault) slot op tx h = was
+  unless_begun : (fault : Option TxFault) (slot : ℕ) (op : Op) (tx : Open) → tx.place < length log → BegunIf log client (accept_unless fault slot op tx client)
+  unless_begun None slot op tx h = (began_filled log client slot (record tx { ops = tx.ops ++ op ∷ [] }) was h, refl)
+  unless_begun (Some fault) slot op tx h = (was, refl)
 
-  act_begun : (slot : ℕ) (store : Store) (path : List Step) (act : Result Act DataFault) (tx : Open) → tx.place < length log → BegunIf log (write_act table world over slot store path act tx client)
-  act_begun slot store path (Err fault) tx h = was
+  act_begun : (slot : ℕ) (store : Store) (path : List Step) (act : Result Act DataFault) (tx : Open) → tx.place < length log → BegunIf log client (write_act table world over slot store path act tx client)
+  act_begun slot store path (Err fault) tx h = (was, refl)
   act_begun slot store path (Ok act) tx h = unless_begun (refusal table (seen_by table world over tx store) (op_of store path act)) slot (op_of store path act) tx h
 
-  at_begun : (slot : ℕ) (store : Store) (path : Result (List Step) PathTextFault) (deed : Deed) (tx : Open) → tx.place < length log → BegunIf log (write_at table world over slot store path deed tx client)
-  at_begun slot store (Err fault) deed tx h = was
+  at_begun : (slot : ℕ) (store : Store) (path : Result (List Step) PathTextFault) (deed : Deed) (tx : Open) → tx.place < length log → BegunIf log client (write_at table world over slot store path deed tx client)
+  at_begun slot store (Err fault) deed tx h = (was, refl)
   at_begun slot store (Ok path) deed tx h = act_begun slot store path (act_of table path deed) tx h
 
-  in_begun : (mode : Mode) (slot : ℕ) (store : Store) (text : List ℕ) (deed : Deed) (tx : Open) → tx.place < length log → BegunIf log (write_in table world over mode slot store text deed tx client)
-  in_begun Ro slot store text deed tx h = was
+  in_begun : (mode : Mode) (slot : ℕ) (store : Store) (text : List ℕ) (deed : Deed) (tx : Open) → tx.place < length log → BegunIf log client (write_in table world over mode slot store text deed tx client)
+  in_begun Ro slot store text deed tx h = (was, refl)
   in_begun Wo slot store text deed tx h = at_begun slot store (read_path table text) deed tx h
   in_begun Rw slot store text deed tx h = at_begun slot store (read_path table text) deed tx h
 
-  write_begun : (slot : ℕ) (store : Store) (text : List ℕ) (deed : Deed) (tx : Option Open) → ((o : Open) → tx ≡ Some o → o.place < length log) → BegunIf log (write table world over slot store text deed client tx)
-  write_begun slot store text deed None h = was
+  write_begun : (slot : ℕ) (store : Store) (text : List ℕ) (deed : Deed) (tx : Option Open) → ((o : Open) → tx ≡ Some o → o.place < length log) → BegunIf log client (write table world over slot store text deed client tx)
+  write_begun slot store text deed None h = (was, refl)
   write_begun slot store text deed (Some tx) h = in_begun tx.mode slot store text deed tx (h tx refl)
 
-  shown_begun : (mode : Mode) (r : StepReply) → BegunIf log (look_in mode r client)
-  shown_begun Ro r = was
-  shown_begun Wo r = was
-  shown_begun Rw r = was
+  shown_begun : (mode : Mode) (r : StepReply) → BegunIf log client (look_in mode r client)
+  shown_begun Ro r = (was, refl)
+  shown_begun Wo r = (was, refl)
+  shown_begun Rw r = (was, refl)
 
-  look_at_begun : (f : List Step → StepReply) (mode : Mode) (path : Result (List Step) PathTextFault) → BegunIf log (look_at f mode path client)
-  look_at_begun f mode (Err fault) = was
+  look_at_begun : (f : List Step → StepReply) (mode : Mode) (path : Result (List Step) PathTextFault) → BegunIf log client (look_at f mode path client)
+  look_at_begun f mode (Err fault) = (was, refl)
   look_at_begun f mode (Ok path) = shown_begun mode (f path)
 
-  look_begun : (f : Open → List Step → List Row → StepReply) (store : Store) (text : List ℕ) (tx : Option Open) → BegunIf log (look table world over f store text client tx)
-  look_begun f store text None = was
+  look_begun : (f : Open → List Step → List Row → StepReply) (store : Store) (text : List ℕ) (tx : Option Open) → BegunIf log client (look table world over f store text client tx)
+  look_begun f store text None = (was, refl)
   look_begun f store text (Some tx) = look_at_begun (λ path. f tx path (seen_by table world over tx store)) tx.mode (read_path table text)
 
-  submit_in_begun : (tx : Open) (mode : Mode) → BegunIf log (submit_in tx mode client)
-  submit_in_begun tx Ro = was
+  submit_in_begun : (tx : Open) (mode : Mode) → BegunIf log client (submit_in tx mode client)
+  submit_in_begun tx Ro = (was, refl)
   submit_in_begun tx Wo = tt
   submit_in_begun tx Rw = tt
 
-  submit_begun : (tx : Option Open) → BegunIf log (submit client tx)
-  submit_begun None = was
+  submit_begun : (tx : Option Open) → BegunIf log client (submit client tx)
+  submit_begun None = (was, refl)
   submit_begun (Some tx) = submit_in_begun tx tx.mode
 
-  cancel_begun : (tx : Option Open) → BegunIf log (cancel client tx)
-  cancel_begun None = was
+  cancel_begun : (tx : Option Open) → BegunIf log client (cancel client tx)
+  cancel_begun None = (was, refl)
   cancel_begun (Some tx) = tt
 
-  settle_begun : (receipt : Option ℕ) → BegunIf log (settle client receipt)
-  settle_begun None = was
+  settle_begun : (receipt : Option ℕ) → BegunIf log client (settle client receipt)
+  settle_begun None = (was, refl)
   settle_begun (Some receipt) = tt
 
-  chain_begin_begun : (mode : Mode) (chain : Option Opened) → BegunIf log (chain_begin mode client chain)
-  chain_begin_begun mode None = was
+  chain_begin_begun : (mode : Mode) (chain : Option Opened) → BegunIf log client (chain_begin mode client chain)
+  chain_begin_begun mode None = (was, refl)
   chain_begin_begun mode (Some chain) = tt
 
-  close_chain_begun : (chain : Option Opened) → BegunIf log (close_chain client chain)
-  close_chain_begun None = was
+  close_chain_begun : (chain : Option Opened) → BegunIf log client (close_chain client chain)
+  close_chain_begun None = (was, refl)
   close_chain_begun (Some chain) = tt
 
-  pub meet_begun : (step : Move) → BegunIf log (meet table world over client step)
+  listen_at_begun : (domain : ℕ) (store : Store) (path : Result (List Step) PathTextFault) → BegunIf log client (listen_at domain store path client)
+  listen_at_begun domain store (Err fault) = (was, refl)
+  listen_at_begun domain store (Ok path) = tt
+
+  listen_begun : (domain : ℕ) (store : Store) (path : Result (List Step) PathTextFault) → BegunIf log client (listen domain store path client)
+  listen_begun domain store path =
+      elim (has_domain domain) as (λ has. BegunIf log client (if has then listen_at domain store path client else refused NoDevice client)) [
+        | true ↦ listen_at_begun domain store path
+        | false ↦ (was, refl)
+      ]
+
+  take_begun : (listener : Option Listener) → BegunIf log client (take_batch client listener)
+  take_begun None = (was, refl)
+  take_begun (Some listener) = tt
+
+  unlisten_begun : (listener : Option Listener) → BegunIf log client (unlisten client listener)
+  unlisten_begun None = (was, refl)
+  unlisten_begun (Some listener) = tt
+
+  mirror_begun : (listener : Option Listener) → BegunIf log client (mirror table world over client listener)
+  mirror_begun None = (was, refl)
+  mirror_begun (Some listener) = (was, refl)
+
+  pub meet_begun : (step : Move) → BegunIf log client (meet table world over client step)
   meet_begun (Begin slot domain mode) = tt
   meet_begun (Put slot store path value) = write_begun slot store path (putting value) (client.transactions slot) (was slot)
   meet_begun (Merge slot store path value) = write_begun slot store path (merging value) (client.transactions slot) (was slot)
@@ -200,6 +241,10 @@ module _ (table : SchemaTable) (world : List Domain) (over log : List Entry) (cl
   meet_begun (ChainBegin chain slot mode) = chain_begin_begun mode (client.chains chain)
   meet_begun (CloseChain chain) = close_chain_begun (client.chains chain)
   meet_begun Pump = tt
+  meet_begun (Listen slot domain store path) = listen_begun domain store (read_path table path)
+  meet_begun (Take slot) = take_begun (client.listeners slot)
+  meet_begun (Unlisten slot) = unlisten_begun (client.listeners slot)
+  meet_begun (Mirror slot) = mirror_begun (client.listeners slot)
   meet_begun (Mark mark) = tt
   meet_begun (After mark) = tt
 
@@ -212,4 +257,6 @@ keep_begun log e (ChainBegin chain slot mode) (Begun commit on) client was =
 keep_begun log e (OpenChain chain domain) (Chain id) client was = began_longer log (e ∷ []) client was
 keep_begun log e (Submit slot) (Receipt number) client was = began_emptied (log ++ e ∷ []) client slot (began_longer log (e ∷ []) client was)
 keep_begun log e (Cancel slot) Done client was = began_emptied (log ++ e ∷ []) client slot (began_longer log (e ∷ []) client was)
+keep_begun log e (Listen slot domain store path) (Listening id at p opened) client was = began_longer log (e ∷ []) client was
+keep_begun log e (Take slot) (Batch domain batch) client was = began_longer log (e ∷ []) client was
 keep_begun log e step r client was = began_longer log (e ∷ []) client was

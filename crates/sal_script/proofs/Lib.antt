@@ -5,12 +5,14 @@ pub mod Few
 pub mod FirstLines
 pub mod ForSchema
 pub mod Given
+pub mod Growing
 pub mod JsonData
 pub mod JsonRead
 pub mod Later
 pub mod Left
 pub mod Limits
 pub mod Listed
+pub mod Listening
 pub mod Orders
 pub mod Played
 pub mod Readers

@@ -1,15 +1,17 @@
 -- One client along a log that several clients left. An entry of another is taken as it stands; at an entry of its own the
 -- client goes on to its next shared call, over the entries before. So the client has a log of its own making, and where this
 -- is the very log that was left, each of its calls stands there at its place, and no other does.
-use Rattle.std.specs.Prelude.{◌≡◌, ℕ, ◌<◌, List, [], ◌∷◌, ◌++◌, length, map, Option, Some, option_and_then, if◌then◌else◌, nat_eq, slice_get}
+use Rattle.std.specs.Prelude.{◌≡◌, ℕ, ◌<◌, ◌≤◌, List, [], ◌∷◌, ◌++◌, length, map, Option, Some, option_and_then, if◌then◌else◌, nat_eq, slice_get}
 use Rattle.std.specs.List.{fold}
 use Rattle.std.specs.Option.{option_map}
 use Rattle.sal_history.specs.declared.call.Entry.{Entry}
+use Rattle.sal_history.specs.Listeners.{listener_at}
 use Rattle.sal_history.specs.World.{Domain, table_of}
+use Rattle.sal_history.specs.History.{commits, history}
 use Rattle.sal_schema.specs.declared.table.SchemaTable.{SchemaTable}
 use Rattle.sal_script.specs.declared.reply.StepReply.{StepReply}
 use Rattle.sal_script.specs.Moves.{Move}
-use Rattle.sal_script.specs.Play.{Client, Made, Open, Run, arrive, go, new_client, replies_at}
+use Rattle.sal_script.specs.Play.{Client, Listener, Made, Open, Run, arrive, go, new_client, replies_at}
 
 -- a client before its first step
 abbrev pub new_run : List Move → Run
@@ -46,6 +48,15 @@ module _ (table : SchemaTable) (world : List Domain) (c : ℕ) where
 abbrev pub BeganIn : List Entry → Client → Type 0
 BeganIn log client = (slot : ℕ) (tx : Open) → client.transactions slot ≡ Some tx → tx.place < length log
 
+-- client c made the listener in the log, and was given nothing that is not committed there
+pub record IsListening (world : List Domain) (c : ℕ) (log : List Entry) (listener : Listener) : Type 0 where
+  pub made : listener_at (history world log) listener.id ≡ Some (record { client = c; domain = listener.domain; store = listener.store; path = listener.path })
+  pub reached : listener.version ≤ length (commits (history world log) listener.domain)
+
+-- so it is with each of its listeners
+abbrev pub ListensIn : List Domain → ℕ → List Entry → Client → Type 0
+ListensIn world c log client = (slot : ℕ) (listener : Listener) → client.listeners slot ≡ Some listener → IsListening world c log listener
+
 -- Where client c with these steps stands while the log grows: it made its calls there, and answered local steps behind the
 -- last of them, which are answered the same over each longer log.
 pub record IsAt (table : SchemaTable) (world : List Domain) (c : ℕ) (steps : List Move) (log : List Entry) (now : Run) : Type 0 where
@@ -53,6 +64,7 @@ pub record IsAt (table : SchemaTable) (world : List Domain) (c : ℕ) (steps : L
   pub follows : along table world c log (new_run steps) ≡ Some (record { log = log; run = called })
   pub answered : (more : List Entry) → arrive table world (log ++ more) called.client called.steps ≡ arrive table world (log ++ more) now.client now.steps
   pub began : BeganIn log now.client
+  pub listens : ListensIn world c log now.client
 
 -- What clients left: each entry of the log is a call of one of them, and each came to its end along it, with its replies.
 pub record AreLeft (world : List Domain) (clients : List (List Move)) (log : List Entry) (replies : List (List StepReply)) : Type 0 where

@@ -2,7 +2,7 @@
 use Rattle.std.specs.Prelude.{Bool, true, List, [], ◌∷◌, ⊤}
 use Rattle.std.specs.List.{list_all}
 use Rattle.sal_value.specs.Json.{IsJson, is_json}
-use Rattle.sal_script.specs.Moves.{Move, Begin, Put, Merge, Delete, Read, Exists, Submit, Cancel, Settle, OpenChain, ChainBegin, CloseChain, Pump, Mark, After}
+use Rattle.sal_script.specs.Moves.{Move, Begin, Put, Merge, Delete, Read, Exists, Submit, Cancel, Settle, OpenChain, ChainBegin, CloseChain, Pump, Listen, Take, Unlisten, Mirror, Mark, After}
 
 -- the value of a step
 abbrev pub IsJsonMove : Move → Type 0
@@ -19,6 +19,10 @@ IsJsonMove (OpenChain chain domain) = ⊤
 IsJsonMove (ChainBegin chain slot mode) = ⊤
 IsJsonMove (CloseChain chain) = ⊤
 IsJsonMove Pump = ⊤
+IsJsonMove (Listen listener domain store path) = ⊤
+IsJsonMove (Take listener) = ⊤
+IsJsonMove (Unlisten listener) = ⊤
+IsJsonMove (Mirror listener) = ⊤
 IsJsonMove (Mark mark) = ⊤
 IsJsonMove (After mark) = ⊤
 
@@ -48,6 +52,10 @@ is_json_move (OpenChain chain domain) = true
 is_json_move (ChainBegin chain slot mode) = true
 is_json_move (CloseChain chain) = true
 is_json_move Pump = true
+is_json_move (Listen listener domain store path) = true
+is_json_move (Take listener) = true
+is_json_move (Unlisten listener) = true
+is_json_move (Mirror listener) = true
 is_json_move (Mark mark) = true
 is_json_move (After mark) = true
 

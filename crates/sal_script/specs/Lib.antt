@@ -1,5 +1,6 @@
 pub mod Along
 pub mod AlongExamples
+pub mod BatchData
 pub mod ChainExamples
 pub mod Examples
 pub mod Json
@@ -7,6 +8,7 @@ pub mod JsonMoves
 pub mod JsonScripts
 pub mod Laws
 pub mod Limits
+pub mod ListenerExamples
 pub mod Moves
 pub mod OneOrder
 pub mod Orders

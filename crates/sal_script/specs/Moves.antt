@@ -21,6 +21,10 @@ pub data Move : Type 0 where
   ChainBegin : ℕ → ℕ → Mode → Move
   CloseChain : ℕ → Move
   Pump : Move
+  Listen : ℕ → ℕ → Store → List ℕ → Move
+  Take : ℕ → Move
+  Unlisten : ℕ → Move
+  Mirror : ℕ → Move
   Mark : ℕ → Move
   After : ℕ → Move
 
@@ -39,6 +43,10 @@ move_of (told.OpenChain chain domain) = OpenChain chain domain
 move_of (told.ChainBegin chain slot mode) = ChainBegin chain slot mode
 move_of (told.CloseChain chain) = CloseChain chain
 move_of told.Pump = Pump
+move_of (told.Listen listener domain store path) = Listen listener domain store path
+move_of (told.Take listener) = Take listener
+move_of (told.Unlisten listener) = Unlisten listener
+move_of (told.Mirror listener) = Mirror listener
 move_of (told.Mark mark) = Mark mark
 move_of (told.After mark) = After mark
 

@@ -1,6 +1,7 @@
 -- What a legal order is: the log of the played script is in that order, and has the shared calls of each client, each once
 -- and in the client's own order.
 use Rattle.std.specs.Prelude.{◌≡◌, ℕ, ◌<◌, ◌≤◌, List, [], ◌∷◌, ◌++◌, length, map, take, Option, None, Some, Ok, Err, if◌then◌else◌, nat_eq, slice_get, flat_map, ◌⊎◌}
+use Rattle.sal_types.specs.declared.value.Store.{Store}
 use Rattle.sal_rows.specs.declared.outcome.Mode.{Mode}
 use Rattle.sal_history.specs.declared.call.Call.{Call}
 use Rattle.sal_history.specs.declared.call.Call.TheVariants as made
@@ -24,6 +25,9 @@ pub data Kind : Type 0 where
   begins_next : Mode → Kind
   closes_chain : Kind
   pumps : Kind
+  listens : ℕ → Store → Kind
+  takes : Kind
+  unlistens : Kind
   leaves_mark : ℕ → Kind
   looks_after : ℕ → Kind
 
@@ -37,6 +41,9 @@ kind_of_step (asked.OpenChain chain domain) = Some (opens_chain domain)
 kind_of_step (asked.ChainBegin chain slot mode) = Some (begins_next mode)
 kind_of_step (asked.CloseChain chain) = Some closes_chain
 kind_of_step asked.Pump = Some pumps
+kind_of_step (asked.Listen listener domain store path) = Some (listens domain store)
+kind_of_step (asked.Take listener) = Some takes
+kind_of_step (asked.Unlisten listener) = Some unlistens
 kind_of_step (asked.Mark mark) = Some (leaves_mark mark)
 kind_of_step (asked.After mark) = Some (looks_after mark)
 kind_of_step step = None
@@ -50,6 +57,9 @@ kind_of_call (made.OpenChain domain) = opens_chain domain
 kind_of_call (made.ChainBegin chain mode) = begins_next mode
 kind_of_call (made.CloseChain chain) = closes_chain
 kind_of_call made.Pump = pumps
+kind_of_call (made.Listen domain store path) = listens domain store
+kind_of_call (made.Take id) = takes
+kind_of_call (made.Unlisten id) = unlistens
 kind_of_call (made.Mark mark) = leaves_mark mark
 kind_of_call (made.After mark) = looks_after mark
 

@@ -1,8 +1,8 @@
 -- What a script does in an order: each number of the order lets that client go on to its next shared call, which is
 -- then made and answered by the log; at the end each client answers the local steps that are left.
-use Rattle.std.specs.Prelude.{ℕ, ◌+◌, List, [], ◌∷◌, ◌++◌, length, map, Option, None, Some, Result, Ok, Err, IsOk, if◌then◌else◌, nat_eq, slice_get}
+use Rattle.std.specs.Prelude.{ℕ, ◌+◌, Bool, List, [], ◌∷◌, ◌++◌, length, map, Option, None, Some, Result, Ok, Err, IsOk, if◌then◌else◌, nat_eq, slice_get}
 use Rattle.std.specs.List.{slice_set}
-use Rattle.std.specs.Option.{option_map_or}
+use Rattle.std.specs.Option.{option_map, option_map_or}
 use Rattle.sal_types.specs.declared.value.Store.{Store}
 use Rattle.sal_types.specs.declared.value.Step.{Step}
 use Rattle.sal_types.specs.declared.row.Row.{Row}
@@ -17,9 +17,9 @@ use Rattle.sal_history.specs.declared.call.Call.{Call}
 use Rattle.sal_history.specs.declared.call.Call.TheVariants as made
 use Rattle.sal_history.specs.declared.call.Entry.{Entry}
 use Rattle.sal_history.specs.declared.reply.Reply.{Reply}
-use Rattle.sal_history.specs.declared.reply.Reply.TheVariants.{Begun, Chain, Accepted as Done, Receipt}
+use Rattle.sal_history.specs.declared.reply.Reply.TheVariants.{Begun, Chain, Accepted as Done, Receipt, Listener as Listening, Batch}
 use Rattle.sal_history.specs.World.{Domain, table_of}
-use Rattle.sal_history.specs.History.{reply, view, entries_of}
+use Rattle.sal_history.specs.History.{history, reply, trees_at, view, entries_of}
 use Rattle.serde_json.specs.Data.{Data}
 use Rattle.sal_schema.specs.declared.table.SchemaTable.{SchemaTable}
 use Rattle.sal_pathtext.specs.declared.fault.PathTextFault.{PathTextFault}
@@ -30,10 +30,10 @@ use Rattle.sal_rules.specs.declared.fault.TxFault.{TxFault}
 use Rattle.sal_rules.specs.declared.fault.TxFault.TheVariants.{WriteOnly}
 use Rattle.sal_rules.specs.Refusals.{refusal}
 use Rattle.sal_script.specs.declared.reply.StepReply.{StepReply}
-use Rattle.sal_script.specs.declared.reply.StepReply.TheVariants.{Called, Accepted, Read as ReadReply, Exists as ExistsReply, Refused}
+use Rattle.sal_script.specs.declared.reply.StepReply.TheVariants.{Called, Accepted, Read as ReadReply, Exists as ExistsReply, Mirror as MirrorReply, Refused}
 use Rattle.sal_script.specs.declared.reply.StepRefusal.{StepRefusal}
-use Rattle.sal_script.specs.declared.reply.StepRefusal.TheVariants.{EmptySlot, ReadOnly, BadPath, BadData, Write}
-use Rattle.sal_script.specs.Moves.{Move, Begin, Put, Merge, Delete, Read, Exists, Submit, Cancel, Settle, OpenChain, ChainBegin, CloseChain, Pump, Mark, After}
+use Rattle.sal_script.specs.declared.reply.StepRefusal.TheVariants.{EmptySlot, ReadOnly, NoDevice, BadPath, BadData, Write}
+use Rattle.sal_script.specs.Moves.{Move, Begin, Put, Merge, Delete, Read, Exists, Submit, Cancel, Settle, OpenChain, ChainBegin, CloseChain, Pump, Listen, Take, Unlisten, Mirror, Mark, After}
 
 -- a client's transaction: where it began in the log, its domain and mode, and its operations so far
 pub record Open : Type 0 where
@@ -47,6 +47,14 @@ pub record Opened : Type 0 where
   pub id : ℕ
   pub domain : ℕ
 
+-- a listener that the client made: its id, what it listens to, and the version that was taken last
+pub record Listener : Type 0 where
+  pub id : ℕ
+  pub domain : ℕ
+  pub store : Store
+  pub path : List Step
+  pub version : ℕ
+
 -- what each slot holds
 abbrev pub Slots : Type 0 → Type 0
 Slots A = ℕ → Option A
@@ -59,10 +67,11 @@ pub record Client : Type 0 where
   pub transactions : Slots Open
   pub receipts : Slots ℕ
   pub chains : Slots Opened
+  pub listeners : Slots Listener
   pub replies : List StepReply
 
 abbrev pub new_client : Client
-new_client = record { transactions = λ k. None; receipts = λ k. None; chains = λ k. None; replies = [] }
+new_client = record { transactions = λ k. None; receipts = λ k. None; chains = λ k. None; listeners = λ k. None; replies = [] }
 
 -- one step more is answered
 abbrev pub replied : StepReply → Client → Client
@@ -123,6 +132,26 @@ abbrev pub close_chain : Client → Option Opened → Meeting
 close_chain client None = refused EmptySlot client
 close_chain client (Some chain) = shared (made.CloseChain chain.id)
 
+-- the domains that a script has; it has no devices yet
+abbrev pub has_domain : ℕ → Bool
+has_domain domain = nat_eq domain 0
+
+abbrev pub listen_at : ℕ → Store → Result (List Step) PathTextFault → Client → Meeting
+listen_at domain store (Err fault) client = refused (BadPath fault) client
+listen_at domain store (Ok path) client = shared (made.Listen domain store path)
+
+-- a listen: the first refusal counts, of the domain, and then of the path
+abbrev pub listen : ℕ → Store → Result (List Step) PathTextFault → Client → Meeting
+listen domain store path client = if has_domain domain then listen_at domain store path client else refused NoDevice client
+
+abbrev pub take_batch : Client → Option Listener → Meeting
+take_batch client None = refused EmptySlot client
+take_batch client (Some listener) = shared (made.Take listener.id)
+
+abbrev pub unlisten : Client → Option Listener → Meeting
+unlisten client None = refused EmptySlot client
+unlisten client (Some listener) = shared (made.Unlisten listener.id)
+
 -- a look by a transaction that only writes is refused
 abbrev pub look_in : Mode → StepReply → Client → Meeting
 look_in Wo answer client = refused (Write WriteOnly) client
@@ -151,6 +180,16 @@ module _ (table : SchemaTable) (world : List Domain) (log : List Entry) where
 
   abbrev pub found : Open → List Step → List Row → StepReply
   found tx path rows = ExistsReply (has rows path)
+
+  -- ---- mirrors
+
+  -- what was committed at the listener's path and below it, at the version that was taken last
+  abbrev pub mirrored : Listener → List Row
+  mirrored listener = under (trees_at world (history world log) listener.domain listener.store listener.version) listener.path
+
+  abbrev pub mirror : Client → Option Listener → Meeting
+  mirror client None = refused EmptySlot client
+  mirror client (Some listener) = local (MirrorReply listener.domain listener.path listener.version (mirrored listener)) client
 
   -- ---- writes
 
@@ -191,6 +230,10 @@ module _ (table : SchemaTable) (world : List Domain) (log : List Entry) where
   meet client (ChainBegin chain slot mode) = chain_begin mode client (client.chains chain)
   meet client (CloseChain chain) = close_chain client (client.chains chain)
   meet client Pump = shared made.Pump
+  meet client (Listen listener domain store path) = listen domain store (read_path table path) client
+  meet client (Take listener) = take_batch client (client.listeners listener)
+  meet client (Unlisten listener) = unlisten client (client.listeners listener)
+  meet client (Mirror listener) = mirror client (client.listeners listener)
   meet client (Mark mark) = shared (made.Mark mark)
   meet client (After mark) = shared (made.After mark)
 
@@ -203,12 +246,25 @@ keep_begun slot place domain mode client =
 abbrev pub domain_in : Option Opened → ℕ
 domain_in chain = option_map_or (λ c. c.domain) chain 0
 
+-- a new listener in the slot, at the version of its opening
+abbrev pub keep_listening : ℕ → Listener → Client → Client
+keep_listening slot listener client = record client { listeners = set_slot slot (Some listener) client.listeners }
+
+abbrev pub at_version : ℕ → Listener → Listener
+at_version version listener = record listener { version = version }
+
+-- the listener in the slot is at this version
+abbrev pub keep_taken : ℕ → ℕ → Client → Client
+keep_taken slot version client = record client { listeners = set_slot slot (option_map (at_version version) (client.listeners slot)) client.listeners }
+
 -- What the answer to a shared call leaves in the slots; `place` is that of the call's entry. A refusal leaves them as they
--- were, and nothing empties the slot of a chain.
+-- were, and nothing empties the slot of a chain or of a listener.
 abbrev pub keep : ℕ → Move → Reply → Client → Client
 keep place (Begin slot domain mode) (Begun commit on) client = keep_begun slot place domain mode client
 keep place (ChainBegin chain slot mode) (Begun commit on) client = keep_begun slot place (domain_in (client.chains chain)) mode client
 keep place (OpenChain chain domain) (Chain id) client = record client { chains = set_slot chain (Some (record { id = id; domain = domain })) client.chains }
+keep place (Listen slot domain store text) (Listening id at path opened) client = keep_listening slot (record { id = id; domain = domain; store = store; path = path; version = opened.version }) client
+keep place (Take slot) (Batch domain batch) client = keep_taken slot batch.to client
 keep place (Submit slot) (Receipt number) client =
     record client { transactions = set_slot slot None client.transactions; receipts = set_slot slot (Some number) client.receipts }
 keep place (Cancel slot) Done client = record client { transactions = set_slot slot None client.transactions }

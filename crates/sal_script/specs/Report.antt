@@ -12,10 +12,10 @@ use Rattle.sal_rows.specs.declared.outcome.Outcome.TheVariants.{Done, Conflict, 
 use Rattle.sal_rows.specs.declared.outcome.Rule.{Rule}
 use Rattle.sal_rows.specs.declared.outcome.Rule.TheVariants.{Mandatory, MinElements, MaxElements, Unique, TwoCases}
 use Rattle.sal_rows.specs.declared.outcome.CallFault.{CallFault}
-use Rattle.sal_rows.specs.declared.outcome.CallFault.TheVariants.{HistoryFull, PipelineFull, NoDomain, PreviousOpen, ChainFailed, ChainClosed, NoMemory, TxSpent}
+use Rattle.sal_rows.specs.declared.outcome.CallFault.TheVariants.{HistoryFull, PipelineFull, NoDomain, NoListener, TooManyListeners, PreviousOpen, ChainFailed, ChainClosed, NoMemory, TxSpent}
 use Rattle.sal_history.specs.declared.call.Entry.{Entry}
 use Rattle.sal_history.specs.declared.reply.Reply.{Reply}
-use Rattle.sal_history.specs.declared.reply.Reply.TheVariants.{Begun, Chain, Accepted, Receipt, Settled, Decided, Nothing, Found, Late, Refused}
+use Rattle.sal_history.specs.declared.reply.Reply.TheVariants.{Begun, Chain, Accepted, Receipt, Settled, Decided, Nothing, Listener, Batch, Found, Late, Refused}
 use Rattle.sal_history.specs.World.{Domain, table_of}
 use Rattle.sal_history.specs.History.{history, commits, newest_tree}
 use Rattle.json.specs.Print.{quoted}
@@ -34,9 +34,10 @@ use Rattle.sal_data.specs.Written.{write_data}
 use Rattle.sal_script.specs.declared.reply.StepReply.{StepReply}
 use Rattle.sal_script.specs.declared.reply.StepReply.TheVariants as step_reply
 use Rattle.sal_script.specs.declared.reply.StepRefusal.{StepRefusal}
-use Rattle.sal_script.specs.declared.reply.StepRefusal.TheVariants.{EmptySlot, ReadOnly, BadPath, BadData, Write}
+use Rattle.sal_script.specs.declared.reply.StepRefusal.TheVariants.{EmptySlot, ReadOnly, NoDevice, BadPath, BadData, Write}
 use Rattle.sal_rules.specs.declared.fault.TxFault.{TxFault}
 use Rattle.sal_rules.specs.declared.fault.TxFault.TheVariants as tx_fault
+use Rattle.sal_script.specs.BatchData.{batch_data}
 use Rattle.sal_script.specs.Play.{Played}
 
 -- a space and a number
@@ -60,6 +61,8 @@ abbrev pub fault_text : CallFault → List ℕ
 fault_text HistoryFull = codes "history-full"
 fault_text PipelineFull = codes "pipeline-full"
 fault_text (NoDomain id) = codes "no-domain" ++ number id
+fault_text (NoListener id) = codes "no-listener" ++ number id
+fault_text TooManyListeners = codes "too-many-listeners"
 fault_text PreviousOpen = codes "previous-open"
 fault_text (ChainFailed receipt) = codes "chain-failed" ++ number receipt
 fault_text ChainClosed = codes "chain-closed"
@@ -141,9 +144,15 @@ module _ (table : SchemaTable) where
   abbrev pub refusal_text : StepRefusal → List ℕ
   refusal_text EmptySlot = codes "empty-slot"
   refusal_text ReadOnly = codes "read-only"
+  refusal_text NoDevice = codes "no-device"
   refusal_text (BadPath fault) = codes "path " ++ path_fault_text fault
   refusal_text (BadData fault) = codes "data " ++ data_fault_text fault
   refusal_text (Write fault) = tx_fault_text fault
+
+  -- a space, and the rows at a path as JSON; without a row there is nothing, but at the root an empty object
+  abbrev pub listened_text : List Step → List Row → List ℕ
+  listened_text (step ∷ path) [] = codes " absent"
+  listened_text path rows = 32 ∷ compact_text (write_data table path rows)
 
   abbrev pub call_text : Reply → List ℕ
   call_text (Begun commit on) = codes "begun" ++ (number commit ++ on_text on)
@@ -153,6 +162,8 @@ module _ (table : SchemaTable) where
   call_text (Settled domain outcome) = outcome_text outcome
   call_text (Decided receipt domain outcome) = codes "decided" ++ (number receipt ++ (32 ∷ outcome_text outcome))
   call_text Nothing = codes "nothing"
+  call_text (Listener id domain path opened) = codes "listener" ++ (number id ++ (number opened.version ++ listened_text path opened.rows))
+  call_text (Batch domain batch) = codes "batch" ++ (number batch.from ++ (number batch.to ++ (32 ∷ compact_text (batch_data table batch))))
   call_text Found = codes "found"
   call_text Late = codes "late"
   call_text (Refused fault) = codes "refused " ++ fault_text fault
@@ -167,6 +178,7 @@ module _ (table : SchemaTable) where
   reply_text step_reply.Accepted = codes "ok"
   reply_text (step_reply.Read domain path rows) = rows_text path rows
   reply_text (step_reply.Exists found) = truth_text found
+  reply_text (step_reply.Mirror domain path version rows) = codes "mirror" ++ (number version ++ listened_text path rows)
   reply_text (step_reply.Refused refusal) = codes "refused " ++ refusal_text refusal
 
 -- the line of the order: the client of each entry of the log

@@ -8,7 +8,7 @@ use Rattle.sal_rows.specs.declared.outcome.Mode.{Mode}
 use Rattle.sal_rows.specs.declared.outcome.Mode.TheVariants.{Ro, Wo, Rw}
 use Rattle.serde_json.specs.Data.{Data, object, Members, no_members}
 use Rattle.serde_json.specs.Find.{as_str, as_object, get_member}
-use Rattle.sal_script.specs.Moves.{Move, Begin, Put, Merge, Delete, Read, Exists, Submit, Cancel, Settle, OpenChain, ChainBegin, CloseChain, Pump, Mark, After}
+use Rattle.sal_script.specs.Moves.{Move, Begin, Put, Merge, Delete, Read, Exists, Submit, Cancel, Settle, OpenChain, ChainBegin, CloseChain, Pump, Listen, Take, Unlisten, Mirror, Mark, After}
 use Rattle.sal_script.specs.declared.script.TheConstants.{PLAIN}
 use Rattle.sal_script.specs.Limits.{is_short}
 use Rattle.sal_script.specs.Json.{text_eq, list_of, all_named, whole_below, data_of}
@@ -117,6 +117,21 @@ chain_step_named word parts =
     else (if text_eq word (codes "mark") then mark_step_of Mark parts
     else (if text_eq word (codes "after") then mark_step_of After parts else None)))))
 
+-- ---- steps of listeners
+
+abbrev pub listen_of : List Data → Option Move
+listen_of (l ∷ d ∷ s ∷ p ∷ []) =
+    option_and_then (λ listener. option_and_then (λ domain. option_and_then (λ store. option_map (Listen listener domain store) (as_str p)) (store_of s)) (number_of d)) (slot_of l)
+listen_of parts = None
+
+-- the step of a listener with this word, or else of a chain, a pump or of a mark
+abbrev pub listener_step_named : List ℕ → List Data → Option Move
+listener_step_named word parts =
+    if text_eq word (codes "listen") then listen_of parts
+    else (if text_eq word (codes "take") then slot_step_of Take parts
+    else (if text_eq word (codes "unlisten") then slot_step_of Unlisten parts
+    else (if text_eq word (codes "mirror") then slot_step_of Mirror parts else chain_step_named word parts)))
+
 -- ---- steps by their words
 
 -- the step with this word and these parts behind it
@@ -130,7 +145,7 @@ step_named word parts =
     else (if text_eq word (codes "exists") then place_of Exists parts
     else (if text_eq word (codes "submit") then slot_step_of Submit parts
     else (if text_eq word (codes "cancel") then slot_step_of Cancel parts
-    else (if text_eq word (codes "settle") then slot_step_of Settle parts else chain_step_named word parts))))))))
+    else (if text_eq word (codes "settle") then slot_step_of Settle parts else listener_step_named word parts))))))))
 
 abbrev pub step_from : List Data → Option Move
 step_from [] = None

@@ -10,13 +10,14 @@
 //! A client begins transactions into slots, with a mode; puts, merges and deletes at paths of either store; reads, and asks
 //! whether something is there; submits or cancels; and settles receipts. It opens transaction chains into slots of their own,
 //! begins their transactions and closes them; decides what is pending first, of whatever client; and leaves marks and looks
-//! for them. Paths are texts and values are JSON, of any kind:
-//! both are read by the schema when the step is answered, so a text that is no path is refused then, and is no fault of the
-//! script.
+//! for them. It listens to a store at a path, takes what changed there, and looks at its mirror, which follows by what was
+//! taken. Paths are texts and values are JSON, of any kind: both are read by the schema when the step is answered, so a text
+//! that is no path is refused then, and is no fault of the script.
 //!
 //! `specs/Script` says which script bytes stand for, with the steps of `specs/Moves`; `specs/Play` what a script does in an
-//! order, and `specs/Report` the text of that. `examples`, `chain_examples` and `along_examples` have worked examples, each proved by
-//! computing it. `laws` says of the values of a script that was read that each name stands once in its object, and that what they say at a
+//! order, and `specs/Report` the text of that, with the batches of listeners as JSON in `specs/BatchData`. `examples`,
+//! `chain_examples`, `listener_examples` and `along_examples` have worked examples, each proved by computing it.
+//! `laws` says of the values of a script that was read that each name stands once in its object, and that what they say at a
 //! path that was read fits the schema; and of what is played, that its log is in the order that was given and has the shared
 //! calls of each client, each once and in the client's own order (`specs/Orders`); and of what clients leave that run at the same
 //! time (`specs/Along`), that it is what the script does in one order, which its report tells (`specs/OneOrder`, `specs/SomeOrder`).
@@ -34,6 +35,8 @@ mod chain_step;
 pub mod examples;
 pub mod fault;
 pub mod laws;
+pub mod listener_examples;
+mod listener_step;
 pub mod read;
 pub mod reply;
 pub mod script;

@@ -9,10 +9,12 @@ use sal_types::Path;
 /// Why a client refused a step by itself: it made no call.
 #[derive(Drop)]
 pub enum StepRefusal {
-    /// No transaction, receipt or chain is in the slot.
+    /// No transaction, receipt, chain or listener is in the slot.
     EmptySlot,
     /// The transaction is read-only.
     ReadOnly,
+    /// The script has no such domain.
+    NoDevice,
     /// The text is no path of the schema.
     BadPath { fault: PathTextFault },
     /// The value is no data of the schema at the path.
@@ -21,7 +23,8 @@ pub enum StepRefusal {
     Write { fault: TxFault },
 }
 
-/// The answer to a step: of a shared call, what the log gives; of a local step, what the client's own transaction gives.
+/// The answer to a step: of a shared call, what the log gives; of a local step, what the client's own transaction gives, or its
+/// copy of what it listens to.
 #[derive(Drop)]
 pub enum StepReply {
     /// The answer to the shared call.
@@ -32,6 +35,13 @@ pub enum StepReply {
     Read { domain: u32, path: Path, rows: Rows },
     /// Whether a row stands at the path or below it, in the view of a transaction.
     Exists { found: bool },
+    /// What was committed at a listener's path and below it in a store of the domain, at the version that was taken last.
+    Mirror {
+        domain: u32,
+        path: Path,
+        version: u64,
+        rows: Rows,
+    },
     /// The step was refused.
     Refused { refusal: StepRefusal },
 }

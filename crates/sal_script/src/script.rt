@@ -20,8 +20,8 @@ pub const MAX_PROGRAM: usize = 60000;
 pub const PLAIN: &str =
     "module plain { namespace \"urn:plain\"; prefix p; container box {\n leaf a { type string; } leaf b { type string; } leaf c { type string; } leaf d { type string; }\n leaf e { type string; } leaf f { type string; } leaf g { type string; } leaf h { type string; } } }\n";
 
-/// One step of a client. Slots are the client's own places for transactions, for receipts and for chains, from 0 to 255. Paths
-/// and values are read by the schema when the step is answered.
+/// One step of a client. Slots are the client's own places for transactions, for receipts, for chains and for listeners, from 0
+/// to 255. Paths and values are read by the schema when the step is answered.
 #[derive(Drop)]
 pub enum ScriptStep {
     /// Begins a transaction of the domain into the slot.
@@ -92,6 +92,26 @@ pub enum ScriptStep {
     },
     /// Decides the first receipt that is pending, of whatever client.
     Pump,
+    /// Listens to a store of the domain at the path and below it; the listener goes into the listener slot.
+    Listen {
+        listener: u8,
+        domain: u32,
+        store: Store,
+        path: Str,
+    },
+    /// Takes what changed for the listener in the slot since its opening, or since what was taken last.
+    Take {
+        listener: u8,
+    },
+    /// Removes the listener in the slot; the slot keeps it.
+    Unlisten {
+        listener: u8,
+    },
+    /// Shows what the client has of the listener in the slot: what was committed at its path and below it, at the version that
+    /// was taken last.
+    Mirror {
+        listener: u8,
+    },
     /// Leaves the mark in the log.
     Mark {
         mark: u32,

@@ -6,7 +6,7 @@ ghost use Rattle.sal_script.specs.Moves as move;
 ghost use Rattle.sal_script.specs.Script.{Naming, Writing};
 ghost use Rattle.sal_script.specs.Script as spec;
 
-use crate::chain_step::chain_step_named;
+use crate::listener_step::listener_step_named;
 use crate::script::ScriptStep;
 use crate::values::{list_of, whole_below};
 use sal_rows::Mode;
@@ -50,7 +50,7 @@ fn step_named(alloc: Global, word: &str, parts: &[Value]) -> Result<Option<Scrip
         "submit" => Ok(submit_of(parts)),
         "cancel" => Ok(cancel_of(parts)),
         "settle" => Ok(settle_of(parts)),
-        _ => Ok(chain_step_named(word, parts)),
+        _ => listener_step_named(alloc, word, parts),
     }
 }
 
@@ -215,7 +215,7 @@ pub(crate) fn mode_of(value: &Value) -> Option<Mode>
     }
 }
 
-fn store_of(value: &Value) -> Option<Store>
+pub(crate) fn store_of(value: &Value) -> Option<Store>
     ensures { result ≡ spec.store_of (view value.now) }
 {
     match value.as_str()? {

@@ -1,0 +1,185 @@
+//! A listener's batch as a JSON text. Each function writes behind what stands in the text, and copies no change.
+ghost use Rattle.std.specs.Prelude.{◌≡◌, ◌∷◌, ◌++◌, IfOk, OnOk, map, option_map, string_bytes};
+ghost use Rattle.std.specs.List.{flat_map};
+ghost use Rattle.serde_json.specs.View.{view};
+ghost use Rattle.serde_json.specs.Written.{compact_text};
+ghost use Rattle.sal_schema.specs.Paths.{last_step};
+ghost use Rattle.sal_data.specs.Written.{scalar_json};
+ghost use Rattle.sal_script.specs.BatchData as spec;
+
+use crate::pieces::{push_location, push_value, push_word};
+use crate::words::candidate_word;
+use sal_json::write_scalar;
+use sal_rows::{Change, Part};
+use sal_schema::Schema;
+use sal_types::{Cell, NoMemory, Path, Step, Value};
+use serde_json::Value as Json;
+use std::alloc::Global;
+
+// The parts of a batch, as an array.
+pub(crate) fn push_parts(
+    alloc: Global,
+    text: &mut String,
+    schema: &Schema,
+    parts: &[Part],
+) -> Result<(), NoMemory>
+    ensures { OnOk result (string_bytes text.new ≡ string_bytes text.old ++ compact_text (spec.list_data (map (spec.part_data schema.now) parts.now))) }
+{
+    let [first, more @ ..] = parts else {
+        return push_word(text, "[]");
+    };
+    text.push('[')?;
+    push_part(alloc, text, schema, first)?;
+    push_more_parts(alloc, text, schema, more)?;
+    push_word(text, "]")
+}
+
+// A comma and a part, for each.
+fn push_more_parts(
+    alloc: Global,
+    text: &mut String,
+    schema: &Schema,
+    parts: &[Part],
+) -> Result<(), NoMemory>
+    ensures { OnOk result (string_bytes text.new ≡ string_bytes text.old ++ flat_map (λ part. 44 ∷ compact_text (spec.part_data schema.now part)) parts.now) }
+{
+    for part in parts {
+        text.push(',')?;
+        push_part(alloc, text, schema, part)?;
+    }
+    Ok(())
+}
+
+// What one commit changed.
+fn push_part(
+    alloc: Global,
+    text: &mut String,
+    schema: &Schema,
+    part: &Part,
+) -> Result<(), NoMemory>
+    ensures { OnOk result (string_bytes text.new ≡ string_bytes text.old ++ compact_text (spec.part_data schema.now part.now)) }
+{
+    write!(text, "[{},", part.commit)?;
+    text.push_str(candidate_word(part.kind))?;
+    text.push(',')?;
+    push_changes(alloc, text, schema, part.list.items())?;
+    push_word(text, "]")
+}
+
+// Changes, as an array.
+fn push_changes(
+    alloc: Global,
+    text: &mut String,
+    schema: &Schema,
+    changes: &[Change],
+) -> Result<(), NoMemory>
+    ensures { OnOk result (string_bytes text.new ≡ string_bytes text.old ++ compact_text (spec.list_data (map (spec.change_data schema.now) changes.now))) }
+{
+    let [first, more @ ..] = changes else {
+        return push_word(text, "[]");
+    };
+    text.push('[')?;
+    push_change(alloc, text, schema, first)?;
+    push_more_changes(alloc, text, schema, more)?;
+    push_word(text, "]")
+}
+
+// A comma and a change, for each.
+fn push_more_changes(
+    alloc: Global,
+    text: &mut String,
+    schema: &Schema,
+    changes: &[Change],
+) -> Result<(), NoMemory>
+    ensures { OnOk result (string_bytes text.new ≡ string_bytes text.old ++ flat_map (λ change. 44 ∷ compact_text (spec.change_data schema.now change)) changes.now) }
+{
+    for change in changes {
+        text.push(',')?;
+        push_change(alloc, text, schema, change)?;
+    }
+    Ok(())
+}
+
+// The path of a change, with the cells before and after it.
+fn push_change(
+    alloc: Global,
+    text: &mut String,
+    schema: &Schema,
+    change: &Change,
+) -> Result<(), NoMemory>
+    ensures { OnOk result (string_bytes text.new ≡ string_bytes text.old ++ compact_text (spec.change_data schema.now change.now)) }
+{
+    text.push('[')?;
+    push_location(alloc, text, schema, &change.path)?;
+    push_cell(alloc, text, schema, &change.path, &change.before)?;
+    push_cell(alloc, text, schema, &change.path, &change.after)?;
+    push_word(text, "]")
+}
+
+// A comma and a cell at the path.
+fn push_cell(
+    alloc: Global,
+    text: &mut String,
+    schema: &Schema,
+    path: &Path,
+    cell: &Option<Cell>,
+) -> Result<(), NoMemory>
+    ensures { OnOk result (string_bytes text.new ≡ string_bytes text.old ++ (44 ∷ compact_text (spec.cell_data schema.now path.now cell.now))) }
+{
+    match cell {
+        None => push_word(text, ",null"),
+        Some(Cell::Mark) => push_word(text, ",{}"),
+        Some(Cell::Leaf(value)) => {
+            text.push(',')?;
+            push_leaf(alloc, text, schema, path, value)
+        }
+    }
+}
+
+// The value of a leaf at the end of the path.
+fn push_leaf(
+    alloc: Global,
+    text: &mut String,
+    schema: &Schema,
+    path: &Path,
+    value: &Value,
+) -> Result<(), NoMemory>
+    ensures { OnOk result (string_bytes text.new ≡ string_bytes text.old ++ compact_text (spec.leaf_data schema.now (last_step path.now) value.now)) }
+{
+    let json = leaf_json(alloc, schema, path.steps().last(), value)?;
+    push_value(alloc, text, &json)
+}
+
+// The value of a leaf whose path ends with this step.
+fn leaf_json(
+    alloc: Global,
+    schema: &Schema,
+    step: Option<&Step>,
+    value: &Value,
+) -> Result<Json, NoMemory>
+    ensures { IfOk result (λ json. view json ≡ spec.leaf_data schema.now (option_map (λ s. s.now) step.entry) value.now) }
+{
+    match step {
+        Some(Step::Node(node)) => node_json(alloc, schema, *node, value),
+        _ => Ok(Json::Null),
+    }
+}
+
+// The value of a leaf of the schema.
+#[tactic(auto, unfolding(sal_data::specs::Written::scalar_json))]
+fn node_json(
+    alloc: Global,
+    schema: &Schema,
+    node: u32,
+    value: &Value,
+) -> Result<Json, NoMemory>
+    ensures { IfOk result (λ json. view json ≡ scalar_json schema.now node value.now) }
+{
+    if node >= schema.len() {
+        return Ok(Json::Null);
+    }
+    match schema.type_of(node) {
+        Some(ty) => write_scalar(alloc, schema, ty, schema.module_of(node), value),
+        None => Ok(Json::Null),
+    }
+}

@@ -47,6 +47,9 @@ mod failures;
 mod hub;
 mod journal;
 pub mod laws;
+mod listener;
+mod listener_calls;
+mod listeners;
 mod marks;
 mod opening;
 mod pipeline;
@@ -58,6 +61,8 @@ mod submit;
 
 pub use chain::Chain;
 pub use hub::{Hub, MAX_ENTRIES, MAX_PENDING};
+pub use listener::ListenerId;
+pub use listeners::MAX_LISTENERS;
 pub use opening::OpenFault;
 pub use receipt::Receipt;
 pub use seen::Seen;

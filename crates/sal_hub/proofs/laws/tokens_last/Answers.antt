@@ -21,5 +21,5 @@ pub returns-clause-opened : goal.returns-clause-opened
 returns-clause-opened c = λ known e chain was. (
   was.0,
   ap (λ (ds : List ℕ). slice_get ds (chain.id - 1)) (chains-push known.world known.log e)
-      ∙ slice_get_more (chain_domains (history known.world known.log)) (option_to_list (opened_chain e.call (reply_to known.world (history known.world known.log) e.call))) (chain.id - 1) chain.domain was.1,
+      ∙ slice_get_more (chain_domains (history known.world known.log)) (option_to_list (opened_chain e.call (reply_to known.world (history known.world known.log) e.client e.call))) (chain.id - 1) chain.domain was.1,
 )

@@ -1,7 +1,7 @@
 -- What is kept of listeners stays the log's with each call.
 use Rattle.std.proofs.Common.{◌≡◌, ◌⊎◌, ℕ, zero, suc, ◌+◌, ◌-◌, ◌<◌, ◌≤◌, Bool, true, false, not, cond, List, [], ◌∷◌, ◌++◌, length, map, count_by, Option, None, Some, refl, ap, sym, ◌∙◌, subst, arith, append-nil, length-append}
 use Rattle.std.specs.Prelude.{slice_get, unwrap_or, ◌||◌}
-use Rattle.std.specs.Option.{option_to_list}
+use Rattle.std.specs.Option.{option_map, option_to_list}
 use Rattle.std.proofs.lemmas.List.{length-map}
 use Rattle.std.proofs.lemmas.List.Elements.{filter_map-append}
 use Rattle.std.proofs.lemmas.List.Folds.{list_any-append}
@@ -14,13 +14,16 @@ use Rattle.sal_history.specs.declared.reply.Reply.{Reply}
 use Rattle.sal_history.specs.declared.reply.Reply.TheVariants.{Refused}
 use Rattle.sal_history.specs.World.{Domain}
 use Rattle.sal_history.specs.History.{Answered, commits, history, reply_to}
-use Rattle.sal_history.specs.Listeners.{Listening, brings_to, is_removed, listeners, listens, removes, removes_one, version}
+use Rattle.sal_history.specs.Listeners.{Listening, brings_to, is_removed, listener_at, listeners, listens, removes, removes_one, version}
 use Rattle.sal_hub.specs.declared.listener.Listener.{Listener}
+use Rattle.sal_hub.specs.declared.listener.ListenerId.{ListenerId}
 use Rattle.sal_hub.specs.declared.listeners.Listeners.{Listeners}
 use Rattle.sal_hub.specs.Known.{Known, more}
 use Rattle.sal_hub.specs.Listeners.{AreListeners, IsListened, listening_of, live_in}
+use Rattle.sal_hub.specs.Tokens.{IsListener}
 use Rattle.sal_hub.proofs.Histories.{history-push, listed, now_of}
-use Rattle.sal_hub.proofs.Keeping.{none_more, or_false}
+use Rattle.sal_hub.proofs.Keeping.{or_false}
+use Rattle.sal_hub.proofs.Listed.{slice_get_more}
 use Rattle.sal_hub.proofs.Standing.{commits-more}
 
 -- ---- calls that make, remove and tell no listener
@@ -86,6 +89,21 @@ module _ (world : List Domain) (log : List Entry) (e : Entry) where
   pub commits-grow : (n : ℕ) → length (commits (history world log) n) ≤ length (commits (history world (log ++ e ∷ [])) n)
   commits-grow n = subst (λ (answered : List Answered). length (commits before n) ≤ length (commits answered n)) (sym (history-push world log e)) (commits-more world before e n)
 
+-- ---- tokens last
+
+pub made_last : (known : Known) (e : Entry) (n : ℕ) (l : Listening) → listener_at (history known.world known.log) n ≡ Some l → listener_at (history known.world (known.log ++ e ∷ [])) n ≡ Some l
+made_last known e n l was =
+    ap (λ (xs : List Listening). slice_get xs (n - 1)) (made-push known.world known.log e)
+    ∙ slice_get_more (listeners (history known.world known.log)) (option_to_list (listens e.client e.call (reply_to known.world (history known.world known.log) e.client e.call))) (n - 1) l was
+
+pub named_last : (known : Known) (e : Entry) (id : ListenerId) → IsListener known id → IsListener (more known e) id
+named_last known e id was = (was.0, last (listener_at (history known.world known.log) id.number) refl was.1)
+  where
+    last : (o : Option Listening) → listener_at (history known.world known.log) id.number ≡ o → option_map (λ (l : Listening). l.domain) o ≡ Some id.domain
+        → option_map (λ (l : Listening). l.domain) (listener_at (history known.world (known.log ++ e ∷ [])) id.number) ≡ Some id.domain
+    last None at is = cc
+    last (Some l) at is = ap (option_map (λ (x : Listening). x.domain)) (made_last known e id.number l at) ∙ is
+
 -- ---- what is kept
 
 module _ (known : Known) (e : Entry) (ls : Listeners) (are : AreListeners known ls) where
@@ -142,5 +160,5 @@ listeners_empty world ls none unheard = record {
   each = λ i l at. let nowhere : slice_get [] i ≡ Some l = ap (λ (xs : List Listener). slice_get xs i) (sym none) ∙ at in cc;
   unmade = λ id far. refl;
   counted = unheard ∙ sym (ap live_in none);
-  all = none_more ls.live ∙ ap (λ n. n + 0) unheard;
+  all = let none : ls.live + 0 ≡ 0 = omega (arith, unheard) in none;
 }

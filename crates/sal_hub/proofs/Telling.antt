@@ -2,9 +2,10 @@
 use Rattle.std.proofs.Common.{◌≡◌, ℕ, ◌+◌, ◌-◌, ◌<◌, Bool, true, false, not, List, [], ◌∷◌, length, get_or, Option, None, Some, refl, ap, sym, ◌∙◌, subst, arith, length-append, if◌then◌else◌, nat_le}
 use Rattle.std.specs.Prelude.{slice_get}
 use Rattle.std.specs.Option.{option_map, option_map_or, option_or}
-use Rattle.std.proofs.lemmas.Option.{same_Some}
+use Rattle.std.proofs.lemmas.List.{length-map}
 use Rattle.sal_types.specs.declared.value.Store.{Store}
 use Rattle.sal_rows.specs.declared.batch.Batch.{Batch}
+use Rattle.sal_rows.specs.declared.batch.Opened.{Opened}
 use Rattle.sal_rows.specs.declared.outcome.CallFault.{CallFault}
 use Rattle.sal_rows.specs.declared.outcome.CallFault.TheVariants.{NoDomain, NoListener, TooManyListeners}
 use Rattle.sal_rows.specs.Batches.{batch, opened}
@@ -25,7 +26,7 @@ use Rattle.sal_hub.specs.declared.listener.ListenerId.{ListenerId}
 use Rattle.sal_hub.specs.declared.listener_calls.Ask.{Ask}
 use Rattle.sal_hub.specs.declared.listeners.Listeners.{Listeners}
 use Rattle.sal_hub.specs.declared.pipeline.Pipeline.{Pipeline}
-use Rattle.sal_hub.specs.Answers.{Fails, Made as IsMadeCall}
+use Rattle.sal_hub.specs.Answers.{Made as IsMadeCall}
 use Rattle.sal_hub.specs.Current.{IsKept, answers, known_of}
 use Rattle.sal_hub.specs.Domains.{IsDomain}
 use Rattle.sal_hub.specs.Journals.{Noted, jotted}
@@ -33,10 +34,11 @@ use Rattle.sal_hub.specs.Known.{Known, more}
 use Rattle.sal_hub.specs.Lines.{line_of, world_in}
 use Rattle.sal_hub.specs.Listeners.{Adds, AreListeners, batch_in, call_of, has_in, listening_of, new_of, opened_in, refusal_by}
 use Rattle.sal_hub.specs.Tokens.{IsListener}
-use Rattle.sal_hub.proofs.Heard.{has_is, listened_is, listener_is, refusal_is}
+use Rattle.sal_hub.proofs.Heard.{has_is, listened_is, made_listeners, listener_is, refusal_is}
 use Rattle.sal_hub.proofs.Listed.{slice_get_seam}
 use Rattle.sal_hub.proofs.Listened.{IsQuiet, listeners_steady, quiet_refused}
-use Rattle.sal_hub.proofs.Serving.{count_is, domain_is}
+use Rattle.sal_hub.proofs.Serving.{count_is, domain_is, domains_are, some_domain}
+use Rattle.sal_hub.proofs.Standing.{live_zero}
 
 module _ (journal : Noted) (p : Pipeline) (is : IsKept journal p) where
   abbrev w : List world.Domain
@@ -100,7 +102,7 @@ module _ (journal journal' : Noted) (p : Pipeline) (client : ℕ) (call : Call) 
 
 -- ---- the token of a new one
 
-module _ (known : Known) (ls ls' : Listeners) (are : AreListeners known ls') (ask : Ask) (version : ℕ) (adds : Adds ls (new_of ask version) ls') (id : ListenerId) (number : id.number ≡ length ls'.list.items) (domain : id.domain ≡ ask.domain) where
+module _ (known : Known) (ls ls' : Listeners) (are : AreListeners known ls') (ask : Ask) (version : ℕ) (adds : Adds ls (new_of ask version) ls') (id : ListenerId) (number : id.number ≡ length ls'.list.items) where
   long : length ls'.list.items ≡ length ls.list.items + 1
   long = ap length adds.list ∙ length-append ls.list.items (new_of ask version ∷ [])
 
@@ -110,16 +112,49 @@ module _ (known : Known) (ls ls' : Listeners) (are : AreListeners known ls') (as
       listener_is known ls' are id.number (new_of ask version)
       (ap (λ n. slice_get ls'.list.items n) place ∙ ap (λ (xs : List Listener). slice_get xs (length ls.list.items)) adds.list ∙ slice_get_seam ls.list.items (new_of ask version) [])
 
-  pub given_token : IsListener known id
-  given_token = (omega (arith, number, long), ap (option_map (λ (l : Listening). l.domain)) given_made ∙ ap Some (sym domain))
+  pub given_token : id.domain ≡ ask.domain → IsListener known id
+  given_token domain = (omega (arith, number, long), ap (option_map (λ (l : Listening). l.domain)) given_made ∙ ap Some (sym domain))
 
--- ---- why a listener is not made
+-- ---- a listener that is made
 
-module _ (old new : Known) (e : Entry) where
-  pub fails_by : (domain live : ℕ) (f : CallFault) → refusal_by domain live ≡ Some f → IsMadeCall old new e (Refused f) → Fails old new e f
-  fails_by domain live f = by (not (is_live domain)) (nat_le 256 live)
-    where
-      by : (dead full : Bool) → option_or (fault_if dead (NoDomain domain)) (fault_if full TooManyListeners) ≡ Some f → IsMadeCall old new e (Refused f) → Fails old new e f
-      by true full is made = let same : NoDomain domain ≡ f = same_Some (NoDomain domain) f is in subst (Fails old new e) same (subst (λ g. IsMadeCall old new e (Refused g)) (sym same) made)
-      by false true is made = let same : TooManyListeners ≡ f = same_Some TooManyListeners f is in subst (Fails old new e) same (subst (λ g. IsMadeCall old new e (Refused g)) (sym same) made)
-      by false false is made = cc
+open_live : (b : Bool) (f : CallFault) (o : Option CallFault) → option_or (fault_if (not b) f) o ≡ None → b ≡ true
+open_live true f o e = refl
+open_live false f o e = cc
+
+module _ (journal journal' : Noted) (p : Pipeline) (is : IsKept journal p) (ls ls' : Listeners) (are : AreListeners (known_of journal p) ls) (ask : Ask) (log : journal'.log ≡ jotted journal.log ask.client (call_of ask)) where
+  abbrev before : List Answered
+  before = answers journal.log (line_of p)
+
+  pub unmade_listeners : (f : CallFault) → refusal_by ask.domain ls.live ≡ Some f → AreListeners (known_of journal' p) ls
+  unmade_listeners f why =
+      refused_listeners journal journal' p ask.client (call_of ask) log ls f are (refused_reply journal p is ask f (sym (refusal_is (known_of journal p) ls are ask.domain) ∙ why))
+
+  module _ (allowed : refusal_by ask.domain ls.live ≡ None) (d : Domain) (at : d ≡ get_or p.domains.items ask.domain d) (o : Opened) (stands : o ≡ opened_in d ask) (adds : Adds ls (new_of ask o.version) ls') where
+    within : ask.domain < length p.domains.items
+    within =
+        let zeroth : ask.domain ≡ 0 = live_zero ask.domain (open_live (is_live ask.domain) (NoDomain ask.domain) (fault_if (nat_le 256 ls.live) TooManyListeners) allowed) in
+        omega (arith, zeroth, some_domain journal p is)
+
+    reply_now : reply_to (world_in (line_of p).domains) before ask.client (call_of ask) ≡ Made (length (listeners before) + 1) ask.domain ask.path.now o
+    reply_now =
+        opened_reply journal p is ask d within at (sym (refusal_is (known_of journal p) ls are ask.domain) ∙ allowed)
+        ∙ ap (λ (x : Opened). Made (length (listeners before) + 1) ask.domain ask.path.now x) (sym stands)
+
+    pub opened_listeners : AreListeners (known_of journal' p) ls'
+    opened_listeners =
+        let there : ask.domain < length (known_of journal p).world = omega (arith, within, (domains_are journal p is).all) in
+        let newest : o.version ≡ length (commits before ask.domain) = ap (λ (x : Opened). x.version) stands ∙ count_is journal p is ask.domain d within at in
+        subst (λ known. AreListeners known ls') (sym (with_next journal journal' p ask.client (call_of ask) log))
+        (made_listeners (known_of journal p) ls are ask (entries_of journal.log ask.client) o reply_now there (omega (arith, newest)) ls' adds)
+
+    module _ (id : ListenerId) (number : id.number ≡ length ls'.list.items) where
+      pub opened_answer : length journal.log < 1000000 → IsMadeCall (known_of journal p) (known_of journal' p) (record { client = ask.client; number = entries_of journal.log ask.client; call = call_of ask }) (Made id.number ask.domain ask.path.now o)
+      opened_answer room =
+          let last : length (listeners before) + 1 ≡ id.number = omega (arith, number, ap length adds.list, length-append ls.list.items (new_of ask o.version ∷ []), ap length are.made, length-map ls.list.items listening_of) in
+          record { room = room; log = with_next journal journal' p ask.client (call_of ask) log; reply = reply_now ∙ ap (λ n. Made n ask.domain ask.path.now o) last }
+
+      pub opened_made : listener_at (answers journal'.log (line_of p)) id.number ≡ Some (record { client = ask.client; domain = ask.domain; store = ask.store; path = ask.path.now })
+      opened_made = given_made (known_of journal' p) ls ls' opened_listeners ask o.version adds id number
+
+      pub opened_token : id.domain ≡ ask.domain → IsListener (known_of journal' p) id
+      opened_token domain = given_token (known_of journal' p) ls ls' opened_listeners ask o.version adds id number domain

@@ -24,6 +24,7 @@ use sal_types::{Duplicate, NoMemory, Path, Store};
 use std::alloc::Global;
 
 /// What a client asks to listen to.
+#[derive(Clone, Copy)]
 pub(crate) struct Ask<'a> {
     pub(crate) client: u32,
     pub(crate) domain: u32,

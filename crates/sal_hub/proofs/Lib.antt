@@ -16,5 +16,6 @@ pub mod Settling
 pub mod Standing
 pub mod Starting
 pub mod Submitting
+pub mod Taking
 pub mod Telling
 pub mod Wholes

@@ -18,20 +18,20 @@ has-requires-clause-high c =
     let high : c.args.id.number ≤ length c.args.self.now.list.items = number_within (known_of c.args.journal.now c.args.pipeline.now) c.args.self.now c.requires.listeners c.args.id c.requires.token in
     omega (arith, high, c.number-number.ensures)
 
-pub returns-in-Ok-clause-kept : goal.returns-in-Ok-clause-kept
-returns-in-Ok-clause-kept c =
+pub returns-then-not-has-clause-kept : goal.returns-then-not-has-clause-kept
+returns-then-not-has-clause-kept c =
     quiet_kept c.args.journal.now c.add.new.self c.args.pipeline.now c.requires.kept c.args.client (Unlisten c.number-number.result) c.in-Ok.ensures.log refl refl (λ k. refl) refl c.in-Ok.ensures.marks
 
-pub returns-in-Ok-clause-listeners : goal.returns-in-Ok-clause-listeners
-returns-in-Ok-clause-listeners c =
+pub returns-then-not-has-clause-listeners : goal.returns-then-not-has-clause-listeners
+returns-then-not-has-clause-listeners c =
     let j = c.args.journal.now in
     let ls = c.args.self.now in
     let log : c.add.new.self.log ≡ jotted j.log c.args.client (Unlisten c.args.id.number) = c.in-Ok.ensures.log ∙ ap (λ n. jotted j.log c.args.client (Unlisten n)) c.number-number.ensures in
     let gone : has_in ls.list.items c.args.client (c.args.id.number - 1) ≡ false = ap (λ n. has_in ls.list.items c.args.client (n - 1)) (sym c.number-number.ensures) ∙ sym c.has.ensures ∙ c.if-not-has.true in
     ungone_listeners j c.add.new.self c.args.pipeline.now c.requires.kept ls ls c.requires.listeners c.args.client c.args.id c.requires.token log gone
 
-pub returns-in-Ok-clause-answer : goal.returns-in-Ok-clause-answer
-returns-in-Ok-clause-answer c =
+pub returns-then-not-has-clause-answer : goal.returns-then-not-has-clause-answer
+returns-then-not-has-clause-answer c =
     let j = c.args.journal.now in
     let p = c.args.pipeline.now in
     let ls = c.args.self.now in
@@ -49,25 +49,25 @@ pub take_out-requires-clause-some : goal.take_out-requires-clause-some
 take_out-requires-clause-some c =
     let ls = c.args.self.now in
     let own : has_in ls.list.items c.args.client (c.args.id.number - 1) ≡ true = ap (λ n. has_in ls.list.items c.args.client (n - 1)) (sym c.number-number.ensures) ∙ sym c.has.ensures ∙ c.if-not-has.false in
-    live_now c.args.journal.now c.add-2.new.self c.args.pipeline.now c.requires.kept ls ls c.requires.listeners c.args.client c.args.id c.requires.token own
+    live_now c.args.journal.now c.add.new.self c.args.pipeline.now c.requires.kept ls ls c.requires.listeners c.args.client c.args.id c.requires.token own
 
 pub returns-clause-kept : goal.returns-clause-kept
 returns-clause-kept c =
-    quiet_kept c.args.journal.now c.add-2.new.self c.args.pipeline.now c.requires.kept c.args.client (Unlisten c.number-number.result) c.in-Ok-add.ensures.log refl refl (λ k. refl) refl c.in-Ok-add.ensures.marks
+    quiet_kept c.args.journal.now c.add.new.self c.args.pipeline.now c.requires.kept c.args.client (Unlisten c.number-number.result) c.in-Ok.ensures.log refl refl (λ k. refl) refl c.in-Ok.ensures.marks
 
 pub returns-clause-listeners : goal.returns-clause-listeners
 returns-clause-listeners c =
     let j = c.args.journal.now in
     let ls = c.args.self.now in
-    let log : c.add-2.new.self.log ≡ jotted j.log c.args.client (Unlisten c.args.id.number) = c.in-Ok-add.ensures.log ∙ ap (λ n. jotted j.log c.args.client (Unlisten n)) c.number-number.ensures in
+    let log : c.add.new.self.log ≡ jotted j.log c.args.client (Unlisten c.args.id.number) = c.in-Ok.ensures.log ∙ ap (λ n. jotted j.log c.args.client (Unlisten n)) c.number-number.ensures in
     let own : has_in ls.list.items c.args.client (c.args.id.number - 1) ≡ true = ap (λ n. has_in ls.list.items c.args.client (n - 1)) (sym c.number-number.ensures) ∙ sym c.has.ensures ∙ c.if-not-has.false in
-    gone_now j c.add-2.new.self c.args.pipeline.now c.requires.kept ls c.take_out.new.self c.requires.listeners c.args.client c.args.id c.requires.token log own
+    gone_now j c.add.new.self c.args.pipeline.now c.requires.kept ls c.take_out.new.self c.requires.listeners c.args.client c.args.id c.requires.token log own
     (subst (λ n. Removes ls (n - 1) c.take_out.new.self) c.number-number.ensures c.take_out.ensures)
 
 pub returns-clause-answer : goal.returns-clause-answer
 returns-clause-answer c =
     let j = c.args.journal.now in
     let ls = c.args.self.now in
-    let log : c.add-2.new.self.log ≡ jotted j.log c.args.client (Unlisten c.args.id.number) = c.in-Ok-add.ensures.log ∙ ap (λ n. jotted j.log c.args.client (Unlisten n)) c.number-number.ensures in
+    let log : c.add.new.self.log ≡ jotted j.log c.args.client (Unlisten c.args.id.number) = c.in-Ok.ensures.log ∙ ap (λ n. jotted j.log c.args.client (Unlisten n)) c.number-number.ensures in
     let own : has_in ls.list.items c.args.client (c.args.id.number - 1) ≡ true = ap (λ n. has_in ls.list.items c.args.client (n - 1)) (sym c.number-number.ensures) ∙ sym c.has.ensures ∙ c.if-not-has.false in
-    gone_answer j c.add-2.new.self c.args.pipeline.now c.requires.kept ls ls c.requires.listeners c.args.client c.args.id c.requires.token log own c.requires.room
+    gone_answer j c.add.new.self c.args.pipeline.now c.requires.kept ls ls c.requires.listeners c.args.client c.args.id c.requires.token log own c.requires.room

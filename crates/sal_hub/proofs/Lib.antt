@@ -8,6 +8,7 @@ pub mod Keeping
 pub mod Listed
 pub mod Members
 pub mod Noted
+pub mod Numbered
 pub mod OpenedDevices
 pub mod Serving
 pub mod Settling

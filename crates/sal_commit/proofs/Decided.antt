@@ -2,7 +2,7 @@
 use Rattle.std.proofs.Common.{◌≡◌, ℕ, ◌+◌, ◌-◌, ◌≤◌, List, [], ◌∷◌, ◌++◌, length, get_or, Option, None, Some, refl, ap, sym, subst, ◌∙◌, ◌⊎◌, inl, inr, arith}
 use Rattle.std.specs.Prelude.{unwrap_or}
 use Rattle.std.specs.Option.{option_map, option_or}
-use Rattle.std.proofs.lemmas.List.{get_or_default}
+use Rattle.std.proofs.lemmas.List.{get_or_default, map-append}
 use Rattle.sal_types.specs.declared.value.Store.{Store}
 use Rattle.sal_types.specs.declared.value.Store.TheVariants.{Config, Oper}
 use Rattle.sal_types.specs.declared.row.Row.{Row}
@@ -27,15 +27,17 @@ use Rattle.sal_commit.specs.Attempts.{IsAttempt}
 use Rattle.sal_commit.specs.Domains.{IsSame}
 use Rattle.sal_commit.specs.Deciding.{IsNext, Decides, breached, decide, invalid, refused}
 use Rattle.sal_commit.specs.Sound.{BreakNone}
+use Rattle.sal_commit.specs.Stamps.{CanFollow, receipts_of}
 
 -- ---- canCommit and preCommit
 
 -- the domain and the submission go through unchanged
 pub prepare-made : (failed : Option ℕ) (d e : Domain) (sub t : Submission) (p : Prepared) → t ≡ sub → e ≡ d → refused failed d sub ≡ None → IsNext e t p.commit × (breached e t ≡ None)
-    → IsAttempt failed d sub (Made p)
-prepare-made failed d e sub t p same is none next = (
+    → CanFollow e.commits.items p.commit → IsAttempt failed d sub (Made p)
+prepare-made failed d e sub t p same is none next follows = (
   ap (λ o. option_or o (breached d sub)) none ∙ (λ i. breached (sym is i) (sym same i)) ∙ next.1,
   subst (λ x. IsNext d x p.commit) same (subst (λ x. IsNext x t p.commit) is next.0),
+  subst (λ (x : Domain). CanFollow x.commits.items p.commit) is follows,
 )
 
 pub prepare-refused : (failed : Option ℕ) (d e : Domain) (sub t : Submission) (fault : PreFault) (outcome : Outcome) → t ≡ sub → e ≡ d → refused failed d sub ≡ None → fault ≡ Invalid outcome
@@ -104,6 +106,7 @@ module _ (old : Domain) (sub : Submission) (next : Commit) (are : AreKept old.co
     opening = ap opening_in pushed ∙ (λ i s. opening_in-push old.commits.items next s are.opened i);
     commits = ap ops_of pushed ∙ ops_of-push old.commits.items next are.opened ∙ ap (λ ops. ops_of old.commits.items ++ ops ∷ []) is.ops;
     chains = ap chains_of pushed ∙ chains_of-push old.commits.items next are.opened ∙ ap (λ chain. chains_of old.commits.items ++ chain ∷ []) is.chain;
+    receipts = ap receipts_of pushed ∙ map-append (λ (c : Commit). c.receipt) old.commits.items (next ∷ []) ∙ ap (λ receipt. receipts_of old.commits.items ++ receipt ∷ []) is.receipt;
   }
 
 pub IsSame-trans : (old new newest : Domain) → IsSame old new → IsSame new newest → IsSame old newest

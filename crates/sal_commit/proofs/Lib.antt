@@ -1,3 +1,4 @@
+pub mod Agreeing
 pub mod Applying
 pub mod Decided
 pub mod Sounds

@@ -21,6 +21,7 @@ use Rattle.sal_history.specs.Outcome as outcome
 use Rattle.sal_history.specs.Submissions.{if_done}
 use Rattle.sal_commit.specs.declared.domain.Domain.{Domain}
 use Rattle.sal_commit.specs.Domains.{IsSame}
+use Rattle.sal_commit.specs.Stamps.{receipts_of}
 
 -- the rows of each operation lie at and below its path
 abbrev pub LieBelow : List Op → Type 0
@@ -79,3 +80,4 @@ pub record Decides (old : Domain) (sub : Submission) (outcome : Outcome) (new : 
   pub opening : opening_in new.commits.items ≡ opening_in old.commits.items
   pub commits : ops_of new.commits.items ≡ ops_of old.commits.items ++ if_done outcome sub.changes
   pub chains : chains_of new.commits.items ≡ chains_of old.commits.items ++ if_done outcome sub.chain
+  pub receipts : receipts_of new.commits.items ≡ receipts_of old.commits.items ++ if_done outcome sub.receipt

@@ -3,3 +3,4 @@ pub mod Deciding
 pub mod Domains
 pub mod Opening
 pub mod Sound
+pub mod Stamps

@@ -2,6 +2,7 @@
 ghost use Rattle.std.specs.Prelude.{◌≡◌, IfOk, OnErr};
 ghost use Rattle.sal_commit.specs.Deciding as spec;
 ghost use Rattle.sal_commit.specs.Domains.{IsSame};
+ghost use Rattle.sal_commit.specs.Stamps.{IsNewStamp};
 ghost use Rattle.sal_commit.specs.Attempts.{IsAttempt};
 
 use crate::domain::Domain;
@@ -13,7 +14,8 @@ use std::alloc::Global;
 
 /// Decides the submission at the newest commit of its domain: the outcome, and where it is done the next commit with both
 /// trees. Where its chain has failed, by the receipt `failed`, that is the outcome. Nodes that it touches get the stamp
-/// `fresh`. After want of memory the domain has the commits that it had.
+/// `fresh`, that of its receipt, which is greater than the newest commit's. After want of memory the domain has the commits
+/// that it had.
 pub fn decide(
     alloc: Global,
     sub: &Submission,
@@ -21,7 +23,8 @@ pub fn decide(
     failed: Option<u64>,
     fresh: u64,
 ) -> Result<Outcome, NoMemory>
-    requires { spec.IsFor domain.old sub.now }
+    requires given { spec.IsFor domain.old sub.now }
+    requires fresh { IsNewStamp domain.old.commits.items sub.now.receipt fresh }
     ensures outcome { IfOk result (λ o. o ≡ spec.decide failed domain.old sub.now) }
     ensures decided { IfOk result (λ o. spec.Decides domain.old sub.now o domain.new) }
     ensures same { OnErr result (IsSame domain.old domain.new) }
@@ -50,7 +53,8 @@ fn prepare(
     failed: Option<u64>,
     fresh: u64,
 ) -> Result<Attempt, NoMemory>
-    requires { spec.IsFor domain.now sub.now }
+    requires given { spec.IsFor domain.now sub.now }
+    requires fresh { IsNewStamp domain.now.commits.items sub.now.receipt fresh }
     ensures { IfOk result (IsAttempt failed domain.now sub.now) }
 {
     let ready = match can(alloc, sub, domain, failed) {

@@ -1,8 +1,12 @@
 //! A domain with its commits.
-ghost use Rattle.std.specs.Prelude.{◌≡◌, ◌+◌, ◌<◌, [], None, IfOk, MatchResult, OnOk, length, take};
+ghost use Rattle.std.specs.Prelude.{◌≡◌, ◌+◌, ◌<◌, [], ◌∷◌, None, IfOk, MatchResult, OnOk, length, take};
+ghost use Rattle.std.specs.Coded.{codes};
+ghost use Rattle.sal_node.specs.Code.{tree_code};
 ghost use Rattle.sal_graft.specs.Kept.{AreKept, chains_of, opening_in, ops_of};
+ghost use Rattle.sal_delta.specs.Agreed.{AreAgreed};
 ghost use Rattle.sal_commit.specs.Opening.{fault_of, IsFaultOf, opening_of_device};
 ghost use Rattle.sal_commit.specs.Sound.{AreSound};
+ghost use Rattle.sal_commit.specs.Stamps.{AreStamped, receipts_of};
 
 use crate::fault::DomainFault;
 use crate::opening::{first_commits, sound_trees};
@@ -15,7 +19,8 @@ use std::alloc::Global;
 use std::sync::Arc;
 
 /// A domain: a pair of stores with one schema, and its commits from the opening on. Commit `k` stands at index `k`. No
-/// tree of a commit breaks a structural rule.
+/// tree of a commit breaks a structural rule. Where nodes of a commit and of the next one have one path and one stamp, they
+/// are the same.
 #[derive(Drop)]
 pub struct Domain {
     pub number: u32,
@@ -26,6 +31,8 @@ pub struct Domain {
     pub(crate) plan: Plan,
     pub ghost planned: { plan.schema.value ≡ schema.value },
     pub ghost sound: { AreSound schema.value commits.items },
+    pub ghost agreed: { AreAgreed commits.items } by { Prim.hlevel (codes, tree_code) },
+    pub ghost stamped: { AreStamped commits.items },
 }
 
 impl Domain {
@@ -43,6 +50,7 @@ impl Domain {
         ensures kept { IfOk result (λ d. AreKept d.commits.items) }
         ensures commits { IfOk result (λ d. ops_of d.commits.items ≡ []) }
         ensures chains { IfOk result (λ d. chains_of d.commits.items ≡ []) }
+        ensures receipts { IfOk result (λ d. receipts_of d.commits.items ≡ 0 ∷ []) }
         ensures opening { IfOk result (λ d. opening_in d.commits.items ≡ opening_of_device device.now) }
         ensures fault { MatchResult result (λ _. fault_of device.now ≡ None) (IsFaultOf device.now) }
     {

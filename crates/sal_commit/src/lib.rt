@@ -2,7 +2,7 @@
 //!
 //! | item | what it is |
 //! |---|---|
-//! | `Domain` | a domain: its number, its schema and its commits, the opening first; no tree of a commit breaks a structural rule |
+//! | `Domain` | a domain: its number, its schema and its commits, the opening first; no tree of a commit breaks a structural rule, and the trees of neighbours agree by their stamps |
 //! | `DomainFault` | why a domain is not opened |
 //! | `can` | whether a submission's chain has failed, or it conflicts with the foreign commits after its base |
 //! | `pre` | both trees after the submission, where they break no structural rule |
@@ -15,7 +15,8 @@
 //! foreign where it is not of the submission's own chain; all are to a submission of none. `pre` takes the memory of the
 //! new commit and changes nothing; `publish` takes none, so it changes both stores, or, where it is not reached, neither.
 //!
-//! `specs/` says which commits break no rule and what a change keeps of the newest trees (`Sound`), what opens a domain
+//! `specs/` says which commits break no rule and what a change keeps of the newest trees (`Sound`), which stamps commits give
+//! and what may follow them (`Stamps`), what opens a domain
 //! (`Opening`), what stays of one (`Domains`), what each phase gives and what a decision leaves (`Deciding`), and what `can`
 //! and `pre` come to together (`Attempts`).
 //!

@@ -1,11 +1,13 @@
 //! The opening trees of a device.
-ghost use Rattle.std.specs.Prelude.{◌≡◌, [], IfOk, MatchResult, None};
+ghost use Rattle.std.specs.Prelude.{◌≡◌, [], ◌∷◌, IfOk, MatchResult, None};
 ghost use Rattle.sal_types.specs.declared.value.Store.{Store as Of};
 ghost use Rattle.sal_schema.specs.declared.table.SchemaTable.{SchemaTable as Table};
 ghost use Rattle.sal_tree.specs.Rows.{rows_of};
 ghost use Rattle.sal_graft.specs.Kept.{AreKept, chains_of, opening_in, ops_of, rows_in};
+ghost use Rattle.sal_delta.specs.Agreed.{AreAgreed};
 ghost use Rattle.sal_commit.specs.Opening as spec;
 ghost use Rattle.sal_commit.specs.Sound.{AreSound, BreakNone};
+ghost use Rattle.sal_commit.specs.Stamps.{AreStamped, BothUpTo, receipts_of};
 
 use crate::fault::DomainFault;
 use sal_check::{Plan, check_by};
@@ -19,6 +21,7 @@ use std::sync::Arc;
 pub(crate) fn sound_trees(alloc: Global, device: &Device, plan: &Plan) -> Result<Pair, DomainFault>
     requires { plan.now.schema.value ≡ device.now.schema.value }
     ensures trees { IfOk result (λ pair. rows_in pair ≡ spec.opening_of_device device.now) }
+    ensures stamps { IfOk result (BothUpTo 1) }
     ensures fault { MatchResult result (λ _. spec.fault_of device.now ≡ None) (spec.IsFaultOf device.now) }
 {
     let trees = opened(alloc, device)?;
@@ -29,7 +32,8 @@ pub(crate) fn sound_trees(alloc: Global, device: &Device, plan: &Plan) -> Result
 }
 
 fn opened(alloc: Global, device: &Device) -> Result<Pair, NoMemory>
-    ensures { IfOk result (λ pair. rows_in pair ≡ spec.opening_of_device device.now) }
+    ensures trees { IfOk result (λ pair. rows_in pair ≡ spec.opening_of_device device.now) }
+    ensures stamps { IfOk result (BothUpTo 1) }
 {
     let config = Root::from_rows(alloc, &device.opening.config, 0)?;
     let oper = Root::from_rows(alloc, &device.opening.oper, 0)?;
@@ -66,8 +70,11 @@ pub(crate) fn first_commits(alloc: Global, trees: Pair) -> Result<Vec<Commit>, N
     ensures kept { IfOk result (λ v. AreKept v.items) }
     ensures ops { IfOk result (λ v. ops_of v.items ≡ []) }
     ensures chains { IfOk result (λ v. chains_of v.items ≡ []) }
+    ensures receipts { IfOk result (λ v. receipts_of v.items ≡ 0 ∷ []) }
     ensures opening { IfOk result (λ v. (s : Of) → opening_in v.items s ≡ rows_in trees s) }
     ensures sound { IfOk result (λ v. (table : Table) → BreakNone table trees → AreSound table v.items) }
+    ensures agreed { IfOk result (λ v. AreAgreed v.items) }
+    ensures stamped { IfOk result (λ v. BothUpTo 1 trees → AreStamped v.items) }
 {
     let opening = Commit {
         number: 0,

@@ -6,6 +6,7 @@ ghost use Rattle.sal_graft.specs.Kept.{AreKept};
 ghost use Rattle.sal_commit.specs.Deciding as spec;
 ghost use Rattle.sal_commit.specs.Domains.{IsSame, is_roomy};
 ghost use Rattle.sal_commit.specs.Sound.{BreakNone};
+ghost use Rattle.sal_commit.specs.Stamps.{CanFollow, IsNewStamp};
 
 use crate::clashing::conflict_in;
 use crate::domain::Domain;
@@ -97,10 +98,13 @@ pub fn can<'a>(
 }
 
 /// preCommit: both trees after the submission, where they break no structural rule. Nodes that it touches get the stamp
-/// `fresh`. It takes all memory of the decision, and changes nothing.
+/// `fresh`, that of its receipt, which is greater than the newest commit's. It takes all memory of the decision, and changes
+/// nothing.
 pub fn pre(alloc: Global, ready: Ready, fresh: u64) -> Result<Prepared, PreFault>
-    requires { spec.IsFor ready.domain.now ready.sub.now }
-    ensures { MatchResult result
+    requires given { spec.IsFor ready.domain.now ready.sub.now }
+    requires fresh { IsNewStamp ready.domain.now.commits.items ready.sub.now.receipt fresh }
+    ensures follows { IfOk result (λ prepared. CanFollow ready.entry.domain.now.commits.items prepared.commit) }
+    ensures outcome { MatchResult result
         (λ prepared. spec.IsNext ready.entry.domain.now ready.entry.sub.now prepared.commit × (spec.breached ready.entry.domain.now ready.entry.sub.now ≡ None))
         (λ fault. (fault ≡ PreFault.NoMemory) ⊎ ((o : Decided) × (fault ≡ PreFault.Invalid o) × (spec.breached ready.entry.domain.now ready.entry.sub.now ≡ Some o))) }
 {
@@ -148,10 +152,11 @@ fn copied(alloc: Global, ops: &[Op]) -> Result<Ops, NoMemory>
 
 /// commit: the prepared commit is the domain's newest one, with both its trees. It takes no memory.
 ///
-/// The commit was prepared for the domain: its trees break no rule of the domain's schema.
+/// The commit was prepared for the domain: its trees break no rule of the domain's schema, and agree with the newest ones.
 pub fn publish(prepared: Prepared, domain: &mut Domain) -> Outcome
     requires room { is_roomy domain.old }
     requires sound { BreakNone domain.old.schema.value prepared.commit.trees }
+    requires follows { CanFollow domain.old.commits.items prepared.commit }
     ensures outcome { result ≡ Done prepared.commit.number }
     ensures same { IsSame domain.old domain.new }
     ensures commits { domain.new.commits.items ≡ domain.old.commits.items ++ prepared.commit ∷ [] }

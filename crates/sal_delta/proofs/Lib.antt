@@ -1,5 +1,5 @@
 mod ByOps
-mod Exact
+pub mod Exact
 mod Merges
 mod Nexts
 mod InOrder

@@ -1,3 +1,4 @@
+pub mod Agreed
 pub mod ByOps
 pub mod Laws
 pub mod Merge

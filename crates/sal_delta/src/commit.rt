@@ -15,6 +15,7 @@ use sal_types::{NoMemory, Path, Row, Seq, Store};
 use std::alloc::Global;
 
 /// A commit of one store: the trees before it and after it, and its operations.
+#[derive(Drop)]
 pub struct StoreCommit<'a> {
     pub before: &'a Root,
     pub after: &'a Root,

@@ -46,22 +46,22 @@ module _ (journal journal' : Noted) (p : Pipeline) (is : IsKept journal p) (clie
   entry = record { client = client; number = entries_of journal.log client; call = call }
 
   -- one that submits, decides, spends and opens nothing
-  pub quiet_kept : sent_by (answers journal.log (line_of p)) call (reply_to (world_in (line_of p).domains) (answers journal.log (line_of p)) call) ≡ None
+  pub quiet_kept : sent_by (answers journal.log (line_of p)) call (reply_to (world_in (line_of p).domains) (answers journal.log (line_of p)) client call) ≡ None
       → decided_by (world_in (line_of p).domains) (answers journal.log (line_of p)) call ≡ []
-      → ((k : ℕ) → spends call (reply_to (world_in (line_of p).domains) (answers journal.log (line_of p)) call) k ≡ false)
-      → opened_chain call (reply_to (world_in (line_of p).domains) (answers journal.log (line_of p)) call) ≡ None
+      → ((k : ℕ) → spends call (reply_to (world_in (line_of p).domains) (answers journal.log (line_of p)) client call) k ≡ false)
+      → opened_chain call (reply_to (world_in (line_of p).domains) (answers journal.log (line_of p)) client call) ≡ None
       → ((k : ℕ) → mark_at journal'.marks k ≡ mark_at journal.marks k) → IsKept journal' p
   quiet_kept none nothing unspent unopened marks = record {
     kept = is.kept;
     current = subst (λ (l : List Entry). IsCurrent l journal'.marks (line_of p)) (sym log) (quiet journal.log journal.marks (line_of p) is.current entry journal'.marks none nothing unspent marks unopened);
   }
 
-  pub made_now : (r : Reply) → length journal.log < 1000000 → reply_to (world_in (line_of p).domains) (answers journal.log (line_of p)) call ≡ r → Made (known_of journal p) (known_of journal' p) (record { client = client; number = entries_of journal.log client; call = call }) r
+  pub made_now : (r : Reply) → length journal.log < 1000000 → reply_to (world_in (line_of p).domains) (answers journal.log (line_of p)) client call ≡ r → Made (known_of journal p) (known_of journal' p) (record { client = client; number = entries_of journal.log client; call = call }) r
   made_now r room reply = record { room = room; log = λ i. record { world = w; log = log i }; reply = reply }
 
   -- the transaction that it begins
   pub token_now : (begun : Token) (base : Pair) → begun.place ≡ length journal.log
-      → began_by (world_in (line_of p).domains) (answers journal.log (line_of p)) call (reply_to (world_in (line_of p).domains) (answers journal.log (line_of p)) call) ≡ Some (record { domain = begun.domain; commit = begun.base_commit; chain = begun.chain; trees = rows_in base })
+      → began_by (world_in (line_of p).domains) (answers journal.log (line_of p)) call (reply_to (world_in (line_of p).domains) (answers journal.log (line_of p)) client call) ≡ Some (record { domain = begun.domain; commit = begun.base_commit; chain = begun.chain; trees = rows_in base })
       → begun.schema.value ≡ world.table_of (world_in (line_of p).domains) begun.domain → IsBegun (known_of journal' p) begun base
   token_now begun base place began schema = record {
     before = omega (arith, place, ap length log, length-append journal.log (entry ∷ []));
@@ -117,7 +117,7 @@ module _ (journal journal' : Noted) (p : Pipeline) (is : IsKept journal p) (clie
     commit : (begun_of tx).base_commit ≡ length (commits so_far domain)
     commit = starts.commit ∙ newest_commit journal p is domain d at footing newest
 
-    reply_live : reply_to there so_far (Begin domain mode) ≡ Begun (length (commits so_far domain)) None
+    reply_live : reply_to there so_far client (Begin domain mode) ≡ Begun (length (commits so_far domain)) None
     reply_live = ap (λ b. if b then Begun (length (commits so_far domain)) None else Refused (NoDomain domain)) live
 
     trees : (s : Store) → rows_in (base_of tx) s ≡ trees_of there so_far domain s
@@ -130,5 +130,5 @@ module _ (journal journal' : Noted) (p : Pipeline) (is : IsKept journal p) (clie
         ∙ (λ i. Some (let b : Base = record { domain = sym number i; commit = sym commit i; chain = sym starts.chain i; trees = λ s. sym (trees s) i } in b)))
         (starts.schema ∙ schema_is journal p is domain d at footing newest ∙ ap (world.table_of there) (sym number))
 
-    pub begin_reply : reply_to (world_in (line_of p).domains) (answers journal.log (line_of p)) (Begin domain mode) ≡ Begun (begun_of tx).base_commit (begun_of tx).on
+    pub begin_reply : reply_to (world_in (line_of p).domains) (answers journal.log (line_of p)) client (Begin domain mode) ≡ Begun (begun_of tx).base_commit (begun_of tx).on
     begin_reply = reply_live ∙ (λ i. Begun (sym commit i) (sym (starts.on ∙ newest.alone) i))

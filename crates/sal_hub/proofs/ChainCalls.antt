@@ -64,10 +64,10 @@ module _ (journal journal' : Noted) (p : Pipeline) (is : IsKept journal p) (clie
   entry = record { client = client; number = entries_of journal.log client; call = OpenChain domain }
 
   module _ (dead : is_live domain ≡ false) where
-    pub unopened_reply : reply_to (world_in (line_of p).domains) (answers journal.log (line_of p)) (OpenChain domain) ≡ Refused (NoDomain domain)
+    pub unopened_reply : reply_to (world_in (line_of p).domains) (answers journal.log (line_of p)) client (OpenChain domain) ≡ Refused (NoDomain domain)
     unopened_reply = ap (λ b. if b then Opened (length (chain_domains answered) + 1) else Refused (NoDomain domain)) dead
 
-    unopened : opened_chain (OpenChain domain) (reply_to w answered (OpenChain domain)) ≡ None
+    unopened : opened_chain (OpenChain domain) (reply_to w answered client (OpenChain domain)) ≡ None
     unopened = ap (opened_chain (OpenChain domain)) unopened_reply
 
     pub unopened_kept : ((k : ℕ) → mark_at journal'.marks k ≡ mark_at journal.marks k) → IsKept journal' p
@@ -79,10 +79,10 @@ module _ (journal journal' : Noted) (p : Pipeline) (is : IsKept journal p) (clie
         (steady (known_of journal p) entry cs are cs (record { domains = refl; closed = refl; begun = refl; sent = refl }) unopened (λ id. refl) (λ id. refl) refl)
 
   module _ (p' : Pipeline) (live : is_live domain ≡ true) (kept : p'.domains ≡ p.domains) (same : p'.submissions ≡ p.submissions) (undecided : p'.outcomes ≡ p.outcomes) (failures : p'.failures.items ≡ p.failures.items ++ None ∷ []) where
-    opened_reply : reply_to w answered (OpenChain domain) ≡ Opened (length (chain_domains answered) + 1)
+    opened_reply : reply_to w answered client (OpenChain domain) ≡ Opened (length (chain_domains answered) + 1)
     opened_reply = ap (λ b. if b then Opened (length (chain_domains answered) + 1) else Refused (NoDomain domain)) live
 
-    opened : opened_chain (OpenChain domain) (reply_to w answered (OpenChain domain)) ≡ Some domain
+    opened : opened_chain (OpenChain domain) (reply_to w answered client (OpenChain domain)) ≡ Some domain
     opened = ap (opened_chain (OpenChain domain)) opened_reply
 
     abbrev line' : Line
@@ -207,7 +207,7 @@ module _ (journal : Noted) (p : Pipeline) (is : IsKept journal p) (cs : Chains) 
 
 module _ (journal : Noted) (p : Pipeline) (is : IsKept journal p) (cs : Chains) (are : AreChains (known_of journal p) cs) (chain : Chain) (token : IsChain (known_of journal p) chain) (allowed : chain_refusal (answers journal.log (line_of p)) chain.id ≡ None)
     (d : Domain) (at : slice_get (map shown p.domains.items) chain.domain ≡ Some (shown d)) (sent : Option ℕ) (sent_at : sent ≡ get_or cs.sent.items (chain.id - 1) sent) (footing : Footing) (stands : IsFooting (pending_of (length p.outcomes.items) sent) p d footing)
-    (mode : Mode) (tx : Tx) (starts : Starts d footing (Some chain.id) mode (length journal.log) tx) where
+    (mode : Mode) (tx : Tx) (starts : Starts d footing (Some chain.id) mode (length journal.log) tx) (client : ℕ) where
   abbrev there : List world.Domain
   there = world_in (line_of p).domains
 
@@ -257,16 +257,16 @@ module _ (journal : Noted) (p : Pipeline) (is : IsKept journal p) (cs : Chains) 
   on_is : (begun_of tx).on ≡ stands_on so_far chain.id
   on_is = starts.on ∙ on_footing (pending_of (length p.outcomes.items) sent) stands ∙ stands_is
 
-  the_reply : reply_to there so_far (ChainBegin chain.id mode) ≡ Begun (chained_base there so_far chain.id).commit (stands_on so_far chain.id)
+  the_reply : reply_to there so_far client (ChainBegin chain.id mode) ≡ Begun (chained_base there so_far chain.id).commit (stands_on so_far chain.id)
   the_reply = ap (λ (o : Option CallFault). refused_or o (Begun (chained_base there so_far chain.id).commit (stands_on so_far chain.id))) allowed
 
-  pub next_reply : reply_to (world_in (line_of p).domains) (answers journal.log (line_of p)) (ChainBegin chain.id mode) ≡ Begun (begun_of tx).base_commit (begun_of tx).on
+  pub next_reply : reply_to (world_in (line_of p).domains) (answers journal.log (line_of p)) client (ChainBegin chain.id mode) ≡ Begun (begun_of tx).base_commit (begun_of tx).on
   next_reply = the_reply ∙ (λ i. Begun (base_is i).commit (sym on_is i))
 
-  began_is : began_by there so_far (ChainBegin chain.id mode) (reply_to there so_far (ChainBegin chain.id mode)) ≡ Some begun_base
+  began_is : began_by there so_far (ChainBegin chain.id mode) (reply_to there so_far client (ChainBegin chain.id mode)) ≡ Some begun_base
   began_is = ap (began_by there so_far (ChainBegin chain.id mode)) the_reply ∙ ap Some base_is
 
-  module _ (journal' : Noted) (client : ℕ) (log : journal'.log ≡ jotted journal.log client (ChainBegin chain.id mode)) where
+  module _ (journal' : Noted) (log : journal'.log ≡ jotted journal.log client (ChainBegin chain.id mode)) where
     abbrev the_entry : Entry
     the_entry = record { client = client; number = entries_of journal.log client; call = ChainBegin chain.id mode }
 
@@ -321,7 +321,7 @@ module _ (journal journal' : Noted) (p : Pipeline) (is : IsKept journal p) (clie
   abbrev refused_entry : Entry
   refused_entry = record { client = client; number = entries_of journal.log client; call = ChainBegin id mode }
 
-  refused_reply : reply_to (world_in (line_of p).domains) earlier (ChainBegin id mode) ≡ Refused f
+  refused_reply : reply_to (world_in (line_of p).domains) earlier client (ChainBegin id mode) ≡ Refused f
   refused_reply = ap (λ (o : Option CallFault). refused_or o (Begun (chained_base (world_in (line_of p).domains) earlier id).commit (stands_on earlier id))) refused
 
   pub refused_kept : ((k : ℕ) → mark_at journal'.marks k ≡ mark_at journal.marks k) → IsKept journal' p

@@ -39,12 +39,12 @@ module _ (known : Known) (e : Entry) (cs : Chains) (are : AreChains known cs) wh
   answered = history w known.log
 
   abbrev r : Reply
-  r = reply_to w answered e.call
+  r = reply_to w answered e.client e.call
 
-  pub chains_now : (cs' : Chains) → AreEven cs' → cs'.domains.items ≡ cs.domains.items ++ option_to_list (opened_chain e.call (reply_to known.world (history known.world known.log) e.call))
-      → ((id : ℕ) → flag_in cs'.closed.items id ≡ (flag_in cs.closed.items id || closes e.call (reply_to known.world (history known.world known.log) e.call) id))
+  pub chains_now : (cs' : Chains) → AreEven cs' → cs'.domains.items ≡ cs.domains.items ++ option_to_list (opened_chain e.call (reply_to known.world (history known.world known.log) e.client e.call))
+      → ((id : ℕ) → flag_in cs'.closed.items id ≡ (flag_in cs.closed.items id || closes e.call (reply_to known.world (history known.world known.log) e.client e.call) id))
       → ((id : ℕ) → noted_in cs'.begun.items id ≡ option_or (if begins_in id (now_of known.world (history known.world known.log) e) then Some (length known.log) else None) (noted_in cs.begun.items id))
-      → ((id : ℕ) → noted_in cs'.sent.items id ≡ option_or (sent_in (length (sents (history known.world known.log))) id (sent_by (history known.world known.log) e.call (reply_to known.world (history known.world known.log) e.call))) (noted_in cs.sent.items id))
+      → ((id : ℕ) → noted_in cs'.sent.items id ≡ option_or (sent_in (length (sents (history known.world known.log))) id (sent_by (history known.world known.log) e.call (reply_to known.world (history known.world known.log) e.client e.call))) (noted_in cs.sent.items id))
       → AreChains (more known e) cs'
   chains_now cs' even domains closed begun sent = record {
     even = even;
@@ -57,10 +57,10 @@ module _ (known : Known) (e : Entry) (cs : Chains) (are : AreChains known cs) wh
   }
 
   -- a call that opens, closes, begins and submits nothing of chains
-  pub steady : (cs' : Chains) → AreSame cs cs' → opened_chain e.call (reply_to known.world (history known.world known.log) e.call) ≡ None
-      → ((id : ℕ) → closes e.call (reply_to known.world (history known.world known.log) e.call) id ≡ false)
+  pub steady : (cs' : Chains) → AreSame cs cs' → opened_chain e.call (reply_to known.world (history known.world known.log) e.client e.call) ≡ None
+      → ((id : ℕ) → closes e.call (reply_to known.world (history known.world known.log) e.client e.call) id ≡ false)
       → ((id : ℕ) → begins_in id (now_of known.world (history known.world known.log) e) ≡ false)
-      → sent_by (history known.world known.log) e.call (reply_to known.world (history known.world known.log) e.call) ≡ None
+      → sent_by (history known.world known.log) e.call (reply_to known.world (history known.world known.log) e.client e.call) ≡ None
       → AreChains (more known e) cs'
   steady cs' same unopened unclosed unbegun unsent =
       chains_now cs'

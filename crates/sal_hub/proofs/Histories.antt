@@ -16,48 +16,48 @@ use Rattle.sal_hub.proofs.Listed.{slice_get_left}
 use Rattle.sal_hub.proofs.Members.{last_from-push}
 
 -- at most one more
-listed : {X : Type 0} (xs : List X) (o : Option X) → xs ++ cons_option o [] ≡ xs ++ option_to_list o
+pub listed : {X : Type 0} (xs : List X) (o : Option X) → xs ++ cons_option o [] ≡ xs ++ option_to_list o
 listed xs None = refl
 listed xs (Some x) = refl
 
 module _ (world : List Domain) where
   abbrev pub now_of : List Answered → Entry → Answered
-  now_of answered e = answered_as world answered e (reply_to world answered e.call)
+  now_of answered e = answered_as world answered e (reply_to world answered e.client e.call)
 
   pub history-push : (log : List Entry) (e : Entry) → history world (log ++ e ∷ []) ≡ answer world (history world log) e
   history-push log e = fold-append (answer world) [] log (e ∷ [])
 
-  pub sents-answer : (answered : List Answered) (e : Entry) → sents (answer world answered e) ≡ sents answered ++ option_to_list (sent_by answered e.call (reply_to world answered e.call))
+  pub sents-answer : (answered : List Answered) (e : Entry) → sents (answer world answered e) ≡ sents answered ++ option_to_list (sent_by answered e.call (reply_to world answered e.client e.call))
   sents-answer answered e =
-      filter_map-append (λ (a : Answered). a.sent) answered (now_of answered e ∷ []) ∙ listed (sents answered) (sent_by answered e.call (reply_to world answered e.call))
+      filter_map-append (λ (a : Answered). a.sent) answered (now_of answered e ∷ []) ∙ listed (sents answered) (sent_by answered e.call (reply_to world answered e.client e.call))
 
-  chains-answer : (answered : List Answered) (e : Entry) → chain_domains (answer world answered e) ≡ chain_domains answered ++ option_to_list (opened_chain e.call (reply_to world answered e.call))
+  chains-answer : (answered : List Answered) (e : Entry) → chain_domains (answer world answered e) ≡ chain_domains answered ++ option_to_list (opened_chain e.call (reply_to world answered e.client e.call))
   chains-answer answered e =
-      filter_map-append (λ (a : Answered). opened_chain a.entry.call a.reply) answered (now_of answered e ∷ []) ∙ listed (chain_domains answered) (opened_chain e.call (reply_to world answered e.call))
+      filter_map-append (λ (a : Answered). opened_chain a.entry.call a.reply) answered (now_of answered e ∷ []) ∙ listed (chain_domains answered) (opened_chain e.call (reply_to world answered e.client e.call))
 
   pub outcomes-answer : (answered : List Answered) (e : Entry) → outcomes (answer world answered e) ≡ outcomes answered ++ decided_by world answered e.call
   outcomes-answer answered e = flat_map-append (λ (a : Answered). a.decided) answered (now_of answered e ∷ []) ∙ ap (λ (os : List Outcome). outcomes answered ++ os) (append-nil (decided_by world answered e.call))
 
-  pub sents-push : (log : List Entry) (e : Entry) → sents (history world (log ++ e ∷ [])) ≡ sents (history world log) ++ option_to_list (sent_by (history world log) e.call (reply_to world (history world log) e.call))
+  pub sents-push : (log : List Entry) (e : Entry) → sents (history world (log ++ e ∷ [])) ≡ sents (history world log) ++ option_to_list (sent_by (history world log) e.call (reply_to world (history world log) e.client e.call))
   sents-push log e = ap sents (history-push log e) ∙ sents-answer (history world log) e
 
   pub outcomes-push : (log : List Entry) (e : Entry) → outcomes (history world (log ++ e ∷ [])) ≡ outcomes (history world log) ++ decided_by world (history world log) e.call
   outcomes-push log e = ap outcomes (history-push log e) ∙ outcomes-answer (history world log) e
 
-  pub spent-push : (log : List Entry) (e : Entry) (place : ℕ) → is_spent (history world (log ++ e ∷ [])) place ≡ (is_spent (history world log) place || spends e.call (reply_to world (history world log) e.call) place)
+  pub spent-push : (log : List Entry) (e : Entry) (place : ℕ) → is_spent (history world (log ++ e ∷ [])) place ≡ (is_spent (history world log) place || spends e.call (reply_to world (history world log) e.client e.call) place)
   spent-push log e place =
       ap (λ (answered : List Answered). is_spent answered place) (history-push log e)
       ∙ list_any-append (λ (a : Answered). spends a.entry.call a.reply place) (history world log) (now_of (history world log) e ∷ [])
-      ∙ elim (spends e.call (reply_to world (history world log) e.call) place) as (λ b. (is_spent (history world log) place || (b || false)) ≡ (is_spent (history world log) place || b)) [ true ↦ refl | false ↦ refl ]
+      ∙ elim (spends e.call (reply_to world (history world log) e.client e.call) place) as (λ b. (is_spent (history world log) place || (b || false)) ≡ (is_spent (history world log) place || b)) [ true ↦ refl | false ↦ refl ]
 
-  pub chains-push : (log : List Entry) (e : Entry) → chain_domains (history world (log ++ e ∷ [])) ≡ chain_domains (history world log) ++ option_to_list (opened_chain e.call (reply_to world (history world log) e.call))
+  pub chains-push : (log : List Entry) (e : Entry) → chain_domains (history world (log ++ e ∷ [])) ≡ chain_domains (history world log) ++ option_to_list (opened_chain e.call (reply_to world (history world log) e.client e.call))
   chains-push log e = ap chain_domains (history-push log e) ∙ chains-answer (history world log) e
 
-  pub closed-push : (log : List Entry) (e : Entry) (id : ℕ) → is_closed (history world (log ++ e ∷ [])) id ≡ (is_closed (history world log) id || closes e.call (reply_to world (history world log) e.call) id)
+  pub closed-push : (log : List Entry) (e : Entry) (id : ℕ) → is_closed (history world (log ++ e ∷ [])) id ≡ (is_closed (history world log) id || closes e.call (reply_to world (history world log) e.client e.call) id)
   closed-push log e id =
       ap (λ (answered : List Answered). is_closed answered id) (history-push log e)
       ∙ list_any-append (λ (a : Answered). closes a.entry.call a.reply id) (history world log) (now_of (history world log) e ∷ [])
-      ∙ elim (closes e.call (reply_to world (history world log) e.call) id) as (λ b. (is_closed (history world log) id || (b || false)) ≡ (is_closed (history world log) id || b)) [ true ↦ refl | false ↦ refl ]
+      ∙ elim (closes e.call (reply_to world (history world log) e.client e.call) id) as (λ b. (is_closed (history world log) id || (b || false)) ≡ (is_closed (history world log) id || b)) [ true ↦ refl | false ↦ refl ]
 
   -- ---- places
 
@@ -81,7 +81,7 @@ module _ (world : List Domain) where
 
   pub sents-grow : (log : List Entry) (e : Entry) → length (sents (history world log)) ≤ length (sents (history world (log ++ e ∷ [])))
   sents-grow log e =
-      let sent : List Sent = option_to_list (sent_by (history world log) e.call (reply_to world (history world log) e.call)) in
+      let sent : List Sent = option_to_list (sent_by (history world log) e.call (reply_to world (history world log) e.client e.call)) in
       omega (arith, ap length (sents-push log e), length-append (sents (history world log)) sent)
 
   -- an entry submits once at most
@@ -92,7 +92,7 @@ module _ (world : List Domain) where
   sents_few : (done : List Answered) (log : List Entry) → length (sents (fold (answer world) done log)) ≤ length (sents done) + length log
   sents_few done [] = omega arith
   sents_few done (e ∷ log) =
-      let sent : Option Sent = sent_by done e.call (reply_to world done e.call) in
+      let sent : Option Sent = sent_by done e.call (reply_to world done e.client e.call) in
       omega (arith, sents_few (answer world done e) log, ap length (sents-answer done e), length-append (sents done) (option_to_list sent), sent_once sent)
 
   pub sents-few : (log : List Entry) → length (sents (history world log)) ≤ length log

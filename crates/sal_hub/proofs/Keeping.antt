@@ -23,6 +23,10 @@ pub or_false : (b : Bool) → (b || false) ≡ b
 or_false true = refl
 or_false false = refl
 
+pub or_true : (b : Bool) → (b || true) ≡ true
+or_true true = refl
+or_true false = refl
+
 pub none_more : (n : ℕ) → n ≡ n + 0
 none_more n = omega arith
 
@@ -38,13 +42,13 @@ module _ (log : List Entry) (marks : List Bool) (line : Line) (was : IsCurrent l
   answered = answers log line
 
   abbrev reply : Reply
-  reply = reply_to world answered e.call
+  reply = reply_to world answered e.client e.call
 
   pub pushed : (line' : Line) (marks' : List Bool) → IsSound line' → world_in line'.domains ≡ world_in line.domains
-      → sents_in line' ≡ sents_in line ++ option_to_list (sent_by (answers log line) e.call (reply_to (world_in line.domains) (answers log line) e.call))
+      → sents_in line' ≡ sents_in line ++ option_to_list (sent_by (answers log line) e.call (reply_to (world_in line.domains) (answers log line) e.client e.call))
       → line'.outcomes ≡ line.outcomes ++ decided_by (world_in line.domains) (answers log line) e.call
-      → ((k : ℕ) → mark_at marks' k ≡ (mark_at marks k || spends e.call (reply_to (world_in line.domains) (answers log line) e.call) k))
-      → length line'.failures ≡ length line.failures + length (option_to_list (opened_chain e.call (reply_to (world_in line.domains) (answers log line) e.call)))
+      → ((k : ℕ) → mark_at marks' k ≡ (mark_at marks k || spends e.call (reply_to (world_in line.domains) (answers log line) e.client e.call) k))
+      → length line'.failures ≡ length line.failures + length (option_to_list (opened_chain e.call (reply_to (world_in line.domains) (answers log line) e.client e.call)))
       → IsCurrent (log ++ e ∷ []) marks' line'
   pushed line' marks' sound same sent decided marked opened = record {
     sound = sound;
@@ -64,9 +68,9 @@ module _ (log : List Entry) (marks : List Bool) (line : Line) (was : IsCurrent l
   }
 
   -- a call that submits, decides, spends and opens nothing
-  pub quiet : (marks' : List Bool) → sent_by (answers log line) e.call (reply_to (world_in line.domains) (answers log line) e.call) ≡ None → decided_by (world_in line.domains) (answers log line) e.call ≡ []
-      → ((k : ℕ) → spends e.call (reply_to (world_in line.domains) (answers log line) e.call) k ≡ false) → ((k : ℕ) → mark_at marks' k ≡ mark_at marks k)
-      → opened_chain e.call (reply_to (world_in line.domains) (answers log line) e.call) ≡ None
+  pub quiet : (marks' : List Bool) → sent_by (answers log line) e.call (reply_to (world_in line.domains) (answers log line) e.client e.call) ≡ None → decided_by (world_in line.domains) (answers log line) e.call ≡ []
+      → ((k : ℕ) → spends e.call (reply_to (world_in line.domains) (answers log line) e.client e.call) k ≡ false) → ((k : ℕ) → mark_at marks' k ≡ mark_at marks k)
+      → opened_chain e.call (reply_to (world_in line.domains) (answers log line) e.client e.call) ≡ None
       → IsCurrent (log ++ e ∷ []) marks' line
   quiet marks' none nothing unspent same unopened =
       pushed line marks' was.sound refl

@@ -3,9 +3,11 @@ pub mod ChainCalls
 pub mod Chained
 pub mod Cutting
 pub mod Deciding
+pub mod Heard
 pub mod Histories
 pub mod Keeping
 pub mod Listed
+pub mod Listened
 pub mod Members
 pub mod Noted
 pub mod OpenedDevices
@@ -14,4 +16,6 @@ pub mod Settling
 pub mod Standing
 pub mod Starting
 pub mod Submitting
+pub mod Taking
+pub mod Telling
 pub mod Wholes

@@ -59,9 +59,9 @@ module _ (journal journal' : Noted) (p p' : Pipeline) (is : IsKept journal p) (c
 
   -- a call that decides the next n
   pub decided_kept : decided_by (world_in (line_of p).domains) (answers journal.log (line_of p)) call ≡ decide_next (world_in (line_of p).domains) (sents_in (line_of p)) p.outcomes.items n
-      → sent_by (answers journal.log (line_of p)) call (reply_to (world_in (line_of p).domains) (answers journal.log (line_of p)) call) ≡ None
-      → ((k : ℕ) → spends call (reply_to (world_in (line_of p).domains) (answers journal.log (line_of p)) call) k ≡ false)
-      → opened_chain call (reply_to (world_in (line_of p).domains) (answers journal.log (line_of p)) call) ≡ None
+      → sent_by (answers journal.log (line_of p)) call (reply_to (world_in (line_of p).domains) (answers journal.log (line_of p)) client call) ≡ None
+      → ((k : ℕ) → spends call (reply_to (world_in (line_of p).domains) (answers journal.log (line_of p)) client call) k ≡ false)
+      → opened_chain call (reply_to (world_in (line_of p).domains) (answers journal.log (line_of p)) client call) ≡ None
       → AllKept p'.domains.items → ((k : ℕ) → mark_at journal'.marks k ≡ mark_at journal.marks k) → IsKept journal' p'
   decided_kept decides none unspent unopened kept marks = record {
     kept = kept;
@@ -73,7 +73,7 @@ module _ (journal journal' : Noted) (p p' : Pipeline) (is : IsKept journal p) (c
         (decided.chains ∙ none_more (length (line_of p).failures) ∙ ap (λ (o : Option ℕ). length (line_of p).failures + length (option_to_list o)) (sym unopened)));
   }
 
-  pub decided_made : (r : Reply) → length journal.log < 1000000 → reply_to (world_in (line_of p).domains) (answers journal.log (line_of p)) call ≡ r → Made (known_of journal p) (known_of journal' p') (record { client = client; number = entries_of journal.log client; call = call }) r
+  pub decided_made : (r : Reply) → length journal.log < 1000000 → reply_to (world_in (line_of p).domains) (answers journal.log (line_of p)) client call ≡ r → Made (known_of journal p) (known_of journal' p') (record { client = client; number = entries_of journal.log client; call = call }) r
   decided_made r room reply = record { room = room; log = λ i. record { world = decided.world i; log = log i }; reply = reply }
 
 -- what is decided, by what is kept
@@ -129,7 +129,7 @@ module _ (journal journal' : Noted) (p : Pipeline) (is : IsKept journal p) (clie
     pub idle_kept : ((k : ℕ) → mark_at journal'.marks k ≡ mark_at journal.marks k) → IsKept journal' p
     idle_kept marks = quiet_kept journal journal' p is client Pump log refl nothing_decided (λ k. refl) refl marks
 
-    pub idle_reply : reply_to (world_in (line_of p).domains) (answers journal.log (line_of p)) Pump ≡ Nothing
+    pub idle_reply : reply_to (world_in (line_of p).domains) (answers journal.log (line_of p)) client Pump ≡ Nothing
     idle_reply = λ i. pumped (length (outcomes done) + 1) ((front (length p.outcomes.items) refl ∙ nothing_left) i) (nothing_decided i)
 
   module _ (p' : Pipeline) (decided : AreDecided (line_of p) (length p.outcomes.items + 1 - length p.outcomes.items) (line_of p')) where

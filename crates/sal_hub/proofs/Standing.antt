@@ -39,6 +39,15 @@ length-ops : (ss : List Sent) → length (map (λ (s : Sent). s.ops) ss) ≡ len
 length-ops [] = refl
 length-ops (s ∷ ss) = ap suc (length-ops ss)
 
+pub commits-more : (world : List Domain) (answered : List Answered) (e : Entry) (n : ℕ) → length (commits answered n) ≤ length (commits (answer world answered e) n)
+commits-more world answered e n =
+    let ss : List Sent = option_to_list (sent_by answered e.call (reply_to world answered e.client e.call)) in
+    let os : List Outcome = decided_by world answered e.call in
+    let next : List Answered = answer world answered e in
+    let same : length (commits next n) ≡ length (done n (sents answered ++ ss) (outcomes answered ++ os)) =
+    length-ops (done n (sents next) (outcomes next)) ∙ (λ i. length (done n (sents-answer world answered e i) (outcomes-answer world answered e i))) in
+    omega (arith, same, length-ops (done n (sents answered) (outcomes answered)), done-more n (sents answered) ss (outcomes answered) os)
+
 -- ---- what is allowed is live
 
 last_none : (a b c d : Option CallFault) → option_or a (option_or b (option_or c d)) ≡ None → d ≡ None
@@ -88,24 +97,24 @@ module _ (world : List Domain) (answered : List Answered) (was : AreAt answered)
   found_at chain None s e = cc
   found_at chain (Some k) s e = was.sent (k - 1) s e
 
-  begun_now : (call : Call) (b : Base) → began_by world answered call (reply_to world answered call) ≡ Some b → IsAt count b
-  begun_now (Begin domain mode) b =
+  begun_now : (client : ℕ) (call : Call) (b : Base) → began_by world answered call (reply_to world answered client call) ≡ Some b → IsAt count b
+  begun_now client (Begin domain mode) b =
       elim (is_live domain) as (λ live. is_live domain ≡ live → began_by world answered (Begin domain mode) (if live then Begun (length (commits answered domain)) None else Refused (NoDomain domain)) ≡ Some b → IsAt count b) [
         | true ↦ λ live e. subst (IsAt count) (same_Some (newest_base world answered domain None) b e) (newest_at domain None live)
         | false ↦ λ live e. cc
       ] refl
-  begun_now (ChainBegin chain mode) b =
+  begun_now client (ChainBegin chain mode) b =
       elim (chain_refusal answered chain) as (λ o. chain_refusal answered chain ≡ o → began_by world answered (ChainBegin chain mode) (refused_or o (Begun (chained_base world answered chain).commit (stands_on answered chain))) ≡ Some b → IsAt count b) [
         | None ↦ λ allowed e.
             subst (IsAt count) (same_Some (chained_base world answered chain) b e)
             (on_at chain (option_and_then (λ k. slice_get (sents answered) (k - 1)) (stands_on answered chain)) (allowed_live answered chain allowed) (found_at chain (stands_on answered chain)))
         | Some f ↦ λ allowed e. cc
       ] refl
-  begun_now call b = λ e. cc
+  begun_now client call b = λ e. cc
 
-  sent_now : (call : Call) (s : Sent) → sent_by answered call (reply_to world answered call) ≡ Some s → IsAt count s.base
-  sent_now call s e =
-      let (place, from) = submitted_base answered call (reply_to world answered call) s e in
+  sent_now : (client : ℕ) (call : Call) (s : Sent) → sent_by answered call (reply_to world answered client call) ≡ Some s → IsAt count s.base
+  sent_now client call s e =
+      let (place, from) = submitted_base answered call (reply_to world answered client call) s e in
       subst (IsAt count) (sym from) (given (began_at answered place) (was.begun place))
     where
       given : (o : Option Base) → ((b : Base) → o ≡ Some b → IsAt count b) → IsAt count (unwrap_or o nowhere)
@@ -117,18 +126,13 @@ module _ (world : List Domain) (answered : List Answered) (was : AreAt answered)
     next = answer world answered e
 
     more : count ≤ length (commits next 0)
-    more =
-        let ss : List Sent = option_to_list (sent_by answered e.call (reply_to world answered e.call)) in
-        let os : List Outcome = decided_by world answered e.call in
-        let same : length (commits next 0) ≡ length (done 0 (sents answered ++ ss) (outcomes answered ++ os)) =
-        length-ops (done 0 (sents next) (outcomes next)) ∙ (λ i. length (done 0 (sents-answer world answered e i) (outcomes-answer world answered e i))) in
-        omega (arith, same, length-ops (done 0 (sents answered) (outcomes answered)), done-more 0 (sents answered) ss (outcomes answered) os)
+    more = commits-more world answered e 0
 
     begun_next : (place : ℕ) (b : Base) → began_at next place ≡ Some b → IsAt (length (commits next 0)) b
     begun_next place b is =
         elim (last_of answered place (now_of world answered e) b is) [
           | inl old ↦ later count (length (commits next 0)) b more (was.begun place b old)
-          | inr new ↦ later count (length (commits next 0)) b more (begun_now e.call b new)
+          | inr new ↦ later count (length (commits next 0)) b more (begun_now e.client e.call b new)
         ]
       where
         last_of : (xs : List Answered) (k : ℕ) (a : Answered) (c : Base) → began_at (xs ++ a ∷ []) k ≡ Some c → (began_at xs k ≡ Some c) ⊎ (a.began ≡ Some c)
@@ -139,9 +143,9 @@ module _ (world : List Domain) (answered : List Answered) (was : AreAt answered)
 
     sent_next : (i : ℕ) (s : Sent) → slice_get (sents next) i ≡ Some s → IsAt (length (commits next 0)) s.base
     sent_next i s is =
-        elim (last_sent (sents answered) (sent_by answered e.call (reply_to world answered e.call)) i s (ap (λ (ss : List Sent). slice_get ss i) (sym (sents-answer world answered e)) ∙ is)) [
+        elim (last_sent (sents answered) (sent_by answered e.call (reply_to world answered e.client e.call)) i s (ap (λ (ss : List Sent). slice_get ss i) (sym (sents-answer world answered e)) ∙ is)) [
           | inl old ↦ later count (length (commits next 0)) s.base more (was.sent i s old)
-          | inr new ↦ later count (length (commits next 0)) s.base more (sent_now e.call s new)
+          | inr new ↦ later count (length (commits next 0)) s.base more (sent_now e.client e.call s new)
         ]
       where
         last_sent : (xs : List Sent) (o : Option Sent) (k : ℕ) (t : Sent) → slice_get (xs ++ option_to_list o) k ≡ Some t → (slice_get xs k ≡ Some t) ⊎ (o ≡ Some t)

@@ -106,10 +106,10 @@ module _ (journal journal' : Noted) (p : Pipeline) (is : IsKept journal p) (clie
       let done : length (outcomes answered) ≡ length p.outcomes.items = sym (ap length is.current.outcomes) in
       λ i. answer_by (count i) (count i - done i) (sym (is.current.marks place) i)
 
-  pub refused_now : (f : CallFault) → refusal_of (length p.submissions.items - length p.outcomes.items) (mark_at journal.marks place) ≡ Some f → reply_to (world_in (line_of p).domains) (answers journal.log (line_of p)) (Submit place ops) ≡ Refused f
+  pub refused_now : (f : CallFault) → refusal_of (length p.submissions.items - length p.outcomes.items) (mark_at journal.marks place) ≡ Some f → reply_to (world_in (line_of p).domains) (answers journal.log (line_of p)) client (Submit place ops) ≡ Refused f
   refused_now f e = by_kept ∙ refused_by (length p.submissions.items) waiting (mark_at journal.marks place) f e
 
-  pub accepted_now : refusal_of (length p.submissions.items - length p.outcomes.items) (mark_at journal.marks place) ≡ None → reply_to (world_in (line_of p).domains) (answers journal.log (line_of p)) (Submit place ops) ≡ Receipt (length p.submissions.items + 1)
+  pub accepted_now : refusal_of (length p.submissions.items - length p.outcomes.items) (mark_at journal.marks place) ≡ None → reply_to (world_in (line_of p).domains) (answers journal.log (line_of p)) client (Submit place ops) ≡ Receipt (length p.submissions.items + 1)
   accepted_now e = by_kept ∙ accepted_by (length p.submissions.items) waiting (mark_at journal.marks place) e
 
   pub refused_kept : (f : CallFault) → refusal_of (length p.submissions.items - length p.outcomes.items) (mark_at journal.marks place) ≡ Some f → ((k : ℕ) → mark_at journal'.marks k ≡ mark_at journal.marks k) → IsKept journal' p
@@ -163,10 +163,10 @@ module _ (journal journal' : Noted) (p p' : Pipeline) (is : IsKept journal p) (c
         below = lie_below tx.begun.schema.value tx.base [] tx.changes right.lawful;
       }
 
-  reply_now : reply_to new_world before (Submit tx.begun.place tx.changes) ≡ Receipt (length p.submissions.items + 1)
+  reply_now : reply_to new_world before client (Submit tx.begun.place tx.changes) ≡ Receipt (length p.submissions.items + 1)
   reply_now = accepted_now journal journal' p is client tx.begun.place tx.changes log open_now
 
-  sent_now : sent_by before (Submit tx.begun.place tx.changes) (reply_to new_world before (Submit tx.begun.place tx.changes)) ≡ Some (sent_of sub)
+  sent_now : sent_by before (Submit tx.begun.place tx.changes) (reply_to new_world before client (Submit tx.begun.place tx.changes)) ≡ Some (sent_of sub)
   sent_now =
       ap (sent_by before (Submit tx.begun.place tx.changes)) reply_now
       ∙ ap (λ (o : Option Base). Some (let s : Sent = record { base = unwrap_or o nowhere; ops = tx.changes } in s)) token.began

@@ -1,12 +1,12 @@
 -- All that a hub keeps stays the log's with each call.
-use Rattle.std.proofs.Common.{◌≡◌, ℕ, zero, suc, ◌+◌, ◌-◌, ◌<◌, ◌≤◌, Bool, true, false, List, [], ◌∷◌, ◌++◌, length, set, Option, None, Some, Result, Ok, Err, refl, ap, sym, ◌∙◌, subst, arith, append-nil, length-set, if◌then◌else◌, nat_eq, nat_lt}
+use Rattle.std.proofs.Common.{◌≡◌, ◌⊎◌, ℕ, zero, suc, ◌+◌, ◌-◌, ◌<◌, ◌≤◌, Bool, true, false, List, [], ◌∷◌, ◌++◌, length, set, Option, None, Some, Result, Ok, Err, refl, ap, sym, ◌∙◌, subst, arith, append-nil, length-set, if◌then◌else◌, inl, inr, nat_eq, nat_lt}
 use Rattle.std.specs.Prelude.{unwrap_or, ◌||◌}
 use Rattle.std.specs.Option.{option_map_or, option_or}
 use Rattle.std.proofs.lemmas.Bool.Decides.{nat_tests}
 use Rattle.std.proofs.lemmas.List.Folds.{list_any-append}
 use Rattle.sal_rows.specs.declared.op.Op.{Op}
 use Rattle.sal_rows.specs.declared.outcome.CallFault.{CallFault}
-use Rattle.sal_rows.specs.declared.outcome.CallFault.TheVariants.{HistoryFull, PipelineFull, NoDomain, PreviousOpen, ChainFailed, ChainClosed, NoMemory, TxSpent}
+use Rattle.sal_rows.specs.declared.outcome.CallFault.TheVariants.{HistoryFull, PipelineFull, NoDomain, NoListener, TooManyListeners, PreviousOpen, ChainFailed, ChainClosed, NoMemory, TxSpent}
 use Rattle.sal_rows.specs.declared.outcome.Mode.{Mode}
 use Rattle.sal_rows.specs.Spans.{is_of_chain}
 use Rattle.sal_tree.specs.declared.commit.Pair.{Pair}
@@ -21,6 +21,7 @@ use Rattle.sal_history.specs.World.{Domain}
 use Rattle.sal_history.specs.History.{Answered, began_at, entries_of, began_by, begins_in, closes, fault_if, history, is_spent, marks, nowhere, opened_chain, pending, refused_or, reply_to, sent_by, sents, submitted}
 use Rattle.sal_history.specs.Submissions.{Base, Sent}
 use Rattle.sal_hub.specs.declared.chains.Chains.{Chains}
+use Rattle.sal_hub.specs.declared.listeners.Listeners.{Listeners}
 use Rattle.sal_hub.specs.declared.marks.Marks.{Marks}
 use Rattle.sal_hub.specs.declared.pipeline.Pipeline.{Pipeline}
 use Rattle.sal_hub.specs.Answers.{Calls, Fails, Made}
@@ -29,19 +30,17 @@ use Rattle.sal_hub.specs.Current.{IsKept, known_of}
 use Rattle.sal_hub.specs.Failures.{IsWithin, at_chain, flag_in, noted_in, noted_with}
 use Rattle.sal_hub.specs.Journals.{Noted, jotted}
 use Rattle.sal_hub.specs.Known.{Known, entry_of, more}
+use Rattle.sal_hub.specs.Listeners.{AreListeners}
 use Rattle.sal_hub.specs.Marks.{AreMarked, has_mark, is_key}
 use Rattle.sal_hub.specs.Tokens.{IsBegun}
 use Rattle.sal_hub.specs.Whole.{IsWhole}
 use Rattle.sal_hub.proofs.Beginning.{made_now}
 use Rattle.sal_hub.proofs.Chained.{chains_as, chains_now, member_within, same_chains, sent_in, steady}
 use Rattle.sal_hub.proofs.Histories.{marked, now_of}
-use Rattle.sal_hub.proofs.Keeping.{or_false}
+use Rattle.sal_hub.proofs.Keeping.{or_false, or_true}
+use Rattle.sal_hub.proofs.Listened.{IsQuiet, is_listening, listeners_empty, listeners_steady, quiet_other, quiet_refused}
 use Rattle.sal_hub.proofs.Noted.{at_chain_set, length-with, noted_in-with}
 use Rattle.sal_hub.proofs.Submitting.{swapped}
-
-or_true : (b : Bool) → (b || true) ≡ true
-or_true true = refl
-or_true false = refl
 
 -- ---- marks
 
@@ -75,12 +74,13 @@ sent_refused answered call f = refl
 -- ---- one call
 
 -- what is still the log's, where nothing of chains and no mark changed
-module _ (journal journal' : Noted) (p p' : Pipeline) (cs : Chains) (ms : Marks) (whole : IsWhole journal p cs ms) (kept : IsKept journal' p') where
-  pub whole_same : known_of journal' p' ≡ known_of journal p → IsWhole journal' p' cs ms
+module _ (journal journal' : Noted) (p p' : Pipeline) (cs : Chains) (ms : Marks) (ls : Listeners) (whole : IsWhole journal p cs ms ls) (kept : IsKept journal' p') where
+  pub whole_same : known_of journal' p' ≡ known_of journal p → IsWhole journal' p' cs ms ls
   whole_same same = record {
     kept = kept;
     chains = subst (λ known. AreChains known cs) (sym same) whole.chains;
     marked = λ m. whole.marked m ∙ ap (λ (known : Known). has_mark known.log m) (sym same);
+    listeners = subst (λ known. AreListeners known ls) (sym same) whole.listeners;
   }
 
   module _ (e : Entry) (quiet : (m : ℕ) → marks e.call m ≡ false) where
@@ -90,47 +90,117 @@ module _ (journal journal' : Noted) (p p' : Pipeline) (cs : Chains) (ms : Marks)
     abbrev answered : List Answered
     answered = history (known_of journal p).world journal.log
 
-    pub whole_steady : known_of journal' p' ≡ more (known_of journal p) e → opened_chain e.call (reply_to (known_of journal p).world (history (known_of journal p).world journal.log) e.call) ≡ None
-        → ((id : ℕ) → closes e.call (reply_to (known_of journal p).world (history (known_of journal p).world journal.log) e.call) id ≡ false)
+    pub whole_quiet : known_of journal' p' ≡ more (known_of journal p) e → opened_chain e.call (reply_to (known_of journal p).world (history (known_of journal p).world journal.log) e.client e.call) ≡ None
+        → ((id : ℕ) → closes e.call (reply_to (known_of journal p).world (history (known_of journal p).world journal.log) e.client e.call) id ≡ false)
         → ((id : ℕ) → begins_in id (now_of (known_of journal p).world (history (known_of journal p).world journal.log) e) ≡ false)
-        → sent_by (history (known_of journal p).world journal.log) e.call (reply_to (known_of journal p).world (history (known_of journal p).world journal.log) e.call) ≡ None
-        → IsWhole journal' p' cs ms
-    whole_steady longer unopened unclosed unbegun unsent = record {
+        → sent_by (history (known_of journal p).world journal.log) e.call (reply_to (known_of journal p).world (history (known_of journal p).world journal.log) e.client e.call) ≡ None
+        → IsQuiet e.client e.call (reply_to (known_of journal p).world (history (known_of journal p).world journal.log) e.client e.call)
+        → IsWhole journal' p' cs ms ls
+    whole_quiet longer unopened unclosed unbegun unsent unheard = record {
       kept = kept;
       chains = subst (λ known. AreChains known cs) (sym longer) (steady (known_of journal p) e cs whole.chains cs (same_chains cs) unopened unclosed unbegun unsent);
       marked = λ m. unmarked journal.log e ms quiet whole.marked m ∙ ap (λ (known : Known). has_mark known.log m) (sym longer);
+      listeners = subst (λ known. AreListeners known ls) (sym longer) (listeners_steady (known_of journal p) e ls whole.listeners unheard);
     }
 
-    whole_refused : (f : CallFault) → Made (known_of journal p) (known_of journal' p') e (Refused f) → IsWhole journal' p' cs ms
+    -- a call that is none of listeners
+    pub whole_steady : is_listening e.call ≡ false → known_of journal' p' ≡ more (known_of journal p) e → opened_chain e.call (reply_to (known_of journal p).world (history (known_of journal p).world journal.log) e.client e.call) ≡ None
+        → ((id : ℕ) → closes e.call (reply_to (known_of journal p).world (history (known_of journal p).world journal.log) e.client e.call) id ≡ false)
+        → ((id : ℕ) → begins_in id (now_of (known_of journal p).world (history (known_of journal p).world journal.log) e) ≡ false)
+        → sent_by (history (known_of journal p).world journal.log) e.call (reply_to (known_of journal p).world (history (known_of journal p).world journal.log) e.client e.call) ≡ None
+        → IsWhole journal' p' cs ms ls
+    whole_steady other longer unopened unclosed unbegun unsent = whole_quiet longer unopened unclosed unbegun unsent (quiet_other e.client e.call (reply_to world answered e.client e.call) other)
+
+    whole_refused : (f : CallFault) → Made (known_of journal p) (known_of journal' p') e (Refused f) → IsWhole journal' p' cs ms ls
     whole_refused f made =
-        whole_steady made.log (ap (opened_chain e.call) made.reply ∙ opened_refused e.call f) (λ id. ap (λ r. closes e.call r id) made.reply ∙ closes_refused e.call f id)
+        whole_quiet made.log (ap (opened_chain e.call) made.reply ∙ opened_refused e.call f) (λ id. ap (λ r. closes e.call r id) made.reply ∙ closes_refused e.call f id)
         (λ id. ap (λ (o : Option Base). option_map_or (λ (b : Base). is_of_chain (Some id) b.chain) o false) (ap (began_by world answered e.call) made.reply ∙ began_refused world answered e.call f))
         (ap (sent_by answered e.call) made.reply ∙ sent_refused answered e.call f)
+        (subst (λ r. IsQuiet e.client e.call r) (sym made.reply) (quiet_refused e.client e.call f))
 
-    pub whole_fails : (f : CallFault) → Fails (known_of journal p) (known_of journal' p') e f → IsWhole journal' p' cs ms
+    pub whole_fails : (f : CallFault) → Fails (known_of journal p) (known_of journal' p') e f → IsWhole journal' p' cs ms ls
     whole_fails HistoryFull fails = whole_same fails.1
     whole_fails NoMemory fails = whole_same fails
     whole_fails PipelineFull fails = whole_refused PipelineFull fails
     whole_fails (NoDomain n) fails = whole_refused (NoDomain n) fails
+    whole_fails (NoListener n) fails = whole_refused (NoListener n) fails
+    whole_fails TooManyListeners fails = whole_refused TooManyListeners fails
     whole_fails PreviousOpen fails = whole_refused PreviousOpen fails
     whole_fails (ChainFailed n) fails = whole_refused (ChainFailed n) fails
     whole_fails ChainClosed fails = whole_refused ChainClosed fails
     whole_fails TxSpent fails = whole_refused TxSpent fails
 
     -- a call that opens, closes, begins and submits nothing of chains, whatever it is answered
-    pub whole_called : {X : Type 0} (good : X → Reply) (r : Result X CallFault) → Calls (known_of journal p) (known_of journal' p') e good r
+    pub whole_called : {X : Type 0} (good : X → Reply) (r : Result X CallFault) → is_listening e.call ≡ false → Calls (known_of journal p) (known_of journal' p') e good r
         → ((reply : Reply) → opened_chain e.call reply ≡ None) → ((reply : Reply) (id : ℕ) → closes e.call reply id ≡ false)
         → ((reply : Reply) (id : ℕ) → option_map_or (λ (b : Base). is_of_chain (Some id) b.chain) (began_by (known_of journal p).world (history (known_of journal p).world journal.log) e.call reply) false ≡ false)
-        → ((reply : Reply) → sent_by (history (known_of journal p).world journal.log) e.call reply ≡ None) → IsWhole journal' p' cs ms
-    whole_called good (Ok x) made opened closed begun sent =
-        let reply : Reply = reply_to world answered e.call in
-        whole_steady made.log (opened reply) (closed reply) (begun reply) (sent reply)
-    whole_called good (Err f) fails opened closed begun sent = whole_fails f fails
+        → ((reply : Reply) → sent_by (history (known_of journal p).world journal.log) e.call reply ≡ None) → IsWhole journal' p' cs ms ls
+    whole_called good (Ok x) other made opened closed begun sent =
+        let reply : Reply = reply_to world answered e.client e.call in
+        whole_steady other made.log (opened reply) (closed reply) (begun reply) (sent reply)
+    whole_called good (Err f) other fails opened closed begun sent = whole_fails f fails
 
 -- a transaction of no chain
 pub begin_unchained : (world : List Domain) (answered : List Answered) (domain : ℕ) (mode : Mode) (reply : Reply) (id : ℕ) → option_map_or (λ (b : Base). is_of_chain (Some id) b.chain) (began_by world answered (Begin domain mode) reply) false ≡ false
 begin_unchained w done domain mode (Begun commit on) id = refl
 begin_unchained w done domain mode r id = refl
+
+-- ---- a call that keeps a part itself
+
+same_or_more : (old new : Known) (e : Entry) (f : CallFault) → Fails old new e f → (new ≡ old) ⊎ (new ≡ more old e)
+same_or_more old new e HistoryFull fails = inl fails.1
+same_or_more old new e NoMemory fails = inl fails
+same_or_more old new e PipelineFull fails = inr fails.log
+same_or_more old new e (NoDomain n) fails = inr fails.log
+same_or_more old new e (NoListener n) fails = inr fails.log
+same_or_more old new e TooManyListeners fails = inr fails.log
+same_or_more old new e PreviousOpen fails = inr fails.log
+same_or_more old new e (ChainFailed n) fails = inr fails.log
+same_or_more old new e ChainClosed fails = inr fails.log
+same_or_more old new e TxSpent fails = inr fails.log
+
+-- the entry was added, if anything was
+grown : {X : Type 0} (old new : Known) (e : Entry) (good : X → Reply) (r : Result X CallFault) → Calls old new e good r → (new ≡ old) ⊎ (new ≡ more old e)
+grown old new e good (Ok x) made = inr made.log
+grown old new e good (Err f) fails = same_or_more old new e f fails
+
+module _ (journal journal' : Noted) (p p' : Pipeline) (cs : Chains) (ms : Marks) (ls : Listeners) (whole : IsWhole journal p cs ms ls) (kept : IsKept journal' p') (e : Entry) (quiet : (m : ℕ) → marks e.call m ≡ false) where
+  abbrev old_known : Known
+  old_known = known_of journal p
+
+  still_marked : (known_of journal' p' ≡ known_of journal p) ⊎ (known_of journal' p' ≡ more (known_of journal p) e) → AreMarked journal'.log ms.map
+  still_marked (inl same) = λ m. whole.marked m ∙ ap (λ (known : Known). has_mark known.log m) (sym same)
+  still_marked (inr longer) = λ m. unmarked journal.log e ms quiet whole.marked m ∙ ap (λ (known : Known). has_mark known.log m) (sym longer)
+
+  still_listeners : is_listening e.call ≡ false → (known_of journal' p' ≡ known_of journal p) ⊎ (known_of journal' p' ≡ more (known_of journal p) e) → AreListeners (known_of journal' p') ls
+  still_listeners other (inl same) = subst (λ known. AreListeners known ls) (sym same) whole.listeners
+  still_listeners other (inr longer) =
+      subst (λ known. AreListeners known ls) (sym longer)
+      (listeners_steady old_known e ls whole.listeners (quiet_other e.client e.call (reply_to old_known.world (history old_known.world old_known.log) e.client e.call) other))
+
+  -- the chains
+  pub whole_chained : {X : Type 0} (cs' : Chains) (good : X → Reply) (r : Result X CallFault) → is_listening e.call ≡ false → AreChains (known_of journal' p') cs' → Calls (known_of journal p) (known_of journal' p') e good r → IsWhole journal' p' cs' ms ls
+  whole_chained cs' good r other are calls =
+      let how = grown old_known (known_of journal' p') e good r calls in
+      record { kept = kept; chains = are; marked = still_marked how; listeners = still_listeners other how }
+
+  -- the listeners
+  pub whole_heard : {X : Type 0} (ls' : Listeners) (good : X → Reply) (r : Result X CallFault) → AreListeners (known_of journal' p') ls' → Calls (known_of journal p) (known_of journal' p') e good r
+      → ((reply : Reply) → opened_chain e.call reply ≡ None) → ((reply : Reply) (id : ℕ) → closes e.call reply id ≡ false)
+      → ((reply : Reply) (id : ℕ) → option_map_or (λ (b : Base). is_of_chain (Some id) b.chain) (began_by (known_of journal p).world (history (known_of journal p).world journal.log) e.call reply) false ≡ false)
+      → ((reply : Reply) → sent_by (history (known_of journal p).world journal.log) e.call reply ≡ None) → IsWhole journal' p' cs ms ls'
+  whole_heard ls' good r are calls opened closed begun sent =
+      let how = grown old_known (known_of journal' p') e good r calls in
+      record { kept = kept; chains = still_chains how; marked = still_marked how; listeners = are }
+    where
+      reply : Reply
+      reply = reply_to (known_of journal p).world (history (known_of journal p).world journal.log) e.client e.call
+
+      still_chains : (known_of journal' p' ≡ known_of journal p) ⊎ (known_of journal' p' ≡ more (known_of journal p) e) → AreChains (known_of journal' p') cs
+      still_chains (inl same) = subst (λ known. AreChains known cs) (sym same) whole.chains
+      still_chains (inr longer) =
+          subst (λ known. AreChains known cs) (sym longer)
+          (steady (known_of journal p) e cs whole.chains cs (same_chains cs) (opened reply) (closed reply) (begun reply) (sent reply))
 
 -- ---- a submission
 
@@ -148,29 +218,35 @@ submitted_number answered place n =
     number (Receipt k) = k
     number r = n
 
-module _ (journal journal' : Noted) (p p' : Pipeline) (cs : Chains) (ms : Marks) (whole : IsWhole journal p cs ms) (kept : IsKept journal' p') where
+module _ (journal journal' : Noted) (p p' : Pipeline) (cs : Chains) (ms : Marks) (ls : Listeners) (whole : IsWhole journal p cs ms ls) (kept : IsKept journal' p') where
+  listeners_more : (e : Entry) → known_of journal' p' ≡ more (known_of journal p) e → is_listening e.call ≡ false → AreListeners (known_of journal' p') ls
+  listeners_more e longer other =
+      subst (λ known. AreListeners known ls) (sym longer)
+      (listeners_steady (known_of journal p) e ls whole.listeners (quiet_other e.client e.call (reply_to (known_of journal p).world (history (known_of journal p).world journal.log) e.client e.call) other))
+
   -- the known with the entry
-  with_entry : (e : Entry) (r : Reply) (cs' : Chains) → Made (known_of journal p) (known_of journal' p') e r → ((m : ℕ) → marks e.call m ≡ false) → AreChains (more (known_of journal p) e) cs' → IsWhole journal' p' cs' ms
-  with_entry e r cs' made quiet are = record {
+  with_entry : (e : Entry) (r : Reply) (cs' : Chains) → Made (known_of journal p) (known_of journal' p') e r → ((m : ℕ) → marks e.call m ≡ false) → is_listening e.call ≡ false → AreChains (more (known_of journal p) e) cs' → IsWhole journal' p' cs' ms ls
+  with_entry e r cs' made quiet other are = record {
     kept = kept;
     chains = subst (λ known. AreChains known cs') (sym made.log) are;
     marked = λ m. unmarked journal.log e ms quiet whole.marked m ∙ ap (λ (known : Known). has_mark known.log m) (sym made.log);
+    listeners = listeners_more e made.log other;
   }
 
   -- a submission: it is its chain's last receipt
   pub submit_whole : (client number place : ℕ) (ops : List Op) (n : ℕ) (b : Base) (cs' : Chains) → began_at (history (known_of journal p).world journal.log) place ≡ Some b
       → Made (known_of journal p) (known_of journal' p') (record { client = client; number = number; call = Submit place ops }) (Receipt n)
       → IsWithin (length cs.sent.items) b.chain → cs'.domains.items ≡ cs.domains.items → cs'.closed.items ≡ cs.closed.items → cs'.begun.items ≡ cs.begun.items → cs'.sent.items ≡ noted_with cs.sent.items b.chain n
-      → IsWhole journal' p' cs' ms
+      → IsWhole journal' p' cs' ms ls
   submit_whole client number place ops n b cs' began made within domains closed begun sent =
       let e : Entry = record { client = client; number = number; call = Submit place ops } in
       let w : List Domain = (known_of journal p).world in
       let answered : List Answered = history w journal.log in
       let count : n ≡ length (sents answered) + 1 = submitted_number answered place n made.reply in
       let s : Sent = record { base = b; ops = ops } in
-      let sends : sent_by answered (Submit place ops) (reply_to w answered (Submit place ops)) ≡ Some s =
+      let sends : sent_by answered (Submit place ops) (reply_to w answered client (Submit place ops)) ≡ Some s =
       ap (sent_by answered (Submit place ops)) made.reply ∙ ap (λ (o : Option Base). Some (let t : Sent = record { base = unwrap_or o nowhere; ops = ops } in t)) began in
-      with_entry e (Receipt n) cs' made (λ m. refl)
+      with_entry e (Receipt n) cs' made (λ m. refl) refl
       (chains_now (known_of journal p) e cs whole.chains cs'
       (record {
         closed = ap length closed ∙ whole.chains.even.closed ∙ sym (ap length domains);
@@ -195,7 +271,7 @@ module _ (journal journal' : Noted) (p p' : Pipeline) (cs : Chains) (ms : Marks)
     abbrev entry : Entry
     entry = record { client = client; number = number; call = CloseChain chain }
 
-    close_reply : (was : Bool) → was ≡ flag_in cs.closed.items chain → reply_to here done (CloseChain chain) ≡ refused_or (fault_if was ChainClosed) Accepted
+    close_reply : (was : Bool) → was ≡ flag_in cs.closed.items chain → reply_to here done client (CloseChain chain) ≡ refused_or (fault_if was ChainClosed) Accepted
     close_reply was is = ap (λ b. refused_or (fault_if b ChainClosed) Accepted) (sym (is ∙ whole.chains.closed chain))
 
     now_closed : (k : ℕ) → flag_in (set cs.closed.items (chain - 1) true) k ≡ (if nat_eq k chain then true else flag_in cs.closed.items k)
@@ -219,9 +295,9 @@ module _ (journal journal' : Noted) (p p' : Pipeline) (cs : Chains) (ms : Marks)
       pub close_made : length journal.log < 1000000 → Made (known_of journal p) (known_of journal' p') (record { client = client; number = number; call = CloseChain chain }) (refused_or (fault_if was ChainClosed) Accepted)
       close_made room = record { room = room; log = same_world; reply = close_reply was is }
 
-      pub close_whole : (cs' : Chains) → length journal.log < 1000000 → cs'.domains.items ≡ cs.domains.items → cs'.closed.items ≡ set cs.closed.items (chain - 1) true → cs'.begun.items ≡ cs.begun.items → cs'.sent.items ≡ cs.sent.items → IsWhole journal' p' cs' ms
+      pub close_whole : (cs' : Chains) → length journal.log < 1000000 → cs'.domains.items ≡ cs.domains.items → cs'.closed.items ≡ set cs.closed.items (chain - 1) true → cs'.begun.items ≡ cs.begun.items → cs'.sent.items ≡ cs.sent.items → IsWhole journal' p' cs' ms ls
       close_whole cs' room domains closed begun sent =
-          with_entry entry (refused_or (fault_if was ChainClosed) Accepted) cs' (close_made room) (λ m. refl)
+          with_entry entry (refused_or (fault_if was ChainClosed) Accepted) cs' (close_made room) (λ m. refl) refl
           (chains_now (known_of journal p) entry cs whole.chains cs'
           (record {
             closed = ap length closed ∙ length-set cs.closed.items (chain - 1) true ∙ whole.chains.even.closed ∙ sym (ap length domains);
@@ -236,7 +312,7 @@ module _ (journal journal' : Noted) (p p' : Pipeline) (cs : Chains) (ms : Marks)
 
   -- a mark
   pub mark_whole : (client number mark : ℕ) (ms' : Marks) → known_of journal' p' ≡ more (known_of journal p) (record { client = client; number = number; call = Mark mark })
-      → ((m : ℕ) → is_key ms'.map m ≡ (nat_eq mark m || is_key ms.map m)) → IsWhole journal' p' cs ms'
+      → ((m : ℕ) → is_key ms'.map m ≡ (nat_eq mark m || is_key ms.map m)) → IsWhole journal' p' cs ms' ls
   mark_whole client number mark ms' longer marked =
       let e : Entry = record { client = client; number = number; call = Mark mark } in
       record {
@@ -245,16 +321,17 @@ module _ (journal journal' : Noted) (p p' : Pipeline) (cs : Chains) (ms : Marks)
         marked = λ m.
             marked m ∙ swapped (nat_eq mark m) (is_key ms.map m) ∙ ap (λ b. b || nat_eq mark m) (whole.marked m) ∙ sym (mark-push journal.log e m)
             ∙ ap (λ (known : Known). has_mark known.log m) (sym longer);
+        listeners = listeners_more e longer refl;
       }
 
 -- marks that are the same
-pub same_marks : (journal : Noted) (p : Pipeline) (cs : Chains) (ms ms' : Marks) → IsWhole journal p cs ms → ((m : ℕ) → is_key ms'.map m ≡ is_key ms.map m) → IsWhole journal p cs ms'
-same_marks journal p cs ms ms' whole same = record { kept = whole.kept; chains = whole.chains; marked = λ m. same m ∙ whole.marked m }
+pub same_marks : (journal : Noted) (p : Pipeline) (cs : Chains) (ms ms' : Marks) (ls : Listeners) → IsWhole journal p cs ms ls → ((m : ℕ) → is_key ms'.map m ≡ is_key ms.map m) → IsWhole journal p cs ms' ls
+same_marks journal p cs ms ms' ls whole same = record { kept = whole.kept; chains = whole.chains; marked = λ m. same m ∙ whole.marked m; listeners = whole.listeners }
 
 -- ---- the first
 
-pub empty_whole : (journal : Noted) (p : Pipeline) (cs : Chains) (ms : Marks) → IsKept journal p → journal.log ≡ [] → cs.domains.items ≡ [] → cs.closed.items ≡ [] → cs.begun.items ≡ [] → cs.sent.items ≡ [] → ((m : ℕ) → is_key ms.map m ≡ false) → IsWhole journal p cs ms
-empty_whole journal p cs ms kept empty domains closed begun sent unmarked_all = record {
+pub empty_whole : (journal : Noted) (p : Pipeline) (cs : Chains) (ms : Marks) (ls : Listeners) → IsKept journal p → journal.log ≡ [] → cs.domains.items ≡ [] → cs.closed.items ≡ [] → cs.begun.items ≡ [] → cs.sent.items ≡ [] → ((m : ℕ) → is_key ms.map m ≡ false) → ls.list.items ≡ [] → ls.live ≡ 0 → IsWhole journal p cs ms ls
+empty_whole journal p cs ms ls kept empty domains closed begun sent unmarked_all none unheard = record {
   kept = kept;
   chains = subst (λ l. AreChains (record { world = (known_of journal p).world; log = l }) cs) (sym empty) (record {
     even = record { closed = ap length closed ∙ sym (ap length domains); begun = ap length begun ∙ sym (ap length domains); sent = ap length sent ∙ sym (ap length domains) };
@@ -264,6 +341,7 @@ empty_whole journal p cs ms kept empty domains closed begun sent unmarked_all = 
     sent = λ id. ap (λ xs. noted_in xs id) sent ∙ no_note id;
   });
   marked = λ m. unmarked_all m ∙ ap (λ l. has_mark l m) (sym empty);
+  listeners = subst (λ l. AreListeners (record { world = (known_of journal p).world; log = l }) ls) (sym empty) (listeners_empty (known_of journal p).world ls none unheard);
 }
   where
     no_flag : (id : ℕ) → flag_in [] id ≡ false
@@ -276,22 +354,22 @@ empty_whole journal p cs ms kept empty domains closed begun sent unmarked_all = 
 
 -- ---- calls that decide nothing
 
-module _ (journal journal' : Noted) (p : Pipeline) (cs : Chains) (ms : Marks) (whole : IsWhole journal p cs ms) (client : ℕ) (call : Call) (log : journal'.log ≡ jotted journal.log client call) where
+module _ (journal journal' : Noted) (p : Pipeline) (cs : Chains) (ms : Marks) (ls : Listeners) (whole : IsWhole journal p cs ms ls) (client : ℕ) (call : Call) (log : journal'.log ≡ jotted journal.log client call) where
   pub longer_now : known_of journal' p ≡ more (known_of journal p) (record { client = client; number = entries_of journal.log client; call = call })
   longer_now = λ i. let known : Known = record { world = (known_of journal p).world; log = log i } in known
 
   -- with the view of a hub that it had
-  pub made_over : (known : Known) (r : Reply) → known_of journal p ≡ known → length journal.log < 1000000 → reply_to (known_of journal p).world (history (known_of journal p).world journal.log) call ≡ r
+  pub made_over : (known : Known) (r : Reply) → known_of journal p ≡ known → length journal.log < 1000000 → reply_to (known_of journal p).world (history (known_of journal p).world journal.log) client call ≡ r
       → Made known (known_of journal' p) (entry_of known client call) r
   made_over known r same room reply = subst (λ k. Made k (known_of journal' p) (entry_of k client call) r) same (made_now journal journal' p whole.kept client call log r room reply)
 
 -- what a look for a mark is answered
-pub seen_now : (journal : Noted) (p : Pipeline) (cs : Chains) (ms : Marks) (mark : ℕ) (b : Bool) → IsWhole journal p cs ms → is_key ms.map mark ≡ b → reply_to (known_of journal p).world (history (known_of journal p).world journal.log) (After mark) ≡ (if b then Found else Late)
-seen_now journal p cs ms mark b whole is =
+pub seen_now : (journal : Noted) (p : Pipeline) (cs : Chains) (ms : Marks) (ls : Listeners) (client mark : ℕ) (b : Bool) → IsWhole journal p cs ms ls → is_key ms.map mark ≡ b → reply_to (known_of journal p).world (history (known_of journal p).world journal.log) client (After mark) ≡ (if b then Found else Late)
+seen_now journal p cs ms ls client mark b whole is =
     ap (λ x. if x then Found else Late) (marked (known_of journal p).world journal.log mark ∙ sym (whole.marked mark) ∙ is)
 
 -- the chain of a transaction is one of those that are kept
-module _ (journal : Noted) (p : Pipeline) (cs : Chains) (ms : Marks) (whole : IsWhole journal p cs ms) (known : Known) (view : known_of journal p ≡ known) (begun : Token) (base : Pair) (token : IsBegun known begun base) where
+module _ (journal : Noted) (p : Pipeline) (cs : Chains) (ms : Marks) (ls : Listeners) (whole : IsWhole journal p cs ms ls) (known : Known) (view : known_of journal p ≡ known) (begun : Token) (base : Pair) (token : IsBegun known begun base) where
   pub token_began : began_at (history (known_of journal p).world journal.log) begun.place ≡ Some (record { domain = begun.domain; commit = begun.base_commit; chain = begun.chain; trees = rows_in base })
   token_began = (subst (λ k. IsBegun k begun base) (sym view) token).began
 
@@ -308,6 +386,6 @@ module _ (journal : Noted) (p : Pipeline) (cs : Chains) (ms : Marks) (whole : Is
   member_sent = λ id is. ((member_domains id is).0, omega (arith, (member_domains id is).1, whole.chains.even.sent))
 
 -- chains that are the same
-pub chains_whole : (journal journal' : Noted) (p : Pipeline) (cs cs' : Chains) (ms : Marks) → IsWhole journal p cs ms → journal' ≡ journal → AreSame cs cs' → IsWhole journal' p cs' ms
-chains_whole journal journal' p cs cs' ms whole as_was same =
-    subst (λ j. IsWhole j p cs' ms) (sym as_was) (record { kept = whole.kept; chains = chains_as (known_of journal p) cs cs' same whole.chains; marked = whole.marked })
+pub chains_whole : (journal journal' : Noted) (p : Pipeline) (cs cs' : Chains) (ms : Marks) (ls : Listeners) → IsWhole journal p cs ms ls → journal' ≡ journal → AreSame cs cs' → IsWhole journal' p cs' ms ls
+chains_whole journal journal' p cs cs' ms ls whole as_was same =
+    subst (λ j. IsWhole j p cs' ms ls) (sym as_was) (record { kept = whole.kept; chains = chains_as (known_of journal p) cs cs' same whole.chains; marked = whole.marked; listeners = whole.listeners })

@@ -7,6 +7,7 @@ pub mod Failures
 pub mod Journals
 pub mod Known
 pub mod Lines
+pub mod Listeners
 pub mod Marks
 pub mod Opened
 pub mod Openings

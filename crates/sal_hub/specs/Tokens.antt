@@ -1,5 +1,6 @@
--- The tokens that a hub has given: transactions, receipts and chains.
+-- The tokens that a hub has given: transactions, receipts, chains and listeners.
 use Rattle.std.specs.Prelude.{◌≡◌, ℕ, ◌-◌, ◌<◌, ◌≤◌, List, [], length, Option, Some, slice_get}
+use Rattle.std.specs.Option.{option_map}
 use Rattle.sal_rows.specs.declared.op.Op.{Op}
 use Rattle.sal_rows.specs.declared.outcome.Mode.{Mode}
 use Rattle.sal_rows.specs.declared.outcome.Mode.TheVariants.{Ro}
@@ -9,8 +10,10 @@ use Rattle.sal_tx.specs.declared.tx.Tx.{Tx}
 use Rattle.sal_tx.specs.declared.tx.Tx.TheVariants.{Read, Write}
 use Rattle.sal_tx.specs.Views.{rows_in}
 use Rattle.sal_history.specs.World.{table_of}
+use Rattle.sal_history.specs.Listeners.{Listening, listener_at}
 use Rattle.sal_history.specs.History.{began_at, chain_domains, history, sents}
 use Rattle.sal_hub.specs.declared.chain.Chain.{Chain}
+use Rattle.sal_hub.specs.declared.listener.ListenerId.{ListenerId}
 use Rattle.sal_hub.specs.Known.{Known}
 
 abbrev pub begun_of : Tx → Begun
@@ -54,3 +57,7 @@ IsGiven known receipt = (0 < receipt) × (receipt ≤ length (sents (history kno
 -- the chain was opened, over its domain
 abbrev pub IsChain : Known → Chain → Type 0
 IsChain known chain = (0 < chain.id) × (slice_get (chain_domains (history known.world known.log)) (chain.id - 1) ≡ Some chain.domain)
+
+-- the listener was made, over its domain
+abbrev pub IsListener : Known → ListenerId → Type 0
+IsListener known id = (0 < id.number) × (option_map (λ (l : Listening). l.domain) (listener_at (history known.world known.log) id.number) ≡ Some id.domain)

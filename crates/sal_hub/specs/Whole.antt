@@ -1,13 +1,16 @@
 -- All that a hub keeps is what its log gives.
 use Rattle.sal_hub.specs.declared.chains.Chains.{Chains}
+use Rattle.sal_hub.specs.declared.listeners.Listeners.{Listeners}
 use Rattle.sal_hub.specs.declared.marks.Marks.{Marks}
 use Rattle.sal_hub.specs.declared.pipeline.Pipeline.{Pipeline}
 use Rattle.sal_hub.specs.Chains.{AreChains}
 use Rattle.sal_hub.specs.Current.{IsKept, known_of}
 use Rattle.sal_hub.specs.Journals.{Noted}
+use Rattle.sal_hub.specs.Listeners.{AreListeners}
 use Rattle.sal_hub.specs.Marks.{AreMarked}
 
-pub record IsWhole (journal : Noted) (p : Pipeline) (cs : Chains) (ms : Marks) : Type 0 where
+pub record IsWhole (journal : Noted) (p : Pipeline) (cs : Chains) (ms : Marks) (ls : Listeners) : Type 0 where
   pub kept : IsKept journal p
   pub chains : AreChains (known_of journal p) cs
   pub marked : AreMarked journal.log ms.map
+  pub listeners : AreListeners (known_of journal p) ls

@@ -1,27 +1,32 @@
 //! The hub.
 ghost use Rattle.std.specs.Prelude.{◌≡◌, ◌≤◌, None, Some, [], IfOk, MatchResult, length};
 ghost use Rattle.sal_types.specs.declared.value.Store.{Store as Of};
+ghost use Rattle.sal_rows.specs.declared.batch.Batch.{Batch as Told};
 ghost use Rattle.sal_rows.specs.declared.outcome.Outcome.{Outcome as Decided};
 ghost use Rattle.sal_tx.specs.declared.tx.Tx.{Tx as Token};
 ghost use Rattle.sal_tx.specs.Views.{rows_in};
-ghost use Rattle.sal_history.specs.declared.call.Call.TheVariants.{After, Begin, Cancel, ChainBegin, CloseChain, Mark, OpenChain, Pump, Settle, Submit};
-ghost use Rattle.sal_history.specs.declared.reply.Reply.TheVariants.{Accepted, Begun, Chain as Opened, Receipt as Numbered, Settled};
+ghost use Rattle.sal_history.specs.declared.call.Call.TheVariants.{After, Begin, Cancel, ChainBegin, CloseChain, Listen, Mark, OpenChain, Pump, Settle, Submit, Take, Unlisten};
+ghost use Rattle.sal_history.specs.declared.reply.Reply.TheVariants.{Accepted, Batch as Tells, Begun, Chain as Opened, Receipt as Numbered, Settled};
 ghost use Rattle.sal_history.specs.History.{commits, history, newest_tree};
 ghost use Rattle.sal_hub.specs.declared.chain.Chain.{Chain as Line};
 ghost use Rattle.sal_hub.specs.declared.receipt.Receipt.{Receipt as Given};
 ghost use Rattle.sal_hub.specs.Answers.{Calls, CallsOr};
 ghost use Rattle.sal_hub.specs.Domains.{AreDomains};
 ghost use Rattle.sal_hub.specs.Known.{entry_of};
+ghost use Rattle.sal_hub.specs.Listeners.{IsMade, listener_reply};
 ghost use Rattle.sal_hub.specs.Marks.{has_mark};
 ghost use Rattle.sal_hub.specs.Openings.{IsFaultOf, fault_of, world_of};
 ghost use Rattle.sal_hub.specs.Seen.{LooksOnce, pump_reply, seen_reply};
-ghost use Rattle.sal_hub.specs.Tokens.{IsBegun, IsChain, IsFresh, IsGiven, IsToken, begun_of};
+ghost use Rattle.sal_hub.specs.Tokens.{IsBegun, IsChain, IsFresh, IsGiven, IsListener, IsToken, begun_of};
 
 use crate::chain::Chain;
 use crate::chain_calls::{chain_begin, close_chain, open_chain};
 use crate::chains::{Chains, note};
 use crate::devices::open_all;
 use crate::journal::Journal;
+use crate::listener::ListenerId;
+use crate::listener_calls::Ask;
+use crate::listeners::Listeners;
 use crate::marks::{Marks, leave};
 use crate::opening::OpenFault;
 use crate::pipeline::Pipeline;
@@ -32,10 +37,10 @@ use crate::start::{begin, last_commit};
 use crate::submit::submit;
 use sal_commit::Domain;
 use sal_history::{Call, Device, Entry};
-use sal_rows::{CallFault, Mode, Outcome};
+use sal_rows::{Batch, CallFault, Mode, Opened, Outcome};
 use sal_tree::Pair;
 use sal_tx::{Tx, WriteTx};
-use sal_types::NoMemory;
+use sal_types::{NoMemory, Path, Store};
 use std::alloc::Global;
 use std::marker::Model;
 
@@ -52,6 +57,7 @@ pub struct Hub {
     journal: Journal,
     chains: Chains,
     marks: Marks,
+    listeners: Listeners,
 }
 
 impl Model for Hub {
@@ -68,7 +74,7 @@ impl Model for Hub {
 
     ghost view = { λ h. known_of h.journal h.pipeline };
 
-    ghost invariant = { λ h. IsWhole h.journal h.pipeline h.chains h.marks };
+    ghost invariant = { λ h. IsWhole h.journal h.pipeline h.chains h.marks h.listeners };
 }
 
 // The place of the entry that began the transaction.
@@ -98,11 +104,13 @@ impl Hub {
         let journal = Journal::new(alloc);
         let chains = Chains::new(alloc);
         let marks = Marks::new(alloc);
+        let listeners = Listeners::new(alloc);
         Ok(Hub {
             pipeline,
             journal,
             chains,
             marks,
+            listeners,
         })
     }
 
@@ -304,6 +312,68 @@ impl Hub {
             Err(NoMemory) => return Err(CallFault::NoMemory),
         }
         Ok(())
+    }
+
+    /// Makes a listener of the store of the domain at the path and below it, and answers what stands there at the newest
+    /// commit.
+    pub fn listen(
+        &mut self,
+        alloc: Global,
+        client: u32,
+        domain: u32,
+        store: Store,
+        path: &Path,
+    ) -> Result<(ListenerId, Opened), CallFault>
+        ensures answer { Calls self.old self.new (entry_of self.old client (Listen domain store path.now)) (listener_reply domain path.now) result }
+        ensures given { IfOk result (λ given. IsListener self.new given.0) }
+        ensures domain { IfOk result (λ given. given.0.domain ≡ domain) }
+        ensures made { IfOk result (λ given. IsMade self.new given.0 (record { client = client; domain = domain; store = store; path = path.now })) }
+    {
+        if self.journal.is_full() {
+            return Err(CallFault::HistoryFull);
+        }
+        let ask = Ask {
+            client,
+            domain,
+            store,
+            path,
+        };
+        self.listeners
+            .listen(alloc, &self.pipeline, &mut self.journal, &ask)
+    }
+
+    /// Takes what changed for the client's listener by each commit since its opening, or since what was taken last.
+    pub fn take(
+        &mut self,
+        alloc: Global,
+        client: u32,
+        id: ListenerId,
+    ) -> Result<Batch, CallFault>
+        requires token { IsListener self.old id }
+        ensures answer { Calls self.old self.new (entry_of self.old client (Take id.number)) (λ (b : Told). Tells id.domain b) result }
+    {
+        if self.journal.is_full() {
+            return Err(CallFault::HistoryFull);
+        }
+        self.listeners
+            .take(alloc, &self.pipeline, &mut self.journal, client, id)
+    }
+
+    /// Removes the client's listener.
+    pub fn unlisten(
+        &mut self,
+        alloc: Global,
+        client: u32,
+        id: ListenerId,
+    ) -> Result<(), CallFault>
+        requires token { IsListener self.old id }
+        ensures answer { Calls self.old self.new (entry_of self.old client (Unlisten id.number)) (λ _. Accepted) result }
+    {
+        if self.journal.is_full() {
+            return Err(CallFault::HistoryFull);
+        }
+        self.listeners
+            .unlisten(&self.pipeline, &mut self.journal, client, id)
     }
 
     /// Leaves the mark in the log.

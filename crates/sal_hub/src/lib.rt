@@ -6,8 +6,9 @@
 //! | `Hub::open` | a hub over some devices, unless an opening tree is refused (`OpenFault`) |
 //! | `Hub::begin`, `submit`, `cancel`, `settle`, `pump` | the shared calls: each makes one entry of the log and is answered as the log gives |
 //! | `Hub::open_chain`, `chain_begin`, `close_chain` | the same, of transaction chains (MD-SAL `DOMTransactionChain`) |
+//! | `Hub::listen`, `take`, `unlisten` | the same, of listeners (MD-SAL `DOMDataTreeChangeListener`): what stands at a path, and then what each commit changed there |
 //! | `Hub::mark`, `after`, `has_mark` | the same, of marks, by which clients can tell each other how far they are; and a look that makes no entry |
-//! | `Receipt`, `Chain` | the tokens of a submission and of a chain |
+//! | `Receipt`, `Chain`, `ListenerId` | the tokens of a submission, of a chain and of a listener |
 //! | `Seen` | what a look for a mark finds |
 //! | `laws` | a function that does nothing, with a law of the tokens as its contract |
 //!
@@ -16,12 +17,15 @@
 //!
 //! What is kept beside the log is tied to it by `specs/Current`: the submissions, the outcomes and the marks of spent
 //! transactions are those of the answered log, and `specs/Lines` says that the commits of each domain, and the receipts by which
-//! chains failed, are those that the outcomes tell. What is kept of chains is tied to the log by `specs/Chains`, and the marks
-//! that were left by `specs/Marks`; `specs/Whole` has them all.
+//! chains failed, are those that the outcomes tell. What is kept of chains is tied to the log by `specs/Chains`, what is kept
+//! of listeners by `specs/Listeners`, and the marks that were left by `specs/Marks`; `specs/Whole` has them all.
 //!
 //! The next transaction of a chain begins on the chain's last submission while that is pending: it shares the view of that
 //! submission, and has its base commit. Else it begins at the newest commit. A chain that failed begins no transaction, and its
 //! pending submissions are decided by the receipt that failed.
+//!
+//! A listener is asked by its client: nothing is kept of what it was not told but the number of the last commit of which it was.
+//! A batch is made from the commits of the domain when it is taken.
 //!
 //! ```
 //! let mut hub = Hub::open(alloc, devices)?;
@@ -34,6 +38,9 @@
 //! | `log`, `domains`, `newest`, `trees` | constant |
 //! | `begin`, `cancel`, `open_chain`, `chain_begin`, `close_chain` | one search among the clients; a begin shares the nodes of the trees that it stands on |
 //! | `mark`, `after`; `has_mark` | the same, and one search among the marks; that search alone |
+//! | `listen` | one search among the clients, and a copy of the rows at the path and below it |
+//! | `take` | the same search, and the changes of each commit after the listener's version (`sal_listen`) |
+//! | `unlisten` | the same search |
 //! | `submit` | the same, and a copy of the operations for the log |
 //! | `settle`, `pump` | the decision of each pending submission up to the receipt, or of the first (`sal_commit`), and one number for each domain; where memory is wanting, one look at each chain |
 #![tactic(auto)]
@@ -47,6 +54,9 @@ mod failures;
 mod hub;
 mod journal;
 pub mod laws;
+mod listener;
+mod listener_calls;
+mod listeners;
 mod marks;
 mod opening;
 mod pipeline;
@@ -58,6 +68,8 @@ mod submit;
 
 pub use chain::Chain;
 pub use hub::{Hub, MAX_ENTRIES, MAX_PENDING};
+pub use listener::ListenerId;
+pub use listeners::MAX_LISTENERS;
 pub use opening::OpenFault;
 pub use receipt::Receipt;
 pub use seen::Seen;

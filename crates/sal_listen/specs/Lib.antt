@@ -1,1 +1,4 @@
+pub mod Following
+pub mod Given
+pub mod Laws
 pub mod Mirrors

@@ -27,7 +27,13 @@
 //! with such batches opens its listener anew.
 #![tactic(auto)]
 
+pub mod batches;
+mod commits;
+pub mod laws;
 pub mod mirror;
+pub mod opening;
 
+pub use batches::{Listened, batch};
 pub use mirror::{Mirror, MirrorFault};
+pub use opening::opened;
 pub use sal_rows::{Batch, Opened, Part};

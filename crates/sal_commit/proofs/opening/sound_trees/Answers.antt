@@ -4,7 +4,7 @@ use Rattle.sal_commit.specs.Opening.{fault_over}
 use Rattle.sal_commit.proofs.opening.sound_trees.Goals as goal
 
 pub returns-in-None-clause-fault : goal.returns-in-None-clause-fault
-returns-in-None-clause-fault c = (λ i. fault_over (sym c.requires i) (sym c.in_ok-trees.ensures i)) ∙ sym c.in_ok-fault_in.ensures ∙ c.in-None.is
+returns-in-None-clause-fault c = (λ i. fault_over (sym c.requires i) (sym c.in_ok-trees.ensures.trees i)) ∙ sym c.in_ok-fault_in.ensures ∙ c.in-None.is
 
 pub returns-in-Some-clause-fault : goal.returns-in-Some-clause-fault
-returns-in-Some-clause-fault c = inr ((λ i. fault_over (sym c.requires i) (sym c.in_ok-trees.ensures i)) ∙ sym c.in_ok-fault_in.ensures ∙ c.in-Some.is)
+returns-in-Some-clause-fault c = inr ((λ i. fault_over (sym c.requires i) (sym c.in_ok-trees.ensures.trees i)) ∙ sym c.in_ok-fault_in.ensures ∙ c.in-Some.is)

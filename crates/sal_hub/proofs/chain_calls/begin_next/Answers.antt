@@ -41,7 +41,7 @@ returns-clause-kept c =
     let starts : Starts d c.in_ok-footing.footing (Some chain.id) c.args.mode (length journal.log) c.in_ok-tx.tx =
     subst (λ n. Starts d c.in_ok-footing.footing (Some n) c.args.mode (length journal.log) c.in_ok-tx.tx) c.id.ensures c.in_ok-tx.ensures.starts in
     let log : c.enter.new.journal.log ≡ jotted journal.log c.args.client (ChainBegin chain.id c.args.mode) = c.in_ok-tx.ensures.log ∙ ap (λ n. jotted journal.log c.args.client (ChainBegin n c.args.mode)) c.id.ensures in
-    next_kept journal p c.requires.kept cs c.requires.chains chain c.requires.token c.requires.allowed d at sent sent_at c.in_ok-footing.footing c.in_ok-footing.ensures c.args.mode c.in_ok-tx.tx starts c.enter.new.journal c.args.client log c.in_ok-tx.ensures.marks
+    next_kept journal p c.requires.kept cs c.requires.chains chain c.requires.token c.requires.allowed d at sent sent_at c.in_ok-footing.footing c.in_ok-footing.ensures c.args.mode c.in_ok-tx.tx starts c.args.client c.enter.new.journal log c.in_ok-tx.ensures.marks
 
 pub returns-clause-chains : goal.returns-clause-chains
 returns-clause-chains c =
@@ -61,7 +61,7 @@ returns-clause-chains c =
     c.note.ensures ∙ (λ i. set (c.deref_mut.ensures.value i) (c.id.ensures i - 1) (Some (length (c.entries.ensures i)))) in
     let long : length c.note.new.notes ≡ cs.begun.len = ap length c.note.ensures ∙ length-set c.deref_mut.result.now (c.id.result - 1) (Some (length c.entries.result.now)) ∙ c.deref_mut.ensures.len in
     let cs' : Chains = record { domains = cs.domains; closed = cs.closed; begun = with_items cs.begun c.note.new.notes; sent = cs.sent } in
-    next_chains journal p c.requires.kept cs c.requires.chains chain c.requires.token c.requires.allowed d at sent sent_at c.in_ok-footing.footing c.in_ok-footing.ensures c.args.mode c.in_ok-tx.tx starts c.enter.new.journal c.args.client log cs' refl refl (with_items_is cs.begun c.note.new.notes long ∙ noted) refl
+    next_chains journal p c.requires.kept cs c.requires.chains chain c.requires.token c.requires.allowed d at sent sent_at c.in_ok-footing.footing c.in_ok-footing.ensures c.args.mode c.in_ok-tx.tx starts c.args.client c.enter.new.journal log cs' refl refl (with_items_is cs.begun c.note.new.notes long ∙ noted) refl
 
 pub returns-clause-answer : goal.returns-clause-answer
 returns-clause-answer c =
@@ -78,7 +78,7 @@ returns-clause-answer c =
     subst (λ n. Starts d c.in_ok-footing.footing (Some n) c.args.mode (length journal.log) c.in_ok-tx.tx) c.id.ensures c.in_ok-tx.ensures.starts in
     let log : c.enter.new.journal.log ≡ jotted journal.log c.args.client (ChainBegin chain.id c.args.mode) = c.in_ok-tx.ensures.log ∙ ap (λ n. jotted journal.log c.args.client (ChainBegin n c.args.mode)) c.id.ensures in
     made_now journal c.enter.new.journal p c.requires.kept c.args.client (ChainBegin chain.id c.args.mode) log (Begun (begun_of c.in_ok-tx.tx).base_commit (begun_of c.in_ok-tx.tx).on) c.requires.room
-    (next_reply journal p c.requires.kept cs c.requires.chains chain c.requires.token c.requires.allowed d at sent sent_at c.in_ok-footing.footing c.in_ok-footing.ensures c.args.mode c.in_ok-tx.tx starts)
+    (next_reply journal p c.requires.kept cs c.requires.chains chain c.requires.token c.requires.allowed d at sent sent_at c.in_ok-footing.footing c.in_ok-footing.ensures c.args.mode c.in_ok-tx.tx starts c.args.client)
 
 pub returns-clause-token : goal.returns-clause-token
 returns-clause-token c =
@@ -94,7 +94,7 @@ returns-clause-token c =
     let starts : Starts d c.in_ok-footing.footing (Some chain.id) c.args.mode (length journal.log) c.in_ok-tx.tx =
     subst (λ n. Starts d c.in_ok-footing.footing (Some n) c.args.mode (length journal.log) c.in_ok-tx.tx) c.id.ensures c.in_ok-tx.ensures.starts in
     let log : c.enter.new.journal.log ≡ jotted journal.log c.args.client (ChainBegin chain.id c.args.mode) = c.in_ok-tx.ensures.log ∙ ap (λ n. jotted journal.log c.args.client (ChainBegin n c.args.mode)) c.id.ensures in
-    next_token journal p c.requires.kept cs c.requires.chains chain c.requires.token c.requires.allowed d at sent sent_at c.in_ok-footing.footing c.in_ok-footing.ensures c.args.mode c.in_ok-tx.tx starts c.enter.new.journal c.args.client log
+    next_token journal p c.requires.kept cs c.requires.chains chain c.requires.token c.requires.allowed d at sent sent_at c.in_ok-footing.footing c.in_ok-footing.ensures c.args.mode c.in_ok-tx.tx starts c.args.client c.enter.new.journal log
 
 pub returns-clause-fresh : goal.returns-clause-fresh
 returns-clause-fresh c =
@@ -110,4 +110,4 @@ returns-clause-fresh c =
     let starts : Starts d c.in_ok-footing.footing (Some chain.id) c.args.mode (length journal.log) c.in_ok-tx.tx =
     subst (λ n. Starts d c.in_ok-footing.footing (Some n) c.args.mode (length journal.log) c.in_ok-tx.tx) c.id.ensures c.in_ok-tx.ensures.starts in
     let log : c.enter.new.journal.log ≡ jotted journal.log c.args.client (ChainBegin chain.id c.args.mode) = c.in_ok-tx.ensures.log ∙ ap (λ n. jotted journal.log c.args.client (ChainBegin n c.args.mode)) c.id.ensures in
-    next_fresh journal p c.requires.kept cs c.requires.chains chain c.requires.token c.requires.allowed d at sent sent_at c.in_ok-footing.footing c.in_ok-footing.ensures c.args.mode c.in_ok-tx.tx starts c.enter.new.journal c.args.client log
+    next_fresh journal p c.requires.kept cs c.requires.chains chain c.requires.token c.requires.allowed d at sent sent_at c.in_ok-footing.footing c.in_ok-footing.ensures c.args.mode c.in_ok-tx.tx starts c.args.client c.enter.new.journal log

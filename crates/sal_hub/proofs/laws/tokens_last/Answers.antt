@@ -5,6 +5,7 @@ use Rattle.std.specs.Option.{option_to_list}
 use Rattle.sal_history.specs.History.{chain_domains, history, opened_chain, reply_to}
 use Rattle.sal_hub.proofs.Histories.{began_at-push, chains-push, sents-grow}
 use Rattle.sal_hub.proofs.Listed.{slice_get_more}
+use Rattle.sal_hub.proofs.Listened.{named_last, made_last}
 use Rattle.sal_hub.proofs.laws.tokens_last.Goals as goal
 
 pub returns-clause-begun : goal.returns-clause-begun
@@ -21,5 +22,11 @@ pub returns-clause-opened : goal.returns-clause-opened
 returns-clause-opened c = λ known e chain was. (
   was.0,
   ap (λ (ds : List ℕ). slice_get ds (chain.id - 1)) (chains-push known.world known.log e)
-      ∙ slice_get_more (chain_domains (history known.world known.log)) (option_to_list (opened_chain e.call (reply_to known.world (history known.world known.log) e.call))) (chain.id - 1) chain.domain was.1,
+      ∙ slice_get_more (chain_domains (history known.world known.log)) (option_to_list (opened_chain e.call (reply_to known.world (history known.world known.log) e.client e.call))) (chain.id - 1) chain.domain was.1,
 )
+
+pub returns-clause-listener : goal.returns-clause-listener
+returns-clause-listener c = λ known e id was. named_last known e id was
+
+pub returns-clause-made : goal.returns-clause-made
+returns-clause-made c = λ known e id l was. made_last known e id.number l was

@@ -1,4 +1,4 @@
--- The opening trees are those of the one commit, and break no rule.
+-- The opening trees are those of the one commit, and break no rule. Its nodes have the stamp 0.
 use Rattle.std.proofs.Common.{sym, ◌∙◌}
 use Rattle.sal_rules.specs.Breaches.{breach}
 use Rattle.sal_commit.specs.Opening.{opening_of_device}
@@ -14,4 +14,6 @@ invariant_of-result c = record {
   sound = c.in_ok-commits.ensures.sound c.in_ok-schema.schema.value (λ s.
       (λ i. breach (c.in_ok-schema.ensures i) s (c.in_ok-trees.ensures.trees i s))
       ∙ none-fault c.args.device.now.schema.value (opening_of_device c.args.device.now) c.in_ok-trees.ensures.fault s);
+  agreed = c.in_ok-commits.ensures.agreed;
+  stamped = c.in_ok-commits.ensures.stamped c.in_ok-trees.ensures.stamps;
 }

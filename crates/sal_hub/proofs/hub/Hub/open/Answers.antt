@@ -14,10 +14,10 @@ use Rattle.sal_hub.proofs.hub.Hub.open.Goals as goal
 pub invariant_of-result : goal.invariant_of-result
 invariant_of-result c =
     let p : Pipeline = record { domains = c.in_ok-domains.domains; submissions = c.new.result; outcomes = c.new-2.result; failures = c.new-3.result } in
-    empty_whole c.new-journal.result p c.new-chains.result c.new-marks.result
+    empty_whole c.new-journal.result p c.new-chains.result c.new-marks.result c.new-listeners.result
     (opened_kept c.args.devices.items p c.new-journal.result c.requires.some c.in_ok-domains.ensures.kept
     (c.in_ok-domains.ensures.shown ∙ ap (shown_from 0) c.deref.ensures.value) c.new.ensures.items c.new-2.ensures.items c.new-3.ensures.items c.new-journal.ensures)
-    (ap (λ (j : Noted). j.log) c.new-journal.ensures) c.new-chains.ensures.domains c.new-chains.ensures.closed c.new-chains.ensures.begun c.new-chains.ensures.sent c.new-marks.ensures
+    (ap (λ (j : Noted). j.log) c.new-journal.ensures) c.new-chains.ensures.domains c.new-chains.ensures.closed c.new-chains.ensures.begun c.new-chains.ensures.sent c.new-marks.ensures c.new-listeners.ensures.list c.new-listeners.ensures.live
 
 pub returns : goal.returns
 returns c =

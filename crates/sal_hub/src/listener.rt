@@ -1,0 +1,45 @@
+//! Listeners.
+ghost use Rattle.std.specs.Prelude.{◌≡◌};
+
+use sal_types::{Path, Store};
+
+/// The token of a listener (MD-SAL `ListenerRegistration`). Listeners are numbered from 1, over all domains and clients.
+#[derive(Clone, Copy, Debug, PartialEq, Eq)]
+pub struct ListenerId {
+    number: u64,
+    domain: u32,
+}
+
+impl ListenerId {
+    pub(crate) fn of(number: u64, domain: u32) -> ListenerId
+        ensures { result ≡ record { number = number; domain = domain } }
+    {
+        ListenerId { number, domain }
+    }
+
+    /// Its number.
+    pub fn number(&self) -> u64
+        ensures { result ≡ self.now.number }
+    {
+        self.number
+    }
+
+    /// The domain to which it listens.
+    pub fn domain(&self) -> u32
+        ensures { result ≡ self.now.domain }
+    {
+        self.domain
+    }
+}
+
+/// What is kept of a listener: whose it is, to what it listens, the number of the commit up to which it was told, and
+/// whether it was not removed yet.
+#[derive(Drop)]
+pub(crate) struct Listener {
+    pub(crate) client: u32,
+    pub(crate) domain: u32,
+    pub(crate) store: Store,
+    pub(crate) path: Path,
+    pub(crate) version: u64,
+    pub(crate) live: bool,
+}

@@ -210,15 +210,12 @@ impl Listeners {
         ensures answer { Calls (known_of journal.old pipeline.now) (known_of journal.new pipeline.now) (entry_of (known_of journal.old pipeline.now) client (Unlisten id.number)) (λ _. Accepted) result }
     {
         let number = id.number();
-        if !self.has(client, number) {
-            return match journal.add(client, Call::Unlisten { id: number }) {
-                Ok(()) => Err(CallFault::NoListener { id: number }),
-                Err(NoMemory) => Err(CallFault::NoMemory),
-            };
-        }
         match journal.add(client, Call::Unlisten { id: number }) {
             Ok(()) => {}
             Err(NoMemory) => return Err(CallFault::NoMemory),
+        }
+        if !self.has(client, number) {
+            return Err(CallFault::NoListener { id: number });
         }
         self.take_out(number as usize - 1);
         Ok(())

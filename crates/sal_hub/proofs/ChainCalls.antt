@@ -101,8 +101,9 @@ module _ (journal journal' : Noted) (p : Pipeline) (is : IsKept journal p) (clie
     sound_now = record {
       some = is.current.sound.some;
       within = is.current.sound.within;
-      domains = λ n d at. let had = is.current.sound.domains n d at in record { number = had.number; live = had.live; commits = had.commits; chains = had.chains };
+      domains = λ n d at. let had = is.current.sound.domains n d at in record { number = had.number; live = had.live; commits = had.commits; chains = had.chains; receipts = had.receipts };
       submissions = λ i s at. let had = is.current.sound.submissions i s at in record { domain = had.domain; base = had.base; chain = subst (λ n. IsWithin n s.chain) (sym longer) (wider (length (line_of p).failures) s.chain had.chain); view = had.view; below = had.below };
+      numbers = is.current.sound.numbers;
       failures = λ k. noted_in-push (line_of p).failures k ∙ is.current.sound.failures k;
     }
 

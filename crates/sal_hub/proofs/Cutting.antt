@@ -2,7 +2,7 @@
 use Rattle.std.proofs.Common.{◌≡◌, ℕ, zero, suc, ◌+◌, ◌-◌, ◌<◌, ◌≤◌, List, [], ◌∷◌, ◌++◌, length, map, get_or, set, take, Option, Some, refl, ap, sym, ◌∙◌, subst, arith, append_assoc, append-nil}
 use Rattle.std.specs.Prelude.{slice_get}
 use Rattle.std.specs.Option.{option_map}
-use Rattle.std.proofs.lemmas.List.{get_or-take, length-map, length-take, map-append, map-set, take_more}
+use Rattle.std.proofs.lemmas.List.{get_or-take, length-map, length-take, map-append, map-set, take-map, take_more}
 use Rattle.std.proofs.lemmas.List.Elements.{All-set}
 use Rattle.std.proofs.lemmas.Option.{same_Some, slice_get-map}
 use Rattle.sal_rows.specs.declared.op.Op.{Op}
@@ -10,9 +10,11 @@ use Rattle.sal_rows.specs.declared.outcome.Outcome.{Outcome}
 use Rattle.sal_rows.specs.Commits.{tree_after, tree_at}
 use Rattle.sal_tree.specs.declared.commit.Commit.{Commit}
 use Rattle.sal_graft.specs.Kept.{AreKept, all_ops, chains_of, opening_in, ops_of}
+use Rattle.sal_graft.proofs.KeptLemmas.{length-ops_of}
 use Rattle.sal_tx.specs.declared.tx.Submission.{Submission}
 use Rattle.sal_commit.specs.declared.domain.Domain.{Domain as Stored}
 use Rattle.sal_commit.specs.Domains.{IsSame}
+use Rattle.sal_commit.specs.Stamps.{receipts_of}
 use Rattle.sal_history.specs.World.{Domain}
 use Rattle.sal_history.specs.History.{decide_front, decide_next}
 use Rattle.sal_history.specs.Submissions.{Sent}
@@ -74,33 +76,36 @@ AreKept-take cs k are = record {
 -- ---- domains
 
 -- one more is cut
-pub cut_more : (ds : List Shown) (ks : List ℕ) (i k : ℕ) (d : Shown) → slice_get ks i ≡ Some k → slice_get (cut_all ds (take i ks)) i ≡ Some d → set (cut_all ds (take i ks)) i (record d { ops = take k d.ops; chains = take k d.chains }) ≡ cut_all ds (take (suc i) ks)
+pub cut_more : (ds : List Shown) (ks : List ℕ) (i k : ℕ) (d : Shown) → slice_get ks i ≡ Some k → slice_get (cut_all ds (take i ks)) i ≡ Some d → set (cut_all ds (take i ks)) i (record d { ops = take k d.ops; chains = take k d.chains; receipts = take (k + 1) d.receipts }) ≡ cut_all ds (take (suc i) ks)
 cut_more [] ks i k d at_k at_d = cc
 cut_more (x ∷ ds) [] i k d at_k at_d = cc
 cut_more (x ∷ ds) (j ∷ ks) zero k d at_k at_d =
-    (λ i. (let e : Shown = record (sym (same_Some x d at_d) i) { ops = take (sym (same_Some j k at_k) i) (sym (same_Some x d at_d) i).ops; chains = take (sym (same_Some j k at_k) i) (sym (same_Some x d at_d) i).chains } in e) ∷ none ds i)
+    (λ i. (let e : Shown = record (sym (same_Some x d at_d) i) { ops = take (sym (same_Some j k at_k) i) (sym (same_Some x d at_d) i).ops; chains = take (sym (same_Some j k at_k) i) (sym (same_Some x d at_d) i).chains; receipts = take (sym (same_Some j k at_k) i + 1) (sym (same_Some x d at_d) i).receipts } in e) ∷ none ds i)
   where
     none : (es : List Shown) → es ≡ cut_all es []
     none [] = refl
     none (e ∷ es) = refl
-cut_more (x ∷ ds) (j ∷ ks) (suc i) k d at_k at_d = ap (λ (es : List Shown). record x { ops = take j x.ops; chains = take j x.chains } ∷ es) (cut_more ds ks i k d at_k at_d)
+cut_more (x ∷ ds) (j ∷ ks) (suc i) k d at_k at_d = ap (λ (es : List Shown). record x { ops = take j x.ops; chains = take j x.chains; receipts = take (j + 1) x.receipts } ∷ es) (cut_more ds ks i k d at_k at_d)
 
--- each domain has a chain for each commit
+-- each domain has a chain and a receipt for each commit, and a receipt for the opening
 abbrev AreLevel : List Shown → Type 0
 AreLevel [] = Unit {0}
-AreLevel (d ∷ ds) = (length d.ops ≡ length d.chains) × AreLevel ds
+AreLevel (d ∷ ds) = ((length d.ops ≡ length d.chains) × (length d.ops + 1 ≡ length d.receipts)) × AreLevel ds
 
 as_long : (cs : List Commit) → length (all_ops cs) ≡ length (map (λ (c : Commit). c.chain) cs)
 as_long [] = refl
 as_long (c ∷ cs) = ap suc (as_long cs)
 
-level : (ds : List Stored) → AreLevel (map shown ds)
-level [] = tt
-level (d ∷ ds) = (each d.commits.items, level ds)
+level : (ds : List Stored) → AllKept ds → AreLevel (map shown ds)
+level [] kept = tt
+level (d ∷ ds) kept = ((each d.commits.items, with_opening d.commits.items (kept 0 d (omega arith)).opened), level ds (λ k x short. kept (suc k) x (omega (arith, short))))
   where
     each : (cs : List Commit) → length (ops_of cs) ≡ length (chains_of cs)
     each [] = refl
     each (c ∷ cs) = as_long cs
+
+    with_opening : (cs : List Commit) → 1 ≤ length cs → length (ops_of cs) + 1 ≡ length (receipts_of cs)
+    with_opening cs some = omega (arith, length-ops_of cs some, length-map cs (λ (c : Commit). c.receipt), some)
 
 -- what has grown is cut back to what it was
 cut_back : (ds es : List Shown) → AreLevel ds → HaveGrown ds es → cut_all es (counts_of ds) ≡ ds
@@ -109,8 +114,9 @@ cut_back [] (e ∷ es) even grown = absurd grown
 cut_back (d ∷ ds) [] even grown = absurd grown
 cut_back (d ∷ ds) (e ∷ es) even grown =
     let ops : take (length d.ops) e.ops ≡ d.ops = take-Grows d.ops e.ops grown.0.1 in
-    let chains : take (length d.ops) e.chains ≡ d.chains = ap (λ n. take n e.chains) even.0 ∙ take-Grows d.chains e.chains grown.0.2 in
-    (λ i. (let x : Shown = record (grown.0.0 i) { ops = ops i; chains = chains i } in x) ∷ cut_back ds es even.1 grown.1 i)
+    let chains : take (length d.ops) e.chains ≡ d.chains = ap (λ n. take n e.chains) even.0.0 ∙ take-Grows d.chains e.chains grown.0.2 in
+    let receipts : take (length d.ops + 1) e.receipts ≡ d.receipts = ap (λ n. take n e.receipts) even.0.1 ∙ take-Grows d.receipts e.receipts grown.0.3 in
+    (λ i. (let x : Shown = record (grown.0.0 i) { ops = ops i; chains = chains i; receipts = receipts i } in x) ∷ cut_back ds es even.1 grown.1 i)
 
 -- ---- one decision after another
 
@@ -121,7 +127,7 @@ HaveGrown-then [] (e ∷ es) fs g h = absurd g
 HaveGrown-then (d ∷ ds) [] fs g h = absurd g
 HaveGrown-then (d ∷ ds) (e ∷ es) [] g h = absurd h
 HaveGrown-then (d ∷ ds) (e ∷ es) (f ∷ fs) g h = (
-  (h.0.0 ∙ ap (λ (x : Shown). let y : Shown = record x { ops = f.ops; chains = f.chains } in y) g.0.0, Grows-then d.ops e.ops f.ops g.0.1 h.0.1, Grows-then d.chains e.chains f.chains g.0.2 h.0.2),
+  (h.0.0 ∙ ap (λ (x : Shown). let y : Shown = record x { ops = f.ops; chains = f.chains; receipts = f.receipts } in y) g.0.0, Grows-then d.ops e.ops f.ops g.0.1 h.0.1, Grows-then d.chains e.chains f.chains g.0.2 h.0.2, Grows-then d.receipts e.receipts f.receipts g.0.3 h.0.3),
   HaveGrown-then ds es fs g.1 h.1,
 )
 
@@ -182,8 +188,9 @@ cut_one ds all ks i k d d' within d_is at_k same commits so_far =
     let opening : opening_in d'.commits.items ≡ opening_in d.commits.items = ap opening_in cs ∙ opening-take d.commits.items k in
     let ops : ops_of d'.commits.items ≡ take k (ops_of d.commits.items) = ap ops_of cs ∙ ops_of-take d.commits.items k in
     let chains : chains_of d'.commits.items ≡ take k (chains_of d.commits.items) = ap chains_of cs ∙ chains_of-take d.commits.items k in
-    let cut : shown d' ≡ record (shown d) { ops = take k (shown d).ops; chains = take k (shown d).chains } =
-    λ j. record { number = same.number j; live = same.live j; table = (same.schema j).value; opening = opening j; ops = ops j; chains = chains j } in
+    let receipts : receipts_of d'.commits.items ≡ take (k + 1) (receipts_of d.commits.items) = ap receipts_of commits ∙ sym (take-map (λ (c : Commit). c.receipt) (k + 1) d.commits.items) in
+    let cut : shown d' ≡ record (shown d) { ops = take k (shown d).ops; chains = take k (shown d).chains; receipts = take (k + 1) (shown d).receipts } =
+    λ j. record { number = same.number j; live = same.live j; table = (same.schema j).value; opening = opening j; ops = ops j; chains = chains j; receipts = receipts j } in
     let here : slice_get (cut_all all (take i ks)) i ≡ Some (shown d) =
     ap (λ (es : List Shown). slice_get es i) (sym so_far) ∙ slice_get-map shown ds i ∙ ap (option_map shown) (slice_get_at ds i d within d_is) in
     map-set shown ds i d' ∙ (λ j. set (so_far j) i (cut j)) ∙ cut_more all ks i k (shown d) at_k here ∙ ap (λ n. cut_all all (take n ks)) (sym more)
@@ -206,7 +213,7 @@ HaveGrown-long [] (e ∷ es) grown = absurd grown
 HaveGrown-long (d ∷ ds) [] grown = absurd grown
 HaveGrown-long (d ∷ ds) (e ∷ es) grown = ap suc (HaveGrown-long ds es grown.1)
 
-module _ (old new : Pipeline) (grown : HasGrown (line_of old) (line_of new)) (counts : List ℕ) (counts_are : counts ≡ counts_of (map shown old.domains.items)) where
+module _ (old new : Pipeline) (kept : AllKept old.domains.items) (grown : HasGrown (line_of old) (line_of new)) (counts : List ℕ) (counts_are : counts ≡ counts_of (map shown old.domains.items)) where
   pub as_many : length counts ≡ length new.domains.items
   as_many =
       ap length counts_are ∙ length-map (map shown old.domains.items) (λ (d : Shown). length d.ops)
@@ -215,6 +222,6 @@ module _ (old new : Pipeline) (grown : HasGrown (line_of old) (line_of new)) (co
   pub taken_back : (ds : List Stored) (ss : List Submission) (os : List Outcome) (fs : List (Option ℕ)) → map shown ds ≡ cut_all (map shown new.domains.items) counts → ss ≡ new.submissions.items → os ≡ take (length old.outcomes.items) new.outcomes.items → fs ≡ cut_failures (length old.outcomes.items) new.failures.items
       → ◌≡◌ {A = Line} (record { domains = map shown ds; submissions = ss; outcomes = os; failures = fs }) (line_of old)
   taken_back ds ss os fs cut same taken forgotten =
-      let domains : map shown ds ≡ map shown old.domains.items = cut ∙ ap (cut_all (map shown new.domains.items)) counts_are ∙ cut_back (map shown old.domains.items) (map shown new.domains.items) (level old.domains.items) grown.domains in
+      let domains : map shown ds ≡ map shown old.domains.items = cut ∙ ap (cut_all (map shown new.domains.items)) counts_are ∙ cut_back (map shown old.domains.items) (map shown new.domains.items) (level old.domains.items kept) grown.domains in
       let outcomes : os ≡ old.outcomes.items = taken ∙ take-Grows old.outcomes.items new.outcomes.items grown.outcomes in
       λ i. record { domains = domains i; submissions = (same ∙ grown.submissions) i; outcomes = outcomes i; failures = (forgotten ∙ grown.failures) i }

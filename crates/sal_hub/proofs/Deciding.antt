@@ -19,16 +19,18 @@ use Rattle.sal_commit.specs.declared.domain.Domain.{Domain}
 use Rattle.sal_commit.specs.Deciding.{Decides, IsFor}
 use Rattle.sal_commit.specs.Deciding as commit
 use Rattle.sal_commit.specs.Domains.{IsSame}
+use Rattle.sal_commit.specs.Stamps.{IsNewStamp, receipts_of, stamp_of}
 use Rattle.sal_history.specs.Outcome as rules
 use Rattle.sal_history.specs.World.{opening_of, table_of}
 use Rattle.sal_history.specs.History.{decide_front, is_live, outcome}
 use Rattle.sal_history.specs.Submissions.{Sent, done, failing, if_done, is_done, is_in}
 use Rattle.sal_hub.specs.declared.pipeline.Pipeline.{Pipeline}
 use Rattle.sal_hub.specs.Failures.{IsWithin, cut_failures, failure_of, failures_after, noted_in, up_to}
-use Rattle.sal_hub.specs.Lines.{AllKept, AreDecided, Grows, HasGrown, HaveGrown, IsSound, IsStored, Line, Shown, Stands, chains_in, commits_in, line_of, opened_as, sent_of, sents_in, shown, world_in}
+use Rattle.sal_hub.specs.Lines.{AllKept, AreDecided, Grows, HasGrown, HaveGrown, IsSound, IsStored, Line, Shown, Stands, chains_in, commits_in, line_of, opened_as, receipts_in, sent_of, sents_in, shown, world_in}
 use Rattle.sal_hub.proofs.Listed.{slice_get-set, slice_get_at}
 use Rattle.sal_hub.proofs.Members.{failing-decide, failing-fixed, failing-none}
 use Rattle.sal_hub.proofs.Noted.{cut_after, cut_fixed, length-after, noted_in-after}
+use Rattle.sal_hub.proofs.Numbered.{added_receipt, receipt-decided, receipt-here, receipt-other, receipts-decide}
 
 -- ---- the world of the domains
 
@@ -95,13 +97,13 @@ Grows-same xs = ([], sym (append-nil xs))
 
 pub HaveGrown-same : (ds : List Shown) → HaveGrown ds ds
 HaveGrown-same [] = tt
-HaveGrown-same (d ∷ ds) = ((refl, Grows-same d.ops, Grows-same d.chains), HaveGrown-same ds)
+HaveGrown-same (d ∷ ds) = ((refl, Grows-same d.ops, Grows-same d.chains, Grows-same d.receipts), HaveGrown-same ds)
 
-pub HaveGrown-set : (ds : List Shown) (i : ℕ) (d e : Shown) → slice_get ds i ≡ Some d → e ≡ record d { ops = e.ops; chains = e.chains } → Grows d.ops e.ops → Grows d.chains e.chains → HaveGrown ds (set ds i e)
-HaveGrown-set [] i d e at same ops chains = cc
-HaveGrown-set (x ∷ ds) zero d e at same ops chains =
-    subst (λ (y : Shown). ((e ≡ record y { ops = e.ops; chains = e.chains }) × Grows y.ops e.ops × Grows y.chains e.chains) × HaveGrown ds ds) (sym (same_Some x d at)) ((same, ops, chains), HaveGrown-same ds)
-HaveGrown-set (x ∷ ds) (suc i) d e at same ops chains = ((refl, Grows-same x.ops, Grows-same x.chains), HaveGrown-set ds i d e at same ops chains)
+pub HaveGrown-set : (ds : List Shown) (i : ℕ) (d e : Shown) → slice_get ds i ≡ Some d → e ≡ record d { ops = e.ops; chains = e.chains; receipts = e.receipts } → Grows d.ops e.ops → Grows d.chains e.chains → Grows d.receipts e.receipts → HaveGrown ds (set ds i e)
+HaveGrown-set [] i d e at same ops chains receipts = cc
+HaveGrown-set (x ∷ ds) zero d e at same ops chains receipts =
+    subst (λ (y : Shown). ((e ≡ record y { ops = e.ops; chains = e.chains; receipts = e.receipts }) × Grows y.ops e.ops × Grows y.chains e.chains × Grows y.receipts e.receipts) × HaveGrown ds ds) (sym (same_Some x d at)) ((same, ops, chains, receipts), HaveGrown-same ds)
+HaveGrown-set (x ∷ ds) (suc i) d e at same ops chains receipts = ((refl, Grows-same x.ops, Grows-same x.chains, Grows-same x.receipts), HaveGrown-set ds i d e at same ops chains receipts)
 
 -- the failures are no later than the outcomes
 pub cut_none_late : (line : Line) → IsSound line → cut_failures (length line.outcomes) line.failures ≡ line.failures
@@ -132,6 +134,17 @@ module _ (line : Line) (sound : IsSound line) (sub : Submission) (next : slice_g
     below = stands.below;
   }
 
+  its_number : sub.receipt ≡ length line.outcomes + 1
+  its_number = sound.numbers (length line.outcomes) sub next
+
+  -- the commits of its domain have smaller receipts
+  pub new_stamp : (stamp : ℕ) → stamp ≡ stamp_of (length line.outcomes + 1) → IsNewStamp d.commits.items sub.receipt stamp
+  new_stamp stamp is = record {
+    own = is ∙ ap stamp_of (sym its_number);
+    later = λ c at_c.
+        omega (arith, its_number, receipt-decided sub.domain (sents_in line) line.outcomes d.commits.items (length d.commits.items - 1) c stored.receipts (omega (arith, kept.opened)) at_c);
+  }
+
   failed-here : (chain : Option ℕ) → failure_of line.failures chain ≡ failing chain (sents_in line) line.outcomes
   failed-here None = sym (failing-none 1 (sents_in line) line.outcomes)
   failed-here (Some k) = sound.failures k
@@ -154,8 +167,8 @@ module _ (line : Line) (sound : IsSound line) (sub : Submission) (next : slice_g
       failures = failures_after line.failures sub.chain (length line.outcomes + 1) (is_done o);
     }
 
-    same : shown d' ≡ record { number = d.number; live = d.live; table = d.schema.value; opening = opening_in d.commits.items; ops = ops_of d'.commits.items; chains = chains_of d'.commits.items }
-    same = λ i. record { number = after.same.number i; live = after.same.live i; table = (after.same.schema i).value; opening = after.opening i; ops = ops_of d'.commits.items; chains = chains_of d'.commits.items }
+    same : shown d' ≡ record { number = d.number; live = d.live; table = d.schema.value; opening = opening_in d.commits.items; ops = ops_of d'.commits.items; chains = chains_of d'.commits.items; receipts = receipts_of d'.commits.items }
+    same = λ i. record { number = after.same.number i; live = after.same.live i; table = (after.same.schema i).value; opening = after.opening i; ops = ops_of d'.commits.items; chains = chains_of d'.commits.items; receipts = receipts_of d'.commits.items }
 
     world-same : world_in now.domains ≡ world_in line.domains
     world-same = map-set_same opened_as line.domains sub.domain (shown d') (shown d) (ap opened_as same ∙ ap opened_as (sym (get_or_from_slice_get line.domains sub.domain (shown d) (shown d) at)))
@@ -165,6 +178,11 @@ module _ (line : Line) (sound : IsSound line) (sub : Submission) (next : slice_g
 
     chains-more : (n : ℕ) → chains_in now n ≡ chains_in line n ++ map chain_of (added n (sent_of sub) o)
     chains-more n = told-decide chain_of n (sents_in line) line.outcomes (sent_of sub) o sent-here
+
+    receipts-more : (n : ℕ) → receipts_in now n ≡ receipts_in line n ++ added_receipt n (sent_of sub) o sub.receipt
+    receipts-more n =
+        let number : 1 + length line.outcomes ≡ sub.receipt = omega (arith, its_number) in
+        ap (λ (rs : List ℕ). 0 ∷ rs) (receipts-decide 1 n (sents_in line) line.outcomes (sent_of sub) o sent-here) ∙ ap (λ r. receipts_in line n ++ added_receipt n (sent_of sub) o r) number
 
     domain-now : (n : ℕ) (e : Shown) → slice_get now.domains n ≡ Some e → IsStored now n e
     domain-now n e at_e = elim (slice_get-set line.domains sub.domain (shown d') n e at_e) [
@@ -178,6 +196,9 @@ module _ (line : Line) (sound : IsSound line) (sub : Submission) (next : slice_g
             chains =
                 after.chains ∙ ap (λ (cs : List (Option ℕ)). cs ++ if_done o sub.chain) (stored.chains ∙ ap (chains_in line) (sym w.0))
                 ∙ ap (λ (cs : List (Option ℕ)). chains_in line n ++ cs) (sym (told-here chain_of n (sent_of sub) o w.0)) ∙ sym (chains-more n);
+            receipts =
+                after.receipts ∙ ap (λ (rs : List ℕ). rs ++ if_done o sub.receipt) (stored.receipts ∙ ap (receipts_in line) (sym w.0))
+                ∙ ap (λ (rs : List ℕ). receipts_in line n ++ rs) (sym (receipt-here n (sent_of sub) o sub.receipt w.0)) ∙ sym (receipts-more n);
           })
       | inr w ↦
           let was = sound.domains n e w.1 in
@@ -186,6 +207,7 @@ module _ (line : Line) (sound : IsSound line) (sub : Submission) (next : slice_g
             live = was.live;
             commits = was.commits ∙ sym (append-nil (commits_in line n)) ∙ ap (λ (cs : List (List Op)). commits_in line n ++ cs) (sym (told-other ops_in n (sent_of sub) o w.0)) ∙ sym (commits-more n);
             chains = was.chains ∙ sym (append-nil (chains_in line n)) ∙ ap (λ (cs : List (Option ℕ)). chains_in line n ++ cs) (sym (told-other chain_of n (sent_of sub) o w.0)) ∙ sym (chains-more n);
+            receipts = was.receipts ∙ sym (append-nil (receipts_in line n)) ∙ ap (λ (rs : List ℕ). receipts_in line n ++ rs) (sym (receipt-other n (sent_of sub) o sub.receipt w.0)) ∙ sym (receipts-more n);
           }
     ]
 
@@ -215,6 +237,7 @@ module _ (line : Line) (sound : IsSound line) (sub : Submission) (next : slice_g
         within = omega (arith, length-append line.outcomes (o ∷ []), slice_get_within line.submissions (length line.outcomes) sub next);
         domains = domain-now;
         submissions = λ i s at_s. stands-now s (sound.submissions i s at_s);
+        numbers = sound.numbers;
         failures = failures-now;
       };
       world = world-same;
@@ -227,7 +250,7 @@ module _ (line : Line) (sound : IsSound line) (sub : Submission) (next : slice_g
 
     pub grown-one : HasGrown line now
     grown-one = record {
-      domains = HaveGrown-set line.domains sub.domain (shown d) (shown d') at same (if_done o sub.changes, after.commits) (if_done o sub.chain, after.chains);
+      domains = HaveGrown-set line.domains sub.domain (shown d) (shown d') at same (if_done o sub.changes, after.commits) (if_done o sub.chain, after.chains) (if_done o sub.receipt, after.receipts);
       submissions = refl;
       outcomes = (o ∷ [], refl);
       failures = cut_after (length line.outcomes) line.failures sub.chain (is_done o) stands.chain ∙ cut_none_late line sound;
@@ -259,10 +282,13 @@ module _ (p : Pipeline) (kept : AllKept p.domains.items) (sound : IsSound (line_
     pub can_now : IsFor d sub
     can_now = can_decide (line_of p) sound sub next d kept_here at
 
+    pub stamp_now : (stamp : ℕ) → stamp ≡ stamp_of (index + 1) → IsNewStamp d.commits.items sub.receipt stamp
+    stamp_now stamp is = new_stamp (line_of p) sound sub next d kept_here at stamp (is ∙ ap (λ n. stamp_of (n + 1)) here)
+
     -- where memory was wanting
     pub grown_nothing : (d' : Domain) (os : List Outcome) → IsSame d d' → d'.commits.items ≡ d.commits.items → os ≡ p.outcomes.items → HasGrown (line_of p) (record { domains = map shown (set p.domains.items sub.domain d'); submissions = p.submissions.items; outcomes = os; failures = p.failures.items })
     grown_nothing d' os same commits old =
-        let still : shown d' ≡ shown d = λ i. record { number = same.number i; live = same.live i; table = (same.schema i).value; opening = opening_in (commits i); ops = ops_of (commits i); chains = chains_of (commits i) } in
+        let still : shown d' ≡ shown d = λ i. record { number = same.number i; live = same.live i; table = (same.schema i).value; opening = opening_in (commits i); ops = ops_of (commits i); chains = chains_of (commits i); receipts = receipts_of (commits i) } in
         let domains : map shown (set p.domains.items sub.domain d') ≡ map shown p.domains.items = map-set_same shown p.domains.items sub.domain d' d (still ∙ ap shown d_is) in
         subst (HasGrown (line_of p)) (λ i. record { domains = sym domains i; submissions = p.submissions.items; outcomes = sym old i; failures = p.failures.items }) (grown_none (line_of p) sound)
 

@@ -13,11 +13,13 @@ use Rattle.sal_history.specs.History.{Answered, chain_domains, commits, decided_
 use Rattle.sal_history.specs.Submissions.{Sent, done, done_ops, failing}
 use Rattle.sal_hub.specs.Current.{IsCurrent, answers}
 use Rattle.sal_hub.specs.Journals.{mark_at}
-use Rattle.sal_hub.specs.Lines.{IsSound, Line, Stands, chains_in, commits_in, sent_of, sents_in, world_in}
+use Rattle.sal_hub.specs.CommitReceipts.{commit_receipts}
+use Rattle.sal_hub.specs.Lines.{IsSound, Line, Stands, chains_in, commits_in, receipts_in, sent_of, sents_in, world_in}
 use Rattle.sal_hub.proofs.Deciding.{done-submit}
 use Rattle.sal_hub.proofs.Histories.{chains-push, outcomes-push, sents-push, spent-push}
 use Rattle.sal_hub.proofs.Listed.{last_or_before}
 use Rattle.sal_hub.proofs.Members.{failing-submit}
+use Rattle.sal_hub.proofs.Numbered.{receipts-submit}
 
 pub or_false : (b : Bool) → (b || false) ≡ b
 or_false true = refl
@@ -33,6 +35,9 @@ none_more n = omega arith
 -- the commits that are kept are the log's
 pub commits-current : (log : List Entry) (marks : List Bool) (line : Line) (n : ℕ) → IsCurrent log marks line → commits_in line n ≡ commits (answers log line) n
 commits-current log marks line n was = λ i. done_ops n (was.submissions i) (was.outcomes i)
+
+pub receipts-current : (log : List Entry) (marks : List Bool) (line : Line) (n : ℕ) → IsCurrent log marks line → receipts_in line n ≡ commit_receipts n (sents (answers log line)) (outcomes (answers log line))
+receipts-current log marks line n was = λ i. commit_receipts n (was.submissions i) (was.outcomes i)
 
 module _ (log : List Entry) (marks : List Bool) (line : Line) (was : IsCurrent log marks line) (e : Entry) where
   abbrev world : List Domain
@@ -81,7 +86,7 @@ module _ (log : List Entry) (marks : List Bool) (line : Line) (was : IsCurrent l
 
 -- ---- a submission more
 
-module _ (line : Line) (sound : IsSound line) (s : Submission) (stands : Stands line s) where
+module _ (line : Line) (sound : IsSound line) (s : Submission) (stands : Stands line s) (number : s.receipt ≡ length line.submissions + 1) where
   abbrev longer : Line
   longer = record { domains = line.domains; submissions = line.submissions ++ s ∷ []; outcomes = line.outcomes; failures = line.failures }
 
@@ -100,6 +105,9 @@ module _ (line : Line) (sound : IsSound line) (s : Submission) (stands : Stands 
   chains-longer : (n : ℕ) → chains_in longer n ≡ chains_in line n
   chains-longer n = ap (map (λ (x : Sent). x.base.chain)) (done-longer n)
 
+  receipts-longer : (n : ℕ) → receipts_in longer n ≡ receipts_in line n
+  receipts-longer n = ap (λ (ss : List Sent). commit_receipts n ss line.outcomes) sents-longer ∙ ap (λ (rs : List ℕ). 0 ∷ rs) (receipts-submit 1 n (sents_in line) line.outcomes (sent_of s) waits)
+
   stands-longer : (t : Submission) → Stands line t → Stands longer t
   stands-longer t was = record {
     domain = was.domain;
@@ -113,10 +121,14 @@ module _ (line : Line) (sound : IsSound line) (s : Submission) (stands : Stands 
   sound-longer = record {
     some = sound.some;
     within = omega (arith, sound.within, length-append line.submissions (s ∷ []));
-    domains = λ n d at. let had = sound.domains n d at in record { number = had.number; live = had.live; commits = had.commits ∙ sym (commits-longer n); chains = had.chains ∙ sym (chains-longer n) };
+    domains = λ n d at. let had = sound.domains n d at in record { number = had.number; live = had.live; commits = had.commits ∙ sym (commits-longer n); chains = had.chains ∙ sym (chains-longer n); receipts = had.receipts ∙ sym (receipts-longer n) };
     submissions = λ i t at. elim (last_or_before line.submissions s t i at) [
       | inl old ↦ stands-longer t (sound.submissions i t old)
       | inr w ↦ stands-longer t (subst (Stands line) w.1 stands)
+    ];
+    numbers = λ i t at. elim (last_or_before line.submissions s t i at) [
+      | inl old ↦ sound.numbers i t old
+      | inr w ↦ ap (λ (x : Submission). x.receipt) (sym w.1) ∙ number ∙ ap (λ k. k + 1) (sym w.0)
     ];
     failures = λ k.
         sound.failures k ∙ sym (failing-submit 1 (Some k) (sents_in line) line.outcomes (sent_of s) waits)

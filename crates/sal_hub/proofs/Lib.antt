@@ -10,6 +10,7 @@ pub mod Listed
 pub mod Listened
 pub mod Members
 pub mod Noted
+pub mod Numbered
 pub mod OpenedDevices
 pub mod Serving
 pub mod Settling

@@ -68,15 +68,15 @@ length-shown : (n : ℕ) (devices : List Device) → length (shown_from n device
 length-shown n [] = refl
 length-shown n (device ∷ devices) = ap suc (length-shown (n + 1) devices)
 
-shown_at : (n : ℕ) (devices : List Device) (k : ℕ) (d : Shown) → slice_get (shown_from n devices) k ≡ Some d → (d.number ≡ n + k) × (d.live ≡ is_live (n + k)) × (d.ops ≡ []) × (d.chains ≡ [])
+shown_at : (n : ℕ) (devices : List Device) (k : ℕ) (d : Shown) → slice_get (shown_from n devices) k ≡ Some d → (d.number ≡ n + k) × (d.live ≡ is_live (n + k)) × (d.ops ≡ []) × (d.chains ≡ []) × (d.receipts ≡ 0 ∷ [])
 shown_at n [] k d e = cc
 shown_at n (device ∷ devices) zero d e =
     let here : n ≡ n + 0 = omega arith in
-    subst (λ (x : Shown). (x.number ≡ n + 0) × (x.live ≡ is_live (n + 0)) × (x.ops ≡ []) × (x.chains ≡ [])) (same_Some (shown_of n device) d e) (here, ap is_live here, refl, refl)
+    subst (λ (x : Shown). (x.number ≡ n + 0) × (x.live ≡ is_live (n + 0)) × (x.ops ≡ []) × (x.chains ≡ []) × (x.receipts ≡ 0 ∷ [])) (same_Some (shown_of n device) d e) (here, ap is_live here, refl, refl, refl)
 shown_at n (device ∷ devices) (suc k) d e =
     let next : n + 1 + k ≡ n + suc k = omega arith in
     let rest = shown_at (n + 1) devices k d e in
-    (rest.0 ∙ next, rest.1 ∙ ap is_live next, rest.2, rest.3)
+    (rest.0 ∙ next, rest.1 ∙ ap is_live next, rest.2, rest.3, rest.4)
 
 pub opened_kept : (devices : List Device) (p : Pipeline) (journal : Noted) → 1 ≤ length devices → AllKept p.domains.items → map shown p.domains.items ≡ shown_from 0 devices → p.submissions.items ≡ [] → p.outcomes.items ≡ [] → p.failures.items ≡ [] → journal ≡ record { log = []; marks = [] } → IsKept journal p
 opened_kept devices p journal some kept are none undecided unopened empty =
@@ -85,8 +85,9 @@ opened_kept devices p journal some kept are none undecided unopened empty =
       sound = record {
         some = omega (arith, some, length-shown 0 devices);
         within = omega arith;
-        domains = λ n d at. let facts = shown_at 0 devices n d at in let zeroth : 0 + n ≡ n = omega arith in record { number = facts.0 ∙ zeroth; live = facts.1 ∙ ap is_live zeroth; commits = facts.2; chains = facts.3 };
+        domains = λ n d at. let facts = shown_at 0 devices n d at in let zeroth : 0 + n ≡ n = omega arith in record { number = facts.0 ∙ zeroth; live = facts.1 ∙ ap is_live zeroth; commits = facts.2; chains = facts.3; receipts = facts.4 };
         submissions = λ i s at. cc;
+        numbers = λ i s at. cc;
         failures = no_failure;
       };
       submissions = refl;

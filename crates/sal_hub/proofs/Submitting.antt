@@ -175,8 +175,8 @@ module _ (journal journal' : Noted) (p p' : Pipeline) (is : IsKept journal p) (c
   current_now : IsCurrent (journal.log ++ made_entry ∷ []) journal'.marks more
   current_now =
       pushed journal.log journal.marks (line_of p) is.current made_entry more journal'.marks
-      (sound-longer (line_of p) is.current.sound sub stands) refl
-      (sents-longer (line_of p) is.current.sound sub stands ∙ ap (λ (o : Option Sent). sents_in (line_of p) ++ option_to_list o) (sym sent_now))
+      (sound-longer (line_of p) is.current.sound sub stands refl) refl
+      (sents-longer (line_of p) is.current.sound sub stands refl ∙ ap (λ (o : Option Sent). sents_in (line_of p) ++ option_to_list o) (sym sent_now))
       (sym (append-nil (line_of p).outcomes))
       (λ k.
       marks k ∙ swapped (nat_eq tx.begun.place k) (mark_at journal.marks k)

@@ -1,5 +1,5 @@
 -- What a hub keeps beside its log: the domains with their commits, the submissions, the outcomes, and which chains failed.
-use Rattle.std.specs.Prelude.{◌≡◌, ℕ, ◌≤◌, Bool, List, [], ◌∷◌, ◌++◌, length, map, take, Option, Some, All, slice_get}
+use Rattle.std.specs.Prelude.{◌≡◌, ℕ, ◌+◌, ◌≤◌, Bool, List, [], ◌∷◌, ◌++◌, length, map, take, Option, Some, All, slice_get}
 use Rattle.sal_types.specs.declared.value.Store.{Store}
 use Rattle.sal_types.specs.declared.value.Store.TheVariants.{Config, Oper}
 use Rattle.sal_types.specs.declared.row.Row.{Row}
@@ -11,15 +11,17 @@ use Rattle.sal_graft.specs.Kept.{AreKept, chains_of, opening_in, ops_of, rows_in
 use Rattle.sal_tx.specs.declared.tx.Submission.{Submission}
 use Rattle.sal_commit.specs.declared.domain.Domain.{Domain}
 use Rattle.sal_commit.specs.Deciding.{LieBelow}
+use Rattle.sal_commit.specs.Stamps.{receipts_of}
 use Rattle.sal_history.specs.World as world
 use Rattle.sal_history.specs.History.{decide_next, is_live}
 use Rattle.sal_history.specs.Submissions.{Sent, done_chains, done_ops, failing}
 use Rattle.sal_hub.specs.declared.pipeline.Pipeline.{Pipeline}
+use Rattle.sal_hub.specs.CommitReceipts.{commit_receipts}
 use Rattle.sal_hub.specs.Failures.{IsWithin, cut_failures, noted_in}
 
 -- ---- what a contract sees
 
--- a domain, by its opening trees, and the operations and the chains of its commits
+-- a domain, by its opening trees, and the operations, the chains and the receipts of its commits
 pub record Shown : Type 0 where
   pub number : ℕ
   pub live : Bool
@@ -27,6 +29,7 @@ pub record Shown : Type 0 where
   pub opening : Store → List Row
   pub ops : List (List Op)
   pub chains : List (Option ℕ)
+  pub receipts : List ℕ
 
 pub record Line : Type 0 where
   pub domains : List Shown
@@ -37,7 +40,7 @@ pub record Line : Type 0 where
 
 abbrev pub shown : Domain → Shown
 shown d =
-    record { number = d.number; live = d.live; table = d.schema.value; opening = opening_in d.commits.items; ops = ops_of d.commits.items; chains = chains_of d.commits.items }
+    record { number = d.number; live = d.live; table = d.schema.value; opening = opening_in d.commits.items; ops = ops_of d.commits.items; chains = chains_of d.commits.items; receipts = receipts_of d.commits.items }
 
 abbrev pub line_of : Pipeline → Line
 line_of p = record { domains = map shown p.domains.items; submissions = p.submissions.items; outcomes = p.outcomes.items; failures = p.failures.items }
@@ -64,14 +67,19 @@ commits_in line n = done_ops n (sents_in line) line.outcomes
 abbrev pub chains_in : Line → ℕ → List (Option ℕ)
 chains_in line n = done_chains n (sents_in line) line.outcomes
 
+-- and their receipts, that of the opening first
+abbrev pub receipts_in : Line → ℕ → List ℕ
+receipts_in line n = commit_receipts n (sents_in line) line.outcomes
+
 -- ---- what holds of it
 
--- a domain has its number, and the commits that the outcomes tell, with their chains
+-- a domain has its number, and the commits that the outcomes tell, with their chains and receipts
 pub record IsStored (line : Line) (n : ℕ) (d : Shown) : Type 0 where
   pub number : d.number ≡ n
   pub live : d.live ≡ is_live n
   pub commits : d.ops ≡ commits_in line n
   pub chains : d.chains ≡ chains_in line n
+  pub receipts : d.receipts ≡ receipts_in line n
 
 -- A submission stands on a commit of domain 0, and its chain is one that was opened; its view is its base after its
 -- operations, whose rows lie below their paths.
@@ -87,6 +95,7 @@ pub record IsSound (line : Line) : Type 0 where
   pub within : length line.outcomes ≤ length line.submissions
   pub domains : (n : ℕ) (d : Shown) → slice_get line.domains n ≡ Some d → IsStored line n d
   pub submissions : (i : ℕ) (s : Submission) → slice_get line.submissions i ≡ Some s → Stands line s
+  pub numbers : (i : ℕ) (s : Submission) → slice_get line.submissions i ≡ Some s → s.receipt ≡ i + 1
   pub failures : (chain : ℕ) → noted_in line.failures chain ≡ failing (Some chain) (sents_in line) line.outcomes
 
 -- the commits of each domain have their trees
@@ -104,7 +113,7 @@ abbrev pub HaveGrown : List Shown → List Shown → Type 0
 HaveGrown [] [] = Unit {0}
 HaveGrown [] (e ∷ es) = ⊥
 HaveGrown (d ∷ ds) [] = ⊥
-HaveGrown (d ∷ ds) (e ∷ es) = ((e ≡ record d { ops = e.ops; chains = e.chains }) × Grows d.ops e.ops × Grows d.chains e.chains) × HaveGrown ds es
+HaveGrown (d ∷ ds) (e ∷ es) = ((e ≡ record d { ops = e.ops; chains = e.chains; receipts = e.receipts }) × Grows d.ops e.ops × Grows d.chains e.chains × Grows d.receipts e.receipts) × HaveGrown ds es
 
 -- decisions were added, if any
 pub record HasGrown (old new : Line) : Type 0 where
@@ -113,11 +122,11 @@ pub record HasGrown (old new : Line) : Type 0 where
   pub outcomes : Grows old.outcomes new.outcomes
   pub failures : cut_failures (length old.outcomes) new.failures ≡ old.failures
 
--- the domains with so many of their commits
+-- the domains with so many of their commits behind the opening
 abbrev pub cut_all : List Shown → List ℕ → List Shown
 cut_all [] ks = []
 cut_all (d ∷ ds) [] = d ∷ ds
-cut_all (d ∷ ds) (k ∷ ks) = record d { ops = take k d.ops; chains = take k d.chains } ∷ cut_all ds ks
+cut_all (d ∷ ds) (k ∷ ks) = record d { ops = take k d.ops; chains = take k d.chains; receipts = take (k + 1) d.receipts } ∷ cut_all ds ks
 
 -- how many commits each domain has behind its opening
 abbrev pub counts_of : List Shown → List ℕ

@@ -6,7 +6,7 @@ use Rattle.sal_history.specs.History.{is_live}
 use Rattle.sal_hub.specs.Lines.{Shown}
 
 abbrev pub shown_of : ℕ → Device → Shown
-shown_of n device = record { number = n; live = is_live n; table = device.schema.value; opening = opening_of_device device; ops = []; chains = [] }
+shown_of n device = record { number = n; live = is_live n; table = device.schema.value; opening = opening_of_device device; ops = []; chains = []; receipts = 0 ∷ [] }
 
 -- numbered from n on
 abbrev pub shown_from : ℕ → List Device → List Shown

@@ -37,7 +37,7 @@ use crate::start::{begin, last_commit};
 use crate::submit::submit;
 use sal_commit::Domain;
 use sal_history::{Call, Device, Entry};
-use sal_rows::{Batch, CallFault, Mode, Opened, Outcome};
+use sal_rows::{Batch, CallFault, Mode, Outcome};
 use sal_tree::Pair;
 use sal_tx::{Tx, WriteTx};
 use sal_types::{NoMemory, Path, Store};
@@ -323,7 +323,7 @@ impl Hub {
         domain: u32,
         store: Store,
         path: &Path,
-    ) -> Result<(ListenerId, Opened), CallFault>
+    ) -> Result<(ListenerId, sal_rows::Opened), CallFault>
         ensures answer { Calls self.old self.new (entry_of self.old client (Listen domain store path.now)) (listener_reply domain path.now) result }
         ensures given { IfOk result (λ given. IsListener self.new given.0) }
         ensures domain { IfOk result (λ given. given.0.domain ≡ domain) }

@@ -25,4 +25,5 @@ returns-in-Ok-open-clause-shown c =
       opening = done.opening i;
       ops = done.commits i;
       chains = no_chains c.in-Ok-open.domain.commits.items done.commits i;
+      receipts = done.receipts i;
     }

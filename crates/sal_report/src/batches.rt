@@ -1,9 +1,10 @@
 //! A listener's batch as a JSON text. Each function writes behind what stands in the text, and copies no change.
-ghost use Rattle.std.specs.Prelude.{◌≡◌, ◌∷◌, ◌++◌, IfOk, OnOk, map, option_map, string_bytes};
+ghost use Rattle.std.specs.Prelude.{◌≡◌, ◌∷◌, ◌++◌, ◌<◌, IfOk, IfSome, OnOk, length, map, option_map, string_bytes};
 ghost use Rattle.std.specs.List.{flat_map};
 ghost use Rattle.serde_json.specs.View.{view};
 ghost use Rattle.serde_json.specs.Written.{compact_text};
 ghost use Rattle.sal_schema.specs.Paths.{last_step};
+ghost use Rattle.sal_schema.specs.Table.{type_of};
 ghost use Rattle.sal_data.specs.Written.{scalar_json};
 ghost use Rattle.sal_script.specs.BatchData as spec;
 
@@ -28,7 +29,7 @@ pub(crate) fn push_parts(
     let [first, more @ ..] = parts else {
         return push_word(text, "[]");
     };
-    text.push('[')?;
+    push_word(text, "[")?;
     push_part(alloc, text, schema, first)?;
     push_more_parts(alloc, text, schema, more)?;
     push_word(text, "]")
@@ -78,7 +79,7 @@ fn push_changes(
     let [first, more @ ..] = changes else {
         return push_word(text, "[]");
     };
-    text.push('[')?;
+    push_word(text, "[")?;
     push_change(alloc, text, schema, first)?;
     push_more_changes(alloc, text, schema, more)?;
     push_word(text, "]")
@@ -165,6 +166,19 @@ fn leaf_json(
     }
 }
 
+// The type of a leaf or leaf-list.
+fn type_at(schema: &Schema, node: u32) -> Option<u32>
+    ensures ty { result ≡ type_of schema.now node }
+    ensures within { IfSome result (λ ty. ty < length schema.now.types) }
+    ensures there { IfSome result (λ _. node < length schema.now.nodes) }
+{
+    if node < schema.len() {
+        schema.type_of(node)
+    } else {
+        None
+    }
+}
+
 // The value of a leaf of the schema.
 #[tactic(auto, unfolding(sal_data::specs::Written::scalar_json))]
 fn node_json(
@@ -175,10 +189,7 @@ fn node_json(
 ) -> Result<Json, NoMemory>
     ensures { IfOk result (λ json. view json ≡ scalar_json schema.now node value.now) }
 {
-    if node >= schema.len() {
-        return Ok(Json::Null);
-    }
-    match schema.type_of(node) {
+    match type_at(schema, node) {
         Some(ty) => write_scalar(alloc, schema, ty, schema.module_of(node), value),
         None => Ok(Json::Null),
     }

@@ -1,0 +1,67 @@
+//! A client's listener with the rows that follow it.
+ghost use Rattle.std.specs.Prelude.{◌≡◌, IfOk};
+ghost use Rattle.sal_client.specs.Followers.{Advances};
+
+use sal_hub::ListenerId;
+use sal_listen::{Mirror, MirrorFault};
+use sal_rows::{Batch, Opened};
+use sal_script::StepReply;
+use sal_types::{Duplicate, NoMemory, Path, Store};
+use std::alloc::Global;
+
+/// A listener of a client, and a copy of the rows at its path, which follows by the batches that the client takes.
+#[derive(Drop)]
+pub struct Follower {
+    pub id: ListenerId,
+    pub store: Store,
+    pub path: Path,
+    pub mirror: Mirror,
+}
+
+impl Follower {
+    /// The listener, with a copy of what it was opened with.
+    pub(crate) fn of(
+        id: ListenerId,
+        store: Store,
+        path: &Path,
+        opened: &Opened,
+    ) -> Result<Self, NoMemory>
+        ensures { IfOk result (λ f. f ≡ record { id = id; store = store; path = path.now; mirror = record { version = opened.now.version; rows = opened.now.rows } }) }
+    {
+        let mirror = Mirror::open(opened)?;
+        let path = path.copy()?;
+        Ok(Follower {
+            id,
+            store,
+            path,
+            mirror,
+        })
+    }
+
+    /// Goes on to the end of the batch, which begins where the copy stands.
+    pub(crate) fn advance(mut self, alloc: Global, batch: &Batch) -> Result<Self, NoMemory>
+        requires { self.mirror.version ≡ batch.now.from }
+        ensures { IfOk result (Advances batch.now self) }
+    {
+        let _ascending = self.mirror.rows().items();
+        match self.mirror.take(alloc, batch) {
+            Ok(()) => Ok(self),
+            Err(MirrorFault::NoMemory) => Err(NoMemory),
+            Err(MirrorFault::Gap { .. }) => unreachable!(),
+        }
+    }
+
+    /// What the copy has.
+    pub(crate) fn shown(&self) -> Result<StepReply, NoMemory>
+        ensures { IfOk result (λ r. r ≡ StepReply.Mirror self.now.id.domain self.now.path self.now.mirror.version self.now.mirror.rows) }
+    {
+        let path = self.path.copy()?;
+        let rows = self.mirror.rows().copy()?;
+        Ok(StepReply::Mirror {
+            domain: self.id.domain(),
+            path,
+            version: self.mirror.version(),
+            rows,
+        })
+    }
+}

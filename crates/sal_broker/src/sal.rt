@@ -75,7 +75,7 @@ impl Sal {
         requires added { OneMoreAtMost held.view held.found held.hub }
         ensures same { (result.lock ≡ self.now) × SameRights held.view result.view }
         ensures turns { result.view.turns ≡ held.view.turns + 1 }
-        ensures turn { TurnOf held.view held.found held.hub result.view }
+        ensures turn { TurnOf held.view held.view.number held.found held.hub result.view }
     {
         let Held { inner } = held;
         Seat {

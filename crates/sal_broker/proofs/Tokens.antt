@@ -3,7 +3,7 @@ use Rattle.std.proofs.Common.{List, [], ◌∷◌, ◌++◌, sym, ap, subst, app
 use mathlib.Core.List.{IsPrefix}
 use Rattle.sal_history.specs.declared.call.Entry.{Entry}
 use Rattle.sal_hub.specs.Known.{Known, more}
-use Rattle.sal_broker.specs.Turns.{with_log}
+use Rattle.sal_broker.specs.Tokens.{with_log}
 
 module _ (Holds : Known → Type 0) (one_more : (known : Known) (e : Entry) → Holds known → Holds (more known e)) where
   stays_behind : (rest : List Entry) (known : Known) → Holds known → Holds (with_log known (known.log ++ rest))

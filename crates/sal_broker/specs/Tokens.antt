@@ -1,10 +1,15 @@
 -- The tokens that a caller has stay tokens, whoever makes the entries behind.
-use Rattle.std.specs.Prelude.{ℕ}
+use Rattle.std.specs.Prelude.{ℕ, List}
 use Rattle.sal_tree.specs.declared.commit.Pair.{Pair}
 use Rattle.sal_tx.specs.declared.begun.Begun.{Begun}
+use Rattle.sal_history.specs.declared.call.Entry.{Entry}
 use Rattle.sal_hub.specs.declared.chain.Chain.{Chain}
 use Rattle.sal_hub.specs.Known.{Known}
 use Rattle.sal_hub.specs.Tokens.{IsBegun, IsChain, IsGiven}
+
+-- a hub with another log
+abbrev pub with_log : Known → List Entry → Known
+with_log known log = record { world = known.world; log = log }
 
 -- the tokens of the one hub are tokens of the other
 pub record TokensStay (old new : Known) : Type 0 where

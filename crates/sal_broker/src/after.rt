@@ -38,7 +38,7 @@ fn look<R: Wait>(
 ) -> (Seat, Result<Seen, CallFault>)
     requires { seat.lock ≡ sal.now }
     ensures same { Keeps sal.now seat result.0 }
-    ensures turn { InLastTurn seat.view result.0.view (λ old new. Calls old new (entry_of old seat.view.number (After mark)) seen_reply result.1 × IfOk result.1 (IsLate MAX_LOOKS seat.view result.0.view (length old.log))) }
+    ensures turn { InLastTurn seat.view result.0.view (λ client found left. Calls found left (entry_of found client (After mark)) seen_reply result.1 × IfOk result.1 (IsLate MAX_LOOKS seat.view result.0.view (length found.log))) }
 {
     let client = seat.number();
     for look in 0..MAX_LOOKS {
@@ -64,7 +64,7 @@ impl Sal {
     ) -> Result<Seen, CallFault>
         requires { seat.old.lock ≡ self.now }
         ensures same { Keeps self.now seat.old seat.new }
-        ensures turn { InLastTurn seat.old.view seat.new.view (λ old new. Calls old new (entry_of old seat.old.view.number (After mark)) seen_reply result × IfOk result (IsLate MAX_LOOKS seat.old.view seat.new.view (length old.log))) }
+        ensures turn { InLastTurn seat.old.view seat.new.view (λ client found left. Calls found left (entry_of found client (After mark)) seen_reply result × IfOk result (IsLate MAX_LOOKS seat.old.view seat.new.view (length found.log))) }
     {
         let Some(inner) = seat.inner.take() else {
             unreachable!()

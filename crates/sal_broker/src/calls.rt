@@ -10,7 +10,8 @@ ghost use Rattle.sal_hub.specs.Answers.{Calls, CallsOr};
 ghost use Rattle.sal_hub.specs.Known.{entry_of};
 ghost use Rattle.sal_hub.specs.Seen.{pump_reply};
 ghost use Rattle.sal_hub.specs.Tokens.{IsBegun, IsChain, IsFresh, IsGiven, IsToken, begun_of};
-ghost use Rattle.sal_broker.specs.Turns.{InTurn, Keeps, known};
+ghost use Rattle.sal_broker.specs.Seats.{known};
+ghost use Rattle.sal_broker.specs.Turns.{InTurn, Keeps};
 
 use crate::sal::Sal;
 use crate::seat::Seat;
@@ -32,7 +33,7 @@ impl Sal {
     ) -> Result<Tx, CallFault>
         requires { seat.old.lock ≡ self.now }
         ensures same { Keeps self.now seat.old seat.new }
-        ensures turn { InTurn seat.old.view seat.new.view (λ old new. Calls old new (entry_of old seat.old.view.number (Begin domain mode)) (λ (tx : Token). Begun (begun_of tx).base_commit (begun_of tx).on) result × IfOk result (IsFresh old domain None mode)) }
+        ensures turn { InTurn seat.old.view seat.new.view (λ client found left. Calls found left (entry_of found client (Begin domain mode)) (λ (tx : Token). Begun (begun_of tx).base_commit (begun_of tx).on) result × IfOk result (IsFresh found domain None mode)) }
         ensures token { IfOk result (IsToken (known seat.new.view)) }
     {
         let Some(inner) = seat.inner.take() else {
@@ -56,7 +57,7 @@ impl Sal {
         requires seat { seat.old.lock ≡ self.now }
         requires token { IsBegun (known seat.old.view) tx.begun tx.base }
         ensures same { Keeps self.now seat.old seat.new }
-        ensures turn { InTurn seat.old.view seat.new.view (λ old new. CallsOr old new (entry_of old seat.old.view.number (Submit tx.begun.place tx.changes)) (λ (receipt : Given). Numbered receipt.number) tx result) }
+        ensures turn { InTurn seat.old.view seat.new.view (λ client found left. CallsOr found left (entry_of found client (Submit tx.begun.place tx.changes)) (λ (receipt : Given). Numbered receipt.number) tx result) }
         ensures given { IfOk result (λ receipt. IsGiven (known seat.new.view) receipt.number) }
     {
         let Some(inner) = seat.inner.take() else {
@@ -80,7 +81,7 @@ impl Sal {
         requires seat { seat.old.lock ≡ self.now }
         requires token { IsToken (known seat.old.view) tx }
         ensures same { Keeps self.now seat.old seat.new }
-        ensures turn { InTurn seat.old.view seat.new.view (λ old new. CallsOr old new (entry_of old seat.old.view.number (Cancel (begun_of tx).place)) (λ _. Accepted) tx result) }
+        ensures turn { InTurn seat.old.view seat.new.view (λ client found left. CallsOr found left (entry_of found client (Cancel (begun_of tx).place)) (λ _. Accepted) tx result) }
     {
         let Some(inner) = seat.inner.take() else {
             unreachable!()
@@ -104,7 +105,7 @@ impl Sal {
         requires seat { seat.old.lock ≡ self.now }
         requires given { IsGiven (known seat.old.view) receipt.number }
         ensures same { Keeps self.now seat.old seat.new }
-        ensures turn { InTurn seat.old.view seat.new.view (λ old new. Calls old new (entry_of old seat.old.view.number (Settle receipt.number)) (λ (o : Decided). Settled 0 o) result) }
+        ensures turn { InTurn seat.old.view seat.new.view (λ client found left. Calls found left (entry_of found client (Settle receipt.number)) (λ (o : Decided). Settled 0 o) result) }
     {
         let Some(inner) = seat.inner.take() else {
             unreachable!()
@@ -126,7 +127,7 @@ impl Sal {
     ) -> Result<Option<(u64, Outcome)>, CallFault>
         requires { seat.old.lock ≡ self.now }
         ensures same { Keeps self.now seat.old seat.new }
-        ensures turn { InTurn seat.old.view seat.new.view (λ old new. Calls old new (entry_of old seat.old.view.number Pump) pump_reply result) }
+        ensures turn { InTurn seat.old.view seat.new.view (λ client found left. Calls found left (entry_of found client Pump) pump_reply result) }
     {
         let Some(inner) = seat.inner.take() else {
             unreachable!()
@@ -148,7 +149,7 @@ impl Sal {
     ) -> Result<Chain, CallFault>
         requires { seat.old.lock ≡ self.now }
         ensures same { Keeps self.now seat.old seat.new }
-        ensures turn { InTurn seat.old.view seat.new.view (λ old new. Calls old new (entry_of old seat.old.view.number (OpenChain domain)) (λ (c : Line). Opened c.id) result) }
+        ensures turn { InTurn seat.old.view seat.new.view (λ client found left. Calls found left (entry_of found client (OpenChain domain)) (λ (c : Line). Opened c.id) result) }
         ensures given { IfOk result (IsChain (known seat.new.view)) }
         ensures domain { IfOk result (λ c. c.domain ≡ domain) }
     {
@@ -175,7 +176,7 @@ impl Sal {
         requires seat { seat.old.lock ≡ self.now }
         requires token { IsChain (known seat.old.view) chain.now }
         ensures same { Keeps self.now seat.old seat.new }
-        ensures turn { InTurn seat.old.view seat.new.view (λ old new. Calls old new (entry_of old seat.old.view.number (ChainBegin chain.now.id mode)) (λ (tx : Token). Begun (begun_of tx).base_commit (begun_of tx).on) result × IfOk result (IsFresh old chain.now.domain (Some chain.now.id) mode)) }
+        ensures turn { InTurn seat.old.view seat.new.view (λ client found left. Calls found left (entry_of found client (ChainBegin chain.now.id mode)) (λ (tx : Token). Begun (begun_of tx).base_commit (begun_of tx).on) result × IfOk result (IsFresh found chain.now.domain (Some chain.now.id) mode)) }
         ensures token { IfOk result (IsToken (known seat.new.view)) }
     {
         let Some(inner) = seat.inner.take() else {
@@ -199,7 +200,7 @@ impl Sal {
         requires seat { seat.old.lock ≡ self.now }
         requires token { IsChain (known seat.old.view) chain.now }
         ensures same { Keeps self.now seat.old seat.new }
-        ensures turn { InTurn seat.old.view seat.new.view (λ old new. Calls old new (entry_of old seat.old.view.number (CloseChain chain.now.id)) (λ _. Accepted) result) }
+        ensures turn { InTurn seat.old.view seat.new.view (λ client found left. Calls found left (entry_of found client (CloseChain chain.now.id)) (λ _. Accepted) result) }
     {
         let Some(inner) = seat.inner.take() else {
             unreachable!()
@@ -221,7 +222,7 @@ impl Sal {
     ) -> Result<(), CallFault>
         requires { seat.old.lock ≡ self.now }
         ensures same { Keeps self.now seat.old seat.new }
-        ensures turn { InTurn seat.old.view seat.new.view (λ old new. Calls old new (entry_of old seat.old.view.number (Mark mark)) (λ _. Accepted) result) }
+        ensures turn { InTurn seat.old.view seat.new.view (λ client found left. Calls found left (entry_of found client (Mark mark)) (λ _. Accepted) result) }
     {
         let Some(inner) = seat.inner.take() else {
             unreachable!()

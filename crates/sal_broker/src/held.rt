@@ -8,8 +8,8 @@ use crate::shared::Shared;
 use sal_hub::Hub;
 use std::marker::Model;
 
-/// A turn at the broker: the hub, in the hands of one seat. A contract sees its lock, its seat's view, the log that was found,
-/// and the hub.
+/// A turn at the broker: the hub, in the hands of one seat. A contract sees its lock, its seat's view, the hub that
+/// was found, and the hub as it is now.
 ///
 /// It can't be dropped: it has to go to `Sal::leave`, so no `?` on the way loses a turn.
 pub struct Held {
@@ -17,25 +17,24 @@ pub struct Held {
 }
 
 impl Model for Held {
-    ghost use Rattle.std.specs.Prelude.{◌≡◌, List};
+    ghost use Rattle.std.specs.Prelude.{◌≡◌, IsSome};
     ghost use Rattle.std.specs.Coded.{codes};
     ghost use mathlib.Core.List.{IsPrefix};
     ghost use Rattle.sal_restrict.specs.contracts.yang_type.YangType as e;
-    ghost use Rattle.sal_history.specs.World.{Domain};
-    ghost use Rattle.sal_history.specs.declared.call.Entry.{Entry};
     ghost use Rattle.sal_turn.specs.Entries.{entries_by};
-    ghost use Rattle.sal_turn.specs.Seats.{Holding};
-    ghost use Rattle.sal_hub.specs.Known.{Known};
-    ghost use Rattle.sal_broker.specs.Turns.{client_of};
+    ghost use Rattle.sal_broker.specs.Seats.{Holding, client_of, hub_with};
 
-    ghost Value = { Holding Known Entry (List Domain) };
+    ghost Value = { Holding };
 
     ghost coded = { Prim.hlevel (codes, e.the_row.coded) };
 
-    ghost view = { λ h. record { lock = h.inner.lock; view = h.inner.view; found = h.inner.found; value = h.inner.value.hub } };
+    ghost view = { λ h. record { lock = h.inner.lock; view = h.inner.view; found = hub_with h.inner.view h.inner.found; hub = h.inner.value.hub } };
 
     // The log that was found begins with all that the seat has seen, and its entries of the seat's number are the seat's own.
-    ghost invariant = { λ h. IsPrefix h.inner.view.seen h.inner.found × (entries_by client_of h.inner.view.number h.inner.found ≡ h.inner.view.own) };
+    ghost invariant = { λ h.
+        IsSome h.inner.view.ground
+        × IsPrefix h.inner.view.seen h.inner.found
+        × (entries_by client_of h.inner.view.number h.inner.found ≡ h.inner.view.own) };
 }
 
 impl Held {
@@ -48,8 +47,8 @@ impl Held {
 
     /// The hub. What its calls do is done to the hub, and nothing else changes.
     pub fn hub(&mut self) -> &mut Hub
-        ensures* writes_back { sem 𝓛 (Lends the_row hub_row self.entry result (λ w. record self.old { value = w })) }
-        ensures value { result.now ≡ self.old.value }
+        ensures* writes_back { sem 𝓛 (Lends the_row hub_row self.entry result (λ w. record self.old { hub = w })) }
+        ensures value { result.now ≡ self.old.hub }
     {
         let shared = self.inner.value();
         &mut shared.hub

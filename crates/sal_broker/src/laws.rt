@@ -3,8 +3,7 @@ ghost use Rattle.std.specs.Prelude.{List};
 ghost use mathlib.Core.List.{IsPrefix};
 ghost use Rattle.sal_history.specs.declared.call.Entry.{Entry};
 ghost use Rattle.sal_hub.specs.Known.{Known};
-ghost use Rattle.sal_broker.specs.Tokens.{TokensStay};
-ghost use Rattle.sal_broker.specs.Turns.{with_log};
+ghost use Rattle.sal_broker.specs.Tokens.{TokensStay, with_log};
 
 /// The tokens of a log are tokens of each log that begins so, whoever made the entries behind.
 pub fn tokens_stay()

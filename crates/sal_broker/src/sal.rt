@@ -1,13 +1,14 @@
 //! The broker, and its seats.
-ghost use Rattle.std.specs.Prelude.{◌≡◌, ◌≤◌, ℕ, List, [], ◌∷◌, ◌++◌, true, None, Some, MatchResult, length};
+ghost use Rattle.std.specs.Prelude.{◌≡◌, ◌≤◌, ◌+◌, ℕ, List, [], ◌∷◌, ◌++◌, true, None, Some, MatchResult, length};
 ghost use mathlib.Core.List.{IsPrefix};
 ghost use Rattle.sal_history.specs.declared.call.Entry.{Entry};
-ghost use Rattle.sal_turn.specs.Entries.{AddsAtMostOne, entries_by};
+ghost use Rattle.sal_turn.specs.Entries.{entries_by};
 ghost use Rattle.sal_turn.specs.Lists.{In};
 ghost use Rattle.sal_turn.specs.Views.{AnswersFor, SameRights, both, newcomer, opener};
 ghost use Rattle.sal_hub.specs.Openings.{IsFaultOf, fault_of, world_of};
+ghost use Rattle.sal_broker.specs.Seats.{client_of, known};
 ghost use Rattle.sal_broker.specs.Tokens.{TokensStay};
-ghost use Rattle.sal_broker.specs.Turns.{TurnFound, client_of, hub_with, known};
+ghost use Rattle.sal_broker.specs.Turns.{OneMoreAtMost, TurnOf};
 
 use crate::held::Held;
 use crate::laws;
@@ -54,11 +55,11 @@ impl Sal {
     pub fn enter<R: Wait>(&self, rt: &R, seat: Seat) -> Held
         requires { seat.lock ≡ self.now }
         ensures same { (result.lock ≡ self.now) × (result.view ≡ seat.view) }
-        ensures world { seat.view.ground ≡ Some result.value.world }
-        ensures found { result.value ≡ hub_with seat.view result.found }
-        ensures seen { IsPrefix seat.view.seen result.found }
-        ensures own { entries_by client_of seat.view.number result.found ≡ seat.view.own }
-        ensures tokens { TokensStay (known seat.view) result.value }
+        ensures hub { result.hub ≡ result.found }
+        ensures world { seat.view.ground ≡ Some result.found.world }
+        ensures seen { IsPrefix seat.view.seen result.found.log }
+        ensures own { entries_by client_of seat.view.number result.found.log ≡ seat.view.own }
+        ensures tokens { TokensStay (known seat.view) result.found }
     {
         laws::tokens_stay();
         let Seat { inner } = seat;
@@ -68,16 +69,13 @@ impl Sal {
         }
     }
 
-    /// Ends a turn. The hub has the world that it had, and the log that was found, or this with one more entry of the seat's
-    /// number at the end; the seat has then seen that log.
+    /// Ends a turn. The hub is as it was found, or has one entry more, of the seat's number; the seat has then seen its log.
     pub fn leave(&self, held: Held) -> Seat
         requires lock { held.lock ≡ self.now }
-        requires world { held.view.ground ≡ Some held.value.world }
-        requires entries { AddsAtMostOne client_of held.view.number held.found held.value.log }
+        requires added { OneMoreAtMost held.view held.found held.hub }
         ensures same { (result.lock ≡ self.now) × SameRights held.view result.view }
         ensures turns { result.view.turns ≡ held.view.turns + 1 }
-        ensures known { known result.view ≡ held.value }
-        ensures found { TurnFound held.view held.found result.view }
+        ensures turn { TurnOf held.view held.view.number held.found held.hub result.view }
     {
         let Held { inner } = held;
         Seat {

@@ -30,7 +30,7 @@ impl Model for World {
 }
 
 impl Chronicle for Shared {
-    ghost use Rattle.sal_broker.specs.Turns.{client_of};
+    ghost use Rattle.sal_broker.specs.Seats.{client_of};
 
     type Entry = Entry;
 

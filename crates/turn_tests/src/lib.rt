@@ -2,6 +2,8 @@
 #![tactic(auto)]
 
 #[cfg(test)]
+mod broker;
+#[cfg(test)]
 mod seats;
 #[cfg(test)]
 mod tape;

@@ -11,6 +11,7 @@ pub mod Later
 pub mod Left
 pub mod Limits
 pub mod Listed
+pub mod Members
 pub mod Orders
 pub mod Played
 pub mod Readers

@@ -49,8 +49,8 @@ same_order (m ∷ first) (n ∷ second) h k xs ys is =
     let m_fits : m < 2 ^ 64 = ltb-true m (2 ^ 64) small.0 in
     let n_fits : n < 2 ^ 64 = ltb-true n (2 ^ 64) small'.0 in
     let digits : (decimal m ≡ decimal n) × (behind first xs ≡ behind second ys) =
-        same_digits (decimal m) (decimal n) (behind first xs) (behind second ys) (decimal_is_IsNumeral m m_fits).0.1 (decimal_is_IsNumeral n n_fits).0.1 (stops first xs) (stops second ys)
-        (sym (append_assoc (decimal m) (flat_map number first) (10 ∷ xs)) ∙ ap rest_of is ∙ append_assoc (decimal n) (flat_map number second) (10 ∷ ys)) in
+    same_digits (decimal m) (decimal n) (behind first xs) (behind second ys) (decimal_is_IsNumeral m m_fits).0.1 (decimal_is_IsNumeral n n_fits).0.1 (stops first xs) (stops second ys)
+    (sym (append_assoc (decimal m) (flat_map number first) (10 ∷ xs)) ∙ ap rest_of is ∙ append_assoc (decimal n) (flat_map number second) (10 ∷ ys)) in
     let rest = same_order first second small.1 small'.1 xs ys digits.1 in
     λ i. decimal_injective m n m_fits n_fits digits.0 i ∷ rest i
 

@@ -106,7 +106,7 @@ module _ (table : SchemaTable) (world : List Domain) (c : ℕ) where
           let added = make_adds before (arrive table world before run.client run.steps) made went in
           let more = begins rest made last.0 last.1 in
           let whole : before ++ (added.0 ∷ more.0) ≡ before ++ (e ∷ rest) =
-              sym (append_assoc before (added.0 ∷ []) more.0) ∙ ap (λ (log : List Entry). log ++ more.0) (sym added.1) ∙ more.1 ∙ last.2 in
+          sym (append_assoc before (added.0 ∷ []) more.0) ∙ ap (λ (log : List Entry). log ++ more.0) (sym added.1) ∙ more.1 ∙ last.2 in
           let same : added.0 ≡ e = ap (head_or e) (append_cancel_left before (added.0 ∷ more.0) (e ∷ rest) whole) in
           let this : made ≡ made_of (before ++ e ∷ []) made.run = (λ i. made_of (added.1 i) made.run) ∙ (λ i. made_of (before ++ same i ∷ []) made.run) in
           (made.run, went ∙ ap Some this, subst (λ (m : Made). Ends (Some m) rest (before ++ e ∷ rest) rs) this on)
@@ -157,9 +157,9 @@ module _ (table : SchemaTable) (world : List Domain) where
         let went = own_step table world c before mine.0 e rest own.0 refl (was c mine.0 own.0 mine.1 own.1) in
         let stand : Stand = record { log = before; runs = runs } in
         let turned : turn table world stand c ≡ Some (let s : Stand = record { log = before ++ e ∷ []; runs = set runs c went.0 } in s) =
-            ap (turn_of table world stand c) mine.1 ∙ ap (stand_with stand c) went.1 in
+        ap (turn_of table world stand c) mine.1 ∙ ap (stand_with stand c) went.1 in
         let all : AllEnd (before ++ e ∷ []) (set runs c went.0) rest ((before ++ e ∷ []) ++ rest) =
-            subst (AllEnd (before ++ e ∷ []) (set runs c went.0) rest) (sym (append_assoc before (e ∷ []) rest)) (next_end before runs e rest (before ++ e ∷ rest) c went.0 own.0 refl own.1 went.2 was) in
+        subst (AllEnd (before ++ e ∷ []) (set runs c went.0) rest) (sym (append_assoc before (e ∷ []) rest)) (next_end before runs e rest (before ++ e ∷ rest) c went.0 own.0 refl own.1 went.2 was) in
         ap (play_by index (λ next. play_from table world (index + 1) next (order_of rest))) turned
         ∙ plays rest (before ++ e ∷ []) (index + 1) (set runs c went.0) (length-set runs c went.0 ∙ long) (λ i x at. known (suc i) x at) all
         ∙ (λ i. let played : Result Played ℕ = Ok (record { log = append_assoc before (e ∷ []) rest i; replies = replies }) in played)
@@ -175,9 +175,9 @@ pub what_is_left_is_one_order : LeftIsOneOrder
 what_is_left_is_one_order world clients log replies left =
     let table : SchemaTable = table_of world 0 in
     let ends : AllEnd table world replies [] (start clients).runs log log =
-        λ c run rs at at_rs.
-            let mine = run_at clients c run at in
-            subst (λ (r : Run). Ends table world c (Some (made_of [] r)) log log rs) mine.2 (left.each c mine.0 rs mine.1 at_rs) in
+    λ c run rs at at_rs.
+    let mine = run_at clients c run at in
+    subst (λ (r : Run). Ends table world c (Some (made_of [] r)) log log rs) mine.2 (left.each c mine.0 rs mine.1 at_rs) in
     let played = plays table world replies log [] 0 (start clients).runs (length-map clients new_run ∙ sym left.all) (λ i e at. omega (arith, left.known i e at, left.all)) ends in
     record {
       plays = played;

@@ -13,6 +13,7 @@ pub mod Left
 pub mod Limits
 pub mod Listed
 pub mod Listening
+pub mod Members
 pub mod Orders
 pub mod Played
 pub mod Readers

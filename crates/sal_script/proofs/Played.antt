@@ -101,9 +101,11 @@ starts world clients c steps run at_c at =
 
 pub what_is_played_can_be_left : PlayedCanBeLeft
 what_is_played_can_be_left world clients order played is =
-    let follows : Follows world clients order played = plays_follow_their_order world clients order played is in
-    (follows.ordered, record {
-      known = λ i e at. follows.known i e.client (ap (λ (cs : List ℕ). slice_get cs i) (sym follows.ordered) ∙ slice_get-map (λ (x : Entry). x.client) played.log i ∙ ap (option_map (λ (x : Entry). x.client)) at);
-      all = follows.all;
-      each = plays (table_of world 0) world clients order 0 (start clients) played (starts world clients) is;
-    })
+    let follows : Follows world clients order played = plays_follow_their_order world clients order played is in (
+      follows.ordered,
+      record {
+        known = λ i e at. follows.known i e.client (ap (λ (cs : List ℕ). slice_get cs i) (sym follows.ordered) ∙ slice_get-map (λ (x : Entry). x.client) played.log i ∙ ap (option_map (λ (x : Entry). x.client)) at);
+        all = follows.all;
+        each = plays (table_of world 0) world clients order 0 (start clients) played (starts world clients) is;
+      },
+    )

@@ -23,7 +23,7 @@ what_is_left_is_reported world clients log replies left =
     let one : IsOneOrder world clients log replies = what_is_left_is_one_order world clients log replies left in
     let played : Played = record { log = log; replies = replies } in
     let rest : List ℕ =
-        reply_lines (table_of world 0) 0 replies ++ tree_line (table_of world 0) 0 (length (commits (history world log) 0)) (newest_tree world log 0 Config) (newest_tree world log 0 Oper) in
+    reply_lines (table_of world 0) 0 replies ++ tree_line (table_of world 0) 0 (length (commits (history world log) 0)) (newest_tree world log 0 Config) (newest_tree world log 0 Oper) in
     record {
       order = order_of log;
       told = (rest, ap (λ (line : List ℕ). line ++ rest) (same_line log));

@@ -27,7 +27,10 @@ fn answered(alloc: Global, batch: &Batch) -> Result<(Option<MirrorFault>, u64), 
 #[test]
 fn a_mirror_refuses_a_gap(rt: HostRuntime) -> Result<(), Fail> {
     let behind = between(rt.alloc(), 3, 5);
-    assert_eq!(rt; answered(rt.alloc(), &behind)?, (Some(MirrorFault::Gap { have: 2, from: 3 }), 2));
+    assert_eq!(rt;
+        answered(rt.alloc(), &behind)?,
+        (Some(MirrorFault::Gap { have: 2, from: 3 }), 2)
+    );
     let next = between(rt.alloc(), 2, 5);
     assert_eq!(rt; answered(rt.alloc(), &next)?, (None, 5));
     Ok(())

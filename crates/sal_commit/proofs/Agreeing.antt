@@ -23,9 +23,9 @@ use Rattle.sal_commit.specs.Stamps.{AreStamped, BothUpTo, CanFollow, IsNewStamp,
 
 is_that : (k s : ℕ) → is_new (k ∷ []) s ≡ true → s ≡ k
 is_that k s e = elim (s == k) as (λ b. (s == k) ≡ b → (b || false) ≡ true → s ≡ k) [
-    | true ↦ λ same _. grind (arith, nat_tests)
-    | false ↦ λ _ no_way. cc
-  ] refl e
+  | true ↦ λ same _. grind (arith, nat_tests)
+  | false ↦ λ _ no_way. cc
+] refl e
 
 -- a tree that keeps another one, but for nodes with a stamp that is greater than all of its own
 module _ (stamp bound : ℕ) (t u : Tree) (keeps : Keeps (stamp ∷ []) t u) (up : StampsUpTo bound t) (less : bound < stamp) where

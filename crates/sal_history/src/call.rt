@@ -6,19 +6,36 @@ use sal_types::{Path, Seq, Store};
 #[derive(Drop)]
 pub enum Call {
     /// Begins a transaction of the domain.
-    Begin { domain: u32, mode: Mode },
+    Begin {
+        domain: u32,
+        mode: Mode,
+    },
     /// Opens a transaction chain over the domain (`DOMTransactionChain`). Its id is the number of chains that were opened.
-    OpenChain { domain: u32 },
+    OpenChain {
+        domain: u32,
+    },
     /// Begins the next transaction of the chain.
-    ChainBegin { chain: u64, mode: Mode },
+    ChainBegin {
+        chain: u64,
+        mode: Mode,
+    },
     /// Closes the chain: no transaction begins in it any more. What was begun or submitted stays.
-    CloseChain { chain: u64 },
+    CloseChain {
+        chain: u64,
+    },
     /// Submits the transaction that the entry at this place of the log began, with its operations in order.
-    Submit { place: u64, ops: Ops },
+    Submit {
+        place: u64,
+        ops: Ops,
+    },
     /// Gives up the transaction that the entry at this place of the log began.
-    Cancel { place: u64 },
+    Cancel {
+        place: u64,
+    },
     /// Decides what is pending, up to and including this receipt.
-    Settle { receipt: u64 },
+    Settle {
+        receipt: u64,
+    },
     /// Decides the first receipt that is pending.
     Pump,
     /// Listens to a store of the domain at the path and below it (`registerDataTreeChangeListener`). The listener's id is the
@@ -29,13 +46,21 @@ pub enum Call {
         path: Path,
     },
     /// Takes what changed for the listener since its opening, or since what was taken last.
-    Take { id: u64 },
+    Take {
+        id: u64,
+    },
     /// Removes the listener.
-    Unlisten { id: u64 },
+    Unlisten {
+        id: u64,
+    },
     /// Leaves a mark in the log, by which clients can tell each other how far they are.
-    Mark { mark: u32 },
+    Mark {
+        mark: u32,
+    },
     /// Asks whether the mark was left.
-    After { mark: u32 },
+    After {
+        mark: u32,
+    },
 }
 
 /// A call in the log: the client that made it, the count of that client's earlier entries, and the call.

@@ -17,15 +17,23 @@ ghost use Rattle.sal_history.specs.Listening.{between, change, last_reply, liste
 /// A leaf comes, changes and goes: each commit has its part, by the leaf's own row.
 pub fn a_leaf_comes_and_goes()
     ensures { last_reply (opened []) (watched a (put a "1" ∷ []) (put a "2" ∷ []) (delete a ∷ []))
-        ≡ Some (Batch 0 (record { from = 0; to = 3; lists =
-            part_of 1 Write (change a None (Some (text "1"))) ∷ part_of 2 Write (change a (Some (text "1")) (Some (text "2"))) ∷ part_of 3 Delete (change a (Some (text "2")) None) ∷ [] })) }
+        ≡ Some (Batch 0 (record {
+          from = 0;
+          to = 3;
+          lists =
+              part_of 1 Write (change a None (Some (text "1"))) ∷ part_of 2 Write (change a (Some (text "1")) (Some (text "2"))) ∷ part_of 3 Delete (change a (Some (text "2")) None) ∷ [];
+        })) }
 {}
 
 /// A plain container has no row: it appears with its first leaf, is modified below, and disappears with the last.
 pub fn a_container_appears()
     ensures { last_reply (opened []) (watched box (put a "1" ∷ []) (put a "2" ∷ []) (delete a ∷ []))
-        ≡ Some (Batch 0 (record { from = 0; to = 3; lists =
-            part_of 1 Appeared (change a None (Some (text "1"))) ∷ part_of 2 SubtreeModified (change a (Some (text "1")) (Some (text "2"))) ∷ part_of 3 Disappeared (change a (Some (text "2")) None) ∷ [] })) }
+        ≡ Some (Batch 0 (record {
+          from = 0;
+          to = 3;
+          lists =
+              part_of 1 Appeared (change a None (Some (text "1"))) ∷ part_of 2 SubtreeModified (change a (Some (text "1")) (Some (text "2"))) ∷ part_of 3 Disappeared (change a (Some (text "2")) None) ∷ [];
+        })) }
 {}
 
 /// Of three commits the second has no part: it writes the value that stands there. Then it writes another leaf, and then the other

@@ -1,5 +1,5 @@
 //! A copy of the rows that a listener looks at.
-ghost use Rattle.std.specs.Prelude.{◌≡◌, ◌≢◌, ◌↔◌, ◌++◌, IsErrOf, IfOk, OnOk, OnErr, map};
+ghost use Rattle.std.specs.Prelude.{◌≡◌, ◌≢◌, ◌↔◌, ◌++◌, IsErrOf, IfOk, IfErr, OnOk, OnErr, map};
 ghost use Rattle.sal_rows.specs.Patch.{with_parts};
 ghost use Rattle.sal_listen.specs.Mirrors.{CarriesOn, patch_by, patches_in};
 
@@ -43,6 +43,7 @@ impl Mirror {
         ensures rows { OnOk result (self.new.rows ≡ with_parts self.old.rows batch.now.lists) }
         ensures committed { OnOk result (CarriesOn batch.now self.old.rows self.new.rows) }
         ensures gap { IsErrOf result (MirrorFault.Gap self.old.version batch.now.from) ↔ (self.old.version ≢ batch.now.from) }
+        ensures memory { self.old.version ≡ batch.now.from → IfErr result (λ e. e ≡ MirrorFault.NoMemory) }
         ensures kept { OnErr result (self.new ≡ self.old) }
     {
         if self.version != batch.from {

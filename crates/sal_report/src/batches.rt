@@ -52,12 +52,7 @@ fn push_more_parts(
 }
 
 // What one commit changed.
-fn push_part(
-    alloc: Global,
-    text: &mut String,
-    schema: &Schema,
-    part: &Part,
-) -> Result<(), NoMemory>
+fn push_part(alloc: Global, text: &mut String, schema: &Schema, part: &Part) -> Result<(), NoMemory>
     ensures { OnOk result (string_bytes text.new ≡ string_bytes text.old ++ compact_text (spec.part_data schema.now part.now)) }
 {
     write!(text, "[{},", part.commit)?;
@@ -181,12 +176,7 @@ fn type_at(schema: &Schema, node: u32) -> Option<u32>
 
 // The value of a leaf of the schema.
 #[tactic(auto, unfolding(sal_data::specs::Written::scalar_json))]
-fn node_json(
-    alloc: Global,
-    schema: &Schema,
-    node: u32,
-    value: &Value,
-) -> Result<Json, NoMemory>
+fn node_json(alloc: Global, schema: &Schema, node: u32, value: &Value) -> Result<Json, NoMemory>
     ensures { IfOk result (λ json. view json ≡ scalar_json schema.now node value.now) }
 {
     match type_at(schema, node) {

@@ -63,7 +63,10 @@ fn push_call(
         } => push_decided(alloc, text, schema, *receipt, outcome),
         Reply::Nothing => push_word(text, "nothing"),
         Reply::Listener {
-            id, path, opened, ..
+            id,
+            path,
+            opened,
+            ..
         } => push_listener(alloc, text, schema, *id, path, opened),
         Reply::Batch { batch, .. } => push_batch(alloc, text, schema, batch),
         Reply::Found => push_word(text, "found"),

@@ -7,9 +7,15 @@ use thiserror::Error;
 #[derive(Drop)]
 pub enum RpcCall {
     /// Registers the client as the one who answers the RPC in the context (`DOMRpcProviderService`).
-    Provide { rpc: u32, context: Option<Path> },
+    Provide {
+        rpc: u32,
+        context: Option<Path>,
+    },
     /// Ends the client's registration.
-    Withdraw { rpc: u32, context: Option<Path> },
+    Withdraw {
+        rpc: u32,
+        context: Option<Path>,
+    },
     /// Makes a request (`DOMRpcService`). Its id is the number of requests that were made.
     Invoke {
         rpc: u32,
@@ -19,9 +25,14 @@ pub enum RpcCall {
     /// Takes the next request that waits for the client.
     NextCall,
     /// Answers a request that the client took.
-    Answer { id: u64, output: Rows },
+    Answer {
+        id: u64,
+        output: Rows,
+    },
     /// Asks for the answer to a request that the client made.
-    Collect { id: u64 },
+    Collect {
+        id: u64,
+    },
 }
 
 /// A request, as it is handed to the client that answers it.

@@ -123,11 +123,10 @@ commits_left answered rest domain few =
     let grown = done_grows domain all os (outcomes rest) in
     let given : sents (answered ++ rest) ≡ all = filter_map-append (λ (a : Answered). a.sent) answered rest in
     let told : outcomes (answered ++ rest) ≡ os ++ outcomes rest = flat_map-append (λ (a : Answered). a.decided) answered rest in
-    let ops : List Sent → List (List Op) = map (λ (s : Sent). s.ops) in
-    (
+    let ops : List Sent → List (List Op) = map (λ (s : Sent). s.ops) in (
       ops grown.0,
       (λ i. done_ops domain (given i) (told i)) ∙ ap ops (grown.1 ∙ ap (λ (ds : List Sent). ds ++ grown.0) (done_front domain ss (sents rest) os few))
-      ∙ map-append (λ (s : Sent). s.ops) (done domain ss os) grown.0,
+          ∙ map-append (λ (s : Sent). s.ops) (done domain ss os) grown.0,
     )
 
 module _ (world : List Domain) (log more : List Entry) (domain : ℕ) where

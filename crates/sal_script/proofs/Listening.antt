@@ -157,8 +157,8 @@ module _ (world : List Domain) (c : ℕ) (log : List Entry) (number : ℕ) (clie
         let is = listening_longer world c log later l (was slot l there) in
         listens_filled world c (grown (made.Take l.id)) client slot (option_map (at_version newest) (client.listeners slot))
         (λ x e.
-            let same : at_version newest l ≡ x = same_Some (at_version newest l) x (ap (option_map (at_version newest)) (sym there) ∙ e) in
-            subst (IsListening world c (grown (made.Take l.id))) same (record { made = is.made; reached = more_commits world log later l.domain }))
+        let same : at_version newest l ≡ x = same_Some (at_version newest l) x (ap (option_map (at_version newest)) (sym there) ∙ e) in
+        subst (IsListening world c (grown (made.Take l.id))) same (record { made = is.made; reached = more_commits world log later l.domain }))
         (unchanged (made.Take l.id))
 
     take_keeps : (b : Bool) → KeepsBy (made.Take l.id) (Take slot) (if b then taken world so_far l.id else Refused (NoListener l.id))

@@ -28,13 +28,21 @@ pub enum StepRefusal {
 #[derive(Drop)]
 pub enum StepReply {
     /// The answer to the shared call.
-    Called { reply: Reply },
+    Called {
+        reply: Reply,
+    },
     /// The write is one of the transaction's operations.
     Accepted,
     /// The rows at the path and below it, in the view of a transaction of the domain.
-    Read { domain: u32, path: Path, rows: Rows },
+    Read {
+        domain: u32,
+        path: Path,
+        rows: Rows,
+    },
     /// Whether a row stands at the path or below it, in the view of a transaction.
-    Exists { found: bool },
+    Exists {
+        found: bool,
+    },
     /// What was committed at a listener's path and below it in a store of the domain, at the version that was taken last.
     Mirror {
         domain: u32,
@@ -43,5 +51,7 @@ pub enum StepReply {
         rows: Rows,
     },
     /// The step was refused.
-    Refused { refusal: StepRefusal },
+    Refused {
+        refusal: StepRefusal,
+    },
 }

@@ -4,9 +4,10 @@ ghost use Rattle.sal_history.specs.declared.call.Call.TheVariants.{After};
 ghost use Rattle.sal_hub.specs.Answers.{Calls};
 ghost use Rattle.sal_hub.specs.Known.{entry_of};
 ghost use Rattle.sal_hub.specs.Seen.{seen_reply};
-ghost use Rattle.sal_broker.specs.Looks.{IsLate};
+ghost use Rattle.sal_broker.specs.Looks.{IsLate, IsMissed};
 ghost use Rattle.sal_broker.specs.Turns.{InLastTurn, Keeps};
 
+use crate::held::Held;
 use crate::sal::Sal;
 use crate::seat::Seat;
 use sal_hub::Seen;
@@ -17,9 +18,18 @@ use std::sync::Wait;
 /// How many looks for a mark a call makes at most.
 pub const MAX_LOOKS: u32 = 4194304;
 
-// The answer of the last look, as that of all of them.
-fn counted(answer: Result<Seen, CallFault>) -> Result<Seen, CallFault> {
-    match answer {
+// Asks for the last time. Where the mark is not there, all looks were made.
+fn last_look(
+    alloc: Global,
+    held: &mut Held,
+    client: u32,
+    mark: u32,
+) -> Result<Seen, CallFault>
+    ensures same { held.new ≡ record held.old { hub = held.new.hub } }
+    ensures answer { Calls held.old.hub held.new.hub (entry_of held.old.hub client (After mark)) seen_reply result }
+    ensures missed { IfOk result (IsMissed MAX_LOOKS held.old.hub.log mark) }
+{
+    match held.hub().after(alloc, client, mark) {
         Ok(Seen::Late { looks: _, front }) => Ok(Seen::Late {
             looks: MAX_LOOKS,
             front,
@@ -43,9 +53,10 @@ fn look<R: Wait>(
     let client = seat.number();
     for look in 0..MAX_LOOKS {
         let mut held = sal.enter(rt, seat);
-        if look + 1 == MAX_LOOKS || held.hub().has_mark(mark) {
-            let answer = held.hub().after(alloc, client, mark);
-            return (sal.leave(held), counted(answer));
+        let is_there = held.hub().has_mark(mark);
+        if is_there || look + 1 == MAX_LOOKS {
+            let answer = last_look(alloc, &mut held, client, mark);
+            return (sal.leave(held), answer);
         }
         seat = sal.leave(held);
     }

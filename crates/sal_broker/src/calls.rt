@@ -65,6 +65,7 @@ impl Sal {
         };
         let client = inner.number();
         let mut held = self.enter(rt, Seat { inner: Some(inner) });
+        held.knows_write(&tx);
         let answer = held.hub().submit(alloc, client, tx);
         seat.inner = self.leave(held).inner;
         answer
@@ -88,6 +89,7 @@ impl Sal {
         };
         let client = inner.number();
         let mut held = self.enter(rt, Seat { inner: Some(inner) });
+        held.knows_tx(&tx);
         let answer = held.hub().cancel(alloc, client, tx);
         seat.inner = self.leave(held).inner;
         answer
@@ -112,6 +114,7 @@ impl Sal {
         };
         let client = inner.number();
         let mut held = self.enter(rt, Seat { inner: Some(inner) });
+        held.knows_receipt(receipt);
         let answer = held.hub().settle(alloc, client, receipt);
         seat.inner = self.leave(held).inner;
         answer
@@ -184,6 +187,7 @@ impl Sal {
         };
         let client = inner.number();
         let mut held = self.enter(rt, Seat { inner: Some(inner) });
+        held.knows_chain(chain);
         let answer = held.hub().chain_begin(alloc, client, chain, mode);
         seat.inner = self.leave(held).inner;
         answer
@@ -207,6 +211,7 @@ impl Sal {
         };
         let client = inner.number();
         let mut held = self.enter(rt, Seat { inner: Some(inner) });
+        held.knows_chain(chain);
         let answer = held.hub().close_chain(alloc, client, chain);
         seat.inner = self.leave(held).inner;
         answer

@@ -2,10 +2,15 @@
 ghost use Rattle.std.specs.Prelude.{◌≡◌};
 ghost use Rattle.std.specs.Borrow.{sem, Lends};
 ghost use Rattle.sal_hub.specs.contracts.hub.Hub.{the_row as hub_row};
+ghost use Rattle.sal_hub.specs.Tokens.{IsBegun, IsChain, IsGiven, IsToken};
+ghost use Rattle.sal_broker.specs.Seats.{known};
+ghost use Rattle.sal_broker.specs.Tokens.{TokensStay};
 ghost use Rattle.sal_broker.specs.contracts.held.Held.{the_row};
 
+use crate::laws;
 use crate::shared::Shared;
-use sal_hub::Hub;
+use sal_hub::{Chain, Hub, Receipt};
+use sal_tx::{Tx, WriteTx};
 use std::marker::Model;
 
 /// A turn at the broker: the hub, in the hands of one seat. A contract sees its lock, its seat's view, the hub that
@@ -52,5 +57,42 @@ impl Held {
     {
         let shared = self.inner.value();
         &mut shared.hub
+    }
+
+    // The tokens of what the seat has seen are tokens of the hub that was found. These functions do nothing.
+
+    fn keeps_tokens(&self)
+        ensures { TokensStay (known self.now.view) self.now.found }
+    {
+        laws::tokens_stay();
+        let _inner = &self.inner;
+    }
+
+    pub(crate) fn knows_tx(&self, tx: &Tx)
+        requires { IsToken (known self.now.view) tx.now }
+        ensures { IsToken self.now.found tx.now }
+    {
+        self.keeps_tokens();
+    }
+
+    pub(crate) fn knows_write(&self, tx: &WriteTx)
+        requires { IsBegun (known self.now.view) tx.now.begun tx.now.base }
+        ensures { IsBegun self.now.found tx.now.begun tx.now.base }
+    {
+        self.keeps_tokens();
+    }
+
+    pub(crate) fn knows_receipt(&self, receipt: Receipt)
+        requires { IsGiven (known self.now.view) receipt.number }
+        ensures { IsGiven self.now.found receipt.number }
+    {
+        self.keeps_tokens();
+    }
+
+    pub(crate) fn knows_chain(&self, chain: &Chain)
+        requires { IsChain (known self.now.view) chain.now }
+        ensures { IsChain self.now.found chain.now }
+    {
+        self.keeps_tokens();
     }
 }

@@ -1,7 +1,8 @@
-ghost use Rattle.std.specs.Prelude.{◌≡◌, ◌∷◌, [], IfOk, IsTrue};
+ghost use Rattle.std.specs.Prelude.{◌≡◌, ◌+◌, ◌*◌, ◌≤◌, ◌∷◌, [], IfOk, IsTrue};
 ghost use Rattle.sal_types.specs.Tree.{under};
 ghost use Rattle.sal_rows.specs.Apply.{rows_of_act};
 ghost use Rattle.sal_graft.specs.Kept.{AreKept};
+ghost use Rattle.sal_commit.specs.Stamps.{IsNewStamp};
 
 use crate::schemas::schema_of;
 use crate::texts::{path_of, rows_of};
@@ -70,19 +71,39 @@ fn copies(trees: &Pair) -> Result<(Pair, Pair), NoMemory> {
     Ok((base, view))
 }
 
-fn submission(base_commit: u64, base: Pair, view: Pair, changes: Mod) -> Submission
-    ensures commit { result.base_commit ≡ base_commit }
+// Where a submission stands: its receipt and its base commit.
+struct Place {
+    receipt: u64,
+    base_commit: u64,
+}
+
+fn submission(place: &Place, base: Pair, view: Pair, changes: Mod) -> Submission
+    ensures receipt { result.receipt ≡ place.now.receipt }
+    ensures commit { result.base_commit ≡ place.now.base_commit }
     ensures changes { result.changes ≡ changes }
 {
     Submission {
-        receipt: 5,
+        receipt: place.receipt,
         domain: 0,
         chain: None,
-        base_commit,
+        base_commit: place.base_commit,
         base,
         view,
         changes,
     }
+}
+
+// The receipt behind that of the newest commit.
+fn next_receipt(domain: &Domain) -> Result<u64, Fail>
+    requires { AreKept domain.now.commits.items }
+    ensures small { IfOk result (λ receipt. receipt ≤ 1000) }
+    ensures fresh { IfOk result (λ receipt. IsNewStamp domain.now.commits.items receipt (receipt * 2 + 1)) }
+{
+    let last = &domain.commits[domain.commits.len() - 1];
+    if last.receipt >= 1000 {
+        return Err("too many receipts".into());
+    }
+    Ok(last.receipt + 1)
 }
 
 // The outcome of an operation on the trees of a commit.
@@ -93,10 +114,15 @@ fn decided(domain: &mut Domain, alloc: Global, base_commit: u64, op: Op) -> Resu
     if base_commit >= domain.commits.len() as u64 || !lies_below(&op) {
         return Err("no operation on a commit".into());
     }
+    let receipt = next_receipt(domain)?;
+    let place = Place {
+        receipt,
+        base_commit,
+    };
     let changes = changed(alloc, op)?;
     let (base, view) = copies(&domain.commits[base_commit as usize].trees)?;
-    let submission = submission(base_commit, base, view, changes);
-    Ok(decide(alloc, &submission, domain, None, 7)?)
+    let submission = submission(&place, base, view, changes);
+    Ok(decide(alloc, &submission, domain, None, receipt * 2 + 1)?)
 }
 
 // ---- cases

@@ -1,4 +1,4 @@
-//! The tests of the broker's half: rows, nodes, trees, changes, checks, transactions, commits and the hub.
+//! The tests of the broker's half: rows, nodes, trees, changes, checks, transactions, commits, mirrors and the hub.
 #![tactic(auto)]
 
 #[cfg(test)]
@@ -7,6 +7,8 @@ mod check;
 mod commit;
 #[cfg(test)]
 mod hub;
+#[cfg(test)]
+mod mirror;
 #[cfg(test)]
 mod node;
 #[cfg(test)]

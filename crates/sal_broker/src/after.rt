@@ -19,12 +19,7 @@ use std::sync::Wait;
 pub const MAX_LOOKS: u32 = 4194304;
 
 // Asks for the last time. Where the mark is not there, all looks were made.
-fn last_look(
-    alloc: Global,
-    held: &mut Held,
-    client: u32,
-    mark: u32,
-) -> Result<Seen, CallFault>
+fn last_look(alloc: Global, held: &mut Held, client: u32, mark: u32) -> Result<Seen, CallFault>
     ensures same { held.new ≡ record held.old { hub = held.new.hub } }
     ensures answer { Calls held.old.hub held.new.hub (entry_of held.old.hub client (After mark)) seen_reply result }
     ensures missed { IfOk result (IsMissed MAX_LOOKS held.old.hub.log mark) }

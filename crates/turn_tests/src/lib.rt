@@ -2,8 +2,6 @@
 #![tactic(auto)]
 
 #[cfg(test)]
-mod broker;
-#[cfg(test)]
 mod seats;
 #[cfg(test)]
 mod tape;

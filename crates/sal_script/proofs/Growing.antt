@@ -65,7 +65,7 @@ module _ (world : List Domain) where
 -- ---- entries
 
 -- no more receipts were decided than given
-abbrev Few : List Answered → Type 0
+abbrev pub Few : List Answered → Type 0
 Few answered = length (outcomes answered) ≤ length (sents answered)
 
 module _ (world : List Domain) where
@@ -84,7 +84,7 @@ module _ (world : List Domain) where
   decided_by_few answered (Mark mark) few = subst (λ (ps : List Outcome). length ps ≤ length (sents answered)) (sym (append-nil (outcomes answered))) few
   decided_by_few answered (After mark) few = subst (λ (ps : List Outcome). length ps ≤ length (sents answered)) (sym (append-nil (outcomes answered))) few
 
-  few_next : (answered : List Answered) (e : Entry) → Few answered → Few (answer world answered e)
+  pub few_next : (answered : List Answered) (e : Entry) → Few answered → Few (answer world answered e)
   few_next answered e few =
       let now : Answered = answered_as world answered e (reply_to world answered e.client e.call) in
       let given : length (sents (answered ++ now ∷ [])) ≡ length (sents answered) + length (sents (now ∷ [])) =
@@ -115,7 +115,7 @@ module _ (world : List Domain) where
 
 -- ---- commits of a log
 
-commits_left : (answered rest : List Answered) (domain : ℕ) → Few answered → (later : List (List Op)) × (commits (answered ++ rest) domain ≡ commits answered domain ++ later)
+pub commits_left : (answered rest : List Answered) (domain : ℕ) → Few answered → (later : List (List Op)) × (commits (answered ++ rest) domain ≡ commits answered domain ++ later)
 commits_left answered rest domain few =
     let ss : List Sent = sents answered in
     let os : List Outcome = outcomes answered in
@@ -128,6 +128,13 @@ commits_left answered rest domain few =
       (λ i. done_ops domain (given i) (told i)) ∙ ap ops (grown.1 ∙ ap (λ (ds : List Sent). ds ++ grown.0) (done_front domain ss (sents rest) os few))
           ∙ map-append (λ (s : Sent). s.ops) (done domain ss os) grown.0,
     )
+
+-- the trees at the commits stay
+pub trees_left : (world : List Domain) (answered rest : List Answered) (domain : ℕ) (store : Store) (k : ℕ) → Few answered → k ≤ length (commits answered domain) → trees_at world (answered ++ rest) domain store k ≡ trees_at world answered domain store k
+trees_left world answered rest domain store k few within =
+    let later = commits_left answered rest domain few in
+    ap (λ (ops : List (List Op)). tree_after store (opening_of world domain store) (take k ops)) later.1
+    ∙ ap (tree_after store (opening_of world domain store)) (take-append-le k (commits answered domain) later.0 within)
 
 module _ (world : List Domain) (log more : List Entry) (domain : ℕ) where
   pub commits_later : (later : List (List Op)) × (commits (history world (log ++ more)) domain ≡ commits (history world log) domain ++ later)
@@ -144,9 +151,9 @@ module _ (world : List Domain) (log more : List Entry) (domain : ℕ) where
   -- the trees at its commits stay
   pub trees_later : (store : Store) (k : ℕ) → k ≤ length (commits (history world log) domain) → trees_at world (history world (log ++ more)) domain store k ≡ trees_at world (history world log) domain store k
   trees_later store k within =
-      let later = commits_later in
-      ap (λ (ops : List (List Op)). tree_after store (opening_of world domain store) (take k ops)) later.1
-      ∙ ap (tree_after store (opening_of world domain store)) (take-append-le k (commits (history world log) domain) later.0 within)
+      let grown = history_grows world log more in
+      ap (λ (answered : List Answered). trees_at world answered domain store k) grown.1
+      ∙ trees_left world (history world log) grown.0 domain store k (few_in world log) within
 
 -- ---- listeners
 

@@ -3,6 +3,7 @@ pub mod Arriving
 pub mod Each
 pub mod Few
 pub mod FirstLines
+pub mod Followed
 pub mod ForSchema
 pub mod Given
 pub mod Growing

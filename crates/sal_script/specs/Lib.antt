@@ -3,6 +3,7 @@ pub mod AlongExamples
 pub mod BatchData
 pub mod ChainExamples
 pub mod Examples
+pub mod Followed
 pub mod Json
 pub mod JsonMoves
 pub mod JsonScripts

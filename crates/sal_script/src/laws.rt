@@ -1,4 +1,5 @@
 //! Laws of the definitions. A call does nothing: its clauses are the laws.
+ghost use Rattle.sal_script.specs.Followed.{ListenersFollowTheCommits};
 ghost use Rattle.sal_script.specs.Laws.{OpeningsAreWhole, ScriptsAreJson, WritesAreForSchema};
 ghost use Rattle.sal_script.specs.OneOrder.{LeftIsOneOrder, LeftIsShort, PlayedCanBeLeft};
 ghost use Rattle.sal_script.specs.Orders.{OrdersEndOrFail, PlaysFollow};
@@ -56,4 +57,11 @@ pub fn first_lines_tell_one_order()
 /// may be.
 pub fn what_is_left_is_short()
     ensures { LeftIsShort }
+{}
+
+/// What the answers of a listener gave, its opening and then the parts of each batch that was taken, are the rows under its path
+/// at its version, a commit that there is. These are the parts of all commits since its opening, each once and in order. So it
+/// is with each listener of each log over opening trees.
+pub fn listeners_follow_the_commits()
+    ensures { ListenersFollowTheCommits }
 {}

@@ -1,5 +1,6 @@
 -- How each kind of step is answered.
-use Rattle.std.proofs.Common.{◌≡◌, ℕ, ◌<◌, ◌≤◌, List, [], length, Option, None, Some, Result, Ok, Err, refl, ap, sym, ◌∙◌, subst, arith}
+use Rattle.std.proofs.Common.{◌≡◌, ℕ, List, [], length, Option, None, Some, Result, Ok, Err, inl, inr, refl, ap, sym, ◌∙◌, subst}
+use Rattle.std.specs.Prelude.{IfErr, IfOk}
 use Rattle.sal_types.specs.declared.value.Store.{Store}
 use Rattle.sal_types.specs.declared.value.Step.{Step}
 use Rattle.sal_rows.specs.declared.op.Op.{Op}
@@ -9,7 +10,7 @@ use Rattle.sal_rows.specs.declared.outcome.Mode.TheVariants.{Ro, Wo, Rw}
 use Rattle.sal_rows.specs.declared.outcome.CallFault.{CallFault}
 use Rattle.sal_rows.specs.declared.outcome.CallFault.TheVariants.{HistoryFull, PipelineFull, NoDomain, PreviousOpen, ChainFailed, ChainClosed, NoMemory, TxSpent}
 use Rattle.sal_schema.specs.declared.table.SchemaTable.{SchemaTable}
-use Rattle.sal_history.specs.World.{Domain}
+use Rattle.sal_history.specs.World.{Domain, table_of}
 use Rattle.sal_history.specs.declared.call.Call.{Call}
 use Rattle.sal_history.specs.declared.call.Call.TheVariants.{Submit as SubmitCall, Cancel as CancelCall}
 use Rattle.sal_history.specs.declared.call.Entry.{Entry}
@@ -24,12 +25,16 @@ use Rattle.sal_script.specs.declared.reply.StepReply.{StepReply}
 use Rattle.sal_script.specs.declared.reply.StepReply.TheVariants.{Called}
 use Rattle.sal_script.specs.declared.reply.StepRefusal.{StepRefusal}
 use Rattle.sal_script.specs.Play.{Client, Deed, Meeting, Open, Opened, Slots, act_of, cancel, domain_in, keep, keep_begun, meet, refused, set_slot, shared, submit, submit_in, write_at, write_in, write_op}
-use Rattle.sal_hub.specs.Answers.{Fails, Made, limit}
+use Rattle.sal_hub.specs.Answers.{Fails, Made}
 use Rattle.sal_hub.specs.Known.{Known, entry_of}
 use Rattle.sal_hub.specs.Tokens.{IsFresh}
 use Rattle.sal_client.specs.declared.client.Standing.TheVariants.{Writable}
+use Rattle.sal_client.specs.declared.wish.RunFault.{RunFault}
+use Rattle.sal_client.specs.declared.wish.RunFault.TheVariants as stop
 use Rattle.sal_client.specs.Clients.{Calls, open_of, standing_in, standing_of}
 use Rattle.sal_client.specs.Deeds.{op_at, op_by}
+use Rattle.sal_client.specs.declared.wish.Wish.{Wish}
+use Rattle.sal_client.specs.Wishes.{GrowsAtMost, IsStop, Makes, ReadBy, Stops, move_by}
 
 -- ---- shared calls
 
@@ -53,11 +58,25 @@ made_refused old new e (ChainFailed receipt) fails full memory = fails
 made_refused old new e ChainClosed fails full memory = fails
 made_refused old new e TxSpent fails full memory = fails
 
--- a log with room is not full
-pub not_full : (old new : Known) (e : Entry) (fault : CallFault) → Fails old new e fault → length old.log < limit → fault ≡ HistoryFull → ⊥
-not_full old new e fault fails room is =
-    let full : (limit ≤ length old.log) × (new ≡ old) = subst (Fails old new e) is fails in
-    omega (arith, full.0)
+-- a fault that stops the client
+pub stopped : (old new : Known) (e : Entry) (fault : CallFault) (stop : RunFault) → Fails old new e fault → IsStop fault stop → Stops e.client old new stop
+stopped old new e fault stop.HistoryFull fails is = subst (Fails old new e) is fails
+stopped old new e fault stop.NoMemory fails is = inl (subst (Fails old new e) is fails)
+
+-- a call that was made for a wish
+pub for_wish : (result : Result StepReply RunFault) (c : ℕ) (known known' : Known) (old new : Client) (wish : Wish) (step : Move) → move_by wish ≡ step → IfOk result (λ r. (table : SchemaTable) → Makes table r c known old step known' new) → IfOk result (λ r. (table : SchemaTable) → ReadBy table wish → Makes table r c known old (move_by wish) known' new)
+for_wish (Ok r) c known known' old new wish step is made = λ table read. subst (λ (m : Move). Makes table r c known old m known' new) (sym is) (made table)
+for_wish (Err why) c known known' old new wish step is made = tt
+
+-- a call leaves at most one entry
+pub grows_by : (result : Result StepReply RunFault) (c : ℕ) (known known' : Known) (old new : Client) (step : Move) → IfOk result (λ r. (table : SchemaTable) → Makes table r c known old step known' new) → IfErr result (Stops c known known') → GrowsAtMost c known known'
+grows_by (Ok r) c known known' old new step made stops = let (call, called) = made (table_of known.world 0) in inr (entry_of known c call, refl, called.entry)
+grows_by (Err stop.HistoryFull) c known known' old new step made stops = inl stops.1
+grows_by (Err stop.NoMemory) c known known' old new step made stops = stops
+
+-- memory ran out behind a call that was made
+pub made_in_vain : (old new : Known) (e : Entry) (answer : Reply) → Made old new e answer → Stops e.client old new stop.NoMemory
+made_in_vain old new e answer made = inr (e, refl, made.log)
 
 -- ---- begin
 

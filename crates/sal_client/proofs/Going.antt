@@ -1,51 +1,64 @@
--- One step of a client's way to its next shared call.
-use Rattle.std.proofs.Common.{◌≡◌, ℕ, ◌+◌, ◌<◌, List, ◌∷◌, length, map, get_or, Some, refl, ap, sym, ◌∙◌, subst}
+-- One step of a client's way to its next shared call, and that call.
+use Rattle.std.proofs.Common.{◌≡◌, ℕ, ◌+◌, ◌<◌, List, ◌∷◌, length, map, get_or, true, Some, refl, ap, sym, ◌∙◌, subst}
 use Rattle.std.proofs.lemmas.List.{drop_more}
 use Rattle.sal_schema.specs.declared.table.SchemaTable.{SchemaTable}
+use Rattle.sal_history.specs.declared.call.Call.{Call}
 use Rattle.sal_history.specs.declared.reply.Reply.{Reply}
 use Rattle.sal_history.specs.History.{reply}
 use Rattle.sal_script.specs.declared.script.ScriptStep.{ScriptStep}
 use Rattle.sal_script.specs.Moves.{Move, move_of}
+use Rattle.sal_script.specs.declared.reply.StepReply.{StepReply}
 use Rattle.sal_script.specs.declared.reply.StepReply.TheVariants.{Called}
-use Rattle.sal_script.specs.Play.{Client, Made, arrive, arrive_by, calls, keep, make, meet, replied}
-use Rattle.sal_client.specs.declared.client.Went.{Went}
-use Rattle.sal_client.specs.declared.client.Went.TheVariants.{Local, Shared}
+use Rattle.sal_script.specs.Play.{Arrival, Client, Made, Meeting, Run, arrive, arrive_by, calls, go, keep, local, make, meet, replied}
+use Rattle.sal_client.specs.declared.wish.Wish.{Wish}
 use Rattle.sal_hub.specs.Known.{Known, entry_of}
-use Rattle.sal_client.specs.Clients.{Steps}
-use Rattle.sal_client.specs.Runs.{GrowsBy, moves_from}
+use Rattle.sal_history.specs.World.{table_of}
+use Rattle.sal_client.specs.declared.run.ClientRun.{ClientRun as CodeRun}
+use Rattle.sal_client.specs.Clients.{Calls, IsSound, client_of}
+use Rattle.sal_client.specs.Wishes.{Makes, ReadBy, move_by}
+use Rattle.sal_client.specs.Runs.{Comes, Goes, MakesNext, moves_from}
 
 -- the moves from an index on
 from : (steps : List ScriptStep) (i : ℕ) (step : ScriptStep) → i < length steps → step ≡ get_or steps i step → moves_from i steps ≡ move_of step ∷ moves_from (i + 1) steps
 from steps i step h at = ap (map move_of) (drop_more steps i step h) ∙ ap (λ (s : ScriptStep). move_of s ∷ moves_from (i + 1) steps) (sym at)
 
-module _ (table : SchemaTable) where
-  -- the same step, where its parts are called otherwise
-  pub steps_at : (w w' : Went) (c c' : ℕ) (known known' out : Known) (old new : Client) (step : Move) → w ≡ w' → c ≡ c' → known ≡ known' → Steps table w c known old step out new → Steps table w' c' known' old step out new
-  steps_at w w' c c' known known' out old new step e f g h =
-      subst (λ (k : Known). Steps table w' c' k old step out new) g (subst (λ d. Steps table w' d known old step out new) f (subst (λ v. Steps table v c known old step out new) e h))
+module _ (table : SchemaTable) (known : Known) where
+  -- a step is met, and then the rest of the way follows
+  abbrev onwards : Client → Move → List Move → Meeting → Arrival
+  onwards old step rest = arrive_by (λ next. arrive table known.world known.log next rest) (λ call. calls call step (record { client = old; steps = rest }))
 
-  module _ (known : Known) (old : Client) (steps : List ScriptStep) (i : ℕ) (step : ScriptStep) (h : i < length steps) (at : step ≡ get_or steps i step) where
-    -- how a client arrives after a step
-    arrive_at : arrive table known.world known.log old (moves_from i steps) ≡ arrive_by (λ next. arrive table known.world known.log next (moves_from (i + 1) steps)) (λ call. calls call (move_of step) (record { client = old; steps = moves_from (i + 1) steps })) (meet table known.world known.log old (move_of step))
-    arrive_at = ap (arrive table known.world known.log old) (from steps i step h at)
-
+  module _ (old new : Client) (steps : List ScriptStep) (i : ℕ) (step : ScriptStep) where
     -- a step that the client answers by itself
-    pub local_turn : (c : ℕ) (known' : Known) (new : Client) → Steps table Local c known old (move_of step) known' new → arrive table known.world known.log old (moves_from i steps) ≡ arrive table known.world known.log new (moves_from (i + 1) steps)
-    local_turn c known' new (r, between, answers, is) =
-        arrive_at ∙ ap (arrive_by (λ next. arrive table known.world known.log next (moves_from (i + 1) steps)) (λ call. calls call (move_of step) (record { client = old; steps = moves_from (i + 1) steps }))) answers.0
+    pub local_turn : i < length steps → step ≡ get_or steps i step → (r : StepReply) × (between : Client) × (meet table known.world known.log old (move_of step) ≡ local r between) × (new ≡ replied r between)
+        → arrive table known.world known.log old (moves_from i steps) ≡ arrive table known.world known.log new (moves_from (i + 1) steps)
+    local_turn h at (r, between, met, is) =
+        ap (arrive table known.world known.log old) (from steps i step h at) ∙ ap (onwards old (move_of step) (moves_from (i + 1) steps)) met
         ∙ ap (λ (next : Client). arrive table known.world known.log next (moves_from (i + 1) steps)) (sym is)
 
-    -- a step that makes a shared call
-    pub shared_turn : (c : ℕ) (known' : Known) (new : Client) → Steps table Shared c known old (move_of step) known' new → make table known.world known.log c (arrive table known.world known.log old (moves_from i steps)) ≡ Some (record { log = known'.log; run = record { client = new; steps = moves_from (i + 1) steps } })
-    shared_turn c known' new (r, between, (call, called), is) =
-        let arrived = arrive_at ∙ ap (arrive_by (λ next. arrive table known.world known.log next (moves_from (i + 1) steps)) (λ x. calls x (move_of step) (record { client = old; steps = moves_from (i + 1) steps }))) called.met in
-        let q : Reply = reply known.world known.log (entry_of known c call) in
-        let client : new ≡ replied (Called q) (keep (length known.log) (move_of step) q old) = is ∙ (λ k. replied (called.replied k) (called.kept k)) in
-        ap (make table known.world known.log c) arrived
-        ∙ (λ k. Some (let made : Made = record { log = (sym called.entry k).log; run = record { client = sym client k; steps = moves_from (i + 1) steps } } in made))
+    -- a step that asks for a shared call
+    pub asks_turn : (wish : Wish) → i < length steps → step ≡ get_or steps i step → move_of step ≡ move_by wish → new ≡ old
+        → arrive table known.world known.log old (moves_from i steps) ≡ arrive table known.world known.log new (move_by wish ∷ moves_from (i + 1) steps)
+    asks_turn wish h at asks same =
+        ap (arrive table known.world known.log old) (from steps i step h at)
+        ∙ (λ k. arrive table known.world known.log (sym same k) (asks k ∷ moves_from (i + 1) steps))
 
-  pub local_log : (c : ℕ) (known known' : Known) (old new : Client) (step : Move) → Steps table Local c known old step known' new → known' ≡ known
-  local_log c known known' old new step (r, between, answers, is) = answers.1
+-- a client that made its call goes on behind it
+pub call_turn : (table : SchemaTable) (c : ℕ) (known known' : Known) (step : Move) (old between new : Client) (r : StepReply) (call : Call) → Calls table r c known old step known' between call → new ≡ replied r between → (steps : List Move)
+    → go table known.world known.log c (record { client = old; steps = step ∷ steps }) ≡ Some (record { log = known'.log; run = record { client = new; steps = steps } })
+call_turn table c known known' step old between new r call called is steps =
+    let q : Reply = reply known.world known.log (entry_of known c call) in
+    let client : new ≡ replied (Called q) (keep (length known.log) step q old) = is ∙ (λ k. replied (called.replied k) (called.kept k)) in
+    ap (λ m. make table known.world known.log c (onwards table known old step steps m)) called.met
+    ∙ (λ k. Some (let made : Made = record { log = (sym called.entry k).log; run = record { client = sym client k; steps = steps } } in made))
 
-  pub shared_grows : (c : ℕ) (known known' : Known) (old new : Client) (step : Move) → Steps table Shared c known old step known' new → GrowsBy c known known'
-  shared_grows c known known' old new step (r, between, (call, called), is) = (entry_of known c call, refl, called.entry)
+pub goes_on : (table : SchemaTable) (c : ℕ) (known known' : Known) (wish : Wish) (old between new : Client) (r : StepReply) → Makes table r c known old (move_by wish) known' between → new ≡ replied r between → MakesNext table c known wish old known' new
+goes_on table c known known' wish old between new r (call, called) is = (call_turn table c known known' (move_by wish) old between new r call called is, (entry_of known c call, refl, called.entry))
+
+-- what a client comes to by its local steps and its call
+pub goes : (table : SchemaTable) (c : ℕ) (known known' : Known) (wish : Wish) (steps : List ScriptStep) (old mid new : CodeRun) → Comes table steps old (Some wish) mid → (ReadBy table wish → MakesNext table c known wish (client_of mid.client) known' (client_of new.client)) → new.at ≡ mid.at → IsSound known old.client → table ≡ table_of known.world 0 → Goes table true c known steps old known' new
+goes table c known known' wish steps old mid new comes makes at sound of =
+    let made = makes comes.2 in (
+      ap (make table known.world known.log c) (comes.0 known sound of) ∙ made.0 (moves_from mid.at steps) ∙ (λ k. Some (let m : Made = record { log = known'.log; run = record { client = client_of new.client; steps = moves_from (sym at k) steps } } in m)),
+      made.1,
+      subst (λ n. old.at < n) (sym at) comes.3,
+    )

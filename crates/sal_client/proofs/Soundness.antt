@@ -12,13 +12,15 @@ use Rattle.sal_history.specs.declared.call.Entry.{Entry}
 use Rattle.sal_history.specs.declared.reply.Reply.TheVariants.{Begun as BegunReply, Chain as ChainReply, Refused}
 use Rattle.sal_history.specs.History.{base_tree, nowhere}
 use Rattle.sal_history.specs.Submissions.{Base}
+use Rattle.sal_history.specs.World.{table_of}
+use Rattle.sal_schema.specs.declared.table.SchemaTable.{SchemaTable}
 use Rattle.sal_script.specs.Play.{set_slot}
 use Rattle.sal_hub.specs.declared.chain.Chain.{Chain}
 use Rattle.sal_hub.specs.declared.receipt.Receipt.{Receipt}
 use Rattle.sal_hub.specs.Known.{Known, more}
 use Rattle.sal_hub.specs.Tokens.{IsBegun, IsChain, IsGiven, begun_of, base_of}
 use Rattle.sal_client.specs.declared.client.ClientState.{ClientState}
-use Rattle.sal_client.specs.Clients.{IsOwn, IsOwnChain, IsSound}
+use Rattle.sal_client.specs.Clients.{HasSchema, IsOwn, IsOwnChain, IsSound}
 use Rattle.sal_client.specs.Slots.{held}
 use Rattle.sal_client.proofs.Places.{each_emptied, each_filled}
 
@@ -48,6 +50,10 @@ module _ (lasts : TokensLast) where
     receipts = λ k r at. lasts.1 known e r.number (is.receipts k r at);
     chains = λ k chain at. IsOwnChain-more known e chain (is.chains k chain at);
   }
+
+-- a sound client's transactions have the schema of the controller's own domain
+pub HasSchema-sound : (table : SchemaTable) (known : Known) (c : ClientState) → IsSound known c → table ≡ table_of known.world 0 → HasSchema table c
+HasSchema-sound table known c is of k tx at = let own = is.transactions k tx at in own.token.schema ∙ ap (table_of known.world) own.own ∙ sym of
 
 -- the trees that a transaction stands on
 pub based : (known : Known) (begun : Begun) (trees : Pair) → IsBegun known begun trees → (s : Store) → base_tree known.world known.log begun.place s ≡ rows_in trees s

@@ -12,11 +12,12 @@ use Rattle.sal_script.specs.declared.reply.StepReply.{StepReply}
 use Rattle.sal_script.specs.declared.script.ScriptStep.{ScriptStep}
 use Rattle.sal_script.specs.Limits.{within_limits}
 use Rattle.sal_script.specs.Play.{Arrival, Client, Made, Run, Stand, arrive, calls, cons_replies, ended, go, make, new_client, replies_at, replies_of, stand_with, turn, turn_of}
-use Rattle.sal_client.specs.declared.run.Run.{Run as CodeRun}
+use Rattle.sal_client.specs.declared.run.ClientRun.{ClientRun as CodeRun}
 use Rattle.sal_hub.specs.Known.{Known, more}
 use Rattle.sal_hub.specs.Answers.{limit}
 use Rattle.sal_client.specs.Clients.{client_of, IsSound}
-use Rattle.sal_client.specs.Runs.{AreRuns, Goes, GrowsBy, IsRun, Turns, answered, moves_from, replies_in, run_of, runs_of, stand_of}
+use Rattle.sal_client.specs.Runs.{AreRuns, Goes, IsRun, Turns, answered, moves_from, replies_in, run_of, runs_of, stand_of}
+use Rattle.sal_client.specs.Wishes.{GrowsBy}
 use Rattle.sal_client.proofs.Soundness.{IsSound-more, TokensLast}
 use Rattle.sal_history.specs.World.{Domain}
 use Rattle.sal_script.specs.JsonMoves.{have_json_moves}
@@ -64,7 +65,7 @@ answered-bound (x ∷ rs) each =
 -- the log has room
 pub has_room : (known : Known) (ps : List (List ScriptStep)) (rs : List CodeRun) → AreRuns known ps rs → length known.log < limit
 has_room known ps rs are =
-    let bound = answered-bound rs (λ i r h at. let run = (are.each i (get_or ps i []) r h (get_or_any ps i [] (get_or ps i []) (omega (arith, h, are.long))) at).0 in omega (arith, run.within, run.short)) in
+    let bound = answered-bound rs (λ i r h at. let run = (are.each i (get_or ps i []) r h (get_or_any ps i [] (get_or ps i []) (omega (arith, h, are.long))) at).0 in omega (arith, run.program.within, run.program.short)) in
     omega (arith, are.calls, are.few, bound)
   where
     get_or_any : {X : Type 0} (xs : List X) (i : ℕ) (d f : X) → i < length xs → get_or xs i d ≡ get_or xs i f
@@ -75,7 +76,7 @@ has_room known ps rs are =
 -- ---- other clients
 
 IsRun-other : TokensLast → (known : Known) (e : Entry) (p : List ScriptStep) (r : CodeRun) → IsRun known p r → IsRun (more known e) p r
-IsRun-other lasts known e p r is = record { sound = IsSound-more lasts known e r.client is.sound; within = is.within; short = is.short; json = is.json }
+IsRun-other lasts known e p r is = record { sound = IsSound-more lasts known e r.client is.sound; program = is.program }
 
 -- one client went on
 pub AreRuns-set : TokensLast → (known known' : Known) (ps : List (List ScriptStep)) (rs : List CodeRun) (c : ℕ) (p : List ScriptStep) (old new : CodeRun) → AreRuns known ps rs → GrowsBy c known known' → old.at < new.at → c < length rs → p ≡ get_or ps c p → old ≡ get_or rs c old → IsRun known' p new → new.client.number ≡ c → AreRuns known' ps (set rs c new)
@@ -181,7 +182,7 @@ AreRuns-fresh known ps rs none limits json long fresh = record {
   each = λ i p r h at_p at_r.
       let is = fresh i r h at_r in
       let short : length p ≤ 60000 = leb-true (length p) 60000 (all_at (λ (q : List ScriptStep). nat_le (length q) 60000) ps i p (second_so (nat_le (length ps) 16) (list_all (λ (q : List ScriptStep). nat_le (length q) 60000) ps) limits) (omega arith) at_p) in
-      (record { sound = is.0.sound known; within = omega (arith, is.0.at); short = short; json = program_at ps i p json (omega arith) at_p }, is.1);
+      (record { sound = is.0.sound known; program = record { within = omega (arith, is.0.at); short = short; json = program_at ps i p json (omega arith) at_p } }, is.1);
 }
 
 -- ---- what the simulation does

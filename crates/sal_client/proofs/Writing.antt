@@ -48,14 +48,19 @@ module _ (known : Known) (table : SchemaTable) (old : Writing) (own : IsOwn know
             ∙ (λ i. local (sym reply i) (record client { transactions = same i }))
       ]
 
-  -- a transaction stays one of the log
-  pub IsOwn-written : (op : Op) (new : Writing) (answer : Result ⊤ TxFault) → IsOutcome old op new answer → OnErr answer (new ≡ old) → IsOwn known (Write new)
-  IsOwn-written op new (Ok u) outcome err =
-      let has = outcome.1 in
-      let begun : new.begun ≡ old.begun = has.1 in
-      let base : new.base ≡ old.base = has.3 in
-      record {
-        token = subst (λ (b : Begun). IsBegun known b new.base) (sym begun) (subst (λ (t : Pair). IsBegun known old.begun t) (sym base) own.token);
-        own = ap (λ (b : Begun). b.domain) begun ∙ own.own;
-      }
-  IsOwn-written op new (Err fault) outcome err = subst (λ (w : Writing). IsOwn known (Write w)) (sym err) own
+-- a transaction is begun as it was
+pub begun-written : (op : Op) (old new : Writing) (answer : Result ⊤ TxFault) → IsOutcome old op new answer → OnErr answer (new ≡ old) → new.begun ≡ old.begun
+begun-written op old new (Ok u) outcome err = outcome.1.1
+begun-written op old new (Err fault) outcome err = ap (λ (w : Writing). w.begun) err
+
+-- and stays one of the log
+pub IsOwn-written : (known : Known) (old : Writing) → IsOwn known (Write old) → (op : Op) (new : Writing) (answer : Result ⊤ TxFault) → IsOutcome old op new answer → OnErr answer (new ≡ old) → IsOwn known (Write new)
+IsOwn-written known old own op new (Ok u) outcome err =
+    let has = outcome.1 in
+    let begun : new.begun ≡ old.begun = has.1 in
+    let base : new.base ≡ old.base = has.3 in
+    record {
+      token = subst (λ (b : Begun). IsBegun known b new.base) (sym begun) (subst (λ (t : Pair). IsBegun known old.begun t) (sym base) own.token);
+      own = ap (λ (b : Begun). b.domain) begun ∙ own.own;
+    }
+IsOwn-written known old own op new (Err fault) outcome err = subst (λ (w : Writing). IsOwn known (Write w)) (sym err) own

@@ -6,11 +6,12 @@ use Rattle.sal_rows.specs.declared.outcome.Mode.TheVariants.{Ro, Wo, Rw}
 use Rattle.sal_tx.specs.declared.tx.Tx.{Tx}
 use Rattle.sal_history.specs.declared.call.Call.{Call}
 use Rattle.sal_history.specs.History.{reply}
+use Rattle.sal_history.specs.World.{table_of}
 use Rattle.sal_schema.specs.declared.table.SchemaTable.{SchemaTable}
 use Rattle.sal_script.specs.Moves.{Move, Put, Merge, Delete, Read, Exists}
 use Rattle.sal_script.specs.declared.reply.StepReply.{StepReply}
 use Rattle.sal_script.specs.declared.reply.StepReply.TheVariants.{Called}
-use Rattle.sal_script.specs.Play.{Client, Open, Opened, keep, local, meet, replied, shared}
+use Rattle.sal_script.specs.Play.{Client, Open, Opened, keep, meet, shared}
 use Rattle.sal_hub.specs.declared.chain.Chain.{Chain}
 use Rattle.sal_hub.specs.declared.receipt.Receipt.{Receipt}
 use Rattle.sal_hub.specs.Known.{Known, entry_of, more}
@@ -18,8 +19,6 @@ use Rattle.sal_hub.specs.Tokens.{IsChain, IsGiven, IsToken, begun_of, mode_of, o
 use Rattle.sal_client.specs.declared.client.ClientState.{ClientState}
 use Rattle.sal_client.specs.declared.client.Standing.{Standing}
 use Rattle.sal_client.specs.declared.client.Standing.TheVariants.{Empty, ReadOnly, Writable}
-use Rattle.sal_client.specs.declared.client.Went.{Went}
-use Rattle.sal_client.specs.declared.client.Went.TheVariants.{Local, Shared}
 use Rattle.sal_client.specs.Slots.{held}
 
 -- a transaction, as the definitions have it
@@ -74,6 +73,18 @@ pub record IsSound (known : Known) (c : ClientState) : Type 0 where
   pub receipts : (k : ℕ) (r : Receipt) → held c.receipts k ≡ Some r → IsGiven known r.number
   pub chains : (k : ℕ) (chain : Chain) → held c.chains k ≡ Some chain → IsOwnChain known chain
 
+-- it stays sound for each log that it was sound for
+abbrev pub StaysSound : ClientState → ClientState → Type 0
+StaysSound old new = (known : Known) → IsSound known old → IsSound known new
+
+-- over each log that the client is sound for, where the controller's own domain has this schema
+abbrev pub Everywhere : SchemaTable → ClientState → (Known → Type 0) → Type 0
+Everywhere table c P = (known : Known) → IsSound known c → table ≡ table_of known.world 0 → P known
+
+-- its transactions have this schema
+abbrev pub HasSchema : SchemaTable → ClientState → Type 0
+HasSchema table c = (k : ℕ) (tx : Tx) → held c.transactions k ≡ Some tx → (begun_of tx).schema.value ≡ table
+
 -- only slots differ
 pub record Same (old new : ClientState) : Type 0 where
   pub number : new.number ≡ old.number
@@ -94,12 +105,3 @@ pub record Calls (table : SchemaTable) (r : StepReply) (c : ℕ) (known : Known)
   pub entry : known' ≡ more known (entry_of known c call)
   pub replied : r ≡ Called (reply known.world known.log (entry_of known c call))
   pub kept : new ≡ keep (length known.log) step (reply known.world known.log (entry_of known c call)) old
-
--- a step of client c was answered, by itself or by a shared call; the reply is not yet among its replies
-abbrev pub Answers : SchemaTable → Went → StepReply → ℕ → Known → Client → Move → Known → Client → Type 0
-Answers table Local r c known old step known' new = (meet table known.world known.log old step ≡ local r new) × (known' ≡ known)
-Answers table Shared r c known old step known' new = (call : Call) × Calls table r c known old step known' new call
-
--- and with its reply among its replies
-abbrev pub Steps : SchemaTable → Went → ℕ → Known → Client → Move → Known → Client → Type 0
-Steps table went c known old step known' new = (r : StepReply) × (between : Client) × Answers table went r c known old step known' between × (new ≡ replied r between)

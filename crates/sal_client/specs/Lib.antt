@@ -2,3 +2,4 @@ pub mod Clients
 pub mod Deeds
 pub mod Runs
 pub mod Slots
+pub mod Wishes

@@ -1,6 +1,6 @@
 -- A client's run, as the definitions have it.
 use Rattle.std.specs.List.{list_all}
-use Rattle.std.specs.Prelude.{IsTrue, ◌≡◌, ℕ, ◌+◌, ◌≤◌, ◌<◌, Bool, true, false, List, [], ◌∷◌, length, drop, map, None, Some, Result, Ok, Err, slice_index_or}
+use Rattle.std.specs.Prelude.{IsTrue, ◌≡◌, ℕ, ◌+◌, ◌≤◌, ◌<◌, Bool, true, false, List, [], ◌∷◌, length, drop, map, Option, None, Some, Result, Ok, Err, slice_index_or}
 use Rattle.sal_history.specs.World.{Domain}
 use Rattle.sal_history.specs.declared.call.Entry.{Entry}
 use Rattle.sal_schema.specs.declared.table.SchemaTable.{SchemaTable}
@@ -8,13 +8,15 @@ use Rattle.sal_script.specs.declared.reply.StepReply.{StepReply}
 use Rattle.sal_script.specs.declared.script.ScriptStep.{ScriptStep}
 use Rattle.sal_script.specs.JsonMoves.{is_json_move}
 use Rattle.sal_script.specs.Moves.{Move, moves_of}
-use Rattle.sal_script.specs.Play.{Played, Run, Stand, arrive, ended, go, replies_of, turn}
+use Rattle.sal_script.specs.Play.{Client, Played, Run, Stand, arrive, ended, go, replies_of, turn}
 use Rattle.sal_hub.specs.Known.{Known, more}
-use Rattle.sal_client.specs.declared.run.Run.{Run as CodeRun}
+use Rattle.sal_client.specs.declared.run.ClientRun.{ClientRun as CodeRun}
 use Rattle.sal_client.specs.declared.simulation.Played.{Played as CodePlayed}
 use Rattle.sal_client.specs.declared.simulation.PlayFault.{PlayFault}
 use Rattle.sal_client.specs.declared.simulation.PlayFault.TheVariants.{BadOrder, NoMemory}
-use Rattle.sal_client.specs.Clients.{client_of, IsSound}
+use Rattle.sal_client.specs.declared.wish.Wish.{Wish}
+use Rattle.sal_client.specs.Clients.{client_of, Everywhere, IsSound}
+use Rattle.sal_client.specs.Wishes.{CanMake, GrowsBy, ReadBy, move_by}
 
 -- the moves that are still to come
 abbrev pub moves_from : ℕ → List ScriptStep → List Move
@@ -24,16 +26,33 @@ moves_from at steps = moves_of (drop at steps)
 abbrev pub run_of : List ScriptStep → CodeRun → Run
 run_of steps r = record { client = client_of r.client; steps = moves_from r.at steps }
 
--- the run is sound, and within a program that is short, whose values are JSON
-pub record IsRun (known : Known) (steps : List ScriptStep) (r : CodeRun) : Type 0 where
-  pub sound : IsSound known r.client
+-- the run is within its program, which is short, and whose values are JSON
+pub record IsProgram (steps : List ScriptStep) (r : CodeRun) : Type 0 where
   pub within : r.at ≤ length steps
   pub short : length steps ≤ 60000
   pub json : IsTrue (list_all is_json_move (moves_of steps))
 
--- one entry more, of client c
-abbrev pub GrowsBy : ℕ → Known → Known → Type 0
-GrowsBy c known known' = (e : Entry) × (e.client ≡ c) × (known' ≡ more known e)
+-- and the client is sound
+pub record IsRun (known : Known) (steps : List ScriptStep) (r : CodeRun) : Type 0 where
+  pub sound : IsSound known r.client
+  pub program : IsProgram steps r
+
+-- the client with a call that it is ready to make, and the moves behind that
+abbrev pub asking : Wish → List ScriptStep → CodeRun → Run
+asking wish steps r = record { client = client_of r.client; steps = move_by wish ∷ moves_from r.at steps }
+
+-- The client answered its local steps: over each log that it was sound for, it came to its end, or to this call.
+abbrev pub Comes : SchemaTable → List ScriptStep → CodeRun → Option Wish → CodeRun → Type 0
+Comes table steps old None new = Everywhere table old.client (λ known. arrive table known.world known.log (client_of old.client) (moves_from old.at steps) ≡ ended (client_of new.client))
+Comes table steps old (Some wish) new =
+    Everywhere table old.client (λ known. arrive table known.world known.log (client_of old.client) (moves_from old.at steps) ≡ arrive table known.world known.log (asking wish steps new).client (asking wish steps new).steps)
+    × CanMake wish new.client × ReadBy table wish × (old.at < new.at)
+
+-- client c made the call that it was ready to make, whatever the steps behind it
+abbrev pub MakesNext : SchemaTable → ℕ → Known → Wish → Client → Known → Client → Type 0
+MakesNext table c known wish old known' new =
+    ((steps : List Move) → go table known.world known.log c (record { client = old; steps = move_by wish ∷ steps }) ≡ Some (record { log = known'.log; run = record { client = new; steps = steps } }))
+    × GrowsBy c known known'
 
 -- the client went on to its next shared call and made it, or came to its end
 abbrev pub Goes : SchemaTable → Bool → ℕ → Known → List ScriptStep → CodeRun → Known → CodeRun → Type 0

@@ -1,19 +1,19 @@
 //! The shared calls of a client for its transactions and receipts.
-ghost use Rattle.std.specs.Prelude.{◌≡◌, ◌<◌, IfOk, OnOk, length};
-ghost use Rattle.sal_history.specs.World.{table_of};
-ghost use Rattle.sal_hub.specs.Answers.{limit};
+ghost use Rattle.std.specs.Prelude.{◌≡◌, IfOk, IfErr, IsSome, OnOk};
 ghost use Rattle.sal_hub.specs.Tokens.{begun_of};
+ghost use Rattle.sal_schema.specs.declared.table.SchemaTable.{SchemaTable};
 ghost use Rattle.sal_script.specs.Moves.{Begin, Submit, Cancel, Settle};
+ghost use Rattle.sal_client.specs.Slots.{held};
+ghost use Rattle.sal_client.specs.Wishes.{IsStop};
 
-use crate::client::{ClientState, Standing, Went, refused};
-use crate::reader::Reader;
+use crate::client::{ClientState, Standing};
 use crate::slots::{fill_slot, look_at, take_slot};
+use crate::wish::RunFault;
 use sal_history::Reply;
 use sal_hub::{Hub, laws};
 use sal_rows::{CallFault, Mode};
-use sal_script::{StepRefusal, StepReply};
+use sal_script::StepReply;
 use sal_tx::Tx;
-use sal_types::NoMemory;
 use std::alloc::Global;
 
 /// The answer to a call.
@@ -23,15 +23,16 @@ pub(crate) fn called(reply: Reply) -> StepReply
     StepReply::Called { reply }
 }
 
-/// The answer to a call that was refused. A log with room is not full.
-pub(crate) fn refused_call(fault: CallFault) -> Result<StepReply, NoMemory>
-    requires { fault ≡ CallFault.HistoryFull → ⊥ }
+/// The answer to a call that was refused, unless that stops the client.
+pub(crate) fn refused_call(fault: CallFault) -> Result<StepReply, RunFault>
     ensures reply { IfOk result (λ r. r ≡ StepReply.Called (Reply.Refused fault)) }
+    ensures full { OnOk result (fault ≡ CallFault.HistoryFull → ⊥) }
     ensures memory { OnOk result (fault ≡ CallFault.NoMemory → ⊥) }
+    ensures stop { IfErr result (IsStop fault) }
 {
     match fault {
-        CallFault::NoMemory => Err(NoMemory),
-        CallFault::HistoryFull => unreachable!(),
+        CallFault::NoMemory => Err(RunFault::NoMemory),
+        CallFault::HistoryFull => Err(RunFault::HistoryFull),
         fault => Ok(called(Reply::Refused { fault })),
     }
 }
@@ -53,52 +54,51 @@ pub(crate) fn begun(tx: &Tx) -> Reply
 }
 
 impl ClientState {
-    ghost use Rattle.sal_client.specs.Clients.{client_of, opened, standing_of, IsSound, Answers, Same};
+    ghost use Rattle.sal_client.specs.Clients.{client_of, opened, standing_of, IsSound, Same};
+    ghost use Rattle.sal_client.specs.Wishes.{Makes, Stops};
 
     /// Begins a transaction into the slot.
     pub(crate) fn begin(
         &mut self,
         alloc: Global,
-        reader: &Reader,
         hub: &mut Hub,
         slot: u8,
         domain: u32,
         mode: Mode,
-    ) -> Result<(Went, StepReply), NoMemory>
+    ) -> Result<StepReply, RunFault>
         requires sound { IsSound hub.old self.old }
-        requires room { length hub.old.log < limit }
-        ensures answers { IfOk result (λ p. Answers reader.now p.0 p.1 self.old.number hub.old (client_of self.old) (Begin slot domain mode) hub.new (client_of self.new)) }
+        ensures answers { IfOk result (λ r. (table : SchemaTable) → Makes table r self.old.number hub.old (client_of self.old) (Begin slot domain mode) hub.new (client_of self.new)) }
         ensures sound { OnOk result (IsSound hub.new self.new) }
         ensures same { OnOk result (Same self.old self.new) }
+        ensures stops { IfErr result (Stops self.old.number hub.old hub.new) }
     {
         laws::tokens_last();
         match hub.begin(alloc, self.number, domain, mode) {
             Ok(tx) => {
                 let reply = begun(&tx);
                 fill_slot(&mut self.transactions, slot, tx)?;
-                Ok((Went::Shared, called(reply)))
+                Ok(called(reply))
             }
             Err(fault) => {
                 let reply = refused_call(fault)?;
-                Ok((Went::Shared, reply))
+                Ok(reply)
             }
         }
     }
 
-    // Submits the slot's transaction, which may write.
-    fn submit(
+    /// Submits the slot's transaction, which may write.
+    pub(crate) fn submit(
         &mut self,
         alloc: Global,
-        reader: &Reader,
         hub: &mut Hub,
         slot: u8,
-    ) -> Result<StepReply, NoMemory>
+    ) -> Result<StepReply, RunFault>
         requires sound { IsSound hub.old self.old }
-        requires room { length hub.old.log < limit }
         requires writable { standing_of (opened self.old slot) ≡ Standing.Writable }
-        ensures answers { IfOk result (λ r. Answers reader.now Went.Shared r self.old.number hub.old (client_of self.old) (Submit slot) hub.new (client_of self.new)) }
+        ensures answers { IfOk result (λ r. (table : SchemaTable) → Makes table r self.old.number hub.old (client_of self.old) (Submit slot) hub.new (client_of self.new)) }
         ensures sound { OnOk result (IsSound hub.new self.new) }
         ensures same { OnOk result (Same self.old self.new) }
+        ensures stops { IfErr result (Stops self.old.number hub.old hub.new) }
     {
         laws::tokens_last();
         match take_slot(&mut self.transactions, slot) {
@@ -119,44 +119,19 @@ impl ClientState {
         }
     }
 
-    /// Submits the slot's transaction, where it may write.
-    pub(crate) fn submit_slot(
+    /// Gives up the slot's transaction.
+    pub(crate) fn cancel(
         &mut self,
         alloc: Global,
-        reader: &Reader,
         hub: &mut Hub,
         slot: u8,
-    ) -> Result<(Went, StepReply), NoMemory>
+    ) -> Result<StepReply, RunFault>
         requires sound { IsSound hub.old self.old }
-        requires room { length hub.old.log < limit }
-        ensures answers { IfOk result (λ p. Answers reader.now p.0 p.1 self.old.number hub.old (client_of self.old) (Submit slot) hub.new (client_of self.new)) }
-        ensures sound { OnOk result (IsSound hub.new self.new) }
-        ensures same { OnOk result (Same self.old self.new) }
-    {
-        match self.standing(slot) {
-            Standing::Empty => Ok((Went::Local, refused(StepRefusal::EmptySlot))),
-            Standing::ReadOnly => Ok((Went::Local, refused(StepRefusal::ReadOnly))),
-            Standing::Writable => {
-                let reply = self.submit(alloc, reader, hub, slot)?;
-                Ok((Went::Shared, reply))
-            }
-        }
-    }
-
-    // Gives up the slot's transaction.
-    fn cancel(
-        &mut self,
-        alloc: Global,
-        reader: &Reader,
-        hub: &mut Hub,
-        slot: u8,
-    ) -> Result<StepReply, NoMemory>
-        requires sound { IsSound hub.old self.old }
-        requires room { length hub.old.log < limit }
         requires filled { standing_of (opened self.old slot) ≡ Standing.Empty → ⊥ }
-        ensures answers { IfOk result (λ r. Answers reader.now Went.Shared r self.old.number hub.old (client_of self.old) (Cancel slot) hub.new (client_of self.new)) }
+        ensures answers { IfOk result (λ r. (table : SchemaTable) → Makes table r self.old.number hub.old (client_of self.old) (Cancel slot) hub.new (client_of self.new)) }
         ensures sound { OnOk result (IsSound hub.new self.new) }
         ensures same { OnOk result (Same self.old self.new) }
+        ensures stops { IfErr result (Stops self.old.number hub.old hub.new) }
     {
         laws::tokens_last();
         match take_slot(&mut self.transactions, slot) {
@@ -172,50 +147,27 @@ impl ClientState {
         }
     }
 
-    /// Gives up the slot's transaction, where there is one.
-    pub(crate) fn cancel_slot(
-        &mut self,
-        alloc: Global,
-        reader: &Reader,
-        hub: &mut Hub,
-        slot: u8,
-    ) -> Result<(Went, StepReply), NoMemory>
-        requires sound { IsSound hub.old self.old }
-        requires room { length hub.old.log < limit }
-        ensures answers { IfOk result (λ p. Answers reader.now p.0 p.1 self.old.number hub.old (client_of self.old) (Cancel slot) hub.new (client_of self.new)) }
-        ensures sound { OnOk result (IsSound hub.new self.new) }
-        ensures same { OnOk result (Same self.old self.new) }
-    {
-        match self.standing(slot) {
-            Standing::Empty => Ok((Went::Local, refused(StepRefusal::EmptySlot))),
-            _ => {
-                let reply = self.cancel(alloc, reader, hub, slot)?;
-                Ok((Went::Shared, reply))
-            }
-        }
-    }
-
     /// Settles the receipt in the slot.
-    pub(crate) fn settle_slot(
+    pub(crate) fn settle(
         &self,
         alloc: Global,
-        reader: &Reader,
         hub: &mut Hub,
         slot: u8,
-    ) -> Result<(Went, StepReply), NoMemory>
+    ) -> Result<StepReply, RunFault>
         requires sound { IsSound hub.old self.now }
-        requires room { length hub.old.log < limit }
-        ensures answers { IfOk result (λ p. Answers reader.now p.0 p.1 self.now.number hub.old (client_of self.now) (Settle slot) hub.new (client_of self.now)) }
+        requires filled { IsSome (held self.now.receipts slot) }
+        ensures answers { IfOk result (λ r. (table : SchemaTable) → Makes table r self.now.number hub.old (client_of self.now) (Settle slot) hub.new (client_of self.now)) }
         ensures sound { OnOk result (IsSound hub.new self.now) }
+        ensures stops { IfErr result (Stops self.now.number hub.old hub.new) }
     {
         laws::tokens_last();
         match look_at(&self.receipts, slot) {
-            None => Ok((Went::Local, refused(StepRefusal::EmptySlot))),
+            None => unreachable!(),
             Some(receipt) => match hub.settle(alloc, self.number, *receipt) {
-                Ok(outcome) => Ok((Went::Shared, called(Reply::Settled { domain: 0, outcome }))),
+                Ok(outcome) => Ok(called(Reply::Settled { domain: 0, outcome })),
                 Err(fault) => {
                     let reply = refused_call(fault)?;
-                    Ok((Went::Shared, reply))
+                    Ok(reply)
                 }
             },
         }

@@ -11,7 +11,6 @@ use crate::client::{ClientState, refused};
 use crate::deed::path_of;
 use crate::reader::Reader;
 use crate::slots::look_at;
-use sal_hub::Hub;
 use sal_script::{StepRefusal, StepReply};
 use sal_tx::{Tx, TxFault, WriteOnly};
 use sal_types::{NoMemory, Path, Store};
@@ -71,20 +70,18 @@ fn found_seen(tx: &Tx, store: Store, path: &Path) -> StepReply
 }
 
 impl ClientState {
-    ghost use Rattle.sal_client.specs.Clients.{client_of, opened, IsSound};
+    ghost use Rattle.sal_client.specs.Clients.{client_of, opened, Everywhere};
 
     /// Reads what the slot's transaction sees at the path and below it.
     pub(crate) fn read(
         &self,
         alloc: Global,
         reader: &Reader,
-        hub: &Hub,
         slot: u8,
         store: Store,
         text: &str,
     ) -> Result<StepReply, NoMemory>
-        requires { IsSound hub.now self.now }
-        ensures { IfOk result (λ r. play_spec.look reader.now hub.now.world hub.now.log (play_spec.rows_read reader.now hub.now.world hub.now.log) store text.now (client_of self.now) (opened self.now slot) ≡ local r (client_of self.now)) }
+        ensures { IfOk result (λ r. Everywhere reader.now self.now (λ known. play_spec.look reader.now known.world known.log (play_spec.rows_read reader.now known.world known.log) store text.now (client_of self.now) (opened self.now slot) ≡ local r (client_of self.now))) }
     {
         match look_at(&self.transactions, slot) {
             None => Ok(refused(StepRefusal::EmptySlot)),
@@ -103,13 +100,11 @@ impl ClientState {
         &self,
         alloc: Global,
         reader: &Reader,
-        hub: &Hub,
         slot: u8,
         store: Store,
         text: &str,
     ) -> Result<StepReply, NoMemory>
-        requires { IsSound hub.now self.now }
-        ensures { IfOk result (λ r. play_spec.look reader.now hub.now.world hub.now.log (play_spec.found reader.now hub.now.world hub.now.log) store text.now (client_of self.now) (opened self.now slot) ≡ local r (client_of self.now)) }
+        ensures { IfOk result (λ r. Everywhere reader.now self.now (λ known. play_spec.look reader.now known.world known.log (play_spec.found reader.now known.world known.log) store text.now (client_of self.now) (opened self.now slot) ≡ local r (client_of self.now))) }
     {
         match look_at(&self.transactions, slot) {
             None => Ok(refused(StepRefusal::EmptySlot)),

@@ -1,17 +1,16 @@
 //! The shared calls of a client that need none of its slots: pumps and marks.
-ghost use Rattle.std.specs.Prelude.{◌≡◌, ◌<◌, IfOk, OnOk, length};
-ghost use Rattle.sal_hub.specs.Answers.{limit};
+ghost use Rattle.std.specs.Prelude.{◌≡◌, IfOk, IfErr, OnOk};
 ghost use Rattle.sal_hub.specs.Seen.{pump_reply, seen_reply};
+ghost use Rattle.sal_schema.specs.declared.table.SchemaTable.{SchemaTable};
 ghost use Rattle.sal_script.specs.Moves.{Pump, Mark, After};
 
 use crate::calls::{called, refused_call};
-use crate::client::{ClientState, Went};
-use crate::reader::Reader;
+use crate::client::ClientState;
+use crate::wish::RunFault;
 use sal_history::Reply;
 use sal_hub::{Hub, Seen, laws};
 use sal_rows::Outcome;
 use sal_script::StepReply;
-use sal_types::NoMemory;
 use std::alloc::Global;
 
 // The answer to a pump that is good.
@@ -39,26 +38,22 @@ fn looked(seen: Seen) -> Reply
 }
 
 impl ClientState {
-    ghost use Rattle.sal_client.specs.Clients.{client_of, IsSound, Answers};
+    ghost use Rattle.sal_client.specs.Clients.{client_of, IsSound};
+    ghost use Rattle.sal_client.specs.Wishes.{Makes, Stops};
 
     /// Decides the first receipt that is pending.
-    pub(crate) fn pump(
-        &self,
-        alloc: Global,
-        reader: &Reader,
-        hub: &mut Hub,
-    ) -> Result<(Went, StepReply), NoMemory>
+    pub(crate) fn pump(&self, alloc: Global, hub: &mut Hub) -> Result<StepReply, RunFault>
         requires sound { IsSound hub.old self.now }
-        requires room { length hub.old.log < limit }
-        ensures answers { IfOk result (λ p. Answers reader.now p.0 p.1 self.now.number hub.old (client_of self.now) Pump hub.new (client_of self.now)) }
+        ensures answers { IfOk result (λ r. (table : SchemaTable) → Makes table r self.now.number hub.old (client_of self.now) Pump hub.new (client_of self.now)) }
         ensures sound { OnOk result (IsSound hub.new self.now) }
+        ensures stops { IfErr result (Stops self.now.number hub.old hub.new) }
     {
         laws::tokens_last();
         match hub.pump(alloc, self.number) {
-            Ok(decided) => Ok((Went::Shared, called(pumped(decided)))),
+            Ok(decided) => Ok(called(pumped(decided))),
             Err(fault) => {
                 let reply = refused_call(fault)?;
-                Ok((Went::Shared, reply))
+                Ok(reply)
             }
         }
     }
@@ -67,21 +62,20 @@ impl ClientState {
     pub(crate) fn mark(
         &self,
         alloc: Global,
-        reader: &Reader,
         hub: &mut Hub,
         mark: u32,
-    ) -> Result<(Went, StepReply), NoMemory>
+    ) -> Result<StepReply, RunFault>
         requires sound { IsSound hub.old self.now }
-        requires room { length hub.old.log < limit }
-        ensures answers { IfOk result (λ p. Answers reader.now p.0 p.1 self.now.number hub.old (client_of self.now) (Mark mark) hub.new (client_of self.now)) }
+        ensures answers { IfOk result (λ r. (table : SchemaTable) → Makes table r self.now.number hub.old (client_of self.now) (Mark mark) hub.new (client_of self.now)) }
         ensures sound { OnOk result (IsSound hub.new self.now) }
+        ensures stops { IfErr result (Stops self.now.number hub.old hub.new) }
     {
         laws::tokens_last();
         match hub.mark(alloc, self.number, mark) {
-            Ok(()) => Ok((Went::Shared, called(Reply::Accepted))),
+            Ok(()) => Ok(called(Reply::Accepted)),
             Err(fault) => {
                 let reply = refused_call(fault)?;
-                Ok((Went::Shared, reply))
+                Ok(reply)
             }
         }
     }
@@ -90,21 +84,20 @@ impl ClientState {
     pub(crate) fn after(
         &self,
         alloc: Global,
-        reader: &Reader,
         hub: &mut Hub,
         mark: u32,
-    ) -> Result<(Went, StepReply), NoMemory>
+    ) -> Result<StepReply, RunFault>
         requires sound { IsSound hub.old self.now }
-        requires room { length hub.old.log < limit }
-        ensures answers { IfOk result (λ p. Answers reader.now p.0 p.1 self.now.number hub.old (client_of self.now) (After mark) hub.new (client_of self.now)) }
+        ensures answers { IfOk result (λ r. (table : SchemaTable) → Makes table r self.now.number hub.old (client_of self.now) (After mark) hub.new (client_of self.now)) }
         ensures sound { OnOk result (IsSound hub.new self.now) }
+        ensures stops { IfErr result (Stops self.now.number hub.old hub.new) }
     {
         laws::tokens_last();
         match hub.after(alloc, self.number, mark) {
-            Ok(seen) => Ok((Went::Shared, called(looked(seen)))),
+            Ok(seen) => Ok(called(looked(seen))),
             Err(fault) => {
                 let reply = refused_call(fault)?;
-                Ok((Went::Shared, reply))
+                Ok(reply)
             }
         }
     }

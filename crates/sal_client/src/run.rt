@@ -1,45 +1,110 @@
 //! A client's run through its program, from one shared call to the next.
-ghost use Rattle.std.specs.Prelude.{◌≡◌, ◌<◌, IfOk, OnOk, length};
+ghost use Rattle.std.specs.Prelude.{◌≡◌, ◌<◌, IfOk, IfErr, OnOk, length};
 ghost use Rattle.sal_history.specs.World.{table_of};
 ghost use Rattle.sal_hub.specs.Answers.{limit};
 ghost use Rattle.sal_hub.specs.Known.{Known};
+ghost use Rattle.sal_schema.specs.declared.table.SchemaTable.{SchemaTable};
 ghost use Rattle.sal_script.specs.Play.{new_client};
 
-use crate::client::{ClientState, Went};
+use crate::client::ClientState;
 use crate::reader::Reader;
+use crate::wish::{RunFault, Wish};
 use sal_hub::Hub;
 use sal_io::Gate;
-use sal_script::ScriptStep;
-use sal_types::NoMemory;
+use sal_script::{ScriptStep, StepReply};
+use sal_types::{NoMemory, Seq};
 use std::alloc::Global;
 
 /// A client, and the index of its next step.
 #[derive(Drop)]
-pub struct Run {
+pub struct ClientRun {
     pub client: ClientState,
     pub at: usize,
 }
 
-impl Run {
-    ghost use Rattle.sal_client.specs.Clients.{client_of, IsSound};
-    ghost use Rattle.sal_client.specs.Runs.{IsRun, Goes};
+impl ClientRun {
+    ghost use Rattle.sal_client.specs.Clients.{client_of, HasSchema, IsSound, StaysSound};
+    ghost use Rattle.sal_client.specs.Runs.{Comes, Goes, IsProgram, IsRun, MakesNext, replies_in};
+    ghost use Rattle.sal_client.specs.Wishes.{CanMake, GrowsAtMost, ReadBy, Stops};
 
     /// A client at the beginning of its program.
     pub fn new(alloc: Global, number: u32) -> Self
         ensures number { result.client.number ≡ number }
         ensures at { result.at ≡ 0 }
         ensures client { client_of result.client ≡ new_client }
+        ensures schema { (table : SchemaTable) → HasSchema table result.client }
         ensures sound { (known : Known) → IsSound known result.client }
     {
-        Run {
+        ClientRun {
             client: ClientState::new(alloc, number),
             at: 0,
         }
     }
 
-    /// Answers the local steps up to the next shared call, and makes that. False where the program ended first. The
-    /// gate is passed before each step.
-    pub fn go<G: Gate>(
+    /// Its replies so far, in the order of its steps.
+    pub fn replies(&self) -> &[StepReply]
+        ensures { result.now ≡ replies_in self.now }
+    {
+        &self.client.replies
+    }
+
+    /// The same, once it has come to its end.
+    pub fn into_replies(self) -> Seq<StepReply>
+        ensures { result ≡ replies_in self }
+    {
+        let client = self.client;
+        Seq::from_items(client.replies)
+    }
+
+    /// Answers the local steps up to the next shared call, and says which that is; none where the program ends first. It takes
+    /// no turn at a hub: over each log that the client is sound for, these steps are answered the same. The gate is passed
+    /// before each step, that of the call among them.
+    pub fn next<G: Gate>(
+        &mut self,
+        alloc: Global,
+        reader: &Reader,
+        steps: &[ScriptStep],
+        gate: &G,
+    ) -> Result<Option<Wish>, NoMemory>
+        requires program { IsProgram steps.now self.old }
+        requires schema { HasSchema reader.now self.old.client }
+        ensures comes { IfOk result (λ wish. Comes reader.now steps.now self.old wish self.new) }
+        ensures sound { OnOk result (StaysSound self.old.client self.new.client) }
+        ensures schema { OnOk result (HasSchema reader.now self.new.client) }
+        ensures program { OnOk result (IsProgram steps.now self.new) }
+        ensures number { OnOk result (self.new.client.number ≡ self.old.client.number) }
+    {
+        for i in self.at..steps.len() {
+            gate.pass(self.client.number, i as u32);
+            let met = self.client.meet(alloc, reader, &steps[i])?;
+            self.at = i + 1;
+            match met {
+                Some(wish) => return Ok(Some(wish)),
+                None => {}
+            }
+        }
+        Ok(None)
+    }
+
+    /// Makes the shared call that `next` gave, on the hub, and takes its answer. Where the log is full, neither has changed.
+    /// After want of memory the run is not to be used again, and the hub has the call's entry or has not.
+    pub fn make(&mut self, alloc: Global, hub: &mut Hub, wish: &Wish) -> Result<(), RunFault>
+        requires sound { IsSound hub.old self.old.client }
+        requires can { CanMake wish.now self.old.client }
+        ensures makes { OnOk result ((table : SchemaTable) → ReadBy table wish.now → MakesNext table self.old.client.number hub.old wish.now (client_of self.old.client) hub.new (client_of self.new.client)) }
+        ensures sound { OnOk result (IsSound hub.new self.new.client) }
+        ensures at { OnOk result (self.new.at ≡ self.old.at) }
+        ensures number { OnOk result (self.new.client.number ≡ self.old.client.number) }
+        ensures grows { GrowsAtMost self.old.client.number hub.old hub.new }
+        ensures stops { IfErr result (Stops self.old.client.number hub.old hub.new) }
+    {
+        let reply = self.client.call(alloc, hub, wish)?;
+        self.client.replies.push(reply)?;
+        Ok(())
+    }
+
+    /// Goes on to the next shared call and makes it. False where the program ended first.
+    pub(crate) fn go<G: Gate>(
         &mut self,
         alloc: Global,
         reader: &Reader,
@@ -54,15 +119,13 @@ impl Run {
         ensures run { OnOk result (IsRun hub.new steps.now self.new) }
         ensures number { OnOk result (self.new.client.number ≡ self.old.client.number) }
     {
-        for i in self.at..steps.len() {
-            gate.pass(self.client.number, i as u32);
-            let went = self.client.step(alloc, reader, hub, &steps[i])?;
-            self.at = i + 1;
-            match went {
-                Went::Shared => return Ok(true),
-                Went::Local => {}
-            }
+        match self.next(alloc, reader, steps, gate)? {
+            None => Ok(false),
+            Some(wish) => match self.make(alloc, hub, &wish) {
+                Ok(()) => Ok(true),
+                Err(RunFault::NoMemory) => Err(NoMemory),
+                Err(RunFault::HistoryFull) => unreachable!(),
+            },
         }
-        Ok(false)
     }
 }

@@ -9,7 +9,7 @@ ghost use Rattle.sal_script.specs.Play as play_spec;
 ghost use Rattle.sal_client.specs.Runs.{replies_in, runs_of, stand_of, AreRuns, Ends, PlaysAs, Turns};
 
 use crate::reader::Reader;
-use crate::run::Run;
+use crate::run::ClientRun;
 use sal_hub::{Hub, laws};
 use sal_io::Gate;
 use sal_script::{Program, Script, StepReply};
@@ -35,11 +35,11 @@ pub struct Played {
 #[derive(Drop)]
 pub(crate) struct Simulation {
     pub(crate) hub: Hub,
-    pub(crate) runs: Vec<Run>,
+    pub(crate) runs: Vec<ClientRun>,
 }
 
 // The clients at their beginning.
-fn new_runs(alloc: Global, programs: &[Program]) -> Result<Vec<Run>, NoMemory>
+fn new_runs(alloc: Global, programs: &[Program]) -> Result<Vec<ClientRun>, NoMemory>
     requires limits { IsTrue (within_limits programs.now) }
     requires json { IsTrue (have_json_moves (clients_of programs.now)) }
     ensures stand { IfOk result (λ runs. stand_of programs.now [] runs.items ≡ play_spec.start (clients_of programs.now)) }
@@ -47,19 +47,18 @@ fn new_runs(alloc: Global, programs: &[Program]) -> Result<Vec<Run>, NoMemory>
 {
     let mut runs = Vec::new(alloc);
     for i in 0..programs.len() {
-        runs.push(Run::new(alloc, i as u32))?;
+        runs.push(ClientRun::new(alloc, i as u32))?;
     }
     Ok(runs)
 }
 
 // The replies of each client.
-fn into_replies(alloc: Global, runs: Vec<Run>) -> Result<Seq<Seq<StepReply>>, NoMemory>
+fn into_replies(alloc: Global, runs: Vec<ClientRun>) -> Result<Seq<Seq<StepReply>>, NoMemory>
     ensures { IfOk result (λ replies. replies ≡ map replies_in runs.items) }
 {
     let mut replies = Vec::new(alloc);
     for run in runs {
-        let client = run.client;
-        replies.push(Seq::from_items(client.replies))?;
+        replies.push(run.into_replies())?;
     }
     Ok(Seq::from_items(replies))
 }

@@ -1,6 +1,5 @@
 //! Writes in a client's transaction.
 ghost use Rattle.std.specs.Prelude.{◌≡◌, Some, IfOk, OnOk, IsTrue, MatchResult, ⊤};
-ghost use Rattle.sal_history.specs.World.{table_of};
 ghost use Rattle.sal_script.specs.JsonScripts.{is_json_deed};
 ghost use Rattle.sal_script.specs.Play.{Client, Open, accept_unless, local};
 ghost use Rattle.sal_script.specs.Play as play_spec;
@@ -11,7 +10,6 @@ use crate::client::{ClientState, Standing, refused};
 use crate::deed::{Deed, op_of};
 use crate::reader::Reader;
 use crate::slots::{fill_slot, take_slot};
-use sal_hub::Hub;
 use sal_rows::Op;
 use sal_script::{StepRefusal, StepReply, laws};
 use sal_tx::{Tx, TxFault};
@@ -31,24 +29,23 @@ fn reply_to(answer: Result<(), TxFault>) -> Result<StepReply, NoMemory>
 }
 
 impl ClientState {
-    ghost use Rattle.sal_client.specs.Clients.{client_of, opened, standing_of, IsSound, Same};
+    ghost use Rattle.sal_client.specs.Clients.{client_of, opened, standing_of, Everywhere, HasSchema, Same, StaysSound};
 
     /// Writes at the path of the text, where the slot's transaction may write.
     pub(crate) fn write(
         &mut self,
         alloc: Global,
         reader: &Reader,
-        hub: &Hub,
         slot: u8,
         store: Store,
         text: &str,
         deed: Deed,
     ) -> Result<StepReply, NoMemory>
-        requires sound { IsSound hub.now self.old }
-        requires table { reader.now ≡ table_of hub.now.world 0 }
+        requires schema { HasSchema reader.now self.old }
         requires json { IsTrue (is_json_deed (deed_of deed)) }
-        ensures answers { IfOk result (λ r. play_spec.write reader.now hub.now.world hub.now.log slot store text.now (deed_of deed.entry) (client_of self.old) (opened self.old slot) ≡ local r (client_of self.new)) }
-        ensures sound { OnOk result (IsSound hub.now self.new) }
+        ensures answers { IfOk result (λ r. Everywhere reader.now self.old (λ known. play_spec.write reader.now known.world known.log slot store text.now (deed_of deed.entry) (client_of self.old) (opened self.old slot) ≡ local r (client_of self.new))) }
+        ensures sound { OnOk result (StaysSound self.old self.new) }
+        ensures schema { OnOk result (HasSchema reader.now self.new) }
         ensures same { OnOk result (Same self.old self.new) }
     {
         match self.standing(slot) {
@@ -58,7 +55,7 @@ impl ClientState {
                 Ok(op) => {
                     laws::writes_are_for_schema();
                     let _count = reader.schema().len();
-                    let reply = self.write_op(alloc, reader, hub, slot, op)?;
+                    let reply = self.write_op(alloc, reader, slot, op)?;
                     Ok(reply)
                 }
                 Err(refusal) => Ok(refused(refusal)),
@@ -71,16 +68,15 @@ impl ClientState {
         &mut self,
         alloc: Global,
         reader: &Reader,
-        hub: &Hub,
         slot: u8,
         op: Op,
     ) -> Result<StepReply, NoMemory>
-        requires sound { IsSound hub.now self.old }
-        requires table { reader.now ≡ table_of hub.now.world 0 }
+        requires schema { HasSchema reader.now self.old }
         requires for_schema { IsForSchema reader.now op }
         requires writable { standing_of (opened self.old slot) ≡ Standing.Writable }
-        ensures answers { IfOk result (λ r. (tx : Open) → opened self.old slot ≡ Some tx → play_spec.write_op reader.now hub.now.world hub.now.log slot op tx (client_of self.old) ≡ local r (client_of self.new)) }
-        ensures sound { OnOk result (IsSound hub.now self.new) }
+        ensures answers { IfOk result (λ r. Everywhere reader.now self.old (λ known. (tx : Open) → opened self.old slot ≡ Some tx → play_spec.write_op reader.now known.world known.log slot op tx (client_of self.old) ≡ local r (client_of self.new))) }
+        ensures sound { OnOk result (StaysSound self.old self.new) }
+        ensures schema { OnOk result (HasSchema reader.now self.new) }
         ensures same { OnOk result (Same self.old self.new) }
     {
         match take_slot(&mut self.transactions, slot) {

@@ -1,7 +1,7 @@
 -- One more client is at its beginning.
 use Rattle.std.proofs.Common.{◌≡◌, ◌+◌, ◌<◌, ◌∷◌, [], List, length, get_or, ap, sym, ◌∙◌, subst, arith, length-append}
 use Rattle.sal_script.specs.Play.{Run, Stand}
-use Rattle.sal_client.specs.declared.run.Run.{Run as CodeRun}
+use Rattle.sal_client.specs.declared.run.ClientRun.{ClientRun as CodeRun}
 use Rattle.sal_client.proofs.Standing.{IsFresh, fresh_more, fresh_runs, AreRuns-fresh}
 use Rattle.sal_client.proofs.simulation.new_runs.Goals as goal
 

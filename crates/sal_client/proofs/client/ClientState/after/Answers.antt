@@ -10,11 +10,11 @@ use Rattle.sal_client.proofs.Answering.{called}
 use Rattle.sal_client.proofs.client.ClientState.after.Goals as goal
 
 pub returns-in-Ok-clause-answers : goal.returns-in-Ok-clause-answers
-returns-in-Ok-clause-answers c =
+returns-in-Ok-clause-answers c table =
     let client = c.args.self.now in
     let known = c.args.hub.now in
     let call = AfterCall c.args.mark in
-    (call, called c.args.reader.now c.called.result client.number known (client_of client) (After c.args.mark) c.after.new.self (client_of client) call _ refl c.in-Ok.ensures.answer (c.called.ensures ∙ ap Called c.looked.ensures) refl)
+    (call, called table c.called.result client.number known (client_of client) (After c.args.mark) c.after.new.self (client_of client) call _ refl c.in-Ok.ensures.answer (c.called.ensures ∙ ap Called c.looked.ensures) refl)
 
 pub returns-in-Ok-clause-sound : goal.returns-in-Ok-clause-sound
 returns-in-Ok-clause-sound c =

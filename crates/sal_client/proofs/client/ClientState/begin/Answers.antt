@@ -10,17 +10,17 @@ use Rattle.sal_client.specs.Slots.{held}
 use Rattle.sal_client.specs.Clients.{IsOwn, IsSound, client_of, open_of}
 use Rattle.sal_client.proofs.Places.{seen-filled}
 use Rattle.sal_client.proofs.Soundness.{IsSound-filled, IsSound-more, live_zero}
-use Rattle.sal_client.proofs.Answering.{called, kept_begun, made_refused, not_full}
+use Rattle.sal_client.proofs.Answering.{called, kept_begun, made_refused}
 use Rattle.sal_client.proofs.client.ClientState.begin.Goals as goal
 
 pub returns-in_ok-fill_slot-in-Ok-clause-answers : goal.returns-in_ok-fill_slot-in-Ok-clause-answers
-returns-in_ok-fill_slot-in-Ok-clause-answers c =
+returns-in_ok-fill_slot-in-Ok-clause-answers c table =
     let old = c.args.self.now in
     let known = c.args.hub.now in
     let tx = c.in-Ok.tx in
     let filled = seen-filled open_of (held old.transactions) (held c.fill_slot.new.slots) c.args.slot tx c.in_ok-fill_slot-in-Ok.ensures in (
       BeginCall c.args.domain c.args.mode,
-      called c.args.reader.now c.called.result old.number known (client_of old) (Begin c.args.slot c.args.domain c.args.mode) c.begin.new.self _ (BeginCall c.args.domain c.args.mode) _ refl c.in-Ok.ensures.answer (c.called.ensures ∙ ap Called c.begun-reply.ensures)
+      called table c.called.result old.number known (client_of old) (Begin c.args.slot c.args.domain c.args.mode) c.begin.new.self _ (BeginCall c.args.domain c.args.mode) _ refl c.in-Ok.ensures.answer (c.called.ensures ∙ ap Called c.begun-reply.ensures)
           (kept_begun known c.args.slot c.args.domain None c.args.mode tx (client_of old) _ c.in-Ok.ensures.fresh filled),
     )
 
@@ -35,14 +35,14 @@ returns-in_ok-fill_slot-in-Ok-clause-sound c =
     IsSound-filled c.begin.new.self old _ c.args.slot tx was own c.in_ok-fill_slot-in-Ok.ensures refl refl
 
 pub returns-in_ok-reply-in-Err-clause-answers : goal.returns-in_ok-reply-in-Err-clause-answers
-returns-in_ok-reply-in-Err-clause-answers c =
+returns-in_ok-reply-in-Err-clause-answers c table =
     let old = c.args.self.now in
     let known = c.args.hub.now in
     let call = BeginCall c.args.domain c.args.mode in
     let e = entry_of known old.number call in
     let fails = c.in-Err.ensures.answer in
-    let made = made_refused known c.begin.new.self e c.in-Err.fault fails (not_full known c.begin.new.self e c.in-Err.fault fails c.requires.room) c.in_ok-reply-in-Err.ensures.memory in
-    (call, called c.args.reader.now c.in_ok-reply-in-Err.reply old.number known (client_of old) (Begin c.args.slot c.args.domain c.args.mode) c.begin.new.self (client_of old) call (Refused c.in-Err.fault) refl made c.in_ok-reply-in-Err.ensures.reply refl)
+    let made = made_refused known c.begin.new.self e c.in-Err.fault fails c.in_ok-reply-in-Err.ensures.full c.in_ok-reply-in-Err.ensures.memory in
+    (call, called table c.in_ok-reply-in-Err.reply old.number known (client_of old) (Begin c.args.slot c.args.domain c.args.mode) c.begin.new.self (client_of old) call (Refused c.in-Err.fault) refl made c.in_ok-reply-in-Err.ensures.reply refl)
 
 pub returns-in_ok-reply-in-Err-clause-sound : goal.returns-in_ok-reply-in-Err-clause-sound
 returns-in_ok-reply-in-Err-clause-sound c =
@@ -50,5 +50,5 @@ returns-in_ok-reply-in-Err-clause-sound c =
     let known = c.args.hub.now in
     let e = entry_of known old.number (BeginCall c.args.domain c.args.mode) in
     let fails = c.in-Err.ensures.answer in
-    let made = made_refused known c.begin.new.self e c.in-Err.fault fails (not_full known c.begin.new.self e c.in-Err.fault fails c.requires.room) c.in_ok-reply-in-Err.ensures.memory in
+    let made = made_refused known c.begin.new.self e c.in-Err.fault fails c.in_ok-reply-in-Err.ensures.full c.in_ok-reply-in-Err.ensures.memory in
     subst (λ (k : Known). IsSound k old) (sym made.log) (IsSound-more (c.tokens_last.ensures.begun, c.tokens_last.ensures.given, c.tokens_last.ensures.opened) known e old c.requires.sound)

@@ -11,14 +11,14 @@ use Rattle.sal_client.specs.Slots.{held}
 use Rattle.sal_client.specs.Clients.{IsOwn, IsSound, chain_of, client_of, open_of}
 use Rattle.sal_client.proofs.Places.{seen-filled}
 use Rattle.sal_client.proofs.Soundness.{IsSound-filled, IsSound-more}
-use Rattle.sal_client.proofs.Answering.{called, kept_in_chain, made_refused, not_full}
+use Rattle.sal_client.proofs.Answering.{called, kept_in_chain, made_refused}
 use Rattle.sal_client.proofs.client.ClientState.chain_begin.Goals as goal
 
 pub chain_begin-requires : goal.chain_begin-requires
 chain_begin-requires c = record { token = (c.requires.sound.chains c.args.from c.in-Some.chain.now (sym c.in-Some.ensures)).token }
 
 pub returns-in_ok-fill_slot-in-Ok-clause-answers : goal.returns-in_ok-fill_slot-in-Ok-clause-answers
-returns-in_ok-fill_slot-in-Ok-clause-answers c =
+returns-in_ok-fill_slot-in-Ok-clause-answers c table =
     let old = c.args.self.now in
     let known = c.args.hub.now in
     let chain = c.in-Some.chain.now in
@@ -27,7 +27,7 @@ returns-in_ok-fill_slot-in-Ok-clause-answers c =
     let found : held old.chains c.args.from ≡ Some chain = sym c.in-Some.ensures in
     let filled = seen-filled open_of (held old.transactions) (held c.fill_slot.new.slots) c.args.slot tx c.in_ok-fill_slot-in-Ok.ensures in (
       call,
-      called c.args.reader.now c.called.result old.number known (client_of old) (ChainBegin c.args.from c.args.slot c.args.mode) c.chain_begin.new.self _ call _ (ap (λ o. chain_begin c.args.mode (client_of old) (option_map chain_of o)) found) c.in-Ok.ensures.answer (c.called.ensures ∙ ap Called c.begun-reply.ensures)
+      called table c.called.result old.number known (client_of old) (ChainBegin c.args.from c.args.slot c.args.mode) c.chain_begin.new.self _ call _ (ap (λ o. chain_begin c.args.mode (client_of old) (option_map chain_of o)) found) c.in-Ok.ensures.answer (c.called.ensures ∙ ap Called c.begun-reply.ensures)
           (kept_in_chain known c.args.from c.args.slot (chain_of chain) c.args.mode tx (client_of old) _ (ap (option_map chain_of) found) c.in-Ok.ensures.fresh filled),
     )
 
@@ -43,7 +43,7 @@ returns-in_ok-fill_slot-in-Ok-clause-sound c =
     IsSound-filled c.chain_begin.new.self old _ c.args.slot tx was own c.in_ok-fill_slot-in-Ok.ensures refl refl
 
 pub returns-in_ok-reply-in-Err-clause-answers : goal.returns-in_ok-reply-in-Err-clause-answers
-returns-in_ok-reply-in-Err-clause-answers c =
+returns-in_ok-reply-in-Err-clause-answers c table =
     let old = c.args.self.now in
     let known = c.args.hub.now in
     let chain = c.in-Some.chain.now in
@@ -51,8 +51,8 @@ returns-in_ok-reply-in-Err-clause-answers c =
     let e = entry_of known old.number call in
     let fails = c.in-Err.ensures.answer in
     let found : held old.chains c.args.from ≡ Some chain = sym c.in-Some.ensures in
-    let made = made_refused known c.chain_begin.new.self e c.in-Err.fault fails (not_full known c.chain_begin.new.self e c.in-Err.fault fails c.requires.room) c.in_ok-reply-in-Err.ensures.memory in
-    (call, called c.args.reader.now c.in_ok-reply-in-Err.reply old.number known (client_of old) (ChainBegin c.args.from c.args.slot c.args.mode) c.chain_begin.new.self (client_of old) call (Refused c.in-Err.fault) (ap (λ o. chain_begin c.args.mode (client_of old) (option_map chain_of o)) found) made c.in_ok-reply-in-Err.ensures.reply refl)
+    let made = made_refused known c.chain_begin.new.self e c.in-Err.fault fails c.in_ok-reply-in-Err.ensures.full c.in_ok-reply-in-Err.ensures.memory in
+    (call, called table c.in_ok-reply-in-Err.reply old.number known (client_of old) (ChainBegin c.args.from c.args.slot c.args.mode) c.chain_begin.new.self (client_of old) call (Refused c.in-Err.fault) (ap (λ o. chain_begin c.args.mode (client_of old) (option_map chain_of o)) found) made c.in_ok-reply-in-Err.ensures.reply refl)
 
 pub returns-in_ok-reply-in-Err-clause-sound : goal.returns-in_ok-reply-in-Err-clause-sound
 returns-in_ok-reply-in-Err-clause-sound c =
@@ -60,5 +60,5 @@ returns-in_ok-reply-in-Err-clause-sound c =
     let known = c.args.hub.now in
     let e = entry_of known old.number (ChainBeginCall c.in-Some.chain.now.id c.args.mode) in
     let fails = c.in-Err.ensures.answer in
-    let made = made_refused known c.chain_begin.new.self e c.in-Err.fault fails (not_full known c.chain_begin.new.self e c.in-Err.fault fails c.requires.room) c.in_ok-reply-in-Err.ensures.memory in
+    let made = made_refused known c.chain_begin.new.self e c.in-Err.fault fails c.in_ok-reply-in-Err.ensures.full c.in_ok-reply-in-Err.ensures.memory in
     subst (λ (k : Known). IsSound k old) (sym made.log) (IsSound-more (c.tokens_last.ensures.begun, c.tokens_last.ensures.given, c.tokens_last.ensures.opened) known e old c.requires.sound)

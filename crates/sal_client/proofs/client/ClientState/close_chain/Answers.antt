@@ -9,20 +9,20 @@ use Rattle.sal_hub.specs.Known.{Known, entry_of}
 use Rattle.sal_client.specs.Slots.{held}
 use Rattle.sal_client.specs.Clients.{IsSound, chain_of, client_of}
 use Rattle.sal_client.proofs.Soundness.{IsSound-more}
-use Rattle.sal_client.proofs.Answering.{called, made_refused, not_full}
+use Rattle.sal_client.proofs.Answering.{called, made_refused}
 use Rattle.sal_client.proofs.client.ClientState.close_chain.Goals as goal
 
 pub close_chain-requires : goal.close_chain-requires
 close_chain-requires c = record { token = (c.requires.sound.chains c.args.slot c.in-Some.chain.now (sym c.in-Some.ensures)).token }
 
 pub returns-in-Ok-clause-answers : goal.returns-in-Ok-clause-answers
-returns-in-Ok-clause-answers c =
+returns-in-Ok-clause-answers c table =
     let client = c.args.self.now in
     let known = c.args.hub.now in
     let chain = c.in-Some.chain.now in
     let found : held client.chains c.args.slot ≡ Some chain = sym c.in-Some.ensures in
     let call = CloseChainCall chain.id in
-    (call, called c.args.reader.now c.called.result client.number known (client_of client) (CloseChain c.args.slot) c.close_chain.new.self (client_of client) call _ (ap (λ o. close_chain (client_of client) (option_map chain_of o)) found) c.in-Ok.ensures.answer c.called.ensures refl)
+    (call, called table c.called.result client.number known (client_of client) (CloseChain c.args.slot) c.close_chain.new.self (client_of client) call _ (ap (λ o. close_chain (client_of client) (option_map chain_of o)) found) c.in-Ok.ensures.answer c.called.ensures refl)
 
 pub returns-in-Ok-clause-sound : goal.returns-in-Ok-clause-sound
 returns-in-Ok-clause-sound c =
@@ -31,7 +31,7 @@ returns-in-Ok-clause-sound c =
     subst (λ (k : Known). IsSound k client) (sym c.in-Ok.ensures.answer.log) (IsSound-more (c.tokens_last.ensures.begun, c.tokens_last.ensures.given, c.tokens_last.ensures.opened) known (entry_of known client.number (CloseChainCall c.in-Some.chain.now.id)) client c.requires.sound)
 
 pub returns-in_ok-reply-in-Err-clause-answers : goal.returns-in_ok-reply-in-Err-clause-answers
-returns-in_ok-reply-in-Err-clause-answers c =
+returns-in_ok-reply-in-Err-clause-answers c table =
     let client = c.args.self.now in
     let known = c.args.hub.now in
     let chain = c.in-Some.chain.now in
@@ -39,8 +39,8 @@ returns-in_ok-reply-in-Err-clause-answers c =
     let call = CloseChainCall chain.id in
     let e = entry_of known client.number call in
     let fails = c.in-Err.ensures.answer in
-    let made = made_refused known c.close_chain.new.self e c.in-Err.fault fails (not_full known c.close_chain.new.self e c.in-Err.fault fails c.requires.room) c.in_ok-reply-in-Err.ensures.memory in
-    (call, called c.args.reader.now c.in_ok-reply-in-Err.reply client.number known (client_of client) (CloseChain c.args.slot) c.close_chain.new.self (client_of client) call (Refused c.in-Err.fault) (ap (λ o. close_chain (client_of client) (option_map chain_of o)) found) made c.in_ok-reply-in-Err.ensures.reply refl)
+    let made = made_refused known c.close_chain.new.self e c.in-Err.fault fails c.in_ok-reply-in-Err.ensures.full c.in_ok-reply-in-Err.ensures.memory in
+    (call, called table c.in_ok-reply-in-Err.reply client.number known (client_of client) (CloseChain c.args.slot) c.close_chain.new.self (client_of client) call (Refused c.in-Err.fault) (ap (λ o. close_chain (client_of client) (option_map chain_of o)) found) made c.in_ok-reply-in-Err.ensures.reply refl)
 
 pub returns-in_ok-reply-in-Err-clause-sound : goal.returns-in_ok-reply-in-Err-clause-sound
 returns-in_ok-reply-in-Err-clause-sound c =
@@ -48,5 +48,5 @@ returns-in_ok-reply-in-Err-clause-sound c =
     let known = c.args.hub.now in
     let e = entry_of known client.number (CloseChainCall c.in-Some.chain.now.id) in
     let fails = c.in-Err.ensures.answer in
-    let made = made_refused known c.close_chain.new.self e c.in-Err.fault fails (not_full known c.close_chain.new.self e c.in-Err.fault fails c.requires.room) c.in_ok-reply-in-Err.ensures.memory in
+    let made = made_refused known c.close_chain.new.self e c.in-Err.fault fails c.in_ok-reply-in-Err.ensures.full c.in_ok-reply-in-Err.ensures.memory in
     subst (λ (k : Known). IsSound k client) (sym made.log) (IsSound-more (c.tokens_last.ensures.begun, c.tokens_last.ensures.given, c.tokens_last.ensures.opened) known e client c.requires.sound)

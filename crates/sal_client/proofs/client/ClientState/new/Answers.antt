@@ -17,3 +17,6 @@ returns-clause-sound c known = record {
   receipts = λ k r at. absurd (let none : None ≡ Some r = sym (ap (λ (f : ℕ → Option Receipt). f k) c.empty_slots-2.ensures) ∙ at in cc);
   chains = λ k chain at. absurd (let none : None ≡ Some chain = sym (ap (λ (f : ℕ → Option Chain). f k) c.empty_slots-3.ensures) ∙ at in cc);
 }
+
+pub returns-clause-schema : goal.returns-clause-schema
+returns-clause-schema c table k tx at = absurd (let none : None ≡ Some tx = sym (ap (λ (f : ℕ → Option Tx). f k) c.empty_slots.ensures) ∙ at in cc)

@@ -10,11 +10,11 @@ use Rattle.sal_client.specs.Slots.{held}
 use Rattle.sal_client.specs.Clients.{IsOwnChain, IsSound, chain_of, chains_in, client_of}
 use Rattle.sal_client.proofs.Places.{seen-filled}
 use Rattle.sal_client.proofs.Soundness.{IsSound-linked, IsSound-more, opened_zero}
-use Rattle.sal_client.proofs.Answering.{called, made_refused, not_full}
+use Rattle.sal_client.proofs.Answering.{called, made_refused}
 use Rattle.sal_client.proofs.client.ClientState.open_chain.Goals as goal
 
 pub returns-in_ok-fill_slot-in-Ok-clause-answers : goal.returns-in_ok-fill_slot-in-Ok-clause-answers
-returns-in_ok-fill_slot-in-Ok-clause-answers c =
+returns-in_ok-fill_slot-in-Ok-clause-answers c table =
     let old = c.args.self.now in
     let known = c.args.hub.now in
     let chain = c.in-Ok.chain in
@@ -22,7 +22,7 @@ returns-in_ok-fill_slot-in-Ok-clause-answers c =
     let filled = seen-filled chain_of (held old.chains) (held c.fill_slot.new.slots) c.args.slot chain c.in_ok-fill_slot-in-Ok.ensures in
     let same : chain_of chain ≡ (let o : Opened = record { id = chain.id; domain = c.args.domain } in o) = λ i. record { id = chain.id; domain = c.in-Ok.ensures.domain i } in (
       call,
-      called c.args.reader.now c.called.result old.number known (client_of old) (OpenChain c.args.slot c.args.domain) c.open_chain.new.self _ call _ refl c.in-Ok.ensures.answer
+      called table c.called.result old.number known (client_of old) (OpenChain c.args.slot c.args.domain) c.open_chain.new.self _ call _ refl c.in-Ok.ensures.answer
           (c.called.ensures ∙ ap (λ n. Called (ChainReply n)) c.id-id.ensures)
           ((λ i. record (client_of old) { chains = filled i }) ∙ (λ i. record (client_of old) { chains = set_slot c.args.slot (Some (same i)) (chains_in old) })),
     )
@@ -38,14 +38,14 @@ returns-in_ok-fill_slot-in-Ok-clause-sound c =
     IsSound-linked c.open_chain.new.self old _ c.args.slot chain was own refl refl c.in_ok-fill_slot-in-Ok.ensures
 
 pub returns-in_ok-reply-in-Err-clause-answers : goal.returns-in_ok-reply-in-Err-clause-answers
-returns-in_ok-reply-in-Err-clause-answers c =
+returns-in_ok-reply-in-Err-clause-answers c table =
     let old = c.args.self.now in
     let known = c.args.hub.now in
     let call = OpenChainCall c.args.domain in
     let e = entry_of known old.number call in
     let fails = c.in-Err.ensures.answer in
-    let made = made_refused known c.open_chain.new.self e c.in-Err.fault fails (not_full known c.open_chain.new.self e c.in-Err.fault fails c.requires.room) c.in_ok-reply-in-Err.ensures.memory in
-    (call, called c.args.reader.now c.in_ok-reply-in-Err.reply old.number known (client_of old) (OpenChain c.args.slot c.args.domain) c.open_chain.new.self (client_of old) call (Refused c.in-Err.fault) refl made c.in_ok-reply-in-Err.ensures.reply refl)
+    let made = made_refused known c.open_chain.new.self e c.in-Err.fault fails c.in_ok-reply-in-Err.ensures.full c.in_ok-reply-in-Err.ensures.memory in
+    (call, called table c.in_ok-reply-in-Err.reply old.number known (client_of old) (OpenChain c.args.slot c.args.domain) c.open_chain.new.self (client_of old) call (Refused c.in-Err.fault) refl made c.in_ok-reply-in-Err.ensures.reply refl)
 
 pub returns-in_ok-reply-in-Err-clause-sound : goal.returns-in_ok-reply-in-Err-clause-sound
 returns-in_ok-reply-in-Err-clause-sound c =
@@ -53,5 +53,5 @@ returns-in_ok-reply-in-Err-clause-sound c =
     let known = c.args.hub.now in
     let e = entry_of known old.number (OpenChainCall c.args.domain) in
     let fails = c.in-Err.ensures.answer in
-    let made = made_refused known c.open_chain.new.self e c.in-Err.fault fails (not_full known c.open_chain.new.self e c.in-Err.fault fails c.requires.room) c.in_ok-reply-in-Err.ensures.memory in
+    let made = made_refused known c.open_chain.new.self e c.in-Err.fault fails c.in_ok-reply-in-Err.ensures.full c.in_ok-reply-in-Err.ensures.memory in
     subst (λ (k : Known). IsSound k old) (sym made.log) (IsSound-more (c.tokens_last.ensures.begun, c.tokens_last.ensures.given, c.tokens_last.ensures.opened) known e old c.requires.sound)

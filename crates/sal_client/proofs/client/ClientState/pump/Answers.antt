@@ -10,11 +10,11 @@ use Rattle.sal_client.proofs.Answering.{called}
 use Rattle.sal_client.proofs.client.ClientState.pump.Goals as goal
 
 pub returns-in-Ok-clause-answers : goal.returns-in-Ok-clause-answers
-returns-in-Ok-clause-answers c =
+returns-in-Ok-clause-answers c table =
     let client = c.args.self.now in
     let known = c.args.hub.now in
     let call = PumpCall in
-    (call, called c.args.reader.now c.called.result client.number known (client_of client) Pump c.pump.new.self (client_of client) call _ refl c.in-Ok.ensures.answer (c.called.ensures ∙ ap Called c.pumped.ensures) refl)
+    (call, called table c.called.result client.number known (client_of client) Pump c.pump.new.self (client_of client) call _ refl c.in-Ok.ensures.answer (c.called.ensures ∙ ap Called c.pumped.ensures) refl)
 
 pub returns-in-Ok-clause-sound : goal.returns-in-Ok-clause-sound
 returns-in-Ok-clause-sound c =

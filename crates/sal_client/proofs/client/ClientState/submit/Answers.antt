@@ -14,11 +14,11 @@ use Rattle.sal_client.specs.Slots.{held}
 use Rattle.sal_client.specs.Clients.{IsSound, client_of, number_of, open_of, opened}
 use Rattle.sal_client.proofs.Places.{put_back, seen-emptied, seen-filled}
 use Rattle.sal_client.proofs.Soundness.{IsSound-more, IsSound-same, IsSound-submitted}
-use Rattle.sal_client.proofs.Answering.{called, made_refused, not_full, submit-writable}
+use Rattle.sal_client.proofs.Answering.{called, made_refused, submit-writable}
 use Rattle.sal_client.proofs.client.ClientState.submit.Goals as goal
 
 pub returns-in_ok-fill_slot-in-Ok-clause-answers : goal.returns-in_ok-fill_slot-in-Ok-clause-answers
-returns-in_ok-fill_slot-in-Ok-clause-answers c =
+returns-in_ok-fill_slot-in-Ok-clause-answers c table =
     let old = c.args.self.now in
     let known = c.args.hub.now in
     let tx = c.in-Some-Write.tx in
@@ -27,7 +27,7 @@ returns-in_ok-fill_slot-in-Ok-clause-answers c =
     let emptied = seen-emptied open_of (held old.transactions) (held c.take_slot.new.slots) c.args.slot c.take_slot.ensures.after in
     let filled = seen-filled number_of (held old.receipts) (held c.fill_slot.new.slots) c.args.slot c.in-Ok.receipt c.in_ok-fill_slot-in-Ok.ensures in (
       call,
-      called c.args.reader.now c.called.result old.number known (client_of old) (Submit c.args.slot) c.submit.new.self _ call _ (submit-writable (client_of old) (opened old c.args.slot) (open_of (Write tx)) found c.requires.writable) c.in-Ok.ensures.answer
+      called table c.called.result old.number known (client_of old) (Submit c.args.slot) c.submit.new.self _ call _ (submit-writable (client_of old) (opened old c.args.slot) (open_of (Write tx)) found c.requires.writable) c.in-Ok.ensures.answer
           (c.called.ensures ∙ ap (λ n. Called (Receipt n)) c.number-number.ensures) (λ i. record (client_of old) { transactions = emptied i; receipts = filled i }),
     )
 
@@ -48,7 +48,7 @@ restored c =
     (c.in_ok-fill_slot-in-Err.ensures ∙ ap (λ (w : Writing). set_slot c.args.slot (Some (Write w)) (held c.take_slot.new.slots)) c.in-Err.ensures.answer.0)
 
 pub returns-in_ok-fill_slot-in-Err-clause-answers : goal.returns-in_ok-fill_slot-in-Err-clause-answers
-returns-in_ok-fill_slot-in-Err-clause-answers c =
+returns-in_ok-fill_slot-in-Err-clause-answers c table =
     let old = c.args.self.now in
     let known = c.args.hub.now in
     let tx = c.in-Some-Write.tx in
@@ -56,10 +56,10 @@ returns-in_ok-fill_slot-in-Err-clause-answers c =
     let e = entry_of known old.number call in
     let fault = c.in-Err.fault in
     let fails = c.in-Err.ensures.answer.1 in
-    let made = made_refused known c.submit.new.self e fault fails (not_full known c.submit.new.self e fault fails c.requires.room) c.in_ok-reply-in-Err.ensures.memory in
+    let made = made_refused known c.submit.new.self e fault fails c.in_ok-reply-in-Err.ensures.full c.in_ok-reply-in-Err.ensures.memory in
     let found : opened old c.args.slot ≡ Some (open_of (Write tx)) = ap (option_map open_of) (sym c.in-Some-Write.ensures.value) ∙ ap (λ (t : Tx). Some (open_of t)) c.in-Some-Write.field-0-is in (
       call,
-      called c.args.reader.now c.in_ok-reply-in-Err.reply old.number known (client_of old) (Submit c.args.slot) c.submit.new.self _ call (Refused fault) (submit-writable (client_of old) (opened old c.args.slot) (open_of (Write tx)) found c.requires.writable) made
+      called table c.in_ok-reply-in-Err.reply old.number known (client_of old) (Submit c.args.slot) c.submit.new.self _ call (Refused fault) (submit-writable (client_of old) (opened old c.args.slot) (open_of (Write tx)) found c.requires.writable) made
           c.in_ok-reply-in-Err.ensures.reply (λ i. record (client_of old) { transactions = λ k. option_map open_of (restored c i k) }),
     )
 
@@ -70,6 +70,6 @@ returns-in_ok-fill_slot-in-Err-clause-sound c =
     let e = entry_of known old.number (SubmitCall c.in-Some-Write.tx.begun.place c.in-Some-Write.tx.changes) in
     let fault = c.in-Err.fault in
     let fails = c.in-Err.ensures.answer.1 in
-    let made = made_refused known c.submit.new.self e fault fails (not_full known c.submit.new.self e fault fails c.requires.room) c.in_ok-reply-in-Err.ensures.memory in
+    let made = made_refused known c.submit.new.self e fault fails c.in_ok-reply-in-Err.ensures.full c.in_ok-reply-in-Err.ensures.memory in
     let was : IsSound c.submit.new.self old = subst (λ (k : Known). IsSound k old) (sym made.log) (IsSound-more (c.tokens_last.ensures.begun, c.tokens_last.ensures.given, c.tokens_last.ensures.opened) known e old c.requires.sound) in
     IsSound-same c.submit.new.self old _ was (restored c) refl refl

@@ -2,37 +2,47 @@
 use Rattle.std.proofs.Common.{◌≡◌, Some, refl, ap, sym, ◌∙◌}
 use Rattle.std.specs.Option.{option_map}
 use Rattle.std.proofs.lemmas.Option.{same_Some}
+use Rattle.sal_tx.specs.declared.begun.Begun.{Begun}
+use Rattle.sal_tx.specs.declared.tx.Tx.{Tx}
 use Rattle.sal_tx.specs.declared.tx.Tx.TheVariants.{Write}
+use Rattle.sal_hub.specs.Tokens.{begun_of}
 use Rattle.sal_script.specs.Play.{Open, write_op}
 use Rattle.sal_client.specs.Slots.{held}
 use Rattle.sal_client.specs.Clients.{IsOwn, client_of, open_of, opened}
-use Rattle.sal_client.proofs.Places.{changed, seen-filled}
+use Rattle.sal_client.proofs.Places.{changed, each_filled, seen-filled}
 use Rattle.sal_client.proofs.Soundness.{IsSound-filled}
-use Rattle.sal_client.proofs.Writing.{IsOwn-written, written}
+use Rattle.sal_client.proofs.Writing.{IsOwn-written, begun-written, written}
 use Rattle.sal_client.proofs.client.ClientState.write_op.Goals as goal
 
 pub returns-clause-answers : goal.returns-clause-answers
-returns-clause-answers c tx at =
+returns-clause-answers c known is of tx at =
     let old = c.args.self.now in
-    let known = c.args.hub.now in
     let table = c.args.reader.now in
     let taken = c.in-Some-Write.taken in
     let holds : held old.transactions c.args.slot ≡ Some (Write taken) = sym c.in-Some-Write.ensures.value ∙ ap Some c.in-Some-Write.field-0-is in
     let found : opened old c.args.slot ≡ Some (open_of (Write taken)) = ap (option_map open_of) holds in
     let same : tx ≡ open_of (Write taken) = same_Some tx (open_of (Write taken)) (sym at ∙ found) in
-    let own : IsOwn known (Write taken) = c.requires.sound.transactions c.args.slot (Write taken) holds in
+    let own : IsOwn known (Write taken) = is.transactions c.args.slot (Write taken) holds in
     let filled = changed (held old.transactions) (held c.take_slot.new.slots) (held c.fill_slot.new.slots) c.args.slot (Write c.write.new.self) c.take_slot.ensures.after c.in_ok-fill_slot-in-Some-Write.ensures in
     let reply = c.in_ok-reply-in-Some-Write.ensures in
     ap (λ (t : Open). write_op table known.world known.log c.args.slot c.args.op t (client_of old)) same
-    ∙ written known table taken own c.requires.table c.args.slot c.args.op c.write.new.self c.write.result c.in_ok-reply-in-Some-Write.reply (client_of old) _ c.write.ensures.outcome c.write.ensures.err reply.reply reply.memory found
+    ∙ written known table taken own of c.args.slot c.args.op c.write.new.self c.write.result c.in_ok-reply-in-Some-Write.reply (client_of old) _ c.write.ensures.outcome c.write.ensures.err reply.reply reply.memory found
     (seen-filled open_of (held old.transactions) (held c.fill_slot.new.slots) c.args.slot (Write c.write.new.self) filled)
 
 pub returns-clause-sound : goal.returns-clause-sound
-returns-clause-sound c =
+returns-clause-sound c known is =
     let old = c.args.self.now in
-    let known = c.args.hub.now in
     let taken = c.in-Some-Write.taken in
     let holds : held old.transactions c.args.slot ≡ Some (Write taken) = sym c.in-Some-Write.ensures.value ∙ ap Some c.in-Some-Write.field-0-is in
-    let own : IsOwn known (Write taken) = c.requires.sound.transactions c.args.slot (Write taken) holds in
+    let own : IsOwn known (Write taken) = is.transactions c.args.slot (Write taken) holds in
     let filled = changed (held old.transactions) (held c.take_slot.new.slots) (held c.fill_slot.new.slots) c.args.slot (Write c.write.new.self) c.take_slot.ensures.after c.in_ok-fill_slot-in-Some-Write.ensures in
-    IsSound-filled known old _ c.args.slot (Write c.write.new.self) c.requires.sound (IsOwn-written known c.args.reader.now taken own c.requires.table c.args.op c.write.new.self c.write.result c.write.ensures.outcome c.write.ensures.err) filled refl refl
+    IsSound-filled known old _ c.args.slot (Write c.write.new.self) is (IsOwn-written known taken own c.args.op c.write.new.self c.write.result c.write.ensures.outcome c.write.ensures.err) filled refl refl
+
+pub returns-clause-schema : goal.returns-clause-schema
+returns-clause-schema c =
+    let old = c.args.self.now in
+    let taken = c.in-Some-Write.taken in
+    let holds : held old.transactions c.args.slot ≡ Some (Write taken) = sym c.in-Some-Write.ensures.value ∙ ap Some c.in-Some-Write.field-0-is in
+    let filled = changed (held old.transactions) (held c.take_slot.new.slots) (held c.fill_slot.new.slots) c.args.slot (Write c.write.new.self) c.take_slot.ensures.after c.in_ok-fill_slot-in-Some-Write.ensures in
+    let same = begun-written c.args.op taken c.write.new.self c.write.result c.write.ensures.outcome c.write.ensures.err in
+    each_filled (λ (tx : Tx). (begun_of tx).schema.value ≡ c.args.reader.now) (held old.transactions) (held c.fill_slot.new.slots) c.args.slot (Write c.write.new.self) filled (ap (λ (b : Begun). b.schema.value) same ∙ c.requires.schema c.args.slot (Write taken) holds) c.requires.schema

@@ -9,16 +9,16 @@ use Rattle.sal_client.specs.Slots.{held}
 use Rattle.sal_client.specs.Clients.{IsSound, client_of, number_of}
 use Rattle.sal_client.proofs.Soundness.{IsSound-more}
 use Rattle.sal_client.proofs.Answering.{called}
-use Rattle.sal_client.proofs.client.ClientState.settle_slot.Goals as goal
+use Rattle.sal_client.proofs.client.ClientState.settle.Goals as goal
 
 pub returns-in-Ok-clause-answers : goal.returns-in-Ok-clause-answers
-returns-in-Ok-clause-answers c =
+returns-in-Ok-clause-answers c table =
     let client = c.args.self.now in
     let known = c.args.hub.now in
     let receipt = c.in-Some.receipt.now in
     let found : held client.receipts c.args.slot ≡ Some receipt = sym c.in-Some.ensures in
     let call = SettleCall receipt.number in
-    (call, called c.args.reader.now c.called.result client.number known (client_of client) (Settle c.args.slot) c.settle.new.self (client_of client) call _ (ap (λ o. settle (client_of client) (option_map number_of o)) found) c.in-Ok.ensures.answer c.called.ensures refl)
+    (call, called table c.called.result client.number known (client_of client) (Settle c.args.slot) c.settle.new.self (client_of client) call _ (ap (λ o. settle (client_of client) (option_map number_of o)) found) c.in-Ok.ensures.answer c.called.ensures refl)
 
 pub returns-in-Ok-clause-sound : goal.returns-in-Ok-clause-sound
 returns-in-Ok-clause-sound c =

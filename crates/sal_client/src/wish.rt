@@ -1,0 +1,68 @@
+//! The shared calls that steps ask for.
+use sal_rows::Mode;
+use sal_types::NoMemory;
+use std::alloc::AllocFailed;
+
+/// A shared call that a client is ready to make. What it needs of a slot, as a transaction or a receipt, stays there until then.
+#[derive(Clone, Copy)]
+pub enum Wish {
+    /// Begins a transaction of the domain into the slot.
+    Begin {
+        slot: u8,
+        domain: u32,
+        mode: Mode,
+    },
+    /// Submits the slot's transaction, which may write.
+    Submit { slot: u8 },
+    /// Gives up the slot's transaction.
+    Cancel { slot: u8 },
+    /// Settles the receipt in the slot.
+    Settle { slot: u8 },
+    /// Opens a chain over the domain into the chain slot.
+    OpenChain { chain: u8, domain: u32 },
+    /// Begins the next transaction of the chain in the chain slot into the slot.
+    ChainBegin {
+        chain: u8,
+        slot: u8,
+        mode: Mode,
+    },
+    /// Closes the chain in the chain slot.
+    CloseChain { chain: u8 },
+    /// Decides the first receipt that is pending.
+    Pump,
+    /// Leaves the mark in the log.
+    Mark { mark: u32 },
+    /// Asks whether the mark was left.
+    After { mark: u32 },
+}
+
+/// Why a client stops at a shared call.
+#[derive(Clone, Copy, Debug, PartialEq, Eq)]
+pub enum RunFault {
+    /// The log is full, and has no entry of the call.
+    HistoryFull,
+    /// Memory ran out, before the call or while its answer was kept.
+    NoMemory,
+}
+
+impl From<NoMemory> for RunFault {
+    ghost use Rattle.std.specs.Prelude.{◌≡◌};
+    ghost use Rattle.sal_client.specs.declared.wish.RunFault.TheVariants.{NoMemory as Wanting};
+
+    ghost from_gives = { λ _ e. e ≡ Wanting };
+
+    fn from(_refused: NoMemory) -> RunFault {
+        RunFault::NoMemory
+    }
+}
+
+impl<T: Drop> From<AllocFailed<T>> for RunFault {
+    ghost use Rattle.std.specs.Prelude.{◌≡◌};
+    ghost use Rattle.sal_client.specs.declared.wish.RunFault.TheVariants.{NoMemory as Wanting};
+
+    ghost from_gives = { λ _ e. e ≡ Wanting };
+
+    fn from(_refused: AllocFailed<T>) -> RunFault {
+        RunFault::NoMemory
+    }
+}

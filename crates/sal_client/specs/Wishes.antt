@@ -43,20 +43,24 @@ CanMake (ChainBegin chain slot mode) c = IsSome (held c.chains chain)
 CanMake (CloseChain chain) c = IsSome (held c.chains chain)
 CanMake wish c = Unit {0}
 
+-- what was read for the call was read by this schema; no call so far has a path
+abbrev pub ReadBy : SchemaTable → Wish → Type 0
+ReadBy table wish = Unit {0}
+
 -- the step asks for this call, or is refused over whatever log
 abbrev pub Wants : SchemaTable → ClientState → Move → Result Wish StepRefusal → Type 0
-Wants table c step (Ok wish) = (step ≡ move_by wish) × CanMake wish c
+Wants table c step (Ok wish) = (step ≡ move_by wish) × CanMake wish c × ReadBy table wish
 Wants table c step (Err refusal) = (known : Known) → meet table known.world known.log (client_of c) step ≡ refused refusal (client_of c)
 
 -- The client answered the step by itself, and the reply is among its replies; or the step asks for a call, and nothing has
 -- changed.
 abbrev pub Meets : SchemaTable → ClientState → Move → Option Wish → ClientState → Type 0
 Meets table old step None new = Everywhere table old (λ known. (r : StepReply) × (between : Client) × (meet table known.world known.log (client_of old) step ≡ local r between) × (client_of new ≡ replied r between))
-Meets table old step (Some wish) new = (step ≡ move_by wish) × CanMake wish new × (client_of new ≡ client_of old)
+Meets table old step (Some wish) new = (step ≡ move_by wish) × CanMake wish new × ReadBy table wish × (client_of new ≡ client_of old)
 
--- a shared call was made, whatever the reader's schema; the reply is not yet among the replies
-abbrev pub Makes : StepReply → ℕ → Known → Client → Move → Known → Client → Type 0
-Makes r c known old step known' new = (table : SchemaTable) → (call : Call) × Calls table r c known old step known' new call
+-- a shared call was made; the reply is not yet among the replies
+abbrev pub Makes : SchemaTable → StepReply → ℕ → Known → Client → Move → Known → Client → Type 0
+Makes table r c known old step known' new = (call : Call) × Calls table r c known old step known' new call
 
 -- one entry more, of client c
 abbrev pub GrowsBy : ℕ → Known → Known → Type 0

@@ -1,5 +1,6 @@
 //! From a step to the shared call that it asks for, and from that call to its answer.
 ghost use Rattle.std.specs.Prelude.{◌≡◌, IfOk, IfErr, OnOk, false};
+ghost use Rattle.sal_schema.specs.declared.table.SchemaTable.{SchemaTable};
 ghost use Rattle.sal_script.specs.Moves.{ChainBegin, Cancel, CloseChain, Settle, Submit, move_of};
 ghost use Rattle.sal_client.specs.Clients.{is_local};
 
@@ -15,7 +16,7 @@ use std::alloc::Global;
 
 impl ClientState {
     ghost use Rattle.sal_client.specs.Clients.{client_of, IsSound, Same};
-    ghost use Rattle.sal_client.specs.Wishes.{CanMake, Makes, Stops, Wants, move_by};
+    ghost use Rattle.sal_client.specs.Wishes.{CanMake, GrowsAtMost, Makes, ReadBy, Stops, Wants, move_by};
 
     /// The shared call that the step asks for, or why it is refused. It takes no turn at a hub.
     pub(crate) fn wish_of(
@@ -118,9 +119,10 @@ impl ClientState {
     ) -> Result<StepReply, RunFault>
         requires sound { IsSound hub.old self.old }
         requires can { CanMake wish.now self.old }
-        ensures answers { IfOk result (λ r. Makes r self.old.number hub.old (client_of self.old) (move_by wish.now) hub.new (client_of self.new)) }
+        ensures answers { IfOk result (λ r. (table : SchemaTable) → ReadBy table wish.now → Makes table r self.old.number hub.old (client_of self.old) (move_by wish.now) hub.new (client_of self.new)) }
         ensures sound { OnOk result (IsSound hub.new self.new) }
         ensures same { OnOk result (Same self.old self.new) }
+        ensures grows { GrowsAtMost self.old.number hub.old hub.new }
         ensures stops { IfErr result (Stops self.old.number hub.old hub.new) }
     {
         match wish {

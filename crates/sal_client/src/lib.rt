@@ -23,7 +23,6 @@ mod calls;
 mod chains;
 mod client;
 mod deed;
-mod follower;
 mod looks;
 mod marks;
 mod reader;

@@ -1,6 +1,7 @@
 //! The shared calls that steps ask for.
 use sal_rows::Mode;
 use sal_types::NoMemory;
+use std::alloc::AllocFailed;
 
 /// A shared call that a client is ready to make. What it needs of a slot, as a transaction or a receipt, stays there until then.
 #[derive(Clone, Copy)]
@@ -51,6 +52,17 @@ impl From<NoMemory> for RunFault {
     ghost from_gives = { λ _ e. e ≡ Wanting };
 
     fn from(_refused: NoMemory) -> RunFault {
+        RunFault::NoMemory
+    }
+}
+
+impl<T: Drop> From<AllocFailed<T>> for RunFault {
+    ghost use Rattle.std.specs.Prelude.{◌≡◌};
+    ghost use Rattle.sal_client.specs.declared.wish.RunFault.TheVariants.{NoMemory as Wanting};
+
+    ghost from_gives = { λ _ e. e ≡ Wanting };
+
+    fn from(_refused: AllocFailed<T>) -> RunFault {
         RunFault::NoMemory
     }
 }

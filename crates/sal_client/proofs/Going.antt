@@ -58,7 +58,7 @@ goes_on table c known known' wish old between new r (call, called) is = (call_tu
 pub goes : (table : SchemaTable) (c : ℕ) (known known' : Known) (wish : Wish) (steps : List ScriptStep) (old mid new : CodeRun) → Comes table steps old (Some wish) mid → (ReadBy table wish → MakesNext table c known wish (client_of mid.client) known' (client_of new.client)) → new.at ≡ mid.at → IsSound known old.client → table ≡ table_of known.world 0 → Goes table true c known steps old known' new
 goes table c known known' wish steps old mid new comes makes at sound of =
     let made = makes comes.2 in (
-      ap (make table known.world known.log c) (comes.0 known sound of) ∙ made.0 (moves_from mid.at steps) ∙ (λ k. Some (let m : Made = record { log = known'.log; run = record { client = client_of new.client; steps = moves_from (sym at k) steps } } in m)),
+      ap (make table known.world known.log c) (comes.0 known sound.steady of) ∙ made.0 (moves_from mid.at steps) ∙ (λ k. Some (let m : Made = record { log = known'.log; run = record { client = client_of new.client; steps = moves_from (sym at k) steps } } in m)),
       made.1,
       subst (λ n. old.at < n) (sym at) comes.3,
     )

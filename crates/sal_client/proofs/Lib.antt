@@ -1,7 +1,10 @@
 pub mod Answering
+pub mod Following
 pub mod Going
+pub mod Mirroring
 pub mod Places
 pub mod Soundness
 pub mod Standing
 pub mod Values
+pub mod Versions
 pub mod Writing

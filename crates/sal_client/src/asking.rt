@@ -46,6 +46,14 @@ impl ClientState {
             }
             ScriptStep::CloseChain { chain } => Ok(self.close_chain_wish(reader, *chain)),
             ScriptStep::Pump => Ok(Ok(Wish::Pump)),
+            ScriptStep::Listen {
+                listener,
+                domain,
+                store,
+                path,
+            } => self.listen_wish(alloc, reader, *listener, *domain, *store, path),
+            ScriptStep::Take { listener } => Ok(self.take_wish(reader, *listener)),
+            ScriptStep::Unlisten { listener } => Ok(self.unlisten_wish(reader, *listener)),
             ScriptStep::Mark { mark } => Ok(Ok(Wish::Mark { mark: *mark })),
             ScriptStep::After { mark } => Ok(Ok(Wish::After { mark: *mark })),
             _ => unreachable!(),
@@ -136,6 +144,9 @@ impl ClientState {
             }
             Wish::CloseChain { chain } => self.close_chain(alloc, hub, *chain),
             Wish::Pump => self.pump(alloc, hub),
+            Wish::Listen { slot, target } => self.listen(alloc, hub, *slot, target),
+            Wish::Take { slot } => self.take(alloc, hub, *slot),
+            Wish::Unlisten { slot } => self.unlisten(alloc, hub, *slot),
             Wish::Mark { mark } => self.mark(alloc, hub, *mark),
             Wish::After { mark } => self.after(alloc, hub, *mark),
         }

@@ -23,6 +23,8 @@ mod calls;
 mod chains;
 mod client;
 mod deed;
+mod follower;
+mod listeners;
 mod looks;
 mod marks;
 mod reader;

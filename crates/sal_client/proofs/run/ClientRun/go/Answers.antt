@@ -8,7 +8,7 @@ use Rattle.sal_client.proofs.Soundness.{HasSchema-sound}
 use Rattle.sal_client.proofs.run.ClientRun.go.Goals as goal
 
 pub next-requires-clause-schema : goal.next-requires-clause-schema
-next-requires-clause-schema g c κs _ = HasSchema-sound c.args.reader.now c.args.hub.now c.args.self.now.client c.requires.run.sound c.requires.table
+next-requires-clause-schema g c κs _ = HasSchema-sound c.args.reader.now c.args.hub.now c.args.self.now.client c.requires.run.sound.steady c.requires.table
 
 pub returns-in-Ok-clause-goes : goal.returns-in-Ok-clause-goes
 returns-in-Ok-clause-goes g c =

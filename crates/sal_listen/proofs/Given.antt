@@ -1,6 +1,6 @@
 -- What kept commits say of two neighbours, and what their trees say of a part.
 use Rattle.std.proofs.Common.{◌≡◌, ℕ, suc, ◌+◌, ◌<◌, Bool, true, false, List, [], ◌∷◌, ◌++◌, length, take, get_or, Option, Some, None, refl, ap, sym, ◌∙◌, subst, arith, append-nil}
-use Rattle.std.proofs.Math.Facts.{yes_eqb, eqb_yes}
+use Rattle.std.proofs.Math.Facts.{yes_eqb}
 use Rattle.std.specs.Prelude.{T, ◌==◌, slice_get}
 use Rattle.std.proofs.lemmas.List.{take_more}
 use Rattle.std.proofs.lemmas.List.Sums.{fold-append}
@@ -9,14 +9,13 @@ use Rattle.sal_types.specs.declared.value.Store.{Store}
 use Rattle.sal_types.specs.declared.value.Store.TheVariants.{Config, Oper}
 use Rattle.sal_types.specs.declared.value.Step.{Step}
 use Rattle.sal_types.specs.declared.row.Row.{Row}
-use Rattle.sal_types.proofs.Trees.{T-from_IsTrue}
 use Rattle.sal_rows.specs.declared.batch.Part.{Part}
 use Rattle.sal_rows.specs.declared.change.Change.{Change}
 use Rattle.sal_rows.specs.declared.op.Op.{Op}
 use Rattle.sal_rows.specs.Apply.{apply_ops}
 use Rattle.sal_rows.specs.Batches.{part, part_with, parts_after}
 use Rattle.sal_rows.specs.Changes.{changes_under}
-use Rattle.sal_rows.specs.Commits.{next_tree, tree_after, tree_at}
+use Rattle.sal_rows.specs.Commits.{next_tree, tree_after}
 use Rattle.sal_rows.specs.Kinds.{kind_of}
 use Rattle.sal_rows.proofs.Patched.{parts-append}
 use Rattle.sal_node.specs.Tree.{Tree}

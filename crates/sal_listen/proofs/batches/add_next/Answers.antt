@@ -1,7 +1,4 @@
-use Rattle.std.proofs.Common.{◌≡◌, ap, sym, ◌∙◌}
-use Rattle.sal_rows.specs.declared.op.Op.{Op}
-use Rattle.std.specs.Prelude.{List}
-use Rattle.sal_node.specs.Tree.{Tree}
+use Rattle.std.proofs.Common.{ap, sym, ◌∙◌}
 use Rattle.sal_tree.specs.Rows.{rows_of}
 use Rattle.sal_rows.specs.Apply.{apply_ops}
 use Rattle.sal_listen.proofs.Given.{next-tree}

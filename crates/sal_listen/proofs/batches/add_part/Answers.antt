@@ -1,5 +1,4 @@
-use Rattle.std.proofs.Common.{◌≡◌, ap, sym, ◌∙◌, rules}
-use Rattle.sal_node.specs.Tree.{Tree}
+use Rattle.std.proofs.Common.{◌≡◌, rules}
 use Rattle.sal_listen.proofs.Given.{untouched-part}
 use Rattle.sal_listen.proofs.batches.add_part.Goals as goal
 

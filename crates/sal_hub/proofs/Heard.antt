@@ -1,7 +1,7 @@
 -- The calls of listeners: what is kept of them stays the log's.
-use Rattle.std.proofs.Common.{◌≡◌, ℕ, ◌+◌, ◌-◌, ◌<◌, ◌≤◌, Bool, true, false, not, cond, List, [], ◌∷◌, ◌++◌, length, map, get_or, set, Option, None, Some, refl, ap, sym, ◌∙◌, subst, arith, append-nil, inl, inr, if◌then◌else◌, nat_eq}
+use Rattle.std.proofs.Common.{◌≡◌, ℕ, ◌+◌, ◌-◌, ◌<◌, ◌≤◌, true, false, not, cond, List, [], ◌∷◌, ◌++◌, length, map, get_or, set, Option, None, Some, refl, ap, sym, ◌∙◌, subst, arith, append-nil, inl, inr, if◌then◌else◌, nat_eq}
 use Rattle.std.specs.Prelude.{◌&&◌, ◌||◌, slice_get, sum_by, unwrap_or}
-use Rattle.std.specs.Option.{option_map, option_map_or, option_or, option_to_list}
+use Rattle.std.specs.Option.{option_map, option_map_or, option_to_list}
 use Rattle.std.proofs.lemmas.Bool.Decides.{nat_tests}
 use Rattle.std.proofs.lemmas.List.{length-map, length-set, map-append}
 use Rattle.std.proofs.lemmas.List.Sums.{get_or-le-sum_by, sum_by-append, sum_by-set}
@@ -9,13 +9,11 @@ use Rattle.std.proofs.lemmas.Option.{get_or_from_slice_get, same_Some, slice_get
 use Rattle.std.proofs.Math.Seq.{map-set_same}
 use Rattle.sal_rows.specs.declared.batch.Batch.{Batch}
 use Rattle.sal_rows.specs.declared.batch.Opened.{Opened}
-use Rattle.sal_rows.specs.declared.outcome.CallFault.{CallFault}
-use Rattle.sal_rows.specs.declared.outcome.CallFault.TheVariants.{NoDomain, TooManyListeners}
 use Rattle.sal_history.specs.declared.call.Call.TheVariants.{Take, Unlisten}
 use Rattle.sal_history.specs.declared.call.Entry.{Entry}
 use Rattle.sal_history.specs.declared.reply.Reply.{Reply}
 use Rattle.sal_history.specs.declared.reply.Reply.TheVariants.{Accepted, Batch as Told, Listener as Made}
-use Rattle.sal_history.specs.History.{Answered, commits, fault_if, history, is_live, listen_refusal, reply_to}
+use Rattle.sal_history.specs.History.{Answered, commits, history, listen_refusal, reply_to}
 use Rattle.sal_history.specs.Listeners.{Listening, brings_to, has_listener, is_removed, listener_at, listeners, listens, live_listeners, removes, removes_one, version}
 use Rattle.sal_hub.specs.declared.listener.Listener.{Listener}
 use Rattle.sal_hub.specs.declared.listener.ListenerId.{ListenerId}

@@ -4,7 +4,6 @@ use Rattle.std.specs.Prelude.{slice_get}
 use Rattle.std.specs.Option.{option_map, option_map_or, option_or}
 use Rattle.std.proofs.lemmas.List.{length-map}
 use Rattle.sal_types.specs.declared.value.Store.{Store}
-use Rattle.sal_rows.specs.declared.batch.Batch.{Batch}
 use Rattle.sal_rows.specs.declared.batch.Opened.{Opened}
 use Rattle.sal_rows.specs.declared.outcome.CallFault.{CallFault}
 use Rattle.sal_rows.specs.declared.outcome.CallFault.TheVariants.{NoDomain, NoListener, TooManyListeners}
@@ -16,7 +15,6 @@ use Rattle.sal_commit.specs.declared.domain.Domain.{Domain}
 use Rattle.sal_history.specs.declared.call.Call.{Call}
 use Rattle.sal_history.specs.declared.call.Call.TheVariants.{Take, Unlisten}
 use Rattle.sal_history.specs.declared.call.Entry.{Entry}
-use Rattle.sal_history.specs.declared.reply.Reply.{Reply}
 use Rattle.sal_history.specs.declared.reply.Reply.TheVariants.{Accepted, Batch as Told, Listener as Made, Refused}
 use Rattle.sal_history.specs.World as world
 use Rattle.sal_history.specs.History.{Answered, batch_of, commits, entries_of, fault_if, history, is_live, listen_refusal, listening, refused_or, reply_to, taken, trees_at}

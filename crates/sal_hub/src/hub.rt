@@ -343,12 +343,7 @@ impl Hub {
     }
 
     /// Takes what changed for the client's listener by each commit since its opening, or since what was taken last.
-    pub fn take(
-        &mut self,
-        alloc: Global,
-        client: u32,
-        id: ListenerId,
-    ) -> Result<Batch, CallFault>
+    pub fn take(&mut self, alloc: Global, client: u32, id: ListenerId) -> Result<Batch, CallFault>
         requires token { IsListener self.old id }
         ensures answer { Calls self.old self.new (entry_of self.old client (Take id.number)) (λ (b : Told). Tells id.domain b) result }
     {
@@ -360,12 +355,7 @@ impl Hub {
     }
 
     /// Removes the client's listener.
-    pub fn unlisten(
-        &mut self,
-        alloc: Global,
-        client: u32,
-        id: ListenerId,
-    ) -> Result<(), CallFault>
+    pub fn unlisten(&mut self, alloc: Global, client: u32, id: ListenerId) -> Result<(), CallFault>
         requires token { IsListener self.old id }
         ensures answer { Calls self.old self.new (entry_of self.old client (Unlisten id.number)) (λ _. Accepted) result }
     {

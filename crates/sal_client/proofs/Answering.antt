@@ -1,5 +1,6 @@
 -- How each kind of step is answered.
 use Rattle.std.proofs.Common.{◌≡◌, ℕ, List, [], length, Option, None, Some, Result, Ok, Err, inl, inr, refl, ap, sym, ◌∙◌, subst}
+use Rattle.std.specs.Prelude.{IfErr, IfOk}
 use Rattle.sal_types.specs.declared.value.Store.{Store}
 use Rattle.sal_types.specs.declared.value.Step.{Step}
 use Rattle.sal_rows.specs.declared.op.Op.{Op}
@@ -32,7 +33,8 @@ use Rattle.sal_client.specs.declared.wish.RunFault.{RunFault}
 use Rattle.sal_client.specs.declared.wish.RunFault.TheVariants as stop
 use Rattle.sal_client.specs.Clients.{Calls, open_of, standing_in, standing_of}
 use Rattle.sal_client.specs.Deeds.{op_at, op_by}
-use Rattle.sal_client.specs.Wishes.{GrowsAtMost, IsStop, Makes, Stops}
+use Rattle.sal_client.specs.declared.wish.Wish.{Wish}
+use Rattle.sal_client.specs.Wishes.{GrowsAtMost, IsStop, Makes, ReadBy, Stops, move_by}
 
 -- ---- shared calls
 
@@ -61,13 +63,16 @@ pub stopped : (old new : Known) (e : Entry) (fault : CallFault) (stop : RunFault
 stopped old new e fault stop.HistoryFull fails is = subst (Fails old new e) is fails
 stopped old new e fault stop.NoMemory fails is = inl (subst (Fails old new e) is fails)
 
--- a call leaves at most one entry
-pub grows_made : (r : StepReply) (c : ℕ) (known : Known) (old : Client) (step : Move) (known' : Known) (new : Client) → Makes r c known old step known' new → GrowsAtMost c known known'
-grows_made r c known old step known' new makes = let (call, called) = makes (table_of known.world 0) in inr (entry_of known c call, refl, called.entry)
+-- a call that was made for a wish
+pub for_wish : (result : Result StepReply RunFault) (c : ℕ) (known known' : Known) (old new : Client) (wish : Wish) (step : Move) → move_by wish ≡ step → IfOk result (λ r. (table : SchemaTable) → Makes table r c known old step known' new) → IfOk result (λ r. (table : SchemaTable) → ReadBy table wish → Makes table r c known old (move_by wish) known' new)
+for_wish (Ok r) c known known' old new wish step is made = λ table read. subst (λ (m : Move). Makes table r c known old m known' new) (sym is) (made table)
+for_wish (Err why) c known known' old new wish step is made = tt
 
-pub grows_stopped : (c : ℕ) (known known' : Known) (why : RunFault) → Stops c known known' why → GrowsAtMost c known known'
-grows_stopped c known known' stop.HistoryFull is = inl is.1
-grows_stopped c known known' stop.NoMemory is = is
+-- a call leaves at most one entry
+pub grows_by : (result : Result StepReply RunFault) (c : ℕ) (known known' : Known) (old new : Client) (step : Move) → IfOk result (λ r. (table : SchemaTable) → Makes table r c known old step known' new) → IfErr result (Stops c known known') → GrowsAtMost c known known'
+grows_by (Ok r) c known known' old new step made stops = let (call, called) = made (table_of known.world 0) in inr (entry_of known c call, refl, called.entry)
+grows_by (Err stop.HistoryFull) c known known' old new step made stops = inl stops.1
+grows_by (Err stop.NoMemory) c known known' old new step made stops = stops
 
 -- memory ran out behind a call that was made
 pub made_in_vain : (old new : Known) (e : Entry) (answer : Reply) → Made old new e answer → Stops e.client old new stop.NoMemory

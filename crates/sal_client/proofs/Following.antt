@@ -28,15 +28,15 @@ use Rattle.sal_hub.specs.Listeners.{IsMade, listener_reply}
 use Rattle.sal_hub.specs.Tokens.{IsListener}
 use Rattle.sal_hub.proofs.Listened.{version-push}
 use Rattle.sal_client.specs.declared.follower.Follower.{Follower}
-use Rattle.sal_client.specs.Followers.{Advances, IsFollower}
+use Rattle.sal_client.specs.Followers.{Advances, Follows, IsOwnListener}
 use Rattle.sal_client.proofs.Mirroring.{goes_on}
 use Rattle.sal_client.proofs.Versions.{version_stays}
 
 abbrev pub listening_of : ℕ → Follower → Listening
 listening_of number f = record { client = number; domain = f.id.domain; store = f.store; path = f.path }
 
--- the token of a follower
-pub token_of : (known : Known) (number : ℕ) (f : Follower) → IsFollower known number f → IsListener known f.id
+-- its token
+pub token_of : (known : Known) (number : ℕ) (f : Follower) → IsOwnListener known number f → IsListener known f.id
 token_of known number f is = (is.low, ap (option_map (λ (l : Listening). l.domain)) is.made)
 
 module _ (known : Known) (e : Entry) where
@@ -48,14 +48,19 @@ module _ (known : Known) (e : Entry) where
       → rows ≡ under (trees_at known.world (history known.world (known.log ++ e ∷ [])) domain store k) path
   rows_stay domain store path k rows reached is = is ∙ ap (λ (t : List Row). under t path) (sym (trees_later known.world known.log (e ∷ []) domain store k reached))
 
+  -- whatever the entry
+  pub follows_on : (f : Follower) → Follows known f → Follows (more known e) f
+  follows_on f is = record {
+    reached = omega (arith, is.reached, more_commits known.world known.log (e ∷ []) f.id.domain);
+    rows = rows_stay f.id.domain f.store f.path f.mirror.version f.mirror.rows is.reached is.rows;
+  }
+
   -- an entry that takes nothing from it
-  pub follower_stays : (number : ℕ) (f : Follower) → (e.client ≡ number → e.call ≡ Take f.id.number → ⊥) → IsFollower known number f → IsFollower (more known e) number f
-  follower_stays number f quiet is = record {
+  pub listener_stays : (number : ℕ) (f : Follower) → (e.client ≡ number → e.call ≡ Take f.id.number → ⊥) → IsOwnListener known number f → IsOwnListener (more known e) number f
+  listener_stays number f quiet is = record {
     low = is.low;
     made = listener_later known.world known.log (e ∷ []) f.id.number (listening_of number f) is.made;
     version = version_stays known.world known.log e f.id.number (listening_of number f) is.made quiet ∙ is.version;
-    reached = omega (arith, is.reached, more_commits known.world known.log (e ∷ []) f.id.domain);
-    rows = rows_stay f.id.domain f.store f.path f.mirror.version f.mirror.rows is.reached is.rows;
   }
 
 -- ---- a listen
@@ -96,27 +101,34 @@ module _ (known : Known) (number domain : ℕ) (store : Store) (path : List Step
   brought : brings_to (Listen domain store path) (reply_to known.world before number (Listen domain store path)) given.0.number ≡ Some given.1.version
   brought = ap (λ r. brings_to (Listen domain store path) r given.0.number) answered ∙ ap (λ b. if b then Some given.1.version else None) (eq-eqb given.0.number given.0.number refl)
 
-  pub new_follower : given.0.domain ≡ domain → IsMade (more known call_entry) given.0 (record { client = number; domain = domain; store = store; path = path }) → (f : Follower)
-      → f ≡ record { id = given.0; store = store; path = path; mirror = record { version = given.1.version; rows = given.1.rows } } → IsFollower (more known call_entry) number f
-  new_follower of made f is = subst (IsFollower (more known call_entry) number) (sym is) (record {
-    low = omega (arith, parts.0);
-    made = made ∙ (λ i. Some (let l : Listening = record { client = number; domain = sym of i; store = store; path = path } in l));
-    version = version-push known.world known.log call_entry given.0.number ∙ ap (λ (o : Option ℕ). unwrap_or o (version before given.0.number)) brought;
-    reached = omega (arith, at_newest, ap (λ d. length (commits (history known.world (known.log ++ call_entry ∷ [])) d)) of, more_commits known.world known.log (call_entry ∷ []) domain);
-    rows = rows_here ∙ (λ i. under (trees_at known.world (history known.world (known.log ++ call_entry ∷ [])) (sym of i) store given.1.version) path);
-  })
-    where
-      at_newest : given.1.version ≡ newest
-      at_newest = ap (λ (o : Opened). o.version) parts.1
+  module _ (of : given.0.domain ≡ domain) (f : Follower) (is : f ≡ record { id = given.0; store = store; path = path; mirror = record { version = given.1.version; rows = given.1.rows } }) where
+    abbrev new_one : Follower
+    new_one = record { id = given.0; store = store; path = path; mirror = record { version = given.1.version; rows = given.1.rows } }
 
-      rows_here : given.1.rows ≡ under (trees_at known.world (history known.world (known.log ++ call_entry ∷ [])) domain store given.1.version) path
-      rows_here =
-          rows_stay known call_entry domain store path given.1.version given.1.rows (omega (arith, at_newest))
-          (ap (λ (o : Opened). o.rows) parts.1 ∙ ap (λ k. under (trees_at known.world before domain store k) path) (sym at_newest))
+    at_newest : given.1.version ≡ newest
+    at_newest = ap (λ (o : Opened). o.version) parts.1
+
+    rows_here : given.1.rows ≡ under (trees_at known.world (history known.world (known.log ++ call_entry ∷ [])) domain store given.1.version) path
+    rows_here =
+        rows_stay known call_entry domain store path given.1.version given.1.rows (omega (arith, at_newest))
+        (ap (λ (o : Opened). o.rows) parts.1 ∙ ap (λ k. under (trees_at known.world before domain store k) path) (sym at_newest))
+
+    pub new_follows : Follows (more known call_entry) f
+    new_follows = subst (Follows (more known call_entry)) (sym is) (record {
+      reached = omega (arith, at_newest, ap (λ d. length (commits (history known.world (known.log ++ call_entry ∷ [])) d)) of, more_commits known.world known.log (call_entry ∷ []) domain);
+      rows = rows_here ∙ (λ i. under (trees_at known.world (history known.world (known.log ++ call_entry ∷ [])) (sym of i) store given.1.version) path);
+    })
+
+    pub new_listener : IsMade (more known call_entry) given.0 (record { client = number; domain = domain; store = store; path = path }) → IsOwnListener (more known call_entry) number f
+    new_listener made = subst (IsOwnListener (more known call_entry) number) (sym is) (record {
+      low = omega (arith, parts.0);
+      made = made ∙ (λ i. Some (let l : Listening = record { client = number; domain = sym of i; store = store; path = path } in l));
+      version = version-push known.world known.log call_entry given.0.number ∙ ap (λ (o : Option ℕ). unwrap_or o (version before given.0.number)) brought;
+    })
 
 -- ---- a take
 
-module _ (known : Known) (number : ℕ) (f : Follower) (is : IsFollower known number f) (b : Told)
+module _ (known : Known) (number : ℕ) (f : Follower) (is : IsOwnListener known number f) (b : Told)
     (answered : reply_to known.world (history known.world known.log) number (Take f.id.number) ≡ Batch f.id.domain b) where
   abbrev take_entry : Entry
   take_entry = entry_of known number (Take f.id.number)
@@ -151,21 +163,29 @@ module _ (known : Known) (number : ℕ) (f : Follower) (is : IsFollower known nu
   brought_to : brings_to (Take f.id.number) (reply_to known.world earlier number (Take f.id.number)) f.id.number ≡ Some b.to
   brought_to = ap (λ r. brings_to (Take f.id.number) r f.id.number) answered ∙ ap (λ t. if t then Some b.to else None) (eq-eqb f.id.number f.id.number refl)
 
-  pub told_follower : (after : Follower) → Advances b f after → IsFollower (more known take_entry) number after
-  told_follower after goes =
-      let later : List Entry = known.log ++ take_entry ∷ [] in
-      let ends : b.to ≡ last = ap (λ (x : Told). x.to) told in
-      let moved : after.mirror.version ≡ last = goes.version ∙ ends in
-      let rows : after.mirror.rows ≡ under (trees last) f.path =
-      goes_on (opening_of known.world f.id.domain) (commits earlier f.id.domain) f.store f.path f.mirror.version f.mirror.rows goes.ascending is.rows own last b after.mirror.rows is.reached told goes.rows in
-      record {
-        low = subst (λ (id : ListenerId). 0 < id.number) (sym goes.id) is.low;
-        made = ap (λ (id : ListenerId). listener_at (history known.world later) id.number) goes.id
-            ∙ listener_later known.world known.log (take_entry ∷ []) f.id.number (listening_of number f) is.made
-            ∙ (λ i. Some (let l : Listening = record { client = number; domain = (sym goes.id i).domain; store = sym goes.store i; path = sym goes.path i } in l));
-        version = ap (λ (id : ListenerId). version (history known.world later) id.number) goes.id ∙ version-push known.world known.log take_entry f.id.number
-            ∙ ap (λ (o : Option ℕ). unwrap_or o (version earlier f.id.number)) brought_to ∙ sym goes.version;
-        reached = omega (arith, moved, ap (λ (id : ListenerId). length (commits (history known.world later) id.domain)) goes.id, more_commits known.world known.log (take_entry ∷ []) f.id.domain);
-        rows = rows_stay known take_entry f.id.domain f.store f.path last after.mirror.rows (omega arith) rows
-            ∙ (λ i. under (trees_at known.world (history known.world later) (sym goes.id i).domain (sym goes.store i) (sym moved i)) (sym goes.path i));
-      }
+  abbrev later : List Entry
+  later = known.log ++ take_entry ∷ []
+
+  module _ (after : Follower) (goes : Advances b f after) where
+    moved : after.mirror.version ≡ last
+    moved = goes.version ∙ ap (λ (x : Told). x.to) told
+
+    pub told_follows : Follows known f → Follows (more known take_entry) after
+    told_follows follows =
+        let rows : after.mirror.rows ≡ under (trees last) f.path =
+        goes_on (opening_of known.world f.id.domain) (commits earlier f.id.domain) f.store f.path f.mirror.version f.mirror.rows goes.ascending follows.rows own last b after.mirror.rows follows.reached told goes.rows in
+        record {
+          reached = omega (arith, moved, ap (λ (id : ListenerId). length (commits (history known.world later) id.domain)) goes.id, more_commits known.world known.log (take_entry ∷ []) f.id.domain);
+          rows = rows_stay known take_entry f.id.domain f.store f.path last after.mirror.rows (omega arith) rows
+              ∙ (λ i. under (trees_at known.world (history known.world later) (sym goes.id i).domain (sym goes.store i) (sym moved i)) (sym goes.path i));
+        }
+
+    pub told_listener : IsOwnListener (more known take_entry) number after
+    told_listener = record {
+      low = subst (λ (id : ListenerId). 0 < id.number) (sym goes.id) is.low;
+      made = ap (λ (id : ListenerId). listener_at (history known.world later) id.number) goes.id
+          ∙ listener_later known.world known.log (take_entry ∷ []) f.id.number (listening_of number f) is.made
+          ∙ (λ i. Some (let l : Listening = record { client = number; domain = (sym goes.id i).domain; store = sym goes.store i; path = sym goes.path i } in l));
+      version = ap (λ (id : ListenerId). version (history known.world later) id.number) goes.id ∙ version-push known.world known.log take_entry f.id.number
+          ∙ ap (λ (o : Option ℕ). unwrap_or o (version earlier f.id.number)) brought_to ∙ sym goes.version;
+    }

@@ -15,7 +15,7 @@ use Rattle.sal_hub.specs.Known.{Known, entry_of}
 use Rattle.sal_history.specs.World.{table_of}
 use Rattle.sal_client.specs.declared.run.ClientRun.{ClientRun as CodeRun}
 use Rattle.sal_client.specs.Clients.{Calls, IsSound, client_of}
-use Rattle.sal_client.specs.Wishes.{Makes, move_by}
+use Rattle.sal_client.specs.Wishes.{Makes, ReadBy, move_by}
 use Rattle.sal_client.specs.Runs.{Comes, Goes, MakesNext, moves_from}
 
 -- the moves from an index on
@@ -51,17 +51,14 @@ call_turn table c known known' step old between new r call called is steps =
     ap (λ m. make table known.world known.log c (onwards table known old step steps m)) called.met
     ∙ (λ k. Some (let made : Made = record { log = (sym called.entry k).log; run = record { client = sym client k; steps = steps } } in made))
 
-pub goes_on : (c : ℕ) (known known' : Known) (wish : Wish) (old between new : Client) (r : StepReply) → Makes r c known old (move_by wish) known' between → new ≡ replied r between → MakesNext c known wish old known' new
-goes_on c known known' wish old between new r makes is table =
-    let (call, called) = makes table in
-    (call_turn table c known known' (move_by wish) old between new r call called is, (entry_of known c call, refl, called.entry))
+pub goes_on : (table : SchemaTable) (c : ℕ) (known known' : Known) (wish : Wish) (old between new : Client) (r : StepReply) → Makes table r c known old (move_by wish) known' between → new ≡ replied r between → MakesNext table c known wish old known' new
+goes_on table c known known' wish old between new r (call, called) is = (call_turn table c known known' (move_by wish) old between new r call called is, (entry_of known c call, refl, called.entry))
 
 -- what a client comes to by its local steps and its call
-pub goes : (table : SchemaTable) (c : ℕ) (known known' : Known) (wish : Wish) (steps : List ScriptStep) (old mid new : CodeRun) → Comes table steps old (Some wish) mid → MakesNext c known wish (client_of mid.client) known' (client_of new.client) → new.at ≡ mid.at → IsSound known old.client → table ≡ table_of known.world 0 → Goes table true c known steps old known' new
+pub goes : (table : SchemaTable) (c : ℕ) (known known' : Known) (wish : Wish) (steps : List ScriptStep) (old mid new : CodeRun) → Comes table steps old (Some wish) mid → (ReadBy table wish → MakesNext table c known wish (client_of mid.client) known' (client_of new.client)) → new.at ≡ mid.at → IsSound known old.client → table ≡ table_of known.world 0 → Goes table true c known steps old known' new
 goes table c known known' wish steps old mid new comes makes at sound of =
-    let made = makes table in
-    (
-      ap (make table known.world known.log c) (comes.0 known sound of) ∙ made.0 (moves_from mid.at steps) ∙ (λ k. Some (let m : Made = record { log = known'.log; run = record { client = client_of new.client; steps = moves_from (sym at k) steps } } in m)),
+    let made = makes comes.2 in (
+      ap (make table known.world known.log c) (comes.0 known sound.steady of) ∙ made.0 (moves_from mid.at steps) ∙ (λ k. Some (let m : Made = record { log = known'.log; run = record { client = client_of new.client; steps = moves_from (sym at k) steps } } in m)),
       made.1,
-      subst (λ n. old.at < n) (sym at) comes.2,
+      subst (λ n. old.at < n) (sym at) comes.3,
     )

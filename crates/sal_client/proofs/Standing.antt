@@ -18,7 +18,7 @@ use Rattle.sal_hub.specs.Answers.{limit}
 use Rattle.sal_client.specs.Clients.{client_of, IsSound}
 use Rattle.sal_client.specs.Runs.{AreRuns, Goes, IsRun, Turns, answered, moves_from, replies_in, run_of, runs_of, stand_of}
 use Rattle.sal_client.specs.Wishes.{GrowsBy}
-use Rattle.sal_client.proofs.Soundness.{IsSound-more, TokensLast}
+use Rattle.sal_client.proofs.Soundness.{IsSound-other, TokensLast}
 use Rattle.sal_history.specs.World.{Domain}
 use Rattle.sal_script.specs.JsonMoves.{have_json_moves}
 use Rattle.sal_script.specs.Moves.{Move, clients_of, moves_of}
@@ -75,8 +75,8 @@ has_room known ps rs are =
 
 -- ---- other clients
 
-IsRun-other : TokensLast → (known : Known) (e : Entry) (p : List ScriptStep) (r : CodeRun) → IsRun known p r → IsRun (more known e) p r
-IsRun-other lasts known e p r is = record { sound = IsSound-more lasts known e r.client is.sound; program = is.program }
+IsRun-other : TokensLast → (known : Known) (e : Entry) (p : List ScriptStep) (r : CodeRun) → (e.client ≡ r.client.number → ⊥) → IsRun known p r → IsRun (more known e) p r
+IsRun-other lasts known e p r other is = record { sound = IsSound-other lasts known e r.client other is.sound; program = is.program }
 
 -- one client went on
 pub AreRuns-set : TokensLast → (known known' : Known) (ps : List (List ScriptStep)) (rs : List CodeRun) (c : ℕ) (p : List ScriptStep) (old new : CodeRun) → AreRuns known ps rs → GrowsBy c known known' → old.at < new.at → c < length rs → p ≡ get_or ps c p → old ≡ get_or rs c old → IsRun known' p new → new.client.number ≡ c → AreRuns known' ps (set rs c new)
@@ -94,7 +94,7 @@ AreRuns-set lasts known known' ps rs c p old new are (e, by, is) on h at_p at_ol
             let apart : i ≡ c → ⊥ = λ eq. elim differs [ inl less ↦ omega arith | inr more ↦ omega arith ] in
             let r_is : r ≡ get_or rs i r = at_r ∙ get_or-set_other rs c i new r apart in
             let was = are.each i q r (omega (arith, within, length-set rs c new)) at_q r_is in
-            (subst (λ (k : Known). IsRun k q r) (sym is) (IsRun-other lasts known e q r was.0), was.1)
+            (subst (λ (k : Known). IsRun k q r) (sym is) (IsRun-other lasts known e q r (λ own. apart (sym was.1 ∙ sym own ∙ by)) was.0), was.1)
       ];
 }
   where

@@ -16,7 +16,7 @@ use Rattle.sal_client.specs.declared.simulation.PlayFault.{PlayFault}
 use Rattle.sal_client.specs.declared.simulation.PlayFault.TheVariants.{BadOrder, NoMemory}
 use Rattle.sal_client.specs.declared.wish.Wish.{Wish}
 use Rattle.sal_client.specs.Clients.{client_of, Everywhere, IsSound}
-use Rattle.sal_client.specs.Wishes.{CanMake, GrowsBy, move_by}
+use Rattle.sal_client.specs.Wishes.{CanMake, GrowsBy, ReadBy, move_by}
 
 -- the moves that are still to come
 abbrev pub moves_from : ℕ → List ScriptStep → List Move
@@ -46,11 +46,11 @@ abbrev pub Comes : SchemaTable → List ScriptStep → CodeRun → Option Wish �
 Comes table steps old None new = Everywhere table old.client (λ known. arrive table known.world known.log (client_of old.client) (moves_from old.at steps) ≡ ended (client_of new.client))
 Comes table steps old (Some wish) new =
     Everywhere table old.client (λ known. arrive table known.world known.log (client_of old.client) (moves_from old.at steps) ≡ arrive table known.world known.log (asking wish steps new).client (asking wish steps new).steps)
-    × CanMake wish new.client × (old.at < new.at)
+    × CanMake wish new.client × ReadBy table wish × (old.at < new.at)
 
--- client c made the call that it was ready to make, whatever the schema and whatever the steps behind it
-abbrev pub MakesNext : ℕ → Known → Wish → Client → Known → Client → Type 0
-MakesNext c known wish old known' new = (table : SchemaTable) →
+-- client c made the call that it was ready to make, whatever the steps behind it
+abbrev pub MakesNext : SchemaTable → ℕ → Known → Wish → Client → Known → Client → Type 0
+MakesNext table c known wish old known' new =
     ((steps : List Move) → go table known.world known.log c (record { client = old; steps = move_by wish ∷ steps }) ≡ Some (record { log = known'.log; run = record { client = new; steps = steps } }))
     × GrowsBy c known known'
 

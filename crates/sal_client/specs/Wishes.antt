@@ -1,15 +1,16 @@
 -- The shared calls that clients are ready to make, and what comes of them.
-use Rattle.std.specs.Prelude.{◌≡◌, ◌⊎◌, ◌≤◌, ℕ, IsSome, length, Option, None, Some, Result, Ok, Err}
+use Rattle.std.specs.Prelude.{◌≡◌, ◌⊎◌, ◌≤◌, ℕ, IsSome, length, Option, None, Some, Result, Ok, Err, true}
 use Rattle.sal_rows.specs.declared.outcome.CallFault.{CallFault}
 use Rattle.sal_rows.specs.declared.outcome.CallFault.TheVariants as fault
 use Rattle.sal_history.specs.declared.call.Call.{Call}
 use Rattle.sal_history.specs.declared.call.Entry.{Entry}
 use Rattle.sal_schema.specs.declared.table.SchemaTable.{SchemaTable}
+use Rattle.sal_pathtext.specs.Read.{read_path}
 use Rattle.sal_script.specs.Moves as asked
 use Rattle.sal_script.specs.Moves.{Move}
 use Rattle.sal_script.specs.declared.reply.StepReply.{StepReply}
 use Rattle.sal_script.specs.declared.reply.StepRefusal.{StepRefusal}
-use Rattle.sal_script.specs.Play.{Client, local, meet, refused, replied}
+use Rattle.sal_script.specs.Play.{Client, has_domain, local, meet, refused, replied}
 use Rattle.sal_hub.specs.Answers.{limit}
 use Rattle.sal_hub.specs.Known.{Known, more}
 use Rattle.sal_client.specs.declared.client.ClientState.{ClientState}
@@ -17,7 +18,7 @@ use Rattle.sal_client.specs.declared.client.Standing.TheVariants.{Empty, Writabl
 use Rattle.sal_client.specs.declared.wish.RunFault.{RunFault}
 use Rattle.sal_client.specs.declared.wish.RunFault.TheVariants.{HistoryFull, NoMemory}
 use Rattle.sal_client.specs.declared.wish.Wish.{Wish}
-use Rattle.sal_client.specs.declared.wish.Wish.TheVariants.{Begin, Submit, Cancel, Settle, OpenChain, ChainBegin, CloseChain, Pump, Mark, After}
+use Rattle.sal_client.specs.declared.wish.Wish.TheVariants.{Begin, Submit, Cancel, Settle, OpenChain, ChainBegin, CloseChain, Pump, Listen, Take, Unlisten, Mark, After}
 use Rattle.sal_client.specs.Clients.{Calls, Everywhere, client_of, opened, standing_of}
 use Rattle.sal_client.specs.Slots.{held}
 
@@ -31,6 +32,9 @@ move_by (OpenChain chain domain) = asked.OpenChain chain domain
 move_by (ChainBegin chain slot mode) = asked.ChainBegin chain slot mode
 move_by (CloseChain chain) = asked.CloseChain chain
 move_by Pump = asked.Pump
+move_by (Listen slot target) = asked.Listen slot target.domain target.store target.text.value
+move_by (Take slot) = asked.Take slot
+move_by (Unlisten slot) = asked.Unlisten slot
 move_by (Mark mark) = asked.Mark mark
 move_by (After mark) = asked.After mark
 
@@ -41,22 +45,29 @@ CanMake (Cancel slot) c = standing_of (opened c slot) ≡ Empty → ⊥
 CanMake (Settle slot) c = IsSome (held c.receipts slot)
 CanMake (ChainBegin chain slot mode) c = IsSome (held c.chains chain)
 CanMake (CloseChain chain) c = IsSome (held c.chains chain)
+CanMake (Take slot) c = IsSome (held c.listeners slot)
+CanMake (Unlisten slot) c = IsSome (held c.listeners slot)
 CanMake wish c = Unit {0}
+
+-- what was read for the call was read by this schema, over a domain that the script has
+abbrev pub ReadBy : SchemaTable → Wish → Type 0
+ReadBy table (Listen slot target) = (read_path table target.text.value ≡ Ok target.path) × (has_domain target.domain ≡ true)
+ReadBy table wish = Unit {0}
 
 -- the step asks for this call, or is refused over whatever log
 abbrev pub Wants : SchemaTable → ClientState → Move → Result Wish StepRefusal → Type 0
-Wants table c step (Ok wish) = (step ≡ move_by wish) × CanMake wish c
+Wants table c step (Ok wish) = (step ≡ move_by wish) × CanMake wish c × ReadBy table wish
 Wants table c step (Err refusal) = (known : Known) → meet table known.world known.log (client_of c) step ≡ refused refusal (client_of c)
 
 -- The client answered the step by itself, and the reply is among its replies; or the step asks for a call, and nothing has
 -- changed.
 abbrev pub Meets : SchemaTable → ClientState → Move → Option Wish → ClientState → Type 0
 Meets table old step None new = Everywhere table old (λ known. (r : StepReply) × (between : Client) × (meet table known.world known.log (client_of old) step ≡ local r between) × (client_of new ≡ replied r between))
-Meets table old step (Some wish) new = (step ≡ move_by wish) × CanMake wish new × (client_of new ≡ client_of old)
+Meets table old step (Some wish) new = (step ≡ move_by wish) × CanMake wish new × ReadBy table wish × (client_of new ≡ client_of old)
 
--- a shared call was made, whatever the reader's schema; the reply is not yet among the replies
-abbrev pub Makes : StepReply → ℕ → Known → Client → Move → Known → Client → Type 0
-Makes r c known old step known' new = (table : SchemaTable) → (call : Call) × Calls table r c known old step known' new call
+-- a shared call was made; the reply is not yet among the replies
+abbrev pub Makes : SchemaTable → StepReply → ℕ → Known → Client → Move → Known → Client → Type 0
+Makes table r c known old step known' new = (call : Call) × Calls table r c known old step known' new call
 
 -- one entry more, of client c
 abbrev pub GrowsBy : ℕ → Known → Known → Type 0

@@ -1,5 +1,6 @@
 //! From a step to the shared call that it asks for, and from that call to its answer.
 ghost use Rattle.std.specs.Prelude.{◌≡◌, IfOk, IfErr, OnOk, false};
+ghost use Rattle.sal_schema.specs.declared.table.SchemaTable.{SchemaTable};
 ghost use Rattle.sal_script.specs.Moves.{ChainBegin, Cancel, CloseChain, Settle, Submit, move_of};
 ghost use Rattle.sal_client.specs.Clients.{is_local};
 
@@ -15,7 +16,7 @@ use std::alloc::Global;
 
 impl ClientState {
     ghost use Rattle.sal_client.specs.Clients.{client_of, IsSound, Same};
-    ghost use Rattle.sal_client.specs.Wishes.{CanMake, Makes, Stops, Wants, move_by};
+    ghost use Rattle.sal_client.specs.Wishes.{CanMake, GrowsAtMost, Makes, ReadBy, Stops, Wants, move_by};
 
     /// The shared call that the step asks for, or why it is refused. It takes no turn at a hub.
     pub(crate) fn wish_of(
@@ -45,6 +46,14 @@ impl ClientState {
             }
             ScriptStep::CloseChain { chain } => Ok(self.close_chain_wish(reader, *chain)),
             ScriptStep::Pump => Ok(Ok(Wish::Pump)),
+            ScriptStep::Listen {
+                listener,
+                domain,
+                store,
+                path,
+            } => self.listen_wish(alloc, reader, *listener, *domain, *store, path),
+            ScriptStep::Take { listener } => Ok(self.take_wish(reader, *listener)),
+            ScriptStep::Unlisten { listener } => Ok(self.unlisten_wish(reader, *listener)),
             ScriptStep::Mark { mark } => Ok(Ok(Wish::Mark { mark: *mark })),
             ScriptStep::After { mark } => Ok(Ok(Wish::After { mark: *mark })),
             _ => unreachable!(),
@@ -118,9 +127,10 @@ impl ClientState {
     ) -> Result<StepReply, RunFault>
         requires sound { IsSound hub.old self.old }
         requires can { CanMake wish.now self.old }
-        ensures answers { IfOk result (λ r. Makes r self.old.number hub.old (client_of self.old) (move_by wish.now) hub.new (client_of self.new)) }
+        ensures answers { IfOk result (λ r. (table : SchemaTable) → ReadBy table wish.now → Makes table r self.old.number hub.old (client_of self.old) (move_by wish.now) hub.new (client_of self.new)) }
         ensures sound { OnOk result (IsSound hub.new self.new) }
         ensures same { OnOk result (Same self.old self.new) }
+        ensures grows { GrowsAtMost self.old.number hub.old hub.new }
         ensures stops { IfErr result (Stops self.old.number hub.old hub.new) }
     {
         match wish {
@@ -134,6 +144,9 @@ impl ClientState {
             }
             Wish::CloseChain { chain } => self.close_chain(alloc, hub, *chain),
             Wish::Pump => self.pump(alloc, hub),
+            Wish::Listen { slot, target } => self.listen(alloc, hub, *slot, target),
+            Wish::Take { slot } => self.take(alloc, hub, *slot),
+            Wish::Unlisten { slot } => self.unlisten(alloc, hub, *slot),
             Wish::Mark { mark } => self.mark(alloc, hub, *mark),
             Wish::After { mark } => self.after(alloc, hub, *mark),
         }

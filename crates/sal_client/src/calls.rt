@@ -1,6 +1,7 @@
 //! The shared calls of a client for its transactions and receipts.
 ghost use Rattle.std.specs.Prelude.{◌≡◌, IfOk, IfErr, IsSome, OnOk};
 ghost use Rattle.sal_hub.specs.Tokens.{begun_of};
+ghost use Rattle.sal_schema.specs.declared.table.SchemaTable.{SchemaTable};
 ghost use Rattle.sal_script.specs.Moves.{Begin, Submit, Cancel, Settle};
 ghost use Rattle.sal_client.specs.Slots.{held};
 ghost use Rattle.sal_client.specs.Wishes.{IsStop};
@@ -66,7 +67,7 @@ impl ClientState {
         mode: Mode,
     ) -> Result<StepReply, RunFault>
         requires sound { IsSound hub.old self.old }
-        ensures answers { IfOk result (λ r. Makes r self.old.number hub.old (client_of self.old) (Begin slot domain mode) hub.new (client_of self.new)) }
+        ensures answers { IfOk result (λ r. (table : SchemaTable) → Makes table r self.old.number hub.old (client_of self.old) (Begin slot domain mode) hub.new (client_of self.new)) }
         ensures sound { OnOk result (IsSound hub.new self.new) }
         ensures same { OnOk result (Same self.old self.new) }
         ensures stops { IfErr result (Stops self.old.number hub.old hub.new) }
@@ -94,7 +95,7 @@ impl ClientState {
     ) -> Result<StepReply, RunFault>
         requires sound { IsSound hub.old self.old }
         requires writable { standing_of (opened self.old slot) ≡ Standing.Writable }
-        ensures answers { IfOk result (λ r. Makes r self.old.number hub.old (client_of self.old) (Submit slot) hub.new (client_of self.new)) }
+        ensures answers { IfOk result (λ r. (table : SchemaTable) → Makes table r self.old.number hub.old (client_of self.old) (Submit slot) hub.new (client_of self.new)) }
         ensures sound { OnOk result (IsSound hub.new self.new) }
         ensures same { OnOk result (Same self.old self.new) }
         ensures stops { IfErr result (Stops self.old.number hub.old hub.new) }
@@ -127,7 +128,7 @@ impl ClientState {
     ) -> Result<StepReply, RunFault>
         requires sound { IsSound hub.old self.old }
         requires filled { standing_of (opened self.old slot) ≡ Standing.Empty → ⊥ }
-        ensures answers { IfOk result (λ r. Makes r self.old.number hub.old (client_of self.old) (Cancel slot) hub.new (client_of self.new)) }
+        ensures answers { IfOk result (λ r. (table : SchemaTable) → Makes table r self.old.number hub.old (client_of self.old) (Cancel slot) hub.new (client_of self.new)) }
         ensures sound { OnOk result (IsSound hub.new self.new) }
         ensures same { OnOk result (Same self.old self.new) }
         ensures stops { IfErr result (Stops self.old.number hub.old hub.new) }
@@ -155,7 +156,7 @@ impl ClientState {
     ) -> Result<StepReply, RunFault>
         requires sound { IsSound hub.old self.now }
         requires filled { IsSome (held self.now.receipts slot) }
-        ensures answers { IfOk result (λ r. Makes r self.now.number hub.old (client_of self.now) (Settle slot) hub.new (client_of self.now)) }
+        ensures answers { IfOk result (λ r. (table : SchemaTable) → Makes table r self.now.number hub.old (client_of self.now) (Settle slot) hub.new (client_of self.now)) }
         ensures sound { OnOk result (IsSound hub.new self.now) }
         ensures stops { IfErr result (Stops self.now.number hub.old hub.new) }
     {

@@ -9,6 +9,7 @@ ghost use Rattle.sal_script.specs.Play.{local, new_client};
 ghost use Rattle.sal_script.specs.Play as play_spec;
 
 use crate::deed::Deed;
+use crate::follower::Follower;
 use crate::reader::Reader;
 use crate::slots::{Slots, empty_slots, look_at};
 use crate::wish::Wish;
@@ -33,6 +34,7 @@ pub struct ClientState {
     pub transactions: Slots<Tx>,
     pub receipts: Slots<Receipt>,
     pub chains: Slots<Chain>,
+    pub listeners: Slots<Follower>,
     pub replies: Vec<StepReply>,
 }
 
@@ -42,7 +44,7 @@ pub(crate) fn refused(refusal: StepRefusal) -> StepReply
     StepReply::Refused { refusal }
 }
 
-// Whether the client answers the step by its own transactions.
+// Whether the client answers the step by its own transactions, or by the rows of a listener.
 fn is_local(step: &ScriptStep) -> bool
     ensures { result ≡ is_local (move_of step.now) }
 {
@@ -53,6 +55,7 @@ fn is_local(step: &ScriptStep) -> bool
             | ScriptStep::Delete { .. }
             | ScriptStep::Read { .. }
             | ScriptStep::Exists { .. }
+            | ScriptStep::Mirror { .. }
     )
 }
 
@@ -87,6 +90,7 @@ impl ClientState {
             transactions: empty_slots(alloc),
             receipts: empty_slots(alloc),
             chains: empty_slots(alloc),
+            listeners: empty_slots(alloc),
             replies: Vec::new(alloc),
         }
     }
@@ -101,7 +105,7 @@ impl ClientState {
         }
     }
 
-    /// Answers the step by the client's own transactions or refuses it; or else says which shared call it asks for, and
+    /// Answers the step by what the client has or refuses it; or else says which shared call it asks for, and
     /// changes nothing.
     pub(crate) fn meet(
         &mut self,
@@ -129,7 +133,7 @@ impl ClientState {
         }
     }
 
-    // Answers a write or a look in one of the client's transactions.
+    // Answers a write or a look in one of the client's transactions, or a look at the rows of a listener.
     fn answer(
         &mut self,
         alloc: Global,
@@ -193,6 +197,7 @@ impl ClientState {
             ScriptStep::Exists { slot, store, path } => {
                 self.exists(alloc, reader, *slot, *store, path.as_str())
             }
+            ScriptStep::Mirror { listener } => self.mirror(reader, *listener),
             _ => unreachable!(),
         }
     }

@@ -24,6 +24,7 @@ mod chains;
 mod client;
 mod deed;
 mod follower;
+mod listeners;
 mod looks;
 mod marks;
 mod reader;

@@ -1,6 +1,7 @@
 //! The shared calls of a client that need none of its slots: pumps and marks.
 ghost use Rattle.std.specs.Prelude.{◌≡◌, IfOk, IfErr, OnOk};
 ghost use Rattle.sal_hub.specs.Seen.{pump_reply, seen_reply};
+ghost use Rattle.sal_schema.specs.declared.table.SchemaTable.{SchemaTable};
 ghost use Rattle.sal_script.specs.Moves.{Pump, Mark, After};
 
 use crate::calls::{called, refused_call};
@@ -43,7 +44,7 @@ impl ClientState {
     /// Decides the first receipt that is pending.
     pub(crate) fn pump(&self, alloc: Global, hub: &mut Hub) -> Result<StepReply, RunFault>
         requires sound { IsSound hub.old self.now }
-        ensures answers { IfOk result (λ r. Makes r self.now.number hub.old (client_of self.now) Pump hub.new (client_of self.now)) }
+        ensures answers { IfOk result (λ r. (table : SchemaTable) → Makes table r self.now.number hub.old (client_of self.now) Pump hub.new (client_of self.now)) }
         ensures sound { OnOk result (IsSound hub.new self.now) }
         ensures stops { IfErr result (Stops self.now.number hub.old hub.new) }
     {
@@ -65,7 +66,7 @@ impl ClientState {
         mark: u32,
     ) -> Result<StepReply, RunFault>
         requires sound { IsSound hub.old self.now }
-        ensures answers { IfOk result (λ r. Makes r self.now.number hub.old (client_of self.now) (Mark mark) hub.new (client_of self.now)) }
+        ensures answers { IfOk result (λ r. (table : SchemaTable) → Makes table r self.now.number hub.old (client_of self.now) (Mark mark) hub.new (client_of self.now)) }
         ensures sound { OnOk result (IsSound hub.new self.now) }
         ensures stops { IfErr result (Stops self.now.number hub.old hub.new) }
     {
@@ -87,7 +88,7 @@ impl ClientState {
         mark: u32,
     ) -> Result<StepReply, RunFault>
         requires sound { IsSound hub.old self.now }
-        ensures answers { IfOk result (λ r. Makes r self.now.number hub.old (client_of self.now) (After mark) hub.new (client_of self.now)) }
+        ensures answers { IfOk result (λ r. (table : SchemaTable) → Makes table r self.now.number hub.old (client_of self.now) (After mark) hub.new (client_of self.now)) }
         ensures sound { OnOk result (IsSound hub.new self.now) }
         ensures stops { IfErr result (Stops self.now.number hub.old hub.new) }
     {

@@ -25,7 +25,7 @@ pub struct ClientRun {
 impl ClientRun {
     ghost use Rattle.sal_client.specs.Clients.{client_of, HasSchema, IsSound, StaysSound};
     ghost use Rattle.sal_client.specs.Runs.{Comes, Goes, IsProgram, IsRun, MakesNext, replies_in};
-    ghost use Rattle.sal_client.specs.Wishes.{CanMake, GrowsAtMost, Stops};
+    ghost use Rattle.sal_client.specs.Wishes.{CanMake, GrowsAtMost, ReadBy, Stops};
 
     /// A client at the beginning of its program.
     pub fn new(alloc: Global, number: u32) -> Self
@@ -91,7 +91,7 @@ impl ClientRun {
     pub fn make(&mut self, alloc: Global, hub: &mut Hub, wish: &Wish) -> Result<(), RunFault>
         requires sound { IsSound hub.old self.old.client }
         requires can { CanMake wish.now self.old.client }
-        ensures makes { OnOk result (MakesNext self.old.client.number hub.old wish.now (client_of self.old.client) hub.new (client_of self.new.client)) }
+        ensures makes { OnOk result ((table : SchemaTable) → ReadBy table wish.now → MakesNext table self.old.client.number hub.old wish.now (client_of self.old.client) hub.new (client_of self.new.client)) }
         ensures sound { OnOk result (IsSound hub.new self.new.client) }
         ensures at { OnOk result (self.new.at ≡ self.old.at) }
         ensures number { OnOk result (self.new.client.number ≡ self.old.client.number) }
@@ -99,10 +99,8 @@ impl ClientRun {
         ensures stops { IfErr result (Stops self.old.client.number hub.old hub.new) }
     {
         let reply = self.client.call(alloc, hub, wish)?;
-        match self.client.replies.push(reply) {
-            Ok(()) => Ok(()),
-            Err(_) => Err(RunFault::NoMemory),
-        }
+        self.client.replies.push(reply)?;
+        Ok(())
     }
 
     /// Goes on to the next shared call and makes it. False where the program ended first.

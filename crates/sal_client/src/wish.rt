@@ -1,9 +1,21 @@
 //! The shared calls that steps ask for.
 use sal_rows::Mode;
-use sal_types::NoMemory;
+use sal_types::{NoMemory, Path, Store, Str};
+use std::alloc::AllocFailed;
+use std::snapshot::Snapshot;
+
+/// To what a client wants to listen: a store of the domain, and a path with the text that it was read from. The text is there for
+/// contracts alone.
+#[derive(Drop)]
+pub struct Target {
+    pub domain: u32,
+    pub store: Store,
+    pub text: Snapshot<Str>,
+    pub path: Path,
+}
 
 /// A shared call that a client is ready to make. What it needs of a slot, as a transaction or a receipt, stays there until then.
-#[derive(Clone, Copy)]
+#[derive(Drop)]
 pub enum Wish {
     /// Begins a transaction of the domain into the slot.
     Begin {
@@ -29,6 +41,12 @@ pub enum Wish {
     CloseChain { chain: u8 },
     /// Decides the first receipt that is pending.
     Pump,
+    /// Listens there; the listener goes into the listener slot.
+    Listen { slot: u8, target: Target },
+    /// Takes what changed for the listener in the slot.
+    Take { slot: u8 },
+    /// Removes the listener in the slot.
+    Unlisten { slot: u8 },
     /// Leaves the mark in the log.
     Mark { mark: u32 },
     /// Asks whether the mark was left.
@@ -51,6 +69,17 @@ impl From<NoMemory> for RunFault {
     ghost from_gives = { λ _ e. e ≡ Wanting };
 
     fn from(_refused: NoMemory) -> RunFault {
+        RunFault::NoMemory
+    }
+}
+
+impl<T: Drop> From<AllocFailed<T>> for RunFault {
+    ghost use Rattle.std.specs.Prelude.{◌≡◌};
+    ghost use Rattle.sal_client.specs.declared.wish.RunFault.TheVariants.{NoMemory as Wanting};
+
+    ghost from_gives = { λ _ e. e ≡ Wanting };
+
+    fn from(_refused: AllocFailed<T>) -> RunFault {
         RunFault::NoMemory
     }
 }

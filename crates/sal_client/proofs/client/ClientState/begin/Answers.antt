@@ -30,9 +30,9 @@ returns-in_ok-fill_slot-in-Ok-clause-sound c =
     let known = c.args.hub.now in
     let tx = c.in-Ok.tx in
     let made = c.in-Ok.ensures.answer in
-    let was : IsSound c.begin.new.self old = subst (λ (k : Known). IsSound k old) (sym made.log) (IsSound-more (c.tokens_last.ensures.begun, c.tokens_last.ensures.given, c.tokens_last.ensures.opened) known (entry_of known old.number (BeginCall c.args.domain c.args.mode)) old c.requires.sound) in
+    let was : IsSound c.begin.new.self old = subst (λ (k : Known). IsSound k old) (sym made.log) (IsSound-more (c.tokens_last.ensures.begun, c.tokens_last.ensures.given, c.tokens_last.ensures.opened) known (entry_of known old.number (BeginCall c.args.domain c.args.mode)) old refl c.requires.sound) in
     let own : IsOwn c.begin.new.self tx = record { token = c.in-Ok.ensures.token; own = c.in-Ok.ensures.fresh.domain ∙ live_zero c.args.domain _ (begun_of tx).base_commit (begun_of tx).on made.reply } in
-    IsSound-filled c.begin.new.self old _ c.args.slot tx was own c.in_ok-fill_slot-in-Ok.ensures refl refl
+    IsSound-filled c.begin.new.self old _ c.args.slot tx was own c.in_ok-fill_slot-in-Ok.ensures refl refl (refl, refl)
 
 pub returns-in_ok-reply-in-Err-clause-answers : goal.returns-in_ok-reply-in-Err-clause-answers
 returns-in_ok-reply-in-Err-clause-answers c table =
@@ -51,4 +51,4 @@ returns-in_ok-reply-in-Err-clause-sound c =
     let e = entry_of known old.number (BeginCall c.args.domain c.args.mode) in
     let fails = c.in-Err.ensures.answer in
     let made = made_refused known c.begin.new.self e c.in-Err.fault fails c.in_ok-reply-in-Err.ensures.full c.in_ok-reply-in-Err.ensures.memory in
-    subst (λ (k : Known). IsSound k old) (sym made.log) (IsSound-more (c.tokens_last.ensures.begun, c.tokens_last.ensures.given, c.tokens_last.ensures.opened) known e old c.requires.sound)
+    subst (λ (k : Known). IsSound k old) (sym made.log) (IsSound-more (c.tokens_last.ensures.begun, c.tokens_last.ensures.given, c.tokens_last.ensures.opened) known e old refl c.requires.sound)

@@ -26,5 +26,5 @@ pub returns-in-Ok-clause-sound : goal.returns-in-Ok-clause-sound
 returns-in-Ok-clause-sound c =
     let old = c.args.self.now in
     let known = c.args.hub.now in
-    let was : IsSound c.cancel.new.self old = subst (λ (k : Known). IsSound k old) (sym c.in-Ok.ensures.answer.log) (IsSound-more (c.tokens_last.ensures.begun, c.tokens_last.ensures.given, c.tokens_last.ensures.opened) known (entry_of known old.number (CancelCall (begun_of c.in-Some.tx).place)) old c.requires.sound) in
-    IsSound-emptied c.cancel.new.self old _ c.args.slot was c.take_slot.ensures.after refl refl
+    let was : IsSound c.cancel.new.self old = subst (λ (k : Known). IsSound k old) (sym c.in-Ok.ensures.answer.log) (IsSound-more (c.tokens_last.ensures.begun, c.tokens_last.ensures.given, c.tokens_last.ensures.opened) known (entry_of known old.number (CancelCall (begun_of c.in-Some.tx).place)) old refl c.requires.sound) in
+    IsSound-emptied c.cancel.new.self old _ c.args.slot was c.take_slot.ensures.after refl refl (refl, refl)

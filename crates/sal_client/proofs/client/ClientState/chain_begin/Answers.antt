@@ -38,9 +38,9 @@ returns-in_ok-fill_slot-in-Ok-clause-sound c =
     let chain = c.in-Some.chain.now in
     let tx = c.in-Ok.tx in
     let made = c.in-Ok.ensures.answer in
-    let was : IsSound c.chain_begin.new.self old = subst (λ (k : Known). IsSound k old) (sym made.log) (IsSound-more (c.tokens_last.ensures.begun, c.tokens_last.ensures.given, c.tokens_last.ensures.opened) known (entry_of known old.number (ChainBeginCall chain.id c.args.mode)) old c.requires.sound) in
+    let was : IsSound c.chain_begin.new.self old = subst (λ (k : Known). IsSound k old) (sym made.log) (IsSound-more (c.tokens_last.ensures.begun, c.tokens_last.ensures.given, c.tokens_last.ensures.opened) known (entry_of known old.number (ChainBeginCall chain.id c.args.mode)) old refl c.requires.sound) in
     let own : IsOwn c.chain_begin.new.self tx = record { token = c.in-Ok.ensures.token; own = c.in-Ok.ensures.fresh.domain ∙ (c.requires.sound.chains c.args.from chain (sym c.in-Some.ensures)).own } in
-    IsSound-filled c.chain_begin.new.self old _ c.args.slot tx was own c.in_ok-fill_slot-in-Ok.ensures refl refl
+    IsSound-filled c.chain_begin.new.self old _ c.args.slot tx was own c.in_ok-fill_slot-in-Ok.ensures refl refl (refl, refl)
 
 pub returns-in_ok-reply-in-Err-clause-answers : goal.returns-in_ok-reply-in-Err-clause-answers
 returns-in_ok-reply-in-Err-clause-answers c table =
@@ -61,4 +61,4 @@ returns-in_ok-reply-in-Err-clause-sound c =
     let e = entry_of known old.number (ChainBeginCall c.in-Some.chain.now.id c.args.mode) in
     let fails = c.in-Err.ensures.answer in
     let made = made_refused known c.chain_begin.new.self e c.in-Err.fault fails c.in_ok-reply-in-Err.ensures.full c.in_ok-reply-in-Err.ensures.memory in
-    subst (λ (k : Known). IsSound k old) (sym made.log) (IsSound-more (c.tokens_last.ensures.begun, c.tokens_last.ensures.given, c.tokens_last.ensures.opened) known e old c.requires.sound)
+    subst (λ (k : Known). IsSound k old) (sym made.log) (IsSound-more (c.tokens_last.ensures.begun, c.tokens_last.ensures.given, c.tokens_last.ensures.opened) known e old refl c.requires.sound)

@@ -28,7 +28,7 @@ pub returns-in-Ok-clause-sound : goal.returns-in-Ok-clause-sound
 returns-in-Ok-clause-sound c =
     let client = c.args.self.now in
     let known = c.args.hub.now in
-    subst (λ (k : Known). IsSound k client) (sym c.in-Ok.ensures.answer.log) (IsSound-more (c.tokens_last.ensures.begun, c.tokens_last.ensures.given, c.tokens_last.ensures.opened) known (entry_of known client.number (CloseChainCall c.in-Some.chain.now.id)) client c.requires.sound)
+    subst (λ (k : Known). IsSound k client) (sym c.in-Ok.ensures.answer.log) (IsSound-more (c.tokens_last.ensures.begun, c.tokens_last.ensures.given, c.tokens_last.ensures.opened) known (entry_of known client.number (CloseChainCall c.in-Some.chain.now.id)) client refl c.requires.sound)
 
 pub returns-in_ok-reply-in-Err-clause-answers : goal.returns-in_ok-reply-in-Err-clause-answers
 returns-in_ok-reply-in-Err-clause-answers c table =
@@ -49,4 +49,4 @@ returns-in_ok-reply-in-Err-clause-sound c =
     let e = entry_of known client.number (CloseChainCall c.in-Some.chain.now.id) in
     let fails = c.in-Err.ensures.answer in
     let made = made_refused known c.close_chain.new.self e c.in-Err.fault fails c.in_ok-reply-in-Err.ensures.full c.in_ok-reply-in-Err.ensures.memory in
-    subst (λ (k : Known). IsSound k client) (sym made.log) (IsSound-more (c.tokens_last.ensures.begun, c.tokens_last.ensures.given, c.tokens_last.ensures.opened) known e client c.requires.sound)
+    subst (λ (k : Known). IsSound k client) (sym made.log) (IsSound-more (c.tokens_last.ensures.begun, c.tokens_last.ensures.given, c.tokens_last.ensures.opened) known e client refl c.requires.sound)

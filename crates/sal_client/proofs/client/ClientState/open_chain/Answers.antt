@@ -33,9 +33,9 @@ returns-in_ok-fill_slot-in-Ok-clause-sound c =
     let known = c.args.hub.now in
     let chain = c.in-Ok.chain in
     let made = c.in-Ok.ensures.answer in
-    let was : IsSound c.open_chain.new.self old = subst (λ (k : Known). IsSound k old) (sym made.log) (IsSound-more (c.tokens_last.ensures.begun, c.tokens_last.ensures.given, c.tokens_last.ensures.opened) known (entry_of known old.number (OpenChainCall c.args.domain)) old c.requires.sound) in
+    let was : IsSound c.open_chain.new.self old = subst (λ (k : Known). IsSound k old) (sym made.log) (IsSound-more (c.tokens_last.ensures.begun, c.tokens_last.ensures.given, c.tokens_last.ensures.opened) known (entry_of known old.number (OpenChainCall c.args.domain)) old refl c.requires.sound) in
     let own : IsOwnChain c.open_chain.new.self chain = record { token = c.in-Ok.ensures.given; own = c.in-Ok.ensures.domain ∙ opened_zero c.args.domain _ chain.id made.reply } in
-    IsSound-linked c.open_chain.new.self old _ c.args.slot chain was own refl refl c.in_ok-fill_slot-in-Ok.ensures
+    IsSound-linked c.open_chain.new.self old _ c.args.slot chain was own refl refl c.in_ok-fill_slot-in-Ok.ensures (refl, refl)
 
 pub returns-in_ok-reply-in-Err-clause-answers : goal.returns-in_ok-reply-in-Err-clause-answers
 returns-in_ok-reply-in-Err-clause-answers c table =
@@ -54,4 +54,4 @@ returns-in_ok-reply-in-Err-clause-sound c =
     let e = entry_of known old.number (OpenChainCall c.args.domain) in
     let fails = c.in-Err.ensures.answer in
     let made = made_refused known c.open_chain.new.self e c.in-Err.fault fails c.in_ok-reply-in-Err.ensures.full c.in_ok-reply-in-Err.ensures.memory in
-    subst (λ (k : Known). IsSound k old) (sym made.log) (IsSound-more (c.tokens_last.ensures.begun, c.tokens_last.ensures.given, c.tokens_last.ensures.opened) known e old c.requires.sound)
+    subst (λ (k : Known). IsSound k old) (sym made.log) (IsSound-more (c.tokens_last.ensures.begun, c.tokens_last.ensures.given, c.tokens_last.ensures.opened) known e old refl c.requires.sound)

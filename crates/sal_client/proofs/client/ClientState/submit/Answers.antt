@@ -36,8 +36,8 @@ returns-in_ok-fill_slot-in-Ok-clause-sound c =
     let old = c.args.self.now in
     let known = c.args.hub.now in
     let tx = c.in-Some-Write.tx in
-    let was : IsSound c.submit.new.self old = subst (λ (k : Known). IsSound k old) (sym c.in-Ok.ensures.answer.log) (IsSound-more (c.tokens_last.ensures.begun, c.tokens_last.ensures.given, c.tokens_last.ensures.opened) known (entry_of known old.number (SubmitCall tx.begun.place tx.changes)) old c.requires.sound) in
-    IsSound-submitted c.submit.new.self old _ c.args.slot c.in-Ok.receipt was c.in-Ok.ensures.given c.take_slot.ensures.after c.in_ok-fill_slot-in-Ok.ensures refl
+    let was : IsSound c.submit.new.self old = subst (λ (k : Known). IsSound k old) (sym c.in-Ok.ensures.answer.log) (IsSound-more (c.tokens_last.ensures.begun, c.tokens_last.ensures.given, c.tokens_last.ensures.opened) known (entry_of known old.number (SubmitCall tx.begun.place tx.changes)) old refl c.requires.sound) in
+    IsSound-submitted c.submit.new.self old _ c.args.slot c.in-Ok.receipt was c.in-Ok.ensures.given c.take_slot.ensures.after c.in_ok-fill_slot-in-Ok.ensures refl (refl, refl)
 
 -- a transaction that was refused is put back
 restored : (c : goal.In_ok-fill_slot-in-Err) → held c.fill_slot-in-Err.new.slots ≡ held c.args.self.now.transactions
@@ -71,5 +71,5 @@ returns-in_ok-fill_slot-in-Err-clause-sound c =
     let fault = c.in-Err.fault in
     let fails = c.in-Err.ensures.answer.1 in
     let made = made_refused known c.submit.new.self e fault fails c.in_ok-reply-in-Err.ensures.full c.in_ok-reply-in-Err.ensures.memory in
-    let was : IsSound c.submit.new.self old = subst (λ (k : Known). IsSound k old) (sym made.log) (IsSound-more (c.tokens_last.ensures.begun, c.tokens_last.ensures.given, c.tokens_last.ensures.opened) known e old c.requires.sound) in
-    IsSound-same c.submit.new.self old _ was (restored c) refl refl
+    let was : IsSound c.submit.new.self old = subst (λ (k : Known). IsSound k old) (sym made.log) (IsSound-more (c.tokens_last.ensures.begun, c.tokens_last.ensures.given, c.tokens_last.ensures.opened) known e old refl c.requires.sound) in
+    IsSound-same c.submit.new.self old _ was (restored c) refl refl (refl, refl)

@@ -8,9 +8,10 @@ use Rattle.sal_tx.specs.declared.tx.Tx.TheVariants.{Write}
 use Rattle.sal_hub.specs.Tokens.{begun_of}
 use Rattle.sal_script.specs.Play.{Open, write_op}
 use Rattle.sal_client.specs.Slots.{held}
-use Rattle.sal_client.specs.Clients.{IsOwn, client_of, open_of, opened}
+use Rattle.sal_hub.specs.Known.{Known}
+use Rattle.sal_client.specs.Clients.{IsOwn, IsSteady, client_of, open_of, opened}
 use Rattle.sal_client.proofs.Places.{changed, each_filled, seen-filled}
-use Rattle.sal_client.proofs.Soundness.{IsSound-filled}
+use Rattle.sal_client.proofs.Soundness.{IsSound-filled, IsSteady-filled}
 use Rattle.sal_client.proofs.Writing.{IsOwn-written, begun-written, written}
 use Rattle.sal_client.proofs.client.ClientState.write_op.Goals as goal
 
@@ -30,13 +31,17 @@ returns-clause-answers c known is of tx at =
     (seen-filled open_of (held old.transactions) (held c.fill_slot.new.slots) c.args.slot (Write c.write.new.self) filled)
 
 pub returns-clause-sound : goal.returns-clause-sound
-returns-clause-sound c known is =
+returns-clause-sound c =
     let old = c.args.self.now in
     let taken = c.in-Some-Write.taken in
     let holds : held old.transactions c.args.slot ≡ Some (Write taken) = sym c.in-Some-Write.ensures.value ∙ ap Some c.in-Some-Write.field-0-is in
-    let own : IsOwn known (Write taken) = is.transactions c.args.slot (Write taken) holds in
     let filled = changed (held old.transactions) (held c.take_slot.new.slots) (held c.fill_slot.new.slots) c.args.slot (Write c.write.new.self) c.take_slot.ensures.after c.in_ok-fill_slot-in-Some-Write.ensures in
-    IsSound-filled known old _ c.args.slot (Write c.write.new.self) is (IsOwn-written known taken own c.args.op c.write.new.self c.write.result c.write.ensures.outcome c.write.ensures.err) filled refl refl
+    let own : (known : Known) → IsSteady known old → IsOwn known (Write c.write.new.self) =
+    λ known is. IsOwn-written known taken (is.transactions c.args.slot (Write taken) holds) c.args.op c.write.new.self c.write.result c.write.ensures.outcome c.write.ensures.err in
+    record {
+      steady = λ known is. IsSteady-filled known old _ c.args.slot (Write c.write.new.self) is (own known is) filled refl;
+      sound = λ known is. IsSound-filled known old _ c.args.slot (Write c.write.new.self) is (own known is.steady) filled refl refl (refl, refl);
+    }
 
 pub returns-clause-schema : goal.returns-clause-schema
 returns-clause-schema c =

@@ -1,11 +1,23 @@
 -- The client answers its local steps, and makes the shared call that it comes to.
-use Rattle.std.proofs.Common.{sym, ap, ◌∙◌, subst}
-use Rattle.std.specs.Prelude.{None, Some}
+use Rattle.std.proofs.Common.{ℕ, Option, subst}
+use Rattle.sal_client.specs.declared.wish.Wish.{Wish}
 use Rattle.sal_client.specs.Clients.{client_of}
-use Rattle.sal_client.specs.Runs.{Comes}
+use Rattle.sal_client.specs.Runs.{Comes, MakesNext}
 use Rattle.sal_client.proofs.Going.{goes}
 use Rattle.sal_client.proofs.Soundness.{HasSchema-sound}
 use Rattle.sal_client.proofs.run.ClientRun.go.Goals as goal
 
 pub next-requires-clause-schema : goal.next-requires-clause-schema
-next-requires-clause-schema g c = HasSchema-sound c.args.reader.now c.args.hub.now c.args.self.now.client c.requires.run.sound c.requires.table
+next-requires-clause-schema g c κs _ = HasSchema-sound c.args.reader.now c.args.hub.now c.args.self.now.client c.requires.run.sound.steady c.requires.table
+
+pub returns-in-Ok-clause-goes : goal.returns-in-Ok-clause-goes
+returns-in-Ok-clause-goes g c =
+    let table = c.args.reader.now in
+    let steps = c.args.steps.now in
+    let known = c.args.hub.now in
+    let old = c.args.self.now in
+    let mid = c.next.new.self in
+    let wish = c.in-Some.wish in
+    let comes = subst (λ (o : Option Wish). Comes table steps old o mid) c.in-Some.is c.in_ok-next.ensures.comes in
+    goes table old.client.number known c.make.new.hub wish steps old mid c.make.new.self comes
+    (λ read. subst (λ (n : ℕ). MakesNext table n known wish (client_of mid.client) c.make.new.hub (client_of c.make.new.self.client)) c.in_ok-next.ensures.number (c.in-Ok.ensures.makes table read)) c.in-Ok.ensures.at c.requires.run.sound c.requires.table

@@ -24,9 +24,9 @@ loop-i-preserved g c =
       from = omega (arith, was.from);
       program = record { within = omega arith; short = was.program.short; json = was.program.json };
       schema = met.schema;
-      sound = λ known is. met.sound known (was.sound known is);
+      sound = record { steady = λ known is. met.sound.steady known (was.sound.steady known is); sound = λ known is. met.sound.sound known (was.sound.sound known is) };
       number = met.number ∙ was.number;
-      rest = λ known is of. was.rest known is of ∙ local_turn table known (client_of c.loop-i.self.client) (client_of c.meet.new.self) c.args.steps.now c.loop-i.i step c.loop-i-test.true c.index-steps-i.is (local known (was.sound known is) of);
+      rest = λ known is of. was.rest known is of ∙ local_turn table known (client_of c.loop-i.self.client) (client_of c.meet.new.self) c.args.steps.now c.loop-i.i step c.loop-i-test.true c.index-steps-i.is (local known (was.sound.steady known is) of);
     }
 
 pub returns-in-Some-clause-comes : goal.returns-in-Some-clause-comes
@@ -36,7 +36,8 @@ returns-in-Some-clause-comes g c =
     let table = c.args.reader.now in
     let met = c.in_ok-met.ensures in
     let asks = subst (λ o. Meets table c.loop-i.self.client (move_of step) o c.meet.new.self) c.in-Some.is met.meets in (
-      λ known is of. was.rest known is of ∙ asks_turn table known (client_of c.loop-i.self.client) (client_of c.meet.new.self) c.args.steps.now c.loop-i.i step c.in-Some.wish c.loop-i-test.true c.index-steps-i.is asks.0 asks.2,
+      λ known is of. was.rest known is of ∙ asks_turn table known (client_of c.loop-i.self.client) (client_of c.meet.new.self) c.args.steps.now c.loop-i.i step c.in-Some.wish c.loop-i-test.true c.index-steps-i.is asks.0 asks.3,
       asks.1,
+      asks.2,
       omega (arith, was.from),
     )

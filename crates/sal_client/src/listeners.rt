@@ -1,0 +1,241 @@
+//! The steps of a client for its listeners.
+ghost use Rattle.std.specs.Prelude.{◌≡◌, ℕ, Some, IfOk, IfErr, IsSome, OnOk};
+ghost use Rattle.sal_rows.specs.declared.batch.Batch.{Batch as Told};
+ghost use Rattle.sal_schema.specs.declared.table.SchemaTable.{SchemaTable};
+ghost use Rattle.sal_script.specs.Moves.{Listen, Take, Unlisten};
+ghost use Rattle.sal_script.specs.Play.{has_domain, local, set_slot};
+ghost use Rattle.sal_script.specs.Play as play_spec;
+ghost use Rattle.sal_client.specs.Followers.{Advances};
+ghost use Rattle.sal_client.specs.Slots.{held};
+ghost use Rattle.sal_client.specs.declared.follower.Follower.{Follower as Kept};
+ghost use Rattle.sal_client.specs.declared.wish.Wish.TheVariants.{Listen as ListenWish};
+
+use crate::calls::{called, refused_call};
+use crate::client::{ClientState, refused};
+use crate::deed::path_of;
+use crate::follower::Follower;
+use crate::reader::Reader;
+use crate::slots::{Slots, fill_slot, look_at, take_slot};
+use crate::wish::{RunFault, Target, Wish};
+use sal_history::Reply;
+use sal_hub::{Hub, ListenerId, laws};
+use sal_rows::{Batch, Opened};
+use sal_script::{StepRefusal, StepReply};
+use sal_types::{Duplicate, NoMemory, Path, Store, Str};
+use std::alloc::Global;
+use std::snapshot::Snapshot;
+
+// Whether a script has the domain.
+fn has_domain(domain: u32) -> bool
+    ensures { result ≡ has_domain domain }
+{
+    domain == 0
+}
+
+// The answer to a listen that is good.
+fn listening(
+    id: ListenerId,
+    domain: u32,
+    path: &Path,
+    opened: Opened,
+) -> Result<Reply, NoMemory>
+    ensures { IfOk result (λ r. r ≡ Reply.Listener id.number domain path.now opened) }
+{
+    let path = path.copy()?;
+    Ok(Reply::Listener {
+        id: id.number(),
+        domain,
+        path,
+        opened,
+    })
+}
+
+// Puts the listener into the slot, with a copy of what it was opened with.
+fn put_new(
+    listeners: &mut Slots<Follower>,
+    slot: u8,
+    id: ListenerId,
+    target: &Target,
+    opened: &Opened,
+) -> Result<(), NoMemory>
+    ensures { OnOk result (held listeners.new ≡ set_slot slot (Some (record { id = id; store = target.now.store; path = target.now.path; mirror = record { version = opened.now.version; rows = opened.now.rows } })) (held listeners.old)) }
+{
+    let follower = Follower::of(id, target.store, &target.path, opened)?;
+    fill_slot(listeners, slot, follower)
+}
+
+// Brings the listener in the slot to the end of the batch, which begins where it stands.
+fn advance_in(
+    alloc: Global,
+    listeners: &mut Slots<Follower>,
+    slot: u8,
+    batch: &Batch,
+) -> Result<(), NoMemory>
+    requires filled { IsSome (held listeners.old slot) }
+    requires from { (f : Kept) → held listeners.old slot ≡ Some f → f.mirror.version ≡ batch.now.from }
+    ensures { OnOk result ((f : Kept) → held listeners.old slot ≡ Some f → (g : Kept) × Advances batch.now f g × (held listeners.new ≡ set_slot slot (Some g) (held listeners.old))) }
+{
+    match take_slot(listeners, slot) {
+        None => unreachable!(),
+        Some(follower) => {
+            let follower = follower.advance(alloc, batch)?;
+            fill_slot(listeners, slot, follower)
+        }
+    }
+}
+
+impl ClientState {
+    ghost use Rattle.sal_client.specs.Clients.{client_of, listeners_in, Everywhere, IsSound, Same};
+    ghost use Rattle.sal_client.specs.Wishes.{Makes, ReadBy, Stops, Wants};
+
+    /// To listen at the path of the text, where the script has the domain and the text is a path.
+    pub(crate) fn listen_wish(
+        &self,
+        alloc: Global,
+        reader: &Reader,
+        slot: u8,
+        domain: u32,
+        store: Store,
+        text: &Str,
+    ) -> Result<Result<Wish, StepRefusal>, NoMemory>
+        ensures { IfOk result (Wants reader.now self.now (Listen slot domain store text.now)) }
+    {
+        if !has_domain(domain) {
+            return Ok(Err(StepRefusal::NoDevice));
+        }
+        match path_of(alloc, reader, text.as_str())? {
+            Ok(path) => {
+                let target = Target {
+                    domain,
+                    store,
+                    text: Snapshot::of(text),
+                    path,
+                };
+                Ok(Ok(Wish::Listen { slot, target }))
+            }
+            Err(refusal) => Ok(Err(refusal)),
+        }
+    }
+
+    /// To take for the listener in the slot, where there is one.
+    pub(crate) fn take_wish(&self, reader: &Reader, slot: u8) -> Result<Wish, StepRefusal>
+        ensures { Wants reader.now self.now (Take slot) result }
+    {
+        match look_at(&self.listeners, slot) {
+            None => Err(StepRefusal::EmptySlot),
+            Some(_) => Ok(Wish::Take { slot }),
+        }
+    }
+
+    /// To remove the listener in the slot, where there is one.
+    pub(crate) fn unlisten_wish(&self, reader: &Reader, slot: u8) -> Result<Wish, StepRefusal>
+        ensures { Wants reader.now self.now (Unlisten slot) result }
+    {
+        match look_at(&self.listeners, slot) {
+            None => Err(StepRefusal::EmptySlot),
+            Some(_) => Ok(Wish::Unlisten { slot }),
+        }
+    }
+
+    /// Listens there; the listener goes into the slot.
+    pub(crate) fn listen(
+        &mut self,
+        alloc: Global,
+        hub: &mut Hub,
+        slot: u8,
+        target: &Target,
+    ) -> Result<StepReply, RunFault>
+        requires sound { IsSound hub.old self.old }
+        ensures answers { IfOk result (λ r. (table : SchemaTable) → ReadBy table (ListenWish slot target.now) → Makes table r self.old.number hub.old (client_of self.old) (Listen slot target.now.domain target.now.store target.now.text.value) hub.new (client_of self.new)) }
+        ensures sound { OnOk result (IsSound hub.new self.new) }
+        ensures same { OnOk result (Same self.old self.new) }
+        ensures stops { IfErr result (Stops self.old.number hub.old hub.new) }
+    {
+        laws::tokens_last();
+        match hub.listen(
+            alloc,
+            self.number,
+            target.domain,
+            target.store,
+            &target.path,
+        ) {
+            Ok((id, opened)) => {
+                put_new(&mut self.listeners, slot, id, target, &opened)?;
+                let reply = listening(id, target.domain, &target.path, opened)?;
+                Ok(called(reply))
+            }
+            Err(fault) => {
+                let reply = refused_call(fault)?;
+                Ok(reply)
+            }
+        }
+    }
+
+    /// Takes what changed for the listener in the slot, and brings its rows to there.
+    pub(crate) fn take(
+        &mut self,
+        alloc: Global,
+        hub: &mut Hub,
+        slot: u8,
+    ) -> Result<StepReply, RunFault>
+        requires sound { IsSound hub.old self.old }
+        requires filled { IsSome (held self.old.listeners slot) }
+        ensures answers { IfOk result (λ r. (table : SchemaTable) → Makes table r self.old.number hub.old (client_of self.old) (Take slot) hub.new (client_of self.new)) }
+        ensures sound { OnOk result (IsSound hub.new self.new) }
+        ensures same { OnOk result (Same self.old self.new) }
+        ensures stops { IfErr result (Stops self.old.number hub.old hub.new) }
+    {
+        laws::tokens_last();
+        let Some(follower) = look_at(&self.listeners, slot) else {
+            unreachable!()
+        };
+        let id = follower.id;
+        match hub.take(alloc, self.number, id) {
+            Ok(batch) => {
+                advance_in(alloc, &mut self.listeners, slot, &batch)?;
+                let domain = id.domain();
+                Ok(called(Reply::Batch { domain, batch }))
+            }
+            Err(fault) => {
+                let reply = refused_call(fault)?;
+                Ok(reply)
+            }
+        }
+    }
+
+    /// Removes the listener in the slot.
+    pub(crate) fn unlisten(
+        &self,
+        alloc: Global,
+        hub: &mut Hub,
+        slot: u8,
+    ) -> Result<StepReply, RunFault>
+        requires sound { IsSound hub.old self.now }
+        requires filled { IsSome (held self.now.listeners slot) }
+        ensures answers { IfOk result (λ r. (table : SchemaTable) → Makes table r self.now.number hub.old (client_of self.now) (Unlisten slot) hub.new (client_of self.now)) }
+        ensures sound { OnOk result (IsSound hub.new self.now) }
+        ensures stops { IfErr result (Stops self.now.number hub.old hub.new) }
+    {
+        laws::tokens_last();
+        match look_at(&self.listeners, slot) {
+            None => unreachable!(),
+            Some(follower) => match hub.unlisten(alloc, self.number, follower.id) {
+                Ok(()) => Ok(called(Reply::Accepted)),
+                Err(fault) => {
+                    let reply = refused_call(fault)?;
+                    Ok(reply)
+                }
+            },
+        }
+    }
+
+    /// Shows the rows that follow the listener in the slot.
+    pub(crate) fn mirror(&self, reader: &Reader, slot: u8) -> Result<StepReply, NoMemory>
+        ensures { IfOk result (λ r. Everywhere reader.now self.now (λ known. play_spec.mirror reader.now known.world known.log (client_of self.now) (listeners_in self.now slot) ≡ local r (client_of self.now))) }
+    {
+        match look_at(&self.listeners, slot) {
+            None => Ok(refused(StepRefusal::EmptySlot)),
+            Some(follower) => follower.shown(),
+        }
+    }
+}

@@ -8,7 +8,7 @@ use Rattle.sal_rows.specs.declared.op.Act.{Act}
 use Rattle.sal_rows.specs.declared.outcome.Mode.{Mode}
 use Rattle.sal_rows.specs.declared.outcome.Mode.TheVariants.{Ro, Wo, Rw}
 use Rattle.sal_rows.specs.declared.outcome.CallFault.{CallFault}
-use Rattle.sal_rows.specs.declared.outcome.CallFault.TheVariants.{HistoryFull, PipelineFull, NoDomain, PreviousOpen, ChainFailed, ChainClosed, NoMemory, TxSpent}
+use Rattle.sal_rows.specs.declared.outcome.CallFault.TheVariants.{HistoryFull, PipelineFull, NoDomain, NoListener, TooManyListeners, PreviousOpen, ChainFailed, ChainClosed, NoMemory, TxSpent}
 use Rattle.sal_schema.specs.declared.table.SchemaTable.{SchemaTable}
 use Rattle.sal_history.specs.World.{Domain, table_of}
 use Rattle.sal_history.specs.declared.call.Call.{Call}
@@ -53,6 +53,8 @@ made_refused old new e HistoryFull fails full memory = absurd (full refl)
 made_refused old new e NoMemory fails full memory = absurd (memory refl)
 made_refused old new e PipelineFull fails full memory = fails
 made_refused old new e (NoDomain id) fails full memory = fails
+made_refused old new e (NoListener id) fails full memory = fails
+made_refused old new e TooManyListeners fails full memory = fails
 made_refused old new e PreviousOpen fails full memory = fails
 made_refused old new e (ChainFailed receipt) fails full memory = fails
 made_refused old new e ChainClosed fails full memory = fails

@@ -30,7 +30,7 @@ use Rattle.sal_hub.proofs.Listened.{version-push}
 use Rattle.sal_client.specs.declared.follower.Follower.{Follower}
 use Rattle.sal_client.specs.Followers.{Advances, Follows, IsOwnListener}
 use Rattle.sal_client.proofs.Mirroring.{goes_on}
-use Rattle.sal_client.proofs.Versions.{version_stays}
+use Rattle.sal_client.proofs.Versions.{brings_nothing, version_stays}
 
 abbrev pub listening_of : ℕ → Follower → Listening
 listening_of number f = record { client = number; domain = f.id.domain; store = f.store; path = f.path }
@@ -55,13 +55,17 @@ module _ (known : Known) (e : Entry) where
     rows = rows_stay f.id.domain f.store f.path f.mirror.version f.mirror.rows is.reached is.rows;
   }
 
-  -- an entry that takes nothing from it
-  pub listener_stays : (number : ℕ) (f : Follower) → (e.client ≡ number → e.call ≡ Take f.id.number → ⊥) → IsOwnListener known number f → IsOwnListener (more known e) number f
-  listener_stays number f quiet is = record {
+  -- an entry that brings it nowhere
+  pub listener_kept : (number : ℕ) (f : Follower) → brings_to e.call (reply_to known.world (history known.world known.log) e.client e.call) f.id.number ≡ None → IsOwnListener known number f → IsOwnListener (more known e) number f
+  listener_kept number f none is = record {
     low = is.low;
     made = listener_later known.world known.log (e ∷ []) f.id.number (listening_of number f) is.made;
-    version = version_stays known.world known.log e f.id.number (listening_of number f) is.made quiet ∙ is.version;
+    version = version_stays known.world known.log e f.id.number none ∙ is.version;
   }
+
+  -- as one of another client, or that takes from another listener
+  pub listener_stays : (number : ℕ) (f : Follower) → (e.client ≡ number → e.call ≡ Take f.id.number → ⊥) → IsOwnListener known number f → IsOwnListener (more known e) number f
+  listener_stays number f quiet is = listener_kept number f (brings_nothing known.world known.log e f.id.number (listening_of number f) is.made quiet) is
 
 -- ---- a listen
 
@@ -79,11 +83,11 @@ module _ (known : Known) (number domain : ℕ) (store : Store) (path : List Step
   abbrev start : Opened
   start = opened (trees_at known.world before domain store) path newest
 
-  id_in : Reply → ℕ
+  abbrev id_in : Reply → ℕ
   id_in (Made n d p o) = n
   id_in r = 0
 
-  opened_in : Reply → Opened
+  abbrev opened_in : Reply → Opened
   opened_in (Made n d p o) = o
   opened_in r = start
 
@@ -145,7 +149,7 @@ module _ (known : Known) (number : ℕ) (f : Follower) (is : IsOwnListener known
   abbrev own : Bool
   own = has_own_row (table_of known.world f.id.domain) f.path
 
-  batch_in : Reply → Told
+  abbrev batch_in : Reply → Told
   batch_in (Batch d x) = x
   batch_in r = b
 

@@ -1,6 +1,7 @@
 pub mod Answering
 pub mod Following
 pub mod Going
+pub mod Heard
 pub mod Mirroring
 pub mod Places
 pub mod Soundness

@@ -24,11 +24,11 @@ use Rattle.sal_listen.specs.Mirrors.{CarriesOn}
 
 under-under : (rows : List Row) (p : List Step) → under (under rows p) p ≡ under rows p
 under-under [] p = refl
-under-under (row ∷ rows) p = by (is_prefix p row.path) refl
+under-under (row ∷ rows) p = by (is_prefix p row.path) refl (under-under rows p)
   where
-    by : (b : Bool) → is_prefix p row.path ≡ b → under (if b then row ∷ under rows p else under rows p) p ≡ (if b then row ∷ under rows p else under rows p)
-    by true e = ap (λ here. if here then row ∷ under (under rows p) p else under (under rows p) p) e ∙ ap (λ (rest : List Row). row ∷ rest) (under-under rows p)
-    by false e = under-under rows p
+    by : (b : Bool) → is_prefix p row.path ≡ b → under (under rows p) p ≡ under rows p → under (if b then row ∷ under rows p else under rows p) p ≡ (if b then row ∷ under rows p else under rows p)
+    by true e rest = ap (λ here. if here then row ∷ under (under rows p) p else under (under rows p) p) e ∙ ap (λ (more : List Row). row ∷ more) rest
+    by false e rest = rest
 
 -- ---- the parts of a batch are by what stands under the path
 

@@ -1,5 +1,6 @@
 -- What slots hold after they were filled or emptied.
-use Rattle.std.proofs.Common.{◌≡◌, ℕ, true, false, Option, None, Some, refl, ap, sym, ◌∙◌, subst, arith, if◌then◌else◌, nat_eq}
+use Rattle.std.proofs.Common.{◌≡◌, ℕ, true, false, Option, None, Some, Result, Ok, Err, refl, ap, sym, ◌∙◌, subst, arith, if◌then◌else◌, nat_eq}
+use Rattle.std.specs.Prelude.{OnOk}
 use Rattle.std.specs.Option.{option_map}
 use Rattle.std.proofs.lemmas.Bool.Decides.{nat_tests}
 use Rattle.sal_script.specs.Play.{set_slot}
@@ -56,3 +57,8 @@ put_same h slot x here = λ i k. at k i
 -- what was taken out and put back
 pub put_back : {X : Type 0} (h emptied after : ℕ → Option X) (slot : ℕ) (x : X) → h slot ≡ Some x → emptied ≡ set_slot slot None h → after ≡ set_slot slot (Some x) emptied → after ≡ h
 put_back h emptied after slot x here out in_ = changed h emptied after slot x out in_ ∙ put_same h slot x here
+
+-- what follows from what an Ok tells
+pub on_ok : {T E P Q : Type 0} (r : Result T E) → (P → Q) → OnOk r P → OnOk r Q
+on_ok (Ok x) f p = f p
+on_ok (Err e) f p = tt

@@ -100,7 +100,7 @@ module _ (lasts : TokensLast) where
 
   -- an own entry that takes nothing
   pub IsSound-more : (known : Known) (e : Entry) (c : ClientState) → is_take e.call ≡ false → IsSound known c → IsSound (more known e) c
-  IsSound-more known e c no is = IsSound-quiet known e c (λ id own taken. true≢false (sym (ap is_take taken) ∙ no)) is
+  IsSound-more known e c quiet is = IsSound-quiet known e c (λ id own taken. true≢false (sym (ap is_take taken) ∙ quiet)) is
 
 -- a steady client's transactions have the schema of the controller's own domain
 pub HasSchema-sound : (table : SchemaTable) (known : Known) (c : ClientState) → IsSteady known c → table ≡ table_of known.world 0 → HasSchema table c

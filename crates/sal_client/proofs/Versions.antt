@@ -61,5 +61,9 @@ module _ (world : List Domain) (log : List Entry) (e : Entry) (id : ℕ) (l : Li
   not_brought (Mark mark) is = refl
   not_brought (After mark) is = refl
 
-  pub version_stays : version (history world (log ++ e ∷ [])) id ≡ version (history world log) id
-  version_stays = version-push world log e id ∙ ap (λ (o : Option ℕ). unwrap_or o (version so_far id)) (not_brought e.call refl)
+  pub brings_nothing : brings_to e.call (reply_to world (history world log) e.client e.call) id ≡ None
+  brings_nothing = not_brought e.call refl
+
+-- an entry that brings it nowhere
+pub version_stays : (world : List Domain) (log : List Entry) (e : Entry) (id : ℕ) → brings_to e.call (reply_to world (history world log) e.client e.call) id ≡ None → version (history world (log ++ e ∷ [])) id ≡ version (history world log) id
+version_stays world log e id none = version-push world log e id ∙ ap (λ (o : Option ℕ). unwrap_or o (version (history world log) id)) none

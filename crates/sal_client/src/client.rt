@@ -134,12 +134,7 @@ impl ClientState {
     }
 
     // Answers a write or a look in one of the client's transactions, or a look at the rows of a listener.
-    fn answer(
-        &mut self,
-        alloc: Global,
-        reader: &Reader,
-        step: &ScriptStep,
-    ) -> Result<(), NoMemory>
+    fn answer(&mut self, alloc: Global, reader: &Reader, step: &ScriptStep) -> Result<(), NoMemory>
         requires schema { HasSchema reader.now self.old }
         requires json { IsTrue (is_json_move (move_of step.now)) }
         requires local { is_local (move_of step.now) ≡ true }

@@ -33,12 +33,7 @@ fn has_domain(domain: u32) -> bool
 }
 
 // The answer to a listen that is good.
-fn listening(
-    id: ListenerId,
-    domain: u32,
-    path: &Path,
-    opened: Opened,
-) -> Result<Reply, NoMemory>
+fn listening(id: ListenerId, domain: u32, path: &Path, opened: Opened) -> Result<Reply, NoMemory>
     ensures { IfOk result (λ r. r ≡ Reply.Listener id.number domain path.now opened) }
 {
     let path = path.copy()?;
@@ -86,7 +81,7 @@ fn advance_in(
 
 impl ClientState {
     ghost use Rattle.sal_client.specs.Clients.{client_of, listeners_in, Everywhere, IsSound, Same};
-    ghost use Rattle.sal_client.specs.Wishes.{Makes, ReadBy, Stops, Wants};
+    ghost use Rattle.sal_client.specs.Wishes.{GrowsBy, Makes, ReadBy, Stops, Wants};
 
     /// To listen at the path of the text, where the script has the domain and the text is a path.
     pub(crate) fn listen_wish(
@@ -146,6 +141,7 @@ impl ClientState {
         target: &Target,
     ) -> Result<StepReply, RunFault>
         requires sound { IsSound hub.old self.old }
+        ensures grows { OnOk result (GrowsBy self.old.number hub.old hub.new) }
         ensures answers { IfOk result (λ r. (table : SchemaTable) → ReadBy table (ListenWish slot target.now) → Makes table r self.old.number hub.old (client_of self.old) (Listen slot target.now.domain target.now.store target.now.text.value) hub.new (client_of self.new)) }
         ensures sound { OnOk result (IsSound hub.new self.new) }
         ensures same { OnOk result (Same self.old self.new) }

@@ -18,11 +18,7 @@ pub struct Target {
 #[derive(Drop)]
 pub enum Wish {
     /// Begins a transaction of the domain into the slot.
-    Begin {
-        slot: u8,
-        domain: u32,
-        mode: Mode,
-    },
+    Begin { slot: u8, domain: u32, mode: Mode },
     /// Submits the slot's transaction, which may write.
     Submit { slot: u8 },
     /// Gives up the slot's transaction.
@@ -32,11 +28,7 @@ pub enum Wish {
     /// Opens a chain over the domain into the chain slot.
     OpenChain { chain: u8, domain: u32 },
     /// Begins the next transaction of the chain in the chain slot into the slot.
-    ChainBegin {
-        chain: u8,
-        slot: u8,
-        mode: Mode,
-    },
+    ChainBegin { chain: u8, slot: u8, mode: Mode },
     /// Closes the chain in the chain slot.
     CloseChain { chain: u8 },
     /// Decides the first receipt that is pending.

@@ -3,6 +3,7 @@ use Rattle.std.proofs.Common.{ap}
 use Rattle.sal_client.specs.Clients.{client_of}
 use Rattle.sal_client.specs.Wishes.{move_by}
 use Rattle.sal_client.proofs.Answering.{for_wish, grows_by}
+use Rattle.sal_client.proofs.Heard.{grows_or_stops}
 use Rattle.sal_client.proofs.client.ClientState.call.Goals as goal
 
 pub returns-in-Begin-clause-answers : goal.returns-in-Begin-clause-answers
@@ -64,3 +65,18 @@ returns-in-After-clause-answers c = for_wish c.after.result c.args.self.now.numb
 
 pub returns-in-After-clause-grows : goal.returns-in-After-clause-grows
 returns-in-After-clause-grows c = grows_by c.after.result c.args.self.now.number c.args.hub.now c.after.new.hub (client_of c.args.self.now) (client_of c.args.self.now) _ c.after.ensures.answers c.after.ensures.stops
+
+pub returns-in-Listen-clause-grows : goal.returns-in-Listen-clause-grows
+returns-in-Listen-clause-grows c = grows_or_stops c.listen.result c.args.self.now.number c.args.hub.now c.listen.new.hub c.listen.ensures.grows c.listen.ensures.stops
+
+pub returns-in-Take-clause-answers : goal.returns-in-Take-clause-answers
+returns-in-Take-clause-answers c = for_wish c.take.result c.args.self.now.number c.args.hub.now c.take.new.hub (client_of c.args.self.now) (client_of c.take.new.self) c.args.wish.now _ (ap move_by c.in-Take.is) c.take.ensures.answers
+
+pub returns-in-Take-clause-grows : goal.returns-in-Take-clause-grows
+returns-in-Take-clause-grows c = grows_by c.take.result c.args.self.now.number c.args.hub.now c.take.new.hub (client_of c.args.self.now) (client_of c.take.new.self) _ c.take.ensures.answers c.take.ensures.stops
+
+pub returns-in-Unlisten-clause-answers : goal.returns-in-Unlisten-clause-answers
+returns-in-Unlisten-clause-answers c = for_wish c.unlisten.result c.args.self.now.number c.args.hub.now c.unlisten.new.hub (client_of c.args.self.now) (client_of c.args.self.now) c.args.wish.now _ (ap move_by c.in-Unlisten.is) c.unlisten.ensures.answers
+
+pub returns-in-Unlisten-clause-grows : goal.returns-in-Unlisten-clause-grows
+returns-in-Unlisten-clause-grows c = grows_by c.unlisten.result c.args.self.now.number c.args.hub.now c.unlisten.new.hub (client_of c.args.self.now) (client_of c.args.self.now) _ c.unlisten.ensures.answers c.unlisten.ensures.stops

@@ -6,7 +6,7 @@ use Rattle.sal_script.specs.declared.reply.StepReply.TheVariants.{Called}
 use Rattle.sal_hub.specs.Known.{Known, entry_of}
 use Rattle.sal_client.specs.Clients.{IsSound, client_of}
 use Rattle.sal_client.proofs.Soundness.{IsSound-more}
-use Rattle.sal_client.proofs.Answering.{called}
+use Rattle.sal_client.proofs.Answering.{called, made_refused}
 use Rattle.sal_client.proofs.client.ClientState.pump.Goals as goal
 
 pub returns-in-Ok-clause-answers : goal.returns-in-Ok-clause-answers
@@ -21,3 +21,11 @@ returns-in-Ok-clause-sound c =
     let client = c.args.self.now in
     let known = c.args.hub.now in
     subst (λ (k : Known). IsSound k client) (sym c.in-Ok.ensures.answer.log) (IsSound-more (c.tokens_last.ensures.begun, c.tokens_last.ensures.given, c.tokens_last.ensures.opened) known (entry_of known client.number PumpCall) client refl c.requires.sound)
+
+pub returns-in_ok-reply-in-Err-clause-sound : goal.returns-in_ok-reply-in-Err-clause-sound
+returns-in_ok-reply-in-Err-clause-sound c =
+    let client = c.args.self.now in
+    let known = c.args.hub.now in
+    let e = entry_of known client.number PumpCall in
+    let made = made_refused known c.pump.new.self e c.in-Err.fault c.in-Err.ensures.answer c.in_ok-reply-in-Err.ensures.full c.in_ok-reply-in-Err.ensures.memory in
+    subst (λ (k : Known). IsSound k client) (sym made.log) (IsSound-more (c.tokens_last.ensures.begun, c.tokens_last.ensures.given, c.tokens_last.ensures.opened) known e client refl c.requires.sound)

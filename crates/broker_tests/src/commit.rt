@@ -72,6 +72,7 @@ fn copies(trees: &Pair) -> Result<(Pair, Pair), NoMemory> {
 }
 
 // Where a submission stands: its receipt and its base commit.
+#[derive(Drop)]
 struct Place {
     receipt: u64,
     base_commit: u64,

@@ -1,4 +1,3 @@
-pub mod Looks
 pub mod Seats
 pub mod Tokens
 pub mod Turns

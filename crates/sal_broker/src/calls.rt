@@ -1,14 +1,12 @@
-//! The shared calls: those of the hub, each in one turn.
+//! Shared calls of the hub, each in one turn.
 ghost use Rattle.std.specs.Prelude.{◌≡◌, None, Some, IfOk};
-ghost use Rattle.sal_rows.specs.declared.outcome.Outcome.{Outcome as Decided};
 ghost use Rattle.sal_tx.specs.declared.tx.Tx.{Tx as Token};
-ghost use Rattle.sal_history.specs.declared.call.Call.TheVariants.{Begin, Cancel, ChainBegin, CloseChain, Mark, OpenChain, Pump, Settle, Submit};
-ghost use Rattle.sal_history.specs.declared.reply.Reply.TheVariants.{Accepted, Begun, Chain as Opened, Receipt as Numbered, Settled};
+ghost use Rattle.sal_history.specs.declared.call.Call.TheVariants.{Begin, Cancel, ChainBegin, Mark, OpenChain, Submit};
+ghost use Rattle.sal_history.specs.declared.reply.Reply.TheVariants.{Accepted, Begun, Chain as Opened, Receipt as Numbered};
 ghost use Rattle.sal_hub.specs.declared.chain.Chain.{Chain as Line};
 ghost use Rattle.sal_hub.specs.declared.receipt.Receipt.{Receipt as Given};
 ghost use Rattle.sal_hub.specs.Answers.{Calls, CallsOr};
 ghost use Rattle.sal_hub.specs.Known.{entry_of};
-ghost use Rattle.sal_hub.specs.Seen.{pump_reply};
 ghost use Rattle.sal_hub.specs.Tokens.{IsBegun, IsChain, IsFresh, IsGiven, IsToken, begun_of};
 ghost use Rattle.sal_broker.specs.Seats.{known};
 ghost use Rattle.sal_broker.specs.Turns.{InTurn, Keeps};
@@ -16,7 +14,7 @@ ghost use Rattle.sal_broker.specs.Turns.{InTurn, Keeps};
 use crate::sal::Sal;
 use crate::seat::Seat;
 use sal_hub::{Chain, Receipt};
-use sal_rows::{CallFault, Mode, Outcome};
+use sal_rows::{CallFault, Mode};
 use sal_tx::{Tx, WriteTx};
 use std::alloc::Global;
 use std::sync::Wait;
@@ -95,53 +93,6 @@ impl Sal {
         answer
     }
 
-    /// Decides what is pending, up to and including the receipt, and answers its outcome. Where memory is wanting, all that
-    /// was pending stays pending.
-    pub fn settle<R: Wait>(
-        &self,
-        rt: &R,
-        alloc: Global,
-        seat: &mut Seat,
-        receipt: Receipt,
-    ) -> Result<Outcome, CallFault>
-        requires seat { seat.old.lock ≡ self.now }
-        requires given { IsGiven (known seat.old.view) receipt.number }
-        ensures same { Keeps self.now seat.old seat.new }
-        ensures turn { InTurn seat.old.view seat.new.view (λ client found left. Calls found left (entry_of found client (Settle receipt.number)) (λ (o : Decided). Settled 0 o) result) }
-    {
-        let Some(inner) = seat.inner.take() else {
-            unreachable!()
-        };
-        let client = inner.number();
-        let mut held = self.enter(rt, Seat { inner: Some(inner) });
-        held.knows_receipt(receipt);
-        let answer = held.hub().settle(alloc, client, receipt);
-        seat.inner = self.leave(held).inner;
-        answer
-    }
-
-    /// Decides the first receipt that is pending, and answers it with its outcome; none where no receipt is pending. Where
-    /// memory is wanting, it stays pending.
-    pub fn pump<R: Wait>(
-        &self,
-        rt: &R,
-        alloc: Global,
-        seat: &mut Seat,
-    ) -> Result<Option<(u64, Outcome)>, CallFault>
-        requires { seat.old.lock ≡ self.now }
-        ensures same { Keeps self.now seat.old seat.new }
-        ensures turn { InTurn seat.old.view seat.new.view (λ client found left. Calls found left (entry_of found client Pump) pump_reply result) }
-    {
-        let Some(inner) = seat.inner.take() else {
-            unreachable!()
-        };
-        let client = inner.number();
-        let mut held = self.enter(rt, Seat { inner: Some(inner) });
-        let answer = held.hub().pump(alloc, client);
-        seat.inner = self.leave(held).inner;
-        answer
-    }
-
     /// Opens a transaction chain over the domain.
     pub fn open_chain<R: Wait>(
         &self,
@@ -189,30 +140,6 @@ impl Sal {
         let mut held = self.enter(rt, Seat { inner: Some(inner) });
         held.knows_chain(chain);
         let answer = held.hub().chain_begin(alloc, client, chain, mode);
-        seat.inner = self.leave(held).inner;
-        answer
-    }
-
-    /// Closes the chain: no transaction begins in it any more.
-    pub fn close_chain<R: Wait>(
-        &self,
-        rt: &R,
-        alloc: Global,
-        seat: &mut Seat,
-        chain: &Chain,
-    ) -> Result<(), CallFault>
-        requires seat { seat.old.lock ≡ self.now }
-        requires token { IsChain (known seat.old.view) chain.now }
-        ensures same { Keeps self.now seat.old seat.new }
-        ensures turn { InTurn seat.old.view seat.new.view (λ client found left. Calls found left (entry_of found client (CloseChain chain.now.id)) (λ _. Accepted) result) }
-    {
-        let Some(inner) = seat.inner.take() else {
-            unreachable!()
-        };
-        let client = inner.number();
-        let mut held = self.enter(rt, Seat { inner: Some(inner) });
-        held.knows_chain(chain);
-        let answer = held.hub().close_chain(alloc, client, chain);
         seat.inner = self.leave(held).inner;
         answer
     }

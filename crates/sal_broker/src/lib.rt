@@ -6,8 +6,7 @@
 //! | `Seat` | a caller's place at it; a contract sees the lock and what the seat knows, a `View` of `sal_turn` |
 //! | `Sal::open`, `close` | a broker over some devices with its opening seat; and back to the hub, once all seats were joined |
 //! | `Sal::split`, `join` | one more seat, for a client with a number of its own; and two seats made one |
-//! | `Sal::begin`, `submit`, `cancel`, `settle`, `pump`, `open_chain`, `chain_begin`, `close_chain`, `mark` | the calls of the hub, each in one turn |
-//! | `Sal::after` | a look for a mark, a turn each, until it is there or `MAX_LOOKS` looks found none |
+//! | `Sal::begin`, `submit`, `cancel`, `open_chain`, `chain_begin`, `mark` | calls of the hub, each in one turn; the others go through `enter` and `leave` |
 //! | `Sal::enter`, `leave` | a turn with the hub in the caller's hands, for a caller with more to do in it than one call |
 //! | `Held` | such a turn; a contract sees the log that was found and the hub, too |
 //! | `laws` | a function that does nothing, with a law of the tokens as its contract |
@@ -28,13 +27,11 @@
 //! |---|---|
 //! | `open` | that of `Hub::open`, and the lock's memory |
 //! | the calls, `enter` | a turn at the lock, some 50 ns where no other thread wants one; and what the hub's call costs |
-//! | `after` | a turn and one search among the marks for each look, at most 4,194,304 of them |
 //! | `split`, `join`, `leave` | one or two atomic steps |
 //!
 //! A call waits for its turn: no contract says that it returns, and a caller that entered and never leaves keeps all others out.
 #![tactic(auto)]
 
-mod after;
 mod calls;
 mod held;
 pub mod laws;
@@ -42,7 +39,6 @@ mod sal;
 mod seat;
 mod shared;
 
-pub use after::MAX_LOOKS;
 pub use held::Held;
 pub use sal::{OPENING_NUMBER, Sal};
 pub use seat::Seat;

@@ -24,7 +24,7 @@ begins : (w : List Domain) (log : List Entry) (e : Entry) → e.call ≡ Begin 0
 begins w log e is =
     (λ i. began_at (history-push w log e i) (sym (length-history w log) i))
     ∙ ap (option_and_then (λ (a : Answered). a.began)) (slice_get_seam (history w log) (now_of w (history w log) e) [])
-    ∙ ap (λ c. began_by w (history w log) c (reply_to w (history w log) c)) is
+    ∙ ap (λ c. began_by w (history w log) c (reply_to w (history w log) e.client c)) is
 
 -- it stands on the newest trees before it
 stands : (old new : Known) (e : Entry) (begun : Begun) (trees : Store → List _) (s : Store) → e.call ≡ Begin 0 Rw → new ≡ more old e → begun.place ≡ length old.log

@@ -2,6 +2,7 @@
 ghost use Rattle.std.specs.Prelude.{◌≡◌};
 ghost use Rattle.std.specs.Borrow.{sem, Lends};
 ghost use Rattle.sal_hub.specs.contracts.hub.Hub.{the_row as hub_row};
+ghost use Rattle.sal_hub.specs.Marks.{has_mark};
 ghost use Rattle.sal_hub.specs.Tokens.{IsBegun, IsChain, IsGiven, IsToken};
 ghost use Rattle.sal_broker.specs.Seats.{known};
 ghost use Rattle.sal_broker.specs.Tokens.{TokensStay};
@@ -57,6 +58,14 @@ impl Held {
     {
         let shared = self.inner.value();
         &mut shared.hub
+    }
+
+    // Whether the mark is in the hub's log.
+    pub(crate) fn has_mark(&mut self, mark: u32) -> bool
+        ensures same { self.new ≡ self.old }
+        ensures mark { result ≡ has_mark self.old.hub.log mark }
+    {
+        self.hub().has_mark(mark)
     }
 
     // The tokens of what the seat has seen are tokens of the hub that was found. These functions do nothing.

@@ -35,10 +35,12 @@
 mod calls;
 mod held;
 pub mod laws;
+mod looks;
 mod sal;
 mod seat;
 mod shared;
 
 pub use held::Held;
+pub use looks::MAX_LOOKS;
 pub use sal::{OPENING_NUMBER, Sal};
 pub use seat::Seat;

@@ -1,5 +1,5 @@
 //! The broker, and its seats.
-ghost use Rattle.std.specs.Prelude.{◌≡◌, ◌≤◌, ◌+◌, ℕ, List, [], ◌∷◌, ◌++◌, true, None, Some, MatchResult, length};
+ghost use Rattle.std.specs.Prelude.{◌≡◌, ◌≤◌, ◌+◌, ℕ, List, [], ◌∷◌, ◌++◌, true, None, Some, IfOk, MatchResult, length};
 ghost use mathlib.Core.List.{IsPrefix};
 ghost use Rattle.sal_history.specs.declared.call.Entry.{Entry};
 ghost use Rattle.sal_turn.specs.Entries.{entries_by};
@@ -17,6 +17,7 @@ use crate::shared::Shared;
 use sal_history::Device;
 use sal_hub::{Hub, OpenFault};
 use sal_turn::Turn;
+use sal_types::NoMemory;
 use std::alloc::Global;
 use std::marker::Model;
 use std::sync::Wait;
@@ -46,6 +47,15 @@ impl Sal {
         ensures { MatchResult result (λ r. (fault_of (world_of devices.items) ≡ None) × (r.1.lock ≡ r.0) × (r.1.view ≡ opener 65535 (world_of devices.items))) (IsFaultOf (world_of devices.items)) }
     {
         let hub = Hub::open(alloc, devices)?;
+        let opened = Sal::over(alloc, hub)?;
+        Ok(opened)
+    }
+
+    /// A broker over the hub, which has no calls yet, and its opening seat. For want of memory the hub is dropped.
+    pub fn over(alloc: Global, hub: Hub) -> Result<(Sal, Seat), NoMemory>
+        requires { hub.log ≡ [] }
+        ensures { IfOk result (λ r. (r.1.lock ≡ r.0) × (r.1.view ≡ opener 65535 hub.world)) }
+    {
         let (lock, seat) = Turn::open(alloc, Shared { hub }, OPENING_NUMBER)?;
         Ok((Sal { lock }, Seat { inner: Some(seat) }))
     }

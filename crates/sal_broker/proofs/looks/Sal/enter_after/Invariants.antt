@@ -1,0 +1,12 @@
+-- So far the mark was not there, and the seat has no entries more.
+use Rattle.std.proofs.Common.{◌≡◌, ◌+◌, Some}
+use mathlib.Core.List.{IsPrefix}
+use Rattle.sal_turn.specs.Entries.{entries_by}
+use Rattle.sal_turn.specs.Views.{SameRights}
+use Rattle.sal_broker.specs.Seats.{client_of}
+use Rattle.sal_broker.proofs.looks.Sal.enter_after.Given as goal
+
+abbrev pub invariant-loop : goal.invariant-loop
+invariant-loop g l = record {
+  same : (l.held.lock ≡ l.self) × SameRights l.fn.seat.view l.held.view × (l.held.view.own ≡ l.fn.seat.view.own);
+}

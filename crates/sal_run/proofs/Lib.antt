@@ -1,0 +1,3 @@
+pub mod Everyone
+pub mod Going
+pub mod Standing

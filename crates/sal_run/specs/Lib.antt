@@ -1,0 +1,4 @@
+pub mod Joined
+pub mod Ran
+pub mod Stands
+pub mod Worked

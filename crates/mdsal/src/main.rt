@@ -1,5 +1,5 @@
-//! The data broker's command: `mdsal sim` plays a script of clients over one broker and writes what each saw and what
-//! was committed; `mdsal schema` judges a script's modules.
+//! The data broker's command: `mdsal run` runs a script's clients on threads over one broker and writes what each saw and
+//! what was committed; `mdsal sim` plays them in the script's order; `mdsal schema` judges a script's modules.
 //!
 //! It gives the words of its command line, standard input and standard output to the top call of `sal_command`, and ends
 //! with the status that this answers.
@@ -35,7 +35,7 @@ fn answer(rt: &HostRuntime) -> Status {
         Ok(words) => {
             let mut source = StdSource::new(rt.stdin());
             let mut sink = StdSink::new(rt.stdout());
-            mdsal(rt.alloc(), &words, &mut source, &mut sink, &OpenGate)
+            mdsal(rt, rt.alloc(), &words, &mut source, &mut sink, &OpenGate)
         }
         Err(NoMemory) => Status::NoMemory,
     }

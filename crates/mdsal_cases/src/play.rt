@@ -64,7 +64,7 @@ fn played_with(case: Case<'_>, words: &[Str]) -> io::Result<Outcome> {
 fn played_from(case: Case<'_>, words: &[Str], source: &mut MemSource) -> io::Result<Outcome> {
     let mut sink = sink_of(case)?;
     let gate = CountingGate::new();
-    let status = mdsal(case.alloc(), words, source, &mut sink, &gate);
+    let status = mdsal(case.rt, case.alloc(), words, source, &mut sink, &gate);
     let passes = gate.passes();
     let ended = ended(case.alloc(), &status)?;
     Ok(Outcome {

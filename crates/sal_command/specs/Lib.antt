@@ -1,4 +1,5 @@
 pub mod Schemas
+pub mod Scripted
 pub mod Statuses
 pub mod Top
 pub mod Words

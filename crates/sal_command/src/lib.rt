@@ -7,7 +7,7 @@
 //! | `scripted` | a script's parts with the status of what is wrong, up to the hub that it is played over |
 //! | `schema`, `schema_fault` | the modules of a device; the texts of their faults |
 //!
-//! The script is read by `sal_script`, played by `sal_client` over `sal_hub`, and told by `sal_report`.
+//! The script is read by `sal_script`, run by `sal_run` over the broker or played by `sal_client` over a hub, and told by `sal_report`.
 #![tactic(auto)]
 
 pub mod schema;

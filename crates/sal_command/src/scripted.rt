@@ -1,12 +1,13 @@
 //! From the bytes of a script to what it is played over: the script, the reader of its domain, and the hub with the opening trees.
 ghost use Rattle.std.specs.Prelude.{◌≡◌, ◌++◌, [], ◌∷◌, codes, decimal, length, IfOk};
 ghost use Rattle.serde_json.specs.View.{view};
+ghost use Rattle.sal_history.specs.World.{table_of};
 ghost use Rattle.sal_hub.specs.Openings.{world_of};
 ghost use Rattle.sal_script.specs.Script.{script_of};
 ghost use Rattle.sal_script.specs.Reading.{parts};
 ghost use Rattle.sal_script.specs.Report.{breach_text, data_fault_text, path_text, store_text};
 ghost use Rattle.sal_command.specs.Schemas as schemas;
-ghost use Rattle.sal_command.specs.Top as spec;
+ghost use Rattle.sal_command.specs.Scripted as spec;
 
 use crate::schema::schema_of;
 use crate::schema_fault::SchemaFault;
@@ -24,6 +25,32 @@ use sal_types::{NoMemory, Path, Store, Str};
 use serde_json::Value;
 use std::alloc::Global;
 use std::sync::Arc;
+
+/// A script that was read, with the reader of its domain and the hub over its opening trees.
+#[derive(Drop)]
+pub struct Prepared {
+    pub script: Script,
+    pub reader: Reader,
+    pub hub: Hub,
+}
+
+/// Reads the script that the bytes stand for and opens the hub that it is played over. The first that is wrong is answered:
+/// with the script, its modules, their patterns, the data of the opening trees, or their rules.
+pub fn prepare(alloc: Global, bytes: &[u8]) -> Result<Prepared, Status>
+    ensures prepared { spec.Comes spec.seen (spec.prepared bytes.now) result }
+    ensures table { IfOk result (λ it. it.reader ≡ table_of it.hub.world 0) }
+    ensures fresh { IfOk result (λ it. it.hub.log ≡ []) }
+{
+    let script = script_of(alloc, bytes)?;
+    let schema = shared_schema(alloc, &script)?;
+    let reader = reader_of(alloc, &schema)?;
+    let hub = hub_over(alloc, &script, &schema, &reader)?;
+    Ok(Prepared {
+        script,
+        reader,
+        hub,
+    })
+}
 
 /// The script that the bytes stand for.
 pub fn script_of(alloc: Global, bytes: &[u8]) -> Result<Script, Status>
@@ -47,8 +74,8 @@ pub fn modules_schema(alloc: Global, script: &Script) -> Result<Schema, Status>
     }
 }
 
-/// The same schema, to be shared by what reads and what is read.
-pub fn shared_schema(alloc: Global, script: &Script) -> Result<Arc<Schema>, Status>
+// The same schema, to be shared by what reads and what is read.
+fn shared_schema(alloc: Global, script: &Script) -> Result<Arc<Schema>, Status>
     ensures { spec.Comes (λ schema. schema.value) (spec.or_schema (schemas.table_of script.now.modules)) result }
 {
     let schema = modules_schema(alloc, script)?;
@@ -58,8 +85,8 @@ pub fn shared_schema(alloc: Global, script: &Script) -> Result<Arc<Schema>, Stat
     }
 }
 
-/// What reads the paths and the data of a schema, where its patterns are well formed.
-pub fn reader_of(alloc: Global, schema: &Arc<Schema>) -> Result<Reader, Status>
+// What reads the paths and the data of a schema, where its patterns are well formed.
+fn reader_of(alloc: Global, schema: &Arc<Schema>) -> Result<Reader, Status>
     ensures reader { spec.Comes (λ reader. reader) (spec.if_formed schema.now.value) result }
     ensures same { IfOk result (λ reader. reader ≡ schema.now.value) }
 {
@@ -84,13 +111,8 @@ fn compiled(alloc: Global, schema: Arc<Schema>) -> Result<Reader, Status>
     }
 }
 
-/// The rows of the opening tree of a store.
-pub fn opening_of(
-    alloc: Global,
-    reader: &Reader,
-    store: Store,
-    value: &Value,
-) -> Result<Rows, Status>
+// The rows of the opening tree of a store.
+fn opening_of(alloc: Global, reader: &Reader, store: Store, value: &Value) -> Result<Rows, Status>
     ensures { spec.Comes (λ rows. rows) (spec.opening_rows reader.now store (view value.now)) result }
 {
     match reader.data(alloc, &Path::root(alloc), value) {
@@ -135,8 +157,26 @@ fn store_word(store: Store) -> &'static str
     }
 }
 
-/// The hub over the one domain with these opening trees, unless one of them is refused. The reader is of the same schema.
-pub fn hub_of(
+// The hub over the script's opening trees. The reader is of the same schema.
+fn hub_over(
+    alloc: Global,
+    script: &Script,
+    schema: &Arc<Schema>,
+    reader: &Reader,
+) -> Result<Hub, Status>
+    requires { reader.now ≡ schema.now.value }
+    ensures world { spec.Comes (λ hub. hub.world) (spec.world_over (parts script.now) reader.now) result }
+    ensures table { IfOk result (λ hub. reader.now ≡ table_of hub.world 0) }
+    ensures fresh { IfOk result (λ hub. hub.log ≡ []) }
+{
+    let config = opening_of(alloc, reader, Store::Config, &script.config)?;
+    let oper = opening_of(alloc, reader, Store::Oper, &script.operational)?;
+    let hub = hub_of(alloc, schema, reader, config, oper)?;
+    Ok(hub)
+}
+
+// The hub over the one domain with these opening trees, unless one of them is refused.
+fn hub_of(
     alloc: Global,
     schema: &Arc<Schema>,
     reader: &Reader,
@@ -145,6 +185,7 @@ pub fn hub_of(
 ) -> Result<Hub, Status>
     requires { reader.now ≡ schema.now.value }
     ensures world { spec.Comes (λ hub. hub.world) (spec.opened reader.now config oper) result }
+    ensures table { IfOk result (λ hub. reader.now ≡ table_of hub.world 0) }
     ensures fresh { IfOk result (λ hub. hub.log ≡ []) }
 {
     let devices = match devices_of(alloc, schema, reader, Opening { config, oper }) {

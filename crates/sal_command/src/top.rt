@@ -1,14 +1,16 @@
 //! The top call: all that the command does.
-ghost use Rattle.std.specs.Prelude.{◌≡◌, ◌↔◌, [], None, IfOk};
+ghost use Rattle.std.specs.Prelude.{◌≡◌, ◌↔◌, [], None, IfOk, IfErr};
 ghost use Rattle.sal_io.specs.Causes.{Rose};
 ghost use Rattle.sal_command.specs.Words.{form_of};
 ghost use Rattle.sal_tree.specs.Rows.{rows_of};
 ghost use Rattle.sal_history.specs.World.{table_of};
+ghost use Rattle.sal_script.specs.Moves.{clients_of};
 ghost use Rattle.sal_script.specs.Reading.{parts};
 ghost use Rattle.sal_script.specs.Report as report_spec;
+ghost use Rattle.sal_script.specs.SomeOrder.{IsReportInSomeOrder};
 ghost use Rattle.sal_command.specs.Top as spec;
 
-use crate::scripted;
+use crate::scripted::{self, Prepared};
 use crate::status::Status;
 use crate::words::{Form, form_of};
 use sal_client::{PlayFault, Played, Reader, play};
@@ -16,12 +18,13 @@ use sal_hub::Hub;
 use sal_io::{Gate, ReadFail, Sink, Source, read_all, write_all};
 use sal_report::report;
 use sal_rows::Rows;
-use sal_schema::Schema;
-use sal_script::Script;
+use sal_run::run;
+use sal_script::{Script, laws};
 use sal_tree::Root;
-use sal_types::{NoMemory, Path, Store, Str};
+use sal_types::{NoMemory, Path, Str};
 use std::alloc::Global;
-use std::sync::Arc;
+use std::sync::Wait;
+use std::thread::Threads;
 
 /// How many bytes a script has at most.
 pub const LIMIT: usize = 16777216;
@@ -29,13 +32,16 @@ pub const LIMIT: usize = 16777216;
 /// The help text.
 pub const HELP: &str = "mdsal: an SDN controller's data broker, run from a script\n\
 \n\
-usage: mdsal sim < SCRIPT\n\
+usage: mdsal run < SCRIPT\n\
+       mdsal sim < SCRIPT\n\
        mdsal schema < SCRIPT\n\
        mdsal --help | --version\n\
 \n\
-sim reads a JSON script from standard input, plays its clients' steps in the script's order on one thread, and\n\
-writes the report to standard output: the order, a line for each step, and the trees at the end. The script's\n\
-format is written in docs/DEFINITIONS.md, and examples/ has scripts with their reports.\n\
+run reads a JSON script from standard input, runs its clients at the same time, each on a thread of its own, and\n\
+writes the report to standard output: the order of their shared calls, a line for each step, and the trees at the\n\
+end. The script's format is written in docs/FORMATS.md, and examples/ has scripts with their reports.\n\
+\n\
+sim plays the same on one thread, in the order that the script gives, and writes the report of that.\n\
 \n\
 schema reads a script too, and writes the table of the schema that its modules build.\n\
 \n\
@@ -48,16 +54,18 @@ exit status, each but 0 with its line on standard error:\n\
   6  bad script at PLACE: the first bad place, as clients/0/2\n\
   7  bad schema DEVICE FAULT: the modules build no schema, as bad schema 0 module 0 unclosed 9\n\
   8  bad opening DEVICE STORE FAULT: an opening tree is no data of the schema, or it breaks a rule of it\n\
-  9  bad order at INDEX: the order names a client without a shared call left, or ends too early\n\
+  9  bad order at INDEX, sim alone: the order names a client without a shared call left, or ends too early\n\
  10  no memory\n";
 
 /// The name and version.
 pub const VERSION: &str = "mdsal 0.1.0\n";
 
 /// Runs the command: the words of its command line, its input, its output, and the gate that a client passes before
-/// each of its steps. What a report of a played script says of its order is the law `plays_follow_their_order` of
-/// `sal_script`.
-pub fn mdsal<S: Source, K: Sink, G: Gate>(
+/// each of its steps. With `run` it starts a thread for each client and waits for them. What a report of a played script
+/// says of its order is the law `plays_follow_their_order` of `sal_script`; that its first line tells one order and no
+/// other is `first_lines_tell_one_order`.
+pub fn mdsal<R: Threads + Wait + Sync, S: Source, K: Sink, G: Gate>(
+    rt: &R,
     alloc: Global,
     words: &[Str],
     source: &mut S,
@@ -72,10 +80,32 @@ pub fn mdsal<S: Source, K: Sink, G: Gate>(
 {
     match form_of(words) {
         None => Status::BadWords,
+        Some(Form::Run) => run_clients(rt, alloc, source, sink, gate),
         Some(Form::Sim) => simulate(alloc, source, sink, gate),
         Some(Form::Schema) => describe(alloc, source, sink),
         Some(Form::Help) => write_text(sink, HELP),
         Some(Form::Version) => write_text(sink, VERSION),
+    }
+}
+
+// Reads the script, runs its clients, and writes the report.
+fn run_clients<R: Threads + Wait + Sync, S: Source, K: Sink, G: Gate>(
+    rt: &R,
+    alloc: Global,
+    source: &mut S,
+    sink: &mut K,
+    gate: &G,
+) -> Status
+    ensures read_fault { result ≡ Status.ReadFault → Rose (S.faults source.old) (S.faults source.new) }
+    ensures write_fault { result ≡ Status.WriteFault → Rose (K.faults sink.old) (K.faults sink.new) }
+    ensures answer { spec.TextAnswers spec.RunsTo (S.left source.old) (S.left source.new) (K.taken sink.old) (K.taken sink.new) result }
+{
+    match input_of(alloc, source) {
+        Ok(bytes) => match run_text(rt, alloc, &bytes, gate) {
+            Ok(text) => write_text(sink, text.as_str()),
+            Err(status) => status,
+        },
+        Err(status) => status,
     }
 }
 
@@ -88,16 +118,14 @@ fn simulate<S: Source, K: Sink, G: Gate>(
 ) -> Status
     ensures read_fault { result ≡ Status.ReadFault → Rose (S.faults source.old) (S.faults source.new) }
     ensures write_fault { result ≡ Status.WriteFault → Rose (K.faults sink.old) (K.faults sink.new) }
-    ensures answer { spec.TextAnswers spec.sim_text (S.left source.old) (S.left source.new) (K.taken sink.old) (K.taken sink.new) result }
+    ensures answer { spec.TextAnswers (spec.IsMadeBy spec.sim_text) (S.left source.old) (S.left source.new) (K.taken sink.old) (K.taken sink.new) result }
 {
-    match read_all(alloc, source, LIMIT) {
-        Err(ReadFail::ReadFault) => Status::ReadFault,
-        Err(ReadFail::TooLong) => Status::TooLong,
-        Err(ReadFail::NoMemory) => Status::NoMemory,
+    match input_of(alloc, source) {
         Ok(bytes) => match sim_text(alloc, &bytes, gate) {
             Ok(text) => write_text(sink, text.as_str()),
             Err(status) => status,
         },
+        Err(status) => status,
     }
 }
 
@@ -105,16 +133,27 @@ fn simulate<S: Source, K: Sink, G: Gate>(
 fn describe<S: Source, K: Sink>(alloc: Global, source: &mut S, sink: &mut K) -> Status
     ensures read_fault { result ≡ Status.ReadFault → Rose (S.faults source.old) (S.faults source.new) }
     ensures write_fault { result ≡ Status.WriteFault → Rose (K.faults sink.old) (K.faults sink.new) }
-    ensures answer { spec.TextAnswers spec.schema_text (S.left source.old) (S.left source.new) (K.taken sink.old) (K.taken sink.new) result }
+    ensures answer { spec.TextAnswers (spec.IsMadeBy spec.schema_text) (S.left source.old) (S.left source.new) (K.taken sink.old) (K.taken sink.new) result }
 {
-    match read_all(alloc, source, LIMIT) {
-        Err(ReadFail::ReadFault) => Status::ReadFault,
-        Err(ReadFail::TooLong) => Status::TooLong,
-        Err(ReadFail::NoMemory) => Status::NoMemory,
+    match input_of(alloc, source) {
         Ok(bytes) => match schema_text(alloc, &bytes) {
             Ok(text) => write_text(sink, text.as_str()),
             Err(status) => status,
         },
+        Err(status) => status,
+    }
+}
+
+// All bytes of the input.
+fn input_of<S: Source>(alloc: Global, source: &mut S) -> Result<Vec<u8>, Status>
+    ensures read_fault { IfErr result (λ status. status ≡ Status.ReadFault → Rose (S.faults source.old) (S.faults source.new)) }
+    ensures input { spec.IsInputOr (S.left source.old) (S.left source.new) result }
+{
+    match read_all(alloc, source, LIMIT) {
+        Ok(bytes) => Ok(bytes),
+        Err(ReadFail::ReadFault) => Err(Status::ReadFault),
+        Err(ReadFail::TooLong) => Err(Status::TooLong),
+        Err(ReadFail::NoMemory) => Err(Status::NoMemory),
     }
 }
 
@@ -130,34 +169,58 @@ fn schema_text(alloc: Global, bytes: &[u8]) -> Result<Str, Status>
     }
 }
 
-// The report of the script that the bytes stand for.
-fn sim_text<G: Gate>(alloc: Global, bytes: &[u8], gate: &G) -> Result<Str, Status>
-    ensures { spec.IsTextOr (spec.sim_text bytes.now) result }
-{
-    let script = scripted::script_of(alloc, bytes)?;
-    let schema = scripted::shared_schema(alloc, &script)?;
-    let reader = scripted::reader_of(alloc, &schema)?;
-    play_text(alloc, &script, &schema, &reader, gate)
-}
-
-// The report of the script over its domain.
-fn play_text<G: Gate>(
+// The report of the script that the bytes stand for, its clients run at the same time.
+fn run_text<R: Threads + Wait + Sync, G: Gate>(
+    rt: &R,
     alloc: Global,
-    script: &Script,
-    schema: &Arc<Schema>,
-    reader: &Reader,
+    bytes: &[u8],
     gate: &G,
 ) -> Result<Str, Status>
-    requires { reader.now ≡ schema.now.value }
-    ensures { spec.IsTextOr (spec.play_text (parts script.now) reader.now) result }
+    ensures { spec.IsRunOr bytes.now result }
 {
-    let config = scripted::opening_of(alloc, reader, Store::Config, &script.config)?;
-    let oper = scripted::opening_of(alloc, reader, Store::Oper, &script.operational)?;
-    let hub = scripted::hub_of(alloc, schema, reader, config, oper)?;
-    play_over(alloc, script, reader, hub, gate)
+    let Prepared {
+        script,
+        reader,
+        hub,
+    } = scripted::prepare(alloc, bytes)?;
+    match run_over(rt, alloc, &script, &reader, hub, gate) {
+        Ok(text) => Ok(text),
+        Err(NoMemory) => Err(Status::NoMemory),
+    }
 }
 
-// The report of the script over a hub without calls.
+// The same over a hub without calls.
+fn run_over<R: Threads + Wait + Sync, G: Gate>(
+    rt: &R,
+    alloc: Global,
+    script: &Script,
+    reader: &Reader,
+    hub: Hub,
+    gate: &G,
+) -> Result<Str, NoMemory>
+    requires table { reader.now ≡ table_of hub.world 0 }
+    requires fresh { hub.log ≡ [] }
+    ensures { IfOk result (IsReportInSomeOrder hub.world (clients_of script.now.clients)) }
+{
+    laws::what_is_left_is_reported();
+    let left = run(rt, alloc, reader, script, hub, gate)?;
+    let text = report_of(alloc, reader, &left)?;
+    Ok(text)
+}
+
+// The report of the script that the bytes stand for, played in its order.
+fn sim_text<G: Gate>(alloc: Global, bytes: &[u8], gate: &G) -> Result<Str, Status>
+    ensures { spec.IsPlayOr (spec.sim_text bytes.now) result }
+{
+    let Prepared {
+        script,
+        reader,
+        hub,
+    } = scripted::prepare(alloc, bytes)?;
+    play_over(alloc, &script, &reader, hub, gate)
+}
+
+// The same over a hub without calls.
 fn play_over<G: Gate>(
     alloc: Global,
     script: &Script,
@@ -167,7 +230,7 @@ fn play_over<G: Gate>(
 ) -> Result<Str, Status>
     requires table { reader.now ≡ table_of hub.world 0 }
     requires fresh { hub.log ≡ [] }
-    ensures { spec.IsTextOr (spec.play_over (parts script.now) hub.world) result }
+    ensures { spec.IsPlayOr (spec.play_over (parts script.now) hub.world) result }
 {
     match play(alloc, reader, script, hub, gate) {
         Ok(played) => match report_of(alloc, reader, &played) {

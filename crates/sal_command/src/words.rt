@@ -7,6 +7,8 @@ use sal_types::Str;
 /// A form of the command.
 #[derive(Clone, Copy, Debug, PartialEq, Eq)]
 pub enum Form {
+    /// Runs the script's clients on threads of their own and writes the report.
+    Run,
     /// Plays the script in its order and writes the report.
     Sim,
     /// Judges the script's modules, and writes the text of their schema.
@@ -30,7 +32,9 @@ pub fn form_of(words: &[Str]) -> Option<Form>
 fn form_named(word: &str) -> Option<Form>
     ensures { result ≡ form_of (word.now ∷ []) }
 {
-    if word == "sim" {
+    if word == "run" {
+        Some(Form::Run)
+    } else if word == "sim" {
         Some(Form::Sim)
     } else if word == "schema" {
         Some(Form::Schema)

@@ -75,7 +75,7 @@ pub new_stands : (table : SchemaTable) (lock : TableId) (programs : List (List S
 new_stands table lock programs s steps limits json is at =
     let v : SeatView = s.seat.view in
     let start : IsAt table (known v).world v.number (moves_of steps) v.seen (new_run (moves_of steps)) =
-        at_found_own table (known v).world v.number (moves_of steps) [] v.seen [] (new_run (moves_of steps)) (v.seen, refl) refl is.none (at_start table (known v).world v.number (moves_of steps)) in
+    at_found_own table (known v).world v.number (moves_of steps) [] v.seen [] (new_run (moves_of steps)) (v.seen, refl) refl is.none (at_start table (known v).world v.number (moves_of steps)) in
     record {
       number = is.number;
       reads = is.reads;
@@ -105,9 +105,9 @@ seated_more lock v w n runs s are is same = record {
   each = λ i t at. ⊎_elim
       (λ (h : slice_get runs i ≡ Some t). are.each i t h)
       (λ (h : (i ≡ length runs) × (s ≡ t)).
-        let number : n ≡ i = sym (h.0 ∙ are.long) in
-        subst (λ (k : ℕ). IsSeated lock v k t) number (subst (λ (x : SeatedRun). IsSeated lock v n x) h.1
-        (record { lock = is.lock; view = is.view ∙ same; number = is.number; at = is.at; client = is.client; sound = is.sound })))
+      let number : n ≡ i = sym (h.0 ∙ are.long) in
+      subst (λ (k : ℕ). IsSeated lock v k t) number (subst (λ (x : SeatedRun). IsSeated lock v n x) h.1
+      (record { lock = is.lock; view = is.view ∙ same; number = is.number; at = is.at; client = is.client; sound = is.sound })))
       (get-push runs s i t at);
 }
 
@@ -263,9 +263,9 @@ module _ (table : SchemaTable) (lock : TableId) (programs : List (List ScriptSte
   covers_all k i = ⊎_elim
       (λ (e : 65535 ≡ k). inl (number_is ∙ e))
       (λ (h : In k (upto (length programs))).
-        let l = in_upto (length programs) k h in
-        let own = get_some ran.clients k (let long = ran.long in omega (arith, l, long)) in
-        inr (own.0.seat.view.own, one_in k own.0 own.1))
+      let l = in_upto (length programs) k h in
+      let own = get_some ran.clients k (let long = ran.long in omega (arith, l, long)) in
+      inr (own.0.seat.view.own, one_in k own.0 own.1))
       (subst (In k) (ran.joins.rights begun.splits).1 i)
 
   -- no other number is
@@ -273,11 +273,11 @@ module _ (table : SchemaTable) (lock : TableId) (programs : List (List ScriptSte
   none_else k high other a = ⊎_elim
       (λ (e : place.view.number ≡ k). other (sym e ∙ number_is))
       (λ (h : (es : List Entry) × In (k, es) place.view.joined).
-        let m = map_in ran.clients (k, h.0) (subst (In (k, h.0)) ran.joins.joined h.1) in
-        let is : m.0 ≡ k = sym (ran.each m.0 m.1 m.2).keeps.1.0 ∙ ap (λ (p : ℕ × List Entry). p.0) m.3 in
-        let within = slice_get_within ran.clients m.0 m.1 m.2 in
-        let long = ran.long in
-        absurd (omega (arith, is, within, long, high)))
+      let m = map_in ran.clients (k, h.0) (subst (In (k, h.0)) ran.joins.joined h.1) in
+      let is : m.0 ≡ k = sym (ran.each m.0 m.1 m.2).keeps.1.0 ∙ ap (λ (p : ℕ × List Entry). p.0) m.3 in
+      let within = slice_get_within ran.clients m.0 m.1 m.2 in
+      let long = ran.long in
+      absurd (omega (arith, is, within, long, high)))
       a
     where
       map_in : (fs : List Finished) (y : ℕ × List Entry) → In y (map named fs) → (i : ℕ) × (f : Finished) × (slice_get fs i ≡ Some f) × (named f ≡ y)
@@ -377,8 +377,8 @@ module _ (table : SchemaTable) (lock : TableId) (programs : List (List ScriptSte
           let starts = prefix_trans f.seat.view.seen place.view.seen hub.log (ran.joins.seen c f own.1) seen in
           let last : Run = record { client = client_of f.run.client; steps = [] } in
           let at : IsAt table hub.world c (moves_of p.0) f.seat.view.seen last =
-              subst (λ (w : List Domain). IsAt table w c (moves_of p.0) f.seat.view.seen last) there
-              (subst (λ (n : ℕ). IsAt table (known f.seat.view).world n (moves_of p.0) f.seat.view.seen last) number ended.at) in
+          subst (λ (w : List Domain). IsAt table w c (moves_of p.0) f.seat.view.seen last) there
+          (subst (λ (n : ℕ). IsAt table (known f.seat.view).world n (moves_of p.0) f.seat.view.seen last) number ended.at) in
           let whole : entries_by maker_of c f.seat.view.seen ≡ f.seat.view.own = subst (λ (n : ℕ). entries_by maker_of n f.seat.view.seen ≡ f.seat.view.own) number ended.whole in
           let closed = at_found_own table hub.world c (moves_of p.0) f.seat.view.seen hub.log f.seat.view.own last starts whole (theirs c f own.1) at in
           let finishes : Finishes table hub.world c hub.log (moves_of p.0) (replies_in f.run) = at_end table hub.world c (moves_of p.0) hub.log (client_of f.run.client) closed in

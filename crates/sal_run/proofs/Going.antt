@@ -83,7 +83,7 @@ pub none_behind : (c : ℕ) (log found own : List Entry) (begins : IsPrefix log 
 none_behind c log found own begins before after =
     let p : Entry → Bool = λ e. nat_eq e.client c in
     let whole : length (filter p found) ≡ length (filter p log) + length (filter p begins.0) =
-        ap (λ (l : List Entry). length (filter p l)) (sym begins.1) ∙ ap length (filter-append p log begins.0) ∙ length-append (filter p log) (filter p begins.0) in
+    ap (λ (l : List Entry). length (filter p l)) (sym begins.1) ∙ ap length (filter-append p log begins.0) ∙ length-append (filter p log) (filter p begins.0) in
     let first = ap length before in
     let second = ap length after in
     sym (length-filter p begins.0) ∙ omega (arith, whole, first, second)
@@ -153,7 +153,7 @@ module _ (lasts : TokensLast) (table : SchemaTable) (steps : List ScriptStep) (c
     at = subst (λ (w : List Domain). IsAt table w c (moves_of steps) known'.log (run_of steps new)) (sym same)
         (subst (λ (n : ℕ). IsAt table known.world c (moves_of steps) known'.log (record { client = client_of new.client; steps = moves_from n steps })) (sym at)
         (at_made table c (moves_of steps) known known' (asking wish steps old) (record { client = client_of new.client; steps = moves_from old.at steps }) makes.1 (makes.0 (moves_from old.at steps))
-          (began_of known' new.client sound)
-          (subst (λ (w : List Domain). ListensIn w c known'.log (client_of new.client)) same (subst (λ (n : ℕ). ListensIn known'.world n known'.log (client_of new.client)) (number ∙ was.number) (listens_of known' new.client sound)))
-          was.at));
+        (began_of known' new.client sound)
+        (subst (λ (w : List Domain). ListensIn w c known'.log (client_of new.client)) same (subst (λ (n : ℕ). ListensIn known'.world n known'.log (client_of new.client)) (number ∙ was.number) (listens_of known' new.client sound)))
+        was.at));
   }

@@ -52,9 +52,9 @@ pub few_more : (v w : SeatView) (client : ℕ) (found left : Known) → OneMoreA
 few_more v w client found left added turn =
     let own : length w.own ≡ length v.own + length (drop (length found.log) left.log) = ap length turn.own ∙ length-append v.own (drop (length found.log) left.log) in
     ⊎_elim
-      (λ (h : left ≡ found). let none = nothing (h) in omega (arith, own, none))
-      (λ (h : (e : Entry) × (e.client ≡ v.number) × (left ≡ more found e)). let one = something h.0 h.2 in omega (arith, own, one))
-      added
+    (λ (h : left ≡ found). let none = nothing (h) in omega (arith, own, none))
+    (λ (h : (e : Entry) × (e.client ≡ v.number) × (left ≡ more found e)). let one = something h.0 h.2 in omega (arith, own, one))
+    added
   where
     nothing : left ≡ found → length (drop (length found.log) left.log) ≡ 0
     nothing h = ap (λ (k : Known). length (drop (length found.log) k.log)) h ∙ ap (λ (l : List Entry). length (drop (length found.log) l)) (sym (append-nil found.log)) ∙ ap length (behind found.log (let none : List Entry = [] in none))
@@ -75,14 +75,14 @@ module _ (lasts : TokensLast) (table : SchemaTable) (steps : List ScriptStep) (v
   left_stands lock h left w wish old new enters rights turn makes sound at number was =
       let found = found_stands lock h old (asking wish steps old) enters was in
       let makes' : MakesNext table v.number h.found wish (client_of old.client) left (client_of new.client) =
-          subst (λ (k : Known). MakesNext table v.number k wish (client_of old.client) left (client_of new.client)) enters.hub
-          (subst (λ (n : ℕ). MakesNext table n h.hub wish (client_of old.client) left (client_of new.client)) was.number makes) in
+      subst (λ (k : Known). MakesNext table v.number k wish (client_of old.client) left (client_of new.client)) enters.hub
+      (subst (λ (n : ℕ). MakesNext table n h.hub wish (client_of old.client) left (client_of new.client)) was.number makes) in
       let grown = makes'.1 in
       let e : Entry = grown.0 in
       let own' : w.own ≡ v.own ++ e ∷ [] =
-          turn.own ∙ (λ k. enters.own k ++ drop (length h.found.log) (grown.2 k).log) ∙ ap (λ (l : List Entry). v.own ++ l) (behind h.found.log (e ∷ [])) in
+      turn.own ∙ (λ k. enters.own k ++ drop (length h.found.log) (grown.2 k).log) ∙ ap (λ (l : List Entry). v.own ++ l) (behind h.found.log (e ∷ [])) in
       let mine : entries_by maker_of v.number left.log ≡ v.own ++ e ∷ [] =
-          ap (λ (k : Known). entries_by maker_of v.number k.log) grown.2 ∙ mine_more v.number h.found.log v.own e grown.1 enters.mine in
+      ap (λ (k : Known). entries_by maker_of v.number k.log) grown.2 ∙ mine_more v.number h.found.log v.own e grown.1 enters.mine in
       let same : left.world ≡ h.found.world = ap (λ (k : Known). k.world) grown.2 in
       let made = stands_made lasts table steps v.number h.found left v.own (v.own ++ e ∷ []) wish old new same makes' sound at number mine found in
       subst (λ (n : ℕ). StandsIn table steps n (known w) w.own new (run_of steps new)) (sym (rights.0 ∙ enters.rights.0))

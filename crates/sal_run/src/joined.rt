@@ -92,8 +92,7 @@ pub(crate) fn join_all(
         run,
         seat: other,
         end,
-    } in finished
-    {
+    } in finished {
         seat = sal.join(seat, other);
         replies = with_next(replies, run, end);
     }

@@ -4,7 +4,6 @@ use Rattle.std.specs.Prelude.{nat_eq, nat_le, slice_get, unwrap_or, Result, Ok, 
 use Rattle.std.specs.List.{filter, list_all}
 use Rattle.std.specs.Option.{option_map}
 use Rattle.std.proofs.lemmas.Bool.{and_parts, eq-eqb, eqb-true, leb-true}
-use Rattle.std.proofs.lemmas.List.{length-map, map-append}
 use Rattle.std.proofs.lemmas.List.Sums.{length-filter}
 use Rattle.std.proofs.lemmas.Option.{get_or_from_slice_get, same_Some, slice_get-map, slice_get_read, slice_get_within}
 use mathlib.Core.List.{IsPrefix}
@@ -43,6 +42,16 @@ use Rattle.sal_run.specs.Ran.{AreRan, IsOpening}
 use Rattle.sal_run.specs.Stands.{HasEnded, Stands, StandsIn}
 use Rattle.sal_run.specs.Worked.{IsNew, Worked}
 
+-- ---- lists
+
+map_long : {X Y : Type 0} (f : X → Y) (xs : List X) → length (map f xs) ≡ length xs
+map_long f [] = refl
+map_long f (x ∷ xs) = ap suc (map_long f xs)
+
+map_push : {X Y : Type 0} (f : X → Y) (xs : List X) (x : X) → map f (xs ++ x ∷ []) ≡ map f xs ++ f x ∷ []
+map_push f [] x = refl
+map_push f (y ∷ xs) x = ap (λ (ys : List _). f y ∷ ys) (map_push f xs x)
+
 -- ---- programs
 
 short_programs : (ps : List (List ScriptStep)) (i : ℕ) (p : List ScriptStep) → list_all (λ (q : List ScriptStep). nat_le (length q) 60000) ps ≡ true → slice_get ps i ≡ Some p → length p ≤ 60000
@@ -65,7 +74,7 @@ moves_short [] all = refl
 moves_short (q ∷ ps) all =
     let parts = and_parts (nat_le (length q) 60000) (list_all (λ (r : List ScriptStep). nat_le (length r) 60000) ps) all in
     let rest = moves_short ps parts.1 in
-    let first : nat_le (length (moves_of q)) 60000 ≡ true = ap (λ (n : ℕ). nat_le n 60000) (length-map move_of q) ∙ parts.0 in
+    let first : nat_le (length (moves_of q)) 60000 ≡ true = ap (λ (n : ℕ). nat_le n 60000) (map_long move_of q) ∙ parts.0 in
     (λ k. first k && rest k)
 
 -- ---- one client, before its first step
@@ -159,7 +168,7 @@ joins_more lock v fs f p q alone is view first second was = record {
   joined =
       ap (λ (w : SeatView). w.joined) view
       ∙ (λ k. was.joined k ++ ((f.seat.view.number, f.seat.view.own) ∷ alone k))
-      ∙ sym (map-append named fs (f ∷ []));
+      ∙ sym (map_push named fs f);
   seen = λ i g at. ⊎_elim
       (λ (h : slice_get fs i ≡ Some g). prefix_trans g.seat.view.seen p.view.seen q.view.seen (was.seen i g h) first)
       (λ (h : (i ≡ length fs) × (f ≡ g)). subst (λ (x : Finished). IsPrefix x.seat.view.seen q.view.seen) h.1 second)
@@ -205,7 +214,7 @@ module _ (fs : List Finished) (f : Finished) (replies result : Result (List (Lis
   pub collects_more : (result ≡ with_replies replies f.end (replies_in f.run)) ⊎ (result ≡ Err NoMemory) → Collects fs replies → Collects (fs ++ f ∷ []) result
   collects_more made was = record {
     all = λ list is. let o = made_ok list is in
-        sym o.3 ∙ (λ k. was.all o.0 o.1 k ++ replies_in f.run ∷ []) ∙ sym (map-append (λ (g : Finished). replies_in g.run) fs (f ∷ []));
+        sym o.3 ∙ (λ k. was.all o.0 o.1 k ++ replies_in f.run ∷ []) ∙ sym (map_push (λ (g : Finished). replies_in g.run) fs f);
     ended = λ list is i g at. let o = made_ok list is in ⊎_elim
         (λ (h : slice_get fs i ≡ Some g). was.ended o.0 o.1 i g h)
         (λ (h : (i ≡ length fs) × (f ≡ g)). ap (λ (x : Finished). x.end) (sym h.1) ∙ o.2)
@@ -310,7 +319,7 @@ module _ (table : SchemaTable) (lock : TableId) (programs : List (List ScriptSte
 
     pub all_known : (i : ℕ) (e : Entry) → slice_get hub.log i ≡ Some e → e.client < length (clients_of programs)
     all_known i e at = ⊎_elim
-        (λ (h : e.client < length programs). let same = length-map moves_of programs in omega (arith, h, same))
+        (λ (h : e.client < length programs). let same = map_long moves_of programs in omega (arith, h, same))
         (λ (high : length programs ≤ e.client). absurd (by (nat_eq e.client 65535) refl high))
         (below_or e.client (length programs))
       where
@@ -327,7 +336,7 @@ module _ (table : SchemaTable) (lock : TableId) (programs : List (List ScriptSte
     -- what the clients' programs are, as moves
     program_of : (c : ℕ) (steps : List Move) → slice_get (clients_of programs) c ≡ Some steps → (p : List ScriptStep) × (slice_get programs c ≡ Some p) × (moves_of p ≡ steps)
     program_of c steps at =
-        let within : c < length programs = let l = slice_get_within (clients_of programs) c steps at in let same = length-map moves_of programs in omega (arith, l, same) in
+        let within : c < length programs = let l = slice_get_within (clients_of programs) c steps at in let same = map_long moves_of programs in omega (arith, l, same) in
         let own = get_some programs c within in
         (own.0, own.1, same_Some (moves_of own.0) steps (sym (slice_get-map moves_of programs c ∙ ap (option_map moves_of) own.1) ∙ at))
 
@@ -337,7 +346,7 @@ module _ (table : SchemaTable) (lock : TableId) (programs : List (List ScriptSte
         limits' : IsTrue (within_limits (clients_of programs))
         limits' =
             let parts = and_parts (nat_le (length programs) 16) (list_all (λ (q : List ScriptStep). nat_le (length q) 60000) programs) limits in
-            (λ k. (ap (λ (n : ℕ). nat_le n 16) (length-map moves_of programs) ∙ parts.0) k && moves_short programs parts.1 k)
+            (λ k. (ap (λ (n : ℕ). nat_le n 16) (map_long moves_of programs) ∙ parts.0) k && moves_short programs parts.1 k)
 
         few : (c : ℕ) (steps : List Move) → slice_get (clients_of programs) c ≡ Some steps → entries_of hub.log c ≤ length steps
         few c steps at =
@@ -345,7 +354,7 @@ module _ (table : SchemaTable) (lock : TableId) (programs : List (List ScriptSte
             let own = get_some ran.clients c (let l = slice_get_within programs c p.0 p.1 in let long = ran.long in omega (arith, l, long)) in
             let most = (ran.each c own.0 own.1).few p.0 p.1 in
             let count = sym (length-filter (λ (e : Entry). nat_eq e.client c) hub.log) ∙ ap length (theirs c own.0 own.1) in
-            let same : length (moves_of p.0) ≡ length p.0 = length-map move_of p.0 in
+            let same : length (moves_of p.0) ≡ length p.0 = map_long move_of p.0 in
             let as_moves = ap length p.2 in
             omega (arith, most, count, same, as_moves)
 
@@ -364,7 +373,7 @@ module _ (table : SchemaTable) (lock : TableId) (programs : List (List ScriptSte
     pub are_left : table ≡ table_of hub.world 0 → (list : List (List StepReply)) → replies ≡ Ok list → AreLeft hub.world (clients_of programs) hub.log list
     are_left reads list is = record {
       known = all_known;
-      all = ap length (ran.collects.all list is) ∙ (length-map (λ (g : Finished). replies_in g.run) ran.clients ∙ (ran.long ∙ sym (length-map moves_of programs)));
+      all = ap length (ran.collects.all list is) ∙ (map_long (λ (g : Finished). replies_in g.run) ran.clients ∙ (ran.long ∙ sym (map_long moves_of programs)));
       each = λ c steps rs at_steps at_rs.
           let p = program_of c steps at_steps in
           let own = get_some ran.clients c (let l = slice_get_within programs c p.0 p.1 in let long = ran.long in omega (arith, l, long)) in

@@ -1,6 +1,6 @@
 -- The client of a seat, through its turns.
 use Rattle.std.proofs.Common.{◌≡◌, ◌⊎◌, ⊎_elim, inl, inr, ℕ, zero, suc, ◌+◌, ◌<◌, ◌≤◌, List, [], ◌∷◌, ◌++◌, Bool, true, false, length, drop, Option, None, Some, IsTrue, refl, ap, sym, ◌∙◌, subst, arith, append-nil, length-append}
-use Rattle.std.specs.Prelude.{nat_eq, slice_get, unwrap_or}
+use Rattle.std.specs.Prelude.{nat_eq, slice_get, unwrap_or, cond}
 use Rattle.std.specs.List.{filter, list_all}
 use Rattle.std.proofs.lemmas.Bool.{eq-eqb}
 use Rattle.std.proofs.lemmas.List.Elements.{filter-append}
@@ -45,7 +45,7 @@ mine_more c log own e is was =
     ∙ (λ k. was k ++ one k)
   where
     one : filter (λ (x : Entry). nat_eq x.client c) (e ∷ []) ≡ e ∷ []
-    one = ap (λ (b : Bool). let kept : List Entry = if b then e ∷ [] else [] in kept) (eq-eqb e.client c is)
+    one = ap (λ (b : Bool). let kept : List Entry = cond b (e ∷ []) [] in kept) (eq-eqb e.client c is)
 
 -- the own entries are at most one more
 pub few_more : (v w : SeatView) (client : ℕ) (found left : Known) → OneMoreAtMost v found left → TurnOf v client found left w → length w.own ≤ length v.own + 1

@@ -22,10 +22,10 @@ upto zero = []
 upto (suc n) = upto n ++ n ∷ []
 
 -- a client at its beginning, with a new seat of its number off the giver's
-pub record IsSeated (lock : TableId) (giver : SeatView) (number : ℕ) (s : SeatedRun) : Type 0 where
-  pub lock : s.seat.lock ≡ lock
-  pub view : s.seat.view ≡ newcomer number giver
-  pub number : s.run.client.number ≡ number
+pub record IsSeated (turn : TableId) (giver : SeatView) (n : ℕ) (s : SeatedRun) : Type 0 where
+  pub lock : s.seat.lock ≡ turn
+  pub view : s.seat.view ≡ newcomer n giver
+  pub number : s.run.client.number ≡ n
   pub at : s.run.at ≡ 0
   pub client : client_of s.run.client ≡ new_client
   pub sound : (known : Known) → IsSound known s.run.client
@@ -46,8 +46,8 @@ abbrev pub named : Finished → ℕ × List Entry
 named f = (f.seat.view.number, f.seat.view.own)
 
 -- the seat that knew v with all that the clients' seats knew
-pub record Joins (lock : TableId) (v : SeatView) (fs : List Finished) (place : Place Entry (List Domain)) : Type 0 where
-  pub lock : place.lock ≡ lock
+pub record Joins (turn : TableId) (v : SeatView) (fs : List Finished) (place : Place Entry (List Domain)) : Type 0 where
+  pub lock : place.lock ≡ turn
   pub number : place.view.number ≡ v.number
   pub ground : place.view.ground ≡ v.ground
   pub own : place.view.own ≡ v.own

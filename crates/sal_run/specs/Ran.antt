@@ -14,8 +14,8 @@ use Rattle.sal_run.specs.Joined.{Collects, Joins, upto}
 use Rattle.sal_run.specs.Worked.{Worked}
 
 -- the opening seat of the lock, which has given no number and has seen nothing
-pub record IsOpening (lock : TableId) (p : Place Entry (List Domain)) : Type 0 where
-  pub lock : p.lock ≡ lock
+pub record IsOpening (turn : TableId) (p : Place Entry (List Domain)) : Type 0 where
+  pub lock : p.lock ≡ turn
   pub number : p.view.number ≡ 65535
   pub seen : p.view.seen ≡ []
   pub own : p.view.own ≡ []

@@ -36,8 +36,8 @@ pub record HasEnded (table : SchemaTable) (steps : List ScriptStep) (v : SeatVie
   pub at : IsAt table (known v).world v.number (moves_of steps) v.seen (record { client = client_of r.client; steps = [] })
 
 -- a turn of a seat that knew v, in which nothing is done yet
-pub record Enters (lock : TableId) (v : SeatView) (h : Holding) : Type 0 where
-  pub lock : h.lock ≡ lock
+pub record Enters (turn : TableId) (v : SeatView) (h : Holding) : Type 0 where
+  pub lock : h.lock ≡ turn
   pub rights : SameRights v h.view
   pub own : h.view.own ≡ v.own
   pub hub : h.hub ≡ h.found

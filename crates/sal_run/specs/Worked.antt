@@ -18,8 +18,8 @@ use Rattle.sal_run.specs.declared.clients.Finished.{Finished}
 use Rattle.sal_run.specs.Stands.{HasEnded}
 
 -- The client is at the beginning of the program of its number, and its seat, of that number too, has no entries.
-pub record IsNew (table : SchemaTable) (lock : TableId) (programs : List (List ScriptStep)) (s : SeatedRun) : Type 0 where
-  pub lock : s.seat.lock ≡ lock
+pub record IsNew (table : SchemaTable) (turn : TableId) (programs : List (List ScriptStep)) (s : SeatedRun) : Type 0 where
+  pub lock : s.seat.lock ≡ turn
   pub number : s.run.client.number ≡ s.seat.view.number
   pub has : s.run.client.number < length programs
   pub at : s.run.at ≡ 0

@@ -55,8 +55,8 @@ impl<'a, G: Gate> Worker<'a, G> {
         requires room { length seat.view.own < run.old.at }
         ensures same { Keeps self.now.sal.now seat result.0 }
         ensures few { length result.0.view.own ≤ run.old.at }
-        ensures number { run.new.client.number ≡ run.old.client.number }
-        ensures at { run.new.at ≡ run.old.at }
+        ensures number { OnOk result.1 (run.new.client.number ≡ run.old.client.number) }
+        ensures at { OnOk result.1 (run.new.at ≡ run.old.at) }
         ensures goes { result.1 ≡ Ok true → Stands self.now.reader.now self.now.steps.now result.0.view run.new (run_of self.now.steps.now run.new) }
         ensures made { result.1 ≡ Ok false → ⊥ }
         ensures full { result.1 ≡ Err RunFault.HistoryFull → limit ≤ length result.0.view.seen }
@@ -91,6 +91,7 @@ impl<'a, G: Gate> Worker<'a, G> {
         ensures ended { result.1 ≡ Ok false → HasEnded self.now.reader.now self.now.steps.now result.0.view run.new }
         ensures full { result.1 ≡ Err RunFault.HistoryFull → limit ≤ length result.0.view.seen }
     {
+        laws::tokens_last();
         match run.next(alloc, self.reader, self.steps, self.gate) {
             Ok(Some(wish)) => self.call(rt, alloc, run, seat, &wish),
             Ok(None) => (seat, Ok(false)),

@@ -1,0 +1,47 @@
+-- The client makes its call on the hub that its turn found.
+use Rattle.std.proofs.Common.{◌≡◌, ◌<◌, ◌≤◌, ℕ, length, ap, sym, ◌∙◌, subst, arith}
+use Rattle.sal_hub.specs.Known.{Known}
+use Rattle.sal_client.specs.Clients.{IsSound, client_of}
+use Rattle.sal_client.specs.Runs.{MakesNext, asking}
+use Rattle.sal_run.proofs.Standing.{few_more, found_stands, left_stands, one_more}
+use Rattle.sal_run.proofs.worker.Worker.call.Goals as goal
+
+pub make-made-requires-clause-sound : goal.make-made-requires-clause-sound
+make-made-requires-clause-sound g c =
+    let last = c.tokens_last.ensures in
+    let enters = c.turn_for-held.ensures in
+    let found = found_stands (last.begun, last.given, last.opened) c.args.self.now.reader.now c.args.self.now.steps.now c.args.seat.view c.args.self.now.sal.now c.turn_for-held.result c.args.run.now (asking c.args.wish.now c.args.self.now.steps.now c.args.run.now) enters c.requires.stands in
+    subst (λ (k : Known). IsSound k c.args.run.now.client) (sym (c.hub.ensures.value ∙ enters.hub)) found.sound
+
+pub returns-in-Ok-clause-few : goal.returns-in-Ok-clause-few
+returns-in-Ok-clause-few g c =
+    let enters = c.turn_for-held.ensures in
+    let h = c.turn_for-held.result in
+    let number = c.requires.stands.number ∙ sym enters.rights.0 in
+    let more = one_more h.view c.args.run.now.client.number h.found c.hub.result.now c.make-made.new.hub number (c.hub.ensures.value ∙ enters.hub) c.make-made.ensures.grows in
+    let few = few_more h.view c.leave-seat.result.view h.view.number h.found c.make-made.new.hub more c.leave-seat.ensures.turn in
+    let own = ap length enters.own in
+    let room = c.requires.room in
+    omega (arith, few, own, room)
+
+pub returns-in-Ok-clause-goes : goal.returns-in-Ok-clause-goes
+returns-in-Ok-clause-goes g c made =
+    let last = c.tokens_last.ensures in
+    let table = c.args.self.now.reader.now in
+    let old = c.args.run.now in
+    let new = c.make-made.new.self in
+    let left = c.make-made.new.hub in
+    let makes = subst (λ (k : Known). MakesNext table old.client.number k c.args.wish.now (client_of old.client) left (client_of new.client)) c.hub.ensures.value (c.in-Ok.ensures.makes table c.requires.read) in
+    left_stands (last.begun, last.given, last.opened) table c.args.self.now.steps.now c.args.seat.view c.args.self.now.sal.now c.turn_for-held.result left c.leave-seat.result.view c.args.wish.now old new
+    c.turn_for-held.ensures c.leave-seat.ensures.same.1 c.leave-seat.ensures.turn makes c.in-Ok.ensures.sound c.in-Ok.ensures.at c.in-Ok.ensures.number c.requires.stands
+
+pub returns-in-Err-clause-few : goal.returns-in-Err-clause-few
+returns-in-Err-clause-few g c =
+    let enters = c.turn_for-held.ensures in
+    let h = c.turn_for-held.result in
+    let number = c.requires.stands.number ∙ sym enters.rights.0 in
+    let more = one_more h.view c.args.run.now.client.number h.found c.hub.result.now c.make-made.new.hub number (c.hub.ensures.value ∙ enters.hub) c.make-made.ensures.grows in
+    let few = few_more h.view c.leave-seat.result.view h.view.number h.found c.make-made.new.hub more c.leave-seat.ensures.turn in
+    let own = ap length enters.own in
+    let room = c.requires.room in
+    omega (arith, few, own, room)

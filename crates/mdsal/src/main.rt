@@ -30,19 +30,15 @@ fn words_of(rt: &HostRuntime) -> Result<Vec<Str>, NoMemory> {
     Ok(words)
 }
 
-fn answer(rt: &HostRuntime) -> Status {
-    match words_of(rt) {
+fn main(rt: HostRuntime) -> ExitCode {
+    let status = match words_of(&rt) {
         Ok(words) => {
             let mut source = StdSource::new(rt.stdin());
             let mut sink = StdSink::new(rt.stdout());
-            mdsal(rt, rt.alloc(), &words, &mut source, &mut sink, &OpenGate)
+            mdsal(&rt, rt.alloc(), &words, &mut source, &mut sink, &OpenGate)
         }
         Err(NoMemory) => Status::NoMemory,
-    }
-}
-
-fn main(rt: HostRuntime) -> ExitCode {
-    let status = answer(&rt);
+    };
     if let Ok(line) = status.line(rt.alloc()) {
         let _ = rt.eprint(line.as_str());
     }

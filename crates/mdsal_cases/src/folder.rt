@@ -2,13 +2,19 @@
 use crate::case::Case;
 use crate::play;
 use crate::tally::Tally;
+use std::sync::Wait;
+use std::thread::Threads;
 use std::{fs, io};
 
 /// Plays the cases of each folder that the text lists, one a line.
-pub fn play_each(rt: &HostRuntime, folders: &str) -> io::Result<Tally> {
+pub fn play_each<R: Threads + Wait + Sync>(
+    rt: &HostRuntime,
+    threads: &R,
+    folders: &str,
+) -> io::Result<Tally> {
     let mut all = Tally::new();
     for folder in folders.lines() {
-        let tally = play_listed(rt, folder)?;
+        let tally = play_listed(rt, threads, folder)?;
         say(rt, folder, tally)?;
         all = all.and(tally);
     }
@@ -23,9 +29,13 @@ pub fn say(rt: &HostRuntime, name: &str, tally: Tally) -> io::Result<()> {
 }
 
 // Plays the cases of a folder that its README lists, and looks for files of others.
-fn play_listed(rt: &HostRuntime, folder: &str) -> io::Result<Tally> {
+fn play_listed<R: Threads + Wait + Sync>(
+    rt: &HostRuntime,
+    threads: &R,
+    folder: &str,
+) -> io::Result<Tally> {
     let list = list_of(rt, folder)?;
-    let tally = play_lines(rt, folder, list.as_str())?;
+    let tally = play_lines(rt, threads, folder, list.as_str())?;
     let strays = strays(rt, folder, list.as_str())?;
     Ok(tally.with_strays(strays))
 }
@@ -35,11 +45,16 @@ fn list_of(rt: &HostRuntime, folder: &str) -> io::Result<String> {
     fs::read_to_string(rt, path.as_str())
 }
 
-fn play_lines(rt: &HostRuntime, folder: &str, list: &str) -> io::Result<Tally> {
+fn play_lines<R: Threads + Wait + Sync>(
+    rt: &HostRuntime,
+    threads: &R,
+    folder: &str,
+    list: &str,
+) -> io::Result<Tally> {
     let mut tally = Tally::new();
     for line in list.lines() {
         if let Some(name) = name_in(line) {
-            let differs = is_differing(Case { rt, folder, name })?;
+            let differs = is_differing(threads, Case { rt, folder, name })?;
             tally = tally.with(differs);
         }
     }
@@ -54,8 +69,8 @@ fn name_in(line: &str) -> Option<&str> {
 }
 
 // Whether the case differs from what is wanted, which is printed.
-fn is_differing(case: Case<'_>) -> io::Result<bool> {
-    let difference = play::difference(case)?;
+fn is_differing<R: Threads + Wait + Sync>(threads: &R, case: Case<'_>) -> io::Result<bool> {
+    let difference = play::difference(threads, case)?;
     if difference.is_empty() {
         return Ok(false);
     }

@@ -28,6 +28,6 @@ use std::{fs, io};
 
 fn main(rt: HostRuntime) -> io::Result<()> {
     let folders = fs::read_to_string(&rt, "folders.txt")?;
-    let tally = folder::play_each(&rt, folders.as_str())?;
+    let tally = folder::play_each(&rt, &rt, folders.as_str())?;
     folder::say(&rt, "in all", tally)
 }

@@ -9,6 +9,8 @@ use sal_types::{NoMemory, Str};
 use std::alloc::Global;
 use std::io;
 use std::io::{Error, ErrorKind};
+use std::sync::Wait;
+use std::thread::Threads;
 
 // How many bytes the sink of a case takes that names no room.
 const ROOM: u64 = 1048576;
@@ -24,16 +26,17 @@ struct Outcome {
     sink: MemSink,
 }
 
-/// In what the case differs from what is wanted; empty where it does not.
-pub fn difference(case: Case<'_>) -> io::Result<String> {
-    match compared(case) {
+/// In what the case differs from what is wanted; empty where it does not. Clients that run at the same time have their threads of
+/// the runtime.
+pub fn difference<R: Threads + Wait + Sync>(threads: &R, case: Case<'_>) -> io::Result<String> {
+    match compared(threads, case) {
         Ok(difference) => Ok(difference),
         Err(error) => Ok(format!(in case.alloc(); "it cannot be played: {error}")?),
     }
 }
 
-fn compared(case: Case<'_>) -> io::Result<String> {
-    let played = played(case)?;
+fn compared<R: Threads + Wait + Sync>(threads: &R, case: Case<'_>) -> io::Result<String> {
+    let played = played(threads, case)?;
     let difference = status_difference(case, played.ended.as_str())?;
     if difference.is_empty() {
         output_difference(case, &played)
@@ -51,20 +54,29 @@ fn output_difference(case: Case<'_>, played: &Outcome) -> io::Result<String> {
     }
 }
 
-fn played(case: Case<'_>) -> io::Result<Outcome> {
+fn played<R: Threads + Wait + Sync>(threads: &R, case: Case<'_>) -> io::Result<Outcome> {
     let words = words_of(case)?;
-    played_with(case, &words)
+    played_with(threads, case, &words)
 }
 
-fn played_with(case: Case<'_>, words: &[Str]) -> io::Result<Outcome> {
+fn played_with<R: Threads + Wait + Sync>(
+    threads: &R,
+    case: Case<'_>,
+    words: &[Str],
+) -> io::Result<Outcome> {
     let mut source = source_of(case)?;
-    played_from(case, words, &mut source)
+    played_from(threads, case, words, &mut source)
 }
 
-fn played_from(case: Case<'_>, words: &[Str], source: &mut MemSource) -> io::Result<Outcome> {
+fn played_from<R: Threads + Wait + Sync>(
+    threads: &R,
+    case: Case<'_>,
+    words: &[Str],
+    source: &mut MemSource,
+) -> io::Result<Outcome> {
     let mut sink = sink_of(case)?;
     let gate = CountingGate::new();
-    let status = mdsal(case.rt, case.alloc(), words, source, &mut sink, &gate);
+    let status = mdsal(threads, case.alloc(), words, source, &mut sink, &gate);
     let passes = gate.passes();
     let ended = ended(case.alloc(), &status)?;
     Ok(Outcome {

@@ -178,11 +178,12 @@ fn run_text<R: Threads + Wait + Sync, G: Gate>(
 ) -> Result<Str, Status>
     ensures { spec.IsRunOr bytes.now result }
 {
+    let prepared = scripted::prepare(alloc, bytes)?;
     let Prepared {
         script,
         reader,
         hub,
-    } = scripted::prepare(alloc, bytes)?;
+    } = prepared;
     match run_over(rt, alloc, &script, &reader, hub, gate) {
         Ok(text) => Ok(text),
         Err(NoMemory) => Err(Status::NoMemory),
@@ -212,11 +213,12 @@ fn run_over<R: Threads + Wait + Sync, G: Gate>(
 fn sim_text<G: Gate>(alloc: Global, bytes: &[u8], gate: &G) -> Result<Str, Status>
     ensures { spec.IsPlayOr (spec.sim_text bytes.now) result }
 {
+    let prepared = scripted::prepare(alloc, bytes)?;
     let Prepared {
         script,
         reader,
         hub,
-    } = scripted::prepare(alloc, bytes)?;
+    } = prepared;
     play_over(alloc, &script, &reader, hub, gate)
 }
 

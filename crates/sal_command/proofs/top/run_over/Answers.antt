@@ -1,5 +1,5 @@
 -- What the clients left is one order, and its report is that of the order.
-use Rattle.std.proofs.Common.{◌≡◌, ℕ, List, ap, sym, ◌∙◌, subst}
+use Rattle.std.proofs.Common.{◌≡◌, List, ap, sym, ◌∙◌, subst}
 use Rattle.sal_script.specs.Moves.{clients_of}
 use Rattle.sal_script.specs.Report.{report}
 use Rattle.sal_script.specs.Play.{Played}

@@ -1,2 +1,5 @@
+pub mod Answers
+pub mod Boxes
+pub mod Clients
 pub mod Examples
 pub mod Queues

@@ -1,0 +1,4 @@
+pub mod Ascending
+pub mod Boxed
+pub mod Kept
+pub mod Queued

@@ -14,5 +14,8 @@
 
 pub mod call;
 pub mod examples;
+pub mod router;
+mod routes;
 
 pub use call::{Request, RpcCall, RpcFault, RpcReply};
+pub use router::Router;

@@ -1,0 +1,5 @@
+pub mod Kept
+pub mod Requested
+pub mod Sending
+pub mod Services
+pub mod Waiting

@@ -317,7 +317,7 @@ open-within sent client (suc i) e = by_one (slice_get sent i) refl e
     by_one None at e = cc
     by_one (Some s) at e = let low : i < length sent = get-within sent i s at in (omega arith, omega (arith, low))
 
-third : (x y z : Bool) → (x && y && not z) ≡ true → z ≡ false
+pub third : (x y z : Bool) → (x && y && not z) ≡ true → z ≡ false
 third x y false e = refl
 third true true true e = cc
 third true false true e = cc
@@ -331,7 +331,7 @@ answer-hand : (b : Bool) (out : List Row) (x : Sent) → (if b then answered out
 answer-hand true out x = refl
 answer-hand false out x = refl
 
-no-rows : (a : Option (List Row)) → is_some a ≡ false → a ≡ None
+pub no-rows : (a : Option (List Row)) → is_some a ≡ false → a ≡ None
 no-rows None e = refl
 no-rows (Some l) e = cc
 

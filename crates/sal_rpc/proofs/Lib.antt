@@ -1,3 +1,5 @@
+pub mod Answered
+pub mod First
 pub mod Kept
 pub mod Requested
 pub mod Sending

@@ -2,3 +2,4 @@ pub mod Ascending
 pub mod Boxed
 pub mod Kept
 pub mod Queued
+pub mod Reached

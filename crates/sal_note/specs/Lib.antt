@@ -2,4 +2,5 @@ pub mod Answers
 pub mod Boxes
 pub mod Clients
 pub mod Examples
+pub mod Laws
 pub mod Queues

@@ -5,7 +5,8 @@
 //! | `Notes` | the notifications of a broker, which a contract sees as the boxes of the calls |
 //! | `NoteCall`, `NoteReply`, `NoteFault` | a call of a client, what it is answered, why it is refused |
 //! | `Note`, `NoteList` | a notification with its data; some in order |
-//! | `examples` | functions that do nothing, each with worked examples as its contract |
+//! | `laws` | functions that do nothing, each with a law of the definitions as its contract |
+//! | `examples` | the same with worked examples |
 //!
 //! `specs/Queues` says what the calls mean, by the list of them alone. An offer goes to each client that is subscribed at that
 //! moment, or to none where 64 notifications wait for one of them. A client takes all that waits for it at once. `specs/Boxes`
@@ -32,6 +33,7 @@
 pub mod call;
 mod clients;
 pub mod examples;
+pub mod laws;
 pub mod notes;
 mod queue;
 

@@ -1,2 +1,4 @@
+pub mod Answers
 pub mod Examples
 pub mod Mounts
+pub mod Register

@@ -46,10 +46,17 @@ was_mounted made device = list_any (λ m. nat_eq m.device device) (mounted made)
 abbrev pub is_live : List Made → ℕ → Bool
 is_live made domain = nat_eq domain 0 || (was_mounted made domain && not (is_unmounted made domain))
 
+-- the device, where this mount is of the path and the device is not among those that were unmounted
+abbrev pub stands_at : (ℕ → Bool) → List Step → Mounted → Option ℕ
+stands_at gone path m = if path_eq path m.path && not (gone m.device) then Some m.device else None
+
+-- the live domains that are mounted at the path
+abbrev pub standing : List Made → List Step → List ℕ
+standing made path = filter_map (stands_at (is_unmounted made) path) (mounted made)
+
 -- the live domain that is mounted at the path
 abbrev pub mount_at : List Made → List Step → Option ℕ
-mount_at made path =
-    slice_get (filter_map (λ m. if path_eq path m.path && not (is_unmounted made m.device) then Some m.device else None) (mounted made)) 0
+mount_at made path = slice_get (standing made path) 0
 
 abbrev pub refused_or : Option MountFault → MountReply
 refused_or None = Accepted

@@ -1,5 +1,5 @@
 -- Worked examples of notifications: clients and their calls.
-use Rattle.std.specs.Prelude.{ℕ, zero, suc, List, [], ◌∷◌, ◌++◌, map}
+use Rattle.std.specs.Prelude.{ℕ, zero, suc, List, [], ◌∷◌, map}
 use Rattle.sal_types.specs.declared.value.Step.TheVariants.{Node}
 use Rattle.sal_types.specs.declared.value.Cell.TheVariants.{Mark}
 use Rattle.sal_types.specs.declared.row.Row.{Row}

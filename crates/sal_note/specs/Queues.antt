@@ -2,7 +2,6 @@
 -- MD-SAL developer guide).
 use Rattle.std.specs.Prelude.{ℕ, Bool, true, false, ◌&&◌, List, [], ◌∷◌, ◌++◌, length, Option, Some, None, if◌then◌else◌, nat_eq, nat_le, nat_lt, slice_get}
 use Rattle.std.specs.List.{filter, fold, list_any}
-use Rattle.sal_types.specs.declared.row.Row.{Row}
 use Rattle.sal_note.specs.declared.call.NoteCall.{NoteCall}
 use Rattle.sal_note.specs.declared.call.NoteCall.TheVariants.{Subscribe, Offer, TakeNotes}
 use Rattle.sal_note.specs.declared.call.NoteFault.TheVariants.{NoteRejected}
@@ -59,13 +58,13 @@ is_full made client = nat_le 64 (length (queue made client))
 
 -- ---- answers
 
--- refused by the first of these whose queue is full, else given to all
+-- refused by the first of these whose queue is full, if there is one, else given to all
+abbrev pub given_or_refused : List ℕ → Option ℕ → NoteReply
+given_or_refused clients None = Offered (length clients)
+given_or_refused clients (Some client) = Refused (NoteRejected client)
+
 abbrev pub offered : List Made → List ℕ → NoteReply
-offered made clients = by_first (slice_get (filter (is_full made) clients) 0)
-  where
-    by_first : Option ℕ → NoteReply
-    by_first None = Offered (length clients)
-    by_first (Some client) = Refused (NoteRejected client)
+offered made clients = given_or_refused clients (slice_get (filter (is_full made) clients) 0)
 
 -- the reply to a call of the client after these
 abbrev pub reply_to : List Made → ℕ → NoteCall → NoteReply

@@ -1,6 +1,6 @@
 //! The calls on notifications, and what they are answered.
 use sal_rows::Rows;
-use sal_types::Seq;
+use sal_types::{Duplicate, NoMemory, Seq};
 use thiserror::Error;
 
 /// A call of a client. Notifications are numbers of schema nodes.
@@ -19,6 +19,15 @@ pub enum NoteCall {
 pub struct Note {
     pub note: u32,
     pub rows: Rows,
+}
+
+impl Duplicate for Note {
+    fn copy(&self) -> Result<Self, NoMemory> {
+        Ok(Note {
+            note: self.note,
+            rows: self.rows.copy()?,
+        })
+    }
 }
 
 /// Notifications in order.

@@ -1,5 +1,5 @@
 -- Worked examples of the router: clients and their calls.
-use Rattle.std.specs.Prelude.{ℕ, List, [], ◌∷◌, Option, Some, None, map}
+use Rattle.std.specs.Prelude.{ℕ, List, [], ◌∷◌, map}
 use Rattle.sal_types.specs.declared.value.Step.{Step}
 use Rattle.sal_types.specs.declared.value.Step.TheVariants.{Node}
 use Rattle.sal_types.specs.declared.value.Cell.TheVariants.{Mark}

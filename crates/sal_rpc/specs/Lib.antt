@@ -1,2 +1,5 @@
+pub mod Answers
 pub mod Examples
+pub mod Laws
+pub mod Routes
 pub mod Routing

@@ -7,7 +7,6 @@ use Rattle.sal_types.specs.declared.row.Row.{Row}
 use Rattle.sal_types.specs.Order.{path_eq}
 use Rattle.sal_rpc.specs.declared.call.RpcCall.{RpcCall}
 use Rattle.sal_rpc.specs.declared.call.RpcCall.TheVariants.{Provide, Withdraw, Invoke, NextCall, Answer, Collect}
-use Rattle.sal_rpc.specs.declared.call.RpcFault.{RpcFault}
 use Rattle.sal_rpc.specs.declared.call.RpcFault.TheVariants.{NoProvider, ProviderTaken, NoCall}
 use Rattle.sal_rpc.specs.declared.call.RpcReply.{RpcReply}
 use Rattle.sal_rpc.specs.declared.call.RpcReply.TheVariants.{Accepted, CallMade, Handed, Output, Nothing, Refused}
@@ -103,13 +102,14 @@ waiting_from n test (r ∷ rs) = (if test n r then (n, r) ∷ [] else []) ++ wai
 abbrev pub queue : List Made → ℕ → List (ℕ × Requested)
 queue made client = waiting_from 1 (λ id r. nat_eq r.owner client && not (is_handed made id)) (requests made)
 
--- the request with this id, if it passes the test
+-- the request with this id
+abbrev pub request_at : List Requested → ℕ → Option Requested
+request_at rs zero = None
+request_at rs (suc i) = slice_get rs i
+
+-- there is a request with this id, and it passes the test
 abbrev pub is_request : List Made → ℕ → (Requested → Bool) → Bool
-is_request made id test = option_map_or test (at id) false
-  where
-    at : ℕ → Option Requested
-    at zero = None
-    at (suc i) = slice_get (requests made) i
+is_request made id test = option_map_or test (request_at (requests made) id) false
 
 -- ---- answers
 

@@ -1,0 +1,5 @@
+pub mod Ascending
+pub mod Boxed
+pub mod Kept
+pub mod Queued
+pub mod Reached

@@ -104,6 +104,7 @@ impl Held {
     {
         self.keeps_tokens();
     }
+
     pub(crate) fn knows_listener(&self, id: ListenerId)
         requires { IsListener (known self.now.view) id }
         ensures { IsListener self.now.found id }

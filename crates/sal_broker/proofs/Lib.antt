@@ -1,1 +1,2 @@
+pub mod Lateness
 pub mod Tokens

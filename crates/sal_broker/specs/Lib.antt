@@ -1,3 +1,4 @@
+pub mod Looks
 pub mod Seats
 pub mod Tokens
 pub mod Turns

@@ -4,10 +4,14 @@
 //! |---|---|
 //! | `Sal` | the broker; a contract sees the name of its lock |
 //! | `Seat` | a caller's place at it; a contract sees the lock and what the seat knows, a `View` of `sal_turn` |
-//! | `Sal::open`, `close` | a broker over some devices with its opening seat; and back to the hub, once all seats were joined |
+//! | `Sal::open`, `over`, `close` | a broker over some devices, or over a hub without calls, with its opening seat; and back to the hub, once all seats were joined |
 //! | `Sal::split`, `join` | one more seat, for a client with a number of its own; and two seats made one |
-//! | `Sal::begin`, `submit`, `cancel`, `open_chain`, `chain_begin`, `mark` | calls of the hub, each in one turn; the others go through `enter` and `leave` |
+//! | `Sal::begin`, `submit`, `cancel`, `settle`, `pump`, `mark` | the calls of the hub, each in one turn |
+//! | `Sal::open_chain`, `chain_begin`, `close_chain` | the same, of transaction chains |
+//! | `Sal::listen`, `take`, `unlisten` | the same, of listeners |
+//! | `Sal::after` | a look for a mark, a turn each, until it is there or `MAX_LOOKS` looks found none |
 //! | `Sal::enter`, `leave` | a turn with the hub in the caller's hands, for a caller with more to do in it than one call |
+//! | `Sal::enter_after` | the turn of the last look for a mark, in the caller's hands |
 //! | `Held` | such a turn; a contract sees the log that was found and the hub, too |
 //! | `laws` | a function that does nothing, with a law of the tokens as its contract |
 //!
@@ -25,16 +29,19 @@
 //!
 //! | call | cost |
 //! |---|---|
-//! | `open` | that of `Hub::open`, and the lock's memory |
+//! | `open`, `over` | that of `Hub::open`, or nothing; and the lock's memory |
 //! | the calls, `enter` | a turn at the lock, some 50 ns where no other thread wants one; and what the hub's call costs |
+//! | `after`, `enter_after` | a turn and one search among the marks for each look, at most 4,194,304 of them |
 //! | `split`, `join`, `leave` | one or two atomic steps |
 //!
 //! A call waits for its turn: no contract says that it returns, and a caller that entered and never leaves keeps all others out.
 #![tactic(auto)]
 
 mod calls;
+mod chain_calls;
 mod held;
 pub mod laws;
+mod listener_calls;
 mod looks;
 mod sal;
 mod seat;

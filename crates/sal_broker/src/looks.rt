@@ -1,22 +1,69 @@
-//! A turn that waits for a mark.
-ghost use Rattle.std.specs.Prelude.{◌≡◌, ◌⊎◌, ◌+◌, true, Some};
+//! Looks for a mark, a turn each.
+ghost use Rattle.std.specs.Prelude.{◌≡◌, ◌⊎◌, ◌+◌, true, Some, IfOk, length};
 ghost use mathlib.Core.List.{IsPrefix};
+ghost use Rattle.sal_history.specs.declared.call.Call.TheVariants.{After};
 ghost use Rattle.sal_turn.specs.Entries.{entries_by};
 ghost use Rattle.sal_turn.specs.Views.{SameRights};
+ghost use Rattle.sal_hub.specs.Answers.{Calls};
+ghost use Rattle.sal_hub.specs.Known.{entry_of};
 ghost use Rattle.sal_hub.specs.Marks.{has_mark};
+ghost use Rattle.sal_hub.specs.Seen.{seen_reply};
+ghost use Rattle.sal_broker.specs.Looks.{IsLate, IsMissed};
 ghost use Rattle.sal_broker.specs.Seats.{client_of, known};
 ghost use Rattle.sal_broker.specs.Tokens.{TokensStay};
+ghost use Rattle.sal_broker.specs.Turns.{InLastTurn, Keeps};
 
 use crate::held::Held;
 use crate::laws;
 use crate::sal::Sal;
 use crate::seat::Seat;
+use sal_hub::Seen;
+use sal_rows::CallFault;
+use std::alloc::Global;
 use std::sync::Wait;
 
 /// How many looks for a mark are made at most.
 pub const MAX_LOOKS: u32 = 4194304;
 
+// Asks for the last time. Where the mark is not there, all looks were made.
+fn last_look(alloc: Global, held: &mut Held, mark: u32) -> Result<Seen, CallFault>
+    ensures same { held.new ≡ record held.old { hub = held.new.hub } }
+    ensures answer { Calls held.old.hub held.new.hub (entry_of held.old.hub held.old.view.number (After mark)) seen_reply result }
+    ensures missed { IfOk result (IsMissed MAX_LOOKS held.old.hub.log mark) }
+{
+    let client = held.number();
+    match held.hub().after(alloc, client, mark) {
+        Ok(Seen::Late { looks: _, front }) => Ok(Seen::Late {
+            looks: MAX_LOOKS,
+            front,
+        }),
+        other => other,
+    }
+}
+
 impl Sal {
+    /// Looks, a turn each, until the mark is there or it was looked for `MAX_LOOKS` times: then it is late. The entry is made
+    /// in the last look.
+    pub fn after<R: Wait>(
+        &self,
+        rt: &R,
+        alloc: Global,
+        seat: &mut Seat,
+        mark: u32,
+    ) -> Result<Seen, CallFault>
+        requires { seat.old.lock ≡ self.now }
+        ensures same { Keeps self.now seat.old seat.new }
+        ensures turn { InLastTurn seat.old.view seat.new.view (λ client found left. Calls found left (entry_of found client (After mark)) seen_reply result × IfOk result (IsLate MAX_LOOKS seat.old.view seat.new.view (length found.log))) }
+    {
+        let Some(inner) = seat.inner.take() else {
+            unreachable!()
+        };
+        let mut held = self.enter_after(rt, Seat { inner: Some(inner) }, mark);
+        let answer = last_look(alloc, &mut held, mark);
+        seat.inner = self.leave(held).inner;
+        answer
+    }
+
     /// Takes turns, without an entry, until one finds a log that has the mark, or `MAX_LOOKS` turns were taken; that turn is
     /// the caller's.
     pub fn enter_after<R: Wait>(&self, rt: &R, seat: Seat, mark: u32) -> Held

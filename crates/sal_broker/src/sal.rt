@@ -1,12 +1,12 @@
 //! The broker, and its seats.
-ghost use Rattle.std.specs.Prelude.{◌≡◌, ◌≤◌, ◌+◌, ℕ, List, [], ◌∷◌, ◌++◌, true, None, Some, IfOk, MatchResult, length};
+ghost use Rattle.std.specs.Prelude.{◌≡◌, ◌≤◌, ◌+◌, ℕ, List, [], ◌∷◌, ◌++◌, true, None, Some, IfOk, IsSome, MatchResult, length};
 ghost use mathlib.Core.List.{IsPrefix};
 ghost use Rattle.sal_history.specs.declared.call.Entry.{Entry};
 ghost use Rattle.sal_turn.specs.Entries.{entries_by};
 ghost use Rattle.sal_turn.specs.Lists.{In};
 ghost use Rattle.sal_turn.specs.Views.{AnswersFor, SameRights, both, newcomer, opener};
 ghost use Rattle.sal_hub.specs.Openings.{IsFaultOf, fault_of, world_of};
-ghost use Rattle.sal_broker.specs.Seats.{client_of, known};
+ghost use Rattle.sal_broker.specs.Seats.{client_of, inside, known};
 ghost use Rattle.sal_broker.specs.Tokens.{TokensStay};
 ghost use Rattle.sal_broker.specs.Turns.{OneMoreAtMost, TurnOf};
 
@@ -77,6 +77,27 @@ impl Sal {
         Held {
             inner: self.lock.enter(rt, inner),
         }
+    }
+
+    // Waits for the turn of the seat in the place, and takes it. The place is empty until the turn ends.
+    pub(crate) fn take_turn<R: Wait>(
+        &self,
+        rt: &R,
+        place: &mut Option<sal_turn::Seat<Shared>>,
+    ) -> Held
+        requires some { IsSome place.old }
+        requires lock { (inside place.old).lock ≡ self.now }
+        ensures left { place.new ≡ None }
+        ensures same { (result.lock ≡ self.now) × (result.view ≡ (inside place.old).view) }
+        ensures hub { result.hub ≡ result.found }
+        ensures world { (inside place.old).view.ground ≡ Some result.found.world }
+        ensures seen { IsPrefix (inside place.old).view.seen result.found.log }
+        ensures own { entries_by client_of (inside place.old).view.number result.found.log ≡ (inside place.old).view.own }
+    {
+        let Some(inner) = place.take() else {
+            unreachable!()
+        };
+        self.enter(rt, Seat { inner: Some(inner) })
     }
 
     /// Ends a turn. The hub is as it was found, or has one entry more, of the seat's number; the seat has then seen its log.

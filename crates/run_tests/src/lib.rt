@@ -1,0 +1,7 @@
+//! The tests of clients on threads: that they run beside one another, and that a full history stops them.
+#![tactic(auto)]
+
+#[cfg(test)]
+mod crossing;
+#[cfg(test)]
+mod full;

@@ -1,0 +1,110 @@
+//! An application: it takes numbers from the counter.
+ghost use Rattle.std.specs.Prelude.{◌≡◌, IfOk};
+ghost use Rattle.sal_hub.specs.Tokens.{IsBegun, IsGiven};
+ghost use Rattle.sal_broker.specs.Seats.{known};
+ghost use Rattle.sal_broker.specs.Turns.{Keeps};
+
+use crate::counter::Counter;
+use anyhow::bail;
+use sal_broker::{Sal, Seat};
+use sal_hub::Receipt;
+use sal_rows::{Mode, Outcome};
+use sal_tx::{Tx, WriteTx};
+use std::alloc::Global;
+use std::sync::Wait;
+
+/// How many numbers each application takes.
+pub(crate) const NUMBERS: u64 = 100;
+
+// How often an application tries to take one. Each try that fails means that the other application took one meanwhile.
+const TRIES: u64 = NUMBERS + 1;
+
+/// Takes all numbers, one after another.
+pub(crate) fn take_numbers<R: Wait>(
+    rt: &R,
+    alloc: Global,
+    sal: &Sal,
+    mut seat: Seat,
+    counter: &Counter,
+) -> anyhow::Result<Seat>
+    requires { seat.lock ≡ sal.now }
+    ensures { IfOk result (λ back. Keeps sal.now seat back) }
+{
+    for _ in 0..NUMBERS {
+        seat = take_number(rt, alloc, sal, seat, counter)?;
+    }
+    Ok(seat)
+}
+
+// Takes one number, with a new transaction after each conflict.
+fn take_number<R: Wait>(
+    rt: &R,
+    alloc: Global,
+    sal: &Sal,
+    mut seat: Seat,
+    counter: &Counter,
+) -> anyhow::Result<Seat>
+    requires { seat.lock ≡ sal.now }
+    ensures { IfOk result (λ back. Keeps sal.now seat back) }
+{
+    for _ in 0..TRIES {
+        if try_once(rt, alloc, sal, &mut seat, counter)? {
+            return Ok(seat);
+        }
+    }
+    bail!("the other application took more numbers than it wanted")
+}
+
+// One transaction: whether it was committed. It is not where the other application was faster.
+fn try_once<R: Wait>(
+    rt: &R,
+    alloc: Global,
+    sal: &Sal,
+    seat: &mut Seat,
+    counter: &Counter,
+) -> anyhow::Result<bool>
+    requires { seat.old.lock ≡ sal.now }
+    ensures { Keeps sal.now seat.old seat.new }
+{
+    let mut tx = begin(rt, alloc, sal, seat)?;
+    let last = counter.last(alloc, &tx)?;
+    counter.put(alloc, &mut tx, last.saturating_add(1))?;
+    let receipt = submit(rt, alloc, sal, seat, tx)?;
+    match sal.settle(rt, alloc, seat, receipt)? {
+        Outcome::Done { .. } => Ok(true),
+        Outcome::Conflict { .. } => Ok(false),
+        Outcome::Invalid { .. } => bail!("a rule of the schema is broken"),
+        Outcome::ChainFailed { .. } => bail!("the transaction was of no chain"),
+    }
+}
+
+// Begins a transaction that reads and writes.
+fn begin<R: Wait>(rt: &R, alloc: Global, sal: &Sal, seat: &mut Seat) -> anyhow::Result<WriteTx>
+    requires { seat.old.lock ≡ sal.now }
+    ensures same { Keeps sal.now seat.old seat.new }
+    ensures token { IfOk result (λ tx. IsBegun (known seat.new.view) tx.begun tx.base) }
+{
+    match sal.begin(rt, alloc, seat, 0, Mode::Rw)? {
+        Tx::Write(tx) => Ok(tx),
+        Tx::Read(_) => bail!("it only reads"),
+    }
+}
+
+// Submits the transaction.
+fn submit<R: Wait>(
+    rt: &R,
+    alloc: Global,
+    sal: &Sal,
+    seat: &mut Seat,
+    tx: WriteTx,
+) -> anyhow::Result<Receipt>
+    requires seat { seat.old.lock ≡ sal.now }
+    requires token { IsBegun (known seat.old.view) tx.begun tx.base }
+    ensures same { Keeps sal.now seat.old seat.new }
+    ensures given { IfOk result (λ receipt. IsGiven (known seat.new.view) receipt.number) }
+{
+    match sal.submit(rt, alloc, seat, tx) {
+        Ok(receipt) => Ok(receipt),
+        Err((_, fault)) => Err(fault.into()),
+    }
+}

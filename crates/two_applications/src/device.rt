@@ -1,0 +1,34 @@
+//! The domain that the applications share: a YANG module, and trees without data.
+use sal_build::build;
+use sal_history::{Device, Opening};
+use sal_rows::Rows;
+use sal_schema::Schema;
+use sal_stmt::read_module;
+use std::alloc::Global;
+use std::sync::Arc;
+
+const TUNNELS: &str = "module tunnels {
+  namespace 'urn:example:tunnels';
+  prefix t;
+  container tunnels {
+    leaf last-number { type uint32; }
+  }
+}";
+
+/// The schema of the module.
+pub(crate) fn schema(alloc: Global) -> anyhow::Result<Schema> {
+    let modules = vec![in alloc; read_module(alloc, TUNNELS)?]?;
+    Ok(build(alloc, &modules)?)
+}
+
+/// The domain over the schema, before the first commit.
+pub(crate) fn device(alloc: Global, schema: Schema) -> anyhow::Result<Device> {
+    let opening = Opening {
+        config: Rows::new(alloc),
+        oper: Rows::new(alloc),
+    };
+    Ok(Device {
+        schema: Arc::new(alloc, schema)?,
+        opening,
+    })
+}

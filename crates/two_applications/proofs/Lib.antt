@@ -1,1 +1,2 @@
 pub mod AllJoined
+pub mod Sendable

@@ -105,6 +105,9 @@ pub in_upto : (n k : ℕ) → In k (upto n) → k < n
 in_upto zero k i = absurd i
 in_upto (suc n) k i = ⊎_elim (λ (h : In k (upto n)). let l = in_upto n k h in omega (arith, l)) (λ (h : In k (n ∷ [])). ⊎_elim (λ (e : n ≡ k). omega (arith, e)) (λ (h : ⊥). absurd h) h) (in_either k (upto n) (n ∷ []) i)
 
+pub upto_more : (n : ℕ) → upto n ++ n ∷ [] ≡ upto (n + 1)
+upto_more n = let e : suc n ≡ n + 1 = omega arith in ap upto e
+
 pub not_given : (n k : ℕ) → k < 65535 → n ≤ k → ¬ In k (65535 ∷ upto n)
 not_given n k small high i = ⊎_elim (λ (e : 65535 ≡ k). absurd (omega (arith, e, small))) (λ (h : In k (upto n)). let l = in_upto n k h in absurd (omega (arith, l, high))) i
 

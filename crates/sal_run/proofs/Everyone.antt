@@ -52,6 +52,10 @@ map_push : {X Y : Type 0} (f : X → Y) (xs : List X) (x : X) → map f (xs ++ x
 map_push f [] x = refl
 map_push f (y ∷ xs) x = ap (λ (ys : List _). f y ∷ ys) (map_push f xs x)
 
+-- what stands at an index
+pub at_index : {X : Type 0} (xs : List X) (i : ℕ) (x : X) → i < length xs → x ≡ get_or xs i x → slice_get xs i ≡ Some x
+at_index xs i x within is = let own = get_some xs i within in own.1 ∙ ap Some (sym (is ∙ get_or_from_slice_get xs i own.0 x own.1))
+
 -- ---- programs
 
 short_programs : (ps : List (List ScriptStep)) (i : ℕ) (p : List ScriptStep) → list_all (λ (q : List ScriptStep). nat_le (length q) 60000) ps ≡ true → slice_get ps i ≡ Some p → length p ≤ 60000

@@ -52,6 +52,10 @@ map_push : {X Y : Type 0} (f : X → Y) (xs : List X) (x : X) → map f (xs ++ x
 map_push f [] x = refl
 map_push f (y ∷ xs) x = ap (λ (ys : List _). f y ∷ ys) (map_push f xs x)
 
+-- what stands at an index
+pub at_index : {X : Type 0} (xs : List X) (i : ℕ) (x : X) → i < length xs → x ≡ get_or xs i x → slice_get xs i ≡ Some x
+at_index xs i x within is = let own = get_some xs i within in own.1 ∙ ap Some (sym (is ∙ get_or_from_slice_get xs i own.0 x own.1))
+
 -- ---- programs
 
 short_programs : (ps : List (List ScriptStep)) (i : ℕ) (p : List ScriptStep) → list_all (λ (q : List ScriptStep). nat_le (length q) 60000) ps ≡ true → slice_get ps i ≡ Some p → length p ≤ 60000
@@ -104,6 +108,9 @@ new_stands table lock programs s steps limits json is at =
 pub in_upto : (n k : ℕ) → In k (upto n) → k < n
 in_upto zero k i = absurd i
 in_upto (suc n) k i = ⊎_elim (λ (h : In k (upto n)). let l = in_upto n k h in omega (arith, l)) (λ (h : In k (n ∷ [])). ⊎_elim (λ (e : n ≡ k). omega (arith, e)) (λ (h : ⊥). absurd h) h) (in_either k (upto n) (n ∷ []) i)
+
+pub upto_more : (n : ℕ) → upto n ++ n ∷ [] ≡ upto (n + 1)
+upto_more n = let e : suc n ≡ n + 1 = omega arith in ap upto e
 
 pub not_given : (n k : ℕ) → k < 65535 → n ≤ k → ¬ In k (65535 ∷ upto n)
 not_given n k small high i = ⊎_elim (λ (e : 65535 ≡ k). absurd (omega (arith, e, small))) (λ (h : In k (upto n)). let l = in_upto n k h in absurd (omega (arith, l, high))) i

@@ -7,7 +7,6 @@ use Rattle.sal_script.specs.Along.{AreLeft}
 use Rattle.sal_script.specs.Limits.{within_limits}
 use Rattle.sal_script.specs.Moves.{clients_of}
 use Rattle.sal_client.specs.declared.wish.RunFault.TheVariants.{HistoryFull}
-use Rattle.sal_run.specs.Ran.{IsOpening}
 use Rattle.sal_run.proofs.Everyone.{are_left, begins, covers_all, never_full, same_world}
 use Rattle.sal_run.proofs.script.run.Goals as goal
 

@@ -1,5 +1,5 @@
 -- The clients at their new seats, when they have worked, and when they are taken in.
-use Rattle.std.proofs.Common.{◌≡◌, ◌<◌, length, arith, subst, ◌∙◌}
+use Rattle.std.proofs.Common.{◌<◌, length, arith, subst, ◌∙◌}
 use Rattle.sal_broker.specs.Seats.{SeatView}
 use Rattle.sal_run.specs.Joined.{Joins}
 use Rattle.sal_run.proofs.Everyone.{at_index, seated_new, worked_at}

@@ -14,7 +14,7 @@ use Rattle.sal_schema.specs.declared.table.SchemaTable.{SchemaTable}
 use Rattle.sal_turn.specs.Entries.{entries_by}
 use Rattle.sal_turn.specs.Lists.{In}
 use Rattle.sal_turn.specs.Seats.{Place, TableId}
-use Rattle.sal_turn.specs.Views.{AnswersFor, SameRights, both, newcomer}
+use Rattle.sal_turn.specs.Views.{AnswersFor, SameRights, both, newcomer, opener}
 use Rattle.sal_turn.proofs.Lists.{in_either, prefix_trans}
 use Rattle.sal_broker.specs.Seats.{SeatView, client_of as maker_of, known}
 use Rattle.sal_hub.specs.Answers.{limit}
@@ -255,6 +255,17 @@ module _ (fs : List Finished) (f : Finished) (replies result : Result (List (Lis
       last (y ∷ xs) x = last xs x
 
 -- ---- the closed log
+
+pub begins : (lock : TableId) (p : Place Entry (List Domain)) (w : List Domain) → p.lock ≡ lock → p.view ≡ opener 65535 w → IsOpening lock p
+begins lock p w at is = record {
+  lock = at;
+  number = ap (λ (v : SeatView). v.number) is;
+  seen = ap (λ (v : SeatView). v.seen) is;
+  own = ap (λ (v : SeatView). v.own) is;
+  splits = ap (λ (v : SeatView). v.splits) is;
+  given = ap (λ (v : SeatView). v.given) is;
+  joined = ap (λ (v : SeatView). v.joined) is;
+}
 
 module _ (table : SchemaTable) (lock : TableId) (programs : List (List ScriptStep)) (opening place : Place Entry (List Domain)) (replies : Result (List (List StepReply)) RunFault)
     (limits : within_limits programs ≡ true) (begun : IsOpening lock opening) (ran : AreRan table lock programs opening.view place replies) where

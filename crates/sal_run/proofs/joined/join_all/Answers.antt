@@ -1,5 +1,5 @@
 -- One more client is taken in.
-use Rattle.std.proofs.Common.{◌≡◌, Some, length, ◌∙◌}
+use Rattle.std.proofs.Common.{length, ◌∙◌}
 use Rattle.std.proofs.lemmas.Iterator.Consumers.{YieldsList-turn}
 use Rattle.std.proofs.lemmas.Iterator.Adapters.{YieldsList-from_vec}
 use Rattle.sal_run.proofs.Everyone.{at_index, collects_more, joins_more}

@@ -1,5 +1,4 @@
 -- The clients taken in so far.
-use Rattle.std.proofs.Common.{◌≡◌}
 use Rattle.sal_run.specs.Joined.{Collects, Joins}
 use Rattle.sal_run.proofs.joined.join_all.Given as goal
 

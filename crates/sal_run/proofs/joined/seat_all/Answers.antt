@@ -1,10 +1,9 @@
 -- One more seat is off the opening one.
-use Rattle.std.proofs.Common.{◌≡◌, ◌+◌, ◌++◌, ◌∷◌, [], List, ℕ, ap, sym, ◌∙◌, subst, arith}
+use Rattle.std.proofs.Common.{◌+◌, ◌++◌, ◌∷◌, [], List, ℕ, ap, sym, ◌∙◌, subst, arith}
 use Rattle.sal_turn.specs.Lists.{In}
 use Rattle.sal_turn.specs.Views.{newcomer}
 use Rattle.sal_broker.specs.Seats.{SeatView}
-use Rattle.sal_run.specs.declared.clients.SeatedRun.{SeatedRun}
-use Rattle.sal_run.specs.Joined.{AreSeated, upto}
+use Rattle.sal_run.specs.Joined.{AreSeated}
 use Rattle.sal_run.proofs.Everyone.{not_given, seated_more, upto_more}
 use Rattle.sal_run.proofs.joined.seat_all.Goals as goal
 

@@ -1,4 +1,4 @@
-use denote.Param.Send.{IsSync, given_sync, sendable, param_sync}
+use denote.Param.Send.{IsSync, given_sync, sendable}
 use Rattle.std.proofs.Crossing.{crosses}
 use Rattle.sal_types.proofs.seq.Seq.TheSendSync as Seq
 use Rattle.sal_run.proofs.Sendable.{SeatedRun-send, Finished-send, Sal-sync, Reader-sync, ScriptStep-sync}

@@ -14,7 +14,7 @@ use Rattle.sal_schema.specs.declared.table.SchemaTable.{SchemaTable}
 use Rattle.sal_turn.specs.Entries.{entries_by}
 use Rattle.sal_turn.specs.Lists.{In}
 use Rattle.sal_turn.specs.Seats.{Place, TableId}
-use Rattle.sal_turn.specs.Views.{AnswersFor, SameRights, both, newcomer}
+use Rattle.sal_turn.specs.Views.{AnswersFor, SameRights, both, newcomer, opener}
 use Rattle.sal_turn.proofs.Lists.{in_either, prefix_trans}
 use Rattle.sal_broker.specs.Seats.{SeatView, client_of as maker_of, known}
 use Rattle.sal_hub.specs.Answers.{limit}
@@ -51,6 +51,10 @@ map_long f (x ∷ xs) = ap suc (map_long f xs)
 map_push : {X Y : Type 0} (f : X → Y) (xs : List X) (x : X) → map f (xs ++ x ∷ []) ≡ map f xs ++ f x ∷ []
 map_push f [] x = refl
 map_push f (y ∷ xs) x = ap (λ (ys : List _). f y ∷ ys) (map_push f xs x)
+
+-- what stands at an index
+pub at_index : {X : Type 0} (xs : List X) (i : ℕ) (x : X) → i < length xs → x ≡ get_or xs i x → slice_get xs i ≡ Some x
+at_index xs i x within is = let own = get_some xs i within in own.1 ∙ ap Some (sym (is ∙ get_or_from_slice_get xs i own.0 x own.1))
 
 -- ---- programs
 
@@ -104,6 +108,9 @@ new_stands table lock programs s steps limits json is at =
 pub in_upto : (n k : ℕ) → In k (upto n) → k < n
 in_upto zero k i = absurd i
 in_upto (suc n) k i = ⊎_elim (λ (h : In k (upto n)). let l = in_upto n k h in omega (arith, l)) (λ (h : In k (n ∷ [])). ⊎_elim (λ (e : n ≡ k). omega (arith, e)) (λ (h : ⊥). absurd h) h) (in_either k (upto n) (n ∷ []) i)
+
+pub upto_more : (n : ℕ) → upto n ++ n ∷ [] ≡ upto (n + 1)
+upto_more n = let e : suc n ≡ n + 1 = omega arith in ap upto e
 
 pub not_given : (n k : ℕ) → k < 65535 → n ≤ k → ¬ In k (65535 ∷ upto n)
 not_given n k small high i = ⊎_elim (λ (e : 65535 ≡ k). absurd (omega (arith, e, small))) (λ (h : In k (upto n)). let l = in_upto n k h in absurd (omega (arith, l, high))) i
@@ -248,6 +255,17 @@ module _ (fs : List Finished) (f : Finished) (replies result : Result (List (Lis
       last (y ∷ xs) x = last xs x
 
 -- ---- the closed log
+
+pub begins : (lock : TableId) (p : Place Entry (List Domain)) (w : List Domain) → p.lock ≡ lock → p.view ≡ opener 65535 w → IsOpening lock p
+begins lock p w at is = record {
+  lock = at;
+  number = ap (λ (v : SeatView). v.number) is;
+  seen = ap (λ (v : SeatView). v.seen) is;
+  own = ap (λ (v : SeatView). v.own) is;
+  splits = ap (λ (v : SeatView). v.splits) is;
+  given = ap (λ (v : SeatView). v.given) is;
+  joined = ap (λ (v : SeatView). v.joined) is;
+}
 
 module _ (table : SchemaTable) (lock : TableId) (programs : List (List ScriptStep)) (opening place : Place Entry (List Domain)) (replies : Result (List (List StepReply)) RunFault)
     (limits : within_limits programs ≡ true) (begun : IsOpening lock opening) (ran : AreRan table lock programs opening.view place replies) where

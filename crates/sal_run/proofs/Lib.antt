@@ -1,3 +1,4 @@
 pub mod Everyone
 pub mod Going
+pub mod Sendable
 pub mod Standing

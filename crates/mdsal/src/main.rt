@@ -12,6 +12,8 @@ use sal_types::{NoMemory, Str};
 use std::env;
 use std::io::ErrorKind;
 use std::process::ExitCode;
+use std::sync::Wait;
+use std::thread::Threads;
 
 // The words behind the program's name. Arguments that are not text are one empty word, which is no form.
 fn words_of(rt: &HostRuntime) -> Result<Vec<Str>, NoMemory> {
@@ -30,17 +32,34 @@ fn words_of(rt: &HostRuntime) -> Result<Vec<Str>, NoMemory> {
     Ok(words)
 }
 
-fn main(rt: HostRuntime) -> ExitCode {
-    let status = match words_of(&rt) {
+// What the top call answers. The runtime is handed down twice: for the streams, and for the threads of a run.
+fn answer<R: Threads + Wait + Sync>(rt: &HostRuntime, threads: &R) -> Status {
+    match words_of(rt) {
         Ok(words) => {
             let mut source = StdSource::new(rt.stdin());
             let mut sink = StdSink::new(rt.stdout());
-            mdsal(&rt, rt.alloc(), &words, &mut source, &mut sink, &OpenGate)
+            mdsal(
+                threads,
+                rt.alloc(),
+                &words,
+                &mut source,
+                &mut sink,
+                &OpenGate,
+            )
         }
         Err(NoMemory) => Status::NoMemory,
-    };
+    }
+}
+
+// The status with its line on standard error.
+fn end(rt: &HostRuntime, status: &Status) -> ExitCode {
     if let Ok(line) = status.line(rt.alloc()) {
         let _ = rt.eprint(line.as_str());
     }
     ExitCode::from(status.number())
+}
+
+fn main(rt: HostRuntime) -> ExitCode {
+    let status = answer(&rt, &rt);
+    end(&rt, &status)
 }

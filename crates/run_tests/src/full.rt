@@ -1,7 +1,10 @@
 //! A client that finds a full history.
-ghost use Rattle.std.specs.Prelude.{◌≡◌, [], ◌∷◌, IfOk};
-ghost use Rattle.sal_broker.specs.Turns.{Keeps};
-ghost use Rattle.run_tests.specs.Ready.{IsOpened};
+ghost use Rattle.std.specs.Prelude.{◌≡◌, ◌<◌, IfOk, IsTrue, length};
+ghost use Rattle.sal_script.specs.JsonMoves.{have_json_moves};
+ghost use Rattle.sal_script.specs.Limits.{within_limits};
+ghost use Rattle.sal_script.specs.Moves.{clients_of};
+ghost use Rattle.sal_run.specs.Worked.{IsNew};
+ghost use Rattle.run_tests.specs.Ready.{IsFirst, IsOpened};
 
 use sal_broker::{Sal, Seat};
 use sal_build::build;
@@ -12,7 +15,7 @@ use sal_io::OpenGate;
 use sal_rows::Rows;
 use sal_run::{Finished, Hall, SeatedRun, run_clients};
 use sal_schema::Schema;
-use sal_script::read_script;
+use sal_script::{Program, read_script};
 use sal_stmt::read_module;
 use std::alloc::Global;
 use std::sync::{Arc, Wait};
@@ -52,10 +55,23 @@ fn filled<R: Wait>(rt: &R, alloc: Global, sal: &Sal, mut seat: Seat) -> Result<(
     Ok(())
 }
 
-// The client at its seat, before its first step.
-fn client(alloc: Global, seat: Seat) -> Result<Vec<SeatedRun>, Fail> {
+// A seat for the first client, beside the opening one.
+fn first(sal: &Sal, opening: &mut Seat, reader: &Reader) -> Seat
+    requires { IsOpened reader.now sal.now opening.old }
+    ensures same { opening.new.lock ≡ sal.now }
+    ensures first { IsFirst reader.now sal.now result }
+{
+    sal.split(opening, 0)
+}
+
+// The first client at its seat, before its first step.
+fn client(alloc: Global, hall: &Hall<'_, OpenGate>, programs: &[Program], seat: Seat) -> SeatedRun
+    requires some { 0 < length programs.now }
+    requires seat { IsFirst hall.now.reader.now hall.now.sal.now seat }
+    ensures { IsNew hall.now.reader.now hall.now.sal.now programs.now result }
+{
     let run = ClientRun::new(alloc, 0);
-    Ok(vec![in alloc; SeatedRun { run, seat }]?)
+    SeatedRun { run, seat }
 }
 
 // Whether the one client was told that the history is full, at its first step.
@@ -69,8 +85,43 @@ fn is_refused(finished: &[Finished]) -> bool {
     }
 }
 
-// The same, once the opening seat has filled the history.
+// The same, of the client at the seat.
+fn is_stopped<R: Threads + Wait + Sync>(
+    rt: &R,
+    alloc: Global,
+    hall: &Hall<'_, OpenGate>,
+    programs: &[Program],
+    seat: Seat,
+) -> Result<bool, Fail>
+    requires limits { IsTrue (within_limits programs.now) }
+    requires json { IsTrue (have_json_moves (clients_of programs.now)) }
+    requires some { 0 < length programs.now }
+    requires seat { IsFirst hall.now.reader.now hall.now.sal.now seat }
+{
+    let runs = vec![in alloc; client(alloc, hall, programs, seat)]?;
+    let finished = run_clients(rt, alloc, hall, programs, runs)?;
+    Ok(is_refused(&finished))
+}
+
+// The same, where the client asks once to decide what is pending.
 fn pumps_in_vain<R: Threads + Wait + Sync>(
+    rt: &R,
+    alloc: Global,
+    hall: &Hall<'_, OpenGate>,
+    seat: Seat,
+) -> Result<bool, Fail>
+    requires { IsFirst hall.now.reader.now hall.now.sal.now seat }
+{
+    let script = read_script(alloc, PUMP.as_bytes())?;
+    let programs = script.clients.items();
+    if programs.is_empty() {
+        return Err("a script without clients".into());
+    }
+    is_stopped(rt, alloc, hall, programs, seat)
+}
+
+// The same, once the opening seat has filled the history.
+fn is_full<R: Threads + Wait + Sync>(
     rt: &R,
     alloc: Global,
     reader: &Reader,
@@ -79,25 +130,21 @@ fn pumps_in_vain<R: Threads + Wait + Sync>(
 ) -> Result<bool, Fail>
     requires { IsOpened reader.now sal.now opening }
 {
-    let seat = sal.split(&mut opening, 0);
+    let seat = first(sal, &mut opening, reader);
     filled(rt, alloc, sal, opening)?;
-    let script = read_script(alloc, PUMP.as_bytes())?;
     let hall = Hall {
         sal,
         reader,
         gate: &OpenGate,
     };
-    let programs = script.clients.items();
-    let runs = client(alloc, seat)?;
-    let finished = run_clients(rt, alloc, &hall, programs, runs)?;
-    Ok(is_refused(&finished))
+    pumps_in_vain(rt, alloc, &hall, seat)
 }
 
 fn a_million_marks<R: Threads + Wait + Sync>(rt: &R, alloc: Global) -> Result<bool, Fail> {
     let schema = no_nodes(alloc)?;
     let reader = Reader::of(alloc, Arc::try_clone(&schema)?)?;
     let (sal, opening) = opened(alloc, schema)?;
-    pumps_in_vain(rt, alloc, &reader, &sal, opening)
+    is_full(rt, alloc, &reader, &sal, opening)
 }
 
 #[test]

@@ -1,11 +1,11 @@
 -- The seats of all clients, and what all of them leave.
-use Rattle.std.proofs.Common.{◌≡◌, ◌⊎◌, ⊎_elim, inl, inr, ℕ, zero, suc, ◌+◌, ◌<◌, ◌≤◌, List, [], ◌∷◌, ◌++◌, Bool, true, false, length, map, get_or, Option, None, Some, IsTrue, refl, ap, sym, ◌∙◌, subst, arith, append-nil, append_assoc, length-append, true≢false}
+use Rattle.std.proofs.Common.{◌≡◌, ◌⊎◌, ⊎_elim, inl, inr, ℕ, zero, suc, ◌+◌, ◌<◌, ◌≤◌, List, [], ◌∷◌, ◌++◌, Bool, true, false, length, map, get_or, Option, Some, IsTrue, refl, ap, sym, ◌∙◌, subst, arith, length-append, true≢false}
 use Rattle.std.specs.Prelude.{nat_eq, nat_le, slice_get, unwrap_or, Result, Ok, Err, cond, ◌||◌, ◌&&◌, OnOk}
-use Rattle.std.specs.List.{filter, list_all}
+use Rattle.std.specs.List.{list_all}
 use Rattle.std.specs.Option.{option_map}
 use Rattle.std.proofs.lemmas.Bool.{and_parts, eq-eqb, eqb-true, leb-true}
 use Rattle.std.proofs.lemmas.List.Sums.{length-filter}
-use Rattle.std.proofs.lemmas.Option.{get_or_from_slice_get, same_Some, slice_get-map, slice_get_read, slice_get_within}
+use Rattle.std.proofs.lemmas.Option.{get_or_from_slice_get, same_Some, slice_get-map, slice_get_within}
 use mathlib.Core.List.{IsPrefix}
 use Rattle.sal_history.specs.declared.call.Entry.{Entry}
 use Rattle.sal_history.specs.History.{entries_of}
@@ -14,22 +14,20 @@ use Rattle.sal_schema.specs.declared.table.SchemaTable.{SchemaTable}
 use Rattle.sal_turn.specs.Entries.{entries_by}
 use Rattle.sal_turn.specs.Lists.{In}
 use Rattle.sal_turn.specs.Seats.{Place, TableId}
-use Rattle.sal_turn.specs.Views.{AnswersFor, SameRights, both, newcomer, opener}
+use Rattle.sal_turn.specs.Views.{AnswersFor, both, newcomer, opener}
 use Rattle.sal_turn.proofs.Lists.{in_either, prefix_trans}
 use Rattle.sal_broker.specs.Seats.{SeatView, client_of as maker_of, known}
-use Rattle.sal_hub.specs.Answers.{limit}
 use Rattle.sal_hub.specs.Known.{Known}
 use Rattle.sal_script.specs.Along.{AreLeft, Finishes, IsAt, new_run}
-use Rattle.sal_script.specs.JsonMoves.{have_json_moves, is_json_move}
+use Rattle.sal_script.specs.JsonMoves.{have_json_moves}
 use Rattle.sal_script.specs.Limits.{within_limits}
 use Rattle.sal_script.specs.Moves.{Move, clients_of, move_of, moves_of}
-use Rattle.sal_script.specs.Play.{Client, Run, new_client}
+use Rattle.sal_script.specs.Play.{Client, Run}
 use Rattle.sal_script.specs.declared.reply.StepReply.{StepReply}
 use Rattle.sal_script.specs.declared.script.ScriptStep.{ScriptStep}
 use Rattle.sal_script.proofs.Along.{at_end, at_found_own, at_start}
 use Rattle.sal_script.proofs.Few.{log_is_short}
 use Rattle.sal_script.proofs.Listed.{get-push, get_left, get_some}
-use Rattle.sal_client.specs.declared.run.ClientRun.{ClientRun as CodeRun}
 use Rattle.sal_client.specs.declared.wish.RunFault.{RunFault}
 use Rattle.sal_client.specs.declared.wish.RunFault.TheVariants.{HistoryFull, NoMemory}
 use Rattle.sal_client.specs.Clients.{client_of}
@@ -39,7 +37,7 @@ use Rattle.sal_run.specs.declared.clients.Finished.{Finished}
 use Rattle.sal_run.specs.declared.clients.SeatedRun.{SeatedRun}
 use Rattle.sal_run.specs.Joined.{AreSeated, Collects, IsSeated, Joins, named, upto, with_replies}
 use Rattle.sal_run.specs.Ran.{AreRan, IsOpening}
-use Rattle.sal_run.specs.Stands.{HasEnded, Stands, StandsIn}
+use Rattle.sal_run.specs.Stands.{HasEnded, Stands}
 use Rattle.sal_run.specs.Worked.{IsNew, Worked}
 
 -- ---- lists

@@ -1,7 +1,7 @@
 -- How a client comes on along the log: by its local steps, by the entries of others, and by a call of its own.
-use Rattle.std.proofs.Common.{◌≡◌, ℕ, ◌+◌, ◌<◌, ◌≤◌, List, [], ◌∷◌, ◌++◌, Bool, length, Option, None, Some, refl, ap, sym, ◌∙◌, subst, arith, append-nil, length-append}
+use Rattle.std.proofs.Common.{◌≡◌, ℕ, ◌+◌, ◌<◌, ◌≤◌, List, [], ◌++◌, Bool, length, Option, None, Some, refl, ap, sym, ◌∙◌, subst, arith, append-nil, length-append}
 use Rattle.std.specs.Option.{option_map}
-use Rattle.std.specs.Prelude.{nat_eq, slice_get}
+use Rattle.std.specs.Prelude.{nat_eq}
 use Rattle.std.specs.List.{filter}
 use Rattle.std.proofs.lemmas.List.Elements.{filter-append}
 use Rattle.std.proofs.lemmas.List.Sums.{length-filter}
@@ -10,24 +10,22 @@ use Rattle.sal_history.specs.declared.call.Entry.{Entry}
 use Rattle.sal_history.specs.History.{entries_of}
 use Rattle.sal_history.specs.World.{Domain, table_of}
 use Rattle.sal_schema.specs.declared.table.SchemaTable.{SchemaTable}
-use Rattle.sal_tx.specs.declared.tx.Tx.{Tx}
 use Rattle.sal_turn.specs.Entries.{entries_by}
 use Rattle.sal_broker.specs.Seats.{client_of as maker_of}
 use Rattle.sal_hub.specs.Known.{Known, more}
 use Rattle.sal_script.specs.Along.{BeganIn, IsAt, IsListening, ListensIn, along, new_run}
 use Rattle.sal_script.specs.Moves.{Move, moves_of}
-use Rattle.sal_script.specs.Play.{Arrival, Listener, Made, Open, Run, arrive, ended, go, make}
+use Rattle.sal_script.specs.Play.{Listener, Open, Run, arrive, go, make}
 use Rattle.sal_script.specs.declared.script.ScriptStep.{ScriptStep}
 use Rattle.sal_script.proofs.Along.{along-push, at_found_own, made_of, pass_own}
 use Rattle.sal_client.specs.declared.client.ClientState.{ClientState}
-use Rattle.sal_client.specs.declared.follower.Follower.{Follower}
 use Rattle.sal_client.specs.declared.run.ClientRun.{ClientRun as CodeRun}
 use Rattle.sal_client.specs.declared.wish.Wish.{Wish}
 use Rattle.sal_client.specs.Clients.{IsSound, StaysSound, client_of, open_of}
 use Rattle.sal_client.specs.Followers.{listener_of}
 use Rattle.sal_client.specs.Runs.{Comes, IsProgram, MakesNext, asking, moves_from, run_of}
 use Rattle.sal_client.specs.Slots.{held}
-use Rattle.sal_client.specs.Wishes.{GrowsBy, move_by}
+use Rattle.sal_client.specs.Wishes.{GrowsBy}
 use Rattle.sal_client.proofs.Soundness.{IsSound-others, TokensLast, steady_longer}
 use Rattle.sal_run.specs.Stands.{StandsIn}
 

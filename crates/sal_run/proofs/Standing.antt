@@ -1,21 +1,19 @@
 -- The client of a seat, through its turns.
-use Rattle.std.proofs.Common.{◌≡◌, ◌⊎◌, ⊎_elim, inl, inr, ℕ, zero, suc, ◌+◌, ◌<◌, ◌≤◌, List, [], ◌∷◌, ◌++◌, Bool, true, false, length, drop, Option, None, Some, IsTrue, refl, ap, sym, ◌∙◌, subst, arith, append-nil, length-append}
-use Rattle.std.specs.Prelude.{nat_eq, slice_get, unwrap_or, cond}
-use Rattle.std.specs.List.{filter, list_all}
+use Rattle.std.proofs.Common.{◌≡◌, ◌⊎◌, ⊎_elim, inl, inr, ℕ, ◌+◌, ◌<◌, ◌≤◌, List, [], ◌∷◌, ◌++◌, Bool, length, drop, Option, refl, ap, sym, ◌∙◌, subst, arith, append-nil, length-append}
+use Rattle.std.specs.Prelude.{nat_eq, unwrap_or, cond}
+use Rattle.std.specs.List.{filter}
 use Rattle.std.proofs.lemmas.Bool.{eq-eqb}
 use Rattle.std.proofs.lemmas.List.Elements.{filter-append}
-use mathlib.Core.List.{IsPrefix}
 use Rattle.sal_history.specs.declared.call.Entry.{Entry}
-use Rattle.sal_history.specs.World.{Domain, table_of}
+use Rattle.sal_history.specs.World.{Domain}
 use Rattle.sal_schema.specs.declared.table.SchemaTable.{SchemaTable}
 use Rattle.sal_turn.specs.Entries.{entries_by}
-use Rattle.sal_turn.specs.Seats.{Place, TableId}
+use Rattle.sal_turn.specs.Seats.{TableId}
 use Rattle.sal_turn.specs.Views.{SameRights}
 use Rattle.sal_broker.specs.Seats.{Holding, SeatView, client_of as maker_of, known}
 use Rattle.sal_broker.specs.Turns.{OneMoreAtMost, TurnOf}
 use Rattle.sal_hub.specs.Known.{Known, more}
 use Rattle.sal_script.specs.declared.script.ScriptStep.{ScriptStep}
-use Rattle.sal_script.specs.Moves.{moves_of}
 use Rattle.sal_script.specs.Play.{Run}
 use Rattle.sal_client.specs.declared.run.ClientRun.{ClientRun as CodeRun}
 use Rattle.sal_client.specs.declared.wish.Wish.{Wish}
@@ -61,6 +59,14 @@ few_more v w client found left added turn =
 
     something : (e : Entry) → left ≡ more found e → length (drop (length found.log) left.log) ≡ 1
     something e h = ap (λ (k : Known). length (drop (length found.log) k.log)) h ∙ ap length (behind found.log (e ∷ []))
+
+-- a turn in which a call was tried leaves the own entries below the steps that are answered, counting the call's
+pub few_left : (lock : TableId) (v w : SeatView) (h : Holding) (n at : ℕ) (hub left : Known) → Enters lock v h → n ≡ v.number → hub ≡ h.hub → GrowsAtMost n hub left → TurnOf h.view h.view.number h.found left w → length v.own < at → length w.own ≤ at
+few_left lock v w h n at hub left enters number same grows turn room =
+    let more = one_more h.view n h.found hub left (number ∙ sym enters.rights.0) (same ∙ enters.hub) grows in
+    let few = few_more h.view w h.view.number h.found left more turn in
+    let own = ap length enters.own in
+    omega (arith, few, own, room)
 
 module _ (lasts : TokensLast) (table : SchemaTable) (steps : List ScriptStep) (v : SeatView) where
   -- the turn's hub, for the client

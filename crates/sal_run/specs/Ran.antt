@@ -1,5 +1,5 @@
 -- The clients of a run, taken in again at the opening seat.
-use Rattle.std.specs.Prelude.{◌≡◌, ℕ, List, [], ◌∷◌, Result, Some, Err, OnOk, length, slice_get, true}
+use Rattle.std.specs.Prelude.{◌≡◌, ℕ, List, [], ◌∷◌, Result, Some, length, slice_get, true}
 use Rattle.sal_history.specs.declared.call.Entry.{Entry}
 use Rattle.sal_history.specs.World.{Domain}
 use Rattle.sal_schema.specs.declared.table.SchemaTable.{SchemaTable}

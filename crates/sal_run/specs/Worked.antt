@@ -1,5 +1,5 @@
 -- A client on a thread: before its first step, and when it has ended or was stopped.
-use Rattle.std.specs.Prelude.{◌≡◌, ◌<◌, ◌≤◌, ℕ, [], List, Err, Some, length, slice_get, OnOk}
+use Rattle.std.specs.Prelude.{◌≡◌, ◌<◌, ◌≤◌, [], List, Err, Some, length, slice_get, OnOk}
 use Rattle.sal_history.specs.declared.call.Entry.{Entry}
 use Rattle.sal_history.specs.World.{Domain, table_of}
 use Rattle.sal_schema.specs.declared.table.SchemaTable.{SchemaTable}

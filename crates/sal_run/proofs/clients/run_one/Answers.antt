@@ -1,5 +1,5 @@
 -- The client goes by the program of its number.
-use Rattle.std.proofs.Common.{◌≡◌, ◌≤◌, ℕ, List, Result, Ok, Err, Some, length, get_or, ap, sym, ◌∙◌, subst, refl}
+use Rattle.std.proofs.Common.{◌≡◌, ◌≤◌, List, Result, Ok, Err, Some, length, get_or, ap, sym, ◌∙◌, subst, refl}
 use Rattle.std.specs.Prelude.{OnOk, slice_get}
 use Rattle.std.proofs.lemmas.Option.{same_Some, slice_get_read}
 use Rattle.sal_script.specs.declared.script.ScriptStep.{ScriptStep}

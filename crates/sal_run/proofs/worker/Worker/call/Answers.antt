@@ -1,9 +1,9 @@
 -- The client makes its call on the hub that its turn found.
-use Rattle.std.proofs.Common.{◌≡◌, ◌<◌, ◌≤◌, ℕ, length, ap, sym, ◌∙◌, subst, arith}
+use Rattle.std.proofs.Common.{sym, ◌∙◌, subst}
 use Rattle.sal_hub.specs.Known.{Known}
 use Rattle.sal_client.specs.Clients.{IsSound, client_of}
 use Rattle.sal_client.specs.Runs.{MakesNext, asking}
-use Rattle.sal_run.proofs.Standing.{few_more, found_stands, left_stands, one_more}
+use Rattle.sal_run.proofs.Standing.{few_left, found_stands, left_stands}
 use Rattle.sal_run.proofs.worker.Worker.call.Goals as goal
 
 pub make-made-requires-clause-sound : goal.make-made-requires-clause-sound
@@ -15,14 +15,8 @@ make-made-requires-clause-sound g c =
 
 pub returns-in-Ok-clause-few : goal.returns-in-Ok-clause-few
 returns-in-Ok-clause-few g c =
-    let enters = c.turn_for-held.ensures in
-    let h = c.turn_for-held.result in
-    let number = c.requires.stands.number ∙ sym enters.rights.0 in
-    let more = one_more h.view c.args.run.now.client.number h.found c.hub.result.now c.make-made.new.hub number (c.hub.ensures.value ∙ enters.hub) c.make-made.ensures.grows in
-    let few = few_more h.view c.leave-seat.result.view h.view.number h.found c.make-made.new.hub more c.leave-seat.ensures.turn in
-    let own = ap length enters.own in
-    let room = c.requires.room in
-    omega (arith, few, own, room)
+    few_left c.args.self.now.sal.now c.args.seat.view c.leave-seat.result.view c.turn_for-held.result c.args.run.now.client.number c.args.run.now.at c.hub.result.now c.make-made.new.hub
+    c.turn_for-held.ensures c.requires.stands.number c.hub.ensures.value c.make-made.ensures.grows c.leave-seat.ensures.turn c.requires.room
 
 pub returns-in-Ok-clause-goes : goal.returns-in-Ok-clause-goes
 returns-in-Ok-clause-goes g c made =
@@ -37,11 +31,5 @@ returns-in-Ok-clause-goes g c made =
 
 pub returns-in-Err-clause-few : goal.returns-in-Err-clause-few
 returns-in-Err-clause-few g c =
-    let enters = c.turn_for-held.ensures in
-    let h = c.turn_for-held.result in
-    let number = c.requires.stands.number ∙ sym enters.rights.0 in
-    let more = one_more h.view c.args.run.now.client.number h.found c.hub.result.now c.make-made.new.hub number (c.hub.ensures.value ∙ enters.hub) c.make-made.ensures.grows in
-    let few = few_more h.view c.leave-seat.result.view h.view.number h.found c.make-made.new.hub more c.leave-seat.ensures.turn in
-    let own = ap length enters.own in
-    let room = c.requires.room in
-    omega (arith, few, own, room)
+    few_left c.args.self.now.sal.now c.args.seat.view c.leave-seat.result.view c.turn_for-held.result c.args.run.now.client.number c.args.run.now.at c.hub.result.now c.make-made.new.hub
+    c.turn_for-held.ensures c.requires.stands.number c.hub.ensures.value c.make-made.ensures.grows c.leave-seat.ensures.turn c.requires.room

@@ -1,5 +1,5 @@
 -- The client answers its local steps first.
-use Rattle.std.proofs.Common.{◌≡◌, Option, None, Some, subst}
+use Rattle.std.proofs.Common.{Option, subst}
 use Rattle.sal_client.specs.declared.wish.Wish.{Wish}
 use Rattle.sal_client.specs.Runs.{Comes}
 use Rattle.sal_broker.specs.Seats.{known}

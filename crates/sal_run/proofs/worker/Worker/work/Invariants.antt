@@ -1,5 +1,5 @@
 -- The client stands where its turns so far brought it; each took it on by one step at least.
-use Rattle.std.proofs.Common.{◌≡◌, ◌≤◌, length}
+use Rattle.std.proofs.Common.{◌≤◌, length}
 use Rattle.sal_broker.specs.Turns.{Keeps}
 use Rattle.sal_client.specs.Runs.{run_of}
 use Rattle.sal_run.specs.Stands.{Stands}

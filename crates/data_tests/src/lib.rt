@@ -12,9 +12,13 @@ mod data_write;
 #[cfg(test)]
 mod pathtext;
 #[cfg(test)]
+mod replies;
+#[cfg(test)]
 mod report;
 #[cfg(test)]
 mod script;
+#[cfg(test)]
+mod services;
 #[cfg(test)]
 mod tables;
 #[cfg(test)]

@@ -1,5 +1,5 @@
 //! A client that finds a full history.
-ghost use Rattle.std.specs.Prelude.{◌≡◌, ◌<◌, IfOk, IsTrue, length};
+ghost use Rattle.std.specs.Prelude.{◌≡◌, ◌<◌, [], ◌∷◌, IfOk, IsTrue, length};
 ghost use Rattle.sal_script.specs.JsonMoves.{have_json_moves};
 ghost use Rattle.sal_script.specs.Limits.{within_limits};
 ghost use Rattle.sal_script.specs.Moves.{clients_of};
@@ -8,7 +8,7 @@ ghost use Rattle.run_tests.specs.Ready.{IsFirst, IsOpened};
 
 use sal_broker::{Sal, Seat};
 use sal_build::build;
-use sal_client::{ClientRun, Reader, RunFault};
+use sal_client::{ClientRun, Readers, RunFault};
 use sal_history::{Device, Opening};
 use sal_hub::MAX_ENTRIES;
 use sal_io::OpenGate;
@@ -33,9 +33,20 @@ fn no_nodes(alloc: Global) -> Result<Arc<Schema>, Fail> {
     Ok(Arc::new(alloc, schema)?)
 }
 
+// What reads by the schema of the one domain.
+fn readers_of(alloc: Global, schema: &Arc<Schema>) -> Result<Readers, Fail>
+    ensures { IfOk result (λ readers. readers ≡ schema.now.value ∷ []) }
+{
+    let schemas = vec![in alloc; Arc::try_clone(schema)?]?;
+    match Readers::of(alloc, &schemas) {
+        Ok(readers) => Ok(readers),
+        Err(_) => Err("no readers".into()),
+    }
+}
+
 // A broker over one domain without data.
 fn opened(alloc: Global, schema: Arc<Schema>) -> Result<(Sal, Seat), Fail>
-    ensures { IfOk result (λ r. IsOpened schema.value r.0 r.1) }
+    ensures { IfOk result (λ r. IsOpened (schema.value ∷ []) r.0 r.1) }
 {
     let opening = Opening {
         config: Rows::new(alloc),
@@ -56,10 +67,10 @@ fn filled<R: Wait>(rt: &R, alloc: Global, sal: &Sal, mut seat: Seat) -> Result<(
 }
 
 // A seat for the first client, beside the opening one.
-fn first(sal: &Sal, opening: &mut Seat, reader: &Reader) -> Seat
-    requires { IsOpened reader.now sal.now opening.old }
+fn first(sal: &Sal, opening: &mut Seat, readers: &Readers) -> Seat
+    requires { IsOpened readers.now sal.now opening.old }
     ensures same { opening.new.lock ≡ sal.now }
-    ensures first { IsFirst reader.now sal.now result }
+    ensures first { IsFirst readers.now sal.now result }
 {
     sal.split(opening, 0)
 }
@@ -67,8 +78,8 @@ fn first(sal: &Sal, opening: &mut Seat, reader: &Reader) -> Seat
 // The first client at its seat, before its first step.
 fn client(alloc: Global, hall: &Hall<'_, OpenGate>, programs: &[Program], seat: Seat) -> SeatedRun
     requires some { 0 < length programs.now }
-    requires seat { IsFirst hall.now.reader.now hall.now.sal.now seat }
-    ensures { IsNew hall.now.reader.now hall.now.sal.now programs.now result }
+    requires seat { IsFirst hall.now.readers.now hall.now.sal.now seat }
+    ensures { IsNew hall.now.readers.now hall.now.sal.now programs.now result }
 {
     let run = ClientRun::new(alloc, 0);
     SeatedRun { run, seat }
@@ -96,7 +107,7 @@ fn is_stopped<R: Threads + Wait + Sync>(
     requires limits { IsTrue (within_limits programs.now) }
     requires json { IsTrue (have_json_moves (clients_of programs.now)) }
     requires some { 0 < length programs.now }
-    requires seat { IsFirst hall.now.reader.now hall.now.sal.now seat }
+    requires seat { IsFirst hall.now.readers.now hall.now.sal.now seat }
 {
     let runs = vec![in alloc; client(alloc, hall, programs, seat)]?;
     let finished = run_clients(rt, alloc, hall, programs, runs)?;
@@ -110,7 +121,7 @@ fn pumps_in_vain<R: Threads + Wait + Sync>(
     hall: &Hall<'_, OpenGate>,
     seat: Seat,
 ) -> Result<bool, Fail>
-    requires { IsFirst hall.now.reader.now hall.now.sal.now seat }
+    requires { IsFirst hall.now.readers.now hall.now.sal.now seat }
 {
     let script = read_script(alloc, PUMP.as_bytes())?;
     let programs = script.clients.items();
@@ -124,17 +135,17 @@ fn pumps_in_vain<R: Threads + Wait + Sync>(
 fn is_full<R: Threads + Wait + Sync>(
     rt: &R,
     alloc: Global,
-    reader: &Reader,
+    readers: &Readers,
     sal: &Sal,
     mut opening: Seat,
 ) -> Result<bool, Fail>
-    requires { IsOpened reader.now sal.now opening }
+    requires { IsOpened readers.now sal.now opening }
 {
-    let seat = first(sal, &mut opening, reader);
+    let seat = first(sal, &mut opening, readers);
     filled(rt, alloc, sal, opening)?;
     let hall = Hall {
         sal,
-        reader,
+        readers,
         gate: &OpenGate,
     };
     pumps_in_vain(rt, alloc, &hall, seat)
@@ -142,9 +153,9 @@ fn is_full<R: Threads + Wait + Sync>(
 
 fn a_million_marks<R: Threads + Wait + Sync>(rt: &R, alloc: Global) -> Result<bool, Fail> {
     let schema = no_nodes(alloc)?;
-    let reader = Reader::of(alloc, Arc::try_clone(&schema)?)?;
+    let readers = readers_of(alloc, &schema)?;
     let (sal, opening) = opened(alloc, schema)?;
-    is_full(rt, alloc, &reader, &sal, opening)
+    is_full(rt, alloc, &readers, &sal, opening)
 }
 
 #[test]

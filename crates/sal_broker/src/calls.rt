@@ -1,5 +1,5 @@
 //! Shared calls of the hub, each in one turn.
-ghost use Rattle.std.specs.Prelude.{◌≡◌, None, IfOk};
+ghost use Rattle.std.specs.Prelude.{◌≡◌, None, IfOk, IfSome};
 ghost use Rattle.sal_rows.specs.declared.outcome.Outcome.{Outcome as Decided};
 ghost use Rattle.sal_tx.specs.declared.tx.Tx.{Tx as Token};
 ghost use Rattle.sal_history.specs.declared.call.Call.TheVariants.{Begin, Cancel, Mark, Pump, Settle, Submit};
@@ -54,7 +54,7 @@ impl Sal {
         requires token { IsBegun (known seat.old.view) tx.begun tx.base }
         ensures same { Keeps self.now seat.old seat.new }
         ensures turn { InTurn seat.old.view seat.new.view (λ client found left. CallsOr found left (entry_of found client (Submit tx.begun.place tx.changes)) (λ (receipt : Given). Numbered receipt.number) tx result) }
-        ensures given { IfOk result (λ receipt. IsGiven (known seat.new.view) receipt.number) }
+        ensures given { IfOk result (IsGiven (known seat.new.view)) }
     {
         let mut held = self.take_turn(rt, &mut seat.inner);
         let client = held.number();
@@ -95,9 +95,9 @@ impl Sal {
         receipt: Receipt,
     ) -> Result<Outcome, CallFault>
         requires seat { seat.old.lock ≡ self.now }
-        requires given { IsGiven (known seat.old.view) receipt.number }
+        requires given { IsGiven (known seat.old.view) receipt }
         ensures same { Keeps self.now seat.old seat.new }
-        ensures turn { InTurn seat.old.view seat.new.view (λ client found left. Calls found left (entry_of found client (Settle receipt.number)) (λ (o : Decided). Settled 0 o) result) }
+        ensures turn { InTurn seat.old.view seat.new.view (λ client found left. Calls found left (entry_of found client (Settle receipt.number)) (λ (o : Decided). Settled receipt.domain o) result) }
     {
         let mut held = self.take_turn(rt, &mut seat.inner);
         let client = held.number();
@@ -114,10 +114,11 @@ impl Sal {
         rt: &R,
         alloc: Global,
         seat: &mut Seat,
-    ) -> Result<Option<(u64, Outcome)>, CallFault>
+    ) -> Result<Option<(Receipt, Outcome)>, CallFault>
         requires { seat.old.lock ≡ self.now }
         ensures same { Keeps self.now seat.old seat.new }
         ensures turn { InTurn seat.old.view seat.new.view (λ client found left. Calls found left (entry_of found client Pump) pump_reply result) }
+        ensures given { IfOk result (λ decided. IfSome decided (λ d. IsGiven (known seat.new.view) d.0)) }
     {
         let mut held = self.take_turn(rt, &mut seat.inner);
         let client = held.number();

@@ -3,14 +3,14 @@ ghost use Rattle.std.specs.Prelude.{◌≡◌};
 ghost use Rattle.std.specs.Borrow.{sem, Lends};
 ghost use Rattle.sal_hub.specs.contracts.hub.Hub.{the_row as hub_row};
 ghost use Rattle.sal_hub.specs.Marks.{has_mark};
-ghost use Rattle.sal_hub.specs.Tokens.{IsBegun, IsChain, IsGiven, IsListener, IsToken};
+ghost use Rattle.sal_hub.specs.Tokens.{IsBegun, IsCall, IsChain, IsGiven, IsListener, IsToken};
 ghost use Rattle.sal_broker.specs.Seats.{known};
 ghost use Rattle.sal_broker.specs.Tokens.{TokensStay};
 ghost use Rattle.sal_broker.specs.contracts.held.Held.{the_row};
 
 use crate::laws;
 use crate::shared::Shared;
-use sal_hub::{Chain, Hub, ListenerId, Receipt};
+use sal_hub::{CallId, Chain, Hub, ListenerId, Receipt};
 use sal_tx::{Tx, WriteTx};
 use std::marker::Model;
 
@@ -92,8 +92,8 @@ impl Held {
     }
 
     pub(crate) fn knows_receipt(&self, receipt: Receipt)
-        requires { IsGiven (known self.now.view) receipt.number }
-        ensures { IsGiven self.now.found receipt.number }
+        requires { IsGiven (known self.now.view) receipt }
+        ensures { IsGiven self.now.found receipt }
     {
         self.keeps_tokens();
     }
@@ -108,6 +108,13 @@ impl Held {
     pub(crate) fn knows_listener(&self, id: ListenerId)
         requires { IsListener (known self.now.view) id }
         ensures { IsListener self.now.found id }
+    {
+        self.keeps_tokens();
+    }
+
+    pub(crate) fn knows_call(&self, id: CallId)
+        requires { IsCall (known self.now.view) id }
+        ensures { IsCall self.now.found id }
     {
         self.keeps_tokens();
     }

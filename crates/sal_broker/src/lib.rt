@@ -9,6 +9,9 @@
 //! | `Sal::begin`, `submit`, `cancel`, `settle`, `pump`, `mark` | the calls of the hub, each in one turn |
 //! | `Sal::open_chain`, `chain_begin`, `close_chain` | the same, of transaction chains |
 //! | `Sal::listen`, `take`, `unlisten` | the same, of listeners |
+//! | `Sal::provide`, `withdraw`, `invoke`, `next_call`, `answer`, `collect` | the same, of RPCs |
+//! | `Sal::subscribe`, `offer`, `take_notes` | the same, of notifications |
+//! | `Sal::mount`, `unmount`, `mount_at` | the same, of mounts |
 //! | `Sal::after` | a look for a mark, a turn each, until it is there or `MAX_LOOKS` looks found none |
 //! | `Sal::enter`, `leave` | a turn with the hub in the caller's hands, for a caller with more to do in it than one call |
 //! | `Sal::enter_after` | the turn of the last look for a mark, in the caller's hands |
@@ -43,6 +46,9 @@ mod held;
 pub mod laws;
 mod listener_calls;
 mod looks;
+mod mount_calls;
+mod note_calls;
+mod rpc_calls;
 mod sal;
 mod seat;
 mod shared;

@@ -8,9 +8,9 @@ use Rattle.sal_rows.specs.declared.op.Act.{Act}
 use Rattle.sal_rows.specs.declared.outcome.Mode.{Mode}
 use Rattle.sal_rows.specs.declared.outcome.Mode.TheVariants.{Ro, Wo, Rw}
 use Rattle.sal_rows.specs.declared.outcome.CallFault.{CallFault}
-use Rattle.sal_rows.specs.declared.outcome.CallFault.TheVariants.{HistoryFull, PipelineFull, NoDomain, NoListener, TooManyListeners, PreviousOpen, ChainFailed, ChainClosed, NoMemory, TxSpent}
+use Rattle.sal_rows.specs.declared.outcome.CallFault.TheVariants.{ChainClosed, ChainFailed, DeviceUsed, HistoryFull, MountTaken, NoCall, NoDomain, NoListener, NoMemory, NoProvider, NoteRejected, PipelineFull, PreviousOpen, ProviderTaken, TooManyListeners, TxSpent}
 use Rattle.sal_schema.specs.declared.table.SchemaTable.{SchemaTable}
-use Rattle.sal_history.specs.World.{Domain, table_of}
+use Rattle.sal_history.specs.World.{Domain}
 use Rattle.sal_history.specs.declared.call.Call.{Call}
 use Rattle.sal_history.specs.declared.call.Call.TheVariants.{Submit as SubmitCall, Cancel as CancelCall}
 use Rattle.sal_history.specs.declared.call.Entry.{Entry}
@@ -24,14 +24,14 @@ use Rattle.sal_script.specs.Moves.{Move}
 use Rattle.sal_script.specs.declared.reply.StepReply.{StepReply}
 use Rattle.sal_script.specs.declared.reply.StepReply.TheVariants.{Called}
 use Rattle.sal_script.specs.declared.reply.StepRefusal.{StepRefusal}
-use Rattle.sal_script.specs.Play.{Client, Deed, Meeting, Open, Opened, Slots, act_of, cancel, domain_in, keep, keep_begun, meet, refused, set_slot, shared, submit, submit_in, write_at, write_in, write_op}
+use Rattle.sal_script.specs.Play.{Client, Deed, Meeting, Open, Opened, Slots, act_of, cancel, domain_in, keep, keep_begun, meet, refused, set_slot, shared, submit, submit_in, tables_of, write_at, write_in, write_op}
 use Rattle.sal_hub.specs.Answers.{Fails, Made}
 use Rattle.sal_hub.specs.Known.{Known, entry_of}
 use Rattle.sal_hub.specs.Tokens.{IsFresh}
 use Rattle.sal_client.specs.declared.client.Standing.TheVariants.{Writable}
 use Rattle.sal_client.specs.declared.wish.RunFault.{RunFault}
 use Rattle.sal_client.specs.declared.wish.RunFault.TheVariants as stop
-use Rattle.sal_client.specs.Clients.{Calls, open_of, standing_in, standing_of}
+use Rattle.sal_client.specs.Clients.{Calls, IsWithin, open_of, standing_in, standing_of}
 use Rattle.sal_client.specs.Deeds.{op_at, op_by}
 use Rattle.sal_client.specs.declared.wish.Wish.{Wish}
 use Rattle.sal_client.specs.Wishes.{GrowsAtMost, IsStop, Makes, ReadBy, Stops, move_by}
@@ -39,8 +39,8 @@ use Rattle.sal_client.specs.Wishes.{GrowsAtMost, IsStop, Makes, ReadBy, Stops, m
 -- ---- shared calls
 
 -- a call that was made, with its answer
-pub called : (table : SchemaTable) (r : StepReply) (c : ℕ) (known : Known) (old : Client) (step : Move) (known' : Known) (new : Client) (call : Call) (answer : Reply) → meet table known.world known.log old step ≡ shared call → Made known known' (entry_of known c call) answer → r ≡ Called answer → new ≡ keep (length known.log) step answer old → Calls table r c known old step known' new call
-called table r c known old step known' new call answer met made replied kept = record {
+pub called : (tables : List SchemaTable) (r : StepReply) (c : ℕ) (known : Known) (old : Client) (step : Move) (known' : Known) (new : Client) (call : Call) (answer : Reply) → meet tables known.world known.log old step ≡ shared call → Made known known' (entry_of known c call) answer → r ≡ Called answer → new ≡ keep (length known.log) step answer old → Calls tables r c known old step known' new call
+called tables r c known old step known' new call answer met made replied kept = record {
   met = met;
   entry = made.log;
   replied = replied ∙ ap Called (sym made.reply);
@@ -55,6 +55,12 @@ made_refused old new e PipelineFull fails full memory = fails
 made_refused old new e (NoDomain id) fails full memory = fails
 made_refused old new e (NoListener id) fails full memory = fails
 made_refused old new e TooManyListeners fails full memory = fails
+made_refused old new e (NoProvider rpc) fails full memory = fails
+made_refused old new e (ProviderTaken rpc) fails full memory = fails
+made_refused old new e (NoCall id) fails full memory = fails
+made_refused old new e (NoteRejected subscriber) fails full memory = fails
+made_refused old new e (MountTaken id) fails full memory = fails
+made_refused old new e (DeviceUsed id) fails full memory = fails
 made_refused old new e PreviousOpen fails full memory = fails
 made_refused old new e (ChainFailed receipt) fails full memory = fails
 made_refused old new e ChainClosed fails full memory = fails
@@ -66,13 +72,13 @@ stopped old new e fault stop.HistoryFull fails is = subst (Fails old new e) is f
 stopped old new e fault stop.NoMemory fails is = inl (subst (Fails old new e) is fails)
 
 -- a call that was made for a wish
-pub for_wish : (result : Result StepReply RunFault) (c : ℕ) (known known' : Known) (old new : Client) (wish : Wish) (step : Move) → move_by wish ≡ step → IfOk result (λ r. (table : SchemaTable) → Makes table r c known old step known' new) → IfOk result (λ r. (table : SchemaTable) → ReadBy table wish → Makes table r c known old (move_by wish) known' new)
-for_wish (Ok r) c known known' old new wish step is made = λ table read. subst (λ (m : Move). Makes table r c known old m known' new) (sym is) (made table)
+pub for_wish : (result : Result StepReply RunFault) (c : ℕ) (known known' : Known) (old new : Client) (wish : Wish) (step : Move) → move_by wish ≡ step → IfOk result (λ r. (tables : List SchemaTable) → Makes tables r c known old step known' new) → IfOk result (λ r. (tables : List SchemaTable) → ReadBy tables wish → Makes tables r c known old (move_by wish) known' new)
+for_wish (Ok r) c known known' old new wish step is made = λ tables read. subst (λ (m : Move). Makes tables r c known old m known' new) (sym is) (made tables)
 for_wish (Err why) c known known' old new wish step is made = tt
 
 -- a call leaves at most one entry
-pub grows_by : (result : Result StepReply RunFault) (c : ℕ) (known known' : Known) (old new : Client) (step : Move) → IfOk result (λ r. (table : SchemaTable) → Makes table r c known old step known' new) → IfErr result (Stops c known known') → GrowsAtMost c known known'
-grows_by (Ok r) c known known' old new step made stops = let (call, called) = made (table_of known.world 0) in inr (entry_of known c call, refl, called.entry)
+pub grows_by : (result : Result StepReply RunFault) (c : ℕ) (known known' : Known) (old new : Client) (step : Move) → IfOk result (λ r. (tables : List SchemaTable) → Makes tables r c known old step known' new) → IfErr result (Stops c known known') → GrowsAtMost c known known'
+grows_by (Ok r) c known known' old new step made stops = let (call, called) = made (tables_of known.world) in inr (entry_of known c call, refl, called.entry)
 grows_by (Err stop.HistoryFull) c known known' old new step made stops = inl stops.1
 grows_by (Err stop.NoMemory) c known known' old new step made stops = stops
 
@@ -81,6 +87,11 @@ pub made_in_vain : (old new : Known) (e : Entry) (answer : Reply) → Made old n
 made_in_vain old new e answer made = inr (e, refl, made.log)
 
 -- ---- begin
+
+-- a domain of the world is one behind a call, too
+pub in_world : {known known' : Known} {e : Entry} {answer : Reply} {asked domain : ℕ} → Made known known' e answer → asked ≡ domain → IsWithin (length known.world) asked → IsWithin (length known'.world) domain
+in_world {known} {known'} {e} {answer} {asked} {domain} made same within =
+    subst (λ n. IsWithin n domain) (ap (λ (k : Known). length k.world) (sym made.log)) (subst (IsWithin (length known.world)) same within)
 
 -- the transaction that a begin answers stands in the slot
 pub kept_begun : (known : Known) (slot domain : ℕ) (member : Option ℕ) (mode : Mode) (tx : Tx) (old : Client) (f : Slots Open) → IsFresh known domain member mode tx → f ≡ set_slot slot (Some (open_of tx)) old.transactions → record old { transactions = f } ≡ keep_begun slot (length known.log) domain mode old
@@ -119,15 +130,15 @@ module _ (table : SchemaTable) (world : List Domain) (log : List Entry) where
   met_by slot tx client (Ok op) = write_op table world log slot op tx client
   met_by slot tx client (Err refusal) = refused refusal client
 
-  write_by_act : (slot : ℕ) (store : Store) (path : List Step) (deed : Deed) (tx : Open) (client : Client) (read : Result Act DataFault) → act_of table path deed ≡ read → write_at table world log slot store (Ok path) deed tx client ≡ met_by slot tx client (op_at store path read)
+  write_by_act : (slot : ℕ) (store : Store) (path : List Step) (deed : Deed) (tx : Open) (client : Client) (read : Result Act DataFault) → act_of table path deed ≡ read → write_at table world log slot store (Ok path) deed tx client ≡ met_by slot tx client (op_at tx.domain store path read)
   write_by_act slot store path deed tx client (Ok act) e = rw e refl
   write_by_act slot store path deed tx client (Err fault) e = rw e refl
 
-  write_at-by : (slot : ℕ) (store : Store) (deed : Deed) (tx : Open) (client : Client) (read : Result (List Step) PathTextFault) → write_at table world log slot store read deed tx client ≡ met_by slot tx client (op_by table store deed read)
+  write_at-by : (slot : ℕ) (store : Store) (deed : Deed) (tx : Open) (client : Client) (read : Result (List Step) PathTextFault) → write_at table world log slot store read deed tx client ≡ met_by slot tx client (op_by table tx.domain store deed read)
   write_at-by slot store deed tx client (Err fault) = refl
   write_at-by slot store deed tx client (Ok path) = write_by_act slot store path deed tx client (act_of table path deed) refl
 
-  pub write-writable : (m : Mode) (slot : ℕ) (store : Store) (text : List ℕ) (deed : Deed) (tx : Open) (client : Client) (read : Result (List Step) PathTextFault) (made : Result Op StepRefusal) → standing_in m ≡ Writable → read ≡ read_path table text → made ≡ op_by table store deed read → write_in table world log m slot store text deed tx client ≡ met_by slot tx client made
+  pub write-writable : (m : Mode) (slot : ℕ) (store : Store) (text : List ℕ) (deed : Deed) (tx : Open) (client : Client) (read : Result (List Step) PathTextFault) (made : Result Op StepRefusal) → standing_in m ≡ Writable → read ≡ read_path table text → made ≡ op_by table tx.domain store deed read → write_in table world log m slot store text deed tx client ≡ met_by slot tx client made
   write-writable Ro slot store text deed tx client read made w is by = cc
   write-writable Wo slot store text deed tx client read made w is by = ap (λ r. write_at table world log slot store r deed tx client) (sym is) ∙ write_at-by slot store deed tx client read ∙ ap (met_by slot tx client) (sym by)
   write-writable Rw slot store text deed tx client read made w is by = ap (λ r. write_at table world log slot store r deed tx client) (sym is) ∙ write_at-by slot store deed tx client read ∙ ap (met_by slot tx client) (sym by)

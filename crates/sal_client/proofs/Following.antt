@@ -96,7 +96,7 @@ module _ (known : Known) (number domain : ℕ) (store : Store) (path : List Step
   parts_by (Some fault) e = cc
 
   parts : (given.0.number ≡ length (listeners before) + 1) × (given.1 ≡ start)
-  parts = parts_by (listen_refusal before domain) answered
+  parts = parts_by (listen_refusal known.world before domain) answered
 
   -- its number is greater than that of each that was made before
   pub new_number : (id : ℕ) (l : Listening) → listener_at before id ≡ Some l → id < given.0.number

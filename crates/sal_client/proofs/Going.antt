@@ -9,10 +9,9 @@ use Rattle.sal_script.specs.declared.script.ScriptStep.{ScriptStep}
 use Rattle.sal_script.specs.Moves.{Move, move_of}
 use Rattle.sal_script.specs.declared.reply.StepReply.{StepReply}
 use Rattle.sal_script.specs.declared.reply.StepReply.TheVariants.{Called}
-use Rattle.sal_script.specs.Play.{Arrival, Client, Made, Meeting, Run, arrive, arrive_by, calls, go, keep, local, make, meet, replied}
+use Rattle.sal_script.specs.Play.{Arrival, Client, Made, Meeting, Run, arrive, arrive_by, calls, go, keep, local, make, meet, replied, tables_of}
 use Rattle.sal_client.specs.declared.wish.Wish.{Wish}
 use Rattle.sal_hub.specs.Known.{Known, entry_of}
-use Rattle.sal_history.specs.World.{table_of}
 use Rattle.sal_client.specs.declared.run.ClientRun.{ClientRun as CodeRun}
 use Rattle.sal_client.specs.Clients.{Calls, IsSound, client_of}
 use Rattle.sal_client.specs.Wishes.{Makes, ReadBy, move_by}
@@ -22,43 +21,43 @@ use Rattle.sal_client.specs.Runs.{Comes, Goes, MakesNext, moves_from}
 from : (steps : List ScriptStep) (i : ℕ) (step : ScriptStep) → i < length steps → step ≡ get_or steps i step → moves_from i steps ≡ move_of step ∷ moves_from (i + 1) steps
 from steps i step h at = ap (map move_of) (drop_more steps i step h) ∙ ap (λ (s : ScriptStep). move_of s ∷ moves_from (i + 1) steps) (sym at)
 
-module _ (table : SchemaTable) (known : Known) where
+module _ (tables : List SchemaTable) (known : Known) where
   -- a step is met, and then the rest of the way follows
   abbrev onwards : Client → Move → List Move → Meeting → Arrival
-  onwards old step rest = arrive_by (λ next. arrive table known.world known.log next rest) (λ call. calls call step (record { client = old; steps = rest }))
+  onwards old step rest = arrive_by (λ next. arrive tables known.world known.log next rest) (λ call. calls call step (record { client = old; steps = rest }))
 
   module _ (old new : Client) (steps : List ScriptStep) (i : ℕ) (step : ScriptStep) where
     -- a step that the client answers by itself
-    pub local_turn : i < length steps → step ≡ get_or steps i step → (r : StepReply) × (between : Client) × (meet table known.world known.log old (move_of step) ≡ local r between) × (new ≡ replied r between)
-        → arrive table known.world known.log old (moves_from i steps) ≡ arrive table known.world known.log new (moves_from (i + 1) steps)
+    pub local_turn : i < length steps → step ≡ get_or steps i step → (r : StepReply) × (between : Client) × (meet tables known.world known.log old (move_of step) ≡ local r between) × (new ≡ replied r between)
+        → arrive tables known.world known.log old (moves_from i steps) ≡ arrive tables known.world known.log new (moves_from (i + 1) steps)
     local_turn h at (r, between, met, is) =
-        ap (arrive table known.world known.log old) (from steps i step h at) ∙ ap (onwards old (move_of step) (moves_from (i + 1) steps)) met
-        ∙ ap (λ (next : Client). arrive table known.world known.log next (moves_from (i + 1) steps)) (sym is)
+        ap (arrive tables known.world known.log old) (from steps i step h at) ∙ ap (onwards old (move_of step) (moves_from (i + 1) steps)) met
+        ∙ ap (λ (next : Client). arrive tables known.world known.log next (moves_from (i + 1) steps)) (sym is)
 
     -- a step that asks for a shared call
     pub asks_turn : (wish : Wish) → i < length steps → step ≡ get_or steps i step → move_of step ≡ move_by wish → new ≡ old
-        → arrive table known.world known.log old (moves_from i steps) ≡ arrive table known.world known.log new (move_by wish ∷ moves_from (i + 1) steps)
+        → arrive tables known.world known.log old (moves_from i steps) ≡ arrive tables known.world known.log new (move_by wish ∷ moves_from (i + 1) steps)
     asks_turn wish h at asks same =
-        ap (arrive table known.world known.log old) (from steps i step h at)
-        ∙ (λ k. arrive table known.world known.log (sym same k) (asks k ∷ moves_from (i + 1) steps))
+        ap (arrive tables known.world known.log old) (from steps i step h at)
+        ∙ (λ k. arrive tables known.world known.log (sym same k) (asks k ∷ moves_from (i + 1) steps))
 
 -- a client that made its call goes on behind it
-pub call_turn : (table : SchemaTable) (c : ℕ) (known known' : Known) (step : Move) (old between new : Client) (r : StepReply) (call : Call) → Calls table r c known old step known' between call → new ≡ replied r between → (steps : List Move)
-    → go table known.world known.log c (record { client = old; steps = step ∷ steps }) ≡ Some (record { log = known'.log; run = record { client = new; steps = steps } })
-call_turn table c known known' step old between new r call called is steps =
+pub call_turn : (tables : List SchemaTable) (c : ℕ) (known known' : Known) (step : Move) (old between new : Client) (r : StepReply) (call : Call) → Calls tables r c known old step known' between call → new ≡ replied r between → (steps : List Move)
+    → go tables known.world known.log c (record { client = old; steps = step ∷ steps }) ≡ Some (record { log = known'.log; run = record { client = new; steps = steps } })
+call_turn tables c known known' step old between new r call called is steps =
     let q : Reply = reply known.world known.log (entry_of known c call) in
     let client : new ≡ replied (Called q) (keep (length known.log) step q old) = is ∙ (λ k. replied (called.replied k) (called.kept k)) in
-    ap (λ m. make table known.world known.log c (onwards table known old step steps m)) called.met
+    ap (λ m. make tables known.world known.log c (onwards tables known old step steps m)) called.met
     ∙ (λ k. Some (let made : Made = record { log = (sym called.entry k).log; run = record { client = sym client k; steps = steps } } in made))
 
-pub goes_on : (table : SchemaTable) (c : ℕ) (known known' : Known) (wish : Wish) (old between new : Client) (r : StepReply) → Makes table r c known old (move_by wish) known' between → new ≡ replied r between → MakesNext table c known wish old known' new
-goes_on table c known known' wish old between new r (call, called) is = (call_turn table c known known' (move_by wish) old between new r call called is, (entry_of known c call, refl, called.entry))
+pub goes_on : (tables : List SchemaTable) (c : ℕ) (known known' : Known) (wish : Wish) (old between new : Client) (r : StepReply) → Makes tables r c known old (move_by wish) known' between → new ≡ replied r between → MakesNext tables c known wish old known' new
+goes_on tables c known known' wish old between new r (call, called) is = (call_turn tables c known known' (move_by wish) old between new r call called is, (entry_of known c call, refl, called.entry))
 
 -- what a client comes to by its local steps and its call
-pub goes : (table : SchemaTable) (c : ℕ) (known known' : Known) (wish : Wish) (steps : List ScriptStep) (old mid new : CodeRun) → Comes table steps old (Some wish) mid → (ReadBy table wish → MakesNext table c known wish (client_of mid.client) known' (client_of new.client)) → new.at ≡ mid.at → IsSound known old.client → table ≡ table_of known.world 0 → Goes table true c known steps old known' new
-goes table c known known' wish steps old mid new comes makes at sound of =
+pub goes : (tables : List SchemaTable) (c : ℕ) (known known' : Known) (wish : Wish) (steps : List ScriptStep) (old mid new : CodeRun) → Comes tables steps old (Some wish) mid → (ReadBy tables wish → MakesNext tables c known wish (client_of mid.client) known' (client_of new.client)) → new.at ≡ mid.at → IsSound known old.client → tables ≡ tables_of known.world → Goes tables true c known steps old known' new
+goes tables c known known' wish steps old mid new comes makes at sound of =
     let made = makes comes.2 in (
-      ap (make table known.world known.log c) (comes.0 known sound.steady of) ∙ made.0 (moves_from mid.at steps) ∙ (λ k. Some (let m : Made = record { log = known'.log; run = record { client = client_of new.client; steps = moves_from (sym at k) steps } } in m)),
+      ap (make tables known.world known.log c) (comes.0 known sound.steady of) ∙ made.0 (moves_from mid.at steps) ∙ (λ k. Some (let m : Made = record { log = known'.log; run = record { client = client_of new.client; steps = moves_from (sym at k) steps } } in m)),
       made.1,
       subst (λ n. old.at < n) (sym at) comes.3,
     )

@@ -18,7 +18,7 @@ use Rattle.sal_rows.specs.declared.outcome.CallFault.{CallFault}
 use Rattle.sal_script.specs.declared.reply.StepReply.{StepReply}
 use Rattle.sal_script.specs.declared.reply.StepRefusal.TheVariants.{NoDevice}
 use Rattle.sal_script.specs.Moves.{Listen, Take}
-use Rattle.sal_script.specs.Play.{Client, Listener, Slots, at_version, has_domain, keep_taken, listen_at, meet, refused, set_slot, shared, take_batch}
+use Rattle.sal_script.specs.Play.{Client, Listener, Slots, at_version, has_domain, keep_taken, listen_at, meet, refused, set_slot, shared, table_in, take_batch}
 use Rattle.sal_hub.specs.declared.chain.Chain.{Chain}
 use Rattle.sal_hub.specs.declared.listener.ListenerId.{ListenerId}
 use Rattle.sal_hub.specs.declared.receipt.Receipt.{Receipt}
@@ -44,13 +44,13 @@ id_in call = 0
 
 -- ---- what the steps come to
 
-pub met_listen : (table : SchemaTable) (known : Known) (client : Client) (slot domain : ℕ) (store : Store) (text : List ℕ) (path : List Step) → read_path table text ≡ Ok path → has_domain domain ≡ true
-    → meet table known.world known.log client (Listen slot domain store text) ≡ shared (ListenCall domain store path)
-met_listen table known client slot domain store text path read has =
-    ap (λ b. if b then listen_at domain store (read_path table text) client else refused NoDevice client) has ∙ ap (λ (r : Result (List Step) PathTextFault). listen_at domain store r client) read
+pub met_listen : (tables : List SchemaTable) (known : Known) (client : Client) (slot domain : ℕ) (store : Store) (text : List ℕ) (path : List Step) → read_path (table_in tables domain) text ≡ Ok path → has_domain tables domain ≡ true
+    → meet tables known.world known.log client (Listen slot domain store text) ≡ shared (ListenCall domain store path)
+met_listen tables known client slot domain store text path read has =
+    ap (λ b. if b then listen_at domain store (read_path (table_in tables domain) text) client else refused NoDevice client) has ∙ ap (λ (r : Result (List Step) PathTextFault). listen_at domain store r client) read
 
-pub met_take : (table : SchemaTable) (known : Known) (c : ClientState) (slot : ℕ) (f : Follower) → held c.listeners slot ≡ Some f → meet table known.world known.log (client_of c) (Take slot) ≡ shared (TakeCall f.id.number)
-met_take table known c slot f found = ap (λ (o : Option Follower). take_batch (client_of c) (option_map listener_of o)) found
+pub met_take : (tables : List SchemaTable) (known : Known) (c : ClientState) (slot : ℕ) (f : Follower) → held c.listeners slot ≡ Some f → meet tables known.world known.log (client_of c) (Take slot) ≡ shared (TakeCall f.id.number)
+met_take tables known c slot f found = ap (λ (o : Option Follower). take_batch (client_of c) (option_map listener_of o)) found
 
 -- ---- what they leave in the slots
 
@@ -74,7 +74,7 @@ kept_taken old after slot f g b found goes filled =
 
 -- ---- a client stays sound
 
-module _ (lasts : TokensLast) (known known' : Known) (old new : ClientState) (slot : ℕ) (sound : IsSound known old) (number : new.number ≡ old.number) (txs : held new.transactions ≡ held old.transactions) (rs : held new.receipts ≡ held old.receipts) (cs : held new.chains ≡ held old.chains) where
+module _ (lasts : TokensLast) (known known' : Known) (old new : ClientState) (slot : ℕ) (sound : IsSound known old) (number : new.number ≡ old.number) (txs : held new.transactions ≡ held old.transactions) (rs : held new.receipts ≡ held old.receipts) (cs : held new.chains ≡ held old.chains) (ids : held new.invoked ≡ held old.invoked) where
   -- with a listener that was made
   pub sound_listening : (domain : ℕ) (store : Store) (path : List Step) (id : ListenerId) (o : Opened) → Made known known' (entry_of known old.number (ListenCall domain store path)) (listener_reply domain path (id, o)) → id.domain ≡ domain
       → IsMade known' id (record { client = old.number; domain = domain; store = store; path = path })
@@ -90,8 +90,8 @@ module _ (lasts : TokensLast) (known known' : Known) (old new : ClientState) (sl
       (λ k g differs at.
       let less : g.id.number < id.number = new_number known old.number domain store path (id, o) made.reply g.id.number _ (sound.listeners k g at).made in
       (was.listeners k g at, λ same. absurd (omega (arith, less, same))))
-      (λ j k g h not not' at at' same. sound.apart j k g h at at' same) was.receipts was.chains
-      (new_follows known old.number domain store path (id, o) made.reply of f refl) (new_listener known old.number domain store path (id, o) made.reply of f refl mine) txs rs cs number filled)
+      (λ j k g h not not' at at' same. sound.apart j k g h at at' same) was.receipts was.chains was.invoked
+      (new_follows known old.number domain store path (id, o) made.reply of f refl) (new_listener known old.number domain store path (id, o) made.reply of f refl mine) txs rs cs ids number filled)
 
   -- with one that took a batch
   pub sound_taken : (f g : Follower) (b : Told) → held old.listeners slot ≡ Some f → Made known known' (entry_of known old.number (TakeCall f.id.number)) (Batch f.id.domain b) → Advances b f g
@@ -107,8 +107,8 @@ module _ (lasts : TokensLast) (known known' : Known) (old new : ClientState) (sl
         listener_stays known e old.number h (λ mine taken. other k h differs at (sym (taken_id taken))) (sound.listeners k h at),
         λ same. other k h differs at (same ∙ same_id),
       ))
-      (λ j k h i not not' at at' same. sound.apart j k h i at at' same) (λ k r at. lasts.1 known e r.number (sound.receipts k r at)) (λ k chain at. record { token = lasts.2 known e chain (sound.chains k chain at).token; own = (sound.chains k chain at).own })
-      (told_follows known old.number f own b made.reply g goes (sound.steady.followers slot f found)) (told_listener known old.number f own b made.reply g goes) txs rs cs number filled)
+      (λ j k h i not not' at at' same. sound.apart j k h i at at' same) (λ k r at. lasts.1 known e r (sound.receipts k r at)) (λ k chain at. lasts.2 known e chain (sound.chains k chain at)) (λ k id at. lasts.3 known e id (sound.invoked k id at))
+      (told_follows known old.number f own b made.reply g goes (sound.steady.followers slot f found)) (told_listener known old.number f own b made.reply g goes) txs rs cs ids number filled)
     where
       taken_id : {n m : ℕ} → TakeCall n ≡ TakeCall m → n ≡ m
       taken_id e = ap id_in e
@@ -119,8 +119,9 @@ sound_refused lasts known known' old n fault sound made =
     let e : Entry = entry_of known old.number (TakeCall n) in
     subst (λ (k : Known). IsSound k old) (sym made.log) (record {
       steady = IsSteady-more lasts known e old sound.steady;
-      receipts = λ k r at. lasts.1 known e r.number (sound.receipts k r at);
-      chains = λ k chain at. record { token = lasts.2 known e chain (sound.chains k chain at).token; own = (sound.chains k chain at).own };
+      receipts = λ k r at. lasts.1 known e r (sound.receipts k r at);
+      chains = λ k chain at. lasts.2 known e chain (sound.chains k chain at);
+      invoked = λ k id at. lasts.3 known e id (sound.invoked k id at);
       listeners = λ k f at. listener_kept known e old.number f (ap (λ r. brings_to (TakeCall n) r f.id.number) made.reply) (sound.listeners k f at);
       apart = sound.apart;
     })

@@ -1,9 +1,14 @@
 pub mod Answering
+pub mod Childless
+pub mod Compiled
+pub mod Domains
 pub mod Following
 pub mod Going
 pub mod Heard
+pub mod Invoked
 pub mod Mirroring
 pub mod Places
+pub mod Quiet
 pub mod Soundness
 pub mod Standing
 pub mod Values

@@ -1,9 +1,14 @@
 -- What slots hold after they were filled or emptied.
-use Rattle.std.proofs.Common.{◌≡◌, ℕ, true, false, Option, None, Some, Result, Ok, Err, refl, ap, sym, ◌∙◌, subst, arith, if◌then◌else◌, nat_eq}
+use Rattle.std.proofs.Common.{◌≡◌, ℕ, true, false, List, length, Option, None, Some, Result, Ok, Err, refl, ap, sym, ◌∙◌, subst, arith, if◌then◌else◌, inl, nat_eq}
 use Rattle.std.specs.Prelude.{OnOk}
 use Rattle.std.specs.Option.{option_map}
 use Rattle.std.proofs.lemmas.Bool.Decides.{nat_tests}
+use Rattle.sal_tx.specs.declared.tx.Tx.{Tx}
+use Rattle.sal_schema.specs.declared.table.SchemaTable.{SchemaTable}
 use Rattle.sal_script.specs.Play.{set_slot}
+use Rattle.sal_client.specs.declared.client.ClientState.{ClientState}
+use Rattle.sal_client.specs.Clients.{HasSchema, IsWithin, domain_of, open_of, opened}
+use Rattle.sal_client.specs.Slots.{held}
 
 -- what holds of all that slots hold, and of what is put in, holds of all that they hold then
 pub each_filled : {X : Type 0} (P : X → Type 0) (h after : ℕ → Option X) (slot : ℕ) (x : X) → after ≡ set_slot slot (Some x) h → P x → ((k : ℕ) (y : X) → h k ≡ Some y → P y) → (k : ℕ) (y : X) → after k ≡ Some y → P y
@@ -62,3 +67,11 @@ put_back h emptied after slot x here out in_ = changed h emptied after slot x ou
 pub on_ok : {T E P Q : Type 0} (r : Result T E) → (P → Q) → OnOk r P → OnOk r Q
 on_ok (Ok x) f p = f p
 on_ok (Err e) f p = tt
+
+-- the domain of a slot's transaction is one of those that are read, and an empty slot stands for the controller's own
+pub opened_within : (tables : List SchemaTable) (c : ClientState) (slot domain : ℕ) → domain ≡ domain_of (opened c slot) → HasSchema tables c → IsWithin (length tables) domain
+opened_within tables c slot domain is has = subst (IsWithin (length tables)) (sym is) (by (held c.transactions slot) refl)
+  where
+    by : (o : Option Tx) → held c.transactions slot ≡ o → IsWithin (length tables) (domain_of (option_map open_of o))
+    by None e = inl refl
+    by (Some tx) e = (has slot tx e).within

@@ -31,15 +31,15 @@ program_at [] i p have h at = absurd (omega arith)
 program_at (x ∷ ps) zero p have h at = ap (λ (q : List ScriptStep). list_all is_json_move (moves_of q)) at ∙ (and_parts (list_all is_json_move (moves_of x)) (have_json_moves (clients_of ps)) have).0
 program_at (x ∷ ps) (suc i) p have h at = program_at ps i p (and_parts (list_all is_json_move (moves_of x)) (have_json_moves (clients_of ps)) have).1 (omega arith) at
 
-module _ (law : WritesAreForSchema) (table : SchemaTable) (good : IsTable table) (store : Store) (text : List ℕ) (deed : Deed) (is : IsTrue (is_json_deed deed)) where
-  by_act : (path : List Step) → read_path table text ≡ Ok path → (act : Result Act DataFault) → act_of table path deed ≡ act → Given (IsForSchema table) (op_at store path act)
+module _ (law : WritesAreForSchema) (table : SchemaTable) (good : IsTable table) (domain : ℕ) (store : Store) (text : List ℕ) (deed : Deed) (is : IsTrue (is_json_deed deed)) where
+  by_act : (path : List Step) → read_path table text ≡ Ok path → (act : Result Act DataFault) → act_of table path deed ≡ act → Given (IsForSchema table) (op_at domain store path act)
   by_act path read (Ok act) e = law table good store text path read deed is act e
   by_act path read (Err fault) e = tt
 
-  by_path : (path : Result (List Step) PathTextFault) → read_path table text ≡ path → Given (IsForSchema table) (op_by table store deed path)
+  by_path : (path : Result (List Step) PathTextFault) → read_path table text ≡ path → Given (IsForSchema table) (op_by table domain store deed path)
   by_path (Ok path) e = by_act path e (act_of table path deed) refl
   by_path (Err fault) e = tt
 
   -- an operation that was read is for the schema
-  pub op_for_schema : (op : Op) → Ok op ≡ op_by table store deed (read_path table text) → IsForSchema table op
+  pub op_for_schema : (op : Op) → Ok op ≡ op_by table domain store deed (read_path table text) → IsForSchema table op
   op_for_schema op made = subst (Given (IsForSchema table)) (sym made) (by_path (read_path table text) refl)

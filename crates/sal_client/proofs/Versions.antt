@@ -9,7 +9,7 @@ use Rattle.sal_types.specs.declared.value.Step.{Step}
 use Rattle.sal_rows.specs.declared.outcome.CallFault.{CallFault}
 use Rattle.sal_rows.specs.declared.outcome.CallFault.TheVariants.{NoListener}
 use Rattle.sal_history.specs.declared.call.Call.{Call}
-use Rattle.sal_history.specs.declared.call.Call.TheVariants.{After, Begin, Cancel, ChainBegin, CloseChain, Listen, Mark, OpenChain, Pump, Settle, Submit, Take, Unlisten}
+use Rattle.sal_history.specs.declared.call.Call.TheVariants.{After, Answer, Begin, Cancel, ChainBegin, CloseChain, Collect, Invoke, Listen, Mark, Mount, MountAt, NextCall, Offer, OpenChain, Provide, Pump, Settle, Submit, Subscribe, Take, TakeNotes, Unlisten, Unmount, Withdraw}
 use Rattle.sal_history.specs.declared.call.Entry.{Entry}
 use Rattle.sal_history.specs.declared.reply.Reply.TheVariants.{Refused}
 use Rattle.sal_history.specs.Listeners.{Listening, brings_to, has_listener, is_removed, listener_at, listeners, version}
@@ -47,7 +47,7 @@ module _ (world : List Domain) (log : List Entry) (e : Entry) (id : ℕ) (l : Li
   owned n is true has = told n is has (listener_at so_far n)
 
   not_brought : (call : Call) → e.call ≡ call → brings_to call (reply_to world so_far e.client call) id ≡ None
-  not_brought (Listen domain store path) is = listened domain store path (listen_refusal so_far domain)
+  not_brought (Listen domain store path) is = listened domain store path (listen_refusal world so_far domain)
   not_brought (Take n) is = owned n is (has_listener so_far e.client n) refl
   not_brought (Begin domain mode) is = refl
   not_brought (OpenChain domain) is = refl
@@ -58,6 +58,18 @@ module _ (world : List Domain) (log : List Entry) (e : Entry) (id : ℕ) (l : Li
   not_brought (Settle receipt) is = refl
   not_brought Pump is = refl
   not_brought (Unlisten n) is = refl
+  not_brought (Provide rpc context) is = refl
+  not_brought (Withdraw rpc context) is = refl
+  not_brought (Invoke rpc context input) is = refl
+  not_brought NextCall is = refl
+  not_brought (Answer id output) is = refl
+  not_brought (Collect id) is = refl
+  not_brought (Subscribe note) is = refl
+  not_brought (Offer note rows) is = refl
+  not_brought TakeNotes is = refl
+  not_brought (Mount path device) is = refl
+  not_brought (Unmount domain) is = refl
+  not_brought (MountAt path) is = refl
   not_brought (Mark mark) is = refl
   not_brought (After mark) is = refl
 

@@ -1,5 +1,5 @@
 -- A write in a transaction, as the definitions have it.
-use Rattle.std.proofs.Common.{◌≡◌, ℕ, [], ◌∷◌, ◌++◌, Some, Result, Ok, Err, ap, sym, ◌∙◌, subst, inl, inr}
+use Rattle.std.proofs.Common.{◌≡◌, ℕ, List, [], ◌∷◌, ◌++◌, length, Some, Result, Ok, Err, ap, sym, ◌∙◌, subst, inl, inr}
 use Rattle.std.specs.Prelude.{MatchResult, OnErr, ⊤}
 use Rattle.sal_rows.specs.declared.op.Op.{Op}
 use Rattle.sal_rows.specs.Apply.{apply_ops}
@@ -12,29 +12,32 @@ use Rattle.sal_rules.specs.declared.fault.TxFault.{TxFault}
 use Rattle.sal_rules.specs.declared.fault.TxFault.TheVariants.{NoMemory}
 use Rattle.sal_rules.specs.Refusals.{refusal}
 use Rattle.sal_tx.specs.Views.{HasOneMore, IsOutcome, refused as refused_over}
-use Rattle.sal_history.specs.World.{table_of}
 use Rattle.sal_script.specs.declared.reply.StepReply.{StepReply}
 use Rattle.sal_script.specs.declared.reply.StepReply.TheVariants.{Accepted, Refused}
 use Rattle.sal_script.specs.declared.reply.StepRefusal.TheVariants.{Write as WriteRefused}
-use Rattle.sal_script.specs.Play.{Client, Open, Slots, accept_unless, local, seen_by, set_slot, write_op}
+use Rattle.sal_script.specs.Play.{Client, Open, Slots, accept_unless, local, seen_by, set_slot, table_in, tables_of, write_op}
 use Rattle.sal_hub.specs.Known.{Known}
 use Rattle.sal_hub.specs.Tokens.{IsBegun}
-use Rattle.sal_client.specs.Clients.{IsOwn, open_of}
+use Rattle.sal_client.specs.Clients.{IsOfSchema, IsOwn, IsWithin, open_of}
+use Rattle.sal_client.proofs.Domains.{table_in-of}
 use Rattle.sal_client.proofs.Places.{put_same}
 use Rattle.sal_client.proofs.Soundness.{based}
 
-module _ (known : Known) (table : SchemaTable) (old : Writing) (own : IsOwn known (Write old)) (of_zero : table ≡ table_of known.world 0) where
+module _ (known : Known) (tables : List SchemaTable) (old : Writing) (own : IsOwn known (Write old)) (of_world : tables ≡ tables_of known.world) where
+  abbrev table : SchemaTable
+  table = table_in tables old.begun.domain
+
   -- a transaction refuses what the definitions refuse
-  same_refusal : (op : Op) → refusal table (seen_by table known.world known.log (open_of (Write old)) op.store) op ≡ refused_over old op
+  same_refusal : (op : Op) → refusal table (seen_by known.world known.log (open_of (Write old)) op.store) op ≡ refused_over old op
   same_refusal op =
-      let of_tx : table ≡ old.begun.schema.value = of_zero ∙ ap (table_of known.world) (sym own.own) ∙ sym own.token.schema in
+      let of_tx : table ≡ old.begun.schema.value = ap (λ (ts : List SchemaTable). table_in ts old.begun.domain) of_world ∙ table_in-of known.world old.begun.domain ∙ sym own.token.schema in
       λ i. refusal (of_tx i) (apply_ops (based known old.begun old.base own.token op.store i) op.store old.changes) op
 
   one_more : (op : Op) (new : Writing) → HasOneMore old op new → open_of (Write new) ≡ record (open_of (Write old)) { ops = old.changes ++ op ∷ [] }
   one_more op new has = λ i. record { place = (has.1 i).place; domain = (has.1 i).domain; mode = has.2 i; ops = has.0 i }
 
   -- a write that was answered so
-  pub written : (slot : ℕ) (op : Op) (new : Writing) (answer : Result ⊤ TxFault) (r : StepReply) (client : Client) (f : Slots Open) → IsOutcome old op new answer → OnErr answer (new ≡ old) → MatchResult answer (λ _. r ≡ Accepted) (λ fault. r ≡ Refused (WriteRefused fault)) → MatchResult answer (λ _. ⊤) (λ fault. fault ≡ NoMemory → ⊥) → client.transactions slot ≡ Some (open_of (Write old)) → f ≡ set_slot slot (Some (open_of (Write new))) client.transactions → write_op table known.world known.log slot op (open_of (Write old)) client ≡ local r (record client { transactions = f })
+  pub written : (slot : ℕ) (op : Op) (new : Writing) (answer : Result ⊤ TxFault) (r : StepReply) (client : Client) (f : Slots Open) → IsOutcome old op new answer → OnErr answer (new ≡ old) → MatchResult answer (λ _. r ≡ Accepted) (λ fault. r ≡ Refused (WriteRefused old.begun.domain fault)) → MatchResult answer (λ _. ⊤) (λ fault. fault ≡ NoMemory → ⊥) → client.transactions slot ≡ Some (open_of (Write old)) → f ≡ set_slot slot (Some (open_of (Write new))) client.transactions → write_op table known.world known.log slot op (open_of (Write old)) client ≡ local r (record client { transactions = f })
   written slot op new (Ok u) r client f outcome err reply memory here filled =
       ap (λ o. accept_unless o slot op (open_of (Write old)) client) (same_refusal op ∙ outcome.0)
       ∙ (λ i. local (sym reply i) (record client { transactions = set_slot slot (Some (sym (one_more op new outcome.1) i)) client.transactions }))
@@ -53,6 +56,13 @@ pub begun-written : (op : Op) (old new : Writing) (answer : Result ⊤ TxFault) 
 begun-written op old new (Ok u) outcome err = outcome.1.1
 begun-written op old new (Err fault) outcome err = ap (λ (w : Writing). w.begun) err
 
+-- and of its schema
+pub of_schema-begun : (tables : List SchemaTable) (old new : Writing) → new.begun ≡ old.begun → IsOfSchema tables (Write old) → IsOfSchema tables (Write new)
+of_schema-begun tables old new same is = record {
+  within = subst (λ (b : Begun). IsWithin (length tables) b.domain) (sym same) is.within;
+  schema = subst (λ (b : Begun). b.schema.value ≡ table_in tables b.domain) (sym same) is.schema;
+}
+
 -- and stays one of the log
 pub IsOwn-written : (known : Known) (old : Writing) → IsOwn known (Write old) → (op : Op) (new : Writing) (answer : Result ⊤ TxFault) → IsOutcome old op new answer → OnErr answer (new ≡ old) → IsOwn known (Write new)
 IsOwn-written known old own op new (Ok u) outcome err =
@@ -61,6 +71,6 @@ IsOwn-written known old own op new (Ok u) outcome err =
     let base : new.base ≡ old.base = has.3 in
     record {
       token = subst (λ (b : Begun). IsBegun known b new.base) (sym begun) (subst (λ (t : Pair). IsBegun known old.begun t) (sym base) own.token);
-      own = ap (λ (b : Begun). b.domain) begun ∙ own.own;
+      within = subst (λ (b : Begun). IsWithin (length known.world) b.domain) (sym begun) own.within;
     }
 IsOwn-written known old own op new (Err fault) outcome err = subst (λ (w : Writing). IsOwn known (Write w)) (sym err) own

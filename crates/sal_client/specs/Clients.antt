@@ -1,25 +1,27 @@
 -- A client, as the definitions have it, and what it keeps of the log.
-use Rattle.std.specs.Prelude.{◌≡◌, ℕ, Bool, true, false, length, Option, None, Some}
-use Rattle.std.specs.Option.{option_map}
+use Rattle.std.specs.Prelude.{◌≡◌, ◌⊎◌, ◌<◌, ℕ, Bool, true, false, List, length, Option, None, Some}
+use Rattle.std.specs.Option.{option_map, option_map_or}
 use Rattle.sal_rows.specs.declared.outcome.Mode.{Mode}
 use Rattle.sal_rows.specs.declared.outcome.Mode.TheVariants.{Ro, Wo, Rw}
 use Rattle.sal_tx.specs.declared.tx.Tx.{Tx}
 use Rattle.sal_history.specs.declared.call.Call.{Call}
 use Rattle.sal_history.specs.History.{reply}
-use Rattle.sal_history.specs.World.{table_of}
 use Rattle.sal_schema.specs.declared.table.SchemaTable.{SchemaTable}
-use Rattle.sal_script.specs.Moves.{Move, Put, Merge, Delete, Read, Exists, Mirror}
+use Rattle.sal_script.specs.Moves.{Move, Put, Merge, Delete, Read, Exists, Mirror, Provide, Withdraw, Invoke, NextCall, Answer, Collect, Subscribe, Offer, TakeNotes, Mount, Unmount, MountAt}
 use Rattle.sal_script.specs.declared.reply.StepReply.{StepReply}
 use Rattle.sal_script.specs.declared.reply.StepReply.TheVariants.{Called}
-use Rattle.sal_script.specs.Play.{Client, Listener, Open, Opened, keep, meet, shared}
+use Rattle.sal_script.specs.Play.{Client, Listener, Open, Opened, keep, meet, shared, table_in, tables_of}
+use Rattle.sal_script.specs.Services.{Invocation}
+use Rattle.sal_hub.specs.declared.call_id.CallId.{CallId}
 use Rattle.sal_hub.specs.declared.chain.Chain.{Chain}
 use Rattle.sal_hub.specs.declared.receipt.Receipt.{Receipt}
 use Rattle.sal_hub.specs.Known.{Known, entry_of, more}
-use Rattle.sal_hub.specs.Tokens.{IsChain, IsGiven, IsToken, begun_of, mode_of, ops_of}
+use Rattle.sal_hub.specs.Tokens.{IsCall, IsChain, IsGiven, IsToken, begun_of, mode_of, ops_of}
 use Rattle.sal_client.specs.declared.client.ClientState.{ClientState}
 use Rattle.sal_client.specs.declared.client.Standing.{Standing}
 use Rattle.sal_client.specs.declared.follower.Follower.{Follower}
 use Rattle.sal_client.specs.declared.client.Standing.TheVariants.{Empty, ReadOnly, Writable}
+use Rattle.sal_client.specs.Asked.{invocation_of}
 use Rattle.sal_client.specs.Followers.{Follows, IsOwnListener, listener_of}
 use Rattle.sal_client.specs.Slots.{held}
 
@@ -50,8 +52,20 @@ chains_in c k = option_map chain_of (held c.chains k)
 abbrev pub listeners_in : ClientState → ℕ → Option Listener
 listeners_in c k = option_map listener_of (held c.listeners k)
 
+abbrev pub request_of : CallId → ℕ
+request_of id = id.number
+
+-- the requests that it made, by slot
+abbrev pub invoked_in : ClientState → ℕ → Option ℕ
+invoked_in c k = option_map request_of (held c.invoked k)
+
+-- those that it was handed, by slot
+abbrev pub handed_in : ClientState → ℕ → Option Invocation
+handed_in c k = option_map invocation_of (held c.handed k)
+
 abbrev pub client_of : ClientState → Client
-client_of c = record { transactions = opened c; receipts = given c; chains = chains_in c; listeners = listeners_in c; replies = c.replies.items }
+client_of c =
+    record { transactions = opened c; receipts = given c; chains = chains_in c; listeners = listeners_in c; invoked = invoked_in c; handed = handed_in c; replies = c.replies.items }
 
 -- what a slot is good for
 abbrev pub standing_in : Mode → Standing
@@ -63,15 +77,18 @@ abbrev pub standing_of : Option Open → Standing
 standing_of None = Empty
 standing_of (Some tx) = standing_in tx.mode
 
--- a transaction of domain 0 that the log began
+-- the domain of a slot's transaction
+abbrev pub domain_of : Option Open → ℕ
+domain_of tx = option_map_or (λ (o : Open). o.domain) tx 0
+
+-- the controller's own domain, or one of so many
+abbrev pub IsWithin : ℕ → ℕ → Type 0
+IsWithin count domain = (domain ≡ 0) ⊎ (domain < count)
+
+-- a transaction that the log began, of one of its domains
 pub record IsOwn (known : Known) (tx : Tx) : Type 0 where
   pub token : IsToken known tx
-  pub own : (begun_of tx).domain ≡ 0
-
--- a chain over domain 0 that the log opened
-pub record IsOwnChain (known : Known) (chain : Chain) : Type 0 where
-  pub token : IsChain known chain
-  pub own : chain.domain ≡ 0
+  pub within : IsWithin (length known.world) (begun_of tx).domain
 
 -- What the local steps stand on, and each longer log keeps: each transaction is one that the log began, and the rows of each
 -- listener are those that were committed there.
@@ -79,12 +96,13 @@ pub record IsSteady (known : Known) (c : ClientState) : Type 0 where
   pub transactions : (k : ℕ) (tx : Tx) → held c.transactions k ≡ Some tx → IsOwn known tx
   pub followers : (k : ℕ) (f : Follower) → held c.listeners k ≡ Some f → Follows known f
 
--- And what the shared steps stand on: each receipt is one that the log gave, each chain one that it opened, and each listener one
--- that it made for this client, at the version that was taken last; no listener stands in two slots.
+-- And what the shared steps stand on: each receipt is one that the log gave, each chain one that it opened, each request one that
+-- was made, and each listener one that it made for this client, at the version that was taken last; no listener stands in two slots.
 pub record IsSound (known : Known) (c : ClientState) : Type 0 where
   pub steady : IsSteady known c
-  pub receipts : (k : ℕ) (r : Receipt) → held c.receipts k ≡ Some r → IsGiven known r.number
-  pub chains : (k : ℕ) (chain : Chain) → held c.chains k ≡ Some chain → IsOwnChain known chain
+  pub receipts : (k : ℕ) (r : Receipt) → held c.receipts k ≡ Some r → IsGiven known r
+  pub chains : (k : ℕ) (chain : Chain) → held c.chains k ≡ Some chain → IsChain known chain
+  pub invoked : (k : ℕ) (id : CallId) → held c.invoked k ≡ Some id → IsCall known id
   pub listeners : (k : ℕ) (f : Follower) → held c.listeners k ≡ Some f → IsOwnListener known c.number f
   pub apart : (j k : ℕ) (f g : Follower) → held c.listeners j ≡ Some f → held c.listeners k ≡ Some g → f.id.number ≡ g.id.number → j ≡ k
 
@@ -93,13 +111,18 @@ pub record StaysSound (old new : ClientState) : Type 0 where
   pub steady : (known : Known) → IsSteady known old → IsSteady known new
   pub sound : (known : Known) → IsSound known old → IsSound known new
 
--- over each log that the client is steady for, where the controller's own domain has this schema
-abbrev pub Everywhere : SchemaTable → ClientState → (Known → Type 0) → Type 0
-Everywhere table c P = (known : Known) → IsSteady known c → table ≡ table_of known.world 0 → P known
+-- over each log that the client is steady for, where the domains have these schemas
+abbrev pub Everywhere : List SchemaTable → ClientState → (Known → Type 0) → Type 0
+Everywhere tables c P = (known : Known) → IsSteady known c → tables ≡ tables_of known.world → P known
 
--- its transactions have this schema
-abbrev pub HasSchema : SchemaTable → ClientState → Type 0
-HasSchema table c = (k : ℕ) (tx : Tx) → held c.transactions k ≡ Some tx → (begun_of tx).schema.value ≡ table
+-- the transaction is of one of the domains with these schemas, and has its schema
+pub record IsOfSchema (tables : List SchemaTable) (tx : Tx) : Type 0 where
+  pub within : IsWithin (length tables) (begun_of tx).domain
+  pub schema : (begun_of tx).schema.value ≡ table_in tables (begun_of tx).domain
+
+-- so are all of the client
+abbrev pub HasSchema : List SchemaTable → ClientState → Type 0
+HasSchema tables c = (k : ℕ) (tx : Tx) → held c.transactions k ≡ Some tx → IsOfSchema tables tx
 
 -- only slots differ
 pub record Same (old new : ClientState) : Type 0 where
@@ -116,9 +139,25 @@ is_local (Exists slot store path) = true
 is_local (Mirror slot) = true
 is_local step = false
 
+-- a step for RPCs, notifications or mounts
+abbrev pub is_service : Move → Bool
+is_service (Provide name context) = true
+is_service (Withdraw name context) = true
+is_service (Invoke slot name context value) = true
+is_service (NextCall slot) = true
+is_service (Answer slot value) = true
+is_service (Collect slot) = true
+is_service (Subscribe name) = true
+is_service (Offer name value) = true
+is_service TakeNotes = true
+is_service (Mount device path) = true
+is_service (Unmount domain) = true
+is_service (MountAt path) = true
+is_service step = false
+
 -- what a shared call leaves
-pub record Calls (table : SchemaTable) (r : StepReply) (c : ℕ) (known : Known) (old : Client) (step : Move) (known' : Known) (new : Client) (call : Call) : Type 0 where
-  pub met : meet table known.world known.log old step ≡ shared call
+pub record Calls (tables : List SchemaTable) (r : StepReply) (c : ℕ) (known : Known) (old : Client) (step : Move) (known' : Known) (new : Client) (call : Call) : Type 0 where
+  pub met : meet tables known.world known.log old step ≡ shared call
   pub entry : known' ≡ more known (entry_of known c call)
   pub replied : r ≡ Called (reply known.world known.log (entry_of known c call))
   pub kept : new ≡ keep (length known.log) step (reply known.world known.log (entry_of known c call)) old

@@ -1,5 +1,5 @@
 -- What a client makes of texts and values, or why it makes nothing.
-use Rattle.std.specs.Prelude.{List, Result, Ok, Err}
+use Rattle.std.specs.Prelude.{ℕ, List, Result, Ok, Err}
 use Rattle.serde_json.specs.View.{view}
 use Rattle.sal_types.specs.declared.value.Store.{Store}
 use Rattle.sal_types.specs.declared.value.Step.{Step}
@@ -20,22 +20,12 @@ deed_of (told.Put value) = putting (view value.now)
 deed_of (told.Merge value) = merging (view value.now)
 deed_of told.Delete = deleting
 
--- the path, or why it is none
-abbrev pub path_by : Result (List Step) PathTextFault → Result (List Step) StepRefusal
-path_by (Ok path) = Ok path
-path_by (Err fault) = Err (BadPath fault)
-
--- the act, or why it is none
-abbrev pub act_by : Result Act DataFault → Result Act StepRefusal
-act_by (Ok act) = Ok act
-act_by (Err fault) = Err (BadData fault)
-
--- the operation at a path, where its act was read so
-abbrev pub op_at : Store → List Step → Result Act DataFault → Result Op StepRefusal
-op_at store path (Ok act) = Ok (op_of store path act)
-op_at store path (Err fault) = Err (BadData fault)
+-- the operation at a path of the domain, where its act was read so
+abbrev pub op_at : ℕ → Store → List Step → Result Act DataFault → Result Op StepRefusal
+op_at domain store path (Ok act) = Ok (op_of store path act)
+op_at domain store path (Err fault) = Err (BadData domain fault)
 
 -- the operation, where its path was read so
-abbrev pub op_by : SchemaTable → Store → Deed → Result (List Step) PathTextFault → Result Op StepRefusal
-op_by table store deed (Ok path) = op_at store path (act_of table path deed)
-op_by table store deed (Err fault) = Err (BadPath fault)
+abbrev pub op_by : SchemaTable → ℕ → Store → Deed → Result (List Step) PathTextFault → Result Op StepRefusal
+op_by table domain store deed (Ok path) = op_at domain store path (act_of table path deed)
+op_by table domain store deed (Err fault) = Err (BadPath fault)

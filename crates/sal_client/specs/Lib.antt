@@ -1,6 +1,9 @@
+pub mod Answers
+pub mod Asked
 pub mod Clients
 pub mod Deeds
 pub mod Followers
+pub mod Malformed
 pub mod Runs
 pub mod Slots
 pub mod Wishes

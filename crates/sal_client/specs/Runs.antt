@@ -42,24 +42,24 @@ abbrev pub asking : Wish → List ScriptStep → CodeRun → Run
 asking wish steps r = record { client = client_of r.client; steps = move_by wish ∷ moves_from r.at steps }
 
 -- The client answered its local steps: over each log that it was sound for, it came to its end, or to this call.
-abbrev pub Comes : SchemaTable → List ScriptStep → CodeRun → Option Wish → CodeRun → Type 0
-Comes table steps old None new = Everywhere table old.client (λ known. arrive table known.world known.log (client_of old.client) (moves_from old.at steps) ≡ ended (client_of new.client))
-Comes table steps old (Some wish) new =
-    Everywhere table old.client (λ known. arrive table known.world known.log (client_of old.client) (moves_from old.at steps) ≡ arrive table known.world known.log (asking wish steps new).client (asking wish steps new).steps)
-    × CanMake wish new.client × ReadBy table wish × (old.at < new.at)
+abbrev pub Comes : List SchemaTable → List ScriptStep → CodeRun → Option Wish → CodeRun → Type 0
+Comes tables steps old None new = Everywhere tables old.client (λ known. arrive tables known.world known.log (client_of old.client) (moves_from old.at steps) ≡ ended (client_of new.client))
+Comes tables steps old (Some wish) new =
+    Everywhere tables old.client (λ known. arrive tables known.world known.log (client_of old.client) (moves_from old.at steps) ≡ arrive tables known.world known.log (asking wish steps new).client (asking wish steps new).steps)
+    × CanMake wish new.client × ReadBy tables wish × (old.at < new.at)
 
 -- client c made the call that it was ready to make, whatever the steps behind it
-abbrev pub MakesNext : SchemaTable → ℕ → Known → Wish → Client → Known → Client → Type 0
-MakesNext table c known wish old known' new =
-    ((steps : List Move) → go table known.world known.log c (record { client = old; steps = move_by wish ∷ steps }) ≡ Some (record { log = known'.log; run = record { client = new; steps = steps } }))
+abbrev pub MakesNext : List SchemaTable → ℕ → Known → Wish → Client → Known → Client → Type 0
+MakesNext tables c known wish old known' new =
+    ((steps : List Move) → go tables known.world known.log c (record { client = old; steps = move_by wish ∷ steps }) ≡ Some (record { log = known'.log; run = record { client = new; steps = steps } }))
     × GrowsBy c known known'
 
 -- the client went on to its next shared call and made it, or came to its end
-abbrev pub Goes : SchemaTable → Bool → ℕ → Known → List ScriptStep → CodeRun → Known → CodeRun → Type 0
-Goes table true c known steps old known' new =
-    (go table known.world known.log c (run_of steps old) ≡ Some (record { log = known'.log; run = run_of steps new })) × GrowsBy c known known' × (old.at < new.at)
-Goes table false c known steps old known' new =
-    (arrive table known.world known.log (client_of old.client) (moves_from old.at steps) ≡ ended (client_of new.client)) × (known' ≡ known)
+abbrev pub Goes : List SchemaTable → Bool → ℕ → Known → List ScriptStep → CodeRun → Known → CodeRun → Type 0
+Goes tables true c known steps old known' new =
+    (go tables known.world known.log c (run_of steps old) ≡ Some (record { log = known'.log; run = run_of steps new })) × GrowsBy c known known' × (old.at < new.at)
+Goes tables false c known steps old known' new =
+    (arrive tables known.world known.log (client_of old.client) (moves_from old.at steps) ≡ ended (client_of new.client)) × (known' ≡ known)
 
 -- the clients' runs, each in its own program
 abbrev pub runs_of : List (List ScriptStep) → List CodeRun → List Run
@@ -83,19 +83,19 @@ pub record AreRuns (known : Known) (ps : List (List ScriptStep)) (rs : List Code
   pub each : (i : ℕ) (p : List ScriptStep) (r : CodeRun) → i < length rs → p ≡ slice_index_or ps i p → r ≡ slice_index_or rs i r → IsRun known p r × (r.client.number ≡ i)
 
 -- one number of an order, or its failure
-abbrev pub Turns : SchemaTable → Bool → List (List ScriptStep) → ℕ → Known → List CodeRun → Known → List CodeRun → Type 0
-Turns table true ps c known rs known' rs' =
-    (turn table known.world (stand_of ps known.log rs) c ≡ Some (stand_of ps known'.log rs')) × AreRuns known' ps rs' × (known'.world ≡ known.world)
-Turns table false ps c known rs known' rs' = turn table known.world (stand_of ps known.log rs) c ≡ None
+abbrev pub Turns : List SchemaTable → Bool → List (List ScriptStep) → ℕ → Known → List CodeRun → Known → List CodeRun → Type 0
+Turns tables true ps c known rs known' rs' =
+    (turn tables known.world (stand_of ps known.log rs) c ≡ Some (stand_of ps known'.log rs')) × AreRuns known' ps rs' × (known'.world ≡ known.world)
+Turns tables false ps c known rs known' rs' = turn tables known.world (stand_of ps known.log rs) c ≡ None
 
 -- the replies of a client to its steps
 abbrev pub replies_in : CodeRun → List StepReply
 replies_in r = r.client.replies.items
 
 -- all clients come to their ends, with these replies, or one does not
-abbrev pub Ends : SchemaTable → Bool → List (List ScriptStep) → Known → List CodeRun → Known → List CodeRun → Type 0
-Ends table true ps known rs known' rs' = (replies_of table known.world known.log (runs_of ps rs) ≡ Some (map replies_in rs')) × (known' ≡ known)
-Ends table false ps known rs known' rs' = replies_of table known.world known.log (runs_of ps rs) ≡ None
+abbrev pub Ends : List SchemaTable → Bool → List (List ScriptStep) → Known → List CodeRun → Known → List CodeRun → Type 0
+Ends tables true ps known rs known' rs' = (replies_of tables known.world known.log (runs_of ps rs) ≡ Some (map replies_in rs')) × (known' ≡ known)
+Ends tables false ps known rs known' rs' = replies_of tables known.world known.log (runs_of ps rs) ≡ None
 
 -- what a script came to over a world, or where its order fails; nothing is said of want of memory
 abbrev pub PlaysAs : List Domain → Result CodePlayed PlayFault → Result Played ℕ → Type 0

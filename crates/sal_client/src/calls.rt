@@ -1,5 +1,5 @@
 //! The shared calls of a client for its transactions and receipts.
-ghost use Rattle.std.specs.Prelude.{◌≡◌, IfOk, IfErr, IsSome, OnOk};
+ghost use Rattle.std.specs.Prelude.{◌≡◌, List, IfOk, IfErr, IsSome, OnOk};
 ghost use Rattle.sal_hub.specs.Tokens.{begun_of};
 ghost use Rattle.sal_schema.specs.declared.table.SchemaTable.{SchemaTable};
 ghost use Rattle.sal_script.specs.Moves.{Begin, Submit, Cancel, Settle};
@@ -67,7 +67,7 @@ impl ClientState {
         mode: Mode,
     ) -> Result<StepReply, RunFault>
         requires sound { IsSound hub.old self.old }
-        ensures answers { IfOk result (λ r. (table : SchemaTable) → Makes table r self.old.number hub.old (client_of self.old) (Begin slot domain mode) hub.new (client_of self.new)) }
+        ensures answers { IfOk result (λ r. (tables : List SchemaTable) → Makes tables r self.old.number hub.old (client_of self.old) (Begin slot domain mode) hub.new (client_of self.new)) }
         ensures sound { OnOk result (IsSound hub.new self.new) }
         ensures same { OnOk result (Same self.old self.new) }
         ensures stops { IfErr result (Stops self.old.number hub.old hub.new) }
@@ -95,7 +95,7 @@ impl ClientState {
     ) -> Result<StepReply, RunFault>
         requires sound { IsSound hub.old self.old }
         requires writable { standing_of (opened self.old slot) ≡ Standing.Writable }
-        ensures answers { IfOk result (λ r. (table : SchemaTable) → Makes table r self.old.number hub.old (client_of self.old) (Submit slot) hub.new (client_of self.new)) }
+        ensures answers { IfOk result (λ r. (tables : List SchemaTable) → Makes tables r self.old.number hub.old (client_of self.old) (Submit slot) hub.new (client_of self.new)) }
         ensures sound { OnOk result (IsSound hub.new self.new) }
         ensures same { OnOk result (Same self.old self.new) }
         ensures stops { IfErr result (Stops self.old.number hub.old hub.new) }
@@ -128,7 +128,7 @@ impl ClientState {
     ) -> Result<StepReply, RunFault>
         requires sound { IsSound hub.old self.old }
         requires filled { standing_of (opened self.old slot) ≡ Standing.Empty → ⊥ }
-        ensures answers { IfOk result (λ r. (table : SchemaTable) → Makes table r self.old.number hub.old (client_of self.old) (Cancel slot) hub.new (client_of self.new)) }
+        ensures answers { IfOk result (λ r. (tables : List SchemaTable) → Makes tables r self.old.number hub.old (client_of self.old) (Cancel slot) hub.new (client_of self.new)) }
         ensures sound { OnOk result (IsSound hub.new self.new) }
         ensures same { OnOk result (Same self.old self.new) }
         ensures stops { IfErr result (Stops self.old.number hub.old hub.new) }
@@ -156,7 +156,7 @@ impl ClientState {
     ) -> Result<StepReply, RunFault>
         requires sound { IsSound hub.old self.now }
         requires filled { IsSome (held self.now.receipts slot) }
-        ensures answers { IfOk result (λ r. (table : SchemaTable) → Makes table r self.now.number hub.old (client_of self.now) (Settle slot) hub.new (client_of self.now)) }
+        ensures answers { IfOk result (λ r. (tables : List SchemaTable) → Makes tables r self.now.number hub.old (client_of self.now) (Settle slot) hub.new (client_of self.now)) }
         ensures sound { OnOk result (IsSound hub.new self.now) }
         ensures stops { IfErr result (Stops self.now.number hub.old hub.new) }
     {
@@ -164,7 +164,10 @@ impl ClientState {
         match look_at(&self.receipts, slot) {
             None => unreachable!(),
             Some(receipt) => match hub.settle(alloc, self.number, *receipt) {
-                Ok(outcome) => Ok(called(Reply::Settled { domain: 0, outcome })),
+                Ok(outcome) => {
+                    let domain = receipt.domain();
+                    Ok(called(Reply::Settled { domain, outcome }))
+                }
                 Err(fault) => {
                     let reply = refused_call(fault)?;
                     Ok(reply)

@@ -1,5 +1,5 @@
 //! The shared calls of a client for its transaction chains.
-ghost use Rattle.std.specs.Prelude.{◌≡◌, IfOk, IfErr, IsSome, OnOk};
+ghost use Rattle.std.specs.Prelude.{◌≡◌, List, IfOk, IfErr, IsSome, OnOk};
 ghost use Rattle.sal_schema.specs.declared.table.SchemaTable.{SchemaTable};
 ghost use Rattle.sal_script.specs.Moves.{OpenChain, ChainBegin, CloseChain};
 ghost use Rattle.sal_client.specs.Slots.{held};
@@ -27,7 +27,7 @@ impl ClientState {
         domain: u32,
     ) -> Result<StepReply, RunFault>
         requires sound { IsSound hub.old self.old }
-        ensures answers { IfOk result (λ r. (table : SchemaTable) → Makes table r self.old.number hub.old (client_of self.old) (OpenChain slot domain) hub.new (client_of self.new)) }
+        ensures answers { IfOk result (λ r. (tables : List SchemaTable) → Makes tables r self.old.number hub.old (client_of self.old) (OpenChain slot domain) hub.new (client_of self.new)) }
         ensures sound { OnOk result (IsSound hub.new self.new) }
         ensures same { OnOk result (Same self.old self.new) }
         ensures stops { IfErr result (Stops self.old.number hub.old hub.new) }
@@ -57,7 +57,7 @@ impl ClientState {
     ) -> Result<StepReply, RunFault>
         requires sound { IsSound hub.old self.old }
         requires filled { IsSome (held self.old.chains from) }
-        ensures answers { IfOk result (λ r. (table : SchemaTable) → Makes table r self.old.number hub.old (client_of self.old) (ChainBegin from slot mode) hub.new (client_of self.new)) }
+        ensures answers { IfOk result (λ r. (tables : List SchemaTable) → Makes tables r self.old.number hub.old (client_of self.old) (ChainBegin from slot mode) hub.new (client_of self.new)) }
         ensures sound { OnOk result (IsSound hub.new self.new) }
         ensures same { OnOk result (Same self.old self.new) }
         ensures stops { IfErr result (Stops self.old.number hub.old hub.new) }
@@ -88,7 +88,7 @@ impl ClientState {
     ) -> Result<StepReply, RunFault>
         requires sound { IsSound hub.old self.now }
         requires filled { IsSome (held self.now.chains slot) }
-        ensures answers { IfOk result (λ r. (table : SchemaTable) → Makes table r self.now.number hub.old (client_of self.now) (CloseChain slot) hub.new (client_of self.now)) }
+        ensures answers { IfOk result (λ r. (tables : List SchemaTable) → Makes tables r self.now.number hub.old (client_of self.now) (CloseChain slot) hub.new (client_of self.now)) }
         ensures sound { OnOk result (IsSound hub.new self.now) }
         ensures stops { IfErr result (Stops self.now.number hub.old hub.new) }
     {

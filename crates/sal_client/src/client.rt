@@ -1,5 +1,5 @@
 //! A client: its slots, and how it answers its steps.
-ghost use Rattle.std.specs.Prelude.{◌≡◌, None, IfOk, OnOk, IsTrue, true};
+ghost use Rattle.std.specs.Prelude.{◌≡◌, List, None, IfOk, OnOk, IsTrue, true};
 ghost use Rattle.sal_hub.specs.Tokens.{mode_of};
 ghost use Rattle.sal_schema.specs.declared.table.SchemaTable.{SchemaTable};
 ghost use Rattle.sal_client.specs.Clients.{is_local, standing_in};
@@ -10,10 +10,11 @@ ghost use Rattle.sal_script.specs.Play as play_spec;
 
 use crate::deed::Deed;
 use crate::follower::Follower;
-use crate::reader::Reader;
+use crate::readers::Readers;
+use crate::rpcs::Invocation;
 use crate::slots::{Slots, empty_slots, look_at};
 use crate::wish::Wish;
-use sal_hub::{Chain, Receipt};
+use sal_hub::{CallId, Chain, Receipt};
 use sal_script::{ScriptStep, StepRefusal, StepReply};
 use sal_tx::Tx;
 use sal_types::NoMemory;
@@ -35,6 +36,10 @@ pub struct ClientState {
     pub receipts: Slots<Receipt>,
     pub chains: Slots<Chain>,
     pub listeners: Slots<Follower>,
+    /// The requests that it made.
+    pub invoked: Slots<CallId>,
+    /// The requests that it was handed.
+    pub handed: Slots<Invocation>,
     pub replies: Vec<StepReply>,
 }
 
@@ -82,7 +87,7 @@ impl ClientState {
     pub fn new(alloc: Global, number: u32) -> Self
         ensures client { client_of result ≡ new_client }
         ensures number { result.number ≡ number }
-        ensures schema { (table : SchemaTable) → HasSchema table result }
+        ensures schema { (tables : List SchemaTable) → HasSchema tables result }
         ensures sound { (known : Known) → IsSound known result }
     {
         ClientState {
@@ -91,6 +96,8 @@ impl ClientState {
             receipts: empty_slots(alloc),
             chains: empty_slots(alloc),
             listeners: empty_slots(alloc),
+            invoked: empty_slots(alloc),
+            handed: empty_slots(alloc),
             replies: Vec::new(alloc),
         }
     }
@@ -110,21 +117,21 @@ impl ClientState {
     pub(crate) fn meet(
         &mut self,
         alloc: Global,
-        reader: &Reader,
+        readers: &Readers,
         step: &ScriptStep,
     ) -> Result<Option<Wish>, NoMemory>
-        requires schema { HasSchema reader.now self.old }
+        requires schema { HasSchema readers.now self.old }
         requires json { IsTrue (is_json_move (move_of step.now)) }
-        ensures meets { IfOk result (λ wish. Meets reader.now self.old (move_of step.now) wish self.new) }
+        ensures meets { IfOk result (λ wish. Meets readers.now self.old (move_of step.now) wish self.new) }
         ensures sound { OnOk result (StaysSound self.old self.new) }
-        ensures schema { OnOk result (HasSchema reader.now self.new) }
+        ensures schema { OnOk result (HasSchema readers.now self.new) }
         ensures number { OnOk result (self.new.number ≡ self.old.number) }
     {
         if is_local(step) {
-            self.answer(alloc, reader, step)?;
+            self.answer(alloc, readers, step)?;
             return Ok(None);
         }
-        match self.wish_of(alloc, reader, step)? {
+        match self.wish_of(alloc, readers, step)? {
             Ok(wish) => Ok(Some(wish)),
             Err(refusal) => {
                 self.replies.push(refused(refusal))?;
@@ -134,16 +141,21 @@ impl ClientState {
     }
 
     // Answers a write or a look in one of the client's transactions, or a look at the rows of a listener.
-    fn answer(&mut self, alloc: Global, reader: &Reader, step: &ScriptStep) -> Result<(), NoMemory>
-        requires schema { HasSchema reader.now self.old }
+    fn answer(
+        &mut self,
+        alloc: Global,
+        readers: &Readers,
+        step: &ScriptStep,
+    ) -> Result<(), NoMemory>
+        requires schema { HasSchema readers.now self.old }
         requires json { IsTrue (is_json_move (move_of step.now)) }
         requires local { is_local (move_of step.now) ≡ true }
-        ensures meets { OnOk result (Meets reader.now self.old (move_of step.now) None self.new) }
+        ensures meets { OnOk result (Meets readers.now self.old (move_of step.now) None self.new) }
         ensures sound { OnOk result (StaysSound self.old self.new) }
-        ensures schema { OnOk result (HasSchema reader.now self.new) }
+        ensures schema { OnOk result (HasSchema readers.now self.new) }
         ensures number { OnOk result (self.new.number ≡ self.old.number) }
     {
-        let reply = self.meet_local(alloc, reader, step)?;
+        let reply = self.meet_local(alloc, readers, step)?;
         self.replies.push(reply)?;
         Ok(())
     }
@@ -152,15 +164,15 @@ impl ClientState {
     fn meet_local(
         &mut self,
         alloc: Global,
-        reader: &Reader,
+        readers: &Readers,
         step: &ScriptStep,
     ) -> Result<StepReply, NoMemory>
-        requires schema { HasSchema reader.now self.old }
+        requires schema { HasSchema readers.now self.old }
         requires json { IsTrue (is_json_move (move_of step.now)) }
         requires local { is_local (move_of step.now) ≡ true }
-        ensures answers { IfOk result (λ r. Everywhere reader.now self.old (λ known. play_spec.meet reader.now known.world known.log (client_of self.old) (move_of step.now) ≡ local r (client_of self.new))) }
+        ensures answers { IfOk result (λ r. Everywhere readers.now self.old (λ known. play_spec.meet readers.now known.world known.log (client_of self.old) (move_of step.now) ≡ local r (client_of self.new))) }
         ensures sound { OnOk result (StaysSound self.old self.new) }
-        ensures schema { OnOk result (HasSchema reader.now self.new) }
+        ensures schema { OnOk result (HasSchema readers.now self.new) }
         ensures same { OnOk result (Same self.old self.new) }
     {
         match step {
@@ -171,7 +183,7 @@ impl ClientState {
                 value,
             } => {
                 let deed = Deed::Put(value);
-                self.write(alloc, reader, *slot, *store, path.as_str(), deed)
+                self.write(alloc, readers, *slot, *store, path.as_str(), deed)
             }
             ScriptStep::Merge {
                 slot,
@@ -180,19 +192,19 @@ impl ClientState {
                 value,
             } => {
                 let deed = Deed::Merge(value);
-                self.write(alloc, reader, *slot, *store, path.as_str(), deed)
+                self.write(alloc, readers, *slot, *store, path.as_str(), deed)
             }
             ScriptStep::Delete { slot, store, path } => {
                 let deed = Deed::Delete;
-                self.write(alloc, reader, *slot, *store, path.as_str(), deed)
+                self.write(alloc, readers, *slot, *store, path.as_str(), deed)
             }
             ScriptStep::Read { slot, store, path } => {
-                self.read(alloc, reader, *slot, *store, path.as_str())
+                self.read(alloc, readers, *slot, *store, path.as_str())
             }
             ScriptStep::Exists { slot, store, path } => {
-                self.exists(alloc, reader, *slot, *store, path.as_str())
+                self.exists(alloc, readers, *slot, *store, path.as_str())
             }
-            ScriptStep::Mirror { listener } => self.mirror(reader, *listener),
+            ScriptStep::Mirror { listener } => self.mirror(readers, *listener),
             _ => unreachable!(),
         }
     }

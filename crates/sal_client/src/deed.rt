@@ -4,6 +4,7 @@ ghost use Rattle.serde_json.specs.View.{view};
 ghost use Rattle.sal_pathtext.specs.Read.{read_path};
 ghost use Rattle.sal_data.specs.Read.{read_data};
 ghost use Rattle.sal_script.specs.Play.{act_of};
+ghost use Rattle.sal_script.specs.Services.{path_or};
 ghost use Rattle.sal_client.specs.Deeds as spec;
 
 use crate::reader::Reader;
@@ -23,13 +24,21 @@ pub(crate) enum Deed<'a> {
     Delete,
 }
 
+/// A place that is not yet read: a store of the domain, and the text of a path in it.
+#[derive(Clone, Copy)]
+pub(crate) struct Spot<'a> {
+    pub(crate) domain: u32,
+    pub(crate) store: Store,
+    pub(crate) text: &'a str,
+}
+
 /// The path of the text, or why it is none.
 pub(crate) fn path_of(
     alloc: Global,
     reader: &Reader,
     text: &str,
 ) -> Result<Result<Path, StepRefusal>, NoMemory>
-    ensures { IfOk result (λ made. made ≡ spec.path_by (read_path reader.now text.now)) }
+    ensures { IfOk result (λ made. made ≡ path_or (read_path reader.now text.now)) }
 {
     match reader.path(alloc, text) {
         Ok(path) => Ok(Ok(path)),
@@ -38,8 +47,8 @@ pub(crate) fn path_of(
     }
 }
 
-// The rows of the value at the path, or why it is none.
-fn rows_of(
+/// The rows of the value at the path, or why it is none.
+pub(crate) fn rows_of(
     alloc: Global,
     reader: &Reader,
     path: &Path,
@@ -60,38 +69,42 @@ fn act_of(
     reader: &Reader,
     path: &Path,
     deed: Deed,
-) -> Result<Result<Act, StepRefusal>, NoMemory>
-    ensures { IfOk result (λ made. made ≡ spec.act_by (act_of reader.now path.now (spec.deed_of deed.entry))) }
+) -> Result<Result<Act, DataFault>, NoMemory>
+    ensures { IfOk result (λ made. made ≡ act_of reader.now path.now (spec.deed_of deed.entry)) }
 {
     match deed {
         Deed::Put(value) => match rows_of(alloc, reader, path, value)? {
             Ok(rows) => Ok(Ok(Act::Put(rows))),
-            Err(fault) => Ok(Err(StepRefusal::BadData { fault })),
+            Err(fault) => Ok(Err(fault)),
         },
         Deed::Merge(value) => match rows_of(alloc, reader, path, value)? {
             Ok(rows) => Ok(Ok(Act::Merge(rows))),
-            Err(fault) => Ok(Err(StepRefusal::BadData { fault })),
+            Err(fault) => Ok(Err(fault)),
         },
         Deed::Delete => Ok(Ok(Act::Delete)),
     }
 }
 
-/// The operation at the path of the text, or why there is none.
+/// The operation at the place, which the reader of its domain reads, or why there is none.
 pub(crate) fn op_of(
     alloc: Global,
     reader: &Reader,
-    store: Store,
-    text: &str,
+    spot: Spot,
     deed: Deed,
 ) -> Result<Result<Op, StepRefusal>, NoMemory>
-    ensures { IfOk result (λ made. made ≡ spec.op_by reader.now store (spec.deed_of deed.entry) (read_path reader.now text.now)) }
+    ensures { IfOk result (λ made. made ≡ spec.op_by reader.now spot.entry.domain spot.entry.store (spec.deed_of deed.entry) (read_path reader.now spot.entry.text.now)) }
 {
-    let path = match path_of(alloc, reader, text)? {
+    let path = match path_of(alloc, reader, spot.text)? {
         Ok(path) => path,
         Err(refusal) => return Ok(Err(refusal)),
     };
+    let domain = spot.domain;
     match act_of(alloc, reader, &path, deed)? {
-        Ok(act) => Ok(Ok(Op { store, path, act })),
-        Err(refusal) => Ok(Err(refusal)),
+        Ok(act) => Ok(Ok(Op {
+            store: spot.store,
+            path,
+            act,
+        })),
+        Err(fault) => Ok(Err(StepRefusal::BadData { domain, fault })),
     }
 }

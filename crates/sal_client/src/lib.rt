@@ -2,22 +2,26 @@
 //!
 //! | item | what it is |
 //! |---|---|
-//! | `Reader` | a schema with its patterns compiled: what reads the paths and the values of a script |
+//! | `Readers` | a `Reader` for each domain: what reads the names, the paths and the values of a script |
+//! | `Reader` | a schema with its patterns compiled |
+//! | `ReadersFault` | which schema has a malformed pattern |
 //! | `ClientRun` | a client on its way through its program: `next` answers local steps up to a shared call, `make` makes that |
-//! | `Wish` | a shared call as a value, which a client is ready to make |
+//! | `Wish`, `RpcWish`, `NoteWish`, `MountWish` | a shared call as a value, which a client is ready to make |
 //! | `RunFault` | why a client stops at a shared call |
 //! | `play` | a script played in its order, on one thread |
 //! | `Played`, `PlayFault` | what that came to: the hub and the replies; where the order fails |
 //!
 //! `play` gives what `sal_script` defines (`specs/Play.antt` there) over the domains of the hub. Only `ClientRun::make` wants the
-//! hub, for one call, so clients may as well run in threads of their own and take turns at it.
+//! hub, for one call, so clients may as well run in threads of their own and take turns at it. What a call takes is read before:
+//! a wish has the rows and the paths, and is used up by the call.
 //!
 //! ```
-//! let reader = Reader::of(alloc, schema)?;
-//! let played = play(alloc, &reader, &script, hub, &gate)?;
+//! let readers = Readers::of(alloc, &schemas)?;
+//! let played = play(alloc, &readers, &script, hub, &gate)?;
 //! ```
 #![tactic(auto)]
 
+mod answers;
 mod asking;
 mod calls;
 mod chains;
@@ -27,14 +31,25 @@ mod follower;
 mod listeners;
 mod looks;
 mod marks;
+mod messages;
+mod mounts;
+mod notes;
 mod reader;
+mod readers;
+mod rpc_calls;
+mod rpcs;
 mod run;
 mod simulation;
 mod slots;
 mod wish;
 mod writes;
 
+pub use messages::Service;
+pub use mounts::MountWish;
+pub use notes::NoteWish;
 pub use reader::Reader;
+pub use readers::{Readers, ReadersFault};
+pub use rpcs::{Answer, Ask, Invocation, RpcWish};
 pub use run::ClientRun;
 pub use simulation::{PlayFault, Played, play};
 pub use wish::{RunFault, Wish};

@@ -1,9 +1,9 @@
 //! The steps of a client for its listeners.
-ghost use Rattle.std.specs.Prelude.{◌≡◌, ℕ, Some, IfOk, IfErr, IsSome, OnOk};
+ghost use Rattle.std.specs.Prelude.{◌≡◌, ℕ, List, Some, IfOk, IfErr, IsSome, OnOk};
 ghost use Rattle.sal_rows.specs.declared.batch.Batch.{Batch as Told};
 ghost use Rattle.sal_schema.specs.declared.table.SchemaTable.{SchemaTable};
 ghost use Rattle.sal_script.specs.Moves.{Listen, Take, Unlisten};
-ghost use Rattle.sal_script.specs.Play.{has_domain, local, set_slot};
+ghost use Rattle.sal_script.specs.Play.{local, set_slot};
 ghost use Rattle.sal_script.specs.Play as play_spec;
 ghost use Rattle.sal_client.specs.Followers.{Advances};
 ghost use Rattle.sal_client.specs.Slots.{held};
@@ -14,7 +14,7 @@ use crate::calls::{called, refused_call};
 use crate::client::{ClientState, refused};
 use crate::deed::path_of;
 use crate::follower::Follower;
-use crate::reader::Reader;
+use crate::readers::Readers;
 use crate::slots::{Slots, fill_slot, look_at, take_slot};
 use crate::wish::{RunFault, Target, Wish};
 use sal_history::Reply;
@@ -24,13 +24,6 @@ use sal_script::{StepRefusal, StepReply};
 use sal_types::{Duplicate, NoMemory, Path, Store, Str};
 use std::alloc::Global;
 use std::snapshot::Snapshot;
-
-// Whether a script has the domain.
-fn has_domain(domain: u32) -> bool
-    ensures { result ≡ has_domain domain }
-{
-    domain == 0
-}
 
 // The answer to a listen that is good.
 fn listening(id: ListenerId, domain: u32, path: &Path, opened: Opened) -> Result<Reply, NoMemory>
@@ -87,17 +80,17 @@ impl ClientState {
     pub(crate) fn listen_wish(
         &self,
         alloc: Global,
-        reader: &Reader,
+        readers: &Readers,
         slot: u8,
         domain: u32,
         store: Store,
         text: &Str,
     ) -> Result<Result<Wish, StepRefusal>, NoMemory>
-        ensures { IfOk result (Wants reader.now self.now (Listen slot domain store text.now)) }
+        ensures { IfOk result (Wants readers.now self.now (Listen slot domain store text.now)) }
     {
-        if !has_domain(domain) {
+        let Some(reader) = readers.of_domain(domain) else {
             return Ok(Err(StepRefusal::NoDevice));
-        }
+        };
         match path_of(alloc, reader, text.as_str())? {
             Ok(path) => {
                 let target = Target {
@@ -113,8 +106,8 @@ impl ClientState {
     }
 
     /// To take for the listener in the slot, where there is one.
-    pub(crate) fn take_wish(&self, reader: &Reader, slot: u8) -> Result<Wish, StepRefusal>
-        ensures { Wants reader.now self.now (Take slot) result }
+    pub(crate) fn take_wish(&self, readers: &Readers, slot: u8) -> Result<Wish, StepRefusal>
+        ensures { Wants readers.now self.now (Take slot) result }
     {
         match look_at(&self.listeners, slot) {
             None => Err(StepRefusal::EmptySlot),
@@ -123,8 +116,8 @@ impl ClientState {
     }
 
     /// To remove the listener in the slot, where there is one.
-    pub(crate) fn unlisten_wish(&self, reader: &Reader, slot: u8) -> Result<Wish, StepRefusal>
-        ensures { Wants reader.now self.now (Unlisten slot) result }
+    pub(crate) fn unlisten_wish(&self, readers: &Readers, slot: u8) -> Result<Wish, StepRefusal>
+        ensures { Wants readers.now self.now (Unlisten slot) result }
     {
         match look_at(&self.listeners, slot) {
             None => Err(StepRefusal::EmptySlot),
@@ -142,7 +135,7 @@ impl ClientState {
     ) -> Result<StepReply, RunFault>
         requires sound { IsSound hub.old self.old }
         ensures grows { OnOk result (GrowsBy self.old.number hub.old hub.new) }
-        ensures answers { IfOk result (λ r. (table : SchemaTable) → ReadBy table (ListenWish slot target.now) → Makes table r self.old.number hub.old (client_of self.old) (Listen slot target.now.domain target.now.store target.now.text.value) hub.new (client_of self.new)) }
+        ensures answers { IfOk result (λ r. (tables : List SchemaTable) → ReadBy tables (ListenWish slot target.now) → Makes tables r self.old.number hub.old (client_of self.old) (Listen slot target.now.domain target.now.store target.now.text.value) hub.new (client_of self.new)) }
         ensures sound { OnOk result (IsSound hub.new self.new) }
         ensures same { OnOk result (Same self.old self.new) }
         ensures stops { IfErr result (Stops self.old.number hub.old hub.new) }
@@ -176,7 +169,7 @@ impl ClientState {
     ) -> Result<StepReply, RunFault>
         requires sound { IsSound hub.old self.old }
         requires filled { IsSome (held self.old.listeners slot) }
-        ensures answers { IfOk result (λ r. (table : SchemaTable) → Makes table r self.old.number hub.old (client_of self.old) (Take slot) hub.new (client_of self.new)) }
+        ensures answers { IfOk result (λ r. (tables : List SchemaTable) → Makes tables r self.old.number hub.old (client_of self.old) (Take slot) hub.new (client_of self.new)) }
         ensures sound { OnOk result (IsSound hub.new self.new) }
         ensures same { OnOk result (Same self.old self.new) }
         ensures stops { IfErr result (Stops self.old.number hub.old hub.new) }
@@ -208,7 +201,7 @@ impl ClientState {
     ) -> Result<StepReply, RunFault>
         requires sound { IsSound hub.old self.now }
         requires filled { IsSome (held self.now.listeners slot) }
-        ensures answers { IfOk result (λ r. (table : SchemaTable) → Makes table r self.now.number hub.old (client_of self.now) (Unlisten slot) hub.new (client_of self.now)) }
+        ensures answers { IfOk result (λ r. (tables : List SchemaTable) → Makes tables r self.now.number hub.old (client_of self.now) (Unlisten slot) hub.new (client_of self.now)) }
         ensures sound { OnOk result (IsSound hub.new self.now) }
         ensures stops { IfErr result (Stops self.now.number hub.old hub.new) }
     {
@@ -226,8 +219,8 @@ impl ClientState {
     }
 
     /// Shows the rows that follow the listener in the slot.
-    pub(crate) fn mirror(&self, reader: &Reader, slot: u8) -> Result<StepReply, NoMemory>
-        ensures { IfOk result (λ r. Everywhere reader.now self.now (λ known. play_spec.mirror reader.now known.world known.log (client_of self.now) (listeners_in self.now slot) ≡ local r (client_of self.now))) }
+    pub(crate) fn mirror(&self, readers: &Readers, slot: u8) -> Result<StepReply, NoMemory>
+        ensures { IfOk result (λ r. Everywhere readers.now self.now (λ known. play_spec.mirror known.world known.log (client_of self.now) (listeners_in self.now slot) ≡ local r (client_of self.now))) }
     {
         match look_at(&self.listeners, slot) {
             None => Ok(refused(StepRefusal::EmptySlot)),

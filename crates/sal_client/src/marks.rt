@@ -1,5 +1,5 @@
 //! The shared calls of a client that need none of its slots: pumps and marks.
-ghost use Rattle.std.specs.Prelude.{◌≡◌, IfOk, IfErr, OnOk};
+ghost use Rattle.std.specs.Prelude.{◌≡◌, List, IfOk, IfErr, OnOk};
 ghost use Rattle.sal_hub.specs.Seen.{pump_reply, seen_reply};
 ghost use Rattle.sal_schema.specs.declared.table.SchemaTable.{SchemaTable};
 ghost use Rattle.sal_script.specs.Moves.{Pump, Mark, After};
@@ -8,20 +8,20 @@ use crate::calls::{called, refused_call};
 use crate::client::ClientState;
 use crate::wish::RunFault;
 use sal_history::Reply;
-use sal_hub::{Hub, Seen, laws};
+use sal_hub::{Hub, Receipt, Seen, laws};
 use sal_rows::Outcome;
 use sal_script::StepReply;
 use std::alloc::Global;
 
 // The answer to a pump that is good.
-fn pumped(decided: Option<(u64, Outcome)>) -> Reply
+fn pumped(decided: Option<(Receipt, Outcome)>) -> Reply
     ensures { result ≡ pump_reply decided }
 {
     match decided {
         None => Reply::Nothing,
         Some((receipt, outcome)) => Reply::Decided {
-            receipt,
-            domain: 0,
+            receipt: receipt.number(),
+            domain: receipt.domain(),
             outcome,
         },
     }
@@ -44,7 +44,7 @@ impl ClientState {
     /// Decides the first receipt that is pending.
     pub(crate) fn pump(&self, alloc: Global, hub: &mut Hub) -> Result<StepReply, RunFault>
         requires sound { IsSound hub.old self.now }
-        ensures answers { IfOk result (λ r. (table : SchemaTable) → Makes table r self.now.number hub.old (client_of self.now) Pump hub.new (client_of self.now)) }
+        ensures answers { IfOk result (λ r. (tables : List SchemaTable) → Makes tables r self.now.number hub.old (client_of self.now) Pump hub.new (client_of self.now)) }
         ensures sound { OnOk result (IsSound hub.new self.now) }
         ensures stops { IfErr result (Stops self.now.number hub.old hub.new) }
     {
@@ -66,7 +66,7 @@ impl ClientState {
         mark: u32,
     ) -> Result<StepReply, RunFault>
         requires sound { IsSound hub.old self.now }
-        ensures answers { IfOk result (λ r. (table : SchemaTable) → Makes table r self.now.number hub.old (client_of self.now) (Mark mark) hub.new (client_of self.now)) }
+        ensures answers { IfOk result (λ r. (tables : List SchemaTable) → Makes tables r self.now.number hub.old (client_of self.now) (Mark mark) hub.new (client_of self.now)) }
         ensures sound { OnOk result (IsSound hub.new self.now) }
         ensures stops { IfErr result (Stops self.now.number hub.old hub.new) }
     {
@@ -88,7 +88,7 @@ impl ClientState {
         mark: u32,
     ) -> Result<StepReply, RunFault>
         requires sound { IsSound hub.old self.now }
-        ensures answers { IfOk result (λ r. (table : SchemaTable) → Makes table r self.now.number hub.old (client_of self.now) (After mark) hub.new (client_of self.now)) }
+        ensures answers { IfOk result (λ r. (tables : List SchemaTable) → Makes tables r self.now.number hub.old (client_of self.now) (After mark) hub.new (client_of self.now)) }
         ensures sound { OnOk result (IsSound hub.new self.now) }
         ensures stops { IfErr result (Stops self.now.number hub.old hub.new) }
     {

@@ -1,13 +1,12 @@
 //! A client's run through its program, from one shared call to the next.
-ghost use Rattle.std.specs.Prelude.{◌≡◌, ◌<◌, IfOk, IfErr, OnOk, length};
-ghost use Rattle.sal_history.specs.World.{table_of};
+ghost use Rattle.std.specs.Prelude.{◌≡◌, ◌<◌, List, IfOk, IfErr, OnOk, length};
 ghost use Rattle.sal_hub.specs.Answers.{limit};
 ghost use Rattle.sal_hub.specs.Known.{Known};
 ghost use Rattle.sal_schema.specs.declared.table.SchemaTable.{SchemaTable};
-ghost use Rattle.sal_script.specs.Play.{new_client};
+ghost use Rattle.sal_script.specs.Play.{new_client, tables_of};
 
 use crate::client::ClientState;
-use crate::reader::Reader;
+use crate::readers::Readers;
 use crate::wish::{RunFault, Wish};
 use sal_hub::Hub;
 use sal_io::Gate;
@@ -32,7 +31,7 @@ impl ClientRun {
         ensures number { result.client.number ≡ number }
         ensures at { result.at ≡ 0 }
         ensures client { client_of result.client ≡ new_client }
-        ensures schema { (table : SchemaTable) → HasSchema table result.client }
+        ensures schema { (tables : List SchemaTable) → HasSchema tables result.client }
         ensures sound { (known : Known) → IsSound known result.client }
     {
         ClientRun {
@@ -62,21 +61,21 @@ impl ClientRun {
     pub fn next<G: Gate>(
         &mut self,
         alloc: Global,
-        reader: &Reader,
+        readers: &Readers,
         steps: &[ScriptStep],
         gate: &G,
     ) -> Result<Option<Wish>, NoMemory>
         requires program { IsProgram steps.now self.old }
-        requires schema { HasSchema reader.now self.old.client }
-        ensures comes { IfOk result (λ wish. Comes reader.now steps.now self.old wish self.new) }
+        requires schema { HasSchema readers.now self.old.client }
+        ensures comes { IfOk result (λ wish. Comes readers.now steps.now self.old wish self.new) }
         ensures sound { OnOk result (StaysSound self.old.client self.new.client) }
-        ensures schema { OnOk result (HasSchema reader.now self.new.client) }
+        ensures schema { OnOk result (HasSchema readers.now self.new.client) }
         ensures program { OnOk result (IsProgram steps.now self.new) }
         ensures number { OnOk result (self.new.client.number ≡ self.old.client.number) }
     {
         for i in self.at..steps.len() {
             gate.pass(self.client.number, i as u32);
-            let met = self.client.meet(alloc, reader, &steps[i])?;
+            let met = self.client.meet(alloc, readers, &steps[i])?;
             self.at = i + 1;
             match met {
                 Some(wish) => return Ok(Some(wish)),
@@ -88,10 +87,10 @@ impl ClientRun {
 
     /// Makes the shared call that `next` gave, on the hub, and takes its answer. Where the log is full, neither has changed.
     /// After want of memory the run is not to be used again, and the hub has the call's entry or has not.
-    pub fn make(&mut self, alloc: Global, hub: &mut Hub, wish: &Wish) -> Result<(), RunFault>
+    pub fn make(&mut self, alloc: Global, hub: &mut Hub, wish: Wish) -> Result<(), RunFault>
         requires sound { IsSound hub.old self.old.client }
-        requires can { CanMake wish.now self.old.client }
-        ensures makes { OnOk result ((table : SchemaTable) → ReadBy table wish.now → MakesNext table self.old.client.number hub.old wish.now (client_of self.old.client) hub.new (client_of self.new.client)) }
+        requires can { CanMake wish self.old.client }
+        ensures makes { OnOk result ((tables : List SchemaTable) → ReadBy tables wish → MakesNext tables self.old.client.number hub.old wish (client_of self.old.client) hub.new (client_of self.new.client)) }
         ensures sound { OnOk result (IsSound hub.new self.new.client) }
         ensures at { OnOk result (self.new.at ≡ self.old.at) }
         ensures number { OnOk result (self.new.client.number ≡ self.old.client.number) }
@@ -107,21 +106,21 @@ impl ClientRun {
     pub(crate) fn go<G: Gate>(
         &mut self,
         alloc: Global,
-        reader: &Reader,
+        readers: &Readers,
         hub: &mut Hub,
         steps: &[ScriptStep],
         gate: &G,
     ) -> Result<bool, NoMemory>
         requires run { IsRun hub.old steps.now self.old }
-        requires table { reader.now ≡ table_of hub.old.world 0 }
+        requires tables { readers.now ≡ tables_of hub.old.world }
         requires room { length hub.old.log < limit }
-        ensures goes { IfOk result (λ made. Goes reader.now made self.old.client.number hub.old steps.now self.old hub.new self.new) }
+        ensures goes { IfOk result (λ made. Goes readers.now made self.old.client.number hub.old steps.now self.old hub.new self.new) }
         ensures run { OnOk result (IsRun hub.new steps.now self.new) }
         ensures number { OnOk result (self.new.client.number ≡ self.old.client.number) }
     {
-        match self.next(alloc, reader, steps, gate)? {
+        match self.next(alloc, readers, steps, gate)? {
             None => Ok(false),
-            Some(wish) => match self.make(alloc, hub, &wish) {
+            Some(wish) => match self.make(alloc, hub, wish) {
                 Ok(()) => Ok(true),
                 Err(RunFault::NoMemory) => Err(NoMemory),
                 Err(RunFault::HistoryFull) => unreachable!(),

@@ -1,14 +1,14 @@
 //! A script played in an order, on one thread.
 ghost use Rattle.std.specs.Prelude.{◌≡◌, ◌+◌, ◌<◌, List, [], ◌∷◌, ◌++◌, IfOk, OnOk, IsTrue, length, map};
 ghost use Rattle.sal_script.specs.Limits.{within_limits};
-ghost use Rattle.sal_history.specs.World.{table_of};
+ghost use Rattle.sal_script.specs.Play.{tables_of};
 ghost use Rattle.sal_hub.specs.Known.{Known};
 ghost use Rattle.sal_script.specs.JsonMoves.{have_json_moves};
 ghost use Rattle.sal_script.specs.Moves.{clients_of};
 ghost use Rattle.sal_script.specs.Play as play_spec;
 ghost use Rattle.sal_client.specs.Runs.{replies_in, runs_of, stand_of, AreRuns, Ends, PlaysAs, Turns};
 
-use crate::reader::Reader;
+use crate::readers::Readers;
 use crate::run::ClientRun;
 use sal_hub::{Hub, laws};
 use sal_io::Gate;
@@ -68,14 +68,14 @@ impl Simulation {
     fn turn<G: Gate>(
         &mut self,
         alloc: Global,
-        reader: &Reader,
+        readers: &Readers,
         programs: &[Program],
         client: u32,
         gate: &G,
     ) -> Result<bool, NoMemory>
         requires runs { AreRuns self.old.hub programs.now self.old.runs.items }
-        requires table { reader.now ≡ table_of self.old.hub.world 0 }
-        ensures { IfOk result (λ made. Turns reader.now made programs.now client self.old.hub self.old.runs.items self.new.hub self.new.runs.items) }
+        requires tables { readers.now ≡ tables_of self.old.hub.world }
+        ensures { IfOk result (λ made. Turns readers.now made programs.now client self.old.hub self.old.runs.items self.new.hub self.new.runs.items) }
     {
         laws::tokens_last();
         let index = client as usize;
@@ -83,7 +83,7 @@ impl Simulation {
             return Ok(false);
         }
         let run = &mut self.runs[index];
-        let made = run.go(alloc, reader, &mut self.hub, programs[index].items(), gate)?;
+        let made = run.go(alloc, readers, &mut self.hub, programs[index].items(), gate)?;
         Ok(made)
     }
 
@@ -91,17 +91,17 @@ impl Simulation {
     fn finish<G: Gate>(
         &mut self,
         alloc: Global,
-        reader: &Reader,
+        readers: &Readers,
         programs: &[Program],
         gate: &G,
     ) -> Result<bool, NoMemory>
         requires runs { AreRuns self.old.hub programs.now self.old.runs.items }
-        requires table { reader.now ≡ table_of self.old.hub.world 0 }
-        ensures { IfOk result (λ ended. Ends reader.now ended programs.now self.old.hub self.old.runs.items self.new.hub self.new.runs.items) }
+        requires tables { readers.now ≡ tables_of self.old.hub.world }
+        ensures { IfOk result (λ ended. Ends readers.now ended programs.now self.old.hub self.old.runs.items self.new.hub self.new.runs.items) }
     {
         for i in 0..self.runs.len() {
             let run = &mut self.runs[i];
-            if run.go(alloc, reader, &mut self.hub, programs[i].items(), gate)? {
+            if run.go(alloc, readers, &mut self.hub, programs[i].items(), gate)? {
                 return Ok(false);
             }
         }
@@ -109,16 +109,16 @@ impl Simulation {
     }
 }
 
-/// Plays the script in its order over a hub without calls, whose own domain has the reader's schema. The gate is passed
+/// Plays the script in its order over a hub without calls, whose domains have the readers' schemas. The gate is passed
 /// before each step.
 pub fn play<G: Gate>(
     alloc: Global,
-    reader: &Reader,
+    readers: &Readers,
     script: &Script,
     hub: Hub,
     gate: &G,
 ) -> Result<Played, PlayFault>
-    requires table { reader.now ≡ table_of hub.world 0 }
+    requires tables { readers.now ≡ tables_of hub.world }
     requires fresh { hub.log ≡ [] }
     ensures { PlaysAs hub.world result (play_spec.play hub.world (clients_of script.now.clients) script.now.order) }
 {
@@ -130,7 +130,7 @@ pub fn play<G: Gate>(
     };
     let mut simulation = Simulation { hub, runs };
     for i in 0..order.len() {
-        match simulation.turn(alloc, reader, programs, order[i], gate) {
+        match simulation.turn(alloc, readers, programs, order[i], gate) {
             Ok(true) => {}
             Ok(false) => return Err(PlayFault::BadOrder { index: i as u64 }),
             Err(NoMemory) => return Err(PlayFault::NoMemory),
@@ -138,7 +138,7 @@ pub fn play<G: Gate>(
     }
     end(
         alloc,
-        reader,
+        readers,
         simulation,
         programs,
         order.len() as u64,
@@ -149,17 +149,17 @@ pub fn play<G: Gate>(
 // The replies after the order, or its failure at its end.
 fn end<G: Gate>(
     alloc: Global,
-    reader: &Reader,
+    readers: &Readers,
     mut simulation: Simulation,
     programs: &[Program],
     index: u64,
     gate: &G,
 ) -> Result<Played, PlayFault>
     requires runs { AreRuns simulation.hub programs.now simulation.runs.items }
-    requires table { reader.now ≡ table_of simulation.hub.world 0 }
-    ensures { PlaysAs simulation.hub.world result (play_spec.play_from reader.now simulation.hub.world index (stand_of programs.now simulation.hub.log simulation.runs.items) []) }
+    requires tables { readers.now ≡ tables_of simulation.hub.world }
+    ensures { PlaysAs simulation.hub.world result (play_spec.play_from readers.now simulation.hub.world index (stand_of programs.now simulation.hub.log simulation.runs.items) []) }
 {
-    match simulation.finish(alloc, reader, programs, gate) {
+    match simulation.finish(alloc, readers, programs, gate) {
         Ok(true) => {}
         Ok(false) => return Err(PlayFault::BadOrder { index }),
         Err(NoMemory) => return Err(PlayFault::NoMemory),

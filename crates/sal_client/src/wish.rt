@@ -1,4 +1,7 @@
 //! The shared calls that steps ask for.
+use crate::mounts::MountWish;
+use crate::notes::NoteWish;
+use crate::rpcs::RpcWish;
 use sal_rows::Mode;
 use sal_types::{NoMemory, Path, Store, Str};
 use std::alloc::AllocFailed;
@@ -39,6 +42,12 @@ pub enum Wish {
     Take { slot: u8 },
     /// Removes the listener in the slot.
     Unlisten { slot: u8 },
+    /// A call for RPCs.
+    Rpc(RpcWish),
+    /// A call for notifications.
+    Note(NoteWish),
+    /// A call for mounts.
+    Mount(MountWish),
     /// Leaves the mark in the log.
     Mark { mark: u32 },
     /// Asks whether the mark was left.

@@ -1,3 +1,7 @@
-pub mod Patterned
+pub mod Each
+pub mod Formed
+pub mod Numbered
 pub mod Roots
 pub mod Statements
+pub mod Statuses
+pub mod Worlds

@@ -1,3 +1,4 @@
+pub mod Each
 pub mod Schemas
 pub mod Scripted
 pub mod Statuses

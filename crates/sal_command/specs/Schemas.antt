@@ -1,4 +1,4 @@
--- What the modules of a device come to: the text of their schema, or that of their first fault.
+-- What the modules of a domain come to: the text of their schema, or that of their first fault.
 use Rattle.std.specs.Prelude.{◌≡◌, ℕ, ◌+◌, List, [], ◌∷◌, ◌++◌, Option, None, Some, Result, Ok, Err, MatchResult, codes, decimal}
 use Rattle.sal_types.specs.Reading.{◌>>=◌}
 use Rattle.sal_stmt.specs.declared.fault.StmtFault.{StmtFault}

@@ -41,7 +41,7 @@ RunsTo bytes (Err status) = prepared bytes ≡ Err status
 
 -- the text of the schema that the modules of the script build
 abbrev pub schema_text : List ℕ → Result (List ℕ) Status
-schema_text bytes = or_script (script_of bytes) >>= (λ parts. or_schema (table_of parts.modules) >>= (λ table. Ok (table_text table)))
+schema_text bytes = or_script (script_of bytes) >>= (λ parts. or_schema 0 (table_of parts.modules) >>= (λ table. Ok (table_text table)))
 
 -- a text that is made of the bytes, or its status, is this one
 abbrev pub IsMadeBy : (List ℕ → Result (List ℕ) Status) → List ℕ → Result (List ℕ) Status → Type 0

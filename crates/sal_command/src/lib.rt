@@ -5,11 +5,15 @@
 //! | `top` | the top call `mdsal`, with the texts of its help and its version |
 //! | `words`, `status` | the forms of the command line; how the command ends |
 //! | `scripted` | a script's parts with the status of what is wrong, up to the hub that it is played over |
-//! | `schema`, `schema_fault` | the modules of a device; the texts of their faults |
+//! | `domains`, `openings` | the schemas of the controller's own domain and of the devices, with what reads by them; their opening trees |
+//! | `schema`, `schema_fault` | the modules of a domain; the texts of their faults |
 //!
 //! The script is read by `sal_script`, run by `sal_run` over the broker or played by `sal_client` over a hub, and told by `sal_report`.
 #![tactic(auto)]
 
+mod domains;
+mod openings;
+mod reported;
 pub mod schema;
 pub mod schema_fault;
 pub mod scripted;

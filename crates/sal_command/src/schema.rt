@@ -1,4 +1,4 @@
-//! From the texts of a device's modules to their schema.
+//! From the texts of a domain's modules to their schema.
 ghost use Rattle.std.specs.Prelude.{◌≡◌, IsTrue};
 ghost use Rattle.sal_script.specs.Limits.{are_short, is_short};
 ghost use Rattle.sal_stmt.specs.Text.{Gives, read};

@@ -3,7 +3,7 @@ ghost use Rattle.std.specs.Prelude.{◌≡◌, IfOk, OnOk, ◌++◌, string_byte
 ghost use Rattle.sal_command.specs.Statuses.{line_of, number_of};
 
 use sal_types::{NoMemory, Str};
-use std::alloc::Global;
+use std::alloc::{AllocFailed, Global};
 
 /// The answer of the command. All but `Done` and `WriteFault` leave the output without a byte.
 #[derive(Debug, Drop, PartialEq, Eq)]
@@ -28,6 +28,26 @@ pub enum Status {
     BadOrder { index: u64 },
     /// Memory ran out.
     NoMemory,
+}
+
+impl From<NoMemory> for Status {
+    ghost use Rattle.sal_command.specs.declared.status.Status.TheVariants.{NoMemory};
+
+    ghost from_gives = { λ _ e. e ≡ NoMemory };
+
+    fn from(_refused: NoMemory) -> Status {
+        Status::NoMemory
+    }
+}
+
+impl<T: Drop> From<AllocFailed<T>> for Status {
+    ghost use Rattle.sal_command.specs.declared.status.Status.TheVariants.{NoMemory};
+
+    ghost from_gives = { λ _ e. e ≡ NoMemory };
+
+    fn from(_refused: AllocFailed<T>) -> Status {
+        Status::NoMemory
+    }
 }
 
 impl Status {

@@ -1,27 +1,24 @@
 //! The top call: all that the command does.
-ghost use Rattle.std.specs.Prelude.{◌≡◌, ◌↔◌, [], None, IfOk, IfErr};
+ghost use Rattle.std.specs.Prelude.{◌≡◌, ◌↔◌, ◌≤◌, [], None, IfOk, IfErr, length};
 ghost use Rattle.sal_io.specs.Causes.{Rose};
 ghost use Rattle.sal_command.specs.Words.{form_of};
-ghost use Rattle.sal_tree.specs.Rows.{rows_of};
-ghost use Rattle.sal_history.specs.World.{table_of};
 ghost use Rattle.sal_script.specs.Moves.{clients_of};
+ghost use Rattle.sal_script.specs.Play.{tables_of};
 ghost use Rattle.sal_script.specs.Reading.{parts};
-ghost use Rattle.sal_script.specs.Report as report_spec;
 ghost use Rattle.sal_script.specs.SomeOrder.{IsReportInSomeOrder};
+ghost use Rattle.sal_command.specs.Scripted.{tables_in};
 ghost use Rattle.sal_command.specs.Top as spec;
 
-use crate::scripted::{self, Prepared};
+use crate::reported::report_of;
+use crate::scripted::{self, Prepared, ReadScript};
 use crate::status::Status;
 use crate::words::{Form, form_of};
-use sal_client::{PlayFault, Played, Reader, play};
+use sal_client::{PlayFault, play};
 use sal_hub::Hub;
 use sal_io::{Gate, ReadFail, Sink, Source, read_all, write_all};
-use sal_report::report;
-use sal_rows::Rows;
 use sal_run::run;
-use sal_script::{Script, laws};
-use sal_tree::Root;
-use sal_types::{NoMemory, Path, Str};
+use sal_script::laws;
+use sal_types::{NoMemory, Str};
 use std::alloc::Global;
 use std::sync::Wait;
 use std::thread::Threads;
@@ -179,12 +176,8 @@ fn run_text<R: Threads + Wait + Sync, G: Gate>(
     ensures { spec.IsRunOr bytes.now result }
 {
     let prepared = scripted::prepare(alloc, bytes)?;
-    let Prepared {
-        script,
-        reader,
-        hub,
-    } = prepared;
-    match run_over(rt, alloc, &script, &reader, hub, gate) {
+    let Prepared { read, hub } = prepared;
+    match run_over(rt, alloc, &read, hub, gate) {
         Ok(text) => Ok(text),
         Err(NoMemory) => Err(Status::NoMemory),
     }
@@ -194,18 +187,19 @@ fn run_text<R: Threads + Wait + Sync, G: Gate>(
 fn run_over<R: Threads + Wait + Sync, G: Gate>(
     rt: &R,
     alloc: Global,
-    script: &Script,
-    reader: &Reader,
+    read: &ReadScript,
     hub: Hub,
     gate: &G,
 ) -> Result<Str, NoMemory>
-    requires table { reader.now ≡ table_of hub.world 0 }
+    requires schemas { tables_in read.now.schemas.items ≡ tables_of hub.world }
+    requires few { length read.now.schemas.items ≤ 64 }
+    requires readers { read.now.readers ≡ tables_of hub.world }
     requires fresh { hub.log ≡ [] }
-    ensures { IfOk result (IsReportInSomeOrder hub.world (clients_of script.now.clients)) }
+    ensures { IfOk result (IsReportInSomeOrder hub.world (clients_of read.now.script.clients)) }
 {
     laws::what_is_left_is_reported();
-    let left = run(rt, alloc, reader, script, hub, gate)?;
-    let text = report_of(alloc, reader, &left)?;
+    let left = run(rt, alloc, &read.readers, &read.script, hub, gate)?;
+    let text = report_of(alloc, &read.schemas, &left)?;
     Ok(text)
 }
 
@@ -214,61 +208,26 @@ fn sim_text<G: Gate>(alloc: Global, bytes: &[u8], gate: &G) -> Result<Str, Statu
     ensures { spec.IsPlayOr (spec.sim_text bytes.now) result }
 {
     let prepared = scripted::prepare(alloc, bytes)?;
-    let Prepared {
-        script,
-        reader,
-        hub,
-    } = prepared;
-    play_over(alloc, &script, &reader, hub, gate)
+    let Prepared { read, hub } = prepared;
+    play_over(alloc, &read, hub, gate)
 }
 
 // The same over a hub without calls.
-fn play_over<G: Gate>(
-    alloc: Global,
-    script: &Script,
-    reader: &Reader,
-    hub: Hub,
-    gate: &G,
-) -> Result<Str, Status>
-    requires table { reader.now ≡ table_of hub.world 0 }
+fn play_over<G: Gate>(alloc: Global, read: &ReadScript, hub: Hub, gate: &G) -> Result<Str, Status>
+    requires schemas { tables_in read.now.schemas.items ≡ tables_of hub.world }
+    requires few { length read.now.schemas.items ≤ 64 }
+    requires readers { read.now.readers ≡ tables_of hub.world }
     requires fresh { hub.log ≡ [] }
-    ensures { spec.IsPlayOr (spec.play_over (parts script.now) hub.world) result }
+    ensures { spec.IsPlayOr (spec.play_over (parts read.now.script) hub.world) result }
 {
-    match play(alloc, reader, script, hub, gate) {
-        Ok(played) => match report_of(alloc, reader, &played) {
+    match play(alloc, &read.readers, &read.script, hub, gate) {
+        Ok(played) => match report_of(alloc, &read.schemas, &played) {
             Ok(text) => Ok(text),
             Err(NoMemory) => Err(Status::NoMemory),
         },
         Err(PlayFault::BadOrder { index }) => Err(Status::BadOrder { index }),
         Err(PlayFault::NoMemory) => Err(Status::NoMemory),
     }
-}
-
-// The report of what was played.
-fn report_of(alloc: Global, reader: &Reader, played: &Played) -> Result<Str, NoMemory>
-    requires { reader.now ≡ table_of played.now.hub.world 0 }
-    ensures { IfOk result (λ text. text ≡ report_spec.report played.now.hub.world (record { log = played.now.hub.log; replies = played.now.replies })) }
-{
-    let trees = played.hub.trees();
-    let config = all_rows(alloc, &trees.config)?;
-    let oper = all_rows(alloc, &trees.oper)?;
-    report(
-        alloc,
-        reader.schema(),
-        played.hub.log(),
-        played.replies.items(),
-        played.hub.newest(),
-        &config,
-        &oper,
-    )
-}
-
-// The rows of a tree.
-fn all_rows(alloc: Global, root: &Root) -> Result<Rows, NoMemory>
-    ensures { IfOk result (λ rows. rows ≡ rows_of root.now) }
-{
-    let rows = root.rows(alloc, &Path::root(alloc))?;
-    Ok(rows)
 }
 
 // Writes the text.

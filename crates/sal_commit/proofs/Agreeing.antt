@@ -1,18 +1,16 @@
 -- Commits whose neighbours agree, by the stamps that they give.
-use Rattle.std.proofs.Common.{◌≡◌, ℕ, zero, suc, ◌+◌, ◌*◌, ◌-◌, ◌<◌, ◌≤◌, Bool, true, false, List, [], ◌∷◌, ◌++◌, length, get_or, take, Some, if◌then◌else◌, refl, ap, sym, ◌∙◌, subst, inl, inr, arith, length-append}
+use Rattle.std.proofs.Common.{◌≡◌, ℕ, ◌+◌, ◌-◌, ◌<◌, ◌≤◌, Bool, true, false, List, [], ◌∷◌, ◌++◌, length, get_or, take, if◌then◌else◌, refl, ap, sym, ◌∙◌, subst, inl, inr, arith, length-append}
 use Rattle.std.specs.Prelude.{◌==◌, ◌||◌}
 use Rattle.std.proofs.lemmas.Bool.{cases_lt}
 use Rattle.std.proofs.lemmas.Bool.Decides.{nat_tests}
 use Rattle.std.proofs.lemmas.List.{get_or-take, get_or_append_left, get_or_default, length-take}
 use Rattle.std.proofs.lemmas.List.Elements.{All-push, All-take, All-cons, All-nil}
 use Rattle.std.proofs.Math.Seq.{get_or-append_seam}
-use Rattle.sal_types.specs.declared.value.Step.{Step}
 use Rattle.sal_types.specs.declared.value.Store.TheVariants.{Config, Oper}
 use Rattle.sal_node.specs.Tree.{Tree}
 use Rattle.sal_tree.specs.declared.commit.Commit.{Commit}
 use Rattle.sal_tree.specs.declared.commit.Pair.{Pair}
 use Rattle.sal_tree.specs.Follows.{Agree, IsStamped}
-use Rattle.sal_tree.specs.Grow.{at}
 use Rattle.sal_tree.proofs.Follows.{some_same}
 use Rattle.sal_check.specs.Near.{Keeps, is_new}
 use Rattle.sal_delta.specs.Agreed.{AgreeBoth, AreAgreed}

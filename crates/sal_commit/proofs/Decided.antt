@@ -25,7 +25,7 @@ use Rattle.sal_commit.specs.declared.phases.PreFault.TheVariants.{Invalid, NoMem
 use Rattle.sal_commit.specs.declared.deciding.Attempt.TheVariants.{Made, Refused}
 use Rattle.sal_commit.specs.Attempts.{IsAttempt}
 use Rattle.sal_commit.specs.Domains.{IsSame}
-use Rattle.sal_commit.specs.Deciding.{IsNext, Decides, breached, decide, invalid, refused}
+use Rattle.sal_commit.specs.Deciding.{IsNext, Decides, breached, conflict, decide, gone, invalid, refused}
 use Rattle.sal_commit.specs.Sound.{BreakNone}
 use Rattle.sal_commit.specs.Stamps.{CanFollow, receipts_of}
 
@@ -48,11 +48,16 @@ prepare-refused failed d e sub t fault outcome same is none at (inr w) =
     let it : outcome ≡ w.0 = cc in
     ap (λ o. option_or o (breached d sub)) none ∙ (λ i. breached (sym is i) (sym same i)) ∙ w.2 ∙ ap Some (sym it)
 
--- where its chain has not failed, without a conflict and a breach it is done, as the next commit
+-- what is refused by nothing is done
+undecided : (gone clash breach : Option Outcome) (n : ℕ) → option_or (option_or gone clash) breach ≡ None → unwrap_or gone (unwrap_or (option_or clash breach) (Done n)) ≡ Done n
+undecided None clash breach n none = ap (λ o. unwrap_or o (Done n)) none
+undecided (Some o) clash breach n none = cc
+
+-- where its chain has not failed and its domain is live, without a conflict and a breach it is done, as the next commit
 pub decide-done : (failed : Option ℕ) (d : Domain) (sub : Submission) (c : Commit) → 1 ≤ length d.commits.items → option_or (refused failed d sub) (breached d sub) ≡ None → c.number ≡ length d.commits.items
     → Done c.number ≡ decide failed d sub
 decide-done None d sub c some none number =
-    ap Done (number ∙ next) ∙ sym (ap (λ o. unwrap_or o (Done (length (ops_of d.commits.items) + 1))) none)
+    ap Done (number ∙ next) ∙ sym (undecided (gone d) (conflict d sub) (breached d sub) (length (ops_of d.commits.items) + 1) none)
   where
     next : length d.commits.items ≡ length (ops_of d.commits.items) + 1
     next = omega (arith, length-ops_of d.commits.items some)

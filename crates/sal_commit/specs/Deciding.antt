@@ -17,6 +17,7 @@ use Rattle.sal_tree.specs.declared.commit.Commit.{Commit}
 use Rattle.sal_rows.specs.Clash.{tip}
 use Rattle.sal_graft.specs.Kept.{AreKept, chains_of, opening_in, ops_of, rows_in}
 use Rattle.sal_tx.specs.declared.tx.Submission.{Submission}
+use Rattle.sal_history.specs.History.{unmounted_of}
 use Rattle.sal_history.specs.Outcome as outcome
 use Rattle.sal_history.specs.Submissions.{if_done}
 use Rattle.sal_commit.specs.declared.domain.Domain.{Domain}
@@ -53,17 +54,21 @@ invalid d sub s = outcome.invalid d.schema.value (opening_in d.commits.items) (o
 abbrev pub breached : Domain → Submission → Option Outcome
 breached d sub = option_or (invalid d sub Config) (invalid d sub Oper)
 
--- the outcome of a submission at the newest commit of the domain, where its chain has not failed
+-- the outcome of a submission at the newest commit of the domain, where its chain has not failed and the domain is live
 abbrev pub judge : Domain → Submission → Outcome
 judge d sub = outcome.decide d.schema.value (opening_in d.commits.items) (ops_of d.commits.items) (rows_in sub.base) (spans_of d sub) sub.changes
 
+-- the outcome that names the domain, where it is not live any more
+abbrev pub gone : Domain → Option Outcome
+gone d = unmounted_of d.live d.number
+
 -- the outcome where its chain has failed by a receipt, if it has
 abbrev pub decide : Option ℕ → Domain → Submission → Outcome
-decide failed d sub = unwrap_or (option_map ChainFailed failed) (judge d sub)
+decide failed d sub = unwrap_or (option_or (option_map ChainFailed failed) (gone d)) (judge d sub)
 
--- why it cannot be committed, before the new trees are made: its chain has failed, or it conflicts
+-- why it cannot be committed, before the new trees are made: its chain has failed, the domain is not live, or it conflicts
 abbrev pub refused : Option ℕ → Domain → Submission → Option Outcome
-refused failed d sub = option_or (option_map ChainFailed failed) (conflict d sub)
+refused failed d sub = option_or (option_map ChainFailed failed) (option_or (gone d) (conflict d sub))
 
 -- the next commit of the domain: that of the submission
 pub record IsNext (d : Domain) (sub : Submission) (c : Commit) : Type 0 where

@@ -13,9 +13,9 @@ use sal_types::NoMemory;
 use std::alloc::Global;
 
 /// Decides the submission at the newest commit of its domain: the outcome, and where it is done the next commit with both
-/// trees. Where its chain has failed, by the receipt `failed`, that is the outcome. Nodes that it touches get the stamp
-/// `fresh`, that of its receipt, which is greater than the newest commit's. After want of memory the domain has the commits
-/// that it had.
+/// trees. Where its chain has failed, by the receipt `failed`, that is the outcome, and else where the domain is not live any
+/// more, that it is unmounted. Nodes that it touches get the stamp `fresh`, that of its receipt, which is greater than the
+/// newest commit's. After want of memory the domain has the commits that it had.
 pub fn decide(
     alloc: Global,
     sub: &Submission,

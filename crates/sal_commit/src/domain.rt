@@ -24,7 +24,7 @@ use std::sync::Arc;
 #[derive(Drop)]
 pub struct Domain {
     pub number: u32,
-    /// Whether the domain takes transactions.
+    /// Whether the domain takes transactions and makes commits, as a device's does from its mount to its unmount.
     pub live: bool,
     pub schema: Arc<Schema>,
     pub commits: Vec<Commit>,

@@ -4,14 +4,15 @@
 //! |---|---|
 //! | `Domain` | a domain: its number, its schema and its commits, the opening first; no tree of a commit breaks a structural rule, and the trees of neighbours agree by their stamps |
 //! | `DomainFault` | why a domain is not opened |
-//! | `can` | whether a submission's chain has failed, or it conflicts with the foreign commits after its base |
+//! | `can` | whether a submission's chain has failed, its domain is not live, or it conflicts with the foreign commits after its base |
 //! | `pre` | both trees after the submission, where they break no structural rule |
 //! | `publish` | the next commit of the domain: both trees at once |
 //! | `decide` | the three phases one after another |
 //!
 //! Together they give the outcome that `sal_history` defines (`specs/Outcome.antt` there): the first conflict, else the
 //! breach of the configuration, else that of the operational store, else the number of the new commit. Where the caller
-//! says by which receipt the submission's chain has failed, that goes before all of these. A commit after the base is
+//! says by which receipt the submission's chain has failed, that goes before all of these; and then, where the domain is not
+//! `live` any more, as that of a device is not once it is unmounted, the domain is named. A commit after the base is
 //! foreign where it is not of the submission's own chain; all are to a submission of none. `pre` takes the memory of the
 //! new commit and changes nothing; `publish` takes none, so it changes both stores, or, where it is not reached, neither.
 //!
@@ -29,7 +30,7 @@
 //! | `Domain::open` | a node for each path of the opening, and a list of numbers for each schema node | the schema | the opening's rows, and both trees whole |
 //! | `Domain::reserve` | the list of commits, as it grows, without what they hold | all of them | |
 //! | `Domain::cut_to` | | | the commits that it drops |
-//! | `can` | the spans between the commits of the chain, and the path that a conflict names | | of a chained submission the chains of the commits after its base; for each operation its path at both ends of each span, and back through the foreign commits with their operations and rows; nothing where the chain has failed |
+//! | `can` | the spans between the commits of the chain, and the path that a conflict names | | of a chained submission the chains of the commits after its base; for each operation its path at both ends of each span, and back through the foreign commits with their operations and rows; nothing where the chain has failed or the domain is not live |
 //! | `pre` | the operations with their rows, and for each of them the nodes on the way to what it sets | all other nodes of both trees | of both new trees the nodes that are not shared, and the lists in which something changed, where they state a count, or a `unique` of which a leaf changed |
 //! | `publish` | | the commit, which is moved | |
 //! | `decide` | what `can`, `pre` and `reserve` copy | as these | as these |

@@ -35,7 +35,7 @@ pub struct Prepared {
 /// Why a submission cannot be committed.
 #[derive(Debug, Drop, Error)]
 pub enum CanFault {
-    /// Its chain has failed, or it conflicts with a later commit.
+    /// Its chain has failed, its domain is not live any more, or it conflicts with a later commit.
     #[error("refused")]
     Refused { outcome: Outcome },
     #[error("out of memory")]
@@ -74,8 +74,8 @@ impl From<NoMemory> for PreFault {
     }
 }
 
-/// canCommit: whether the submission's chain has failed, by the receipt `failed`, or it conflicts with the foreign commits after
-/// its base, which are those that are not of its own chain.
+/// canCommit: whether the submission's chain has failed, by the receipt `failed`, or its domain is not live any more, or it
+/// conflicts with the foreign commits after its base, which are those that are not of its own chain.
 pub fn can<'a>(
     alloc: Global,
     sub: &'a Submission,
@@ -89,6 +89,11 @@ pub fn can<'a>(
 {
     if let Some(receipt) = failed {
         let outcome = Outcome::ChainFailed { receipt };
+        return Err(CanFault::Refused { outcome });
+    }
+    if !domain.live {
+        let domain = domain.number;
+        let outcome = Outcome::Unmounted { domain };
         return Err(CanFault::Refused { outcome });
     }
     match conflict_in(alloc, sub, domain)? {

@@ -1,5 +1,5 @@
 -- What one decision tells: the commit and the path that a conflict names, and that nothing is broken where it is done.
-use Rattle.std.proofs.Common.{◌≡◌, ℕ, zero, suc, true, ◌+◌, ◌-◌, ◌≤◌, List, [], ◌∷◌, ◌++◌, length, take, drop, Option, None, Some, refl, ap, sym, ◌∙◌, subst, arith}
+use Rattle.std.proofs.Common.{◌≡◌, ℕ, zero, suc, Bool, true, false, ◌+◌, ◌-◌, ◌≤◌, List, [], ◌∷◌, ◌++◌, length, take, drop, Option, None, Some, refl, ap, sym, ◌∙◌, subst, arith}
 use Rattle.std.specs.Prelude.{Any, IsTrue, slice_get, unwrap_or, option_and_then}
 use Rattle.std.specs.Option.{option_or, option_map}
 use Rattle.std.proofs.lemmas.List.{length-map, take-append-drop}
@@ -15,7 +15,7 @@ use Rattle.sal_rows.specs.declared.op.Op.{Op}
 use Rattle.sal_rows.specs.declared.outcome.Breach.{Breach}
 use Rattle.sal_rows.specs.declared.outcome.ClashKind.{ClashKind}
 use Rattle.sal_rows.specs.declared.outcome.Outcome.{Outcome}
-use Rattle.sal_rows.specs.declared.outcome.Outcome.TheVariants.{ChainFailed as FailedBy, Conflict, Done, Invalid}
+use Rattle.sal_rows.specs.declared.outcome.Outcome.TheVariants.{ChainFailed as FailedBy, Conflict, Done, Invalid, Unmounted}
 use Rattle.sal_rows.specs.Apply.{apply_ops}
 use Rattle.sal_rows.specs.Commits.{next_tree, touches_at, tree_after, tree_at}
 use Rattle.sal_rows.specs.Quiet.{AreSpans, with_own}
@@ -30,7 +30,7 @@ use Rattle.sal_rows.proofs.Named.{IsWithin, names_within}
 use Rattle.sal_history.specs.Outcome.{conflict_of}
 use Rattle.sal_history.specs.Submissions.{Base, Sent, done, done_chains, done_ops, failing}
 use Rattle.sal_history.specs.World.{Domain, opening_of, table_of}
-use Rattle.sal_history.specs.History.{outcome}
+use Rattle.sal_history.specs.History.{outcome, unmounted_of}
 use Rattle.sal_history.specs.Laws.{ConflictsNameALaterCommit, DoneLeavesNoBreach, IsLaterTouch, IsOwnPlace, own_tree}
 use Rattle.sal_history.proofs.Spans.{are, first, lies, rest, split}
 
@@ -77,12 +77,14 @@ none_broken ops (Some c) config oper n commit =
       | Some op ↦ λ e. cc
     ]
 
--- ---- a chain that failed
+-- ---- a chain that failed, and a domain that is unmounted
 
--- what is decided as something else has no receipt of its chain that failed
-pub went : (o : Option ℕ) (d x : Outcome) → unwrap_or (option_map FailedBy o) d ≡ x → ((n : ℕ) → FailedBy n ≡ x → ⊥) → (o ≡ None) × (d ≡ x)
-went None d x e other = (refl, e)
-went (Some n) d x e other = absurd (other n e)
+-- what is decided as something else has no receipt of its chain that failed, and was decided in itself
+pub went : (o : Option ℕ) (live : Bool) (domain : ℕ) (d x : Outcome) → unwrap_or (option_or (option_map FailedBy o) (unmounted_of live domain)) d ≡ x
+    → ((n : ℕ) → FailedBy n ≡ x → ⊥) → ((n : ℕ) → Unmounted n ≡ x → ⊥) → (o ≡ None) × (d ≡ x)
+went None true domain d x e failed gone = (refl, e)
+went None false domain d x e failed gone = absurd (gone domain e)
+went (Some n) live domain d x e failed gone = absurd (failed n e)
 
 -- ---- the laws
 
@@ -90,7 +92,7 @@ went (Some n) d x e other = absurd (other n e)
 abbrev pub IsWithinOwn : List Domain → List Sent → List Outcome → Base → Type 0
 IsWithinOwn world ss os base = IsWithin base.trees (own_tree world ss os base)
 
-module _ (world : List Domain) (ss : List Sent) (os : List Outcome) (s : Sent) where
+module _ (world : List Domain) (live : ℕ → Bool) (ss : List Sent) (os : List Outcome) (s : Sent) where
   abbrev domain : ℕ
   domain = s.base.domain
 
@@ -119,7 +121,7 @@ module _ (world : List Domain) (ss : List Sent) (os : List Outcome) (s : Sent) w
   as_many : length chains ≡ length commits
   as_many = length-map (done domain ss os) (λ x. x.base.chain) ∙ sym (length-map (done domain ss os) (λ x. x.ops))
 
-  pub named_within : (store : Store) (path : List Step) (kind : ClashKind) (commit : ℕ) → s.base.commit ≤ length commits → IsWithinOwn world ss os s.base → outcome world ss os s ≡ Conflict store path kind commit
+  pub named_within : (store : Store) (path : List Step) (kind : ClashKind) (commit : ℕ) → s.base.commit ≤ length commits → IsWithinOwn world ss os s.base → outcome world live ss os s ≡ Conflict store path kind commit
       → IsLaterTouch world ss os s store path commit × IsOwnPlace s store path
   named_within store path kind commit base_le within all =
       let a = s.base.commit in
@@ -152,32 +154,32 @@ module _ (world : List Domain) (ss : List Sent) (os : List Outcome) (s : Sent) w
               (lying.0, omega (arith, lying.1, as_many), lying.2, lying.3),
               any_get (λ (x : Op). (x.store ≡ store) × IsTrue (is_prefix path x.path)) s.ops c.op op found.1 (at_store, above),
             )
-      ] refl (went (failing s.base.chain ss os) (decision (clash opening commits s.base.trees pieces s.ops)) (Conflict store path kind commit) all (λ n e. cc)).1
+      ] refl (went (failing s.base.chain ss os) (live domain) domain (decision (clash opening commits s.base.trees pieces s.ops)) (Conflict store path kind commit) all (λ n e. cc) (λ n e. cc)).1
 
-  -- a submission is decided, in itself, only while its chain has not failed
+  -- a submission is decided, in itself, only while its chain has not failed and its domain is live
   abbrev here : Outcome
   here = decision (clash opening commits s.base.trees pieces s.ops)
 
-  when_done : (commit : ℕ) → outcome world ss os s ≡ Done commit → (broken Config ≡ None) × (broken Oper ≡ None) × (commit ≡ length commits + 1)
+  when_done : (commit : ℕ) → outcome world live ss os s ≡ Done commit → (broken Config ≡ None) × (broken Oper ≡ None) × (commit ≡ length commits + 1)
   when_done commit all =
-      none_broken s.ops (clash opening commits s.base.trees pieces s.ops) (broken Config) (broken Oper) (length commits + 1) commit (went (failing s.base.chain ss os) here (Done commit) all (λ n e. cc)).1
+      none_broken s.ops (clash opening commits s.base.trees pieces s.ops) (broken Config) (broken Oper) (length commits + 1) commit (went (failing s.base.chain ss os) (live domain) domain here (Done commit) all (λ n e. cc) (λ n e. cc)).1
 
-  pub unbroken : (commit : ℕ) (store : Store) → outcome world ss os s ≡ Done commit → breach (table_of world domain) store (tree_after store (opening store) (commits ++ s.ops ∷ [])) ≡ None
+  pub unbroken : (commit : ℕ) (store : Store) → outcome world live ss os s ≡ Done commit → breach (table_of world domain) store (tree_after store (opening store) (commits ++ s.ops ∷ [])) ≡ None
   unbroken commit store all =
       let none = when_done commit all in
       ap (breach (table_of world domain) store) (fold-append (next_tree store) (opening store) commits (s.ops ∷ []))
       ∙ elim store as (λ t. broken t ≡ None) [ Config ↦ none.0 | Oper ↦ none.1 ]
 
   -- a commit has the next number of its domain
-  pub numbered : (commit : ℕ) → outcome world ss os s ≡ Done commit → commit ≡ length commits + 1
+  pub numbered : (commit : ℕ) → outcome world live ss os s ≡ Done commit → commit ≡ length commits + 1
   numbered commit all = (when_done commit all).2
 
   -- what conflicts is of no chain that failed
-  pub unfailed : (store : Store) (path : List Step) (kind : ClashKind) (commit : ℕ) → outcome world ss os s ≡ Conflict store path kind commit → failing s.base.chain ss os ≡ None
-  unfailed store path kind commit all = (went (failing s.base.chain ss os) here (Conflict store path kind commit) all (λ n e. cc)).0
+  pub unfailed : (store : Store) (path : List Step) (kind : ClashKind) (commit : ℕ) → outcome world live ss os s ≡ Conflict store path kind commit → failing s.base.chain ss os ≡ None
+  unfailed store path kind commit all = (went (failing s.base.chain ss os) (live domain) domain here (Conflict store path kind commit) all (λ n e. cc) (λ n e. cc)).0
 
 pub named : ConflictsNameALaterCommit
-named world ss os s store path kind commit base = named_within world ss os s store path kind commit base.0 (λ t q there. ap (λ (tree : List Row). cell tree q) (base.1 t))
+named world live ss os s store path kind commit base = named_within world live ss os s store path kind commit base.0 (λ t q there. ap (λ (tree : List Row). cell tree q) (base.1 t))
 
 pub no_breach : DoneLeavesNoBreach
-no_breach world ss os s commit store = unbroken world ss os s commit store
+no_breach world live ss os s commit store = unbroken world live ss os s commit store

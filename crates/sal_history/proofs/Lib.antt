@@ -1,7 +1,10 @@
 mod Bases
 mod Decisions
 mod Logs
+mod Noted
 mod Numbers
+mod Placed
 mod Receipts
+mod Routed
 mod Spans
 mod Waiting

@@ -14,7 +14,7 @@ use Rattle.sal_rows.specs.declared.outcome.CallFault.TheVariants.{ChainClosed, C
 use Rattle.sal_rows.specs.declared.outcome.Outcome.{Outcome}
 use Rattle.sal_rows.specs.Spans.{is_of_chain}
 use Rattle.sal_history.specs.declared.call.Call.{Call}
-use Rattle.sal_history.specs.declared.call.Call.TheVariants.{After, Begin, Cancel, ChainBegin, CloseChain, Listen, Mark, OpenChain, Pump, Settle, Submit, Take, Unlisten}
+use Rattle.sal_history.specs.declared.call.Call.TheVariants.{Begin, ChainBegin, Pump, Settle, Submit}
 use Rattle.sal_history.specs.declared.call.Entry.{Entry}
 use Rattle.sal_history.specs.declared.reply.Reply.{Reply}
 use Rattle.sal_history.specs.declared.reply.Reply.TheVariants.{Begun, Receipt, Refused}
@@ -104,25 +104,15 @@ module _ (world : List Domain) (answered : List Answered) (was : IsSound world a
 
   begun_stands : (client : ℕ) (call : Call) (b : Base) → began_by world answered call (reply client call) ≡ Some b → Stands world ss os ss b
   begun_stands client (Begin domain mode) b =
-      cond_both (is_live domain) (Begun (length (commits answered domain)) None) (Refused (NoDomain domain)) (λ r. began_by world answered (Begin domain mode) r ≡ Some b → Stands world ss os ss b)
+      cond_both (is_live world answered domain) (Begun (length (commits answered domain)) None) (Refused (NoDomain domain)) (λ r. began_by world answered (Begin domain mode) r ≡ Some b → Stands world ss os ss b)
       (λ live e. subst (Stands world ss os ss) (same_Some (newest_base world answered domain None) b e) (plain_stands domain))
       (λ dead e. absurd (none-some b e))
   begun_stands client (ChainBegin chain mode) b =
-      elim (chain_refusal answered chain) as (λ (o : Option CallFault). began_by world answered (ChainBegin chain mode) (refused_or o (Begun (chained_base world answered chain).commit (stands_on answered chain))) ≡ Some b → Stands world ss os ss b) [
+      elim (chain_refusal world answered chain) as (λ (o : Option CallFault). began_by world answered (ChainBegin chain mode) (refused_or o (Begun (chained_base world answered chain).commit (stands_on answered chain))) ≡ Some b → Stands world ss os ss b) [
         | None ↦ λ e. subst (Stands world ss os ss) (same_Some (chained_base world answered chain) b e) (chained_stands chain)
         | Some fault ↦ λ e. absurd (none-some b e)
       ]
-  begun_stands client (OpenChain domain) b = λ e. absurd (none-some b e)
-  begun_stands client (CloseChain chain) b = λ e. absurd (none-some b e)
-  begun_stands client (Submit place ops) b = λ e. absurd (none-some b e)
-  begun_stands client (Cancel place) b = λ e. absurd (none-some b e)
-  begun_stands client (Settle receipt) b = λ e. absurd (none-some b e)
-  begun_stands client Pump b = λ e. absurd (none-some b e)
-  begun_stands client (Listen domain store path) b = λ e. absurd (none-some b e)
-  begun_stands client (Take id) b = λ e. absurd (none-some b e)
-  begun_stands client (Unlisten id) b = λ e. absurd (none-some b e)
-  begun_stands client (Mark mark) b = λ e. absurd (none-some b e)
-  begun_stands client (After mark) b = λ e. absurd (none-some b e)
+  begun_stands client call b = λ e. absurd (none-some b e)
 
   -- ---- what a call submits and decides
 
@@ -164,10 +154,10 @@ module _ (world : List Domain) (answered : List Answered) (was : IsSound world a
         ]))
 
     -- after a settle or a pump
-    decided_more : (n : ℕ) → ((b : Base) → IsNow b → IsOpen answered b) → Known world IsNow (ss ++ []) (os ++ decide_next world ss os n)
+    decided_more : (n : ℕ) → ((b : Base) → IsNow b → IsOpen answered b) → Known world IsNow (ss ++ []) (os ++ decide_next world (is_live world answered) ss os n)
     decided_more n from =
-        subst (λ (ts : List Sent). Known world IsNow ts (os ++ decide_next world ss os n)) (sym (append-nil ss))
-        (Known-open world (IsOpen answered) IsNow ss (os ++ decide_next world ss os n) (Known-next world (IsOpen answered) n ss os was.known) (λ b is. inl (from b is)))
+        subst (λ (ts : List Sent). Known world IsNow ts (os ++ decide_next world (is_live world answered) ss os n)) (sym (append-nil ss))
+        (Known-open world (IsOpen answered) IsNow ss (os ++ decide_next world (is_live world answered) ss os n) (Known-next world (IsOpen answered) (is_live world answered) n ss os was.known) (λ b is. inl (from b is)))
 
     -- after a submit with this answer
     abbrev Submitted : ℕ → List Op → Reply → Type 0
@@ -205,25 +195,16 @@ module _ (world : List Domain) (answered : List Answered) (was : IsSound world a
     still_open client call nothing from b is = elim (from b is) [ inl w ↦ (w.0, w.1, w.2) | inr new ↦ absurd (nothing b new) ]
 
     after_call : (client : ℕ) (call : Call) → ((b : Base) → IsNow b → OpenAfter client call b) → Known world IsNow (ss ++ option_to_list (sent_by answered call (reply client call))) (os ++ decided_by world answered call)
-    after_call client (Begin domain mode) from = reopened client (Begin domain mode) from
-    after_call client (OpenChain domain) from = reopened client (OpenChain domain) from
-    after_call client (ChainBegin chain mode) from = reopened client (ChainBegin chain mode) from
-    after_call client (CloseChain chain) from = reopened client (CloseChain chain) from
     after_call client (Submit place ops) from = after_submit place ops from
-    after_call client (Cancel place) from = reopened client (Cancel place) from
     after_call client (Settle receipt) from = decided_more (receipt - length os) (still_open client (Settle receipt) (λ b e. none-some b e) from)
     after_call client Pump from = decided_more 1 (still_open client Pump (λ b e. none-some b e) from)
-    after_call client (Listen domain store path) from = reopened client (Listen domain store path) from
-    after_call client (Take id) from = reopened client (Take id) from
-    after_call client (Unlisten id) from = reopened client (Unlisten id) from
-    after_call client (Mark mark) from = reopened client (Mark mark) from
-    after_call client (After mark) from = reopened client (After mark) from
+    after_call client call from = reopened client call from
 
   -- ---- the last transaction of a chain
 
-  open_not : (chain : ℕ) → chain_refusal answered chain ≡ None → has_open answered chain ≡ false
+  open_not : (chain : ℕ) → chain_refusal world answered chain ≡ None → has_open answered chain ≡ false
   open_not chain e =
-      let dead = fault_if (not (is_live (domain_of answered chain))) (NoDomain (domain_of answered chain)) in
+      let dead = fault_if (not (is_live world answered (domain_of answered chain))) (NoDomain (domain_of answered chain)) in
       let third = option_or (fault_if (has_open answered chain) PreviousOpen) dead in
       let second = option_or (option_map ChainFailed (failed_by answered chain)) third in
       fault_none (has_open answered chain) PreviousOpen
@@ -238,13 +219,13 @@ module _ (world : List Domain) (answered : List Answered) (was : IsSound world a
   -- while a transaction of a chain is open, no call begins one
   no_begin : (client : ℕ) (call : Call) (chain place : ℕ) → last_begun answered chain ≡ Some place → is_spent answered place ≡ false → is_base_of chain (began_by world answered call (reply client call)) ≡ false
   no_begin client (Begin domain mode) chain place at free =
-      elim (is_live domain) as (λ b. is_base_of chain (began_by world answered (Begin domain mode) (if b then Begun (length (commits answered domain)) None else Refused (NoDomain domain))) ≡ false) [
+      elim (is_live world answered domain) as (λ b. is_base_of chain (began_by world answered (Begin domain mode) (if b then Begun (length (commits answered domain)) None else Refused (NoDomain domain))) ≡ false) [
         | true ↦ refl
         | false ↦ refl
       ]
   no_begin client (ChainBegin other mode) chain place at free =
       let based = chained_base world answered other in
-      elim (chain_refusal answered other) as (λ (o : Option CallFault). chain_refusal answered other ≡ o
+      elim (chain_refusal world answered other) as (λ (o : Option CallFault). chain_refusal world answered other ≡ o
       → is_base_of chain (began_by world answered (ChainBegin other mode) (refused_or o (Begun based.commit (stands_on answered other)))) ≡ false) [
         | None ↦ λ e. apart (is_of_chain (Some chain) based.chain) (λ own.
             let named : is_of_chain (Some chain) (Some other) ≡ true = ap (is_of_chain (Some chain)) (sym (on_waiting other (before other)).1) ∙ own in
@@ -257,17 +238,7 @@ module _ (world : List Domain) (answered : List Answered) (was : IsSound world a
             cc)
         | Some fault ↦ λ e. refl
       ] refl
-  no_begin client (OpenChain domain) chain place at free = refl
-  no_begin client (CloseChain other) chain place at free = refl
-  no_begin client (Submit other ops) chain place at free = refl
-  no_begin client (Cancel other) chain place at free = refl
-  no_begin client (Settle receipt) chain place at free = refl
-  no_begin client Pump chain place at free = refl
-  no_begin client (Listen domain store path) chain place at free = refl
-  no_begin client (Take id) chain place at free = refl
-  no_begin client (Unlisten id) chain place at free = refl
-  no_begin client (Mark mark) chain place at free = refl
-  no_begin client (After mark) chain place at free = refl
+  no_begin client call chain place at free = refl
 
   -- ---- one entry more
 

@@ -10,20 +10,24 @@ use Rattle.sal_rows.specs.declared.op.Op.{Op}
 use Rattle.sal_rows.specs.declared.outcome.CallFault.{CallFault}
 use Rattle.sal_rows.specs.declared.outcome.CallFault.TheVariants.{NoDomain, NoListener, TooManyListeners, PipelineFull, TxSpent, PreviousOpen, ChainFailed, ChainClosed}
 use Rattle.sal_rows.specs.declared.outcome.Outcome.{Outcome}
-use Rattle.sal_rows.specs.declared.outcome.Outcome.TheVariants.{ChainFailed as FailedBy}
+use Rattle.sal_rows.specs.declared.outcome.Outcome.TheVariants.{ChainFailed as FailedBy, Unmounted}
 use Rattle.sal_rows.specs.Apply.{apply_ops}
 use Rattle.sal_rows.specs.Batches.{batch, opened}
 use Rattle.sal_rows.specs.Commits.{tree_after, tree_at}
 use Rattle.sal_rows.specs.Spans.{is_of_chain, spans}
 use Rattle.sal_schema.specs.Fitting.{has_own_row}
 use Rattle.sal_history.specs.declared.call.Call.{Call}
-use Rattle.sal_history.specs.declared.call.Call.TheVariants.{Begin, OpenChain, ChainBegin, CloseChain, Submit, Cancel, Settle, Pump, Listen, Take, Unlisten, Mark, After}
+use Rattle.sal_history.specs.declared.call.Call.TheVariants.{Begin, OpenChain, ChainBegin, CloseChain, Submit, Cancel, Settle, Pump, Listen, Take, Unlisten, Provide, Withdraw, Invoke, NextCall, Answer, Collect, Subscribe, Offer, TakeNotes, Mount, Unmount, MountAt, Mark, After}
 use Rattle.sal_history.specs.declared.call.Entry.{Entry}
 use Rattle.sal_history.specs.declared.reply.Reply.{Reply}
 use Rattle.sal_history.specs.declared.reply.Reply.TheVariants.{Begun, Chain, Accepted, Receipt, Settled, Decided, Nothing, Listener, Batch, Found, Late, Refused}
 pub use Rattle.sal_history.specs.Answered.{Answered}
 use Rattle.sal_history.specs.Listeners.{Listening, has_listener, listener_at, listeners, live_listeners, version}
 use Rattle.sal_history.specs.Outcome.{decide}
+use Rattle.sal_rpc.specs.declared.call.RpcCall.TheVariants as rpcs
+use Rattle.sal_note.specs.declared.call.NoteCall.TheVariants as notes
+use Rattle.sal_mount.specs.declared.call.MountCall.TheVariants as mount_calls
+use Rattle.sal_history.specs.Services.{by_mounts, by_notes, by_router, is_live_among, rpc_of, rpc_reply}
 use Rattle.sal_history.specs.Submissions.{Base, Sent, done_chains, done_ops, failing, last_from, pending_receipt, view_of}
 use Rattle.sal_history.specs.World.{Domain, opening_of, table_of}
 
@@ -38,9 +42,9 @@ outcomes answered = flat_map (λ a. a.decided) answered
 abbrev pub commits : List Answered → ℕ → List (List Op)
 commits answered domain = done_ops domain (sents answered) (outcomes answered)
 
--- domain 0 is always live, and no other is
-abbrev pub is_live : ℕ → Bool
-is_live domain = nat_eq domain 0
+-- domain 0 is always live, that of a device from its mount to its unmount
+abbrev pub is_live : List Domain → List Answered → ℕ → Bool
+is_live world answered domain = is_live_among (length world) answered domain
 
 -- ---- transactions
 
@@ -115,12 +119,12 @@ fault_if test fault = if test then Some fault else None
 
 -- Why the chain begins no transaction: it is closed, it has failed (`onTransactionChainFailed` of the MD-SAL developer
 -- guide), its last transaction is open, or its domain is not live.
-abbrev pub chain_refusal : List Answered → ℕ → Option CallFault
-chain_refusal answered chain =
+abbrev pub chain_refusal : List Domain → List Answered → ℕ → Option CallFault
+chain_refusal world answered chain =
     option_or (fault_if (is_closed answered chain) ChainClosed)
     (option_or (option_map ChainFailed (failed_by answered chain))
     (option_or (fault_if (has_open answered chain) PreviousOpen)
-    (fault_if (not (is_live (domain_of answered chain))) (NoDomain (domain_of answered chain)))))
+    (fault_if (not (is_live world answered (domain_of answered chain))) (NoDomain (domain_of answered chain)))))
 
 -- a refusal, or the good answer
 abbrev pub refused_or : Option CallFault → Reply → Reply
@@ -140,9 +144,15 @@ is_marked answered mark = list_any (λ a. marks a.entry.call mark) answered
 -- ---- listeners
 
 -- why the domain gets no further listener: it is not live, or 256 are
-abbrev pub listen_refusal : List Answered → ℕ → Option CallFault
-listen_refusal answered domain =
-    option_or (fault_if (not (is_live domain)) (NoDomain domain)) (fault_if (nat_le 256 (live_listeners answered)) TooManyListeners)
+abbrev pub listen_refusal : List Domain → List Answered → ℕ → Option CallFault
+listen_refusal world answered domain =
+    option_or (fault_if (not (is_live world answered domain)) (NoDomain domain)) (fault_if (nat_le 256 (live_listeners answered)) TooManyListeners)
+
+-- ---- domains that are unmounted
+
+-- the outcome that names the domain, where it is not live
+abbrev pub unmounted_of : Bool → ℕ → Option Outcome
+unmounted_of live domain = if live then None else Some (Unmounted domain)
 
 -- ---- answers
 
@@ -193,29 +203,31 @@ module _ (world : List Domain) where
   abbrev pub taken : List Answered → ℕ → Reply
   taken answered id = option_map_or (batch_of answered id) (listener_at answered id) (Refused (NoListener id))
 
-  -- The outcome of a submission, decided after these outcomes. Where a smaller receipt of its chain was not done, that one is
-  -- named. Else it is decided over the commits of its domain; those after its base that are not of its chain are foreign.
-  abbrev pub outcome : List Sent → List Outcome → Sent → Outcome
-  outcome ss os s =
-      unwrap_or (option_map FailedBy (failing s.base.chain ss os))
+  -- The outcome of a submission, decided after these outcomes, while these domains are live. Where a smaller receipt of its chain
+  -- was not done, that one is named; else where its domain is not live any more, that domain. Else it is decided over the commits
+  -- of its domain; those after its base that are not of its chain are foreign.
+  abbrev pub outcome : (ℕ → Bool) → List Sent → List Outcome → Sent → Outcome
+  outcome live ss os s =
+      unwrap_or (option_or (option_map FailedBy (failing s.base.chain ss os)) (unmounted_of (live s.base.domain) s.base.domain))
       (decide (table_of world s.base.domain) (opening_of world s.base.domain) (done_ops s.base.domain ss os) s.base.trees
       (spans s.base.commit s.base.chain (done_chains s.base.domain ss os)) s.ops)
 
   -- the outcome of the front of what is pending, after these outcomes
-  abbrev pub decide_front : List Sent → List Outcome → Option Sent → List Outcome
-  decide_front ss os None = []
-  decide_front ss os (Some s) = outcome ss os s ∷ []
+  abbrev pub decide_front : (ℕ → Bool) → List Sent → List Outcome → Option Sent → List Outcome
+  decide_front live ss os None = []
+  decide_front live ss os (Some s) = outcome live ss os s ∷ []
 
   -- the outcomes of the next n receipts, after these
-  abbrev pub decide_next : List Sent → List Outcome → ℕ → List Outcome
-  decide_next ss os zero = []
-  decide_next ss os (suc n) = decide_front ss os (slice_get ss (length os)) ++ decide_next ss (os ++ decide_front ss os (slice_get ss (length os))) n
+  abbrev pub decide_next : (ℕ → Bool) → List Sent → List Outcome → ℕ → List Outcome
+  decide_next live ss os zero = []
+  decide_next live ss os (suc n) =
+      decide_front live ss os (slice_get ss (length os)) ++ decide_next live ss (os ++ decide_front live ss os (slice_get ss (length os))) n
 
   -- the outcomes that a call decides: a settle those of the receipts up to its own that are pending, a pump that of the first
   -- that is
   abbrev pub decided_by : List Answered → Call → List Outcome
-  decided_by answered (Settle receipt) = decide_next (sents answered) (outcomes answered) (receipt - length (outcomes answered))
-  decided_by answered Pump = decide_next (sents answered) (outcomes answered) 1
+  decided_by answered (Settle receipt) = decide_next (is_live world answered) (sents answered) (outcomes answered) (receipt - length (outcomes answered))
+  decided_by answered Pump = decide_next (is_live world answered) (sents answered) (outcomes answered) 1
   decided_by answered call = []
 
   -- a base at the newest commit of a domain, in a chain or in none
@@ -239,17 +251,29 @@ module _ (world : List Domain) where
 
   -- the reply to a call of the client after these entries
   abbrev pub reply_to : List Answered → ℕ → Call → Reply
-  reply_to answered client (Begin domain mode) = if is_live domain then Begun (length (commits answered domain)) None else Refused (NoDomain domain)
-  reply_to answered client (OpenChain domain) = if is_live domain then Chain (length (chain_domains answered) + 1) else Refused (NoDomain domain)
-  reply_to answered client (ChainBegin chain mode) = refused_or (chain_refusal answered chain) (Begun (chained_base answered chain).commit (stands_on answered chain))
+  reply_to answered client (Begin domain mode) = if is_live world answered domain then Begun (length (commits answered domain)) None else Refused (NoDomain domain)
+  reply_to answered client (OpenChain domain) = if is_live world answered domain then Chain (length (chain_domains answered) + 1) else Refused (NoDomain domain)
+  reply_to answered client (ChainBegin chain mode) = refused_or (chain_refusal world answered chain) (Begun (chained_base answered chain).commit (stands_on answered chain))
   reply_to answered client (CloseChain chain) = refused_or (fault_if (is_closed answered chain) ChainClosed) Accepted
   reply_to answered client (Submit place ops) = submitted answered place
   reply_to answered client (Cancel place) = Accepted
   reply_to answered client (Settle receipt) = settled (slice_get (sents answered) (receipt - 1)) (slice_get (outcomes answered ++ decided_by answered (Settle receipt)) (receipt - 1))
   reply_to answered client Pump = pumped (length (outcomes answered) + 1) (slice_get (sents answered) (length (outcomes answered))) (decided_by answered Pump)
-  reply_to answered client (Listen domain s path) = refused_or (listen_refusal answered domain) (listening answered domain s path)
+  reply_to answered client (Listen domain s path) = refused_or (listen_refusal world answered domain) (listening answered domain s path)
   reply_to answered client (Take id) = if_listens answered client id (taken answered id)
   reply_to answered client (Unlisten id) = if_listens answered client id Accepted
+  reply_to answered client (Provide rpc context) = rpc_reply rpc (by_router answered client (rpcs.Provide rpc context))
+  reply_to answered client (Withdraw rpc context) = rpc_reply rpc (by_router answered client (rpcs.Withdraw rpc context))
+  reply_to answered client (Invoke rpc context input) = rpc_reply rpc (by_router answered client (rpcs.Invoke rpc context input))
+  reply_to answered client NextCall = rpc_reply 0 (by_router answered client rpcs.NextCall)
+  reply_to answered client (Answer id output) = rpc_reply 0 (by_router answered client (rpcs.Answer id output))
+  reply_to answered client (Collect id) = rpc_reply (unwrap_or (rpc_of answered id) 0) (by_router answered client (rpcs.Collect id))
+  reply_to answered client (Subscribe note) = by_notes answered client (notes.Subscribe note)
+  reply_to answered client (Offer note rows) = by_notes answered client (notes.Offer note rows)
+  reply_to answered client TakeNotes = by_notes answered client notes.TakeNotes
+  reply_to answered client (Mount path device) = by_mounts (length world) answered (mount_calls.Mount path device)
+  reply_to answered client (Unmount domain) = by_mounts (length world) answered (mount_calls.Unmount domain)
+  reply_to answered client (MountAt path) = by_mounts (length world) answered (mount_calls.MountAt path)
   reply_to answered client (Mark mark) = Accepted
   reply_to answered client (After mark) = if is_marked answered mark then Found else Late
 

@@ -1,5 +1,5 @@
 -- What a conflict names, what a submission that is done leaves, and what a chain is spared.
-use Rattle.std.specs.Prelude.{◌≡◌, ℕ, false, [], ◌∷◌, ◌++◌, ◌<◌, ◌≤◌, List, length, take, drop, Some, None, Any, IsTrue, slice_get}
+use Rattle.std.specs.Prelude.{◌≡◌, ℕ, Bool, false, [], ◌∷◌, ◌++◌, ◌<◌, ◌≤◌, List, length, take, drop, Some, None, Any, IsTrue, slice_get}
 use Rattle.sal_types.specs.declared.value.Store.{Store}
 use Rattle.sal_types.specs.declared.value.Step.{Step}
 use Rattle.sal_types.specs.declared.row.Row.{Row}
@@ -43,8 +43,8 @@ IsOwnPlace s store path = Any (λ (op : Op). (op.store ≡ store) × IsTrue (is_
 -- A submission with such a base, decided after these outcomes as a conflict, names such a commit and such a path.
 abbrev pub ConflictsNameALaterCommit : Type 0
 ConflictsNameALaterCommit =
-    (world : List Domain) (ss : List Sent) (os : List Outcome) (s : Sent) (store : Store) (path : List Step) (kind : ClashKind) (commit : ℕ)
-    → IsBase world ss os s.base → outcome world ss os s ≡ Conflict store path kind commit
+    (world : List Domain) (live : ℕ → Bool) (ss : List Sent) (os : List Outcome) (s : Sent) (store : Store) (path : List Step) (kind : ClashKind) (commit : ℕ)
+    → IsBase world ss os s.base → outcome world live ss os s ≡ Conflict store path kind commit
     → IsLaterTouch world ss os s store path commit × IsOwnPlace s store path
 
 -- Each receipt of a log that was decided as a conflict names a commit that was done before it, came after the base of its
@@ -58,6 +58,6 @@ ConflictsOfALogNameALaterCommit =
 -- A submission that is done after these outcomes leaves trees without a breach, in both stores.
 abbrev pub DoneLeavesNoBreach : Type 0
 DoneLeavesNoBreach =
-    (world : List Domain) (ss : List Sent) (os : List Outcome) (s : Sent) (commit : ℕ) (store : Store)
-    → outcome world ss os s ≡ Done commit
+    (world : List Domain) (live : ℕ → Bool) (ss : List Sent) (os : List Outcome) (s : Sent) (commit : ℕ) (store : Store)
+    → outcome world live ss os s ≡ Done commit
     → breach (table_of world s.base.domain) store (tree_after store (opening_of world s.base.domain store) (done_ops s.base.domain ss os ++ s.ops ∷ [])) ≡ None

@@ -8,5 +8,8 @@ pub mod Laws
 pub mod Listeners
 pub mod Listening
 pub mod Outcome
+pub mod ServiceExamples
+pub mod ServiceLaws
+pub mod Services
 pub mod Submissions
 pub mod World

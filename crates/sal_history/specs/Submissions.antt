@@ -5,7 +5,7 @@ use Rattle.sal_types.specs.declared.value.Store.{Store}
 use Rattle.sal_types.specs.declared.row.Row.{Row}
 use Rattle.sal_rows.specs.declared.op.Op.{Op}
 use Rattle.sal_rows.specs.declared.outcome.Outcome.{Outcome}
-use Rattle.sal_rows.specs.declared.outcome.Outcome.TheVariants.{Done, Conflict, Invalid, ChainFailed}
+use Rattle.sal_rows.specs.declared.outcome.Outcome.TheVariants.{Done, Conflict, Invalid, ChainFailed, Unmounted}
 use Rattle.sal_rows.specs.Apply.{apply_ops}
 use Rattle.sal_rows.specs.Spans.{is_of_chain}
 
@@ -31,6 +31,7 @@ is_done (Done commit) = true
 is_done (Conflict store path kind commit) = false
 is_done (Invalid store path rule) = false
 is_done (ChainFailed receipt) = false
+is_done (Unmounted domain) = false
 
 -- what is of a submission with this outcome counts where it is done
 abbrev pub if_done : {X : Type 0} → Outcome → X → List X

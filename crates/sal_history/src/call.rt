@@ -1,5 +1,5 @@
 //! The shared calls, and the log of them.
-use sal_rows::{Mode, Ops};
+use sal_rows::{Mode, Ops, Rows};
 use sal_types::{Path, Seq, Store};
 
 /// A shared call: what one turn of the broker is asked. Tokens are numbers.
@@ -52,6 +52,58 @@ pub enum Call {
     /// Removes the listener.
     Unlisten {
         id: u64,
+    },
+    /// Registers the client as the one who answers the RPC in the context, or without one (`DOMRpcProviderService`). RPCs and
+    /// notifications are numbers of nodes of the controller's own schema, and contexts are paths of its own domain.
+    Provide {
+        rpc: u32,
+        context: Option<Path>,
+    },
+    /// Ends the client's registration.
+    Withdraw {
+        rpc: u32,
+        context: Option<Path>,
+    },
+    /// Makes a request (`DOMRpcService`). Its id is the number of requests that were made.
+    Invoke {
+        rpc: u32,
+        context: Option<Path>,
+        input: Rows,
+    },
+    /// Takes the next request that waits for the client.
+    NextCall,
+    /// Answers a request that the client took.
+    Answer {
+        id: u64,
+        output: Rows,
+    },
+    /// Asks for the answer to a request that the client made.
+    Collect {
+        id: u64,
+    },
+    /// Subscribes the client to the notification (`DOMNotificationService`).
+    Subscribe {
+        note: u32,
+    },
+    /// Offers a notification to its subscribers (`DOMNotificationPublishService`).
+    Offer {
+        note: u32,
+        rows: Rows,
+    },
+    /// Takes all notifications that wait for the client.
+    TakeNotes,
+    /// Mounts the device at the path of the controller's own domain (`DOMMountPointService`). It is the domain of the same number then.
+    Mount {
+        path: Path,
+        device: u32,
+    },
+    /// Unmounts the domain.
+    Unmount {
+        domain: u32,
+    },
+    /// Asks which domain is mounted at the path.
+    MountAt {
+        path: Path,
     },
     /// Leaves a mark in the log, by which clients can tell each other how far they are.
     Mark {

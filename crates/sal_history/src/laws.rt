@@ -1,6 +1,7 @@
 //! Laws of the log's meaning. Each function does nothing; its contract is the law.
 ghost use Rattle.sal_history.specs.ChainLaws.{CommitsStandInOrder, NoConflictInAChain, OwnCommitsAreOnTop};
 ghost use Rattle.sal_history.specs.Laws.{ConflictsNameALaterCommit, ConflictsOfALogNameALaterCommit, DoneLeavesNoBreach};
+ghost use Rattle.sal_history.specs.ServiceLaws.{AnswersAreCollected, CollectedAsGiven, HandedOnceInALog, HandedToItsProvider, TakenOnceInOrder};
 
 /// A conflict names a later commit, not of its own chain, that touched its path, which is one of the transaction's own or
 /// stands above one.
@@ -28,4 +29,25 @@ pub fn chains_keep_to_themselves()
     ensures base { OwnCommitsAreOnTop }
     ensures own { NoConflictInAChain }
     ensures order { CommitsStandInOrder }
+{}
+
+/// In each log, of a request (`DOMRpcService`): it is handed out at most once, and to the client whose registration its invocation
+/// found, for just its context or else without one. What is handed out was invoked before, and has the RPC, the context and the
+/// input of that invocation.
+pub fn requests_go_to_their_provider_once()
+    ensures provider { HandedToItsProvider }
+    ensures once { HandedOnceInALog }
+{}
+
+/// In each log, of an answer to a request: what is collected was given by an answer that was accepted before, and once there is one
+/// the client that made the request collects those very rows, each time.
+pub fn answers_are_collected_as_given()
+    ensures given { CollectedAsGiven }
+    ensures stays { AnswersAreCollected }
+{}
+
+/// In each log, of notifications (`DOMNotificationService`): what a client took, in order, and behind it what waits for it, is what
+/// was offered and not refused while it was subscribed. So nothing is lost, given twice or turned round.
+pub fn notifications_are_taken_once_in_order()
+    ensures { TakenOnceInOrder }
 {}

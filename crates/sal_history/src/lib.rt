@@ -5,15 +5,16 @@
 //! | `Call`, `Entry`, `Log` | a shared call; a call with its client; the calls in order |
 //! | `Reply` | what a shared call is answered |
 //! | `Device`, `Opening` | a domain's schema with its opening trees; its trees before the first commit |
-//! | `examples`, `chain_examples` | functions that do nothing, each with worked examples of a log's meaning as its contract |
+//! | `examples`, `chain_examples`, `listener_examples`, `service_examples` | functions that do nothing, each with worked examples of a log's meaning as its contract |
 //! | `laws` | functions that do nothing, each with a law of the log's meaning as its contract |
 //!
 //! `specs/History` answers a log entry by entry: receipts, outcomes, commits, trees, base and view of a transaction. It
 //! keeps the list of calls and nothing else: every tree is computed from the opening, every conflict by looking through the
 //! later commits. What it says:
 //!
-//! - The world is a list of domains, each with the table of its schema and its opening trees (`specs/World`). Domain 0 is
-//!   live, and a transaction cannot begin in any other.
+//! - The world is a list of domains, each with the table of its schema and its opening trees (`specs/World`). Domain 0, the
+//!   controller's own, is always live; that of a device is from its mount to its unmount, once. Transactions begin, and chains
+//!   and listeners are opened, in live domains alone.
 //! - A transaction without a chain stands on its domain's newest commit when it begins, and sees that commit's trees under
 //!   its own writes.
 //! - A chain (`DOMTransactionChain`) has one transaction at a time: the next one begins once the last is submitted or
@@ -26,11 +27,15 @@
 //! - A chain has failed once one of its submissions is decided as something else than done (`onTransactionChainFailed`).
 //!   The first such receipt is named to each later submission of the chain, in place of an outcome of its own, and to
 //!   whoever begins a transaction in it. A closed chain begins none either; what was begun or submitted stays.
+//! - Else where the submission's domain is not live any more when it is decided, the outcome is that it is unmounted.
 //! - Else an outcome is decided at the domain's newest commit (`specs/Outcome`), as the first of these that applies. A conflict
 //!   with a commit after the base names the store, the place, how that differs, and the commit (`sal_rows`). The commits
 //!   of the submission's own chain are cut out: it is checked against the spans between them. A breach of a structural rule
 //!   in the configuration after the operations, and else in the operational tree, names the store, the path and the rule
 //!   (`sal_rules`). Or it is done: both stores change together, as the next commit.
+//! - RPCs, notifications and mounts are services of their own (`sal_rpc`, `sal_note`, `sal_mount`), each over its own calls in
+//!   the order of the log: `specs/Services` says which of the shared calls are whose, and what their answers are as replies. No
+//!   call on one service, and no transaction, changes what another one answers, but for mounts, which make domains live.
 //! - A mark is found by whoever asks for it later.
 //!
 //! What a refused client is told. In each log, the commit that a receipt's conflict names was done before that receipt,
@@ -39,6 +44,10 @@
 //! conflicts with itself; unless it has failed, what one of its submissions saw of pending ones is what they left as
 //! commits; and commits stand in the order of receipts (`laws::chains_keep_to_themselves`). A submission that is decided as
 //! done leaves no breach, in either store (`laws::done_leaves_no_breach`).
+//!
+//! What a service keeps over each log. A request is handed out at most once, to the client whose registration its invocation found
+//! (`laws::requests_go_to_their_provider_once`). What was answered is what is collected (`laws::answers_are_collected_as_given`). A
+//! subscriber takes each notification that was offered to it once, and in order (`laws::notifications_are_taken_once_in_order`).
 //!
 //! Costs: none. Nothing here runs: definitions, examples and laws are read by the prover alone.
 #![tactic(auto)]
@@ -50,6 +59,7 @@ pub mod laws;
 pub mod listener_examples;
 pub mod opening;
 pub mod reply;
+pub mod service_examples;
 
 pub use call::{Call, Entry, Log};
 pub use opening::{Device, Opening};

@@ -1,5 +1,7 @@
 //! What a shared call is answered.
-use sal_rows::{Batch, CallFault, Opened, Outcome};
+use sal_note::NoteList;
+use sal_rows::{Batch, CallFault, Opened, Outcome, Rows};
+use sal_rpc::Request;
 use sal_types::Path;
 
 /// The answer to a shared call, as the log gives it.
@@ -31,7 +33,7 @@ pub enum Reply {
         domain: u32,
         outcome: Outcome,
     },
-    /// No receipt is pending.
+    /// No receipt is pending; no request waits; the request is not answered yet.
     Nothing,
     /// The listener has this id, and is given this for its beginning, of the path in the domain.
     Listener {
@@ -44,6 +46,31 @@ pub enum Reply {
     Batch {
         domain: u32,
         batch: Batch,
+    },
+    /// The request has this id.
+    CallMade {
+        id: u64,
+    },
+    /// The next request that waits.
+    Request {
+        request: Request,
+    },
+    /// The rows with which a request of the RPC was answered.
+    Output {
+        rpc: u32,
+        rows: Rows,
+    },
+    /// So many subscribers have got the notification.
+    Offered {
+        count: u32,
+    },
+    /// What waited for the client, in order.
+    Notes {
+        list: NoteList,
+    },
+    /// The domain that is mounted at the path, if one is.
+    MountAt {
+        mount: Option<u32>,
     },
     /// The mark was left before.
     Found,

@@ -17,14 +17,15 @@ use Rattle.sal_history.specs.declared.call.Entry.{Entry}
 use Rattle.sal_history.specs.declared.reply.Reply.{Reply}
 use Rattle.sal_history.specs.declared.reply.Reply.TheVariants.{Begun, Refused}
 use Rattle.sal_history.specs.World as world
-use Rattle.sal_history.specs.History.{Answered, began_at, began_by, commits, decided_by, entries_of, history, is_live, opened_chain, reply_to, sent_by, spends, trees_of}
+use Rattle.sal_history.specs.History.{Answered, began_at, began_by, commits, decided_by, entries_of, history, opened_chain, reply_to, sent_by, spends, trees_of}
+use Rattle.sal_history.specs.Services.{mount_call}
 use Rattle.sal_history.specs.Submissions.{Base}
 use Rattle.sal_hub.specs.declared.pipeline.Pipeline.{Pipeline}
 use Rattle.sal_hub.specs.declared.start.Footing.{Footing}
 use Rattle.sal_hub.specs.Answers.{Made}
 use Rattle.sal_hub.specs.Current.{IsCurrent, IsKept, answers, known_of}
 use Rattle.sal_hub.specs.Journals.{Noted, jotted, mark_at}
-use Rattle.sal_hub.specs.Lines.{IsStored, line_of, shown, world_in}
+use Rattle.sal_hub.specs.Lines.{IsStored, is_live_in, line_of, shown, world_in}
 use Rattle.sal_hub.specs.Starts.{IsNewest, Starts}
 use Rattle.sal_hub.specs.Tokens.{IsBegun, IsToken, base_of, begun_of}
 use Rattle.sal_hub.proofs.Deciding.{opening-at, table-at}
@@ -45,15 +46,15 @@ module _ (journal journal' : Noted) (p : Pipeline) (is : IsKept journal p) (clie
   abbrev entry : Entry
   entry = record { client = client; number = entries_of journal.log client; call = call }
 
-  -- one that submits, decides, spends and opens nothing
-  pub quiet_kept : sent_by (answers journal.log (line_of p)) call (reply_to (world_in (line_of p).domains) (answers journal.log (line_of p)) client call) ≡ None
+  -- one that is none on mounts, and submits, decides, spends and opens nothing
+  pub quiet_kept : mount_call call ≡ None → sent_by (answers journal.log (line_of p)) call (reply_to (world_in (line_of p).domains) (answers journal.log (line_of p)) client call) ≡ None
       → decided_by (world_in (line_of p).domains) (answers journal.log (line_of p)) call ≡ []
       → ((k : ℕ) → spends call (reply_to (world_in (line_of p).domains) (answers journal.log (line_of p)) client call) k ≡ false)
       → opened_chain call (reply_to (world_in (line_of p).domains) (answers journal.log (line_of p)) client call) ≡ None
       → ((k : ℕ) → mark_at journal'.marks k ≡ mark_at journal.marks k) → IsKept journal' p
-  quiet_kept none nothing unspent unopened marks = record {
+  quiet_kept unmounted none nothing unspent unopened marks = record {
     kept = is.kept;
-    current = subst (λ (l : List Entry). IsCurrent l journal'.marks (line_of p)) (sym log) (quiet journal.log journal.marks (line_of p) is.current entry journal'.marks none nothing unspent marks unopened);
+    current = subst (λ (l : List Entry). IsCurrent l journal'.marks (line_of p)) (sym log) (quiet journal.log journal.marks (line_of p) is.current entry journal'.marks unmounted none nothing unspent marks unopened);
   }
 
   pub made_now : (r : Reply) → length journal.log < 1000000 → reply_to (world_in (line_of p).domains) (answers journal.log (line_of p)) client call ≡ r → Made (known_of journal p) (known_of journal' p) (record { client = client; number = entries_of journal.log client; call = call }) r
@@ -102,9 +103,12 @@ module _ (journal : Noted) (p : Pipeline) (is : IsKept journal p) (domain : ℕ)
 
 module _ (journal journal' : Noted) (p : Pipeline) (is : IsKept journal p) (client domain : ℕ) (mode : Mode) (log : journal'.log ≡ jotted journal.log client (Begin domain mode)) where
   pub begin_kept : ((k : ℕ) → mark_at journal'.marks k ≡ mark_at journal.marks k) → IsKept journal' p
-  begin_kept marks = quiet_kept journal journal' p is client (Begin domain mode) log refl refl (λ k. refl) refl marks
+  begin_kept marks = quiet_kept journal journal' p is client (Begin domain mode) log refl refl refl (λ k. refl) refl marks
 
-  module _ (d : Domain) (live : is_live domain ≡ true) (at : slice_get (map shown p.domains.items) domain ≡ Some (shown d)) (tx : Tx) (footing : Footing) (newest : IsNewest d footing) (starts : Starts d footing None mode (length journal.log) tx) where
+  pub begin_refused : is_live_in (line_of p).domains domain ≡ false → reply_to (world_in (line_of p).domains) (answers journal.log (line_of p)) client (Begin domain mode) ≡ Refused (NoDomain domain)
+  begin_refused dead = ap (λ b. if b then Begun (length (commits (answers journal.log (line_of p)) domain)) None else Refused (NoDomain domain)) (sym (is.current.live domain) ∙ dead)
+
+  module _ (d : Domain) (live : is_live_in (line_of p).domains domain ≡ true) (at : slice_get (map shown p.domains.items) domain ≡ Some (shown d)) (tx : Tx) (footing : Footing) (newest : IsNewest d footing) (starts : Starts d footing None mode (length journal.log) tx) where
     abbrev there : List world.Domain
     there = world_in (line_of p).domains
 
@@ -118,7 +122,7 @@ module _ (journal journal' : Noted) (p : Pipeline) (is : IsKept journal p) (clie
     commit = starts.commit ∙ newest_commit journal p is domain d at footing newest
 
     reply_live : reply_to there so_far client (Begin domain mode) ≡ Begun (length (commits so_far domain)) None
-    reply_live = ap (λ b. if b then Begun (length (commits so_far domain)) None else Refused (NoDomain domain)) live
+    reply_live = ap (λ b. if b then Begun (length (commits so_far domain)) None else Refused (NoDomain domain)) (sym (is.current.live domain) ∙ live)
 
     trees : (s : Store) → rows_in (base_of tx) s ≡ trees_of there so_far domain s
     trees s = ap (λ (x : Pair). rows_in x s) starts.base ∙ same_rows footing.trees s ∙ newest_trees journal p is domain d at footing newest s

@@ -2,6 +2,7 @@
 use Rattle.std.proofs.Common.{◌≡◌, ℕ, ◌+◌, ◌-◌, ◌<◌, ◌≤◌, Bool, true, false, not, List, [], ◌∷◌, ◌++◌, length, map, get_or, Option, None, Some, refl, ap, sym, ◌∙◌, subst, arith, append-nil, length-append, if◌then◌else◌, nat_lt}
 use Rattle.std.specs.Prelude.{slice_get, option_and_then, unwrap_or}
 use Rattle.std.specs.Option.{option_map, option_map_or, option_or, option_to_list}
+use Rattle.std.proofs.lemmas.Bool.Decides.{nat_tests}
 use Rattle.std.proofs.lemmas.List.{length-map}
 use Rattle.std.proofs.lemmas.Option.{same_Some, slice_get_within}
 use Rattle.sal_types.specs.declared.value.Store.{Store}
@@ -20,31 +21,31 @@ use Rattle.sal_history.specs.declared.call.Entry.{Entry}
 use Rattle.sal_history.specs.declared.reply.Reply.TheVariants.{Begun, Chain as Opened, Refused}
 use Rattle.sal_history.specs.World as world
 use Rattle.sal_history.specs.History.{Answered, base_on, began_by, begins_in, chain_domains, chain_refusal, chained_base, domain_of, entries_of, failed_by, fault_if, has_open, is_closed, is_live, last_begun, newest_base, opened_chain, refused_or, reply_to, sents, stands_on}
-use Rattle.sal_history.specs.Submissions.{Base, failing, is_in, last_receipt}
+use Rattle.sal_history.specs.Submissions.{Base, Sent, failing, is_in, last_receipt}
 use Rattle.sal_hub.specs.declared.chain.Chain.{Chain}
 use Rattle.sal_hub.specs.declared.chains.Chains.{Chains}
 use Rattle.sal_hub.specs.declared.pipeline.Pipeline.{Pipeline}
 use Rattle.sal_hub.specs.declared.start.Footing.{Footing}
 use Rattle.sal_hub.specs.Answers.{Fails, Made}
-use Rattle.sal_hub.specs.Chains.{Adds, AreChains, IsFooting, is_open, pending_of}
+use Rattle.sal_hub.specs.Chains.{Adds, AreChains, IsFooting, IsInPlace, is_open, pending_of}
 use Rattle.sal_hub.specs.Current.{IsCurrent, IsKept, answers, known_of}
 use Rattle.sal_hub.specs.Failures.{IsWithin, flag_in, noted_in, noted_with}
 use Rattle.sal_hub.specs.Journals.{Noted, jotted, mark_at}
 use Rattle.sal_hub.specs.Known.{Known, more}
-use Rattle.sal_hub.specs.Lines.{AllKept, IsSound, Line, line_of, sent_of, sents_in, shown, world_in}
+use Rattle.sal_hub.specs.Lines.{AllKept, IsSound, Line, is_live_in, line_of, sent_of, sents_in, shown, world_in}
 use Rattle.sal_hub.specs.Starts.{Starts}
 use Rattle.sal_hub.specs.Tokens.{IsChain, IsFresh, IsToken, base_of, begun_of}
 use Rattle.sal_hub.proofs.Beginning.{made_now, newest_commit, newest_trees, quiet_kept, token_now}
 use Rattle.sal_hub.proofs.Chained.{adds_even, chains_now, steady}
 use Rattle.sal_hub.proofs.Deciding.{table-at}
 use Rattle.sal_hub.proofs.Histories.{now_of}
-use Rattle.sal_hub.proofs.Keeping.{or_false, pushed}
+use Rattle.sal_hub.proofs.Keeping.{or_false, pushed, still_live}
 use Rattle.sal_hub.proofs.Listed.{slice_get_seam}
-use Rattle.sal_hub.proofs.Members.{last_from-within}
+use Rattle.sal_hub.proofs.Members.{last_from-passes, last_from-within}
 use Rattle.sal_hub.proofs.Noted.{flag_at, flag_in-push, length-with, noted_at, noted_in-push, noted_in-with}
-use Rattle.sal_hub.proofs.Serving.{shown_at, some_domain}
+use Rattle.sal_hub.proofs.Serving.{live_within, shown_at}
 use Rattle.sal_hub.proofs.Settling.{kept_sent}
-use Rattle.sal_hub.proofs.Standing.{allowed_live, live_zero}
+use Rattle.sal_hub.proofs.Standing.{allowed_live}
 use Rattle.sal_hub.proofs.Starting.{same_rows}
 
 -- the known with the entry
@@ -63,24 +64,24 @@ module _ (journal journal' : Noted) (p : Pipeline) (is : IsKept journal p) (clie
   abbrev entry : Entry
   entry = record { client = client; number = entries_of journal.log client; call = OpenChain domain }
 
-  module _ (dead : is_live domain ≡ false) where
+  module _ (dead : is_live_in (line_of p).domains domain ≡ false) where
     pub unopened_reply : reply_to (world_in (line_of p).domains) (answers journal.log (line_of p)) client (OpenChain domain) ≡ Refused (NoDomain domain)
-    unopened_reply = ap (λ b. if b then Opened (length (chain_domains answered) + 1) else Refused (NoDomain domain)) dead
+    unopened_reply = ap (λ b. if b then Opened (length (chain_domains answered) + 1) else Refused (NoDomain domain)) (sym (is.current.live domain) ∙ dead)
 
     unopened : opened_chain (OpenChain domain) (reply_to w answered client (OpenChain domain)) ≡ None
     unopened = ap (opened_chain (OpenChain domain)) unopened_reply
 
     pub unopened_kept : ((k : ℕ) → mark_at journal'.marks k ≡ mark_at journal.marks k) → IsKept journal' p
-    unopened_kept marks = quiet_kept journal journal' p is client (OpenChain domain) log refl refl (λ k. refl) unopened marks
+    unopened_kept marks = quiet_kept journal journal' p is client (OpenChain domain) log refl refl refl (λ k. refl) unopened marks
 
     pub unopened_chains : (cs : Chains) → AreChains (known_of journal p) cs → AreChains (known_of journal' p) cs
     unopened_chains cs are =
         subst (λ known. AreChains known cs) (known_is journal journal' p p entry log refl)
         (steady (known_of journal p) entry cs are cs (record { domains = refl; closed = refl; begun = refl; sent = refl }) unopened (λ id. refl) (λ id. refl) refl)
 
-  module _ (p' : Pipeline) (live : is_live domain ≡ true) (kept : p'.domains ≡ p.domains) (same : p'.submissions ≡ p.submissions) (undecided : p'.outcomes ≡ p.outcomes) (failures : p'.failures.items ≡ p.failures.items ++ None ∷ []) where
+  module _ (p' : Pipeline) (live : is_live_in (line_of p).domains domain ≡ true) (kept : p'.domains ≡ p.domains) (same : p'.submissions ≡ p.submissions) (undecided : p'.outcomes ≡ p.outcomes) (failures : p'.failures.items ≡ p.failures.items ++ None ∷ []) where
     opened_reply : reply_to w answered client (OpenChain domain) ≡ Opened (length (chain_domains answered) + 1)
-    opened_reply = ap (λ b. if b then Opened (length (chain_domains answered) + 1) else Refused (NoDomain domain)) live
+    opened_reply = ap (λ b. if b then Opened (length (chain_domains answered) + 1) else Refused (NoDomain domain)) (sym (is.current.live domain) ∙ live)
 
     opened : opened_chain (OpenChain domain) (reply_to w answered client (OpenChain domain)) ≡ Some domain
     opened = ap (opened_chain (OpenChain domain)) opened_reply
@@ -101,7 +102,7 @@ module _ (journal journal' : Noted) (p : Pipeline) (is : IsKept journal p) (clie
     sound_now = record {
       some = is.current.sound.some;
       within = is.current.sound.within;
-      domains = λ n d at. let had = is.current.sound.domains n d at in record { number = had.number; live = had.live; commits = had.commits; chains = had.chains; receipts = had.receipts };
+      domains = λ n d at. let had = is.current.sound.domains n d at in record { number = had.number; commits = had.commits; chains = had.chains; receipts = had.receipts };
       submissions = λ i s at. let had = is.current.sound.submissions i s at in record { domain = had.domain; base = had.base; chain = subst (λ n. IsWithin n s.chain) (sym longer) (wider (length (line_of p).failures) s.chain had.chain); view = had.view; below = had.below };
       numbers = is.current.sound.numbers;
       failures = λ k. noted_in-push (line_of p).failures k ∙ is.current.sound.failures k;
@@ -112,7 +113,8 @@ module _ (journal journal' : Noted) (p : Pipeline) (is : IsKept journal p) (clie
       kept = subst (λ ds. AllKept ds) (λ i. (sym kept i).items) is.kept;
       current = subst (λ l. IsCurrent l journal'.marks (line_of p')) (sym log) (subst (IsCurrent (journal.log ++ entry ∷ []) journal'.marks) line_is
           (pushed journal.log journal.marks (line_of p) is.current entry line' journal'.marks sound_now refl (sym (append-nil (sents_in (line_of p)))) (sym (append-nil (line_of p).outcomes))
-          (λ k. marks k ∙ sym (or_false (mark_at journal.marks k))) (longer ∙ ap (λ (o : Option ℕ). length (line_of p).failures + length (option_to_list o)) (sym opened))));
+          (λ k. marks k ∙ sym (or_false (mark_at journal.marks k))) (longer ∙ ap (λ (o : Option ℕ). length (line_of p).failures + length (option_to_list o)) (sym opened))
+          (still_live journal.log journal.marks (line_of p) is.current entry line' refl (λ n. refl))));
     }
 
     same_world : world_in (line_of p').domains ≡ w
@@ -126,7 +128,8 @@ module _ (journal journal' : Noted) (p : Pipeline) (is : IsKept journal p) (clie
           (adds.domains ∙ ap (λ (o : Option ℕ). cs.domains.items ++ option_to_list o) (sym opened))
           (λ id. ap (λ xs. flag_in xs id) adds.closed ∙ flag_in-push cs.closed.items id ∙ sym (or_false (flag_in cs.closed.items id)))
           (λ id. ap (λ xs. noted_in xs id) adds.begun ∙ noted_in-push cs.begun.items id)
-          (λ id. ap (λ xs. noted_in xs id) adds.sent ∙ noted_in-push cs.sent.items id))
+          (λ id. ap (λ xs. noted_in xs id) adds.sent ∙ noted_in-push cs.sent.items id)
+          (λ b began. cc))
 
       id_is : length cs'.domains.items ≡ length (chain_domains answered) + 1
       id_is = ap length adds.domains ∙ length-append cs.domains.items (domain ∷ []) ∙ ap (λ (ds : List ℕ). length ds + 1) are.domains
@@ -188,25 +191,31 @@ module _ (journal : Noted) (p : Pipeline) (is : IsKept journal p) (cs : Chains) 
   domain_is = ap (λ (o : Option ℕ). unwrap_or o 0) token.1
 
   pub refused_by : (closed : Bool) (failed : Option ℕ) (waits : Bool) (live : Bool) → closed ≡ is_closed (answers journal.log (line_of p)) chain.id → failed ≡ failed_by (answers journal.log (line_of p)) chain.id
-      → waits ≡ has_open (answers journal.log (line_of p)) chain.id → live ≡ is_live chain.domain
-      → option_or (fault_if closed ChainClosed) (option_or (option_map ChainFailed failed) (option_or (fault_if waits PreviousOpen) (fault_if (not live) (NoDomain chain.domain)))) ≡ chain_refusal (answers journal.log (line_of p)) chain.id
+      → waits ≡ has_open (answers journal.log (line_of p)) chain.id → live ≡ is_live_in (line_of p).domains chain.domain
+      → option_or (fault_if closed ChainClosed) (option_or (option_map ChainFailed failed) (option_or (fault_if waits PreviousOpen) (fault_if (not live) (NoDomain chain.domain)))) ≡ chain_refusal (world_in (line_of p).domains) (answers journal.log (line_of p)) chain.id
   refused_by closed failed waits live a b c d =
-      let e : live ≡ is_live (domain_of done chain.id) = d ∙ ap is_live (sym domain_is) in
+      let e : live ≡ is_live here done (domain_of done chain.id) = d ∙ is.current.live chain.domain ∙ ap (is_live here done) (sym domain_is) in
       λ i. option_or (fault_if (a i) ChainClosed) (option_or (option_map ChainFailed (b i)) (option_or (fault_if (c i) PreviousOpen) (fault_if (not (e i)) (NoDomain (sym domain_is i)))))
 
 -- ---- the next transaction of a chain
 
-module _ (journal : Noted) (p : Pipeline) (is : IsKept journal p) (cs : Chains) (are : AreChains (known_of journal p) cs) (chain : Chain) (token : IsChain (known_of journal p) chain) (allowed : chain_refusal (answers journal.log (line_of p)) chain.id ≡ None) where
-  pub domain_zero : chain.domain ≡ 0
-  domain_zero = live_zero chain.domain (ap is_live (sym (domain_is journal p is cs are chain token)) ∙ allowed_live (answers journal.log (line_of p)) chain.id allowed)
+of_chain : (id : ℕ) (chain : Option ℕ) → is_of_chain (Some id) chain ≡ true → chain ≡ Some id
+of_chain id None e = cc
+of_chain id (Some k) e = let same : k ≡ id = grind (arith, nat_tests) in ap Some same
+
+module _ (journal : Noted) (p : Pipeline) (is : IsKept journal p) (cs : Chains) (are : AreChains (known_of journal p) cs) (chain : Chain) (token : IsChain (known_of journal p) chain) (allowed : chain_refusal (world_in (line_of p).domains) (answers journal.log (line_of p)) chain.id ≡ None) where
+  live_now : is_live_in (line_of p).domains chain.domain ≡ true
+  live_now =
+      is.current.live chain.domain ∙ ap (is_live (world_in (line_of p).domains) (answers journal.log (line_of p))) (sym (domain_is journal p is cs are chain token))
+      ∙ allowed_live (world_in (line_of p).domains) (answers journal.log (line_of p)) chain.id allowed
 
   pub domain_within : chain.domain < length p.domains.items
-  domain_within = omega (arith, domain_zero, some_domain journal p is)
+  domain_within = live_within journal p is chain.domain live_now
 
   pub domain_at : (d : Domain) → d ≡ get_or p.domains.items chain.domain d → slice_get (map shown p.domains.items) chain.domain ≡ Some (shown d)
   domain_at d at = shown_at p.domains.items chain.domain d domain_within at
 
-module _ (journal : Noted) (p : Pipeline) (is : IsKept journal p) (cs : Chains) (are : AreChains (known_of journal p) cs) (chain : Chain) (token : IsChain (known_of journal p) chain) (allowed : chain_refusal (answers journal.log (line_of p)) chain.id ≡ None)
+module _ (journal : Noted) (p : Pipeline) (is : IsKept journal p) (cs : Chains) (are : AreChains (known_of journal p) cs) (chain : Chain) (token : IsChain (known_of journal p) chain) (allowed : chain_refusal (world_in (line_of p).domains) (answers journal.log (line_of p)) chain.id ≡ None)
     (d : Domain) (at : slice_get (map shown p.domains.items) chain.domain ≡ Some (shown d)) (sent : Option ℕ) (sent_at : sent ≡ get_or cs.sent.items (chain.id - 1) sent) (footing : Footing) (stands : IsFooting (pending_of (length p.outcomes.items) sent) p d footing)
     (mode : Mode) (tx : Tx) (starts : Starts d footing (Some chain.id) mode (length journal.log) tx) (client : ℕ) where
   abbrev there : List world.Domain
@@ -231,8 +240,21 @@ module _ (journal : Noted) (p : Pipeline) (is : IsKept journal p) (cs : Chains) 
   on_footing None newest = newest.alone
   on_footing (Some n) on = on.2.pending
 
-  base_footing : (o : Option ℕ) → IsFooting o p d footing → base_on there so_far chain.id (option_and_then (λ n. slice_get (sents so_far) (n - 1)) o) ≡ begun_base
-  base_footing None newest =
+  -- the chain's last submission is in its domain
+  last_domain : (n : ℕ) (sub : Submission) → sent ≡ Some n → slice_get p.submissions.items (n - 1) ≡ Some sub → sub.domain ≡ chain.domain
+  last_domain n sub some here =
+      let (s, there, mine) = last_from-passes 1 (is_in (Some chain.id)) (sents so_far) n (sym (sent_is journal p is cs are chain token sent sent_at) ∙ some) in
+      let same : s ≡ sent_of sub = same_Some s (sent_of sub) (sym there ∙ kept_sent journal p is (n - 1) sub here) in
+      let own : slice_get (chain_domains so_far) (chain.id - 1) ≡ Some s.base.domain = are.places.sent (n - 1) s there chain.id (of_chain chain.id s.base.chain mine) in
+      same_Some sub.domain chain.domain (ap (λ (x : Sent). Some x.base.domain) (sym same) ∙ sym own ∙ token.1)
+
+  some_pending : (o : Option ℕ) (n : ℕ) → pending_of (length p.outcomes.items) o ≡ Some n → o ≡ Some n
+  some_pending None n e = cc
+  some_pending (Some k) n e =
+      elim (nat_lt (length p.outcomes.items) k) as (λ b. (if b then Some k else None) ≡ Some n → Some k ≡ Some n) [ true ↦ λ same. same | false ↦ λ none. cc ] e
+
+  base_footing : (o : Option ℕ) → ((n : ℕ) → o ≡ Some n → sent ≡ Some n) → IsFooting o p d footing → base_on there so_far chain.id (option_and_then (λ n. slice_get (sents so_far) (n - 1)) o) ≡ begun_base
+  base_footing None last newest =
       let domain : domain_of so_far chain.id ≡ chain.domain = domain_is journal p is cs are chain token in
       ap (λ n. newest_base there so_far n (Some chain.id)) domain
       ∙ (λ i. let b : Base = record {
@@ -241,19 +263,19 @@ module _ (journal : Noted) (p : Pipeline) (is : IsKept journal p) (cs : Chains) 
         chain = sym starts.chain i;
         trees = λ s. sym (trees s ∙ newest_trees journal p is chain.domain d at footing newest s) i;
       } in b)
-  base_footing (Some n) on =
+  base_footing (Some n) last on =
       let sub : Submission = on.0 in
       let had = is.current.sound.submissions (n - 1) sub on.1 in
       ap (base_on there so_far chain.id) (kept_sent journal p is (n - 1) sub on.1)
       ∙ (λ i. let b : Base = record {
-        domain = (had.domain ∙ sym (domain_zero journal p is cs are chain token allowed) ∙ sym number) i;
+        domain = (last_domain n sub (last n refl) on.1 ∙ sym number) i;
         commit = sym (starts.commit ∙ on.2.commit) i;
         chain = sym starts.chain i;
         trees = λ s. (sym (had.view s) ∙ ap (λ (x : Pair). kept_rows x s) (sym on.2.trees) ∙ sym (trees s)) i;
       } in b)
 
   base_is : chained_base there so_far chain.id ≡ begun_base
-  base_is = ap (λ (o : Option ℕ). base_on there so_far chain.id (option_and_then (λ n. slice_get (sents so_far) (n - 1)) o)) (sym stands_is) ∙ base_footing (pending_of (length p.outcomes.items) sent) stands
+  base_is = ap (λ (o : Option ℕ). base_on there so_far chain.id (option_and_then (λ n. slice_get (sents so_far) (n - 1)) o)) (sym stands_is) ∙ base_footing (pending_of (length p.outcomes.items) sent) (some_pending sent) stands
 
   on_is : (begun_of tx).on ≡ stands_on so_far chain.id
   on_is = starts.on ∙ on_footing (pending_of (length p.outcomes.items) sent) stands ∙ stands_is
@@ -267,12 +289,18 @@ module _ (journal : Noted) (p : Pipeline) (is : IsKept journal p) (cs : Chains) 
   began_is : began_by there so_far (ChainBegin chain.id mode) (reply_to there so_far client (ChainBegin chain.id mode)) ≡ Some begun_base
   began_is = ap (began_by there so_far (ChainBegin chain.id mode)) the_reply ∙ ap Some base_is
 
+  -- it is in the domain of the chain
+  begun_in_place : IsInPlace so_far begun_base
+  begun_in_place id of_chain =
+      let same : chain.id ≡ id = same_Some chain.id id (sym starts.chain ∙ of_chain) in
+      ap (λ n. slice_get (chain_domains so_far) (n - 1)) (sym same) ∙ token.1 ∙ ap Some (sym number)
+
   module _ (journal' : Noted) (log : journal'.log ≡ jotted journal.log client (ChainBegin chain.id mode)) where
     abbrev the_entry : Entry
     the_entry = record { client = client; number = entries_of journal.log client; call = ChainBegin chain.id mode }
 
     pub next_kept : ((k : ℕ) → mark_at journal'.marks k ≡ mark_at journal.marks k) → IsKept journal' p
-    next_kept marks = quiet_kept journal journal' p is client (ChainBegin chain.id mode) log refl refl (λ k. refl) refl marks
+    next_kept marks = quiet_kept journal journal' p is client (ChainBegin chain.id mode) log refl refl refl (λ k. refl) refl marks
 
     pub next_token : IsToken (known_of journal' p) tx
     next_token =
@@ -299,7 +327,8 @@ module _ (journal : Noted) (p : Pipeline) (is : IsKept journal p) (cs : Chains) 
         (λ id.
         ap (λ xs. noted_in xs id) begun ∙ noted_in-with cs.begun.items (Some chain.id) (length journal.log) id within
         ∙ ap (λ b. option_or (if b then Some (length journal.log) else None) (noted_in cs.begun.items id)) (sym (member id)))
-        (λ id. ap (λ xs. noted_in xs id) sents_same))
+        (λ id. ap (λ xs. noted_in xs id) sents_same)
+        (λ b began. subst (IsInPlace so_far) (same_Some begun_base b (sym began_is ∙ began)) begun_in_place))
 
     pub next_fresh : IsFresh (known_of journal p) chain.domain (Some chain.id) mode tx
     next_fresh = record { place = starts.place; domain = number; chain = starts.chain; mode = starts.mode; ops = starts.ops }
@@ -315,7 +344,7 @@ module _ (old new : Known) (e : Entry) where
   fails_of false None false true n f is made = let same : NoDomain n ≡ f = same_Some (NoDomain n) f is in subst (Fails old new e) same (subst (λ g. Made old new e (Refused g)) (sym same) made)
   fails_of false None false false n f is made = cc
 
-module _ (journal journal' : Noted) (p : Pipeline) (is : IsKept journal p) (client id : ℕ) (mode : Mode) (log : journal'.log ≡ jotted journal.log client (ChainBegin id mode)) (f : CallFault) (refused : chain_refusal (answers journal.log (line_of p)) id ≡ Some f) where
+module _ (journal journal' : Noted) (p : Pipeline) (is : IsKept journal p) (client id : ℕ) (mode : Mode) (log : journal'.log ≡ jotted journal.log client (ChainBegin id mode)) (f : CallFault) (refused : chain_refusal (world_in (line_of p).domains) (answers journal.log (line_of p)) id ≡ Some f) where
   abbrev earlier : List Answered
   earlier = answers journal.log (line_of p)
 
@@ -326,7 +355,7 @@ module _ (journal journal' : Noted) (p : Pipeline) (is : IsKept journal p) (clie
   refused_reply = ap (λ (o : Option CallFault). refused_or o (Begun (chained_base (world_in (line_of p).domains) earlier id).commit (stands_on earlier id))) refused
 
   pub refused_kept : ((k : ℕ) → mark_at journal'.marks k ≡ mark_at journal.marks k) → IsKept journal' p
-  refused_kept marks = quiet_kept journal journal' p is client (ChainBegin id mode) log refl refl (λ k. refl) refl marks
+  refused_kept marks = quiet_kept journal journal' p is client (ChainBegin id mode) log refl refl refl (λ k. refl) refl marks
 
   pub refused_chains : (cs : Chains) → AreChains (known_of journal p) cs → AreChains (known_of journal' p) cs
   refused_chains cs are =
@@ -336,5 +365,5 @@ module _ (journal journal' : Noted) (p : Pipeline) (is : IsKept journal p) (clie
 
   pub refused_fails : length journal.log < 1000000 → Fails (known_of journal p) (known_of journal' p) (record { client = client; number = entries_of journal.log client; call = ChainBegin id mode }) f
   refused_fails room =
-      fails_of (known_of journal p) (known_of journal' p) refused_entry (is_closed earlier id) (failed_by earlier id) (has_open earlier id) (not (is_live (domain_of earlier id))) (domain_of earlier id) f refused
+      fails_of (known_of journal p) (known_of journal' p) refused_entry (is_closed earlier id) (failed_by earlier id) (has_open earlier id) (not (is_live (world_in (line_of p).domains) earlier (domain_of earlier id))) (domain_of earlier id) f refused
       (made_now journal journal' p is client (ChainBegin id mode) log (Refused f) room refused_reply)

@@ -7,16 +7,17 @@ use Rattle.sal_rows.specs.Spans.{is_of_chain}
 use Rattle.sal_history.specs.declared.call.Entry.{Entry}
 use Rattle.sal_history.specs.declared.reply.Reply.{Reply}
 use Rattle.sal_history.specs.World.{Domain}
-use Rattle.sal_history.specs.History.{Answered, began_at, begins_in, closes, history, opened_chain, reply_to, sent_by, sents}
+use Rattle.sal_history.specs.History.{Answered, began_at, began_by, begins_in, closes, history, opened_chain, reply_to, sent_by, sents}
 use Rattle.sal_history.specs.Submissions.{Base, Sent, is_in, last_receipt}
 use Rattle.sal_hub.specs.declared.chains.Chains.{Chains}
-use Rattle.sal_hub.specs.Chains.{Adds, AreChains, AreEven, AreSame}
+use Rattle.sal_hub.specs.Chains.{Adds, AreChains, AreEven, AreSame, IsInPlace}
 use Rattle.sal_hub.specs.Failures.{IsWithin, flag_in, noted_in}
 use Rattle.sal_hub.specs.Known.{Known, more}
 use Rattle.sal_hub.proofs.Histories.{begun-push, chains-push, closed-push, now_of, sents-push}
 use Rattle.sal_hub.proofs.Keeping.{or_false}
 use Rattle.sal_hub.proofs.Members.{last_from-push, last_from-some}
 use Rattle.sal_hub.proofs.Noted.{noted_within}
+use Rattle.sal_hub.proofs.Placed.{places_now}
 
 -- what a submission adds to the last receipt of a chain
 abbrev pub sent_in : ℕ → ℕ → Option Sent → Option ℕ
@@ -45,8 +46,9 @@ module _ (known : Known) (e : Entry) (cs : Chains) (are : AreChains known cs) wh
       → ((id : ℕ) → flag_in cs'.closed.items id ≡ (flag_in cs.closed.items id || closes e.call (reply_to known.world (history known.world known.log) e.client e.call) id))
       → ((id : ℕ) → noted_in cs'.begun.items id ≡ option_or (if begins_in id (now_of known.world (history known.world known.log) e) then Some (length known.log) else None) (noted_in cs.begun.items id))
       → ((id : ℕ) → noted_in cs'.sent.items id ≡ option_or (sent_in (length (sents (history known.world known.log))) id (sent_by (history known.world known.log) e.call (reply_to known.world (history known.world known.log) e.client e.call))) (noted_in cs.sent.items id))
+      → ((b : Base) → began_by known.world (history known.world known.log) e.call (reply_to known.world (history known.world known.log) e.client e.call) ≡ Some b → IsInPlace (history known.world known.log) b)
       → AreChains (more known e) cs'
-  chains_now cs' even domains closed begun sent = record {
+  chains_now cs' even domains closed begun sent begins = record {
     even = even;
     domains = domains ∙ ap (λ (ds : List ℕ). ds ++ option_to_list (opened_chain e.call r)) are.domains ∙ sym (chains-push w known.log e);
     closed = λ id. closed id ∙ ap (λ b. b || closes e.call r id) (are.closed id) ∙ sym (closed-push w known.log e id);
@@ -54,6 +56,7 @@ module _ (known : Known) (e : Entry) (cs : Chains) (are : AreChains known cs) wh
     sent = λ id.
         sent id ∙ ap (option_or (sent_in (length (sents answered)) id (sent_by answered e.call r))) (are.sent id)
         ∙ sym (receipt-push (sents answered) (sent_by answered e.call r) id) ∙ ap (λ (ss : List Sent). last_receipt ss (Some id)) (sym (sents-push w known.log e));
+    places = places_now w known.log e are.places begins;
   }
 
   -- a call that opens, closes, begins and submits nothing of chains
@@ -73,6 +76,10 @@ module _ (known : Known) (e : Entry) (cs : Chains) (are : AreChains known cs) wh
       (λ id. ap (λ xs. flag_in xs id) same.closed ∙ sym (or_false (flag_in cs.closed.items id)) ∙ ap (λ b. flag_in cs.closed.items id || b) (sym (unclosed id)))
       (λ id. ap (λ xs. noted_in xs id) same.begun ∙ ap (λ b. option_or (if b then Some (length known.log) else None) (noted_in cs.begun.items id)) (sym (unbegun id)))
       (λ id. ap (λ xs. noted_in xs id) same.sent ∙ ap (λ (o : Option Sent). option_or (sent_in (length (sents answered)) id o) (noted_in cs.sent.items id)) (sym unsent))
+      (λ b began id of_chain. let none : nat_eq id id ≡ false = (λ i. of_one id (sym of_chain i)) ∙ (λ i. option_map_or (λ (x : Base). is_of_chain (Some id) x.chain) (sym began i) false) ∙ unbegun id in let own : nat_eq id id ≡ true = grind (arith, nat_tests) in cc)
+    where
+      of_one : ℕ → Option ℕ → Bool
+      of_one id chain = is_of_chain (Some id) chain
 
 -- as it is
 pub same_chains : (cs : Chains) → AreSame cs cs
@@ -90,6 +97,7 @@ chains_as known cs cs' same are = record {
   closed = λ id. ap (λ xs. flag_in xs id) same.closed ∙ are.closed id;
   begun = λ id. ap (λ xs. noted_in xs id) same.begun ∙ are.begun id;
   sent = λ id. ap (λ xs. noted_in xs id) same.sent ∙ are.sent id;
+  places = are.places;
 }
 
 -- ---- members

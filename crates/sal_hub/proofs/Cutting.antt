@@ -1,5 +1,5 @@
 -- Domains that are cut back to commits that they had.
-use Rattle.std.proofs.Common.{◌≡◌, ℕ, zero, suc, ◌+◌, ◌-◌, ◌<◌, ◌≤◌, List, [], ◌∷◌, ◌++◌, length, map, get_or, set, take, Option, Some, refl, ap, sym, ◌∙◌, subst, arith, append_assoc, append-nil}
+use Rattle.std.proofs.Common.{◌≡◌, ℕ, zero, suc, ◌+◌, ◌-◌, ◌<◌, ◌≤◌, Bool, List, [], ◌∷◌, ◌++◌, length, map, get_or, set, take, Option, Some, refl, ap, sym, ◌∙◌, subst, arith, append_assoc, append-nil}
 use Rattle.std.specs.Prelude.{slice_get}
 use Rattle.std.specs.Option.{option_map}
 use Rattle.std.proofs.lemmas.List.{get_or-take, length-map, length-take, map-append, map-set, take-map, take_more}
@@ -20,7 +20,7 @@ use Rattle.sal_history.specs.History.{decide_front, decide_next}
 use Rattle.sal_history.specs.Submissions.{Sent}
 use Rattle.sal_hub.specs.declared.pipeline.Pipeline.{Pipeline}
 use Rattle.sal_hub.specs.Failures.{cut_failures}
-use Rattle.sal_hub.specs.Lines.{AllKept, AreDecided, HasGrown, HaveGrown, IsSound, Line, Shown, counts_of, cut_all, line_of, sent_of, sents_in, shown, world_in}
+use Rattle.sal_hub.specs.Lines.{AllKept, AreDecided, HasGrown, HaveGrown, IsSound, Line, Shown, counts_of, cut_all, is_live_in, line_of, sent_of, sents_in, shown, world_in}
 use Rattle.sal_hub.proofs.Listed.{Grows-then, length-Grows, slice_get_at, take-Grows}
 use Rattle.sal_hub.proofs.Noted.{cut_twice}
 
@@ -141,33 +141,35 @@ HasGrown-then a b c g h = record {
       ∙ ap (cut_failures (length a.outcomes)) h.failures ∙ g.failures;
 }
 
-decide_next-plus : (world : List Domain) (ss : List Sent) (os : List Outcome) (m n : ℕ) → decide_next world ss os (m + n) ≡ decide_next world ss os m ++ decide_next world ss (os ++ decide_next world ss os m) n
-decide_next-plus world ss os zero n =
+decide_next-plus : (world : List Domain) (live : ℕ → Bool) (ss : List Sent) (os : List Outcome) (m n : ℕ) → decide_next world live ss os (m + n) ≡ decide_next world live ss os m ++ decide_next world live ss (os ++ decide_next world live ss os m) n
+decide_next-plus world live ss os zero n =
     let e : 0 + n ≡ n = omega arith in
-    ap (decide_next world ss os) e ∙ ap (λ (us : List Outcome). decide_next world ss us n) (sym (append-nil os))
-decide_next-plus world ss os (suc m) n =
+    ap (decide_next world live ss os) e ∙ ap (λ (us : List Outcome). decide_next world live ss us n) (sym (append-nil os))
+decide_next-plus world live ss os (suc m) n =
     let e : suc m + n ≡ suc (m + n) = omega arith in
-    let front : List Outcome = decide_front world ss os (slice_get ss (length os)) in
-    ap (decide_next world ss os) e
-    ∙ ap (λ (us : List Outcome). front ++ us) (decide_next-plus world ss (os ++ front) m n)
-    ∙ sym (append_assoc front (decide_next world ss (os ++ front) m) (decide_next world ss ((os ++ front) ++ decide_next world ss (os ++ front) m) n))
-    ∙ ap (λ (us : List Outcome). (front ++ decide_next world ss (os ++ front) m) ++ decide_next world ss us n) (append_assoc os front (decide_next world ss (os ++ front) m))
+    let front : List Outcome = decide_front world live ss os (slice_get ss (length os)) in
+    ap (decide_next world live ss os) e
+    ∙ ap (λ (us : List Outcome). front ++ us) (decide_next-plus world live ss (os ++ front) m n)
+    ∙ sym (append_assoc front (decide_next world live ss (os ++ front) m) (decide_next world live ss ((os ++ front) ++ decide_next world live ss (os ++ front) m) n))
+    ∙ ap (λ (us : List Outcome). (front ++ decide_next world live ss (os ++ front) m) ++ decide_next world live ss us n) (append_assoc os front (decide_next world live ss (os ++ front) m))
 
 pub AreDecided-none : (line : Line) → IsSound line → AreDecided line 0 line
-AreDecided-none line sound = record { sound = sound; world = refl; submissions = refl; outcomes = sym (append-nil line.outcomes); chains = refl }
+AreDecided-none line sound = record { sound = sound; world = refl; live = λ n. refl; submissions = refl; outcomes = sym (append-nil line.outcomes); chains = refl }
 
 pub AreDecided-then : (a b c : Line) (m n k : ℕ) → k ≡ m + n → AreDecided a m b → AreDecided b n c → AreDecided a k c
 AreDecided-then a b c m n k sum g h =
     let ss : List Sent = sents_in a in
     let w : List Domain = world_in a.domains in
+    let l : ℕ → Bool = is_live_in a.domains in
     record {
       sound = h.sound;
       world = h.world ∙ g.world;
+      live = λ d. h.live d ∙ g.live d;
       submissions = h.submissions ∙ g.submissions;
       outcomes =
-          h.outcomes ∙ (λ i. g.outcomes i ++ decide_next (g.world i) (map sent_of (g.submissions i)) (g.outcomes i) n)
-          ∙ append_assoc a.outcomes (decide_next w ss a.outcomes m) (decide_next w ss (a.outcomes ++ decide_next w ss a.outcomes m) n)
-          ∙ ap (λ (us : List Outcome). a.outcomes ++ us) (sym (decide_next-plus w ss a.outcomes m n) ∙ ap (decide_next w ss a.outcomes) (sym sum));
+          h.outcomes ∙ (λ i. g.outcomes i ++ decide_next (g.world i) (λ d. g.live d i) (map sent_of (g.submissions i)) (g.outcomes i) n)
+          ∙ append_assoc a.outcomes (decide_next w l ss a.outcomes m) (decide_next w l ss (a.outcomes ++ decide_next w l ss a.outcomes m) n)
+          ∙ ap (λ (us : List Outcome). a.outcomes ++ us) (sym (decide_next-plus w l ss a.outcomes m n) ∙ ap (decide_next w l ss a.outcomes) (sym sum));
       chains = h.chains ∙ g.chains;
     }
 

@@ -1,7 +1,7 @@
 -- What one more decision does.
 use Rattle.std.proofs.Common.{◌≡◌, ℕ, zero, suc, ◌+◌, ◌-◌, ◌<◌, ◌≤◌, true, false, List, [], ◌∷◌, ◌++◌, length, map, get_or, set, Option, None, Some, refl, ap, sym, ◌∙◌, subst, arith, append_assoc, append-nil, length-append, if◌then◌else◌, nat_eq, inl, inr}
 use Rattle.std.specs.Prelude.{not, slice_get, unwrap_or, ◌&&◌}
-use Rattle.std.specs.Option.{option_map, option_or}
+use Rattle.std.specs.Option.{option_map, option_map_or, option_or}
 use Rattle.std.proofs.lemmas.Option.{same_Some, slice_get-map, slice_get_within, get_or_from_slice_get}
 use Rattle.std.proofs.lemmas.Bool.Decides.{nat_tests}
 use Rattle.std.proofs.lemmas.List.{length-map, length-set, map-append, map-set}
@@ -22,11 +22,11 @@ use Rattle.sal_commit.specs.Domains.{IsSame}
 use Rattle.sal_commit.specs.Stamps.{IsNewStamp, receipts_of, stamp_of}
 use Rattle.sal_history.specs.Outcome as rules
 use Rattle.sal_history.specs.World.{opening_of, table_of}
-use Rattle.sal_history.specs.History.{decide_front, is_live, outcome}
+use Rattle.sal_history.specs.History.{decide_front, outcome, unmounted_of}
 use Rattle.sal_history.specs.Submissions.{Sent, done, failing, if_done, is_done, is_in}
 use Rattle.sal_hub.specs.declared.pipeline.Pipeline.{Pipeline}
 use Rattle.sal_hub.specs.Failures.{IsWithin, cut_failures, failure_of, failures_after, noted_in, up_to}
-use Rattle.sal_hub.specs.Lines.{AllKept, AreDecided, Grows, HasGrown, HaveGrown, IsSound, IsStored, Line, Shown, Stands, chains_in, commits_in, line_of, opened_as, receipts_in, sent_of, sents_in, shown, world_in}
+use Rattle.sal_hub.specs.Lines.{AllKept, AreDecided, Grows, HasGrown, HaveGrown, IsSound, IsStored, Line, Shown, Stands, chains_in, commits_in, is_live_in, line_of, opened_as, receipts_in, sent_of, sents_in, shown, world_in}
 use Rattle.sal_hub.proofs.Listed.{slice_get-set, slice_get_at}
 use Rattle.sal_hub.proofs.Members.{failing-decide, failing-fixed, failing-none}
 use Rattle.sal_hub.proofs.Noted.{cut_after, cut_fixed, length-after, noted_in-after}
@@ -44,6 +44,23 @@ pub table-at : (ds : List Shown) (n : ℕ) (d : Shown) → slice_get ds n ≡ So
 table-at [] n d e = cc
 table-at (x ∷ ds) zero d e = ap (λ (y : Shown). y.table) (same_Some x d e)
 table-at (x ∷ ds) (suc n) d e = table-at ds n d e
+
+-- the flag of a domain
+pub live-here : (ds : List Shown) (n : ℕ) (d : Shown) → slice_get ds n ≡ Some d → is_live_in ds n ≡ d.live
+live-here ds n d e = ap (λ (o : Option Shown). option_map_or (λ (x : Shown). x.live) o false) e
+
+pub live-within : (ds : List Shown) (n : ℕ) → is_live_in ds n ≡ true → n < length ds
+live-within [] n live = cc
+live-within (x ∷ ds) zero live = omega arith
+live-within (x ∷ ds) (suc n) live = omega (arith, live-within ds n live)
+
+-- where one domain is replaced by one with its flag
+pub live-set : (ds : List Shown) (i : ℕ) (d e : Shown) → slice_get ds i ≡ Some d → e.live ≡ d.live → (n : ℕ) → is_live_in (set ds i e) n ≡ is_live_in ds n
+live-set [] i d e at same n = refl
+live-set (x ∷ ds) zero d e at same zero = same ∙ ap (λ (y : Shown). y.live) (sym (same_Some x d at))
+live-set (x ∷ ds) zero d e at same (suc n) = refl
+live-set (x ∷ ds) (suc i) d e at same zero = refl
+live-set (x ∷ ds) (suc i) d e at same (suc n) = live-set ds i d e at same n
 
 -- ---- commits
 
@@ -121,11 +138,8 @@ module _ (line : Line) (sound : IsSound line) (sub : Submission) (next : slice_g
   stands = sound.submissions (length line.outcomes) sub next
 
   -- the commits of its domain
-  commits-here : ops_of d.commits.items ≡ commits_in line 0
-  commits-here = stored.commits ∙ ap (commits_in line) stands.domain
-
-  long : length d.commits.items - 1 ≡ length (commits_in line 0)
-  long = sym (length-ops_of d.commits.items kept.opened) ∙ ap length commits-here
+  long : length d.commits.items - 1 ≡ length (commits_in line sub.domain)
+  long = sym (length-ops_of d.commits.items kept.opened) ∙ ap length stored.commits
 
   pub can_decide : IsFor d sub
   can_decide = record {
@@ -149,11 +163,12 @@ module _ (line : Line) (sound : IsSound line) (sub : Submission) (next : slice_g
   failed-here None = sym (failing-none 1 (sents_in line) line.outcomes)
   failed-here (Some k) = sound.failures k
 
-  pub outcome-here : commit.decide (failure_of line.failures sub.chain) d sub ≡ outcome (world_in line.domains) (sents_in line) line.outcomes (sent_of sub)
+  pub outcome-here : commit.decide (failure_of line.failures sub.chain) d sub ≡ outcome (world_in line.domains) (is_live_in line.domains) (sents_in line) line.outcomes (sent_of sub)
   outcome-here =
       let table : d.schema.value ≡ table_of (world_in line.domains) sub.domain = sym (table-at line.domains sub.domain (shown d) at) in
       let opening : opening_in d.commits.items ≡ opening_of (world_in line.domains) sub.domain = λ i s. sym (opening-at line.domains sub.domain (shown d) s at) i in
-      λ i. unwrap_or (option_map ChainFailed (failed-here sub.chain i)) (rules.decide (table i) (opening i) (stored.commits i) (rows_in sub.base) (spans sub.base_commit sub.chain (stored.chains i)) sub.changes)
+      let live : d.live ≡ is_live_in line.domains sub.domain = sym (live-here line.domains sub.domain (shown d) at) in
+      λ i. unwrap_or (option_or (option_map ChainFailed (failed-here sub.chain i)) (unmounted_of (live i) (stored.number i))) (rules.decide (table i) (opening i) (stored.commits i) (rows_in sub.base) (spans sub.base_commit sub.chain (stored.chains i)) sub.changes)
 
   sent-here : slice_get (sents_in line) (length line.outcomes) ≡ Some (sent_of sub)
   sent-here = slice_get-map sent_of line.submissions (length line.outcomes) ∙ ap (option_map sent_of) next
@@ -189,7 +204,6 @@ module _ (line : Line) (sound : IsSound line) (sub : Submission) (next : slice_g
       | inl w ↦
           subst (IsStored now n) w.1 (record {
             number = after.same.number ∙ stored.number ∙ sym w.0;
-            live = after.same.live ∙ stored.live ∙ ap is_live (sym w.0);
             commits =
                 after.commits ∙ ap (λ (cs : List (List Op)). cs ++ if_done o sub.changes) (stored.commits ∙ ap (commits_in line) (sym w.0))
                 ∙ ap (λ (cs : List (List Op)). commits_in line n ++ cs) (sym (told-here ops_in n (sent_of sub) o w.0)) ∙ sym (commits-more n);
@@ -204,7 +218,6 @@ module _ (line : Line) (sound : IsSound line) (sub : Submission) (next : slice_g
           let was = sound.domains n e w.1 in
           record {
             number = was.number;
-            live = was.live;
             commits = was.commits ∙ sym (append-nil (commits_in line n)) ∙ ap (λ (cs : List (List Op)). commits_in line n ++ cs) (sym (told-other ops_in n (sent_of sub) o w.0)) ∙ sym (commits-more n);
             chains = was.chains ∙ sym (append-nil (chains_in line n)) ∙ ap (λ (cs : List (Option ℕ)). chains_in line n ++ cs) (sym (told-other chain_of n (sent_of sub) o w.0)) ∙ sym (chains-more n);
             receipts = was.receipts ∙ sym (append-nil (receipts_in line n)) ∙ ap (λ (rs : List ℕ). receipts_in line n ++ rs) (sym (receipt-other n (sent_of sub) o sub.receipt w.0)) ∙ sym (receipts-more n);
@@ -216,8 +229,8 @@ module _ (line : Line) (sound : IsSound line) (sub : Submission) (next : slice_g
 
     stands-now : (s : Submission) → Stands line s → Stands now s
     stands-now s was = record {
-      domain = was.domain;
-      base = omega (arith, was.base, ap length (commits-more 0), length-append (commits_in line 0) (map ops_in (added 0 (sent_of sub) o)));
+      domain = omega (arith, was.domain, length-set line.domains sub.domain (shown d'));
+      base = omega (arith, was.base, ap length (commits-more s.domain), length-append (commits_in line s.domain) (map ops_in (added s.domain (sent_of sub) o)));
       chain = subst (λ n. IsWithin n s.chain) (sym as_many) was.chain;
       view = was.view;
       below = was.below;
@@ -241,10 +254,11 @@ module _ (line : Line) (sound : IsSound line) (sub : Submission) (next : slice_g
         failures = failures-now;
       };
       world = world-same;
+      live = live-set line.domains sub.domain (shown d) (shown d') at after.same.live;
       submissions = refl;
       outcomes =
           ap (λ (x : Outcome). line.outcomes ++ x ∷ []) (is ∙ outcome-here)
-          ∙ ap (λ (next_one : Option Sent). line.outcomes ++ (decide_front (world_in line.domains) (sents_in line) line.outcomes next_one ++ [])) (sym sent-here);
+          ∙ ap (λ (next_one : Option Sent). line.outcomes ++ (decide_front (world_in line.domains) (is_live_in line.domains) (sents_in line) line.outcomes next_one ++ [])) (sym sent-here);
       chains = as_many;
     }
 
@@ -267,7 +281,7 @@ module _ (p : Pipeline) (kept : AllKept p.domains.items) (sound : IsSound (line_
   next = ap (slice_get p.submissions.items) (sym here) ∙ slice_get_at p.submissions.items index sub given sub_is
 
   pub domain_within : sub.domain < length p.domains.items
-  domain_within = omega (arith, (sound.submissions (length p.outcomes.items) sub next).domain, sound.some, length-map p.domains.items shown)
+  domain_within = omega (arith, (sound.submissions (length p.outcomes.items) sub next).domain, length-map p.domains.items shown)
 
   pub within_here : IsWithin (length p.failures.items) sub.chain
   within_here = (sound.submissions (length p.outcomes.items) sub next).chain

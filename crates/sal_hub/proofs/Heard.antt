@@ -1,5 +1,5 @@
 -- The calls of listeners: what is kept of them stays the log's.
-use Rattle.std.proofs.Common.{◌≡◌, ℕ, ◌+◌, ◌-◌, ◌<◌, ◌≤◌, true, false, not, cond, List, [], ◌∷◌, ◌++◌, length, map, get_or, set, Option, None, Some, refl, ap, sym, ◌∙◌, subst, arith, append-nil, inl, inr, if◌then◌else◌, nat_eq}
+use Rattle.std.proofs.Common.{◌≡◌, ℕ, ◌+◌, ◌-◌, ◌<◌, ◌≤◌, Bool, true, false, not, cond, List, [], ◌∷◌, ◌++◌, length, map, get_or, set, Option, None, Some, refl, ap, sym, ◌∙◌, subst, arith, append-nil, inl, inr, if◌then◌else◌, nat_eq}
 use Rattle.std.specs.Prelude.{◌&&◌, ◌||◌, slice_get, sum_by, unwrap_or}
 use Rattle.std.specs.Option.{option_map, option_map_or, option_to_list}
 use Rattle.std.proofs.lemmas.Bool.Decides.{nat_tests}
@@ -13,7 +13,7 @@ use Rattle.sal_history.specs.declared.call.Call.TheVariants.{Take, Unlisten}
 use Rattle.sal_history.specs.declared.call.Entry.{Entry}
 use Rattle.sal_history.specs.declared.reply.Reply.{Reply}
 use Rattle.sal_history.specs.declared.reply.Reply.TheVariants.{Accepted, Batch as Told, Listener as Made}
-use Rattle.sal_history.specs.History.{Answered, commits, history, listen_refusal, reply_to}
+use Rattle.sal_history.specs.History.{Answered, commits, history, is_live, listen_refusal, reply_to}
 use Rattle.sal_history.specs.Listeners.{Listening, brings_to, has_listener, is_removed, listener_at, listeners, listens, live_listeners, removes, removes_one, version}
 use Rattle.sal_hub.specs.declared.listener.Listener.{Listener}
 use Rattle.sal_hub.specs.declared.listener.ListenerId.{ListenerId}
@@ -39,8 +39,8 @@ module _ (known : Known) (ls : Listeners) (are : AreListeners known ls) where
   live_is : ls.live ≡ live_listeners answered
   live_is = omega (arith, are.all)
 
-  pub refusal_is : (domain : ℕ) → refusal_by domain ls.live ≡ listen_refusal (history known.world known.log) domain
-  refusal_is domain = ap (refusal_by domain) live_is
+  pub refusal_is : (live : Bool) (domain : ℕ) → live ≡ is_live known.world (history known.world known.log) domain → refusal_by live domain ls.live ≡ listen_refusal known.world (history known.world known.log) domain
+  refusal_is live domain is = λ i. refusal_by (is i) domain (live_is i)
 
   pub listener_is : (number : ℕ) (l : Listener) → slice_get ls.list.items (number - 1) ≡ Some l → listener_at (history known.world known.log) number ≡ Some (listening_of l)
   listener_is number l at =

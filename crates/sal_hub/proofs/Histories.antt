@@ -8,9 +8,12 @@ use Rattle.std.proofs.lemmas.List.Folds.{list_any-append}
 use Rattle.std.proofs.lemmas.List.Sums.{fold-append}
 use Rattle.std.proofs.lemmas.List.Elements.{filter_map-append}
 use Rattle.sal_rows.specs.declared.outcome.Outcome.{Outcome}
+use Rattle.sal_mount.specs.Mounts as mounts
+use Rattle.sal_mount.specs.declared.call.MountCall.{MountCall}
 use Rattle.sal_history.specs.declared.call.Entry.{Entry}
 use Rattle.sal_history.specs.World.{Domain}
-use Rattle.sal_history.specs.History.{Answered, answer, answered_as, began_at, begins_in, chain_domains, closes, decided_by, history, is_closed, is_marked, is_spent, last_begun, marks, opened_chain, outcomes, reply_to, sent_by, sents, spends}
+use Rattle.sal_history.specs.History.{Answered, answer, answered_as, began_at, begins_in, chain_domains, closes, decided_by, history, is_closed, is_live, is_marked, is_spent, last_begun, marks, opened_chain, outcomes, reply_to, sent_by, sents, spends}
+use Rattle.sal_history.specs.Services.{mount_call, mounting, note_asked, note_calls, rpc_asked, rpc_calls}
 use Rattle.sal_history.specs.Submissions.{Sent}
 use Rattle.sal_hub.proofs.Listed.{slice_get_left}
 use Rattle.sal_hub.proofs.Members.{last_from-push}
@@ -58,6 +61,32 @@ module _ (world : List Domain) where
       ap (λ (answered : List Answered). is_closed answered id) (history-push log e)
       ∙ list_any-append (λ (a : Answered). closes a.entry.call a.reply id) (history world log) (now_of (history world log) e ∷ [])
       ∙ elim (closes e.call (reply_to world (history world log) e.client e.call) id) as (λ b. (is_closed (history world log) id || (b || false)) ≡ (is_closed (history world log) id || b)) [ true ↦ refl | false ↦ refl ]
+
+  -- ---- domains that are live
+
+  pub mounting-push : (log : List Entry) (e : Entry) → mounting (history world (log ++ e ∷ [])) ≡ mounting (history world log) ++ option_to_list (mount_call e.call)
+  mounting-push log e =
+      ap mounting (history-push log e) ∙ filter_map-append (λ (a : Answered). mount_call a.entry.call) (history world log) (now_of (history world log) e ∷ [])
+      ∙ listed (mounting (history world log)) (mount_call e.call)
+
+  -- a call that is none on mounts
+  pub mounting-quiet : (log : List Entry) (e : Entry) → mount_call e.call ≡ None → mounting (history world (log ++ e ∷ [])) ≡ mounting (history world log)
+  mounting-quiet log e none = mounting-push log e ∙ ap (λ (o : Option MountCall). mounting (history world log) ++ option_to_list o) none ∙ append-nil (mounting (history world log))
+
+  pub live-quiet : (log : List Entry) (e : Entry) (n : ℕ) → mount_call e.call ≡ None → is_live world (history world (log ++ e ∷ [])) n ≡ is_live world (history world log) n
+  live-quiet log e n none = ap (λ (calls : List MountCall). mounts.is_live (mounts.made_of (length world) calls) n) (mounting-quiet log e none)
+
+  -- ---- calls on the router and on notifications
+
+  pub rpc-push : (log : List Entry) (e : Entry) → rpc_calls (history world (log ++ e ∷ [])) ≡ rpc_calls (history world log) ++ option_to_list (rpc_asked e.client e.call)
+  rpc-push log e =
+      ap rpc_calls (history-push log e) ∙ filter_map-append (λ (a : Answered). rpc_asked a.entry.client a.entry.call) (history world log) (now_of (history world log) e ∷ [])
+      ∙ listed (rpc_calls (history world log)) (rpc_asked e.client e.call)
+
+  pub note-push : (log : List Entry) (e : Entry) → note_calls (history world (log ++ e ∷ [])) ≡ note_calls (history world log) ++ option_to_list (note_asked e.client e.call)
+  note-push log e =
+      ap note_calls (history-push log e) ∙ filter_map-append (λ (a : Answered). note_asked a.entry.client a.entry.call) (history world log) (now_of (history world log) e ∷ [])
+      ∙ listed (note_calls (history world log)) (note_asked e.client e.call)
 
   -- ---- places
 

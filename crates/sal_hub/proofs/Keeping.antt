@@ -9,14 +9,15 @@ use Rattle.sal_tx.specs.declared.tx.Submission.{Submission}
 use Rattle.sal_history.specs.declared.call.Entry.{Entry}
 use Rattle.sal_history.specs.declared.reply.Reply.{Reply}
 use Rattle.sal_history.specs.World.{Domain}
-use Rattle.sal_history.specs.History.{Answered, chain_domains, commits, decided_by, history, is_spent, opened_chain, outcomes, reply_to, sent_by, sents, spends}
+use Rattle.sal_history.specs.History.{Answered, chain_domains, commits, decided_by, history, is_live, is_spent, opened_chain, outcomes, reply_to, sent_by, sents, spends}
+use Rattle.sal_history.specs.Services.{mount_call}
 use Rattle.sal_history.specs.Submissions.{Sent, done, done_ops, failing}
 use Rattle.sal_hub.specs.Current.{IsCurrent, answers}
 use Rattle.sal_hub.specs.Journals.{mark_at}
 use Rattle.sal_hub.specs.CommitReceipts.{commit_receipts}
-use Rattle.sal_hub.specs.Lines.{IsSound, Line, Stands, chains_in, commits_in, receipts_in, sent_of, sents_in, world_in}
+use Rattle.sal_hub.specs.Lines.{IsSound, Line, Stands, chains_in, commits_in, is_live_in, receipts_in, sent_of, sents_in, world_in}
 use Rattle.sal_hub.proofs.Deciding.{done-submit}
-use Rattle.sal_hub.proofs.Histories.{chains-push, outcomes-push, sents-push, spent-push}
+use Rattle.sal_hub.proofs.Histories.{chains-push, live-quiet, outcomes-push, sents-push, spent-push}
 use Rattle.sal_hub.proofs.Listed.{last_or_before}
 use Rattle.sal_hub.proofs.Members.{failing-submit}
 use Rattle.sal_hub.proofs.Numbered.{receipts-submit}
@@ -49,13 +50,18 @@ module _ (log : List Entry) (marks : List Bool) (line : Line) (was : IsCurrent l
   abbrev reply : Reply
   reply = reply_to world answered e.client e.call
 
+  -- the same domains are live, where the call is none on mounts
+  pub still_live : (line' : Line) → mount_call e.call ≡ None → ((n : ℕ) → is_live_in line'.domains n ≡ is_live_in line.domains n) → (n : ℕ) → is_live_in line'.domains n ≡ is_live (world_in line.domains) (history (world_in line.domains) (log ++ e ∷ [])) n
+  still_live line' unmounted same n = same n ∙ was.live n ∙ sym (live-quiet world log e n unmounted)
+
   pub pushed : (line' : Line) (marks' : List Bool) → IsSound line' → world_in line'.domains ≡ world_in line.domains
       → sents_in line' ≡ sents_in line ++ option_to_list (sent_by (answers log line) e.call (reply_to (world_in line.domains) (answers log line) e.client e.call))
       → line'.outcomes ≡ line.outcomes ++ decided_by (world_in line.domains) (answers log line) e.call
       → ((k : ℕ) → mark_at marks' k ≡ (mark_at marks k || spends e.call (reply_to (world_in line.domains) (answers log line) e.client e.call) k))
       → length line'.failures ≡ length line.failures + length (option_to_list (opened_chain e.call (reply_to (world_in line.domains) (answers log line) e.client e.call)))
+      → ((n : ℕ) → is_live_in line'.domains n ≡ is_live (world_in line.domains) (history (world_in line.domains) (log ++ e ∷ [])) n)
       → IsCurrent (log ++ e ∷ []) marks' line'
-  pushed line' marks' sound same sent decided marked opened = record {
+  pushed line' marks' sound same sent decided marked opened live = record {
     sound = sound;
     submissions =
         sent ∙ ap (λ (ss : List Sent). ss ++ option_to_list (sent_by answered e.call reply)) was.submissions ∙ sym (sents-push world log e)
@@ -70,19 +76,21 @@ module _ (log : List Entry) (marks : List Bool) (line : Line) (was : IsCurrent l
         opened ∙ ap (λ n. n + length (option_to_list (opened_chain e.call reply))) was.chains
         ∙ sym (length-append (chain_domains answered) (option_to_list (opened_chain e.call reply))) ∙ ap length (sym (chains-push world log e))
         ∙ (λ i. length (chain_domains (history (sym same i) (log ++ e ∷ []))));
+    live = λ n. live n ∙ (λ i. is_live (sym same i) (history (sym same i) (log ++ e ∷ [])) n);
   }
 
-  -- a call that submits, decides, spends and opens nothing
-  pub quiet : (marks' : List Bool) → sent_by (answers log line) e.call (reply_to (world_in line.domains) (answers log line) e.client e.call) ≡ None → decided_by (world_in line.domains) (answers log line) e.call ≡ []
+  -- a call that is none on mounts, and submits, decides, spends and opens nothing
+  pub quiet : (marks' : List Bool) → mount_call e.call ≡ None → sent_by (answers log line) e.call (reply_to (world_in line.domains) (answers log line) e.client e.call) ≡ None → decided_by (world_in line.domains) (answers log line) e.call ≡ []
       → ((k : ℕ) → spends e.call (reply_to (world_in line.domains) (answers log line) e.client e.call) k ≡ false) → ((k : ℕ) → mark_at marks' k ≡ mark_at marks k)
       → opened_chain e.call (reply_to (world_in line.domains) (answers log line) e.client e.call) ≡ None
       → IsCurrent (log ++ e ∷ []) marks' line
-  quiet marks' none nothing unspent same unopened =
+  quiet marks' unmounted none nothing unspent same unopened =
       pushed line marks' was.sound refl
       (sym (append-nil (sents_in line)) ∙ ap (λ (o : Option Sent). sents_in line ++ option_to_list o) (sym none))
       (sym (append-nil line.outcomes) ∙ ap (λ (os : List Outcome). line.outcomes ++ os) (sym nothing))
       (λ k. same k ∙ sym (or_false (mark_at marks k)) ∙ ap (λ b. mark_at marks k || b) (sym (unspent k)))
       (none_more (length line.failures) ∙ ap (λ (o : Option ℕ). length line.failures + length (option_to_list o)) (sym unopened))
+      (still_live line unmounted (λ n. refl))
 
 -- ---- a submission more
 
@@ -111,7 +119,7 @@ module _ (line : Line) (sound : IsSound line) (s : Submission) (stands : Stands 
   stands-longer : (t : Submission) → Stands line t → Stands longer t
   stands-longer t was = record {
     domain = was.domain;
-    base = subst (λ (cs : List (List Op)). t.base_commit ≤ length cs) (sym (commits-longer 0)) was.base;
+    base = subst (λ (cs : List (List Op)). t.base_commit ≤ length cs) (sym (commits-longer t.domain)) was.base;
     chain = was.chain;
     view = was.view;
     below = was.below;
@@ -121,7 +129,7 @@ module _ (line : Line) (sound : IsSound line) (s : Submission) (stands : Stands 
   sound-longer = record {
     some = sound.some;
     within = omega (arith, sound.within, length-append line.submissions (s ∷ []));
-    domains = λ n d at. let had = sound.domains n d at in record { number = had.number; live = had.live; commits = had.commits ∙ sym (commits-longer n); chains = had.chains ∙ sym (chains-longer n); receipts = had.receipts ∙ sym (receipts-longer n) };
+    domains = λ n d at. let had = sound.domains n d at in record { number = had.number; commits = had.commits ∙ sym (commits-longer n); chains = had.chains ∙ sym (chains-longer n); receipts = had.receipts ∙ sym (receipts-longer n) };
     submissions = λ i t at. elim (last_or_before line.submissions s t i at) [
       | inl old ↦ stands-longer t (sound.submissions i t old)
       | inr w ↦ stands-longer t (subst (Stands line) w.1 stands)

@@ -8,10 +8,16 @@ pub mod Histories
 pub mod Keeping
 pub mod Listed
 pub mod Listened
+pub mod Living
 pub mod Members
+pub mod Mounting
 pub mod Noted
+pub mod Notified
 pub mod Numbered
 pub mod OpenedDevices
+pub mod Placed
+pub mod Routed
+pub mod Served
 pub mod Serving
 pub mod Settling
 pub mod Standing

@@ -1,5 +1,5 @@
 -- What is of a chain, as submissions, entries and outcomes are added.
-use Rattle.std.proofs.Common.{◌≡◌, ℕ, zero, suc, ◌+◌, ◌<◌, ◌≤◌, Bool, true, false, not, ◌&&◌, List, [], ◌∷◌, ◌++◌, length, Option, None, Some, refl, ap, ◌∙◌, arith, if◌then◌else◌, nat_le}
+use Rattle.std.proofs.Common.{◌≡◌, ℕ, zero, suc, ◌+◌, ◌-◌, ◌<◌, ◌≤◌, Bool, true, false, not, ◌&&◌, List, [], ◌∷◌, ◌++◌, length, Option, None, Some, refl, ap, ◌∙◌, arith, if◌then◌else◌, nat_le}
 use Rattle.std.specs.Prelude.{slice_get}
 use Rattle.std.specs.Option.{option_or}
 use Rattle.std.proofs.lemmas.Bool.Decides.{nat_tests}
@@ -33,6 +33,24 @@ last_from-within n test (x ∷ xs) k e =
         | true ↦ λ at. (let same : n ≡ k = same_Some n k at in (omega (arith, same), omega (arith, same)))
         | false ↦ λ at. cc
       ]
+    ] refl e
+
+-- and passes the test
+pub last_from-passes : {X : Type 0} (n : ℕ) (test : X → Bool) (xs : List X) (k : ℕ) → last_from n test xs ≡ Some k → (x : X) × (slice_get xs (k - n) ≡ Some x) × (test x ≡ true)
+last_from-passes n test [] k e = cc
+last_from-passes n test (x ∷ xs) k e =
+    elim (last_from (n + 1) test xs) as (λ o. last_from (n + 1) test xs ≡ o → option_or o (if test x then Some n else None) ≡ Some k → (y : _) × (slice_get (x ∷ xs) (k - n) ≡ Some y) × (test y ≡ true)) [
+      | Some j ↦ λ is at. (
+          let same : j ≡ k = same_Some j k at in
+          let rest = last_from-passes (n + 1) test xs j is in
+          let low = last_from-within (n + 1) test xs j is in
+          let next : k - n ≡ suc (j - (n + 1)) = omega (arith, same, low.0) in
+          (rest.0, ap (slice_get (x ∷ xs)) next ∙ rest.1, rest.2)
+          )
+      | None ↦ λ is. elim (test x) as (λ b. test x ≡ b → (if b then Some n else None) ≡ Some k → (y : _) × (slice_get (x ∷ xs) (k - n) ≡ Some y) × (test y ≡ true)) [
+        | true ↦ λ passes at. (let same : n ≡ k = same_Some n k at in let first : k - n ≡ 0 = omega (arith, same) in (x, ap (slice_get (x ∷ xs)) first, passes))
+        | false ↦ λ passes at. cc
+      ] refl
     ] refl e
 
 -- an element that passes is not behind the last one

@@ -1,7 +1,8 @@
 -- The domains that devices open, and what is refused.
-use Rattle.std.proofs.Common.{◌≡◌, ℕ, zero, suc, ◌+◌, ◌≤◌, List, [], ◌∷◌, length, map, Option, None, Some, refl, ap, sym, ◌∙◌, subst, arith, inl, inr, ◌⊎◌}
+use Rattle.std.proofs.Common.{◌≡◌, ℕ, zero, suc, ◌+◌, ◌<◌, ◌≤◌, Bool, true, false, not, ◌&&◌, ◌||◌, nat_eq, List, [], ◌∷◌, length, map, Option, None, Some, refl, ap, sym, ◌∙◌, subst, arith, inl, inr, ◌⊎◌}
 use Rattle.std.specs.Prelude.{slice_get}
 use Rattle.std.specs.Option.{option_map, option_or}
+use Rattle.std.proofs.lemmas.Bool.Decides.{nat_tests}
 use Rattle.std.proofs.lemmas.Option.{same_Some}
 use Rattle.sal_types.specs.declared.value.Store.{Store}
 use Rattle.sal_types.specs.declared.value.Store.TheVariants.{Config, Oper}
@@ -13,7 +14,6 @@ use Rattle.sal_commit.specs.declared.fault.DomainFault.{DomainFault}
 use Rattle.sal_commit.specs.declared.fault.DomainFault.TheVariants.{Broken as Breaks, NoMemory as Full}
 use Rattle.sal_commit.specs.Opening.{fault_of as domain_fault}
 use Rattle.sal_history.specs.declared.opening.Device.{Device}
-use Rattle.sal_history.specs.History.{is_live}
 use Rattle.sal_history.specs.World as world
 use Rattle.sal_hub.specs.declared.opening.OpenFault.{OpenFault}
 use Rattle.sal_hub.specs.declared.opening.OpenFault.TheVariants.{Broken, NotConfig, NoMemory}
@@ -21,7 +21,7 @@ use Rattle.sal_hub.specs.declared.pipeline.Pipeline.{Pipeline}
 use Rattle.sal_hub.specs.Current.{IsCurrent, IsKept}
 use Rattle.sal_hub.specs.Failures.{noted_in}
 use Rattle.sal_hub.specs.Journals.{Noted}
-use Rattle.sal_hub.specs.Lines.{AllKept, Line, Shown, line_of, shown, world_in}
+use Rattle.sal_hub.specs.Lines.{AllKept, Line, Shown, is_live_in, line_of, shown, world_in}
 use Rattle.sal_hub.specs.Opened.{shown_from, shown_of}
 use Rattle.sal_hub.specs.Openings.{domain_of, numbered, opening_fault, state_row, world_of}
 
@@ -68,15 +68,30 @@ length-shown : (n : ℕ) (devices : List Device) → length (shown_from n device
 length-shown n [] = refl
 length-shown n (device ∷ devices) = ap suc (length-shown (n + 1) devices)
 
-shown_at : (n : ℕ) (devices : List Device) (k : ℕ) (d : Shown) → slice_get (shown_from n devices) k ≡ Some d → (d.number ≡ n + k) × (d.live ≡ is_live (n + k)) × (d.ops ≡ []) × (d.chains ≡ []) × (d.receipts ≡ 0 ∷ [])
+shown_at : (n : ℕ) (devices : List Device) (k : ℕ) (d : Shown) → slice_get (shown_from n devices) k ≡ Some d → (d.number ≡ n + k) × (d.ops ≡ []) × (d.chains ≡ []) × (d.receipts ≡ 0 ∷ [])
 shown_at n [] k d e = cc
 shown_at n (device ∷ devices) zero d e =
     let here : n ≡ n + 0 = omega arith in
-    subst (λ (x : Shown). (x.number ≡ n + 0) × (x.live ≡ is_live (n + 0)) × (x.ops ≡ []) × (x.chains ≡ []) × (x.receipts ≡ 0 ∷ [])) (same_Some (shown_of n device) d e) (here, ap is_live here, refl, refl, refl)
+    subst (λ (x : Shown). (x.number ≡ n + 0) × (x.ops ≡ []) × (x.chains ≡ []) × (x.receipts ≡ 0 ∷ [])) (same_Some (shown_of n device) d e) (here, refl, refl, refl)
 shown_at n (device ∷ devices) (suc k) d e =
     let next : n + 1 + k ≡ n + suc k = omega arith in
     let rest = shown_at (n + 1) devices k d e in
-    (rest.0 ∙ next, rest.1 ∙ ap is_live next, rest.2, rest.3, rest.4)
+    (rest.0 ∙ next, rest.1, rest.2, rest.3)
+
+-- the controller's own domain alone is live
+live_later : (n : ℕ) (devices : List Device) (k : ℕ) → 0 < n → is_live_in (shown_from n devices) k ≡ false
+live_later n [] k later = refl
+live_later n (device ∷ devices) zero later = grind (arith, nat_tests)
+live_later n (device ∷ devices) (suc k) later = live_later (n + 1) devices k (omega (arith, later))
+
+live_first : (k : ℕ) (devices : List Device) → 1 ≤ length devices → is_live_in (shown_from 0 devices) k ≡ nat_eq k 0
+live_first k [] some = absurd (omega (arith, some))
+live_first zero (device ∷ devices) some = refl
+live_first (suc k) (device ∷ devices) some = let other : nat_eq (suc k) 0 ≡ false = grind (arith, nat_tests) in live_later 1 devices k (omega arith) ∙ sym other
+
+or_none : (b : Bool) → b ≡ (b || (false && not false))
+or_none true = refl
+or_none false = refl
 
 pub opened_kept : (devices : List Device) (p : Pipeline) (journal : Noted) → 1 ≤ length devices → AllKept p.domains.items → map shown p.domains.items ≡ shown_from 0 devices → p.submissions.items ≡ [] → p.outcomes.items ≡ [] → p.failures.items ≡ [] → journal ≡ record { log = []; marks = [] } → IsKept journal p
 opened_kept devices p journal some kept are none undecided unopened empty =
@@ -85,7 +100,7 @@ opened_kept devices p journal some kept are none undecided unopened empty =
       sound = record {
         some = omega (arith, some, length-shown 0 devices);
         within = omega arith;
-        domains = λ n d at. let facts = shown_at 0 devices n d at in let zeroth : 0 + n ≡ n = omega arith in record { number = facts.0 ∙ zeroth; live = facts.1 ∙ ap is_live zeroth; commits = facts.2; chains = facts.3; receipts = facts.4 };
+        domains = λ n d at. let facts = shown_at 0 devices n d at in let zeroth : 0 + n ≡ n = omega arith in record { number = facts.0 ∙ zeroth; commits = facts.1; chains = facts.2; receipts = facts.3 };
         submissions = λ i s at. cc;
         numbers = λ i s at. cc;
         failures = no_failure;
@@ -94,6 +109,7 @@ opened_kept devices p journal some kept are none undecided unopened empty =
       outcomes = refl;
       marks = λ place. refl;
       chains = refl;
+      live = λ n. live_first n devices some ∙ or_none (nat_eq n 0);
     } in
     let same : ◌≡◌ {A = Line} line (line_of p) = λ i. record { domains = sym are i; submissions = sym none i; outcomes = sym undecided i; failures = sym unopened i } in
     record {

@@ -1,5 +1,5 @@
 -- What a hub answers of its domains.
-use Rattle.std.proofs.Common.{◌≡◌, ℕ, ◌-◌, ◌<◌, List, length, map, get_or, Some, ap, sym, ◌∙◌, subst, arith}
+use Rattle.std.proofs.Common.{◌≡◌, ℕ, ◌-◌, ◌<◌, true, List, length, map, get_or, Some, ap, sym, ◌∙◌, subst, arith}
 use Rattle.std.specs.Prelude.{slice_get}
 use Rattle.std.specs.Option.{option_map}
 use Rattle.std.proofs.lemmas.List.{length-map}
@@ -10,21 +10,26 @@ use Rattle.sal_rows.specs.Clash.{tip}
 use Rattle.sal_graft.specs.Kept.{AreKept, opening_in, ops_of}
 use Rattle.sal_graft.proofs.KeptLemmas.{length-ops_of}
 use Rattle.sal_commit.specs.declared.domain.Domain.{Domain}
-use Rattle.sal_history.specs.History.{commits, is_live, newest_tree}
+use Rattle.sal_history.specs.History.{commits, newest_tree}
 use Rattle.sal_hub.specs.declared.pipeline.Pipeline.{Pipeline}
 use Rattle.sal_hub.specs.Current.{IsKept, answers, known_of}
 use Rattle.sal_hub.specs.Domains.{AreDomains, IsDomain}
 use Rattle.sal_hub.specs.Journals.{Noted}
-use Rattle.sal_hub.specs.Lines.{AllKept, IsSound, line_of, opened_as, shown, world_in}
-use Rattle.sal_hub.proofs.Deciding.{opening-at, table-at}
+use Rattle.sal_hub.specs.Known.{Known}
+use Rattle.sal_hub.specs.Lines.{AllKept, is_live_in, line_of, opened_as, shown, world_in}
+use Rattle.sal_hub.proofs.Deciding.{live-here, live-within, opening-at, table-at}
 use Rattle.sal_hub.proofs.Keeping.{commits-current, receipts-current}
 use Rattle.sal_hub.proofs.Listed.{slice_get_at}
 
 pub shown_at : (ds : List Domain) (n : ℕ) (d : Domain) → n < length ds → d ≡ get_or ds n d → slice_get (map shown ds) n ≡ Some (shown d)
 shown_at ds n d h is = slice_get-map shown ds n ∙ ap (option_map shown) (slice_get_at ds n d h is)
 
-pub live_at : (p : Pipeline) (n : ℕ) (d : Domain) → IsSound (line_of p) → n < length p.domains.items → d ≡ get_or p.domains.items n d → d.live ≡ is_live n
-live_at p n d sound h is = (sound.domains n (shown d) (shown_at p.domains.items n d h is)).live
+pub live_at : (p : Pipeline) (n : ℕ) (d : Domain) → n < length p.domains.items → d ≡ get_or p.domains.items n d → is_live_in (line_of p).domains n ≡ d.live
+live_at p n d h is = live-here (line_of p).domains n (shown d) (shown_at p.domains.items n d h is)
+
+-- a domain of the world
+pub known_domain : (journal : Noted) (p : Pipeline) (known : Known) → known_of journal p ≡ known → (n : ℕ) → n < length known.world → n < length p.domains.items
+known_domain journal p known view n there = omega (arith, there, ap (λ (k : Known). length k.world) view, length-map (line_of p).domains opened_as, length-map p.domains.items shown)
 
 pub kept_at : (ds : List Domain) (n : ℕ) (d : Domain) → AllKept ds → n < length ds → d ≡ get_or ds n d → AreKept d.commits.items
 kept_at ds n d kept h is = subst (λ (x : Domain). AreKept x.commits.items) (sym is) (kept n d h)
@@ -33,6 +38,10 @@ module _ (journal : Noted) (p : Pipeline) (is : IsKept journal p) where
   pub some_domain : 0 < length p.domains.items
   some_domain = omega (arith, is.current.sound.some, length-map p.domains.items shown)
 
+  -- a domain that is live is one that there is
+  pub live_within : (n : ℕ) → is_live_in (line_of p).domains n ≡ true → n < length p.domains.items
+  live_within n live = omega (arith, live-within (line_of p).domains n live, length-map p.domains.items shown)
+
   module _ (n : ℕ) (d : Domain) (h : n < length p.domains.items) (at : d ≡ get_or p.domains.items n d) where
     pub domain_is : IsDomain (known_of journal p) n d
     domain_is =
@@ -40,7 +49,7 @@ module _ (journal : Noted) (p : Pipeline) (is : IsKept journal p) where
         let stored = is.current.sound.domains n (shown d) here in
         record {
           number = stored.number;
-          live = stored.live;
+          live = sym (live-here (line_of p).domains n (shown d) here) ∙ is.current.live n;
           schema = sym (table-at (line_of p).domains n (shown d) here);
           kept = kept_at p.domains.items n d is.kept h at;
           opening = λ i s. sym (opening-at (line_of p).domains n (shown d) s here) i;

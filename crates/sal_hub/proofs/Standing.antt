@@ -1,9 +1,8 @@
--- What a transaction that was begun stands on: a commit of domain 0 that there is.
-use Rattle.std.proofs.Common.{◌≡◌, ◌⊎◌, ℕ, zero, suc, ◌-◌, ◌≤◌, Bool, true, false, not, List, [], ◌∷◌, ◌++◌, length, map, Option, None, Some, refl, ap, sym, ◌∙◌, subst, arith, append-nil, length-append, inl, inr, if◌then◌else◌, nat_eq}
+-- What a transaction that was begun stands on: a commit of its domain that there is.
+use Rattle.std.proofs.Common.{◌≡◌, ◌⊎◌, ℕ, zero, suc, ◌-◌, ◌<◌, ◌≤◌, Bool, true, false, not, List, [], ◌∷◌, ◌++◌, length, map, Option, None, Some, refl, ap, sym, ◌∙◌, subst, arith, append-nil, length-append, inl, inr, if◌then◌else◌, nat_eq}
 use Rattle.std.specs.Prelude.{slice_get, option_and_then, unwrap_or}
 use Rattle.std.specs.Option.{option_map, option_or, option_to_list}
 use Rattle.std.specs.List.{fold}
-use Rattle.std.proofs.lemmas.Bool.Decides.{nat_tests}
 use Rattle.std.proofs.lemmas.Option.{same_Some}
 use Rattle.sal_rows.specs.declared.outcome.CallFault.{CallFault}
 use Rattle.sal_rows.specs.declared.outcome.CallFault.TheVariants.{ChainClosed, ChainFailed, NoDomain, PreviousOpen}
@@ -18,13 +17,11 @@ use Rattle.sal_history.specs.History.{Answered, answer, base_on, began_at, began
 use Rattle.sal_history.specs.Submissions.{Base, Sent, done, if_done}
 use Rattle.sal_hub.proofs.Histories.{now_of, outcomes-answer, sents-answer}
 use Rattle.sal_hub.proofs.Listed.{last_or_before}
+use Rattle.sal_hub.proofs.Living.{live_there}
 
--- a commit of domain 0
-abbrev pub IsAt : ℕ → Base → Type 0
-IsAt count base = (base.domain ≡ 0) × (base.commit ≤ count)
-
-later : (m n : ℕ) (b : Base) → m ≤ n → IsAt m b → IsAt n b
-later m n b h is = (is.0, omega (arith, h, is.1))
+-- a commit of a domain that there is
+abbrev pub IsAt : List Domain → List Answered → Base → Type 0
+IsAt world answered base = (base.domain < length world) × (base.commit ≤ length (commits answered base.domain))
 
 -- ---- commits are not taken back
 
@@ -48,6 +45,9 @@ commits-more world answered e n =
     length-ops (done n (sents next) (outcomes next)) ∙ (λ i. length (done n (sents-answer world answered e i) (outcomes-answer world answered e i))) in
     omega (arith, same, length-ops (done n (sents answered) (outcomes answered)), done-more n (sents answered) ss (outcomes answered) os)
 
+later : (world : List Domain) (answered : List Answered) (e : Entry) (b : Base) → IsAt world answered b → IsAt world (answer world answered e) b
+later world answered e b is = (is.0, omega (arith, commits-more world answered e b.domain, is.1))
+
 -- ---- what is allowed is live
 
 last_none : (a b c d : Option CallFault) → option_or a (option_or b (option_or c d)) ≡ None → d ≡ None
@@ -60,104 +60,95 @@ unless_live : (b : Bool) (f : CallFault) → fault_if (not b) f ≡ None → b �
 unless_live true f e = refl
 unless_live false f e = cc
 
-pub allowed_live : (answered : List Answered) (chain : ℕ) → chain_refusal answered chain ≡ None → is_live (domain_of answered chain) ≡ true
-allowed_live answered chain e =
-    unless_live (is_live (domain_of answered chain)) (NoDomain (domain_of answered chain))
+pub allowed_live : (world : List Domain) (answered : List Answered) (chain : ℕ) → chain_refusal world answered chain ≡ None → is_live world answered (domain_of answered chain) ≡ true
+allowed_live world answered chain e =
+    unless_live (is_live world answered (domain_of answered chain)) (NoDomain (domain_of answered chain))
     (last_none (fault_if (is_closed answered chain) ChainClosed) (option_map ChainFailed (failed_by answered chain)) (fault_if (has_open answered chain) PreviousOpen)
-    (fault_if (not (is_live (domain_of answered chain))) (NoDomain (domain_of answered chain))) e)
-
-pub live_zero : (domain : ℕ) → is_live domain ≡ true → domain ≡ 0
-live_zero domain live = grind (arith, nat_tests)
+    (fault_if (not (is_live world answered (domain_of answered chain))) (NoDomain (domain_of answered chain))) e)
 
 -- what a call submits stands on what began, if anything
-submitted_base : (answered : List Answered) (call : Call) (r : Reply) (s : Sent) → sent_by answered call r ≡ Some s → (place : ℕ) × (s.base ≡ unwrap_or (began_at answered place) nowhere)
+pub submitted_base : (answered : List Answered) (call : Call) (r : Reply) (s : Sent) → sent_by answered call r ≡ Some s → (place : ℕ) × (s.base ≡ unwrap_or (began_at answered place) nowhere)
 submitted_base answered (Submit place ops) (Receipt n) s e = (place, ap (λ (t : Sent). t.base) (sym (same_Some (record { base = unwrap_or (began_at answered place) nowhere; ops = ops }) s e)))
 submitted_base answered call r s e = cc
 
+-- a transaction that was begun before one entry more, or by it
+pub began_last : (xs : List Answered) (k : ℕ) (a : Answered) (c : Base) → began_at (xs ++ a ∷ []) k ≡ Some c → (began_at xs k ≡ Some c) ⊎ (a.began ≡ Some c)
+began_last [] zero a c at = inr at
+began_last [] (suc k) a c at = cc
+began_last (x ∷ xs) zero a c at = inl at
+began_last (x ∷ xs) (suc k) a c at = began_last xs k a c at
+
+-- and a submission likewise
+pub sent_last : (xs : List Sent) (o : Option Sent) (k : ℕ) (t : Sent) → slice_get (xs ++ option_to_list o) k ≡ Some t → (slice_get xs k ≡ Some t) ⊎ (o ≡ Some t)
+sent_last xs None k t at = inl (ap (λ (ys : List Sent). slice_get ys k) (sym (append-nil xs)) ∙ at)
+sent_last xs (Some x) k t at = elim (last_or_before xs x t k at) [ inl old ↦ inl old | inr w ↦ inr (ap Some w.1) ]
+
 -- ---- all logs
 
-pub record AreAt (answered : List Answered) : Type 0 where
-  pub begun : (place : ℕ) (b : Base) → began_at answered place ≡ Some b → IsAt (length (commits answered 0)) b
-  pub sent : (i : ℕ) (s : Sent) → slice_get (sents answered) i ≡ Some s → IsAt (length (commits answered 0)) s.base
+pub record AreAt (world : List Domain) (answered : List Answered) : Type 0 where
+  pub begun : (place : ℕ) (b : Base) → began_at answered place ≡ Some b → IsAt world answered b
+  pub sent : (i : ℕ) (s : Sent) → slice_get (sents answered) i ≡ Some s → IsAt world answered s.base
 
-module _ (world : List Domain) (answered : List Answered) (was : AreAt answered) where
-  abbrev count : ℕ
-  count = length (commits answered 0)
+module _ (world : List Domain) (some : 0 < length world) (answered : List Answered) (was : AreAt world answered) where
+  newest_at : (domain : ℕ) (chain : Option ℕ) → is_live world answered domain ≡ true → IsAt world answered (newest_base world answered domain chain)
+  newest_at domain chain live = (live_there world some answered domain live, omega arith)
 
-  newest_at : (domain : ℕ) (chain : Option ℕ) → is_live domain ≡ true → IsAt count (newest_base world answered domain chain)
-  newest_at domain chain live =
-      let zeroth : domain ≡ 0 = live_zero domain live in
-      (zeroth, omega (arith, ap (λ n. length (commits answered n)) zeroth))
-
-  on_at : (chain : ℕ) (o : Option Sent) → is_live (domain_of answered chain) ≡ true → ((s : Sent) → o ≡ Some s → IsAt count s.base) → IsAt count (base_on world answered chain o)
+  on_at : (chain : ℕ) (o : Option Sent) → is_live world answered (domain_of answered chain) ≡ true → ((s : Sent) → o ≡ Some s → IsAt world answered s.base) → IsAt world answered (base_on world answered chain o)
   on_at chain None live each = newest_at (domain_of answered chain) (Some chain) live
   on_at chain (Some s) live each = each s refl
 
-  found_at : (chain : ℕ) (n : Option ℕ) (s : Sent) → option_and_then (λ k. slice_get (sents answered) (k - 1)) n ≡ Some s → IsAt count s.base
-  found_at chain None s e = cc
-  found_at chain (Some k) s e = was.sent (k - 1) s e
+  found_at : (n : Option ℕ) (s : Sent) → option_and_then (λ k. slice_get (sents answered) (k - 1)) n ≡ Some s → IsAt world answered s.base
+  found_at None s e = cc
+  found_at (Some k) s e = was.sent (k - 1) s e
 
-  begun_now : (client : ℕ) (call : Call) (b : Base) → began_by world answered call (reply_to world answered client call) ≡ Some b → IsAt count b
+  begun_now : (client : ℕ) (call : Call) (b : Base) → began_by world answered call (reply_to world answered client call) ≡ Some b → IsAt world answered b
   begun_now client (Begin domain mode) b =
-      elim (is_live domain) as (λ live. is_live domain ≡ live → began_by world answered (Begin domain mode) (if live then Begun (length (commits answered domain)) None else Refused (NoDomain domain)) ≡ Some b → IsAt count b) [
-        | true ↦ λ live e. subst (IsAt count) (same_Some (newest_base world answered domain None) b e) (newest_at domain None live)
+      elim (is_live world answered domain) as (λ live. is_live world answered domain ≡ live → began_by world answered (Begin domain mode) (if live then Begun (length (commits answered domain)) None else Refused (NoDomain domain)) ≡ Some b → IsAt world answered b) [
+        | true ↦ λ live e. subst (IsAt world answered) (same_Some (newest_base world answered domain None) b e) (newest_at domain None live)
         | false ↦ λ live e. cc
       ] refl
   begun_now client (ChainBegin chain mode) b =
-      elim (chain_refusal answered chain) as (λ o. chain_refusal answered chain ≡ o → began_by world answered (ChainBegin chain mode) (refused_or o (Begun (chained_base world answered chain).commit (stands_on answered chain))) ≡ Some b → IsAt count b) [
+      elim (chain_refusal world answered chain) as (λ o. chain_refusal world answered chain ≡ o → began_by world answered (ChainBegin chain mode) (refused_or o (Begun (chained_base world answered chain).commit (stands_on answered chain))) ≡ Some b → IsAt world answered b) [
         | None ↦ λ allowed e.
-            subst (IsAt count) (same_Some (chained_base world answered chain) b e)
-            (on_at chain (option_and_then (λ k. slice_get (sents answered) (k - 1)) (stands_on answered chain)) (allowed_live answered chain allowed) (found_at chain (stands_on answered chain)))
+            subst (IsAt world answered) (same_Some (chained_base world answered chain) b e)
+            (on_at chain (option_and_then (λ k. slice_get (sents answered) (k - 1)) (stands_on answered chain)) (allowed_live world answered chain allowed) (found_at (stands_on answered chain)))
         | Some f ↦ λ allowed e. cc
       ] refl
   begun_now client call b = λ e. cc
 
-  sent_now : (client : ℕ) (call : Call) (s : Sent) → sent_by answered call (reply_to world answered client call) ≡ Some s → IsAt count s.base
+  sent_now : (client : ℕ) (call : Call) (s : Sent) → sent_by answered call (reply_to world answered client call) ≡ Some s → IsAt world answered s.base
   sent_now client call s e =
       let (place, from) = submitted_base answered call (reply_to world answered client call) s e in
-      subst (IsAt count) (sym from) (given (began_at answered place) (was.begun place))
+      subst (IsAt world answered) (sym from) (given (began_at answered place) (was.begun place))
     where
-      given : (o : Option Base) → ((b : Base) → o ≡ Some b → IsAt count b) → IsAt count (unwrap_or o nowhere)
-      given None each = (refl, omega arith)
+      given : (o : Option Base) → ((b : Base) → o ≡ Some b → IsAt world answered b) → IsAt world answered (unwrap_or o nowhere)
+      given None each = (some, omega arith)
       given (Some b) each = each b refl
 
   module _ (e : Entry) where
     abbrev next : List Answered
     next = answer world answered e
 
-    more : count ≤ length (commits next 0)
-    more = commits-more world answered e 0
-
-    begun_next : (place : ℕ) (b : Base) → began_at next place ≡ Some b → IsAt (length (commits next 0)) b
+    begun_next : (place : ℕ) (b : Base) → began_at next place ≡ Some b → IsAt world next b
     begun_next place b is =
-        elim (last_of answered place (now_of world answered e) b is) [
-          | inl old ↦ later count (length (commits next 0)) b more (was.begun place b old)
-          | inr new ↦ later count (length (commits next 0)) b more (begun_now e.client e.call b new)
+        elim (began_last answered place (now_of world answered e) b is) [
+          | inl old ↦ later world answered e b (was.begun place b old)
+          | inr new ↦ later world answered e b (begun_now e.client e.call b new)
         ]
-      where
-        last_of : (xs : List Answered) (k : ℕ) (a : Answered) (c : Base) → began_at (xs ++ a ∷ []) k ≡ Some c → (began_at xs k ≡ Some c) ⊎ (a.began ≡ Some c)
-        last_of [] zero a c at = inr at
-        last_of [] (suc k) a c at = cc
-        last_of (x ∷ xs) zero a c at = inl at
-        last_of (x ∷ xs) (suc k) a c at = last_of xs k a c at
 
-    sent_next : (i : ℕ) (s : Sent) → slice_get (sents next) i ≡ Some s → IsAt (length (commits next 0)) s.base
+    sent_next : (i : ℕ) (s : Sent) → slice_get (sents next) i ≡ Some s → IsAt world next s.base
     sent_next i s is =
-        elim (last_sent (sents answered) (sent_by answered e.call (reply_to world answered e.client e.call)) i s (ap (λ (ss : List Sent). slice_get ss i) (sym (sents-answer world answered e)) ∙ is)) [
-          | inl old ↦ later count (length (commits next 0)) s.base more (was.sent i s old)
-          | inr new ↦ later count (length (commits next 0)) s.base more (sent_now e.client e.call s new)
+        elim (sent_last (sents answered) (sent_by answered e.call (reply_to world answered e.client e.call)) i s (ap (λ (ss : List Sent). slice_get ss i) (sym (sents-answer world answered e)) ∙ is)) [
+          | inl old ↦ later world answered e s.base (was.sent i s old)
+          | inr new ↦ later world answered e s.base (sent_now e.client e.call s new)
         ]
-      where
-        last_sent : (xs : List Sent) (o : Option Sent) (k : ℕ) (t : Sent) → slice_get (xs ++ option_to_list o) k ≡ Some t → (slice_get xs k ≡ Some t) ⊎ (o ≡ Some t)
-        last_sent xs None k t at = inl (ap (λ (ys : List Sent). slice_get ys k) (sym (append-nil xs)) ∙ at)
-        last_sent xs (Some x) k t at = elim (last_or_before xs x t k at) [ inl old ↦ inl old | inr w ↦ inr (ap Some w.1) ]
 
-    pub AreAt-answer : AreAt (answer world answered e)
+    pub AreAt-answer : AreAt world (answer world answered e)
     AreAt-answer = record { begun = begun_next; sent = sent_next }
 
-AreAt-fold : (world : List Domain) (answered : List Answered) (log : List Entry) → AreAt answered → AreAt (fold (answer world) answered log)
-AreAt-fold world answered [] was = was
-AreAt-fold world answered (e ∷ log) was = AreAt-fold world (answer world answered e) log (AreAt-answer world answered was e)
+AreAt-fold : (world : List Domain) → 0 < length world → (answered : List Answered) (log : List Entry) → AreAt world answered → AreAt world (fold (answer world) answered log)
+AreAt-fold world some answered [] was = was
+AreAt-fold world some answered (e ∷ log) was = AreAt-fold world some (answer world answered e) log (AreAt-answer world some answered was e)
 
-pub are_at : (world : List Domain) (log : List Entry) → AreAt (history world log)
-are_at world log = AreAt-fold world [] log (record { begun = λ place b is. cc; sent = λ i s is. cc })
+pub are_at : (world : List Domain) → 0 < length world → (log : List Entry) → AreAt world (history world log)
+are_at world some log = AreAt-fold world some [] log (record { begun = λ place b is. cc; sent = λ i s is. cc })

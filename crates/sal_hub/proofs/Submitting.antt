@@ -1,8 +1,9 @@
 -- A submit: what is kept stays the log's, and the answer is the log's.
-use Rattle.std.proofs.Common.{◌≡◌, ℕ, ◌+◌, ◌-◌, ◌<◌, ◌≤◌, Bool, true, false, List, [], ◌∷◌, ◌++◌, length, map, Option, None, Some, refl, ap, sym, ◌∙◌, subst, arith, append-nil, length-append, if◌then◌else◌, nat_eq, nat_lt}
-use Rattle.std.specs.Prelude.{unwrap_or, ◌||◌}
-use Rattle.std.specs.Option.{option_to_list}
-use Rattle.std.proofs.lemmas.Option.{same_Some}
+use Rattle.std.proofs.Common.{◌≡◌, ℕ, ◌+◌, ◌-◌, ◌<◌, ◌≤◌, Bool, true, false, List, [], ◌∷◌, ◌++◌, length, map, Option, None, Some, refl, ap, sym, ◌∙◌, subst, arith, append-nil, if◌then◌else◌, nat_eq, nat_lt}
+use Rattle.std.specs.Prelude.{slice_get, unwrap_or, ◌||◌}
+use Rattle.std.specs.Option.{option_map, option_to_list}
+use Rattle.std.proofs.lemmas.List.{length-map}
+use Rattle.std.proofs.lemmas.Option.{same_Some, slice_get-map}
 use Rattle.sal_rows.specs.declared.op.Op.{Op}
 use Rattle.sal_rows.specs.Apply.{apply_ops, rows_of_act}
 use Rattle.sal_rows.specs.declared.outcome.CallFault.{CallFault}
@@ -31,11 +32,12 @@ use Rattle.sal_hub.specs.Current.{IsCurrent, IsKept, answers, known_of}
 use Rattle.sal_hub.specs.Failures.{IsWithin}
 use Rattle.sal_hub.specs.Journals.{Noted, jotted, mark_at}
 use Rattle.sal_hub.specs.Known.{Known}
-use Rattle.sal_hub.specs.Lines.{AllKept, Line, Stands, commits_in, line_of, sent_of, sents_in, shown, world_in}
+use Rattle.sal_hub.specs.Lines.{AllKept, Line, Stands, commits_in, line_of, opened_as, sent_of, sents_in, shown, world_in}
 use Rattle.sal_hub.specs.Submits.{refusal_of, submission_of}
 use Rattle.sal_hub.specs.Tokens.{IsBegun, IsGiven}
 use Rattle.sal_hub.proofs.Beginning.{quiet_kept}
-use Rattle.sal_hub.proofs.Keeping.{commits-current, length-submissions, none_more, pushed, sents-longer, sound-longer}
+use Rattle.sal_hub.proofs.Keeping.{commits-current, length-submissions, none_more, pushed, sents-longer, sound-longer, still_live}
+use Rattle.sal_hub.proofs.Listed.{slice_get_seam}
 use Rattle.sal_hub.proofs.Standing.{IsAt, are_at}
 use Rattle.sal_hub.proofs.Starting.{same_rows}
 
@@ -115,7 +117,7 @@ module _ (journal journal' : Noted) (p : Pipeline) (is : IsKept journal p) (clie
   pub refused_kept : (f : CallFault) → refusal_of (length p.submissions.items - length p.outcomes.items) (mark_at journal.marks place) ≡ Some f → ((k : ℕ) → mark_at journal'.marks k ≡ mark_at journal.marks k) → IsKept journal' p
   refused_kept f e marks =
       let reply = refused_now f e in
-      quiet_kept journal journal' p is client (Submit place ops) log (ap (sent_by answered (Submit place ops)) reply) refl (λ k. ap (λ r. spends (Submit place ops) r k) reply) refl marks
+      quiet_kept journal journal' p is client (Submit place ops) log refl (ap (sent_by answered (Submit place ops)) reply) refl (λ k. ap (λ r. spends (Submit place ops) r k) reply) refl marks
 
   pub refused_made : (f : CallFault) → length journal.log < 1000000 → refusal_of (length p.submissions.items - length p.outcomes.items) (mark_at journal.marks place) ≡ Some f → Made (known_of journal p) (known_of journal' p) (record { client = client; number = entries_of journal.log client; call = Submit place ops }) (Refused f)
   refused_made f room e = record {
@@ -123,6 +125,10 @@ module _ (journal journal' : Noted) (p : Pipeline) (is : IsKept journal p) (clie
     log = λ i. record { world = w; log = log i };
     reply = refused_now f e;
   }
+
+-- the domain of a submission, as the log has it
+pub given_domain : (journal : Noted) (p : Pipeline) → IsKept journal p → (i : ℕ) (s : Submission) → slice_get p.submissions.items i ≡ Some s → option_map (λ (t : Sent). t.base.domain) (slice_get (sents (answers journal.log (line_of p))) i) ≡ Some s.domain
+given_domain journal p is i s at = ap (option_map (λ (t : Sent). t.base.domain)) (ap (λ (ss : List Sent). slice_get ss i) (sym is.current.submissions) ∙ slice_get-map sent_of p.submissions.items i ∙ ap (option_map sent_of) at)
 
 -- ---- a submission more
 
@@ -153,10 +159,11 @@ module _ (journal journal' : Noted) (p p' : Pipeline) (is : IsKept journal p) (c
   stands : Stands (line_of p) sub
   stands =
       let b : Base = record { domain = tx.begun.domain; commit = tx.begun.base_commit; chain = tx.begun.chain; trees = tx_rows tx.base } in
-      let on : IsAt (length (commits before 0)) b = (are_at new_world journal.log).begun tx.begun.place b token.began in
-      let same : commits_in (line_of p) 0 ≡ commits before 0 = commits-current journal.log journal.marks (line_of p) 0 is.current in
+      let some : 0 < length new_world = omega (arith, is.current.sound.some, length-map (line_of p).domains opened_as) in
+      let on : IsAt new_world before b = (are_at new_world some journal.log).begun tx.begun.place b token.began in
+      let same : commits_in (line_of p) tx.begun.domain ≡ commits before tx.begun.domain = commits-current journal.log journal.marks (line_of p) tx.begun.domain is.current in
       record {
-        domain = on.0;
+        domain = omega (arith, on.0, length-map (line_of p).domains opened_as);
         base = subst (λ (cs : List (List Op)). tx.begun.base_commit ≤ length cs) (sym same) on.1;
         chain = member;
         view = view;
@@ -182,6 +189,7 @@ module _ (journal journal' : Noted) (p p' : Pipeline) (is : IsKept journal p) (c
       marks k ∙ swapped (nat_eq tx.begun.place k) (mark_at journal.marks k)
       ∙ ap (λ r. mark_at journal.marks k || spends (Submit tx.begun.place tx.changes) r k) (sym reply_now))
       (none_more (length p.failures.items))
+      (still_live journal.log journal.marks (line_of p) is.current made_entry more refl (λ n. refl))
 
   pub accepted_kept : IsKept journal' p'
   accepted_kept = record {
@@ -196,7 +204,8 @@ module _ (journal journal' : Noted) (p p' : Pipeline) (is : IsKept journal p) (c
     reply = reply_now;
   }
 
-  pub accepted_given : IsGiven (known_of journal' p') (length p.submissions.items + 1)
+  pub accepted_given : IsGiven (known_of journal' p') (record { number = length p.submissions.items + 1; domain = tx.begun.domain })
   accepted_given =
-      let count : length p'.submissions.items ≡ length (sents (answers journal'.log (line_of p'))) = length-submissions journal'.log journal'.marks (line_of p') accepted_kept.current in
-      (omega arith, omega (arith, count, ap length submissions, length-append p.submissions.items (sub ∷ [])))
+      let last : length p.submissions.items + 1 - 1 ≡ length p.submissions.items = omega arith in
+      let there : slice_get p'.submissions.items (length p.submissions.items + 1 - 1) ≡ Some sub = ap (slice_get p'.submissions.items) last ∙ ap (λ (ss : List Submission). slice_get ss (length p.submissions.items)) submissions ∙ slice_get_seam p.submissions.items sub [] in
+      (omega arith, given_domain journal' p' accepted_kept (length p.submissions.items + 1 - 1) sub there)

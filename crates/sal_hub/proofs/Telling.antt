@@ -17,7 +17,7 @@ use Rattle.sal_history.specs.declared.call.Call.TheVariants.{Take, Unlisten}
 use Rattle.sal_history.specs.declared.call.Entry.{Entry}
 use Rattle.sal_history.specs.declared.reply.Reply.TheVariants.{Accepted, Batch as Told, Listener as Made, Refused}
 use Rattle.sal_history.specs.World as world
-use Rattle.sal_history.specs.History.{Answered, batch_of, commits, entries_of, fault_if, history, is_live, listen_refusal, listening, refused_or, reply_to, taken, trees_at}
+use Rattle.sal_history.specs.History.{Answered, batch_of, commits, entries_of, fault_if, history, listen_refusal, listening, refused_or, reply_to, taken, trees_at}
 use Rattle.sal_history.specs.Listeners.{Listening, has_listener, listener_at, listeners}
 use Rattle.sal_hub.specs.declared.listener.Listener.{Listener}
 use Rattle.sal_hub.specs.declared.listener.ListenerId.{ListenerId}
@@ -29,14 +29,13 @@ use Rattle.sal_hub.specs.Current.{IsKept, answers, known_of}
 use Rattle.sal_hub.specs.Domains.{IsDomain}
 use Rattle.sal_hub.specs.Journals.{Noted, jotted}
 use Rattle.sal_hub.specs.Known.{Known, more}
-use Rattle.sal_hub.specs.Lines.{line_of, world_in}
+use Rattle.sal_hub.specs.Lines.{is_live_in, line_of, world_in}
 use Rattle.sal_hub.specs.Listeners.{Adds, AreListeners, batch_in, call_of, has_in, listening_of, new_of, opened_in, refusal_by}
 use Rattle.sal_hub.specs.Tokens.{IsListener}
 use Rattle.sal_hub.proofs.Heard.{has_is, listened_is, made_listeners, listener_is, refusal_is}
 use Rattle.sal_hub.proofs.Listed.{slice_get_seam}
 use Rattle.sal_hub.proofs.Listened.{IsQuiet, listeners_steady, quiet_refused}
-use Rattle.sal_hub.proofs.Serving.{count_is, domain_is, domains_are, some_domain}
-use Rattle.sal_hub.proofs.Standing.{live_zero}
+use Rattle.sal_hub.proofs.Serving.{count_is, domain_is, domains_are, live_within}
 
 module _ (journal : Noted) (p : Pipeline) (is : IsKept journal p) where
   abbrev w : List world.Domain
@@ -48,7 +47,7 @@ module _ (journal : Noted) (p : Pipeline) (is : IsKept journal p) where
   trees_are : (n : ℕ) (d : Domain) → n < length p.domains.items → d ≡ get_or p.domains.items n d → (s : Store) → trees_of d.commits.items s ≡ trees_at w done n s
   trees_are n d h at s = let here : IsDomain (known_of journal p) n d = domain_is journal p is n d h at in λ i. tree_at (here.opening i) (here.commits i) s
 
-  pub opened_reply : (ask : Ask) (d : Domain) → ask.domain < length p.domains.items → d ≡ get_or p.domains.items ask.domain d → listen_refusal (answers journal.log (line_of p)) ask.domain ≡ None
+  pub opened_reply : (ask : Ask) (d : Domain) → ask.domain < length p.domains.items → d ≡ get_or p.domains.items ask.domain d → listen_refusal (world_in (line_of p).domains) (answers journal.log (line_of p)) ask.domain ≡ None
       → reply_to (world_in (line_of p).domains) (answers journal.log (line_of p)) ask.client (call_of ask) ≡ Made (length (listeners (answers journal.log (line_of p))) + 1) ask.domain ask.path.now (opened_in d ask)
   opened_reply ask d h at allowed =
       let trees = trees_are ask.domain d h at ask.store in
@@ -56,7 +55,7 @@ module _ (journal : Noted) (p : Pipeline) (is : IsKept journal p) where
       ap (λ (o : Option CallFault). refused_or o (listening w done ask.domain ask.store ask.path.now)) allowed
       ∙ (λ i. Made (length (listeners done) + 1) ask.domain ask.path.now (opened (sym trees i) ask.path.now (sym count i)))
 
-  pub refused_reply : (ask : Ask) (f : CallFault) → listen_refusal (answers journal.log (line_of p)) ask.domain ≡ Some f
+  pub refused_reply : (ask : Ask) (f : CallFault) → listen_refusal (world_in (line_of p).domains) (answers journal.log (line_of p)) ask.domain ≡ Some f
       → reply_to (world_in (line_of p).domains) (answers journal.log (line_of p)) ask.client (call_of ask) ≡ Refused f
   refused_reply ask f why = ap (λ (o : Option CallFault). refused_or o (listening w done ask.domain ask.store ask.path.now)) why
 
@@ -123,19 +122,17 @@ module _ (journal journal' : Noted) (p : Pipeline) (is : IsKept journal p) (ls l
   abbrev before : List Answered
   before = answers journal.log (line_of p)
 
-  pub unmade_listeners : (f : CallFault) → refusal_by ask.domain ls.live ≡ Some f → AreListeners (known_of journal' p) ls
+  pub unmade_listeners : (f : CallFault) → refusal_by (is_live_in (line_of p).domains ask.domain) ask.domain ls.live ≡ Some f → AreListeners (known_of journal' p) ls
   unmade_listeners f why =
-      refused_listeners journal journal' p ask.client (call_of ask) log ls f are (refused_reply journal p is ask f (sym (refusal_is (known_of journal p) ls are ask.domain) ∙ why))
+      refused_listeners journal journal' p ask.client (call_of ask) log ls f are (refused_reply journal p is ask f (sym (refusal_is (known_of journal p) ls are (is_live_in (line_of p).domains ask.domain) ask.domain (is.current.live ask.domain)) ∙ why))
 
-  module _ (allowed : refusal_by ask.domain ls.live ≡ None) (d : Domain) (at : d ≡ get_or p.domains.items ask.domain d) (o : Opened) (stands : o ≡ opened_in d ask) (adds : Adds ls (new_of ask o.version) ls') where
+  module _ (allowed : refusal_by (is_live_in (line_of p).domains ask.domain) ask.domain ls.live ≡ None) (d : Domain) (at : d ≡ get_or p.domains.items ask.domain d) (o : Opened) (stands : o ≡ opened_in d ask) (adds : Adds ls (new_of ask o.version) ls') where
     within : ask.domain < length p.domains.items
-    within =
-        let zeroth : ask.domain ≡ 0 = live_zero ask.domain (open_live (is_live ask.domain) (NoDomain ask.domain) (fault_if (nat_le 256 ls.live) TooManyListeners) allowed) in
-        omega (arith, zeroth, some_domain journal p is)
+    within = live_within journal p is ask.domain (open_live (is_live_in (line_of p).domains ask.domain) (NoDomain ask.domain) (fault_if (nat_le 256 ls.live) TooManyListeners) allowed)
 
     reply_now : reply_to (world_in (line_of p).domains) before ask.client (call_of ask) ≡ Made (length (listeners before) + 1) ask.domain ask.path.now o
     reply_now =
-        opened_reply journal p is ask d within at (sym (refusal_is (known_of journal p) ls are ask.domain) ∙ allowed)
+        opened_reply journal p is ask d within at (sym (refusal_is (known_of journal p) ls are (is_live_in (line_of p).domains ask.domain) ask.domain (is.current.live ask.domain)) ∙ allowed)
         ∙ ap (λ (x : Opened). Made (length (listeners before) + 1) ask.domain ask.path.now x) (sym stands)
 
     pub opened_listeners : AreListeners (known_of journal' p) ls'

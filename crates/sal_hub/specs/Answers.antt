@@ -2,7 +2,7 @@
 -- wanting, all as it was.
 use Rattle.std.specs.Prelude.{◌≡◌, ℕ, ◌<◌, ◌≤◌, length, Result, MatchResult}
 use Rattle.sal_rows.specs.declared.outcome.CallFault.{CallFault}
-use Rattle.sal_rows.specs.declared.outcome.CallFault.TheVariants.{HistoryFull, PipelineFull, NoDomain, NoListener, TooManyListeners, PreviousOpen, ChainFailed, ChainClosed, NoMemory, TxSpent}
+use Rattle.sal_rows.specs.declared.outcome.CallFault.TheVariants.{HistoryFull, NoMemory}
 use Rattle.sal_history.specs.declared.call.Entry.{Entry}
 use Rattle.sal_history.specs.declared.reply.Reply.{Reply}
 use Rattle.sal_history.specs.declared.reply.Reply.TheVariants.{Refused}
@@ -23,14 +23,7 @@ pub record Made (old new : Known) (e : Entry) (answer : Reply) : Type 0 where
 abbrev pub Fails : Known → Known → Entry → CallFault → Type 0
 Fails old new e HistoryFull = (limit ≤ length old.log) × (new ≡ old)
 Fails old new e NoMemory = new ≡ old
-Fails old new e PipelineFull = Made old new e (Refused PipelineFull)
-Fails old new e (NoDomain id) = Made old new e (Refused (NoDomain id))
-Fails old new e (NoListener id) = Made old new e (Refused (NoListener id))
-Fails old new e TooManyListeners = Made old new e (Refused TooManyListeners)
-Fails old new e PreviousOpen = Made old new e (Refused PreviousOpen)
-Fails old new e (ChainFailed receipt) = Made old new e (Refused (ChainFailed receipt))
-Fails old new e ChainClosed = Made old new e (Refused ChainClosed)
-Fails old new e TxSpent = Made old new e (Refused TxSpent)
+Fails old new e fault = Made old new e (Refused fault)
 
 -- a call that answers with its good answer, or with a fault
 abbrev pub Calls : {X : Type 0} → Known → Known → Entry → (X → Reply) → Result X CallFault → Type 0

@@ -5,8 +5,8 @@ use Rattle.sal_rows.specs.declared.outcome.Mode.{Mode}
 use Rattle.sal_tx.specs.declared.tx.Submission.{Submission}
 use Rattle.sal_history.specs.declared.call.Call.{Call}
 use Rattle.sal_history.specs.declared.call.Call.TheVariants.{Begin, ChainBegin}
-use Rattle.sal_history.specs.History.{chain_domains, history, is_closed, last_begun, sents}
-use Rattle.sal_history.specs.Submissions.{last_receipt}
+use Rattle.sal_history.specs.History.{Answered, began_at, chain_domains, history, is_closed, last_begun, sents}
+use Rattle.sal_history.specs.Submissions.{Base, Sent, last_receipt}
 use Rattle.sal_hub.specs.declared.chains.Chains.{Chains}
 use Rattle.sal_hub.specs.declared.pipeline.Pipeline.{Pipeline}
 use Rattle.sal_hub.specs.declared.start.Footing.{Footing}
@@ -22,6 +22,15 @@ pub record AreEven (chains : Chains) : Type 0 where
   pub begun : length chains.begun.items ≡ length chains.domains.items
   pub sent : length chains.sent.items ≡ length chains.domains.items
 
+-- where it is of a chain, it is in the domain of that chain
+abbrev pub IsInPlace : List Answered → Base → Type 0
+IsInPlace answered base = (id : ℕ) → base.chain ≡ Some id → slice_get (chain_domains answered) (id - 1) ≡ Some base.domain
+
+-- each transaction of a chain, begun or submitted, is in the domain of the chain
+pub record AreInPlace (answered : List Answered) : Type 0 where
+  pub begun : (place : ℕ) (base : Base) → began_at answered place ≡ Some base → IsInPlace answered base
+  pub sent : (i : ℕ) (s : Sent) → slice_get (sents answered) i ≡ Some s → IsInPlace answered s.base
+
 -- their domains, whether they are closed, and the last that was begun and submitted in each
 pub record AreChains (known : Known) (chains : Chains) : Type 0 where
   pub even : AreEven chains
@@ -29,6 +38,7 @@ pub record AreChains (known : Known) (chains : Chains) : Type 0 where
   pub closed : (id : ℕ) → flag_in chains.closed.items id ≡ is_closed (history known.world known.log) id
   pub begun : (id : ℕ) → noted_in chains.begun.items id ≡ last_begun (history known.world known.log) id
   pub sent : (id : ℕ) → noted_in chains.sent.items id ≡ last_receipt (sents (history known.world known.log)) (Some id)
+  pub places : AreInPlace (history known.world known.log)
 
 -- the call that begins a transaction of a domain, or the next one of a chain
 abbrev pub call_of : ℕ → Option ℕ → Mode → Call

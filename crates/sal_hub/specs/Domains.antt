@@ -11,7 +11,7 @@ use Rattle.sal_hub.specs.Known.{Known}
 -- the domain of this number, with its commits so far
 pub record IsDomain (known : Known) (n : ℕ) (d : Domain) : Type 0 where
   pub number : d.number ≡ n
-  pub live : d.live ≡ is_live n
+  pub live : d.live ≡ is_live known.world (history known.world known.log) n
   pub schema : d.schema.value ≡ table_of known.world n
   pub kept : AreKept d.commits.items
   pub opening : opening_in d.commits.items ≡ opening_of known.world n

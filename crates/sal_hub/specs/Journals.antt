@@ -1,5 +1,5 @@
 -- The log, with what is looked up in it.
-use Rattle.std.specs.Prelude.{◌≡◌, ℕ, Bool, false, List, [], ◌∷◌, ◌++◌, length, slice_index_or}
+use Rattle.std.specs.Prelude.{◌≡◌, ℕ, Bool, false, List, [], ◌∷◌, ◌++◌, ◌-◌, length, slice_index_or, take}
 use Rattle.std.specs.BTreeMap.{BTreeMap}
 use Rattle.sal_history.specs.declared.call.Call.{Call}
 use Rattle.sal_history.specs.declared.call.Entry.{Entry}
@@ -23,3 +23,7 @@ pub record IsNoted (log : List Entry) (marks : List Bool) (counts : BTreeMap ℕ
 -- the log with one more entry of the client
 abbrev pub jotted : List Entry → ℕ → Call → List Entry
 jotted log client call = log ++ record { client = client; number = entries_of log client; call = call } ∷ []
+
+-- the journal without its last entry
+abbrev pub taken_back : Noted → Noted
+taken_back j = record { log = take (length j.log - 1) j.log; marks = take (length j.log - 1) j.marks }

@@ -10,9 +10,13 @@ pub mod Known
 pub mod Lines
 pub mod Listeners
 pub mod Marks
+pub mod Mounted
+pub mod Notified
 pub mod Opened
 pub mod Openings
+pub mod Routed
 pub mod Seen
+pub mod Services
 pub mod Starts
 pub mod Submits
 pub mod Tokens

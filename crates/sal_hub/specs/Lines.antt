@@ -1,5 +1,6 @@
 -- What a hub keeps beside its log: the domains with their commits, the submissions, the outcomes, and which chains failed.
-use Rattle.std.specs.Prelude.{◌≡◌, ℕ, ◌+◌, ◌≤◌, Bool, List, [], ◌∷◌, ◌++◌, length, map, take, Option, Some, All, slice_get}
+use Rattle.std.specs.Prelude.{◌≡◌, ℕ, zero, suc, ◌+◌, ◌<◌, ◌≤◌, Bool, List, [], ◌∷◌, ◌++◌, false, length, map, take, Option, Some, All, slice_get}
+use Rattle.std.specs.Option.{option_map_or}
 use Rattle.sal_types.specs.declared.value.Store.{Store}
 use Rattle.sal_types.specs.declared.value.Store.TheVariants.{Config, Oper}
 use Rattle.sal_types.specs.declared.row.Row.{Row}
@@ -13,7 +14,7 @@ use Rattle.sal_commit.specs.declared.domain.Domain.{Domain}
 use Rattle.sal_commit.specs.Deciding.{LieBelow}
 use Rattle.sal_commit.specs.Stamps.{receipts_of}
 use Rattle.sal_history.specs.World as world
-use Rattle.sal_history.specs.History.{decide_next, is_live}
+use Rattle.sal_history.specs.History.{decide_next}
 use Rattle.sal_history.specs.Submissions.{Sent, done_chains, done_ops, failing}
 use Rattle.sal_hub.specs.declared.pipeline.Pipeline.{Pipeline}
 use Rattle.sal_hub.specs.CommitReceipts.{commit_receipts}
@@ -44,6 +45,10 @@ shown d =
 
 abbrev pub line_of : Pipeline → Line
 line_of p = record { domains = map shown p.domains.items; submissions = p.submissions.items; outcomes = p.outcomes.items; failures = p.failures.items }
+
+-- the domain of this number is live, by its flag; there is none behind the last
+abbrev pub is_live_in : List Shown → ℕ → Bool
+is_live_in domains n = option_map_or (λ (d : Shown). d.live) (slice_get domains n) false
 
 -- ---- as the log's definitions have it
 
@@ -76,16 +81,15 @@ receipts_in line n = commit_receipts n (sents_in line) line.outcomes
 -- a domain has its number, and the commits that the outcomes tell, with their chains and receipts
 pub record IsStored (line : Line) (n : ℕ) (d : Shown) : Type 0 where
   pub number : d.number ≡ n
-  pub live : d.live ≡ is_live n
   pub commits : d.ops ≡ commits_in line n
   pub chains : d.chains ≡ chains_in line n
   pub receipts : d.receipts ≡ receipts_in line n
 
--- A submission stands on a commit of domain 0, and its chain is one that was opened; its view is its base after its
+-- A submission stands on a commit of its domain, and its chain is one that was opened; its view is its base after its
 -- operations, whose rows lie below their paths.
 pub record Stands (line : Line) (s : Submission) : Type 0 where
-  pub domain : s.domain ≡ 0
-  pub base : s.base_commit ≤ length (commits_in line 0)
+  pub domain : s.domain < length line.domains
+  pub base : s.base_commit ≤ length (commits_in line s.domain)
   pub chain : IsWithin (length line.failures) s.chain
   pub view : (store : Store) → rows_in s.view store ≡ apply_ops (rows_in s.base store) store s.changes
   pub below : LieBelow s.changes
@@ -103,6 +107,15 @@ abbrev pub AllKept : List Domain → Type 0
 AllKept ds = All (λ (d : Domain). AreKept d.commits.items) ds
 
 -- ---- what calls do
+
+-- the domain of this number is live or not
+abbrev pub with_live : List Shown → ℕ → Bool → List Shown
+with_live [] n live = []
+with_live (d ∷ ds) zero live = record d { live = live } ∷ ds
+with_live (d ∷ ds) (suc n) live = d ∷ with_live ds n live
+
+abbrev pub set_live : Line → ℕ → Bool → Line
+set_live line n live = record { domains = with_live line.domains n live; submissions = line.submissions; outcomes = line.outcomes; failures = line.failures }
 
 -- the list has grown at its end, if at all
 abbrev pub Grows : {X : Type 0} → List X → List X → Type 0
@@ -132,10 +145,11 @@ cut_all (d ∷ ds) (k ∷ ks) = record d { ops = take k d.ops; chains = take k d
 abbrev pub counts_of : List Shown → List ℕ
 counts_of ds = map (λ (d : Shown). length d.ops) ds
 
--- the next n of the submissions were decided, and as many chains are known
+-- the next n of the submissions were decided, the same domains are live, and as many chains are known
 pub record AreDecided (old : Line) (n : ℕ) (new : Line) : Type 0 where
   pub sound : IsSound new
   pub world : world_in new.domains ≡ world_in old.domains
+  pub live : (domain : ℕ) → is_live_in new.domains domain ≡ is_live_in old.domains domain
   pub submissions : new.submissions ≡ old.submissions
-  pub outcomes : new.outcomes ≡ old.outcomes ++ decide_next (world_in old.domains) (sents_in old) old.outcomes n
+  pub outcomes : new.outcomes ≡ old.outcomes ++ decide_next (world_in old.domains) (is_live_in old.domains) (sents_in old) old.outcomes n
   pub chains : length new.failures ≡ length old.failures

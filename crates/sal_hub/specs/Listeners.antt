@@ -14,7 +14,7 @@ use Rattle.sal_history.specs.declared.call.Call.{Call}
 use Rattle.sal_history.specs.declared.call.Call.TheVariants.{Listen}
 use Rattle.sal_history.specs.declared.reply.Reply.{Reply}
 use Rattle.sal_history.specs.declared.reply.Reply.TheVariants.{Listener as Made}
-use Rattle.sal_history.specs.History.{commits, fault_if, history, is_live}
+use Rattle.sal_history.specs.History.{commits, fault_if, history}
 use Rattle.sal_history.specs.Listeners.{Listening, is_removed, listener_at, listeners, removes_one, version}
 use Rattle.sal_hub.specs.declared.listener.Listener.{Listener}
 use Rattle.sal_hub.specs.declared.listener.ListenerId.{ListenerId}
@@ -76,9 +76,9 @@ batch_in d l = batch (has_own_row d.schema.value l.path) (trees_of d.commits.ite
 abbrev pub IsBatchFor : List Domain → List Listener → ℕ → Batch → Type 0
 IsBatchFor ds ls index b = (d : Domain) (l : Listener) → slice_get ls index ≡ Some l → slice_get ds l.domain ≡ Some d → b ≡ batch_in d l
 
--- why a domain gets no further listener where so many are live
-abbrev pub refusal_by : ℕ → ℕ → Option CallFault
-refusal_by domain live = option_or (fault_if (not (is_live domain)) (NoDomain domain)) (fault_if (nat_le 256 live) TooManyListeners)
+-- why a domain, which is live or not, gets no further listener where there are so many live ones
+abbrev pub refusal_by : Bool → ℕ → ℕ → Option CallFault
+refusal_by live domain count = option_or (fault_if (not live) (NoDomain domain)) (fault_if (nat_le 256 count) TooManyListeners)
 
 -- the client has the listener at the index, and it is live
 abbrev pub has_in : List Listener → ℕ → ℕ → Bool

@@ -1,12 +1,11 @@
--- The domains that devices open.
-use Rattle.std.specs.Prelude.{ℕ, ◌+◌, List, [], ◌∷◌}
+-- The domains that devices open: the controller's own is live.
+use Rattle.std.specs.Prelude.{ℕ, ◌+◌, List, [], ◌∷◌, nat_eq}
 use Rattle.sal_commit.specs.Opening.{opening_of_device}
 use Rattle.sal_history.specs.declared.opening.Device.{Device}
-use Rattle.sal_history.specs.History.{is_live}
 use Rattle.sal_hub.specs.Lines.{Shown}
 
 abbrev pub shown_of : ℕ → Device → Shown
-shown_of n device = record { number = n; live = is_live n; table = device.schema.value; opening = opening_of_device device; ops = []; chains = []; receipts = 0 ∷ [] }
+shown_of n device = record { number = n; live = nat_eq n 0; table = device.schema.value; opening = opening_of_device device; ops = []; chains = []; receipts = 0 ∷ [] }
 
 -- numbered from n on
 abbrev pub shown_from : ℕ → List Device → List Shown

@@ -1,5 +1,5 @@
--- The tokens that a hub has given: transactions, receipts, chains and listeners.
-use Rattle.std.specs.Prelude.{◌≡◌, ℕ, ◌-◌, ◌<◌, ◌≤◌, List, [], length, Option, Some, slice_get}
+-- The tokens that a hub has given: transactions, receipts, chains, listeners and requests.
+use Rattle.std.specs.Prelude.{◌≡◌, ℕ, ◌-◌, ◌<◌, List, [], length, Option, Some, slice_get}
 use Rattle.std.specs.Option.{option_map}
 use Rattle.sal_rows.specs.declared.op.Op.{Op}
 use Rattle.sal_rows.specs.declared.outcome.Mode.{Mode}
@@ -12,8 +12,12 @@ use Rattle.sal_tx.specs.Views.{rows_in}
 use Rattle.sal_history.specs.World.{table_of}
 use Rattle.sal_history.specs.Listeners.{Listening, listener_at}
 use Rattle.sal_history.specs.History.{began_at, chain_domains, history, sents}
+use Rattle.sal_history.specs.Services.{rpc_of}
+use Rattle.sal_history.specs.Submissions.{Sent}
+use Rattle.sal_hub.specs.declared.call_id.CallId.{CallId}
 use Rattle.sal_hub.specs.declared.chain.Chain.{Chain}
 use Rattle.sal_hub.specs.declared.listener.ListenerId.{ListenerId}
+use Rattle.sal_hub.specs.declared.receipt.Receipt.{Receipt}
 use Rattle.sal_hub.specs.Known.{Known}
 
 abbrev pub begun_of : Tx → Begun
@@ -50,9 +54,9 @@ pub record IsFresh (known : Known) (asked : ℕ) (member : Option ℕ) (under : 
   pub mode : mode_of tx ≡ under
   pub ops : ops_of tx ≡ []
 
--- the number is that of a receipt that was given
-abbrev pub IsGiven : Known → ℕ → Type 0
-IsGiven known receipt = (0 < receipt) × (receipt ≤ length (sents (history known.world known.log)))
+-- the receipt was given, for a submission of its domain
+abbrev pub IsGiven : Known → Receipt → Type 0
+IsGiven known receipt = (0 < receipt.number) × (option_map (λ (s : Sent). s.base.domain) (slice_get (sents (history known.world known.log)) (receipt.number - 1)) ≡ Some receipt.domain)
 
 -- the chain was opened, over its domain
 abbrev pub IsChain : Known → Chain → Type 0
@@ -61,3 +65,7 @@ IsChain known chain = (0 < chain.id) × (slice_get (chain_domains (history known
 -- the listener was made, over its domain
 abbrev pub IsListener : Known → ListenerId → Type 0
 IsListener known id = (0 < id.number) × (option_map (λ (l : Listening). l.domain) (listener_at (history known.world known.log) id.number) ≡ Some id.domain)
+
+-- the request was made, of its RPC
+abbrev pub IsCall : Known → CallId → Type 0
+IsCall known id = (0 < id.number) × (rpc_of (history known.world known.log) id.number ≡ Some id.rpc)

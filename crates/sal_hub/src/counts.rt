@@ -39,4 +39,19 @@ impl Counts {
         self.map.insert(client, count)?;
         Ok(())
     }
+
+    /// Counts one entry of the client less, unless it has none. It takes no memory.
+    pub(crate) fn take_back(&mut self, client: u32)
+        ensures { (c : ℕ) → count_in self.new.map c ≡ count_in self.old.map c - (if nat_eq client c then 1 else 0) }
+    {
+        if let Some(count) = self.map.get_mut(&client) {
+            *count = less_one(*count);
+        }
+    }
+}
+
+fn less_one(count: u32) -> u32
+    ensures { result ≡ count - 1 }
+{
+    if count == 0 { 0 } else { count - 1 }
 }

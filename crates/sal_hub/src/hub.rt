@@ -1,5 +1,5 @@
 //! The hub.
-ghost use Rattle.std.specs.Prelude.{◌≡◌, ◌≤◌, None, Some, [], IfOk, MatchResult, length};
+ghost use Rattle.std.specs.Prelude.{◌≡◌, ◌<◌, ◌≤◌, None, Some, [], IfOk, IfSome, MatchResult, length};
 ghost use Rattle.sal_types.specs.declared.value.Store.{Store as Of};
 ghost use Rattle.sal_rows.specs.declared.batch.Batch.{Batch as Told};
 ghost use Rattle.sal_rows.specs.declared.outcome.Outcome.{Outcome as Decided};
@@ -32,12 +32,16 @@ use crate::opening::OpenFault;
 use crate::pipeline::Pipeline;
 use crate::receipt::Receipt;
 use crate::seen::Seen;
+use crate::services::Services;
 use crate::settle::{pump, settle};
 use crate::start::{begin, last_commit};
 use crate::submit::submit;
 use sal_commit::Domain;
 use sal_history::{Call, Device, Entry};
+use sal_mount::Mounts;
+use sal_note::Notes;
 use sal_rows::{Batch, CallFault, Mode, Outcome};
+use sal_rpc::Router;
 use sal_tree::Pair;
 use sal_tx::{Tx, WriteTx};
 use sal_types::{NoMemory, Path, Store};
@@ -53,11 +57,12 @@ pub const MAX_PENDING: usize = 4096;
 /// The hub: the log of the calls, and what it keeps of them. A contract sees the opening trees of the domains and the log.
 #[derive(Drop)]
 pub struct Hub {
-    pipeline: Pipeline,
-    journal: Journal,
-    chains: Chains,
-    marks: Marks,
-    listeners: Listeners,
+    pub(crate) pipeline: Pipeline,
+    pub(crate) journal: Journal,
+    pub(crate) chains: Chains,
+    pub(crate) marks: Marks,
+    pub(crate) listeners: Listeners,
+    pub(crate) services: Services,
 }
 
 impl Model for Hub {
@@ -74,7 +79,7 @@ impl Model for Hub {
 
     ghost view = { λ h. known_of h.journal h.pipeline };
 
-    ghost invariant = { λ h. IsWhole h.journal h.pipeline h.chains h.marks h.listeners };
+    ghost invariant = { λ h. IsWhole h.journal h.pipeline h.chains h.marks h.listeners h.services };
 }
 
 // The place of the entry that began the transaction.
@@ -95,6 +100,7 @@ impl Hub {
         ensures { MatchResult result (λ hub. (fault_of (world_of devices.items) ≡ None) × (hub ≡ record { world = world_of devices.items; log = [] })) (IsFaultOf (world_of devices.items)) }
     {
         let domains = open_all(alloc, &devices)?;
+        let mounts = Mounts::new(alloc, devices.len() as u32);
         let pipeline = Pipeline {
             domains,
             submissions: Vec::new(alloc),
@@ -105,12 +111,19 @@ impl Hub {
         let chains = Chains::new(alloc);
         let marks = Marks::new(alloc);
         let listeners = Listeners::new(alloc);
+        let router = Router::new(alloc);
+        let notes = Notes::new(alloc);
         Ok(Hub {
             pipeline,
             journal,
             chains,
             marks,
             listeners,
+            services: Services {
+                mounts,
+                router,
+                notes,
+            },
         })
     }
 
@@ -140,6 +153,22 @@ impl Hub {
         ensures { (s : Of) → rows_in result.now s ≡ newest_tree self.now.world self.now.log 0 s }
     {
         &last_commit(&self.pipeline.domains[0].commits).trees
+    }
+
+    /// How many commits the domain has.
+    pub fn newest_of(&self, domain: u32) -> u64
+        requires { domain < length self.now.world }
+        ensures { result ≡ length (commits (history self.now.world self.now.log) domain) }
+    {
+        self.pipeline.domains[domain as usize].commits.len() as u64 - 1
+    }
+
+    /// The newest trees of the domain.
+    pub fn trees_of(&self, domain: u32) -> &Pair
+        requires { domain < length self.now.world }
+        ensures { (s : Of) → rows_in result.now s ≡ newest_tree self.now.world self.now.log domain s }
+    {
+        &last_commit(&self.pipeline.domains[domain as usize].commits).trees
     }
 
     /// Begins a transaction of the domain in the mode.
@@ -176,7 +205,7 @@ impl Hub {
     ) -> Result<Receipt, (WriteTx, CallFault)>
         requires token { IsBegun self.old tx.begun tx.base }
         ensures answer { CallsOr self.old self.new (entry_of self.old client (Submit tx.begun.place tx.changes)) (λ (receipt : Given). Numbered receipt.number) tx result }
-        ensures given { IfOk result (λ receipt. IsGiven self.new receipt.number) }
+        ensures given { IfOk result (IsGiven self.new) }
     {
         if self.journal.is_full() {
             return Err((tx, CallFault::HistoryFull));
@@ -216,20 +245,30 @@ impl Hub {
         client: u32,
         receipt: Receipt,
     ) -> Result<Outcome, CallFault>
-        requires given { IsGiven self.old receipt.number }
-        ensures answer { Calls self.old self.new (entry_of self.old client (Settle receipt.number)) (λ (o : Decided). Settled 0 o) result }
+        requires given { IsGiven self.old receipt }
+        ensures answer { Calls self.old self.new (entry_of self.old client (Settle receipt.number)) (λ (o : Decided). Settled receipt.domain o) result }
     {
         if self.journal.is_full() {
             return Err(CallFault::HistoryFull);
         }
-        let number = receipt.number() as usize;
-        settle(alloc, &mut self.pipeline, &mut self.journal, client, number)
+        settle(
+            alloc,
+            &mut self.pipeline,
+            &mut self.journal,
+            client,
+            receipt,
+        )
     }
 
     /// Decides the first receipt that is pending, and answers it with its outcome; none where no receipt is pending. Where
     /// memory is wanting, it stays pending.
-    pub fn pump(&mut self, alloc: Global, client: u32) -> Result<Option<(u64, Outcome)>, CallFault>
+    pub fn pump(
+        &mut self,
+        alloc: Global,
+        client: u32,
+    ) -> Result<Option<(Receipt, Outcome)>, CallFault>
         ensures answer { Calls self.old self.new (entry_of self.old client Pump) pump_reply result }
+        ensures given { IfOk result (λ decided. IfSome decided (λ d. IsGiven self.new d.0)) }
     {
         if self.journal.is_full() {
             return Err(CallFault::HistoryFull);

@@ -1,7 +1,7 @@
 //! The log, with what is looked up in it.
 ghost use Rattle.std.specs.Prelude.{◌≡◌, ◌<◌, ◌≤◌, ◌↔◌, ◌||◌, ℕ, [], IsTrue, OnErr, OnOk, length, nat_eq};
 ghost use Rattle.sal_hub.specs.Answers.{limit};
-ghost use Rattle.sal_hub.specs.Journals.{jotted, mark_at};
+ghost use Rattle.sal_hub.specs.Journals.{jotted, mark_at, taken_back};
 
 use crate::counts::Counts;
 use crate::hub::MAX_ENTRIES;
@@ -62,11 +62,12 @@ impl Journal {
         self.marks.get(place).copied().unwrap_or(false)
     }
 
-    /// Adds an entry of the client.
+    /// Adds an entry of the client. Taken back, the log is as it was.
     pub(crate) fn add(&mut self, client: u32, call: Call) -> Result<(), NoMemory>
         requires { length self.old.log < limit }
         ensures log { OnOk result (self.new.log ≡ jotted self.old.log client call) }
         ensures marks { OnOk result ((k : ℕ) → mark_at self.new.marks k ≡ mark_at self.old.marks k) }
+        ensures undo { OnOk result (taken_back self.new ≡ self.old) }
         ensures err { OnErr result (self.new ≡ self.old) }
     {
         self.entries.reserve(1)?;
@@ -82,6 +83,20 @@ impl Journal {
             })
             .unwrap();
         Ok(())
+    }
+
+    /// Takes the last entry back, if there is one. It takes no memory.
+    pub(crate) fn take_back(&mut self)
+        ensures { self.new ≡ taken_back self.old }
+    {
+        let count = self.entries.len();
+        if count == 0 {
+            return;
+        }
+        let client = self.entries[count - 1].client;
+        self.counts.take_back(client);
+        self.entries.truncate(count - 1);
+        self.marks.truncate(count - 1);
     }
 
     /// Marks the transaction that began at the place as spent. It takes no memory.

@@ -1,21 +1,23 @@
 //! Laws of the tokens. The function does nothing; its contract is the law.
-ghost use Rattle.std.specs.Prelude.{ℕ};
 ghost use Rattle.sal_history.specs.declared.call.Entry.{Entry};
 ghost use Rattle.sal_tree.specs.declared.commit.Pair.{Pair};
 ghost use Rattle.sal_tx.specs.declared.begun.Begun.{Begun};
+ghost use Rattle.sal_hub.specs.declared.call_id.CallId.{CallId};
 ghost use Rattle.sal_hub.specs.declared.chain.Chain.{Chain};
 ghost use Rattle.sal_history.specs.Listeners.{Listening};
 ghost use Rattle.sal_hub.specs.declared.listener.ListenerId.{ListenerId};
+ghost use Rattle.sal_hub.specs.declared.receipt.Receipt.{Receipt};
 ghost use Rattle.sal_hub.specs.Known.{Known, more};
 ghost use Rattle.sal_hub.specs.Listeners.{IsMade};
-ghost use Rattle.sal_hub.specs.Tokens.{IsBegun, IsChain, IsGiven, IsListener};
+ghost use Rattle.sal_hub.specs.Tokens.{IsBegun, IsCall, IsChain, IsGiven, IsListener};
 
 /// A token stays one when the log grows: transactions are never less begun, receipts never less given, chains never less
-/// opened, listeners never less made.
+/// opened, listeners and requests never less made.
 pub fn tokens_last()
     ensures begun { (known : Known) (e : Entry) (begun : Begun) (base : Pair) → IsBegun known begun base → IsBegun (more known e) begun base }
-    ensures given { (known : Known) (e : Entry) (receipt : ℕ) → IsGiven known receipt → IsGiven (more known e) receipt }
+    ensures given { (known : Known) (e : Entry) (receipt : Receipt) → IsGiven known receipt → IsGiven (more known e) receipt }
     ensures opened { (known : Known) (e : Entry) (chain : Chain) → IsChain known chain → IsChain (more known e) chain }
     ensures listener { (known : Known) (e : Entry) (id : ListenerId) → IsListener known id → IsListener (more known e) id }
+    ensures called { (known : Known) (e : Entry) (id : CallId) → IsCall known id → IsCall (more known e) id }
     ensures made { (known : Known) (e : Entry) (id : ListenerId) (l : Listening) → IsMade known id l → IsMade (more known e) id l }
 {}

@@ -3,29 +3,42 @@
 //! | item | what it is |
 //! |---|---|
 //! | `Hub` | the domains and the log; a contract sees the opening trees and the log alone, `Known` |
-//! | `Hub::open` | a hub over some devices, unless an opening tree is refused (`OpenFault`) |
+//! | `Hub::open` | a hub over some devices, unless an opening tree is refused (`OpenFault`); each device has its domain, the first is the controller's own |
 //! | `Hub::begin`, `submit`, `cancel`, `settle`, `pump` | the shared calls: each makes one entry of the log and is answered as the log gives |
 //! | `Hub::open_chain`, `chain_begin`, `close_chain` | the same, of transaction chains (MD-SAL `DOMTransactionChain`) |
 //! | `Hub::listen`, `take`, `unlisten` | the same, of listeners (MD-SAL `DOMDataTreeChangeListener`): what stands at a path, and then what each commit changed there |
+//! | `Hub::mount`, `unmount`, `mount_at` | the same, of mounts (MD-SAL `DOMMountPointService`): the domain of a device is live from its mount to its unmount |
+//! | `Hub::provide`, `withdraw`, `invoke`, `next_call`, `answer`, `collect` | the same, of RPCs (MD-SAL `DOMRpcProviderService`, `DOMRpcService`): who answers which RPC, the requests, and what they are answered (`sal_rpc`) |
+//! | `Hub::subscribe`, `offer`, `take_notes` | the same, of notifications (MD-SAL `DOMNotificationService`, `DOMNotificationPublishService`): who gets which, and what waits for whom (`sal_note`) |
 //! | `Hub::mark`, `after`, `has_mark` | the same, of marks, by which clients can tell each other how far they are; and a look that makes no entry |
-//! | `Receipt`, `Chain`, `ListenerId` | the tokens of a submission, of a chain and of a listener |
+//! | `Receipt`, `Chain`, `ListenerId`, `CallId` | the tokens of a submission, of a chain, of a listener and of a request |
 //! | `Seen` | what a look for a mark finds |
 //! | `laws` | a function that does nothing, with a law of the tokens as its contract |
 //!
 //! Each call tests first that the log has room, then takes all memory that it needs, and changes what is seen last and all at
-//! once: where memory is wanting, the hub is as it was. A settle that finds no memory takes back what it decided.
+//! once: where memory is wanting, the hub is as it was. A settle that finds no memory takes back what it decided, and a call on a
+//! service that finds none takes its entry back.
 //!
-//! What is kept beside the log is tied to it by `specs/Current`: the submissions, the outcomes and the marks of spent
-//! transactions are those of the answered log, and `specs/Lines` says that the commits of each domain, and the receipts by which
-//! chains failed, are those that the outcomes tell. What is kept of chains is tied to the log by `specs/Chains`, what is kept
-//! of listeners by `specs/Listeners`, and the marks that were left by `specs/Marks`; `specs/Whole` has them all.
+//! What is kept beside the log is tied to it by `specs/Current`: the submissions, the outcomes, the marks of spent transactions
+//! and the flags of live domains are those of the answered log, and `specs/Lines` says that the commits of each domain, and the
+//! receipts by which chains failed, are those that the outcomes tell. What is kept of chains is tied to the log by
+//! `specs/Chains`, what is kept of listeners by `specs/Listeners`, the marks that were left by `specs/Marks`, and what each
+//! service keeps of its calls by `specs/Services`; `specs/Whole` has them all.
+//!
+//! A domain that is not live begins no transaction, opens no chain and makes no listener, and a submission that is decided after
+//! the unmount is not committed. Listeners of it are answered as before.
 //!
 //! The next transaction of a chain begins on the chain's last submission while that is pending: it shares the view of that
 //! submission, and has its base commit. Else it begins at the newest commit. A chain that failed begins no transaction, and its
-//! pending submissions are decided by the receipt that failed.
+//! pending submissions are decided by the receipt that failed. All transactions of a chain are of one domain.
 //!
 //! A listener is asked by its client: nothing is kept of what it was not told but the number of the last commit of which it was.
 //! A batch is made from the commits of the domain when it is taken.
+//!
+//! A service knows nothing of the hub: it keeps what its own calls come to, and answers whatever they were (`sal_rpc`,
+//! `sal_note`, `sal_mount`). The hub adds the entry of such a call, gives the call to the service, and hands on its answer, so
+//! that what the service keeps is at all times what the log's calls on it come to. A refused call is an entry, and a call of the
+//! service, too.
 //!
 //! ```
 //! let mut hub = Hub::open(alloc, devices)?;
@@ -35,16 +48,24 @@
 //! | call | cost |
 //! |---|---|
 //! | `open` | for each device the nodes of its trees, and the check of both |
-//! | `log`, `domains`, `newest`, `trees` | constant |
+//! | `log`, `domains`, `newest`, `trees`, `newest_of`, `trees_of` | constant |
 //! | `begin`, `cancel`, `open_chain`, `chain_begin`, `close_chain` | one search among the clients; a begin shares the nodes of the trees that it stands on |
 //! | `mark`, `after`; `has_mark` | the same, and one search among the marks; that search alone |
 //! | `listen` | one search among the clients, and a copy of the rows at the path and below it |
 //! | `take` | the same search, and the changes of each commit after the listener's version (`sal_listen`) |
 //! | `unlisten` | the same search |
+//! | `mount`, `unmount`, `mount_at` | the same, and some searches among mounts (`sal_mount`); a mount copies its path twice |
 //! | `submit` | the same, and a copy of the operations for the log |
 //! | `settle`, `pump` | the decision of each pending submission up to the receipt, or of the first (`sal_commit`), and one number for each domain; where memory is wanting, one look at each chain |
+//! | `provide`, `withdraw` | one search among the clients, two among the registrations, and a copy of the context for the log |
+//! | `invoke` | the same, one more search among the queues, and a copy of the input for the log |
+//! | `next_call`, `take_notes` | one search among the clients and one among the queues; nothing is copied |
+//! | `answer`, `collect` | one search among the clients, and a copy of the output |
+//! | `subscribe` | one search among the clients, one among the queues and one among the notifications, and a walk over the subscribers |
+//! | `offer` | one search among the clients and one among the notifications, a copy of the rows for the log, and for each subscriber two searches among the queues and a copy |
 #![tactic(auto)]
 
+mod call_id;
 mod chain;
 mod chain_calls;
 mod chains;
@@ -58,14 +79,20 @@ mod listener;
 mod listener_calls;
 mod listeners;
 mod marks;
+mod mount_calls;
+mod note_calls;
 mod opening;
 mod pipeline;
 mod receipt;
+mod rpc_calls;
 mod seen;
+mod service_calls;
+mod services;
 mod settle;
 mod start;
 mod submit;
 
+pub use call_id::CallId;
 pub use chain::Chain;
 pub use hub::{Hub, MAX_ENTRIES, MAX_PENDING};
 pub use listener::ListenerId;

@@ -1,11 +1,10 @@
 //! The domains with their commits, and the submissions with their outcomes.
 ghost use Rattle.std.specs.Prelude.{◌≡◌, ℕ, ◌+◌, ◌-◌, ◌<◌, ◌≤◌, [], ◌∷◌, ◌++◌, false, true, IfOk, MatchOption, OnErr, OnOk, Some, length, map, slice_get, take};
 ghost use Rattle.sal_graft.specs.Kept.{AreKept};
-ghost use Rattle.sal_history.specs.History.{is_live};
 ghost use Rattle.sal_hub.specs.Answers.{limit};
 ghost use Rattle.sal_hub.specs.Failures as failing;
 ghost use Rattle.sal_hub.specs.Journals.{jotted, mark_at};
-ghost use Rattle.sal_hub.specs.Lines.{AllKept, AreDecided, HasGrown, IsSound, counts_of, cut_all, line_of, shown};
+ghost use Rattle.sal_hub.specs.Lines.{AllKept, AreDecided, HasGrown, IsSound, counts_of, cut_all, is_live_in, line_of, set_live, shown};
 
 use crate::failures::{cut_failures, failure_of, is_done, note_failure};
 use crate::journal::Journal;
@@ -29,9 +28,8 @@ pub(crate) struct Pipeline {
 impl Pipeline {
     /// The domain of the number, if it is live.
     pub(crate) fn live(&self, domain: u32) -> Option<&Domain>
-        requires kept { AllKept self.now.domains.items }
-        requires sound { IsSound (line_of self.now) }
-        ensures live { MatchOption result (is_live domain ≡ false) (λ found. is_live domain ≡ true) }
+        requires { AllKept self.now.domains.items }
+        ensures live { MatchOption result (is_live_in (line_of self.now).domains domain ≡ false) (λ found. is_live_in (line_of self.now).domains domain ≡ true) }
         ensures found { MatchOption result (Unit {0}) (λ found. slice_get (map shown self.now.domains.items) domain ≡ Some (shown found.now)) }
         ensures kept { MatchOption result (Unit {0}) (λ found. AreKept found.now.commits.items) }
     {
@@ -45,14 +43,23 @@ impl Pipeline {
 
     /// Whether the domain of the number is live.
     pub(crate) fn is_live(&self, domain: u32) -> bool
-        requires kept { AllKept self.now.domains.items }
-        requires sound { IsSound (line_of self.now) }
-        ensures { result ≡ is_live domain }
+        requires { AllKept self.now.domains.items }
+        ensures { result ≡ is_live_in (line_of self.now).domains domain }
     {
         match self.live(domain) {
             None => false,
             Some(_) => true,
         }
+    }
+
+    /// The domain of the number is live from now on, or not.
+    pub(crate) fn set_live(&mut self, domain: u32, live: bool)
+        requires kept { AllKept self.old.domains.items }
+        requires there { domain < length self.old.domains.items }
+        ensures kept { AllKept self.new.domains.items }
+        ensures line { line_of self.new ≡ set_live (line_of self.old) domain live }
+    {
+        self.domains[domain as usize].live = live;
     }
 
     // Decides the submission at the index, which is the next one. Where memory is wanting, nothing changes that is seen.

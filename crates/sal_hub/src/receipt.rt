@@ -5,13 +5,14 @@ ghost use Rattle.std.specs.Prelude.{◌≡◌};
 #[derive(Clone, Copy, Debug, PartialEq, Eq)]
 pub struct Receipt {
     number: u64,
+    domain: u32,
 }
 
 impl Receipt {
-    pub(crate) fn of(number: u64) -> Receipt
-        ensures { result ≡ record { number = number } }
+    pub(crate) fn of(number: u64, domain: u32) -> Receipt
+        ensures { result ≡ record { number = number; domain = domain } }
     {
-        Receipt { number }
+        Receipt { number, domain }
     }
 
     /// Its number.
@@ -19,5 +20,12 @@ impl Receipt {
         ensures { result ≡ self.now.number }
     {
         self.number
+    }
+
+    /// The domain of the submission.
+    pub fn domain(&self) -> u32
+        ensures { result ≡ self.now.domain }
+    {
+        self.domain
     }
 }

@@ -1,5 +1,7 @@
 //! Settles and pumps.
-ghost use Rattle.std.specs.Prelude.{◌<◌, length};
+ghost use Rattle.std.specs.Prelude.{◌≡◌, ◌+◌, ◌<◌, IfOk, IfSome, Some, length, slice_get};
+ghost use Rattle.std.specs.Option.{option_map};
+ghost use Rattle.sal_tx.specs.declared.tx.Submission.{Submission as Sent};
 ghost use Rattle.sal_rows.specs.declared.outcome.Outcome.{Outcome as Decided};
 ghost use Rattle.sal_history.specs.declared.call.Call.TheVariants.{Pump, Settle};
 ghost use Rattle.sal_history.specs.declared.reply.Reply.TheVariants.{Settled};
@@ -11,8 +13,10 @@ ghost use Rattle.sal_hub.specs.Tokens.{IsGiven};
 
 use crate::journal::Journal;
 use crate::pipeline::Pipeline;
+use crate::receipt::Receipt;
 use sal_history::Call;
 use sal_rows::{CallFault, Outcome};
+use sal_tx::Submission;
 use sal_types::NoMemory;
 use std::alloc::Global;
 
@@ -22,18 +26,17 @@ pub(crate) fn settle(
     pipeline: &mut Pipeline,
     journal: &mut Journal,
     client: u32,
-    receipt: usize,
+    receipt: Receipt,
 ) -> Result<Outcome, CallFault>
     requires kept { IsKept journal.old pipeline.old }
     requires room { length journal.old.log < limit }
     requires given { IsGiven (known_of journal.old pipeline.old) receipt }
     ensures kept { IsKept journal.new pipeline.new }
-    ensures answer { Calls (known_of journal.old pipeline.old) (known_of journal.new pipeline.new) (entry_of (known_of journal.old pipeline.old) client (Settle receipt)) (λ (o : Decided). Settled 0 o) result }
+    ensures answer { Calls (known_of journal.old pipeline.old) (known_of journal.new pipeline.new) (entry_of (known_of journal.old pipeline.old) client (Settle receipt.number)) (λ (o : Decided). Settled receipt.domain o) result }
 {
-    let call = Call::Settle {
-        receipt: receipt as u64,
-    };
-    match pipeline.settle(alloc, journal, client, call, receipt) {
+    let number = receipt.number();
+    let call = Call::Settle { receipt: number };
+    match pipeline.settle(alloc, journal, client, call, number as usize) {
         Ok(outcome) => Ok(outcome),
         Err(NoMemory) => Err(CallFault::NoMemory),
     }
@@ -45,11 +48,12 @@ pub(crate) fn pump(
     pipeline: &mut Pipeline,
     journal: &mut Journal,
     client: u32,
-) -> Result<Option<(u64, Outcome)>, CallFault>
+) -> Result<Option<(Receipt, Outcome)>, CallFault>
     requires kept { IsKept journal.old pipeline.old }
     requires room { length journal.old.log < limit }
     ensures kept { IsKept journal.new pipeline.new }
     ensures answer { Calls (known_of journal.old pipeline.old) (known_of journal.new pipeline.new) (entry_of (known_of journal.old pipeline.old) client Pump) pump_reply result }
+    ensures given { IfOk result (λ decided. IfSome decided (λ d. IsGiven (known_of journal.new pipeline.new) d.0)) }
 {
     let decided = pipeline.outcomes.len();
     if decided >= pipeline.submissions.len() {
@@ -59,7 +63,16 @@ pub(crate) fn pump(
         };
     }
     match pipeline.settle(alloc, journal, client, Call::Pump, decided + 1) {
-        Ok(outcome) => Ok(Some((decided as u64 + 1, outcome))),
+        Ok(outcome) => Ok(Some((receipt_at(&pipeline.submissions, decided), outcome))),
         Err(NoMemory) => Err(CallFault::NoMemory),
     }
+}
+
+// The receipt of the submission at the index.
+fn receipt_at(submissions: &[Submission], index: usize) -> Receipt
+    requires { index < length submissions.now }
+    ensures number { result.number ≡ index + 1 }
+    ensures domain { option_map (λ (s : Sent). s.domain) (slice_get submissions.now index) ≡ Some result.domain }
+{
+    Receipt::of(index as u64 + 1, submissions[index].domain)
 }

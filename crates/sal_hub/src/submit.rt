@@ -36,7 +36,7 @@ pub(crate) fn submit(
     requires member { IsWithin (length pipeline.old.failures.items) tx.begun.chain }
     ensures kept { IsKept journal.new pipeline.new }
     ensures answer { CallsOr (known_of journal.old pipeline.old) (known_of journal.new pipeline.new) (entry_of (known_of journal.old pipeline.old) client (Submit tx.begun.place tx.changes)) (λ (receipt : Given). Numbered receipt.number) tx result }
-    ensures given { IfOk result (λ receipt. IsGiven (known_of journal.new pipeline.new) receipt.number) }
+    ensures given { IfOk result (IsGiven (known_of journal.new pipeline.new)) }
 {
     match refusal(pipeline, journal, tx.begun().place as usize) {
         Some(fault) => match note(alloc, journal, client, &tx) {
@@ -100,7 +100,7 @@ fn accept(
 ) -> Result<Receipt, WriteTx>
     requires room { length journal.old.log < limit }
     requires placed { tx.begun.place < length journal.old.log }
-    ensures receipt { IfOk result (λ receipt. receipt ≡ record { number = length pipeline.old.submissions.items + 1 }) }
+    ensures receipt { IfOk result (λ receipt. receipt ≡ record { number = length pipeline.old.submissions.items + 1; domain = tx.begun.domain }) }
     ensures right { OnOk result (IsRight tx) }
     ensures submissions { OnOk result (pipeline.new.submissions.items ≡ pipeline.old.submissions.items ++ submission_of tx (length pipeline.old.submissions.items + 1) ∷ []) }
     ensures log { OnOk result (journal.new.log ≡ jotted journal.old.log client (Submit tx.begun.place tx.changes)) }
@@ -121,10 +121,11 @@ fn accept(
         Err(NoMemory) => return Err(tx),
     }
     let receipt = pipeline.submissions.len() as u64 + 1;
+    let domain = tx.begun().domain;
     journal.spend(tx.begun().place as usize);
     pipeline
         .submissions
         .push(tx.into_submission(receipt))
         .unwrap();
-    Ok(Receipt::of(receipt))
+    Ok(Receipt::of(receipt, domain))
 }

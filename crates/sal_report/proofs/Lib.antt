@@ -1,2 +1,4 @@
+pub mod Children
 pub mod Floats
 pub mod Lists
+pub mod Replayed

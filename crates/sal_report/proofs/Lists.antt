@@ -25,15 +25,15 @@ module _ {A : Type 0} (line : ℕ → A → List ℕ) (done whole : List ℕ) (i
   pub all_lines : length xs ≤ i → done ≡ whole
   all_lines h = sym (append-nil done) ∙ ap (λ ys. done ++ lines_from line i ys) (sym (drop_all i xs h)) ∙ so_far
 
-module _ (table : SchemaTable) where
-  pub client_lines-from : (client s : ℕ) (rs : List StepReply) → client_lines table client s rs ≡ lines_from (reply_line table client) s rs
+module _ (tables : List SchemaTable) where
+  pub client_lines-from : (client s : ℕ) (rs : List StepReply) → client_lines tables client s rs ≡ lines_from (reply_line tables client) s rs
   client_lines-from client s [] = refl
-  client_lines-from client s (r ∷ rs) = ap (λ rest. reply_line table client s r ++ rest) (client_lines-from client (s + 1) rs)
+  client_lines-from client s (r ∷ rs) = ap (λ rest. reply_line tables client s r ++ rest) (client_lines-from client (s + 1) rs)
 
   abbrev pub client_text : ℕ → List StepReply → List ℕ
-  client_text client rs = client_lines table client 0 rs
+  client_text client rs = client_lines tables client 0 rs
 
-  pub reply_lines-from : (c : ℕ) (rss : List (List StepReply)) → reply_lines table c rss ≡ lines_from client_text c rss
+  pub reply_lines-from : (c : ℕ) (rss : List (List StepReply)) → reply_lines tables c rss ≡ lines_from client_text c rss
   reply_lines-from c [] = refl
   reply_lines-from c (rs ∷ rss) = ap (λ rest. client_text c rs ++ rest) (reply_lines-from (c + 1) rss)
 

@@ -1,5 +1,6 @@
 //! Structural rules that are broken, and paths, in words.
 ghost use Rattle.std.specs.Prelude.{◌≡◌, ◌∷◌, ◌++◌, IfOk, OnOk, string_bytes};
+ghost use Rattle.sal_script.specs.MessageData.{node_text};
 ghost use Rattle.sal_script.specs.Report as spec;
 
 use crate::pieces::{push_path, push_word};
@@ -55,15 +56,15 @@ fn push_rule(text: &mut String, schema: &Schema, rule: Rule) -> Result<(), NoMem
 
 // A word and the node that states the rule.
 fn push_stated(text: &mut String, schema: &Schema, word: &str, node: u32) -> Result<(), NoMemory>
-    ensures { OnOk result (string_bytes text.new ≡ string_bytes text.old ++ (word.now ++ spec.node_text schema.now node)) }
+    ensures { OnOk result (string_bytes text.new ≡ string_bytes text.old ++ (word.now ++ node_text schema.now node)) }
 {
     text.push_str(word)?;
     push_node(text, schema, node)
 }
 
 // The name of a node with that of its module.
-fn push_node(text: &mut String, schema: &Schema, node: u32) -> Result<(), NoMemory>
-    ensures { OnOk result (string_bytes text.new ≡ string_bytes text.old ++ spec.node_text schema.now node) }
+pub(crate) fn push_node(text: &mut String, schema: &Schema, node: u32) -> Result<(), NoMemory>
+    ensures { OnOk result (string_bytes text.new ≡ string_bytes text.old ++ node_text schema.now node) }
 {
     if node >= schema.len() {
         return push_word(text, ":");

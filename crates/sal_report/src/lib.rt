@@ -1,17 +1,21 @@
-//! The text of a run over any schema: the order of the calls, a line for each step, and the trees at the end.
+//! The text of a run over the schemas of its domains: the order of the calls, a line for each step, and the trees at the end.
 //!
 //! | call | what it is |
 //! |---|---|
 //! | `report` | the text for a log, the replies to the clients' steps, and the trees at the end |
+//! | `told_domains` | the domains of which it tells the trees: the controller's own, and each device that was ever mounted |
 //! | `path_fault_text`, `data_fault_text` | why a text is no path, why a value is no data of the schema, in words |
 //! | `tx_fault_text` | why a transaction refused a write, or a read, in words |
 //! | `breach_text`, `path_words` | where a structural rule is broken and which; a path |
 //!
-//! What the texts are, to the byte, stands in `sal_script` (`specs/Report`): for every schema, log, replies and trees. Paths
-//! are written by `sal_pathtext` and rows by `sal_data`, as JSON (RFC 7951).
+//! What the texts are, to the byte, stands in `sal_script` (`specs/Report`, with its words in `specs/Words`): for all schemas, logs,
+//! replies and trees. Paths are written by `sal_pathtext` and rows by `sal_data`, as JSON (RFC 7951). What is of a domain is written
+//! by its schema, or by one without nodes where it has none; requests, outputs, notifications and mounts are of domain 0.
 //!
 //! ```
-//! let text = report(alloc, &schema, log, &[replies], 1, &config, &oper)?;
+//! let told = told_domains(alloc, schemas.len() as u32, log)?;
+//! // 0 alone, where no device was mounted; so `trees` has the trees of domain 0
+//! let text = report(alloc, &schemas, log, &[replies], &trees)?;
 //! // order 0 0 0
 //! // 0 0 begun 0
 //! // 0 1 ok
@@ -21,7 +25,8 @@
 //! ```
 //!
 //! Cost: the text grows in place. Beside it stand the JSON and the text of one reply or of one tree at a time. Time is linear
-//! in the text, beside what `sal_data` takes to write the rows and `sal_pathtext` to write the paths.
+//! in the text, beside what `sal_data` takes to write the rows and `sal_pathtext` to write the paths. `told_domains` goes once through
+//! the log and makes its calls on mounts once more, which takes what `sal_mount` takes for them.
 #![tactic(auto)]
 
 mod batches;
@@ -29,10 +34,14 @@ mod breaches;
 mod faults;
 mod lines;
 mod listeners;
+mod mounted;
 mod pieces;
 mod replies;
+mod schemas;
+mod services;
 mod words;
 
 pub use breaches::{breach_text, path_words};
 pub use faults::{data_fault_text, path_fault_text, tx_fault_text};
 pub use lines::report;
+pub use mounted::told_domains;

@@ -1,37 +1,51 @@
 //! The lines of a report. Each function writes behind what stands in the text.
-ghost use Rattle.std.specs.Prelude.{◌≡◌, [], ◌∷◌, ◌++◌, IfOk, OnOk, string_bytes};
+ghost use Rattle.std.specs.Prelude.{◌≡◌, [], ◌∷◌, ◌++◌, IfOk, OnOk, map, string_bytes};
 ghost use Rattle.std.specs.List.{flat_map};
 ghost use Rattle.sal_script.specs.Report as spec;
 
 use crate::pieces::{push_data, push_number, push_numbered};
 use crate::replies::push_reply;
+use crate::schemas::{Schemas, no_nodes};
 use sal_history::Entry;
 use sal_rows::Rows;
 use sal_schema::Schema;
-use sal_script::StepReply;
+use sal_script::{DomainTrees, StepReply};
 use sal_types::{NoMemory, Path, Seq, Str};
 use std::alloc::Global;
+use std::sync::Arc;
 
-/// The report of a run over the schema: the line of the order, a line for each reply by client and step, and the line of the
-/// trees.
+/// The report of a run: the line of the order, a line for each reply by client and step, and a line for each domain with its trees.
 ///
-/// `log` has the calls in order, `replies` has for each client its steps' replies in order, `commits` is the number of
-/// commits, and `config` and `oper` are the trees at the end. It fails only where memory runs out.
+/// `schemas` has those of the domains by number, `log` the calls in order, `replies` for each client its steps' replies in order, and
+/// `trees` what the domains of which is told have at the end. What is of a domain without a schema is written by one without nodes.
+/// It fails only where memory runs out.
 pub fn report(
     alloc: Global,
-    schema: &Schema,
+    schemas: &[Arc<Schema>],
     log: &[Entry],
     replies: &[Seq<StepReply>],
-    commits: u64,
-    config: &Rows,
-    oper: &Rows,
+    trees: &[DomainTrees],
 ) -> Result<Str, NoMemory>
-    ensures { IfOk result (λ text. text ≡ spec.report_of schema.now log.now replies.now commits config.now oper.now) }
+    ensures { IfOk result (λ text. text ≡ spec.report_of (map (λ s. s.value) schemas.now) log.now replies.now trees.now) }
+{
+    let none = no_nodes(alloc)?;
+    told(alloc, &Schemas::new(schemas, &none), log, replies, trees)
+}
+
+// The same by these schemas.
+fn told(
+    alloc: Global,
+    schemas: &Schemas,
+    log: &[Entry],
+    replies: &[Seq<StepReply>],
+    trees: &[DomainTrees],
+) -> Result<Str, NoMemory>
+    ensures { IfOk result (λ text. text ≡ spec.report_of schemas.now log.now replies.now trees.now) }
 {
     let mut text = String::new(alloc);
     push_order(&mut text, log)?;
-    push_replies(alloc, &mut text, schema, replies)?;
-    push_trees(alloc, &mut text, schema, commits, config, oper)?;
+    push_replies(alloc, &mut text, schemas, replies)?;
+    push_domains(alloc, &mut text, schemas, trees)?;
     Ok(Str::from_string(text))
 }
 
@@ -56,13 +70,13 @@ fn push_clients(text: &mut String, log: &[Entry]) -> Result<(), NoMemory>
 fn push_replies(
     alloc: Global,
     text: &mut String,
-    schema: &Schema,
+    schemas: &Schemas,
     replies: &[Seq<StepReply>],
 ) -> Result<(), NoMemory>
-    ensures { OnOk result (string_bytes text.new ≡ string_bytes text.old ++ spec.reply_lines schema.now 0 replies.now) }
+    ensures { OnOk result (string_bytes text.new ≡ string_bytes text.old ++ spec.reply_lines schemas.now 0 replies.now) }
 {
     for (client, replies) in replies.iter().enumerate() {
-        push_client(alloc, text, schema, client, replies.items())?;
+        push_client(alloc, text, schemas, client, replies.items())?;
     }
     Ok(())
 }
@@ -71,14 +85,14 @@ fn push_replies(
 fn push_client(
     alloc: Global,
     text: &mut String,
-    schema: &Schema,
+    schemas: &Schemas,
     client: usize,
     replies: &[StepReply],
 ) -> Result<(), NoMemory>
-    ensures { OnOk result (string_bytes text.new ≡ string_bytes text.old ++ spec.client_lines schema.now client 0 replies.now) }
+    ensures { OnOk result (string_bytes text.new ≡ string_bytes text.old ++ spec.client_lines schemas.now client 0 replies.now) }
 {
     for (step, reply) in replies.iter().enumerate() {
-        push_line(alloc, text, schema, client, step, reply)?;
+        push_line(alloc, text, schemas, client, step, reply)?;
     }
     Ok(())
 }
@@ -86,32 +100,47 @@ fn push_client(
 fn push_line(
     alloc: Global,
     text: &mut String,
-    schema: &Schema,
+    schemas: &Schemas,
     client: usize,
     step: usize,
     reply: &StepReply,
 ) -> Result<(), NoMemory>
-    ensures { OnOk result (string_bytes text.new ≡ string_bytes text.old ++ spec.reply_line schema.now client step reply.now) }
+    ensures { OnOk result (string_bytes text.new ≡ string_bytes text.old ++ spec.reply_line schemas.now client step reply.now) }
 {
     write!(text, "{client} {step} ")?;
-    push_reply(alloc, text, schema, reply)?;
+    push_reply(alloc, text, schemas, reply)?;
     end_line(text)
 }
 
+// The lines of the domains.
+fn push_domains(
+    alloc: Global,
+    text: &mut String,
+    schemas: &Schemas,
+    trees: &[DomainTrees],
+) -> Result<(), NoMemory>
+    ensures { OnOk result (string_bytes text.new ≡ string_bytes text.old ++ flat_map (spec.tree_line schemas.now) trees.now) }
+{
+    for domain in trees {
+        push_trees(alloc, text, schemas, domain)?;
+    }
+    Ok(())
+}
+
+// The commits of a domain and its trees.
 fn push_trees(
     alloc: Global,
     text: &mut String,
-    schema: &Schema,
-    commits: u64,
-    config: &Rows,
-    oper: &Rows,
+    schemas: &Schemas,
+    trees: &DomainTrees,
 ) -> Result<(), NoMemory>
-    ensures { OnOk result (string_bytes text.new ≡ string_bytes text.old ++ spec.tree_line schema.now 0 commits config.now oper.now) }
+    ensures { OnOk result (string_bytes text.new ≡ string_bytes text.old ++ spec.tree_line schemas.now trees.now) }
 {
-    push_numbered(text, "tree", 0)?;
-    push_number(text, commits)?;
-    push_tree(alloc, text, schema, config)?;
-    push_tree(alloc, text, schema, oper)?;
+    let schema = schemas.of(trees.domain);
+    push_numbered(text, "tree", u64::from(trees.domain))?;
+    push_number(text, trees.commits)?;
+    push_tree(alloc, text, schema, &trees.config)?;
+    push_tree(alloc, text, schema, &trees.oper)?;
     end_line(text)
 }
 

@@ -49,7 +49,7 @@ pub(crate) fn push_value(alloc: Global, text: &mut String, value: &Value) -> Res
 }
 
 // A JSON text of these words.
-fn push_string(alloc: Global, text: &mut String, words: &str) -> Result<(), NoMemory>
+pub(crate) fn push_string(alloc: Global, text: &mut String, words: &str) -> Result<(), NoMemory>
     ensures { OnOk result (string_bytes text.new ≡ string_bytes text.old ++ quoted words.now) }
 {
     let words = String::from_str(alloc, words)?;

@@ -1,11 +1,14 @@
 //! The texts of replies. Each function writes behind what stands in the text.
 ghost use Rattle.std.specs.Prelude.{◌≡◌, ◌∷◌, ◌++◌, OnOk, codes, string_bytes};
+ghost use Rattle.sal_script.specs.MessageData.{node_text};
 ghost use Rattle.sal_script.specs.Report as spec;
 
-use crate::breaches::push_breach;
+use crate::breaches::{push_breach, push_node};
 use crate::faults::{push_data_fault, push_path_fault, push_tx_fault};
 use crate::listeners::{push_batch, push_listener, push_mirror};
 use crate::pieces::{push_data, push_numbered, push_path, push_word};
+use crate::schemas::Schemas;
+use crate::services::{push_mount, push_notes, push_output, push_request};
 use crate::words::{kind_word, store_word, truth_word};
 use sal_history::Reply;
 use sal_rows::{CallFault, Outcome, Rows};
@@ -18,25 +21,27 @@ use std::alloc::Global;
 pub(crate) fn push_reply(
     alloc: Global,
     text: &mut String,
-    schema: &Schema,
+    schemas: &Schemas,
     reply: &StepReply,
 ) -> Result<(), NoMemory>
-    ensures { OnOk result (string_bytes text.new ≡ string_bytes text.old ++ spec.reply_text schema.now reply.now) }
+    ensures { OnOk result (string_bytes text.new ≡ string_bytes text.old ++ spec.reply_text schemas.now reply.now) }
 {
     match reply {
-        StepReply::Called { reply } => push_call(alloc, text, schema, reply),
+        StepReply::Called { reply } => push_call(alloc, text, schemas, reply),
         StepReply::Accepted => push_word(text, "ok"),
-        StepReply::Read { path, rows, .. } => push_rows(alloc, text, schema, path, rows),
+        StepReply::Read { domain, path, rows } => {
+            push_rows(alloc, text, schemas.of(*domain), path, rows)
+        }
         StepReply::Exists { found } => push_word(text, truth_word(*found)),
         StepReply::Mirror {
+            domain,
             path,
             version,
             rows,
-            ..
-        } => push_mirror(alloc, text, schema, path, *version, rows),
+        } => push_mirror(alloc, text, schemas.of(*domain), path, *version, rows),
         StepReply::Refused { refusal } => {
             text.push_str("refused ")?;
-            push_refusal(alloc, text, schema, refusal)
+            push_refusal(alloc, text, schemas, refusal)
         }
     }
 }
@@ -45,36 +50,41 @@ pub(crate) fn push_reply(
 fn push_call(
     alloc: Global,
     text: &mut String,
-    schema: &Schema,
+    schemas: &Schemas,
     reply: &Reply,
 ) -> Result<(), NoMemory>
-    ensures { OnOk result (string_bytes text.new ≡ string_bytes text.old ++ spec.call_text schema.now reply.now) }
+    ensures { OnOk result (string_bytes text.new ≡ string_bytes text.old ++ spec.call_text schemas.now reply.now) }
 {
     match reply {
         Reply::Begun { commit, on } => push_begun(text, *commit, *on),
         Reply::Chain { id } => push_numbered(text, "chain", *id),
         Reply::Accepted => push_word(text, "ok"),
         Reply::Receipt { number } => push_numbered(text, "receipt", *number),
-        Reply::Settled { outcome, .. } => push_outcome(alloc, text, schema, outcome),
+        Reply::Settled { domain, outcome } => {
+            push_outcome(alloc, text, schemas.of(*domain), outcome)
+        }
         Reply::Decided {
             receipt,
+            domain,
             outcome,
-            ..
-        } => push_decided(alloc, text, schema, *receipt, outcome),
+        } => push_decided(alloc, text, schemas.of(*domain), *receipt, outcome),
         Reply::Nothing => push_word(text, "nothing"),
         Reply::Listener {
             id,
+            domain,
             path,
             opened,
-            ..
-        } => push_listener(alloc, text, schema, *id, path, opened),
-        Reply::Batch { batch, .. } => push_batch(alloc, text, schema, batch),
+        } => push_listener(alloc, text, schemas.of(*domain), *id, path, opened),
+        Reply::Batch { domain, batch } => push_batch(alloc, text, schemas.of(*domain), batch),
+        Reply::CallMade { id } => push_numbered(text, "call", *id),
+        Reply::Request { request } => push_request(alloc, text, schemas.of(0), request),
+        Reply::Output { rpc, rows } => push_output(alloc, text, schemas.of(0), *rpc, rows),
+        Reply::Offered { count } => push_numbered(text, "offered", u64::from(*count)),
+        Reply::Notes { list } => push_notes(alloc, text, schemas.of(0), list.items()),
+        Reply::MountAt { mount } => push_mount(text, *mount),
         Reply::Found => push_word(text, "found"),
         Reply::Late => push_word(text, "late"),
-        Reply::Refused { fault } => {
-            text.push_str("refused ")?;
-            push_fault(text, *fault)
-        }
+        Reply::Refused { fault } => push_refused(text, schemas.of(0), *fault),
     }
 }
 
@@ -88,8 +98,16 @@ fn push_begun(text: &mut String, commit: u64, on: Option<u64>) -> Result<(), NoM
     }
 }
 
-fn push_fault(text: &mut String, fault: CallFault) -> Result<(), NoMemory>
-    ensures { OnOk result (string_bytes text.new ≡ string_bytes text.old ++ spec.fault_text fault) }
+// A shared call that was refused, and why.
+fn push_refused(text: &mut String, schema: &Schema, fault: CallFault) -> Result<(), NoMemory>
+    ensures { OnOk result (string_bytes text.new ≡ string_bytes text.old ++ (codes "refused " ++ spec.fault_text schema.now fault)) }
+{
+    text.push_str("refused ")?;
+    push_fault(text, schema, fault)
+}
+
+fn push_fault(text: &mut String, schema: &Schema, fault: CallFault) -> Result<(), NoMemory>
+    ensures { OnOk result (string_bytes text.new ≡ string_bytes text.old ++ spec.fault_text schema.now fault) }
 {
     match fault {
         CallFault::HistoryFull => push_word(text, "history-full"),
@@ -97,12 +115,28 @@ fn push_fault(text: &mut String, fault: CallFault) -> Result<(), NoMemory>
         CallFault::NoDomain { id } => push_numbered(text, "no-domain", u64::from(id)),
         CallFault::NoListener { id } => push_numbered(text, "no-listener", id),
         CallFault::TooManyListeners => push_word(text, "too-many-listeners"),
+        CallFault::NoProvider { rpc } => push_named(text, schema, "no-provider ", rpc),
+        CallFault::ProviderTaken { rpc } => push_named(text, schema, "provider-taken ", rpc),
+        CallFault::NoCall { id } => push_numbered(text, "no-call", id),
+        CallFault::NoteRejected { subscriber } => {
+            push_numbered(text, "note-rejected", u64::from(subscriber))
+        }
+        CallFault::MountTaken { id } => push_numbered(text, "mount-taken", u64::from(id)),
+        CallFault::DeviceUsed { id } => push_numbered(text, "device-used", u64::from(id)),
         CallFault::PreviousOpen => push_word(text, "previous-open"),
         CallFault::ChainFailed { receipt } => push_numbered(text, "chain-failed", receipt),
         CallFault::ChainClosed => push_word(text, "chain-closed"),
         CallFault::NoMemory => push_word(text, "no-memory"),
         CallFault::TxSpent => push_word(text, "tx-spent"),
     }
+}
+
+// A word and the name of an RPC.
+fn push_named(text: &mut String, schema: &Schema, word: &str, rpc: u32) -> Result<(), NoMemory>
+    ensures { OnOk result (string_bytes text.new ≡ string_bytes text.old ++ (word.now ++ node_text schema.now rpc)) }
+{
+    text.push_str(word)?;
+    push_node(text, schema, rpc)
 }
 
 fn push_outcome(
@@ -133,6 +167,7 @@ fn push_outcome(
             push_breach(alloc, text, schema, path, *rule)
         }
         Outcome::ChainFailed { receipt } => push_numbered(text, "chain-failed", *receipt),
+        Outcome::Unmounted { domain } => push_numbered(text, "unmounted", u64::from(*domain)),
     }
 }
 
@@ -154,24 +189,27 @@ fn push_decided(
 fn push_refusal(
     alloc: Global,
     text: &mut String,
-    schema: &Schema,
+    schemas: &Schemas,
     refusal: &StepRefusal,
 ) -> Result<(), NoMemory>
-    ensures { OnOk result (string_bytes text.new ≡ string_bytes text.old ++ spec.refusal_text schema.now refusal.now) }
+    ensures { OnOk result (string_bytes text.new ≡ string_bytes text.old ++ spec.refusal_text schemas.now refusal.now) }
 {
     match refusal {
         StepRefusal::EmptySlot => push_word(text, "empty-slot"),
         StepRefusal::ReadOnly => push_word(text, "read-only"),
         StepRefusal::NoDevice => push_word(text, "no-device"),
+        StepRefusal::UnknownName => push_word(text, "unknown-name"),
         StepRefusal::BadPath { fault } => {
             text.push_str("path ")?;
             push_path_fault(text, *fault)
         }
-        StepRefusal::BadData { fault } => {
+        StepRefusal::BadData { domain, fault } => {
             text.push_str("data ")?;
-            push_data_fault(alloc, text, schema, fault)
+            push_data_fault(alloc, text, schemas.of(*domain), fault)
         }
-        StepRefusal::Write { fault } => push_tx_fault(alloc, text, schema, fault),
+        StepRefusal::Write { domain, fault } => {
+            push_tx_fault(alloc, text, schemas.of(*domain), fault)
+        }
     }
 }
 

@@ -73,6 +73,10 @@ pub enum Outcome {
     ChainFailed {
         receipt: u64,
     },
+    /// It was refused, since its domain was unmounted.
+    Unmounted {
+        domain: u32,
+    },
 }
 
 /// Why a shared call was refused. After `HistoryFull` and `NoMemory` nothing has changed; after any other refusal the log
@@ -85,7 +89,7 @@ pub enum CallFault {
     /// As many submissions are pending as may be, 4,096.
     #[error("the pipeline is full")]
     PipelineFull,
-    /// The domain is not live.
+    /// The domain is not live; to a mount: there is no such device.
     #[error("no live domain {id}")]
     NoDomain { id: u32 },
     /// The client has no live listener of this id.
@@ -94,6 +98,24 @@ pub enum CallFault {
     /// As many listeners are live as may be, 256.
     #[error("too many listeners")]
     TooManyListeners,
+    /// Nobody provides the RPC in the context or without one; or, to a withdrawal, the client does not in this context.
+    #[error("no provider of rpc {rpc}")]
+    NoProvider { rpc: u32 },
+    /// The RPC is provided in this context already.
+    #[error("rpc {rpc} has its provider")]
+    ProviderTaken { rpc: u32 },
+    /// To an answer: the request was not handed to the client, or is answered. To a collection: the client did not make it.
+    #[error("no call {id} of this client")]
+    NoCall { id: u64 },
+    /// As many notifications wait for this subscriber as may, 64. It is the one with the smallest number of those.
+    #[error("the queue of subscriber {subscriber} is full")]
+    NoteRejected { subscriber: u32 },
+    /// This domain is mounted at the path.
+    #[error("domain {id} is mounted there")]
+    MountTaken { id: u32 },
+    /// The device was mounted before. A device is mounted once at most.
+    #[error("device {id} was mounted before")]
+    DeviceUsed { id: u32 },
     /// The last transaction of the chain is neither submitted nor cancelled.
     #[error("the chain's previous transaction is open")]
     PreviousOpen,
@@ -131,6 +153,7 @@ impl Duplicate for Outcome {
                 rule: *rule,
             }),
             Outcome::ChainFailed { receipt } => Ok(Outcome::ChainFailed { receipt: *receipt }),
+            Outcome::Unmounted { domain } => Ok(Outcome::Unmounted { domain: *domain }),
         }
     }
 }

@@ -9,7 +9,7 @@ use Rattle.std.proofs.lemmas.Option.{get_or_from_slice_get, same_Some, slice_get
 use mathlib.Core.List.{IsPrefix}
 use Rattle.sal_history.specs.declared.call.Entry.{Entry}
 use Rattle.sal_history.specs.History.{entries_of}
-use Rattle.sal_history.specs.World.{Domain, table_of}
+use Rattle.sal_history.specs.World.{Domain}
 use Rattle.sal_schema.specs.declared.table.SchemaTable.{SchemaTable}
 use Rattle.sal_turn.specs.Entries.{entries_by}
 use Rattle.sal_turn.specs.Lists.{In}
@@ -22,7 +22,7 @@ use Rattle.sal_script.specs.Along.{AreLeft, Finishes, IsAt, new_run}
 use Rattle.sal_script.specs.JsonMoves.{have_json_moves}
 use Rattle.sal_script.specs.Limits.{within_limits}
 use Rattle.sal_script.specs.Moves.{Move, clients_of, move_of, moves_of}
-use Rattle.sal_script.specs.Play.{Client, Run}
+use Rattle.sal_script.specs.Play.{Client, Run, tables_of}
 use Rattle.sal_script.specs.declared.reply.StepReply.{StepReply}
 use Rattle.sal_script.specs.declared.script.ScriptStep.{ScriptStep}
 use Rattle.sal_script.proofs.Along.{at_end, at_found_own, at_start}
@@ -81,12 +81,12 @@ moves_short (q ∷ ps) all =
 
 -- ---- one client, before its first step
 
-pub new_stands : (table : SchemaTable) (lock : TableId) (programs : List (List ScriptStep)) (s : SeatedRun) (steps : List ScriptStep) → within_limits programs ≡ true → have_json_moves (clients_of programs) ≡ true → IsNew table lock programs s
-    → slice_get programs s.run.client.number ≡ Some steps → Stands table steps s.seat.view s.run (run_of steps s.run)
-new_stands table lock programs s steps limits json is at =
+pub new_stands : (tables : List SchemaTable) (lock : TableId) (programs : List (List ScriptStep)) (s : SeatedRun) (steps : List ScriptStep) → within_limits programs ≡ true → have_json_moves (clients_of programs) ≡ true → IsNew tables lock programs s
+    → slice_get programs s.run.client.number ≡ Some steps → Stands tables steps s.seat.view s.run (run_of steps s.run)
+new_stands tables lock programs s steps limits json is at =
     let v : SeatView = s.seat.view in
-    let start : IsAt table (known v).world v.number (moves_of steps) v.seen (new_run (moves_of steps)) =
-    at_found_own table (known v).world v.number (moves_of steps) [] v.seen [] (new_run (moves_of steps)) (v.seen, refl) refl is.none (at_start table (known v).world v.number (moves_of steps)) in
+    let start : IsAt tables (known v).world v.number (moves_of steps) v.seen (new_run (moves_of steps)) =
+    at_found_own tables (known v).world v.number (moves_of steps) [] v.seen [] (new_run (moves_of steps)) (v.seen, refl) refl is.none (at_start tables (known v).world v.number (moves_of steps)) in
     record {
       number = is.number;
       reads = is.reads;
@@ -97,8 +97,8 @@ new_stands table lock programs s steps limits json is at =
         json = program_at programs s.run.client.number steps json (slice_get_within programs s.run.client.number steps at) (sym (get_or_from_slice_get programs s.run.client.number steps steps at));
       };
       sound = is.sound (known v);
-      at = subst (λ (n : ℕ). IsAt table (known v).world v.number (moves_of steps) v.seen (record { client = client_of s.run.client; steps = moves_from n steps })) (sym is.at)
-          (subst (λ (c : Client). IsAt table (known v).world v.number (moves_of steps) v.seen (record { client = c; steps = moves_of steps })) (sym is.client) start);
+      at = subst (λ (n : ℕ). IsAt tables (known v).world v.number (moves_of steps) v.seen (record { client = client_of s.run.client; steps = moves_from n steps })) (sym is.at)
+          (subst (λ (c : Client). IsAt tables (known v).world v.number (moves_of steps) v.seen (record { client = c; steps = moves_of steps })) (sym is.client) start);
     }
 
 -- ---- all seats
@@ -125,30 +125,30 @@ seated_more lock v w n runs s are is same = record {
       (get-push runs s i t at);
 }
 
-pub seated_new : (table : SchemaTable) (lock : TableId) (programs : List (List ScriptStep)) (v : SeatView) (i : ℕ) (s : SeatedRun) → table ≡ table_of (known v).world 0 → v.seen ≡ [] → i < length programs → IsSeated lock v i s → IsNew table lock programs s
-seated_new table lock programs v i s reads none within is = record {
+pub seated_new : (tables : List SchemaTable) (lock : TableId) (programs : List (List ScriptStep)) (v : SeatView) (i : ℕ) (s : SeatedRun) → tables ≡ tables_of (known v).world → v.seen ≡ [] → i < length programs → IsSeated lock v i s → IsNew tables lock programs s
+seated_new tables lock programs v i s reads none within is = record {
   lock = is.lock;
   number = is.number ∙ ap (λ (w : SeatView). w.number) (sym is.view);
   has = let number = is.number in omega (arith, number, within);
   at = is.at;
   client = is.client;
   sound = is.sound;
-  reads = reads ∙ ap (λ (w : SeatView). table_of (known w).world 0) (sym is.view);
+  reads = reads ∙ ap (λ (w : SeatView). tables_of (known w).world) (sym is.view);
   own = ap (λ (w : SeatView). w.own) is.view;
   none = ap (λ (w : SeatView). entries_by maker_of w.number w.seen) is.view ∙ ap (λ (l : List Entry). entries_by maker_of i l) none;
 }
 
 -- the clients on their threads, by the index of their seats
-pub worked_at : (table : SchemaTable) (lock : TableId) (programs : List (List ScriptStep)) (v : SeatView) (n : ℕ) (runs : List SeatedRun) (fs : List Finished) → AreSeated lock v n runs → length fs ≡ length runs
-    → ((i : ℕ) (f : Finished) (r : SeatedRun) → i < length runs → r ≡ get_or runs i r → Worked table lock programs r.seat (get_or fs i f))
-    → (i : ℕ) (f : Finished) → slice_get fs i ≡ Some f → Worked table lock programs (record { lock = lock; view = newcomer i v }) f
-worked_at table lock programs v n runs fs are long each i f at =
+pub worked_at : (tables : List SchemaTable) (lock : TableId) (programs : List (List ScriptStep)) (v : SeatView) (n : ℕ) (runs : List SeatedRun) (fs : List Finished) → AreSeated lock v n runs → length fs ≡ length runs
+    → ((i : ℕ) (f : Finished) (r : SeatedRun) → i < length runs → r ≡ get_or runs i r → Worked tables lock programs r.seat (get_or fs i f))
+    → (i : ℕ) (f : Finished) → slice_get fs i ≡ Some f → Worked tables lock programs (record { lock = lock; view = newcomer i v }) f
+worked_at tables lock programs v n runs fs are long each i f at =
     let within : i < length runs = let l = slice_get_within fs i f at in omega (arith, l, long) in
     let own = get_some runs i within in
     let is = are.each i own.0 own.1 in
     let place : own.0.seat ≡ record { lock = lock; view = newcomer i v } = (λ k. record { lock = is.lock k; view = is.view k }) in
-    subst (λ (p : Place Entry (List Domain)). Worked table lock programs p f) place
-    (subst (λ (g : Finished). Worked table lock programs own.0.seat g) (get_or_from_slice_get fs i f f at)
+    subst (λ (p : Place Entry (List Domain)). Worked tables lock programs p f) place
+    (subst (λ (g : Finished). Worked tables lock programs own.0.seat g) (get_or_from_slice_get fs i f f at)
     (each i f own.0 within (sym (get_or_from_slice_get runs i own.0 own.0 own.1))))
 
 -- ---- all taken in
@@ -265,8 +265,8 @@ begins lock p w at is = record {
   joined = ap (λ (v : SeatView). v.joined) is;
 }
 
-module _ (table : SchemaTable) (lock : TableId) (programs : List (List ScriptStep)) (opening place : Place Entry (List Domain)) (replies : Result (List (List StepReply)) RunFault)
-    (limits : within_limits programs ≡ true) (begun : IsOpening lock opening) (ran : AreRan table lock programs opening.view place replies) where
+module _ (tables : List SchemaTable) (lock : TableId) (programs : List (List ScriptStep)) (opening place : Place Entry (List Domain)) (replies : Result (List (List StepReply)) RunFault)
+    (limits : within_limits programs ≡ true) (begun : IsOpening lock opening) (ran : AreRan tables lock programs opening.view place replies) where
   abbrev v : SeatView
   v = opening.view
 
@@ -386,7 +386,7 @@ module _ (table : SchemaTable) (lock : TableId) (programs : List (List ScriptSte
     pub same_world : (known v).world ≡ hub.world
     same_world = ap (λ (g : Option (List Domain)). unwrap_or g []) (sym ran.joins.ground ∙ world)
 
-    pub are_left : table ≡ table_of hub.world 0 → (list : List (List StepReply)) → replies ≡ Ok list → AreLeft hub.world (clients_of programs) hub.log list
+    pub are_left : tables ≡ tables_of hub.world → (list : List (List StepReply)) → replies ≡ Ok list → AreLeft hub.world (clients_of programs) hub.log list
     are_left reads list is = record {
       known = all_known;
       all = ap length (ran.collects.all list is) ∙ (map_long (λ (g : Finished). replies_in g.run) ran.clients ∙ (ran.long ∙ sym (map_long moves_of programs)));
@@ -396,18 +396,18 @@ module _ (table : SchemaTable) (lock : TableId) (programs : List (List ScriptSte
           let f : Finished = own.0 in
           let worked = ran.each c f own.1 in
           let is_rs : replies_in f.run ≡ rs = same_Some (replies_in f.run) rs (sym (slice_get-map (λ (g : Finished). replies_in g.run) ran.clients c ∙ ap (option_map (λ (g : Finished). replies_in g.run)) own.1) ∙ (λ k. slice_get (sym (ran.collects.all list is) k) c) ∙ at_rs) in
-          let ended : HasEnded table p.0 f.seat.view f.run = subst (λ (r : Result (Unit {0}) RunFault). OnOk r ((q : List ScriptStep) → slice_get programs c ≡ Some q → HasEnded table q f.seat.view f.run)) (ran.collects.ended list is c f own.1) worked.ended p.0 p.1 in
+          let ended : HasEnded tables p.0 f.seat.view f.run = subst (λ (r : Result (Unit {0}) RunFault). OnOk r ((q : List ScriptStep) → slice_get programs c ≡ Some q → HasEnded tables q f.seat.view f.run)) (ran.collects.ended list is c f own.1) worked.ended p.0 p.1 in
           let number : f.seat.view.number ≡ c = worked.keeps.1.0 in
           let there : (known f.seat.view).world ≡ hub.world = ap (λ (g : Option (List Domain)). unwrap_or g []) worked.keeps.1.1 ∙ same_world in
           let starts = prefix_trans f.seat.view.seen place.view.seen hub.log (ran.joins.seen c f own.1) seen in
           let last : Run = record { client = client_of f.run.client; steps = [] } in
-          let at : IsAt table hub.world c (moves_of p.0) f.seat.view.seen last =
-          subst (λ (w : List Domain). IsAt table w c (moves_of p.0) f.seat.view.seen last) there
-          (subst (λ (n : ℕ). IsAt table (known f.seat.view).world n (moves_of p.0) f.seat.view.seen last) number ended.at) in
+          let at : IsAt tables hub.world c (moves_of p.0) f.seat.view.seen last =
+          subst (λ (w : List Domain). IsAt tables w c (moves_of p.0) f.seat.view.seen last) there
+          (subst (λ (n : ℕ). IsAt tables (known f.seat.view).world n (moves_of p.0) f.seat.view.seen last) number ended.at) in
           let whole : entries_by maker_of c f.seat.view.seen ≡ f.seat.view.own = subst (λ (n : ℕ). entries_by maker_of n f.seat.view.seen ≡ f.seat.view.own) number ended.whole in
-          let closed = at_found_own table hub.world c (moves_of p.0) f.seat.view.seen hub.log f.seat.view.own last starts whole (theirs c f own.1) at in
-          let finishes : Finishes table hub.world c hub.log (moves_of p.0) (replies_in f.run) = at_end table hub.world c (moves_of p.0) hub.log (client_of f.run.client) closed in
-          subst (λ (t : SchemaTable). Finishes t hub.world c hub.log steps rs) reads
-          (subst (λ (ms : List Move). Finishes table hub.world c hub.log ms rs) p.2
-          (subst (λ (r : List StepReply). Finishes table hub.world c hub.log (moves_of p.0) r) is_rs finishes));
+          let closed = at_found_own tables hub.world c (moves_of p.0) f.seat.view.seen hub.log f.seat.view.own last starts whole (theirs c f own.1) at in
+          let finishes : Finishes tables hub.world c hub.log (moves_of p.0) (replies_in f.run) = at_end tables hub.world c (moves_of p.0) hub.log (client_of f.run.client) closed in
+          subst (λ (t : List SchemaTable). Finishes t hub.world c hub.log steps rs) reads
+          (subst (λ (ms : List Move). Finishes tables hub.world c hub.log ms rs) p.2
+          (subst (λ (r : List StepReply). Finishes tables hub.world c hub.log (moves_of p.0) r) is_rs finishes));
     }

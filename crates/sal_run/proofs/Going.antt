@@ -8,14 +8,14 @@ use Rattle.std.proofs.lemmas.List.Sums.{length-filter}
 use mathlib.Core.List.{IsPrefix}
 use Rattle.sal_history.specs.declared.call.Entry.{Entry}
 use Rattle.sal_history.specs.History.{entries_of}
-use Rattle.sal_history.specs.World.{Domain, table_of}
+use Rattle.sal_history.specs.World.{Domain}
 use Rattle.sal_schema.specs.declared.table.SchemaTable.{SchemaTable}
 use Rattle.sal_turn.specs.Entries.{entries_by}
 use Rattle.sal_broker.specs.Seats.{client_of as maker_of}
 use Rattle.sal_hub.specs.Known.{Known, more}
 use Rattle.sal_script.specs.Along.{BeganIn, IsAt, IsListening, ListensIn, along, new_run}
 use Rattle.sal_script.specs.Moves.{Move, moves_of}
-use Rattle.sal_script.specs.Play.{Listener, Open, Run, arrive, go, make}
+use Rattle.sal_script.specs.Play.{Listener, Open, Run, arrive, go, make, tables_of}
 use Rattle.sal_script.specs.declared.script.ScriptStep.{ScriptStep}
 use Rattle.sal_script.proofs.Along.{along-push, at_found_own, made_of, pass_own}
 use Rattle.sal_client.specs.declared.client.ClientState.{ClientState}
@@ -53,26 +53,26 @@ listens_of known c is slot listener at =
 
 -- ---- the client's own call
 
-module _ (table : SchemaTable) (c : ℕ) (steps : List Move) (known known' : Known) where
+module _ (tables : List SchemaTable) (c : ℕ) (steps : List Move) (known known' : Known) where
   -- behind a call that it made
-  pub at_made : (old now : Run) → GrowsBy c known known' → go table known.world known.log c old ≡ Some (record { log = known'.log; run = now })
+  pub at_made : (old now : Run) → GrowsBy c known known' → go tables known.world known.log c old ≡ Some (record { log = known'.log; run = now })
       → BeganIn known'.log now.client → ListensIn known.world c known'.log now.client
-      → IsAt table known.world c steps known.log old → IsAt table known.world c steps known'.log now
+      → IsAt tables known.world c steps known.log old → IsAt tables known.world c steps known'.log now
   at_made old now (e, own, grown) made began listens was = record {
     called = now;
     follows =
-        ap (λ (log : List Entry). along table known.world c log (new_run steps)) (ap (λ (k : Known). k.log) grown)
-        ∙ along-push table known.world c known.log e (new_run steps) (made_of known.log was.called) was.follows
-        ∙ pass_own table known.world c (made_of known.log was.called) e own
-        ∙ ap (make table known.world known.log c) here
+        ap (λ (log : List Entry). along tables known.world c log (new_run steps)) (ap (λ (k : Known). k.log) grown)
+        ∙ along-push tables known.world c known.log e (new_run steps) (made_of known.log was.called) was.follows
+        ∙ pass_own tables known.world c (made_of known.log was.called) e own
+        ∙ ap (make tables known.world known.log c) here
         ∙ made;
     answered = λ more. refl;
     began = began;
     listens = listens;
   }
     where
-      here : arrive table known.world known.log was.called.client was.called.steps ≡ arrive table known.world known.log old.client old.steps
-      here = subst (λ (l : List Entry). arrive table known.world l was.called.client was.called.steps ≡ arrive table known.world l old.client old.steps) (append-nil known.log) (was.answered [])
+      here : arrive tables known.world known.log was.called.client was.called.steps ≡ arrive tables known.world known.log old.client old.steps
+      here = subst (λ (l : List Entry). arrive tables known.world l was.called.client was.called.steps ≡ arrive tables known.world l old.client old.steps) (append-nil known.log) (was.answered [])
 
 -- ---- the entries of others
 
@@ -88,10 +88,10 @@ none_behind c log found own begins before after =
 
 -- ---- a client that stands somewhere
 
-module _ (lasts : TokensLast) (table : SchemaTable) (steps : List ScriptStep) (c : ℕ) where
+module _ (lasts : TokensLast) (tables : List SchemaTable) (steps : List ScriptStep) (c : ℕ) where
   -- it has answered local steps, and is ready to make a call
-  pub stands_asking : (known : Known) (own : List Entry) (wish : Wish) (old new : CodeRun) → Comes table steps old (Some wish) new → StaysSound old.client new.client → IsProgram steps new → new.client.number ≡ old.client.number
-      → StandsIn table steps c known own old (run_of steps old) → StandsIn table steps c known own new (asking wish steps new)
+  pub stands_asking : (known : Known) (own : List Entry) (wish : Wish) (old new : CodeRun) → Comes tables steps old (Some wish) new → StaysSound old.client new.client → IsProgram steps new → new.client.number ≡ old.client.number
+      → StandsIn tables steps c known own old (run_of steps old) → StandsIn tables steps c known own new (asking wish steps new)
   stands_asking known own wish old new comes stays program same was =
       let sound = stays.sound known was.sound in
       let number = same ∙ was.number in
@@ -111,8 +111,8 @@ module _ (lasts : TokensLast) (table : SchemaTable) (steps : List ScriptStep) (c
       }
 
   -- it has answered the last of its steps
-  pub at_last : (known : Known) (own : List Entry) (old new : CodeRun) → Comes table steps old None new → StaysSound old.client new.client → new.client.number ≡ old.client.number
-      → StandsIn table steps c known own old (run_of steps old) → IsAt table known.world c (moves_of steps) known.log (record { client = client_of new.client; steps = [] })
+  pub at_last : (known : Known) (own : List Entry) (old new : CodeRun) → Comes tables steps old None new → StaysSound old.client new.client → new.client.number ≡ old.client.number
+      → StandsIn tables steps c known own old (run_of steps old) → IsAt tables known.world c (moves_of steps) known.log (record { client = client_of new.client; steps = [] })
   at_last known own old new comes stays same was =
       let sound = stays.sound known was.sound in record {
         called = was.at.called;
@@ -124,14 +124,14 @@ module _ (lasts : TokensLast) (table : SchemaTable) (steps : List ScriptStep) (c
 
   -- a turn found a longer log, with no more entries of its own
   pub stands_found : (known found : Known) (own : List Entry) (r : CodeRun) (now : Run) → known.world ≡ found.world → IsPrefix known.log found.log → entries_by maker_of c found.log ≡ own
-      → StandsIn table steps c known own r now → StandsIn table steps c found own r now
+      → StandsIn tables steps c known own r now → StandsIn tables steps c found own r now
   stands_found known found own r now same begins mine was = record {
     number = was.number;
-    reads = was.reads ∙ ap (λ (w : List Domain). table_of w 0) same;
+    reads = was.reads ∙ ap (λ (w : List Domain). tables_of w) same;
     whole = mine;
     program = was.program;
     sound = subst (λ (w : List Domain). IsSound (record { world = w; log = found.log }) r.client) same longer;
-    at = subst (λ (w : List Domain). IsAt table w c (moves_of steps) found.log now) same (at_found_own table known.world c (moves_of steps) known.log found.log own now begins was.whole mine was.at);
+    at = subst (λ (w : List Domain). IsAt tables w c (moves_of steps) found.log now) same (at_found_own tables known.world c (moves_of steps) known.log found.log own now begins was.whole mine was.at);
   }
     where
       longer : IsSound (record { world = known.world; log = found.log }) r.client
@@ -139,18 +139,18 @@ module _ (lasts : TokensLast) (table : SchemaTable) (steps : List ScriptStep) (c
           (IsSound-others lasts known begins.0 r.client (subst (λ (n : ℕ). entries_of begins.0 n ≡ 0) (sym was.number) (none_behind c known.log found.log own begins was.whole mine)) was.sound)
 
   -- it made the call that it was ready to make
-  pub stands_made : (known known' : Known) (own own' : List Entry) (wish : Wish) (old new : CodeRun) → known'.world ≡ known.world → MakesNext table c known wish (client_of old.client) known' (client_of new.client)
+  pub stands_made : (known known' : Known) (own own' : List Entry) (wish : Wish) (old new : CodeRun) → known'.world ≡ known.world → MakesNext tables c known wish (client_of old.client) known' (client_of new.client)
       → IsSound known' new.client → new.at ≡ old.at → new.client.number ≡ old.client.number → entries_by maker_of c known'.log ≡ own'
-      → StandsIn table steps c known own old (asking wish steps old) → StandsIn table steps c known' own' new (run_of steps new)
+      → StandsIn tables steps c known own old (asking wish steps old) → StandsIn tables steps c known' own' new (run_of steps new)
   stands_made known known' own own' wish old new same makes sound at number mine was = record {
     number = number ∙ was.number;
-    reads = was.reads ∙ ap (λ (w : List Domain). table_of w 0) (sym same);
+    reads = was.reads ∙ ap (λ (w : List Domain). tables_of w) (sym same);
     whole = mine;
     program = record { within = subst (λ (n : ℕ). n ≤ length steps) (sym at) was.program.within; short = was.program.short; json = was.program.json };
     sound = sound;
-    at = subst (λ (w : List Domain). IsAt table w c (moves_of steps) known'.log (run_of steps new)) (sym same)
-        (subst (λ (n : ℕ). IsAt table known.world c (moves_of steps) known'.log (record { client = client_of new.client; steps = moves_from n steps })) (sym at)
-        (at_made table c (moves_of steps) known known' (asking wish steps old) (record { client = client_of new.client; steps = moves_from old.at steps }) makes.1 (makes.0 (moves_from old.at steps))
+    at = subst (λ (w : List Domain). IsAt tables w c (moves_of steps) known'.log (run_of steps new)) (sym same)
+        (subst (λ (n : ℕ). IsAt tables known.world c (moves_of steps) known'.log (record { client = client_of new.client; steps = moves_from n steps })) (sym at)
+        (at_made tables c (moves_of steps) known known' (asking wish steps old) (record { client = client_of new.client; steps = moves_from old.at steps }) makes.1 (makes.0 (moves_from old.at steps))
         (began_of known' new.client sound)
         (subst (λ (w : List Domain). ListensIn w c known'.log (client_of new.client)) same (subst (λ (n : ℕ). ListensIn known'.world n known'.log (client_of new.client)) (number ∙ was.number) (listens_of known' new.client sound)))
         was.at));

@@ -20,10 +20,13 @@ use Rattle.sal_hub.proofs.journal.Journal.TheSendSync as Journal-here
 use Rattle.sal_hub.proofs.chains.Chains.TheSendSync as Chains-here
 use Rattle.sal_hub.proofs.marks.Marks.TheSendSync as Marks-here
 use Rattle.sal_hub.proofs.listeners.Listeners.TheSendSync as Listeners-here
+use Rattle.sal_hub.proofs.services.Services.TheSendSync as Services-here
 use Rattle.sal_hub.proofs.chain.Chain.TheSendSync as Chain-here
 use Rattle.sal_hub.proofs.receipt.Receipt.TheSendSync as Receipt-here
+use Rattle.sal_hub.proofs.call_id.CallId.TheSendSync as CallId-here
 use Rattle.sal_script.proofs.reply.StepReply.TheSendSync as StepReply-here
 use Rattle.sal_client.proofs.follower.Follower.TheSendSync as Follower-here
+use Rattle.sal_client.proofs.rpcs.Invocation.TheSendSync as Invocation-here
 use Rattle.sal_client.proofs.wish.RunFault.TheSendSync as RunFault-here
 use Rattle.sal_turn.proofs.seat.Seat.TheSendSync as TurnSeat-here
 use Rattle.sal_turn.proofs.turn.Turn.TheSendSync as Turn-here
@@ -74,6 +77,7 @@ use Rattle.regex.specs.contracts.string.regex.Regex as Regex
 use Rattle.sal_json.specs.contracts.patterns.Whole as Whole
 use Rattle.sal_json.specs.contracts.patterns.Patterns as Patterns
 use Rattle.sal_client.specs.contracts.reader.Reader as Reader
+use Rattle.sal_client.specs.contracts.readers.Readers as Readers
 use Rattle.sal_run.specs.contracts.clients.SeatedRun as SeatedRun
 use Rattle.sal_run.specs.contracts.clients.Finished as Finished
 
@@ -138,7 +142,7 @@ Pipeline-field_send : IsSend (Pipeline.the_field).row
 Pipeline-field_send = search (Domain-send, Submission-send, Outcome-here.the_send, crosses, maps.crosses, sendable) depth 40 fits 20000
 
 Hub-send : IsSend Hub.the_row
-Hub-send = search (Pipeline-field_send, Journal-here.the_send, Chains-here.the_field_send, Marks-here.the_field_send, Listeners-here.the_field_send, crosses, maps.crosses, sendable) depth 40 fits 20000
+Hub-send = search (Pipeline-field_send, Journal-here.the_send, Chains-here.the_field_send, Marks-here.the_field_send, Listeners-here.the_field_send, Services-here.the_field_send, crosses, maps.crosses, sendable) depth 40 fits 20000
 
 Shared-send : IsSend Shared.the_row
 Shared-send = search (Hub-send, crosses, maps.crosses, sendable) depth 40 fits 20000
@@ -150,7 +154,7 @@ pub ScriptStep-sync : IsSync ScriptStep.the_row
 ScriptStep-sync = search (Mode-here.the_field_sync, Store-here.the_field_sync, Str-here.the_sync, Value-field_sync, crosses, maps.crosses, sendable) depth 40 fits 20000
 
 ClientState-field_send : IsSend (ClientState.the_field).row
-ClientState-field_send = search (Tx-send, Receipt-here.the_send, Chain-here.the_send, Follower-here.the_send, StepReply-here.the_send, crosses, maps.crosses, sendable) depth 40 fits 20000
+ClientState-field_send = search (Tx-send, Receipt-here.the_send, Chain-here.the_send, Follower-here.the_send, CallId-here.the_send, Invocation-here.the_send, StepReply-here.the_send, crosses, maps.crosses, sendable) depth 40 fits 20000
 
 ClientRun-field_send : IsSend (ClientRun.the_field).row
 ClientRun-field_send = search (ClientState-field_send, crosses, maps.crosses, sendable) depth 40 fits 20000
@@ -191,8 +195,11 @@ Whole-sync = search (Regex-field_sync, crosses, maps.crosses, sendable) depth 40
 Patterns-sync : IsSync Patterns.the_row
 Patterns-sync = search (Seq-here.the_sync, Whole-sync, crosses, maps.crosses, sendable) depth 40 fits 20000
 
-pub Reader-sync : IsSync Reader.the_row
+Reader-sync : IsSync Reader.the_row
 Reader-sync = search (Schema-send, Schema-sync, Patterns-sync, crosses, maps.crosses, sendable) depth 40 fits 20000
+
+pub Readers-sync : IsSync Readers.the_row
+Readers-sync = search (Reader-sync, crosses, maps.crosses, sendable) depth 40 fits 20000
 
 pub SeatedRun-send : IsSend SeatedRun.the_row
 SeatedRun-send = search (ClientRun-field_send, Seat-send, crosses, sendable) depth 40 fits 20000

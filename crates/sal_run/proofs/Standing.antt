@@ -68,21 +68,21 @@ few_left lock v w h n at hub left enters number same grows turn room =
     let own = ap length enters.own in
     omega (arith, few, own, room)
 
-module _ (lasts : TokensLast) (table : SchemaTable) (steps : List ScriptStep) (v : SeatView) where
+module _ (lasts : TokensLast) (tables : List SchemaTable) (steps : List ScriptStep) (v : SeatView) where
   -- the turn's hub, for the client
-  pub found_stands : (lock : TableId) (h : Holding) (r : CodeRun) (now : Run) → Enters lock v h → Stands table steps v r now → StandsIn table steps v.number h.found v.own r now
+  pub found_stands : (lock : TableId) (h : Holding) (r : CodeRun) (now : Run) → Enters lock v h → Stands tables steps v r now → StandsIn tables steps v.number h.found v.own r now
   found_stands lock h r now enters was =
-      stands_found lasts table steps v.number (known v) h.found v.own r now (ap (λ (g : Option (List Domain)). unwrap_or g []) enters.world) enters.seen enters.mine was
+      stands_found lasts tables steps v.number (known v) h.found v.own r now (ap (λ (g : Option (List Domain)). unwrap_or g []) enters.world) enters.seen enters.mine was
 
   -- behind a turn in which the client made its call
   pub left_stands : (lock : TableId) (h : Holding) (left : Known) (w : SeatView) (wish : Wish) (old new : CodeRun) → Enters lock v h → SameRights h.view w → TurnOf h.view h.view.number h.found left w
-      → MakesNext table old.client.number h.hub wish (client_of old.client) left (client_of new.client) → IsSound left new.client → new.at ≡ old.at → new.client.number ≡ old.client.number
-      → Stands table steps v old (asking wish steps old) → Stands table steps w new (run_of steps new)
+      → MakesNext tables old.client.number h.hub wish (client_of old.client) left (client_of new.client) → IsSound left new.client → new.at ≡ old.at → new.client.number ≡ old.client.number
+      → Stands tables steps v old (asking wish steps old) → Stands tables steps w new (run_of steps new)
   left_stands lock h left w wish old new enters rights turn makes sound at number was =
       let found = found_stands lock h old (asking wish steps old) enters was in
-      let makes' : MakesNext table v.number h.found wish (client_of old.client) left (client_of new.client) =
-      subst (λ (k : Known). MakesNext table v.number k wish (client_of old.client) left (client_of new.client)) enters.hub
-      (subst (λ (n : ℕ). MakesNext table n h.hub wish (client_of old.client) left (client_of new.client)) was.number makes) in
+      let makes' : MakesNext tables v.number h.found wish (client_of old.client) left (client_of new.client) =
+      subst (λ (k : Known). MakesNext tables v.number k wish (client_of old.client) left (client_of new.client)) enters.hub
+      (subst (λ (n : ℕ). MakesNext tables n h.hub wish (client_of old.client) left (client_of new.client)) was.number makes) in
       let grown = makes'.1 in
       let e : Entry = grown.0 in
       let own' : w.own ≡ v.own ++ e ∷ [] =
@@ -90,7 +90,7 @@ module _ (lasts : TokensLast) (table : SchemaTable) (steps : List ScriptStep) (v
       let mine : entries_by maker_of v.number left.log ≡ v.own ++ e ∷ [] =
       ap (λ (k : Known). entries_by maker_of v.number k.log) grown.2 ∙ mine_more v.number h.found.log v.own e grown.1 enters.mine in
       let same : left.world ≡ h.found.world = ap (λ (k : Known). k.world) grown.2 in
-      let made = stands_made lasts table steps v.number h.found left v.own (v.own ++ e ∷ []) wish old new same makes' sound at number mine found in
-      subst (λ (n : ℕ). StandsIn table steps n (known w) w.own new (run_of steps new)) (sym (rights.0 ∙ enters.rights.0))
-      (subst (λ (k : Known). StandsIn table steps v.number k w.own new (run_of steps new)) (sym turn.now)
-      (subst (λ (own : List Entry). StandsIn table steps v.number left own new (run_of steps new)) (sym own') made))
+      let made = stands_made lasts tables steps v.number h.found left v.own (v.own ++ e ∷ []) wish old new same makes' sound at number mine found in
+      subst (λ (n : ℕ). StandsIn tables steps n (known w) w.own new (run_of steps new)) (sym (rights.0 ∙ enters.rights.0))
+      (subst (λ (k : Known). StandsIn tables steps v.number k w.own new (run_of steps new)) (sym turn.now)
+      (subst (λ (own : List Entry). StandsIn tables steps v.number left own new (run_of steps new)) (sym own') made))

@@ -24,9 +24,9 @@ pub record IsOpening (turn : TableId) (p : Place Entry (List Domain)) : Type 0 w
   pub joined : p.view.joined ≡ []
 
 -- Each client of the programs went through its own at a seat off the opening one, that knew v, and was taken in again at this seat.
-pub record AreRan (table : SchemaTable) (lock : TableId) (programs : List (List ScriptStep)) (v : SeatView) (place : Place Entry (List Domain)) (replies : Result (List (List StepReply)) RunFault) : Type 0 where
+pub record AreRan (tables : List SchemaTable) (lock : TableId) (programs : List (List ScriptStep)) (v : SeatView) (place : Place Entry (List Domain)) (replies : Result (List (List StepReply)) RunFault) : Type 0 where
   pub clients : List Finished
   pub long : length clients ≡ length programs
-  pub each : (i : ℕ) (f : Finished) → slice_get clients i ≡ Some f → Worked table lock programs (record { lock = lock; view = newcomer i v }) f
+  pub each : (i : ℕ) (f : Finished) → slice_get clients i ≡ Some f → Worked tables lock programs (record { lock = lock; view = newcomer i v }) f
   pub joins : Joins lock (record v { given = 65535 ∷ upto (length programs) }) clients place
   pub collects : Collects clients replies

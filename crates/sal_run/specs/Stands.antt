@@ -2,7 +2,6 @@
 use Rattle.std.specs.Prelude.{◌≡◌, ℕ, List, [], Some}
 use mathlib.Core.List.{IsPrefix}
 use Rattle.sal_history.specs.declared.call.Entry.{Entry}
-use Rattle.sal_history.specs.World.{table_of}
 use Rattle.sal_schema.specs.declared.table.SchemaTable.{SchemaTable}
 use Rattle.sal_turn.specs.Entries.{entries_by}
 use Rattle.sal_turn.specs.Seats.{TableId}
@@ -12,28 +11,28 @@ use Rattle.sal_hub.specs.Known.{Known}
 use Rattle.sal_script.specs.declared.script.ScriptStep.{ScriptStep}
 use Rattle.sal_script.specs.Along.{IsAt}
 use Rattle.sal_script.specs.Moves.{moves_of}
-use Rattle.sal_script.specs.Play.{Run}
+use Rattle.sal_script.specs.Play.{Run, tables_of}
 use Rattle.sal_client.specs.declared.run.ClientRun.{ClientRun as CodeRun}
 use Rattle.sal_client.specs.Clients.{IsSound, client_of}
 use Rattle.sal_client.specs.Runs.{IsProgram}
 
 -- Client c with these steps stands at this run: along the log it made the calls that are its own there, and no others.
-pub record StandsIn (table : SchemaTable) (steps : List ScriptStep) (c : ℕ) (log : Known) (own : List Entry) (r : CodeRun) (now : Run) : Type 0 where
+pub record StandsIn (tables : List SchemaTable) (steps : List ScriptStep) (c : ℕ) (log : Known) (own : List Entry) (r : CodeRun) (now : Run) : Type 0 where
   pub number : r.client.number ≡ c
-  pub reads : table ≡ table_of log.world 0
+  pub reads : tables ≡ tables_of log.world
   pub whole : entries_by maker_of c log.log ≡ own
   pub program : IsProgram steps r
   pub sound : IsSound log r.client
-  pub at : IsAt table log.world c (moves_of steps) log.log now
+  pub at : IsAt tables log.world c (moves_of steps) log.log now
 
 -- so it is with the client of a seat, along the log that the seat has seen
-abbrev pub Stands : SchemaTable → List ScriptStep → SeatView → CodeRun → Run → Type 0
-Stands table steps v r now = StandsIn table steps v.number (known v) v.own r now
+abbrev pub Stands : List SchemaTable → List ScriptStep → SeatView → CodeRun → Run → Type 0
+Stands tables steps v r now = StandsIn tables steps v.number (known v) v.own r now
 
 -- the client of a seat has come to its end
-pub record HasEnded (table : SchemaTable) (steps : List ScriptStep) (v : SeatView) (r : CodeRun) : Type 0 where
+pub record HasEnded (tables : List SchemaTable) (steps : List ScriptStep) (v : SeatView) (r : CodeRun) : Type 0 where
   pub whole : entries_by maker_of v.number v.seen ≡ v.own
-  pub at : IsAt table (known v).world v.number (moves_of steps) v.seen (record { client = client_of r.client; steps = [] })
+  pub at : IsAt tables (known v).world v.number (moves_of steps) v.seen (record { client = client_of r.client; steps = [] })
 
 -- a turn of a seat that knew v, in which nothing is done yet
 pub record Enters (turn : TableId) (v : SeatView) (h : Holding) : Type 0 where

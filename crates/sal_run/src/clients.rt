@@ -7,7 +7,7 @@ ghost use Rattle.sal_run.specs.Worked.{IsNew, Worked};
 
 use crate::worker::Worker;
 use sal_broker::{Sal, Seat};
-use sal_client::{ClientRun, Reader, RunFault};
+use sal_client::{ClientRun, Readers, RunFault};
 use sal_io::Gate;
 use sal_script::Program;
 use std::alloc::{AllocError, Global};
@@ -18,7 +18,7 @@ use std::thread::{Threads, map_vec};
 #[derive(Drop)]
 pub struct Hall<'a, G> {
     pub sal: &'a Sal,
-    pub reader: &'a Reader,
+    pub readers: &'a Readers,
     pub gate: &'a G,
 }
 
@@ -48,13 +48,13 @@ fn run_one<R: Wait, G: Gate>(
 ) -> Finished
     requires limits { IsTrue (within_limits programs.now) }
     requires json { IsTrue (have_json_moves (clients_of programs.now)) }
-    requires new { IsNew hall.now.reader.now hall.now.sal.now programs.now seated }
-    ensures { Worked hall.now.reader.now hall.now.sal.now programs.now seated.seat result }
+    requires new { IsNew hall.now.readers.now hall.now.sal.now programs.now seated }
+    ensures { Worked hall.now.readers.now hall.now.sal.now programs.now seated.seat result }
 {
     let SeatedRun { mut run, seat } = seated;
     let worker = Worker {
         sal: hall.sal,
-        reader: hall.reader,
+        readers: hall.readers,
         steps: programs[run.client.number as usize].items(),
         gate: hall.gate,
     };
@@ -74,16 +74,16 @@ pub fn run_clients<R: Threads + Wait + Sync, G: Gate>(
 ) -> Result<Vec<Finished>, AllocError>
     requires limits { IsTrue (within_limits programs.now) }
     requires json { IsTrue (have_json_moves (clients_of programs.now)) }
-    requires new { (i : ℕ) (r : SeatedRun) → i < length runs.items → r ≡ slice_index_or runs.items i r → IsNew hall.now.reader.now hall.now.sal.now programs.now r }
+    requires new { (i : ℕ) (r : SeatedRun) → i < length runs.items → r ≡ slice_index_or runs.items i r → IsNew hall.now.readers.now hall.now.sal.now programs.now r }
     ensures long { IfOk result (λ v. length v.items ≡ length runs.items) }
-    ensures each { IfOk result (λ v. (i : ℕ) (f : Finished) (r : SeatedRun) → i < length runs.items → r ≡ slice_index_or runs.items i r → Worked hall.now.reader.now hall.now.sal.now programs.now r.seat (slice_index_or v.items i f)) }
+    ensures each { IfOk result (λ v. (i : ℕ) (f : Finished) (r : SeatedRun) → i < length runs.items → r ≡ slice_index_or runs.items i r → Worked hall.now.readers.now hall.now.sal.now programs.now r.seat (slice_index_or v.items i f)) }
 {
     map_vec(
         rt,
         runs,
         &|mine: SeatedRun| -> Finished
-            requires { IsTrue (within_limits programs.now) × IsTrue (have_json_moves (clients_of programs.now)) × IsNew hall.now.reader.now hall.now.sal.now programs.now mine }
-            ensures { Worked hall.entry.now.reader.now hall.entry.now.sal.now programs.entry.now mine.seat result }
+            requires { IsTrue (within_limits programs.now) × IsTrue (have_json_moves (clients_of programs.now)) × IsNew hall.now.readers.now hall.now.sal.now programs.now mine }
+            ensures { Worked hall.entry.now.readers.now hall.entry.now.sal.now programs.entry.now mine.seat result }
         { run_one(rt, alloc, hall, programs, mine) },
     )
 }

@@ -13,7 +13,7 @@
 //! (`AreLeft` of `sal_script`). By the laws there this is what the script comes to when it is played in the order of that log.
 //!
 //! ```
-//! let ran = run(rt, alloc, &reader, &script, hub, &gate)?;
+//! let ran = run(rt, alloc, &readers, &script, hub, &gate)?;
 //! let text = report(alloc, schema, ran.hub.log(), ran.replies.items(), ..)?;
 //! ```
 //!

@@ -1,17 +1,17 @@
 //! A whole script, its clients on threads of their own.
 ghost use Rattle.std.specs.Prelude.{◌≡◌, [], ◌∷◌, IfOk, IsTrue, length, true};
-ghost use Rattle.sal_history.specs.World.{table_of};
 ghost use Rattle.sal_broker.specs.Seats.{known};
 ghost use Rattle.sal_script.specs.Along.{AreLeft};
 ghost use Rattle.sal_script.specs.JsonMoves.{have_json_moves};
 ghost use Rattle.sal_script.specs.Limits.{within_limits};
 ghost use Rattle.sal_script.specs.Moves.{clients_of};
+ghost use Rattle.sal_script.specs.Play.{tables_of};
 ghost use Rattle.sal_run.specs.Ran.{AreRan, IsOpening};
 
 use crate::clients::{Hall, run_clients};
 use crate::joined::{Replies, join_all, seat_all};
 use sal_broker::{Sal, Seat};
-use sal_client::{Played, Reader, RunFault};
+use sal_client::{Played, Readers, RunFault};
 use sal_hub::Hub;
 use sal_io::Gate;
 use sal_script::{Program, Script};
@@ -31,8 +31,8 @@ fn run_all<R: Threads + Wait + Sync, G: Gate>(
     requires limits { IsTrue (within_limits programs.now) }
     requires json { IsTrue (have_json_moves (clients_of programs.now)) }
     requires opening { IsOpening hall.now.sal.now opening }
-    requires reads { hall.now.reader.now ≡ table_of (known opening.view).world 0 }
-    ensures { IfOk result (λ r. AreRan hall.now.reader.now hall.now.sal.now programs.now opening.view r.0 r.1) }
+    requires reads { hall.now.readers.now ≡ tables_of (known opening.view).world }
+    ensures { IfOk result (λ r. AreRan hall.now.readers.now hall.now.sal.now programs.now opening.view r.0 r.1) }
 {
     let runs = seat_all(alloc, hall.sal, &mut opening, programs.len() as u32)?;
     match run_clients(rt, alloc, hall, programs, runs) {
@@ -41,17 +41,17 @@ fn run_all<R: Threads + Wait + Sync, G: Gate>(
     }
 }
 
-/// Runs the clients of the script over a hub without calls, whose own domain has the reader's schema: each on a thread of its own, with
-/// a seat of its own. The gate is passed before each step; the script's order is not looked at.
+/// Runs the clients of the script over a hub without calls, whose domains have the readers' schemas: each on a thread of its own, with a
+/// seat of its own. The gate is passed before each step; the script's order is not looked at.
 pub fn run<R: Threads + Wait + Sync, G: Gate>(
     rt: &R,
     alloc: Global,
-    reader: &Reader,
+    readers: &Readers,
     script: &Script,
     hub: Hub,
     gate: &G,
 ) -> Result<Played, NoMemory>
-    requires table { reader.now ≡ table_of hub.world 0 }
+    requires tables { readers.now ≡ tables_of hub.world }
     requires fresh { hub.log ≡ [] }
     ensures left { IfOk result (λ p. AreLeft hub.world (clients_of script.now.clients) p.hub.log p.replies) }
     ensures world { IfOk result (λ p. p.hub.world ≡ hub.world) }
@@ -60,7 +60,7 @@ pub fn run<R: Threads + Wait + Sync, G: Gate>(
     let (sal, opening) = Sal::over(alloc, hub)?;
     let hall = Hall {
         sal: &sal,
-        reader,
+        readers,
         gate,
     };
     let (joined, replies) = run_all(rt, alloc, &hall, programs, opening)?;

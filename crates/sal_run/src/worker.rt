@@ -7,7 +7,7 @@ ghost use Rattle.sal_hub.specs.Answers.{limit};
 ghost use Rattle.sal_run.specs.Stands.{Enters, HasEnded, Stands};
 
 use sal_broker::{Held, Sal, Seat};
-use sal_client::{ClientRun, Reader, RunFault, Wish};
+use sal_client::{ClientRun, Readers, RunFault, Wish};
 use sal_hub::laws;
 use sal_io::Gate;
 use sal_script::ScriptStep;
@@ -22,7 +22,7 @@ const MOST_TURNS: usize = 60001;
 #[derive(Drop)]
 pub(crate) struct Worker<'a, G> {
     pub(crate) sal: &'a Sal,
-    pub(crate) reader: &'a Reader,
+    pub(crate) readers: &'a Readers,
     pub(crate) steps: &'a [ScriptStep],
     pub(crate) gate: &'a G,
 }
@@ -46,23 +46,23 @@ impl<'a, G: Gate> Worker<'a, G> {
         alloc: Global,
         run: &mut ClientRun,
         seat: Seat,
-        wish: &Wish,
+        wish: Wish,
     ) -> (Seat, Result<bool, RunFault>)
         requires lock { seat.lock ≡ self.now.sal.now }
-        requires stands { Stands self.now.reader.now self.now.steps.now seat.view run.old (asking wish.now self.now.steps.now run.old) }
-        requires can { CanMake wish.now run.old.client }
-        requires read { ReadBy self.now.reader.now wish.now }
+        requires stands { Stands self.now.readers.now self.now.steps.now seat.view run.old (asking wish self.now.steps.now run.old) }
+        requires can { CanMake wish run.old.client }
+        requires read { ReadBy self.now.readers.now wish }
         requires room { length seat.view.own < run.old.at }
         ensures same { Keeps self.now.sal.now seat result.0 }
         ensures few { length result.0.view.own ≤ run.old.at }
         ensures number { OnOk result.1 (run.new.client.number ≡ run.old.client.number) }
         ensures at { OnOk result.1 (run.new.at ≡ run.old.at) }
-        ensures goes { result.1 ≡ Ok true → Stands self.now.reader.now self.now.steps.now result.0.view run.new (run_of self.now.steps.now run.new) }
+        ensures goes { result.1 ≡ Ok true → Stands self.now.readers.now self.now.steps.now result.0.view run.new (run_of self.now.steps.now run.new) }
         ensures made { result.1 ≡ Ok false → ⊥ }
         ensures full { result.1 ≡ Err RunFault.HistoryFull → limit ≤ length result.0.view.seen }
     {
         laws::tokens_last();
-        let mut held = self.turn_for(rt, seat, wish);
+        let mut held = self.turn_for(rt, seat, &wish);
         let made = run.make(alloc, held.hub(), wish);
         let seat = self.sal.leave(held);
         match made {
@@ -80,20 +80,20 @@ impl<'a, G: Gate> Worker<'a, G> {
         seat: Seat,
     ) -> (Seat, Result<bool, RunFault>)
         requires lock { seat.lock ≡ self.now.sal.now }
-        requires stands { Stands self.now.reader.now self.now.steps.now seat.view run.old (run_of self.now.steps.now run.old) }
+        requires stands { Stands self.now.readers.now self.now.steps.now seat.view run.old (run_of self.now.steps.now run.old) }
         requires room { length seat.view.own ≤ run.old.at }
         ensures same { Keeps self.now.sal.now seat result.0 }
         ensures few { length result.0.view.own ≤ length self.now.steps.now }
         ensures calls { result.1 ≡ Ok true → length result.0.view.own ≤ run.new.at }
         ensures number { OnOk result.1 (run.new.client.number ≡ run.old.client.number) }
         ensures on { result.1 ≡ Ok true → run.old.at < run.new.at }
-        ensures goes { result.1 ≡ Ok true → Stands self.now.reader.now self.now.steps.now result.0.view run.new (run_of self.now.steps.now run.new) }
-        ensures ended { result.1 ≡ Ok false → HasEnded self.now.reader.now self.now.steps.now result.0.view run.new }
+        ensures goes { result.1 ≡ Ok true → Stands self.now.readers.now self.now.steps.now result.0.view run.new (run_of self.now.steps.now run.new) }
+        ensures ended { result.1 ≡ Ok false → HasEnded self.now.readers.now self.now.steps.now result.0.view run.new }
         ensures full { result.1 ≡ Err RunFault.HistoryFull → limit ≤ length result.0.view.seen }
     {
         laws::tokens_last();
-        match run.next(alloc, self.reader, self.steps, self.gate) {
-            Ok(Some(wish)) => self.call(rt, alloc, run, seat, &wish),
+        match run.next(alloc, self.readers, self.steps, self.gate) {
+            Ok(Some(wish)) => self.call(rt, alloc, run, seat, wish),
             Ok(None) => (seat, Ok(false)),
             Err(NoMemory) => (seat, Err(RunFault::NoMemory)),
         }
@@ -108,11 +108,11 @@ impl<'a, G: Gate> Worker<'a, G> {
         mut seat: Seat,
     ) -> (Seat, Result<(), RunFault>)
         requires lock { seat.lock ≡ self.now.sal.now }
-        requires stands { Stands self.now.reader.now self.now.steps.now seat.view run.old (run_of self.now.steps.now run.old) }
+        requires stands { Stands self.now.readers.now self.now.steps.now seat.view run.old (run_of self.now.steps.now run.old) }
         requires room { length seat.view.own ≤ run.old.at }
         ensures same { Keeps self.now.sal.now seat result.0 }
         ensures few { length result.0.view.own ≤ length self.now.steps.now }
-        ensures ended { OnOk result.1 (HasEnded self.now.reader.now self.now.steps.now result.0.view run.new) }
+        ensures ended { OnOk result.1 (HasEnded self.now.readers.now self.now.steps.now result.0.view run.new) }
         ensures full { result.1 ≡ Err RunFault.HistoryFull → limit ≤ length result.0.view.seen }
     {
         for _turn in 0..MOST_TURNS {

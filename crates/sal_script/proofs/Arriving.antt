@@ -7,14 +7,17 @@ use Rattle.std.proofs.lemmas.List.Sums.{fold-append}
 use Rattle.sal_types.specs.declared.value.Store.{Store}
 use Rattle.sal_types.specs.declared.value.Step.{Step}
 use Rattle.sal_types.specs.declared.row.Row.{Row}
+use Rattle.sal_types.specs.Reading.{◌>>=◌}
+use Rattle.serde_json.specs.Data.{Data}
 use Rattle.sal_rows.specs.declared.op.Act.{Act}
 use Rattle.sal_rows.specs.declared.outcome.Mode.{Mode}
 use Rattle.sal_rows.specs.declared.outcome.Mode.TheVariants.{Ro, Wo, Rw}
+use Rattle.sal_history.specs.declared.call.Call.{Call}
 use Rattle.sal_history.specs.declared.call.Entry.{Entry}
 use Rattle.sal_history.specs.declared.reply.Reply.{Reply}
-use Rattle.sal_history.specs.declared.reply.Reply.TheVariants.{Begun, Chain, Accepted as Done, Receipt, Listener as Listening, Batch}
+use Rattle.sal_history.specs.declared.reply.Reply.TheVariants.{Begun, Chain, Accepted as Done, Receipt, Listener as Listening, Batch, CallMade, Request}
 use Rattle.sal_history.specs.World.{Domain}
-use Rattle.sal_history.specs.History.{Answered, answer, answered_as, entries_of, history, reply}
+use Rattle.sal_history.specs.History.{Answered, answer as answer_more, answered_as, entries_of, history, reply}
 use Rattle.sal_schema.specs.declared.table.SchemaTable.{SchemaTable}
 use Rattle.sal_pathtext.specs.declared.fault.PathTextFault.{PathTextFault}
 use Rattle.sal_pathtext.specs.Read.{read_path}
@@ -24,9 +27,11 @@ use Rattle.sal_rules.specs.Refusals.{refusal}
 use Rattle.sal_script.specs.declared.reply.StepReply.{StepReply}
 use Rattle.sal_script.specs.declared.reply.StepReply.TheVariants.{Called}
 use Rattle.sal_script.specs.declared.reply.StepRefusal.TheVariants.{NoDevice}
-use Rattle.sal_script.specs.Moves.{Move, Begin, Put, Merge, Delete, Read, Exists, Submit, Cancel, Settle, OpenChain, ChainBegin, CloseChain, Pump, Listen, Take, Unlisten, Mirror, Mark, After}
-use Rattle.sal_script.specs.Play.{Arrival, Client, Deed, Listener, Made, Meeting, Open, Opened, Run, refused, accept_unless, act_of, arrive, arrive_by, calls, chain_begin, close_chain, deleting, ended, found, has_domain, keep, listen, listen_at, local, look, look_at, look_in, make, meet, merging, mirror, op_of, putting, replied, rows_read, seen_by, settle, shared, submit, submit_in, take_batch, cancel, unlisten, write, write_act, write_at, write_in}
-use Rattle.sal_script.specs.Orders.{Exchange, exchange_at, exchange_by, exchanges_in, exchanges_of, kind_of_call, kind_of_step}
+use Rattle.sal_script.specs.Moves.{Move, Begin, Put, Merge, Delete, Read, Exists, Submit, Cancel, Settle, OpenChain, ChainBegin, CloseChain, Pump, Listen, Take, Unlisten, Mirror, Provide, Withdraw, Invoke, NextCall, Answer, Collect, Subscribe, Offer, TakeNotes, Mount, Unmount, MountAt, Mark, After}
+use Rattle.sal_script.specs.Play.{Arrival, Client, Deed, Listener, Made, Meeting, Open, Opened, Run, accept_unless, act_of, arrive, ask, arrive_by, calls, chain_begin, close_chain, deleting, ended, found, has_domain, keep, listen, listen_at, local, look, look_at, look_in, make, meet, merging, mirror, op_of, putting, refused, replied, rows_read, seen_by, settle, shared, submit, submit_in, table_for, table_in, take_batch, cancel, unlisten, write, write_act, write_at, write_in, write_with}
+use Rattle.sal_script.specs.Messages.{input_of, note_called, output_of, rpc_called}
+use Rattle.sal_script.specs.Services.{Invocation, OrRefusal, answer, collect, context_of, if_known, in_slot, invoke, mount, mount_at, offer, path_of, provide, rows_of, subscribe, withdraw}
+use Rattle.sal_script.specs.Orders.{Exchange, Kind, answers, asks_mount, collects, exchange_at, exchange_by, exchanges_in, exchanges_of, invokes, kind_of_call, kind_of_step, mounts, offers, provides, subscribes, withdraws}
 
 -- ---- one step
 
@@ -42,7 +47,7 @@ module _ (table : SchemaTable) (world : List Domain) (log : List Entry) (step : 
 
   act_met : (act : Result Act DataFault) (slot : ℕ) (store : Store) (path : List Step) (tx : Open) → Met step client (write_act table world log slot store path act tx client)
   act_met (Err fault) slot store path tx = (refl, refl)
-  act_met (Ok act) slot store path tx = unless_met (refusal table (seen_by table world log tx store) (op_of store path act)) slot store path act tx
+  act_met (Ok act) slot store path tx = unless_met (refusal table (seen_by world log tx store) (op_of store path act)) slot store path act tx
 
   at_met : (path : Result (List Step) PathTextFault) (slot : ℕ) (store : Store) (deed : Deed) (tx : Open) → Met step client (write_at table world log slot store path deed tx client)
   at_met (Err fault) slot store deed tx = (refl, refl)
@@ -57,18 +62,18 @@ module _ (table : SchemaTable) (world : List Domain) (log : List Entry) (step : 
   write_met slot store text deed None = (refl, refl)
   write_met slot store text deed (Some tx) = in_met tx.mode slot store text deed tx
 
-  shown_met : (mode : Mode) (r : StepReply) → exchange_at step r ≡ [] → Met step client (look_in mode r client)
-  shown_met Ro r silent = (refl, silent)
-  shown_met Wo r silent = (refl, refl)
-  shown_met Rw r silent = (refl, silent)
+  shown_met : (domain : ℕ) (mode : Mode) (r : StepReply) → exchange_at step r ≡ [] → Met step client (look_in domain mode r client)
+  shown_met domain Ro r silent = (refl, silent)
+  shown_met domain Wo r silent = (refl, refl)
+  shown_met domain Rw r silent = (refl, silent)
 
-  look_at_met : (f : List Step → StepReply) (mode : Mode) (path : Result (List Step) PathTextFault) → ((p : List Step) → exchange_at step (f p) ≡ []) → Met step client (look_at f mode path client)
-  look_at_met f mode (Err fault) silent = (refl, refl)
-  look_at_met f mode (Ok path) silent = shown_met mode (f path) (silent path)
+  look_at_met : (f : List Step → StepReply) (domain : ℕ) (mode : Mode) (path : Result (List Step) PathTextFault) → ((p : List Step) → exchange_at step (f p) ≡ []) → Met step client (look_at f domain mode path client)
+  look_at_met f domain mode (Err fault) silent = (refl, refl)
+  look_at_met f domain mode (Ok path) silent = shown_met domain mode (f path) (silent path)
 
   look_met : (f : Open → List Step → List Row → StepReply) (store : Store) (text : List ℕ) (tx : Option Open) → ((o : Open) (p : List Step) (rows : List Row) → exchange_at step (f o p rows) ≡ []) → Met step client (look table world log f store text client tx)
   look_met f store text None silent = (refl, refl)
-  look_met f store text (Some tx) silent = look_at_met (λ path. f tx path (seen_by table world log tx store)) tx.mode (read_path table text) (λ path. silent tx path (seen_by table world log tx store))
+  look_met f store text (Some tx) silent = look_at_met (λ path. f tx path (seen_by world log tx store)) tx.domain tx.mode (read_path table text) (λ path. silent tx path (seen_by world log tx store))
 
 submit_in_met : (slot : ℕ) (client : Client) (tx : Open) (mode : Mode) → Met (Submit slot) client (submit_in tx mode client)
 submit_in_met slot client tx Ro = (refl, refl)
@@ -99,9 +104,9 @@ listen_at_met : (slot domain : ℕ) (store : Store) (text : List ℕ) (client : 
 listen_at_met slot domain store text client (Err fault) = (refl, refl)
 listen_at_met slot domain store text client (Ok path) = refl
 
-listen_met : (slot domain : ℕ) (store : Store) (text : List ℕ) (client : Client) (path : Result (List Step) PathTextFault) → Met (Listen slot domain store text) client (listen domain store path client)
-listen_met slot domain store text client path =
-    elim (has_domain domain) as (λ has. Met (Listen slot domain store text) client (if has then listen_at domain store path client else refused NoDevice client)) [
+listen_met : (tables : List SchemaTable) (slot domain : ℕ) (store : Store) (text : List ℕ) (client : Client) (path : Result (List Step) PathTextFault) → Met (Listen slot domain store text) client (listen tables domain store path client)
+listen_met tables slot domain store text client path =
+    elim (has_domain tables domain) as (λ has. Met (Listen slot domain store text) client (if has then listen_at domain store path client else refused NoDevice client)) [
       | true ↦ listen_at_met slot domain store text client path
       | false ↦ (refl, refl)
     ]
@@ -114,18 +119,75 @@ unlisten_met : (slot : ℕ) (client : Client) (listener : Option Listener) → M
 unlisten_met slot client None = (refl, refl)
 unlisten_met slot client (Some listener) = refl
 
-module _ (table : SchemaTable) (world : List Domain) (log : List Entry) where
-  mirror_met : (slot : ℕ) (client : Client) (listener : Option Listener) → Met (Mirror slot) client (mirror table world log client listener)
+module _ (world : List Domain) (log : List Entry) where
+  mirror_met : (slot : ℕ) (client : Client) (listener : Option Listener) → Met (Mirror slot) client (mirror world log client listener)
   mirror_met slot client None = (refl, refl)
   mirror_met slot client (Some listener) = (refl, refl)
 
-  met : (client : Client) (step : Move) → Met step client (meet table world log client step)
+-- ---- a step on a service
+
+-- each call that there is, is of this kind
+abbrev AllOf : Kind → OrRefusal Call → Type 0
+AllOf kind (Ok call) = kind_of_call call ≡ kind
+AllOf kind (Err refusal) = ⊤
+
+all_then : {A : Type 0} (kind : Kind) (r : OrRefusal A) (f : A → OrRefusal Call) → ((x : A) → AllOf kind (f x)) → AllOf kind (r >>= f)
+all_then kind (Ok x) f more = more x
+all_then kind (Err refusal) f more = tt
+
+asked_met : (step : Move) (kind : Kind) (client : Client) (r : OrRefusal Call) → kind_of_step step ≡ Some kind → AllOf kind r → Met step client (ask r client)
+asked_met step kind client (Ok call) is all = is ∙ ap Some (sym all)
+asked_met step kind client (Err refusal) is all = (refl, refl)
+
+module _ (table : SchemaTable) where
+  provide_kind : (name : List ℕ) (context : Option (List ℕ)) → AllOf provides (provide table name context)
+  provide_kind name context = all_then provides (if_known (rpc_called table name)) _ (λ rpc. all_then provides (context_of table context) _ (λ at. refl))
+
+  withdraw_kind : (name : List ℕ) (context : Option (List ℕ)) → AllOf withdraws (withdraw table name context)
+  withdraw_kind name context = all_then withdraws (if_known (rpc_called table name)) _ (λ rpc. all_then withdraws (context_of table context) _ (λ at. refl))
+
+  invoke_kind : (name : List ℕ) (context : Option (List ℕ)) (value : Data) → AllOf invokes (invoke table name context value)
+  invoke_kind name context value =
+      all_then invokes (if_known (rpc_called table name)) _
+      (λ rpc. all_then invokes (context_of table context) _
+      (λ at. all_then invokes (rows_of table (input_of table rpc) value) _ (λ input. refl)))
+
+  answer_kind : (request : Option Invocation) (value : Data) → AllOf answers (answer table request value)
+  answer_kind request value = all_then answers (in_slot request) _ (λ r. all_then answers (rows_of table (output_of table r.rpc) value) _ (λ output. refl))
+
+  subscribe_kind : (name : List ℕ) → AllOf subscribes (subscribe table name)
+  subscribe_kind name = all_then subscribes (if_known (note_called table name)) _ (λ note. refl)
+
+  offer_kind : (name : List ℕ) (value : Data) → AllOf offers (offer table name value)
+  offer_kind name value = all_then offers (if_known (note_called table name)) _ (λ note. all_then offers (rows_of table note value) _ (λ rows. refl))
+
+  mount_kind : (device : ℕ) (text : List ℕ) → AllOf (mounts device) (mount table device text)
+  mount_kind device text = all_then (mounts device) (path_of table text) _ (λ path. refl)
+
+  mount_at_kind : (text : List ℕ) → AllOf asks_mount (mount_at table text)
+  mount_at_kind text = all_then asks_mount (path_of table text) _ (λ path. refl)
+
+collect_kind : (id : Option ℕ) → AllOf collects (collect id)
+collect_kind id = all_then collects (in_slot id) _ (λ n. refl)
+
+-- ---- any step
+
+module _ (tables : List SchemaTable) (world : List Domain) (log : List Entry) where
+  -- by the schema of domain 0
+  asked_own : (client : Client) (step : Move) (kind : Kind) (f : SchemaTable → OrRefusal Call) → kind_of_step step ≡ Some kind → ((table : SchemaTable) → AllOf kind (f table)) → Met step client (ask (f (table_in tables 0)) client)
+  asked_own client step kind f is all = asked_met step kind client (f (table_in tables 0)) is (all (table_in tables 0))
+
+  -- by the schema of the transaction's domain
+  write_in_met : (client : Client) (step : Move) (slot : ℕ) (store : Store) (path : List ℕ) (deed : Deed) → Met step client (write_with tables world log slot store path deed client (client.transactions slot))
+  write_in_met client step slot store path deed = write_met (table_for tables (client.transactions slot)) world log step client slot store path deed (client.transactions slot)
+
+  met : (client : Client) (step : Move) → Met step client (meet tables world log client step)
   met client (Begin slot domain mode) = refl
-  met client (Put slot store path value) = write_met table world log (Put slot store path value) client slot store path (putting value) (client.transactions slot)
-  met client (Merge slot store path value) = write_met table world log (Merge slot store path value) client slot store path (merging value) (client.transactions slot)
-  met client (Delete slot store path) = write_met table world log (Delete slot store path) client slot store path deleting (client.transactions slot)
-  met client (Read slot store path) = look_met table world log (Read slot store path) client (rows_read table world log) store path (client.transactions slot) (λ o p rows. refl)
-  met client (Exists slot store path) = look_met table world log (Exists slot store path) client (found table world log) store path (client.transactions slot) (λ o p rows. refl)
+  met client (Put slot store path value) = write_in_met client (Put slot store path value) slot store path (putting value)
+  met client (Merge slot store path value) = write_in_met client (Merge slot store path value) slot store path (merging value)
+  met client (Delete slot store path) = write_in_met client (Delete slot store path) slot store path deleting
+  met client (Read slot store path) = look_met (table_for tables (client.transactions slot)) world log (Read slot store path) client rows_read store path (client.transactions slot) (λ o p rows. refl)
+  met client (Exists slot store path) = look_met (table_for tables (client.transactions slot)) world log (Exists slot store path) client found store path (client.transactions slot) (λ o p rows. refl)
   met client (Submit slot) = submit_met slot client (client.transactions slot)
   met client (Cancel slot) = cancel_met slot client (client.transactions slot)
   met client (Settle slot) = settle_met slot client (client.receipts slot)
@@ -133,10 +195,22 @@ module _ (table : SchemaTable) (world : List Domain) (log : List Entry) where
   met client (ChainBegin chain slot mode) = chain_begin_met slot mode client chain (client.chains chain)
   met client (CloseChain chain) = close_chain_met client chain (client.chains chain)
   met client Pump = refl
-  met client (Listen slot domain store path) = listen_met slot domain store path client (read_path table path)
+  met client (Listen slot domain store path) = listen_met tables slot domain store path client (read_path (table_in tables domain) path)
   met client (Take slot) = take_met slot client (client.listeners slot)
   met client (Unlisten slot) = unlisten_met slot client (client.listeners slot)
-  met client (Mirror slot) = mirror_met slot client (client.listeners slot)
+  met client (Mirror slot) = mirror_met world log slot client (client.listeners slot)
+  met client (Provide name context) = asked_own client (Provide name context) provides (λ table. provide table name context) refl (λ table. provide_kind table name context)
+  met client (Withdraw name context) = asked_own client (Withdraw name context) withdraws (λ table. withdraw table name context) refl (λ table. withdraw_kind table name context)
+  met client (Invoke slot name context value) = asked_own client (Invoke slot name context value) invokes (λ table. invoke table name context value) refl (λ table. invoke_kind table name context value)
+  met client (NextCall slot) = refl
+  met client (Answer slot value) = asked_own client (Answer slot value) answers (λ table. answer table (client.handed slot) value) refl (λ table. answer_kind table (client.handed slot) value)
+  met client (Collect slot) = asked_met (Collect slot) collects client (collect (client.invoked slot)) refl (collect_kind (client.invoked slot))
+  met client (Subscribe name) = asked_own client (Subscribe name) subscribes (λ table. subscribe table name) refl (λ table. subscribe_kind table name)
+  met client (Offer name value) = asked_own client (Offer name value) offers (λ table. offer table name value) refl (λ table. offer_kind table name value)
+  met client TakeNotes = refl
+  met client (Mount device path) = asked_own client (Mount device path) (mounts device) (λ table. mount table device path) refl (λ table. mount_kind table device path)
+  met client (Unmount domain) = refl
+  met client (MountAt path) = asked_own client (MountAt path) asks_mount (λ table. mount_at table path) refl (λ table. mount_at_kind table path)
   met client (Mark mark) = refl
   met client (After mark) = refl
 
@@ -156,10 +230,10 @@ Reaches steps es (ended client) = (length client.replies ≡ length steps) × (e
 Reaches steps es (calls call step run) =
     (done : List Move) × (steps ≡ done ++ step ∷ run.steps) × (length run.client.replies ≡ length done) × (exchanges_of done run.client.replies ≡ es) × (kind_of_step step ≡ Some (kind_of_call call))
 
-module _ (table : SchemaTable) (world : List Domain) (log : List Entry) where
+module _ (tables : List SchemaTable) (world : List Domain) (log : List Entry) where
   reaches_by : (m : Meeting) (step : Move) (rest done : List Move) (client : Client) (es : List Exchange) → Met step client m → length client.replies ≡ length done → exchanges_of done client.replies ≡ es
-      → ((next : Client) → length next.replies ≡ length (done ++ step ∷ []) → exchanges_of (done ++ step ∷ []) next.replies ≡ es → Reaches (done ++ step ∷ rest) es (arrive table world log next rest))
-      → Reaches (done ++ step ∷ rest) es (arrive_by (λ next. arrive table world log next rest) (λ call. calls call step (record { client = client; steps = rest })) m)
+      → ((next : Client) → length next.replies ≡ length (done ++ step ∷ []) → exchanges_of (done ++ step ∷ []) next.replies ≡ es → Reaches (done ++ step ∷ rest) es (arrive tables world log next rest))
+      → Reaches (done ++ step ∷ rest) es (arrive_by (λ next. arrive tables world log next rest) (λ call. calls call step (record { client = client; steps = rest })) m)
   reaches_by (local r next) step rest done client es (same, quiet) long so_far more =
       let one : length next.replies ≡ length client.replies = ap length same in
       more (replied r next) (omega (arith, length-append next.replies (r ∷ []), length-append done (step ∷ []), one, long))
@@ -169,11 +243,11 @@ module _ (table : SchemaTable) (world : List Domain) (log : List Entry) where
       )
   reaches_by (shared call) step rest done client es kind long so_far more = (done, refl, long, so_far, kind)
 
-  pub reaches : (rest done : List Move) (client : Client) (es : List Exchange) → length client.replies ≡ length done → exchanges_of done client.replies ≡ es → Reaches (done ++ rest) es (arrive table world log client rest)
+  pub reaches : (rest done : List Move) (client : Client) (es : List Exchange) → length client.replies ≡ length done → exchanges_of done client.replies ≡ es → Reaches (done ++ rest) es (arrive tables world log client rest)
   reaches [] done client es long so_far = subst (λ (steps : List Move). Reaches steps es (ended client)) (sym (append-nil done)) (long, so_far)
   reaches (step ∷ rest) done client es long so_far =
-      reaches_by (meet table world log client step) step rest done client es (met table world log client step) long so_far
-      (λ next l e. subst (λ (steps : List Move). Reaches steps es (arrive table world log next rest)) (append_assoc done (step ∷ []) rest) (reaches rest (done ++ step ∷ []) next es l e))
+      reaches_by (meet tables world log client step) step rest done client es (met tables world log client step) long so_far
+      (λ next l e. subst (λ (steps : List Move). Reaches steps es (arrive tables world log next rest)) (append_assoc done (step ∷ []) rest) (reaches rest (done ++ step ∷ []) next es l e))
 
 -- ---- the call
 
@@ -185,6 +259,8 @@ keep_replies place (Listen slot domain store path) (Listening id at p opened) cl
 keep_replies place (Take slot) (Batch domain batch) client = refl
 keep_replies place (Submit slot) (Receipt number) client = refl
 keep_replies place (Cancel slot) Done client = refl
+keep_replies place (Invoke slot name context value) (CallMade id) client = refl
+keep_replies place (NextCall slot) (Request request) client = refl
 keep_replies place step r client = refl
 
 module _ (world : List Domain) (log : List Entry) (e : Entry) where
@@ -193,7 +269,7 @@ module _ (world : List Domain) (log : List Entry) (e : Entry) where
 
   exchanges-entry : (c : ℕ) → exchanges_in world (log ++ e ∷ []) c ≡ exchanges_in world log c ++ exchange_by c now
   exchanges-entry c =
-      ap (flat_map (exchange_by c)) (fold-append (answer world) [] log (e ∷ [])) ∙ flat_map-append (exchange_by c) (history world log) (now ∷ [])
+      ap (flat_map (exchange_by c)) (fold-append (answer_more world) [] log (e ∷ [])) ∙ flat_map-append (exchange_by c) (history world log) (now ∷ [])
       ∙ ap (λ (es : List Exchange). exchanges_in world log c ++ es) (append-nil (exchange_by c now))
 
   -- one more entry of the client
@@ -228,9 +304,9 @@ abbrev pub MakesIf : List Domain → List Entry → ℕ → List Move → Option
 MakesIf world log c steps None = ⊤
 MakesIf world log c steps (Some made) = Makes world log c steps made
 
-pub makes : (table : SchemaTable) (world : List Domain) (log : List Entry) (c : ℕ) (steps : List Move) (a : Arrival) → Reaches steps (exchanges_in world log c) a → MakesIf world log c steps (make table world log c a)
-makes table world log c steps (ended client) reached = tt
-makes table world log c steps (calls call step run) (done, parts, long, so_far, kind) =
+pub makes : (tables : List SchemaTable) (world : List Domain) (log : List Entry) (c : ℕ) (steps : List Move) (a : Arrival) → Reaches steps (exchanges_in world log c) a → MakesIf world log c steps (make tables world log c a)
+makes tables world log c steps (ended client) reached = tt
+makes tables world log c steps (calls call step run) (done, parts, long, so_far, kind) =
     let e : Entry = record { client = c; number = entries_of log c; call = call } in
     let r : Reply = reply world log e in
     let kept : List StepReply = (keep (length log) step r run.client).replies in

@@ -6,13 +6,13 @@ use Rattle.std.proofs.lemmas.Bool.{and_parts, eqb-true, eq-eqb}
 use Rattle.std.proofs.lemmas.List.Sums.{sum_by-cons}
 use Rattle.std.proofs.lemmas.Option.{same_Some, slice_get_within}
 use Rattle.sal_history.specs.declared.call.Entry.{Entry}
-use Rattle.sal_history.specs.World.{Domain, table_of}
+use Rattle.sal_history.specs.World.{Domain}
 use Rattle.sal_history.specs.History.{entries_of}
 use Rattle.sal_schema.specs.declared.table.SchemaTable.{SchemaTable}
 use Rattle.sal_script.specs.declared.reply.StepReply.{StepReply}
 use Rattle.sal_script.specs.Limits.{within_limits}
 use Rattle.sal_script.specs.Moves.{Move}
-use Rattle.sal_script.specs.Play.{Arrival, Client, Made, Meeting, Run, arrive, arrive_by, calls, ended, go, local, make, meet, replied, shared}
+use Rattle.sal_script.specs.Play.{Arrival, Client, Made, Meeting, Run, arrive, arrive_by, calls, ended, go, local, make, meet, replied, shared, tables_of}
 use Rattle.sal_script.specs.Along.{Finishes, IsAt, along, new_run}
 use Rattle.sal_script.specs.OneOrder.{LeftIsShort}
 use Rattle.sal_script.proofs.Along.{along_from, made_of}
@@ -37,17 +37,17 @@ counted own = if own then 1 else 0
 count_more : (c : ℕ) (e : Entry) (log : List Entry) → entries_of (e ∷ log) c ≡ counted (nat_eq e.client c) + entries_of log c
 count_more c e log = sum_by-cons (λ (x : Entry). if nat_eq x.client c then 1 else 0) e log
 
-module _ (table : SchemaTable) (world : List Domain) (c : ℕ) where
-  shorter_by : (log : List Entry) (step : Move) (client : Client) (rest : List Move) (m : Meeting) → ((next : Client) → Shorter (length rest) (arrive table world log next rest))
-      → Shorter (suc (length rest)) (arrive_by (λ next. arrive table world log next rest) (λ call. calls call step (record { client = client; steps = rest })) m)
-  shorter_by log step client rest (local r next) more = shorter_than (length rest) (suc (length rest)) (arrive table world log (replied r next) rest) (omega arith) (more (replied r next))
+module _ (tables : List SchemaTable) (world : List Domain) (c : ℕ) where
+  shorter_by : (log : List Entry) (step : Move) (client : Client) (rest : List Move) (m : Meeting) → ((next : Client) → Shorter (length rest) (arrive tables world log next rest))
+      → Shorter (suc (length rest)) (arrive_by (λ next. arrive tables world log next rest) (λ call. calls call step (record { client = client; steps = rest })) m)
+  shorter_by log step client rest (local r next) more = shorter_than (length rest) (suc (length rest)) (arrive tables world log (replied r next) rest) (omega arith) (more (replied r next))
   shorter_by log step client rest (shared call) more = omega arith
 
-  arrives_shorter : (log : List Entry) (steps : List Move) (client : Client) → Shorter (length steps) (arrive table world log client steps)
+  arrives_shorter : (log : List Entry) (steps : List Move) (client : Client) → Shorter (length steps) (arrive tables world log client steps)
   arrives_shorter log [] client = tt
-  arrives_shorter log (step ∷ rest) client = shorter_by log step client rest (meet table world log client step) (arrives_shorter log rest)
+  arrives_shorter log (step ∷ rest) client = shorter_by log step client rest (meet tables world log client step) (arrives_shorter log rest)
 
-  made_shorter : (log : List Entry) (a : Arrival) (made : Made) (n : ℕ) → Shorter n a → make table world log c a ≡ Some made → length made.run.steps < n
+  made_shorter : (log : List Entry) (a : Arrival) (made : Made) (n : ℕ) → Shorter n a → make tables world log c a ≡ Some made → length made.run.steps < n
   made_shorter log (ended client) made n short is = cc
   made_shorter log (calls call step run) made n short is =
       let left : length run.steps ≡ length made.run.steps = ap steps_left is in
@@ -58,32 +58,32 @@ module _ (table : SchemaTable) (world : List Domain) (c : ℕ) where
       steps_left (Some m) = length m.run.steps
 
   -- the entries of the client, and the steps that are left
-  few_along : (rest : List Entry) (made last : Made) → along_from table world c (Some made) rest ≡ Some last → entries_of rest c + length last.run.steps ≤ length made.run.steps
+  few_along : (rest : List Entry) (made last : Made) → along_from tables world c (Some made) rest ≡ Some last → entries_of rest c + length last.run.steps ≤ length made.run.steps
   few_along [] made last is = let same : made ≡ last = same_Some made last is in let left : length made.run.steps ≡ length last.run.steps = ap (λ (m : Made). length m.run.steps) same in omega (arith, left)
   few_along (e ∷ rest) made last is = by (nat_eq e.client c) (count_more c e rest) (λ next on. few_along rest next last on) is
     where
-      more : (o : Option Made) → (n : ℕ) → ((next : Made) → o ≡ Some next → n + length next.run.steps ≤ length made.run.steps) → ((next : Made) → along_from table world c (Some next) rest ≡ Some last → entries_of rest c + length last.run.steps ≤ length next.run.steps) → along_from table world c o rest ≡ Some last
+      more : (o : Option Made) → (n : ℕ) → ((next : Made) → o ≡ Some next → n + length next.run.steps ≤ length made.run.steps) → ((next : Made) → along_from tables world c (Some next) rest ≡ Some last → entries_of rest c + length last.run.steps ≤ length next.run.steps) → along_from tables world c o rest ≡ Some last
           → n + (entries_of rest c + length last.run.steps) ≤ length made.run.steps
-      more None n h later on = absurd (no_end table world c rest last on)
+      more None n h later on = absurd (no_end tables world c rest last on)
       more (Some next) n h later on = let one = h next refl in let others = later next on in omega (arith, one, others)
 
-      by : (own : Bool) → entries_of (e ∷ rest) c ≡ counted own + entries_of rest c → ((next : Made) → along_from table world c (Some next) rest ≡ Some last → entries_of rest c + length last.run.steps ≤ length next.run.steps)
-          → along_from table world c (if own then go table world made.log c made.run else Some (made_of (made.log ++ e ∷ []) made.run)) rest ≡ Some last
+      by : (own : Bool) → entries_of (e ∷ rest) c ≡ counted own + entries_of rest c → ((next : Made) → along_from tables world c (Some next) rest ≡ Some last → entries_of rest c + length last.run.steps ≤ length next.run.steps)
+          → along_from tables world c (if own then go tables world made.log c made.run else Some (made_of (made.log ++ e ∷ []) made.run)) rest ≡ Some last
           → entries_of (e ∷ rest) c + length last.run.steps ≤ length made.run.steps
       by true count later on =
-          let all = more (go table world made.log c made.run) 1 (λ next went. let one = made_shorter made.log (arrive table world made.log made.run.client made.run.steps) next (length made.run.steps) (arrives_shorter made.log made.run.steps made.run.client) went in omega (arith, one)) later on in
+          let all = more (go tables world made.log c made.run) 1 (λ next went. let one = made_shorter made.log (arrive tables world made.log made.run.client made.run.steps) next (length made.run.steps) (arrives_shorter made.log made.run.steps made.run.client) went in omega (arith, one)) later on in
           omega (arith, count, all)
       by false count later on =
           let all = more (Some (made_of (made.log ++ e ∷ []) made.run)) 0 (λ next went. let left : length made.run.steps ≡ length next.run.steps = ap (λ (m : Made). length m.run.steps) (same_Some (made_of (made.log ++ e ∷ []) made.run) next went) in omega (arith, left)) later on in
           omega (arith, count, all)
 
   -- a client that is on its way, or at its end
-  pub few_at : (steps : List Move) (log : List Entry) (now : Run) → IsAt table world c steps log now → entries_of log c ≤ length steps
+  pub few_at : (steps : List Move) (log : List Entry) (now : Run) → IsAt tables world c steps log now → entries_of log c ≤ length steps
   few_at steps log now was = let few = few_along log (made_of [] (new_run steps)) (made_of log was.called) was.follows in omega (arith, few)
 
-  pub few_finish : (steps : List Move) (log : List Entry) (rs : List StepReply) → Finishes table world c log steps rs → entries_of log c ≤ length steps
+  pub few_finish : (steps : List Move) (log : List Entry) (rs : List StepReply) → Finishes tables world c log steps rs → entries_of log c ≤ length steps
   few_finish steps log rs is =
-      let last = last_log table world c (along table world c log (new_run steps)) (record { log = log; replies = rs }) is in
+      let last = last_log tables world c (along tables world c log (new_run steps)) (record { log = log; replies = rs }) is in
       let few = few_along log (made_of [] (new_run steps)) last.0 last.1 in
       omega (arith, few)
 
@@ -151,4 +151,4 @@ log_is_short clients log within known few =
 pub what_is_left_is_short : LeftIsShort
 what_is_left_is_short world clients log replies left within =
     log_is_short clients log within left.known
-    (λ c steps at. let own = get_some replies c (omega (arith, left.all, slice_get_within clients c steps at)) in few_finish (table_of world 0) world c steps log own.0 (left.each c steps own.0 at own.1))
+    (λ c steps at. let own = get_some replies c (omega (arith, left.all, slice_get_within clients c steps at)) in few_finish (tables_of world) world c steps log own.0 (left.each c steps own.0 at own.1))

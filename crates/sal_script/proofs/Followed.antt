@@ -23,7 +23,7 @@ use Rattle.sal_rows.proofs.Applied.{IsAscending-apply_ops}
 use Rattle.sal_rows.proofs.Patched.{parts-append, with-after}
 use Rattle.sal_schema.specs.Fitting.{has_own_row}
 use Rattle.sal_history.specs.declared.call.Call.{Call}
-use Rattle.sal_history.specs.declared.call.Call.TheVariants.{Begin, OpenChain, ChainBegin, CloseChain, Submit, Cancel, Settle, Pump, Listen, Take, Unlisten, Mark, After}
+use Rattle.sal_history.specs.declared.call.Call.TheVariants.{Begin, OpenChain, ChainBegin, CloseChain, Submit, Cancel, Settle, Pump, Listen, Take, Unlisten, Provide, Withdraw, Invoke, NextCall, Answer, Collect, Subscribe, Offer, TakeNotes, Mount, Unmount, MountAt, Mark, After}
 use Rattle.sal_history.specs.declared.call.Entry.{Entry}
 use Rattle.sal_history.specs.declared.reply.Reply.{Reply}
 use Rattle.sal_history.specs.declared.reply.Reply.TheVariants.{Refused}
@@ -198,7 +198,7 @@ module _ (world : List Domain) (answered : List Answered) (trees : AreTrees worl
     NextBy call = Next world answered id l (tell answered id call (reply_to world answered client call))
 
     next_by : (call : Call) → MadeBy call → NextBy call
-    next_by (Listen domain s p) at = listened l was client domain s p (listen_refusal answered domain) at
+    next_by (Listen domain s p) at = listened l was client domain s p (listen_refusal world answered domain) at
     next_by (Take n) at = took l (no_more l at) (was (no_more l at)) n (has_listener answered client n)
     next_by (Begin domain mode) at = stays l (was (no_more l at))
     next_by (OpenChain domain) at = stays l (was (no_more l at))
@@ -209,6 +209,18 @@ module _ (world : List Domain) (answered : List Answered) (trees : AreTrees worl
     next_by (Settle receipt) at = stays l (was (no_more l at))
     next_by Pump at = stays l (was (no_more l at))
     next_by (Unlisten n) at = stays l (was (no_more l at))
+    next_by (Provide rpc context) at = stays l (was (no_more l at))
+    next_by (Withdraw rpc context) at = stays l (was (no_more l at))
+    next_by (Invoke rpc context input) at = stays l (was (no_more l at))
+    next_by NextCall at = stays l (was (no_more l at))
+    next_by (Answer n output) at = stays l (was (no_more l at))
+    next_by (Collect n) at = stays l (was (no_more l at))
+    next_by (Subscribe note) at = stays l (was (no_more l at))
+    next_by (Offer note rows) at = stays l (was (no_more l at))
+    next_by TakeNotes at = stays l (was (no_more l at))
+    next_by (Mount path device) at = stays l (was (no_more l at))
+    next_by (Unmount domain) at = stays l (was (no_more l at))
+    next_by (MountAt path) at = stays l (was (no_more l at))
     next_by (Mark mark) at = stays l (was (no_more l at))
     next_by (After mark) at = stays l (was (no_more l at))
 

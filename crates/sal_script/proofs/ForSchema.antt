@@ -1,6 +1,8 @@
 -- What was read at a path that was read is an operation for the schema, and what was read of an opening is whole.
-use Rattle.std.proofs.Common.{◌≡◌, true, false, List, [], ◌∷◌, Result, Ok, Err, IsTrue, refl, subst, arith}
+use Rattle.std.proofs.Common.{◌≡◌, ℕ, zero, suc, true, false, List, [], ◌∷◌, Some, Result, Ok, Err, IsTrue, refl, subst, arith}
+use Rattle.std.specs.Prelude.{slice_get}
 use Rattle.std.proofs.lemmas.Bool.{not-true}
+use Rattle.std.proofs.lemmas.Option.{same_Some}
 use Rattle.sal_types.specs.declared.value.Step.{Step}
 use Rattle.sal_types.specs.declared.value.Step.TheVariants.{Node, Key, Item}
 use Rattle.sal_types.specs.declared.row.Row.{Row}
@@ -20,8 +22,9 @@ use Rattle.sal_data.proofs.ReadWhole.{reads_whole}
 use Rattle.sal_pathtext.specs.Laws.{IsDataPath, begins_with_data}
 use Rattle.sal_pathtext.proofs.ReadPaths.{read-is_data}
 use Rattle.sal_script.proofs.Given.{Given, given_then}
-use Rattle.sal_script.specs.JsonScripts.{is_json_deed}
-use Rattle.sal_script.specs.Laws.{OpeningsAreWhole, WritesAreForSchema}
+use Rattle.sal_script.specs.JsonScripts.{AreJsonDevices, IsJsonDevice, is_json_deed}
+use Rattle.sal_script.specs.Script.{DeviceParts}
+use Rattle.sal_script.specs.Laws.{HasWholeOpenings, OpeningsAreWhole, WritesAreForSchema, own}
 use Rattle.sal_script.proofs.JsonRead.{scripts_are_json}
 use Rattle.sal_script.specs.Play.{Deed, putting, merging, deleting, act_of}
 
@@ -60,7 +63,15 @@ writes_are_for_schema table good store text path read deed is act made =
       rows = subst (Given (λ (a : Act). IsTrue (fits table path (rows_of_act a)))) made (act_fits table good path data_path deed is);
     }
 
+whole_openings : (table : SchemaTable) → IsTable table → (device : DeviceParts) → IsJsonDevice device → HasWholeOpenings table device
+whole_openings table good device is rows = (reads_whole table good [] refl (omega arith) device.config is.config rows, reads_whole table good [] refl (omega arith) device.operational is.operational rows)
+
+device_at : (devices : List DeviceParts) → AreJsonDevices devices → (i : ℕ) (device : DeviceParts) → slice_get devices i ≡ Some device → IsJsonDevice device
+device_at [] are i device at = cc
+device_at (d ∷ devices) are zero device at = subst IsJsonDevice (same_Some d device at) are.0
+device_at (d ∷ devices) are (suc i) device at = device_at devices are.1 i device at
+
 pub openings_are_whole : OpeningsAreWhole
-openings_are_whole table good bytes parts read rows =
+openings_are_whole table good bytes parts read =
     let is = scripts_are_json bytes parts read in
-    (λ e. reads_whole table good [] refl (omega arith) parts.config is.config rows e, λ e. reads_whole table good [] refl (omega arith) parts.operational is.operational rows e)
+    (whole_openings table good (own parts) (record { config = is.config; operational = is.operational }), λ i device at. whole_openings table good device (device_at parts.devices is.devices i device at))

@@ -1,7 +1,7 @@
 -- What stays where a log grows: its commits, and so the trees at them, and its listeners.
-use Rattle.std.proofs.Common.{◌≡◌, ℕ, zero, suc, ◌+◌, ◌-◌, ◌<◌, ◌≤◌, List, [], ◌∷◌, ◌++◌, length, map, take, Option, None, Some, refl, ap, sym, ◌∙◌, subst, arith, append_assoc, append-nil, length-append}
+use Rattle.std.proofs.Common.{◌≡◌, ℕ, zero, suc, ◌+◌, ◌-◌, ◌≤◌, Bool, List, [], ◌∷◌, ◌++◌, length, map, take, Option, None, Some, refl, ap, sym, ◌∙◌, subst, arith, append_assoc, append-nil, length-append}
 use Rattle.std.specs.Prelude.{if◌then◌else◌, nat_eq, slice_get}
-use Rattle.std.specs.List.{cons_option, filter_map, fold}
+use Rattle.std.specs.List.{fold}
 use Rattle.std.proofs.lemmas.Grind.{flat_map-append}
 use Rattle.std.proofs.lemmas.List.{map-append, take-append-le}
 use Rattle.std.proofs.lemmas.List.Elements.{filter_map-append}
@@ -12,12 +12,12 @@ use Rattle.sal_rows.specs.declared.op.Op.{Op}
 use Rattle.sal_rows.specs.declared.outcome.Outcome.{Outcome}
 use Rattle.sal_rows.specs.Commits.{tree_after}
 use Rattle.sal_history.specs.declared.call.Call.{Call}
-use Rattle.sal_history.specs.declared.call.Call.TheVariants.{Begin, OpenChain, ChainBegin, CloseChain, Submit, Cancel, Settle, Pump, Listen, Take, Unlisten, Mark, After}
+use Rattle.sal_history.specs.declared.call.Call.TheVariants.{Begin, OpenChain, ChainBegin, CloseChain, Submit, Cancel, Settle, Pump, Listen, Take, Unlisten, Provide, Withdraw, Invoke, NextCall, Answer, Collect, Subscribe, Offer, TakeNotes, Mount, Unmount, MountAt, Mark, After}
 use Rattle.sal_history.specs.declared.call.Entry.{Entry}
 use Rattle.sal_history.specs.Listeners.{Listening, listener_at, listeners, listens}
 use Rattle.sal_history.specs.Submissions.{Sent, done, done_ops, if_done}
 use Rattle.sal_history.specs.World.{Domain, opening_of}
-use Rattle.sal_history.specs.History.{Answered, answer, answered_as, commits, decide_front, decide_next, decided_by, history, outcome, outcomes, reply_to, sents, trees_at}
+use Rattle.sal_history.specs.History.{Answered, answer, answered_as, commits, decide_front, decide_next, decided_by, history, is_live, outcome, outcomes, reply_to, sents, trees_at}
 
 -- ---- lists
 
@@ -48,18 +48,18 @@ done_front domain [] new (o ∷ os) few = absurd (omega (arith, few))
 done_front domain (s ∷ ss) new [] few = refl
 done_front domain (s ∷ ss) new (o ∷ os) few = ap (λ (ds : List Sent). added domain s o ++ ds) (done_front domain ss new os (omega (arith, few)))
 
-module _ (world : List Domain) where
+module _ (world : List Domain) (live : ℕ → Bool) where
   -- no more receipts are decided than were given
-  decided_few : (ss : List Sent) (os : List Outcome) (n : ℕ) → length os ≤ length ss → length (os ++ decide_next world ss os n) ≤ length ss
+  decided_few : (ss : List Sent) (os : List Outcome) (n : ℕ) → length os ≤ length ss → length (os ++ decide_next world live ss os n) ≤ length ss
   decided_few ss os zero few = subst (λ (ps : List Outcome). length ps ≤ length ss) (sym (append-nil os)) few
   decided_few ss os (suc n) few = front (slice_get ss (length os)) refl (λ qs le. decided_few ss qs n le)
     where
-      front : (s : Option Sent) → slice_get ss (length os) ≡ s → ((qs : List Outcome) → length qs ≤ length ss → length (qs ++ decide_next world ss qs n) ≤ length ss)
-          → length (os ++ (decide_front world ss os s ++ decide_next world ss (os ++ decide_front world ss os s) n)) ≤ length ss
-      front None at more = subst (λ (qs : List Outcome). length (os ++ decide_next world ss qs n) ≤ length ss) (sym (append-nil os)) (more os few)
+      front : (s : Option Sent) → slice_get ss (length os) ≡ s → ((qs : List Outcome) → length qs ≤ length ss → length (qs ++ decide_next world live ss qs n) ≤ length ss)
+          → length (os ++ (decide_front world live ss os s ++ decide_next world live ss (os ++ decide_front world live ss os s) n)) ≤ length ss
+      front None at more = subst (λ (qs : List Outcome). length (os ++ decide_next world live ss qs n) ≤ length ss) (sym (append-nil os)) (more os few)
       front (Some s) at more =
-          let one : List Outcome = outcome world ss os s ∷ [] in
-          subst (λ (qs : List Outcome). length qs ≤ length ss) (append_assoc os one (decide_next world ss (os ++ one) n))
+          let one : List Outcome = outcome world live ss os s ∷ [] in
+          subst (λ (qs : List Outcome). length qs ≤ length ss) (append_assoc os one (decide_next world live ss (os ++ one) n))
           (more (os ++ one) (omega (arith, slice_get_within ss (length os) s at, length-append os one)))
 
 -- ---- entries
@@ -69,20 +69,36 @@ abbrev pub Few : List Answered → Type 0
 Few answered = length (outcomes answered) ≤ length (sents answered)
 
 module _ (world : List Domain) where
+  -- no outcome more
+  none_more : (answered : List Answered) → Few answered → length (outcomes answered ++ []) ≤ length (sents answered)
+  none_more answered few = subst (λ (ps : List Outcome). length ps ≤ length (sents answered)) (sym (append-nil (outcomes answered))) few
+
   decided_by_few : (answered : List Answered) (call : Call) → Few answered → length (outcomes answered ++ decided_by world answered call) ≤ length (sents answered)
-  decided_by_few answered (Settle receipt) few = decided_few world (sents answered) (outcomes answered) (receipt - length (outcomes answered)) few
-  decided_by_few answered Pump few = decided_few world (sents answered) (outcomes answered) 1 few
-  decided_by_few answered (Begin domain mode) few = subst (λ (ps : List Outcome). length ps ≤ length (sents answered)) (sym (append-nil (outcomes answered))) few
-  decided_by_few answered (OpenChain domain) few = subst (λ (ps : List Outcome). length ps ≤ length (sents answered)) (sym (append-nil (outcomes answered))) few
-  decided_by_few answered (ChainBegin chain mode) few = subst (λ (ps : List Outcome). length ps ≤ length (sents answered)) (sym (append-nil (outcomes answered))) few
-  decided_by_few answered (CloseChain chain) few = subst (λ (ps : List Outcome). length ps ≤ length (sents answered)) (sym (append-nil (outcomes answered))) few
-  decided_by_few answered (Submit place ops) few = subst (λ (ps : List Outcome). length ps ≤ length (sents answered)) (sym (append-nil (outcomes answered))) few
-  decided_by_few answered (Cancel place) few = subst (λ (ps : List Outcome). length ps ≤ length (sents answered)) (sym (append-nil (outcomes answered))) few
-  decided_by_few answered (Listen domain store path) few = subst (λ (ps : List Outcome). length ps ≤ length (sents answered)) (sym (append-nil (outcomes answered))) few
-  decided_by_few answered (Take id) few = subst (λ (ps : List Outcome). length ps ≤ length (sents answered)) (sym (append-nil (outcomes answered))) few
-  decided_by_few answered (Unlisten id) few = subst (λ (ps : List Outcome). length ps ≤ length (sents answered)) (sym (append-nil (outcomes answered))) few
-  decided_by_few answered (Mark mark) few = subst (λ (ps : List Outcome). length ps ≤ length (sents answered)) (sym (append-nil (outcomes answered))) few
-  decided_by_few answered (After mark) few = subst (λ (ps : List Outcome). length ps ≤ length (sents answered)) (sym (append-nil (outcomes answered))) few
+  decided_by_few answered (Settle receipt) few = decided_few world (is_live world answered) (sents answered) (outcomes answered) (receipt - length (outcomes answered)) few
+  decided_by_few answered Pump few = decided_few world (is_live world answered) (sents answered) (outcomes answered) 1 few
+  decided_by_few answered (Begin domain mode) few = none_more answered few
+  decided_by_few answered (OpenChain domain) few = none_more answered few
+  decided_by_few answered (ChainBegin chain mode) few = none_more answered few
+  decided_by_few answered (CloseChain chain) few = none_more answered few
+  decided_by_few answered (Submit place ops) few = none_more answered few
+  decided_by_few answered (Cancel place) few = none_more answered few
+  decided_by_few answered (Listen domain store path) few = none_more answered few
+  decided_by_few answered (Take id) few = none_more answered few
+  decided_by_few answered (Unlisten id) few = none_more answered few
+  decided_by_few answered (Provide rpc context) few = none_more answered few
+  decided_by_few answered (Withdraw rpc context) few = none_more answered few
+  decided_by_few answered (Invoke rpc context input) few = none_more answered few
+  decided_by_few answered NextCall few = none_more answered few
+  decided_by_few answered (Answer id output) few = none_more answered few
+  decided_by_few answered (Collect id) few = none_more answered few
+  decided_by_few answered (Subscribe note) few = none_more answered few
+  decided_by_few answered (Offer note rows) few = none_more answered few
+  decided_by_few answered TakeNotes few = none_more answered few
+  decided_by_few answered (Mount path device) few = none_more answered few
+  decided_by_few answered (Unmount domain) few = none_more answered few
+  decided_by_few answered (MountAt path) few = none_more answered few
+  decided_by_few answered (Mark mark) few = none_more answered few
+  decided_by_few answered (After mark) few = none_more answered few
 
   pub few_next : (answered : List Answered) (e : Entry) → Few answered → Few (answer world answered e)
   few_next answered e few =

@@ -13,12 +13,13 @@ use Rattle.sal_rows.specs.declared.op.Act.{Act}
 use Rattle.sal_rows.specs.declared.outcome.Mode.{Mode}
 use Rattle.sal_rows.specs.declared.outcome.Mode.TheVariants.{Ro, Wo, Rw}
 use Rattle.sal_rows.specs.Apply.{apply_ops}
+use Rattle.sal_history.specs.declared.call.Call.{Call}
 use Rattle.sal_history.specs.declared.call.Entry.{Entry}
 use Rattle.sal_history.specs.declared.reply.Reply.{Reply}
-use Rattle.sal_history.specs.declared.reply.Reply.TheVariants.{Begun, Chain, Accepted as Done, Receipt, Listener as Listening, Batch}
+use Rattle.sal_history.specs.declared.reply.Reply.TheVariants.{Begun, Chain, Accepted as Done, Receipt, Listener as Listening, Batch, CallMade, Request}
 use Rattle.sal_history.specs.Submissions.{Base}
 use Rattle.sal_history.specs.World.{Domain}
-use Rattle.sal_history.specs.History.{Answered, answer, answered_as, began_at, commits, history, nowhere, reply_to}
+use Rattle.sal_history.specs.History.{Answered, answer as answer_more, answered_as, began_at, commits, history, nowhere, reply_to}
 use Rattle.sal_schema.specs.declared.table.SchemaTable.{SchemaTable}
 use Rattle.sal_pathtext.specs.declared.fault.PathTextFault.{PathTextFault}
 use Rattle.sal_pathtext.specs.Read.{read_path}
@@ -28,8 +29,9 @@ use Rattle.sal_rules.specs.Refusals.{refusal}
 use Rattle.sal_script.specs.declared.reply.StepReply.{StepReply}
 use Rattle.sal_script.specs.declared.reply.StepReply.TheVariants.{Mirror as MirrorReply}
 use Rattle.sal_script.specs.declared.reply.StepRefusal.TheVariants.{NoDevice}
-use Rattle.sal_script.specs.Moves.{Move, Begin, Put, Merge, Delete, Read, Exists, Submit, Cancel, Settle, OpenChain, ChainBegin, CloseChain, Pump, Listen, Take, Unlisten, Mirror, Mark, After}
-use Rattle.sal_script.specs.Play.{Client, Deed, Listener, Meeting, Open, Opened, accept_unless, act_of, cancel, chain_begin, close_chain, deleting, domain_in, found, has_domain, keep, listen, listen_at, local, look, look_at, look_in, meet, merging, mirror, op_of, putting, refused, rows_read, seen_by, set_slot, settle, shared, submit, submit_in, take_batch, unlisten, write, write_act, write_at, write_in}
+use Rattle.sal_script.specs.Moves.{Move, Begin, Put, Merge, Delete, Read, Exists, Submit, Cancel, Settle, OpenChain, ChainBegin, CloseChain, Pump, Listen, Take, Unlisten, Mirror, Provide, Withdraw, Invoke, NextCall, Answer, Collect, Subscribe, Offer, TakeNotes, Mount, Unmount, MountAt, Mark, After}
+use Rattle.sal_script.specs.Play.{Client, Deed, Listener, Meeting, Open, Opened, accept_unless, act_of, ask, cancel, chain_begin, close_chain, deleting, domain_in, found, has_domain, keep, listen, listen_at, local, look, look_at, look_in, look_with, meet, merging, mirror, op_of, putting, refused, rows_read, seen_by, set_slot, settle, shared, submit, submit_in, table_for, table_in, take_batch, unlisten, write, write_act, write_at, write_in, write_with}
+use Rattle.sal_script.specs.Services.{OrRefusal, answer, collect, invoke, mount, mount_at, offer, provide, subscribe, withdraw}
 use Rattle.sal_script.specs.Along.{BeganIn}
 use Rattle.sal_script.proofs.Growing.{trees_later}
 use Rattle.sal_script.proofs.Listed.{get_left}
@@ -41,71 +43,82 @@ Reached world log client = (slot : ℕ) (listener : Listener) → client.listene
 -- ---- a transaction sees the same
 
 module _ (world : List Domain) where
-  length_answers : (done : List Answered) (log : List Entry) → length (fold (answer world) done log) ≡ length done + length log
+  length_answers : (done : List Answered) (log : List Entry) → length (fold (answer_more world) done log) ≡ length done + length log
   length_answers done [] = omega arith
-  length_answers done (e ∷ log) = length_answers (answer world done e) log ∙ omega (arith, length-append done (answered_as world done e (reply_to world done e.client e.call) ∷ []))
+  length_answers done (e ∷ log) = length_answers (answer_more world done e) log ∙ omega (arith, length-append done (answered_as world done e (reply_to world done e.client e.call) ∷ []))
 
-  began_stays : (more : List Entry) (done : List Answered) (place : ℕ) → place < length done → began_at (fold (answer world) done more) place ≡ began_at done place
+  began_stays : (more : List Entry) (done : List Answered) (place : ℕ) → place < length done → began_at (fold (answer_more world) done more) place ≡ began_at done place
   began_stays [] done place h = refl
   began_stays (e ∷ more) done place h =
       let now : List Answered = answered_as world done e (reply_to world done e.client e.call) ∷ [] in
-      began_stays more (answer world done e) place (omega (arith, length-append done now, h))
+      began_stays more (answer_more world done e) place (omega (arith, length-append done now, h))
       ∙ ap (option_and_then (λ (a : Answered). a.began)) (get_left done now place h)
 
   began_later : (log more : List Entry) (place : ℕ) → place < length log → began_at (history world (log ++ more)) place ≡ began_at (history world log) place
   began_later log more place h =
-      ap (λ (a : List Answered). began_at a place) (fold-append (answer world) [] log more)
+      ap (λ (a : List Answered). began_at a place) (fold-append (answer_more world) [] log more)
       ∙ began_stays more (history world log) place (omega (arith, length_answers [] log, h))
 
-module _ (table : SchemaTable) (world : List Domain) (log more : List Entry) where
+module _ (world : List Domain) (log more : List Entry) where
   abbrev longer : List Entry
   longer = log ++ more
 
-  seen_later : (tx : Open) (store : Store) → tx.place < length log → seen_by table world longer tx store ≡ seen_by table world log tx store
+  seen_later : (tx : Open) (store : Store) → tx.place < length log → seen_by world longer tx store ≡ seen_by world log tx store
   seen_later tx store h = ap (λ (b : Option Base). apply_ops ((unwrap_or b nowhere).trees store) store tx.ops) (began_later world log more tx.place h)
 
-  -- ---- and so a step comes to the same
+  mirror_later : (client : Client) (listener : Option Listener) → ((l : Listener) → listener ≡ Some l → l.version ≤ length (commits (history world log) l.domain))
+      → mirror world longer client listener ≡ mirror world log client listener
+  mirror_later client None reached = refl
+  mirror_later client (Some l) reached = ap (λ (tree : List Row). local (MirrorReply l.domain l.path l.version (under tree l.path)) client) (trees_later world log more l.domain l.store l.version (reached l refl))
 
+-- ---- and so a step comes to the same
+
+module _ (table : SchemaTable) (world : List Domain) (log more : List Entry) where
   look_later : (f : Open → List Step → List Row → StepReply) (store : Store) (text : List ℕ) (client : Client) (tx : Option Open) → ((o : Open) → tx ≡ Some o → o.place < length log)
-      → look table world longer f store text client tx ≡ look table world log f store text client tx
+      → look table world (log ++ more) f store text client tx ≡ look table world log f store text client tx
   look_later f store text client None h = refl
-  look_later f store text client (Some tx) h = ap (λ (rows : List Row). look_at (λ path. f tx path rows) tx.mode (read_path table text) client) (seen_later tx store (h tx refl))
+  look_later f store text client (Some tx) h = ap (λ (rows : List Row). look_at (λ path. f tx path rows) tx.domain tx.mode (read_path table text) client) (seen_later world log more tx store (h tx refl))
 
   act_later : (slot : ℕ) (store : Store) (path : List Step) (act : Result Act DataFault) (tx : Open) (client : Client) → tx.place < length log
-      → write_act table world longer slot store path act tx client ≡ write_act table world log slot store path act tx client
+      → write_act table world (log ++ more) slot store path act tx client ≡ write_act table world log slot store path act tx client
   act_later slot store path (Err fault) tx client h = refl
   act_later slot store path (Ok act) tx client h =
-      ap (λ (rows : List Row). accept_unless (refusal table rows (op_of store path act)) slot (op_of store path act) tx client) (seen_later tx store h)
+      ap (λ (rows : List Row). accept_unless (refusal table rows (op_of store path act)) slot (op_of store path act) tx client) (seen_later world log more tx store h)
 
   at_later : (slot : ℕ) (store : Store) (path : Result (List Step) PathTextFault) (deed : Deed) (tx : Open) (client : Client) → tx.place < length log
-      → write_at table world longer slot store path deed tx client ≡ write_at table world log slot store path deed tx client
+      → write_at table world (log ++ more) slot store path deed tx client ≡ write_at table world log slot store path deed tx client
   at_later slot store (Err fault) deed tx client h = refl
   at_later slot store (Ok path) deed tx client h = act_later slot store path (act_of table path deed) tx client h
 
   in_later : (mode : Mode) (slot : ℕ) (store : Store) (text : List ℕ) (deed : Deed) (tx : Open) (client : Client) → tx.place < length log
-      → write_in table world longer mode slot store text deed tx client ≡ write_in table world log mode slot store text deed tx client
+      → write_in table world (log ++ more) mode slot store text deed tx client ≡ write_in table world log mode slot store text deed tx client
   in_later Ro slot store text deed tx client h = refl
   in_later Wo slot store text deed tx client h = at_later slot store (read_path table text) deed tx client h
   in_later Rw slot store text deed tx client h = at_later slot store (read_path table text) deed tx client h
 
   write_later : (slot : ℕ) (store : Store) (text : List ℕ) (deed : Deed) (client : Client) (tx : Option Open) → ((o : Open) → tx ≡ Some o → o.place < length log)
-      → write table world longer slot store text deed client tx ≡ write table world log slot store text deed client tx
+      → write table world (log ++ more) slot store text deed client tx ≡ write table world log slot store text deed client tx
   write_later slot store text deed client None h = refl
   write_later slot store text deed client (Some tx) h = in_later tx.mode slot store text deed tx client (h tx refl)
 
-  mirror_later : (client : Client) (listener : Option Listener) → ((l : Listener) → listener ≡ Some l → l.version ≤ length (commits (history world log) l.domain))
-      → mirror table world longer client listener ≡ mirror table world log client listener
-  mirror_later client None reached = refl
-  mirror_later client (Some l) reached = ap (λ (tree : List Row). local (MirrorReply l.domain l.path l.version (under tree l.path)) client) (trees_later world log more l.domain l.store l.version (reached l refl))
+module _ (tables : List SchemaTable) (world : List Domain) (log more : List Entry) where
+  -- by the schema of the transaction's domain
+  write_in_later : (client : Client) (slot : ℕ) (store : Store) (path : List ℕ) (deed : Deed) → BeganIn log client
+      → write_with tables world (log ++ more) slot store path deed client (client.transactions slot) ≡ write_with tables world log slot store path deed client (client.transactions slot)
+  write_in_later client slot store path deed was = write_later (table_for tables (client.transactions slot)) world log more slot store path deed client (client.transactions slot) (was slot)
+
+  look_in_later : (f : Open → List Step → List Row → StepReply) (client : Client) (slot : ℕ) (store : Store) (path : List ℕ) → BeganIn log client
+      → look_with tables world (log ++ more) f store path client (client.transactions slot) ≡ look_with tables world log f store path client (client.transactions slot)
+  look_in_later f client slot store path was = look_later (table_for tables (client.transactions slot)) world log more f store path client (client.transactions slot) (was slot)
 
   -- its transactions began in the log, and its listeners were given nothing that is not committed there
-  pub meet_later : (client : Client) (step : Move) → BeganIn log client → Reached world log client → meet table world longer client step ≡ meet table world log client step
+  pub meet_later : (client : Client) (step : Move) → BeganIn log client → Reached world log client → meet tables world (log ++ more) client step ≡ meet tables world log client step
   meet_later client (Begin slot domain mode) was reached = refl
-  meet_later client (Put slot store path value) was reached = write_later slot store path (putting value) client (client.transactions slot) (was slot)
-  meet_later client (Merge slot store path value) was reached = write_later slot store path (merging value) client (client.transactions slot) (was slot)
-  meet_later client (Delete slot store path) was reached = write_later slot store path deleting client (client.transactions slot) (was slot)
-  meet_later client (Read slot store path) was reached = look_later (rows_read table world log) store path client (client.transactions slot) (was slot)
-  meet_later client (Exists slot store path) was reached = look_later (found table world log) store path client (client.transactions slot) (was slot)
+  meet_later client (Put slot store path value) was reached = write_in_later client slot store path (putting value) was
+  meet_later client (Merge slot store path value) was reached = write_in_later client slot store path (merging value) was
+  meet_later client (Delete slot store path) was reached = write_in_later client slot store path deleting was
+  meet_later client (Read slot store path) was reached = look_in_later rows_read client slot store path was
+  meet_later client (Exists slot store path) was reached = look_in_later found client slot store path was
   meet_later client (Submit slot) was reached = refl
   meet_later client (Cancel slot) was reached = refl
   meet_later client (Settle slot) was reached = refl
@@ -116,7 +129,19 @@ module _ (table : SchemaTable) (world : List Domain) (log more : List Entry) whe
   meet_later client (Listen slot domain store path) was reached = refl
   meet_later client (Take slot) was reached = refl
   meet_later client (Unlisten slot) was reached = refl
-  meet_later client (Mirror slot) was reached = mirror_later client (client.listeners slot) (reached slot)
+  meet_later client (Mirror slot) was reached = mirror_later world log more client (client.listeners slot) (reached slot)
+  meet_later client (Provide name context) was reached = refl
+  meet_later client (Withdraw name context) was reached = refl
+  meet_later client (Invoke slot name context value) was reached = refl
+  meet_later client (NextCall slot) was reached = refl
+  meet_later client (Answer slot value) was reached = refl
+  meet_later client (Collect slot) was reached = refl
+  meet_later client (Subscribe name) was reached = refl
+  meet_later client (Offer name value) was reached = refl
+  meet_later client TakeNotes was reached = refl
+  meet_later client (Mount device path) was reached = refl
+  meet_later client (Unmount domain) was reached = refl
+  meet_later client (MountAt path) was reached = refl
   meet_later client (Mark mark) was reached = refl
   meet_later client (After mark) was reached = refl
 
@@ -151,7 +176,7 @@ module _ (table : SchemaTable) (world : List Domain) (over log : List Entry) (cl
 
   act_begun : (slot : ℕ) (store : Store) (path : List Step) (act : Result Act DataFault) (tx : Open) → tx.place < length log → BegunIf log client (write_act table world over slot store path act tx client)
   act_begun slot store path (Err fault) tx h = (was, refl)
-  act_begun slot store path (Ok act) tx h = unless_begun (refusal table (seen_by table world over tx store) (op_of store path act)) slot (op_of store path act) tx h
+  act_begun slot store path (Ok act) tx h = unless_begun (refusal table (seen_by world over tx store) (op_of store path act)) slot (op_of store path act) tx h
 
   at_begun : (slot : ℕ) (store : Store) (path : Result (List Step) PathTextFault) (deed : Deed) (tx : Open) → tx.place < length log → BegunIf log client (write_at table world over slot store path deed tx client)
   at_begun slot store (Err fault) deed tx h = (was, refl)
@@ -166,19 +191,20 @@ module _ (table : SchemaTable) (world : List Domain) (over log : List Entry) (cl
   write_begun slot store text deed None h = (was, refl)
   write_begun slot store text deed (Some tx) h = in_begun tx.mode slot store text deed tx (h tx refl)
 
-  shown_begun : (mode : Mode) (r : StepReply) → BegunIf log client (look_in mode r client)
-  shown_begun Ro r = (was, refl)
-  shown_begun Wo r = (was, refl)
-  shown_begun Rw r = (was, refl)
+  shown_begun : (domain : ℕ) (mode : Mode) (r : StepReply) → BegunIf log client (look_in domain mode r client)
+  shown_begun domain Ro r = (was, refl)
+  shown_begun domain Wo r = (was, refl)
+  shown_begun domain Rw r = (was, refl)
 
-  look_at_begun : (f : List Step → StepReply) (mode : Mode) (path : Result (List Step) PathTextFault) → BegunIf log client (look_at f mode path client)
-  look_at_begun f mode (Err fault) = (was, refl)
-  look_at_begun f mode (Ok path) = shown_begun mode (f path)
+  look_at_begun : (f : List Step → StepReply) (domain : ℕ) (mode : Mode) (path : Result (List Step) PathTextFault) → BegunIf log client (look_at f domain mode path client)
+  look_at_begun f domain mode (Err fault) = (was, refl)
+  look_at_begun f domain mode (Ok path) = shown_begun domain mode (f path)
 
   look_begun : (f : Open → List Step → List Row → StepReply) (store : Store) (text : List ℕ) (tx : Option Open) → BegunIf log client (look table world over f store text client tx)
   look_begun f store text None = (was, refl)
-  look_begun f store text (Some tx) = look_at_begun (λ path. f tx path (seen_by table world over tx store)) tx.mode (read_path table text)
+  look_begun f store text (Some tx) = look_at_begun (λ path. f tx path (seen_by world over tx store)) tx.domain tx.mode (read_path table text)
 
+module _ (tables : List SchemaTable) (world : List Domain) (over log : List Entry) (client : Client) (was : BeganIn log client) where
   submit_in_begun : (tx : Open) (mode : Mode) → BegunIf log client (submit_in tx mode client)
   submit_in_begun tx Ro = (was, refl)
   submit_in_begun tx Wo = tt
@@ -208,9 +234,9 @@ module _ (table : SchemaTable) (world : List Domain) (over log : List Entry) (cl
   listen_at_begun domain store (Err fault) = (was, refl)
   listen_at_begun domain store (Ok path) = tt
 
-  listen_begun : (domain : ℕ) (store : Store) (path : Result (List Step) PathTextFault) → BegunIf log client (listen domain store path client)
+  listen_begun : (domain : ℕ) (store : Store) (path : Result (List Step) PathTextFault) → BegunIf log client (listen tables domain store path client)
   listen_begun domain store path =
-      elim (has_domain domain) as (λ has. BegunIf log client (if has then listen_at domain store path client else refused NoDevice client)) [
+      elim (has_domain tables domain) as (λ has. BegunIf log client (if has then listen_at domain store path client else refused NoDevice client)) [
         | true ↦ listen_at_begun domain store path
         | false ↦ (was, refl)
       ]
@@ -223,17 +249,28 @@ module _ (table : SchemaTable) (world : List Domain) (over log : List Entry) (cl
   unlisten_begun None = (was, refl)
   unlisten_begun (Some listener) = tt
 
-  mirror_begun : (listener : Option Listener) → BegunIf log client (mirror table world over client listener)
+  mirror_begun : (listener : Option Listener) → BegunIf log client (mirror world over client listener)
   mirror_begun None = (was, refl)
   mirror_begun (Some listener) = (was, refl)
 
-  pub meet_begun : (step : Move) → BegunIf log client (meet table world over client step)
+  asked_begun : (r : OrRefusal Call) → BegunIf log client (ask r client)
+  asked_begun (Ok call) = tt
+  asked_begun (Err refusal) = (was, refl)
+
+  -- by the schema of the transaction's domain
+  write_in_begun : (slot : ℕ) (store : Store) (path : List ℕ) (deed : Deed) → BegunIf log client (write_with tables world over slot store path deed client (client.transactions slot))
+  write_in_begun slot store path deed = write_begun (table_for tables (client.transactions slot)) world over log client was slot store path deed (client.transactions slot) (was slot)
+
+  look_in_begun : (f : Open → List Step → List Row → StepReply) (slot : ℕ) (store : Store) (path : List ℕ) → BegunIf log client (look_with tables world over f store path client (client.transactions slot))
+  look_in_begun f slot store path = look_begun (table_for tables (client.transactions slot)) world over log client was f store path (client.transactions slot)
+
+  pub meet_begun : (step : Move) → BegunIf log client (meet tables world over client step)
   meet_begun (Begin slot domain mode) = tt
-  meet_begun (Put slot store path value) = write_begun slot store path (putting value) (client.transactions slot) (was slot)
-  meet_begun (Merge slot store path value) = write_begun slot store path (merging value) (client.transactions slot) (was slot)
-  meet_begun (Delete slot store path) = write_begun slot store path deleting (client.transactions slot) (was slot)
-  meet_begun (Read slot store path) = look_begun (rows_read table world over) store path (client.transactions slot)
-  meet_begun (Exists slot store path) = look_begun (found table world over) store path (client.transactions slot)
+  meet_begun (Put slot store path value) = write_in_begun slot store path (putting value)
+  meet_begun (Merge slot store path value) = write_in_begun slot store path (merging value)
+  meet_begun (Delete slot store path) = write_in_begun slot store path deleting
+  meet_begun (Read slot store path) = look_in_begun rows_read slot store path
+  meet_begun (Exists slot store path) = look_in_begun found slot store path
   meet_begun (Submit slot) = submit_begun (client.transactions slot)
   meet_begun (Cancel slot) = cancel_begun (client.transactions slot)
   meet_begun (Settle slot) = settle_begun (client.receipts slot)
@@ -241,10 +278,22 @@ module _ (table : SchemaTable) (world : List Domain) (over log : List Entry) (cl
   meet_begun (ChainBegin chain slot mode) = chain_begin_begun mode (client.chains chain)
   meet_begun (CloseChain chain) = close_chain_begun (client.chains chain)
   meet_begun Pump = tt
-  meet_begun (Listen slot domain store path) = listen_begun domain store (read_path table path)
+  meet_begun (Listen slot domain store path) = listen_begun domain store (read_path (table_in tables domain) path)
   meet_begun (Take slot) = take_begun (client.listeners slot)
   meet_begun (Unlisten slot) = unlisten_begun (client.listeners slot)
   meet_begun (Mirror slot) = mirror_begun (client.listeners slot)
+  meet_begun (Provide name context) = asked_begun (provide (table_in tables 0) name context)
+  meet_begun (Withdraw name context) = asked_begun (withdraw (table_in tables 0) name context)
+  meet_begun (Invoke slot name context value) = asked_begun (invoke (table_in tables 0) name context value)
+  meet_begun (NextCall slot) = tt
+  meet_begun (Answer slot value) = asked_begun (answer (table_in tables 0) (client.handed slot) value)
+  meet_begun (Collect slot) = asked_begun (collect (client.invoked slot))
+  meet_begun (Subscribe name) = asked_begun (subscribe (table_in tables 0) name)
+  meet_begun (Offer name value) = asked_begun (offer (table_in tables 0) name value)
+  meet_begun TakeNotes = tt
+  meet_begun (Mount device path) = asked_begun (mount (table_in tables 0) device path)
+  meet_begun (Unmount domain) = tt
+  meet_begun (MountAt path) = asked_begun (mount_at (table_in tables 0) path)
   meet_begun (Mark mark) = tt
   meet_begun (After mark) = tt
 
@@ -259,4 +308,6 @@ keep_begun log e (Submit slot) (Receipt number) client was = began_emptied (log 
 keep_begun log e (Cancel slot) Done client was = began_emptied (log ++ e ∷ []) client slot (began_longer log (e ∷ []) client was)
 keep_begun log e (Listen slot domain store path) (Listening id at p opened) client was = began_longer log (e ∷ []) client was
 keep_begun log e (Take slot) (Batch domain batch) client was = began_longer log (e ∷ []) client was
+keep_begun log e (Invoke slot name context value) (CallMade id) client was = began_longer log (e ∷ []) client was
+keep_begun log e (NextCall slot) (Request request) client was = began_longer log (e ∷ []) client was
 keep_begun log e step r client was = began_longer log (e ∷ []) client was

@@ -9,6 +9,8 @@ pub mod Given
 pub mod Growing
 pub mod JsonData
 pub mod JsonRead
+pub mod JsonSteps
+pub mod JsonValues
 pub mod Later
 pub mod Left
 pub mod Limits
@@ -19,3 +21,4 @@ pub mod Orders
 pub mod Played
 pub mod Readers
 pub mod Reported
+pub mod Tables

@@ -5,11 +5,14 @@ use Rattle.std.specs.List.{list_all}
 use Rattle.sal_types.specs.Reading.{◌>>=◌}
 use Rattle.serde_json.specs.Data.{Data}
 use Rattle.serde_json.specs.Find.{get_member}
+use Rattle.sal_script.specs.declared.script.ScriptDevice.{ScriptDevice}
 use Rattle.sal_script.specs.declared.script.ScriptStep.{ScriptStep}
 use Rattle.sal_script.specs.Json.{list_of}
-use Rattle.sal_script.specs.Limits.{within_limits}
+use Rattle.sal_script.specs.Limits.{are_few, within_limits}
 use Rattle.sal_script.specs.Moves.{Move, move_of, clients_of}
-use Rattle.sal_script.specs.Script.{or_bad, at_most, client_place, step_place, members_of, program_of, programs_from, step_of, steps_from, clients_from}
+use Rattle.sal_script.specs.Script.{DeviceParts, or_bad, at_most, device_of, device_place, devices_from, placed, client_place, step_place, members_of, program_of, programs_from, steps_from, clients_from}
+use Rattle.sal_script.specs.Reading.{device, devices}
+use Rattle.sal_script.specs.Steps.{step_of}
 
 -- both parts were read
 parts : {A B F : Type 0} (r : Result A F) (f : A → Result B F) (y : B) → (r >>= f) ≡ Ok y → (x : A) × (r ≡ Ok x) × (f x ≡ Ok y)
@@ -93,3 +96,22 @@ within place o ds programs clients listed read made =
     let whole = as_many_clients 0 programs (clients_of clients) made in
     let own = same_limits clients in
     rw (← own.0, ← own.1, whole.0, pieces.0, few, whole.1, pieces.1) refl
+
+-- ---- devices
+
+as_many_devices : (i : ℕ) (ds : List Data) (all : List DeviceParts) → devices_from i ds ≡ Ok all → length all ≡ length ds
+as_many_devices i [] all h = let none : [] ≡ all = cc in rw (← none) refl
+as_many_devices i (d ∷ ds) all h =
+    let first = parts (placed (device_place i) (device_of d)) _ all h in
+    let rest = parts (devices_from (i + 1) ds) _ all first.2 in
+    let whole : first.0 ∷ rest.0 ≡ all = cc rest.2 in
+    rw (← whole) (ap suc (as_many_devices (i + 1) ds rest.0 rest.1))
+
+-- the devices that are read
+pub few_devices : (place : List ℕ) (o : Option (List Data)) (ds : List Data) (read : List ScriptDevice) → or_bad place (option_and_then (at_most 63) o) ≡ Ok ds → devices_from 0 ds ≡ Ok (devices read) → IsTrue (are_few read)
+few_devices place o ds read listed made =
+    let many = both o (at_most 63) ds (found place _ ds listed) in
+    let few = kept 63 many.0 ds _ refl many.2 in
+    let same = as_many_devices 0 ds (devices read) made in
+    let own = length-map read device in
+    rw (← own, same) few

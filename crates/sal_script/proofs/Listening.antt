@@ -1,8 +1,8 @@
 -- What a client's listeners keep along a log: the log has them, and none is ahead of it.
-use Rattle.std.proofs.Common.{◌≡◌, ℕ, ◌+◌, ◌-◌, ◌<◌, ◌≤◌, Bool, true, false, List, [], ◌∷◌, ◌++◌, length, Option, None, Some, Result, Ok, Err, if◌then◌else◌, refl, ap, sym, ◌∙◌, subst, arith, length-append}
+use Rattle.std.proofs.Common.{◌≡◌, ℕ, ◌+◌, ◌-◌, Bool, true, false, List, [], ◌∷◌, ◌++◌, length, Option, None, Some, Result, Ok, Err, if◌then◌else◌, refl, ap, sym, ◌∙◌, subst, arith}
 use Rattle.std.specs.Prelude.{nat_eq, slice_get}
 use Rattle.std.specs.Option.{option_map, option_map_or}
-use Rattle.std.specs.List.{cons_option, fold}
+use Rattle.std.specs.List.{cons_option}
 use Rattle.std.proofs.lemmas.List.Elements.{filter_map-append}
 use Rattle.std.proofs.lemmas.List.Sums.{fold-append}
 use Rattle.std.proofs.lemmas.Option.{same_Some}
@@ -14,15 +14,15 @@ use Rattle.sal_history.specs.declared.call.Call.{Call}
 use Rattle.sal_history.specs.declared.call.Call.TheVariants as made
 use Rattle.sal_history.specs.declared.call.Entry.{Entry}
 use Rattle.sal_history.specs.declared.reply.Reply.{Reply}
-use Rattle.sal_history.specs.declared.reply.Reply.TheVariants.{Begun, Chain, Accepted as Done, Receipt, Refused, Listener as Told, Batch}
+use Rattle.sal_history.specs.declared.reply.Reply.TheVariants.{Begun, Chain, Accepted as Done, Receipt, Refused, CallMade, Request}
 use Rattle.sal_history.specs.Listeners.{Listening, has_listener, listener_at, listeners, listens}
 use Rattle.sal_history.specs.World.{Domain}
 use Rattle.sal_history.specs.History.{Answered, answer, answered_as, batch_of, commits, history, listen_refusal, listening, refused_or, reply_to, taken}
 use Rattle.sal_schema.specs.declared.table.SchemaTable.{SchemaTable}
 use Rattle.sal_pathtext.specs.declared.fault.PathTextFault.{PathTextFault}
 use Rattle.sal_pathtext.specs.Read.{read_path}
-use Rattle.sal_script.specs.Moves.{Move, Begin, Put, Merge, Delete, Read, Exists, Submit, Cancel, Settle, OpenChain, ChainBegin, CloseChain, Pump, Listen, Take, Unlisten, Mirror, Mark, After}
-use Rattle.sal_script.specs.Play.{Client, Listener, Meeting, Slots, at_version, has_domain, keep, keep_listening, keep_taken, listen, listen_at, local, meet, refused, set_slot, shared, take_batch}
+use Rattle.sal_script.specs.Moves.{Move, Begin, Put, Merge, Delete, Read, Exists, Submit, Cancel, Settle, OpenChain, ChainBegin, CloseChain, Pump, Listen, Take, Unlisten, Mirror, Provide, Withdraw, Invoke, NextCall, Answer, Collect, Subscribe, Offer, TakeNotes, Mount, Unmount, MountAt, Mark, After}
+use Rattle.sal_script.specs.Play.{Client, Listener, Meeting, Slots, at_version, has_domain, keep, listen, listen_at, local, meet, refused, set_slot, shared, table_in, take_batch}
 use Rattle.sal_script.specs.declared.reply.StepRefusal.TheVariants.{NoDevice}
 use Rattle.sal_script.specs.Along.{IsListening, ListensIn}
 use Rattle.sal_script.proofs.Growing.{listener_later, more_commits}
@@ -66,11 +66,13 @@ same_listeners place (Listen slot domain store path) r client quiet = cc
 same_listeners place (Take slot) r client quiet = cc
 same_listeners place (Submit slot) (Receipt number) client quiet = refl
 same_listeners place (Cancel slot) Done client quiet = refl
+same_listeners place (Invoke slot name context value) (CallMade id) client quiet = refl
+same_listeners place (NextCall slot) (Request request) client quiet = refl
 same_listeners place step r client quiet = refl
 
 -- the call of a listen
-listen_call : (domain : ℕ) (store : Store) (path : Result (List Step) PathTextFault) (client : Client) (call : Call) → listen domain store path client ≡ shared call → (p : List Step) × (call ≡ made.Listen domain store p)
-listen_call domain store path client call met = by (has_domain domain) path met
+listen_call : (tables : List SchemaTable) (domain : ℕ) (store : Store) (path : Result (List Step) PathTextFault) (client : Client) (call : Call) → listen tables domain store path client ≡ shared call → (p : List Step) × (call ≡ made.Listen domain store p)
+listen_call tables domain store path client call met = by (has_domain tables domain) path met
   where
     call_in : Meeting → Call
     call_in (shared x) = x
@@ -171,27 +173,39 @@ module _ (world : List Domain) (c : ℕ) (log : List Entry) (number : ℕ) (clie
   quiet : (step : Move) (call : Call) → is_listening step ≡ false → KeepsBy call step (reply_to world so_far c call)
   quiet step call is = listens_same world c (grown call) client (keep (length log) step (reply_to world so_far c call) client) (same_listeners (length log) step (reply_to world so_far c call) client is) (unchanged call)
 
-  pub keep_listens : (table : SchemaTable) (step : Move) (call : Call) → meet table world log client step ≡ shared call → KeepsBy call step (reply_to world so_far c call)
-  keep_listens table (Listen slot domain store text) call met =
-      let found = listen_call domain store (read_path table text) client call met in
-      subst (λ (x : Call). KeepsBy x (Listen slot domain store text) (reply_to world so_far c x)) (sym found.1) (listen_keeps slot domain store text found.0 (listen_refusal so_far domain) refl)
-  keep_listens table (Take slot) call met =
+  pub keep_listens : (tables : List SchemaTable) (step : Move) (call : Call) → meet tables world log client step ≡ shared call → KeepsBy call step (reply_to world so_far c call)
+  keep_listens tables (Listen slot domain store text) call met =
+      let found = listen_call tables domain store (read_path (table_in tables domain) text) client call met in
+      subst (λ (x : Call). KeepsBy x (Listen slot domain store text) (reply_to world so_far c x)) (sym found.1) (listen_keeps slot domain store text found.0 (listen_refusal world so_far domain) refl)
+  keep_listens tables (Take slot) call met =
       let found = take_call client (client.listeners slot) call met in
       subst (λ (x : Call). KeepsBy x (Take slot) (reply_to world so_far c x)) (sym found.2) (take_keeps slot found.0 found.1 (has_listener so_far c found.0.id))
-  keep_listens table (Begin slot domain mode) call met = quiet (Begin slot domain mode) call refl
-  keep_listens table (Put slot store path value) call met = quiet (Put slot store path value) call refl
-  keep_listens table (Merge slot store path value) call met = quiet (Merge slot store path value) call refl
-  keep_listens table (Delete slot store path) call met = quiet (Delete slot store path) call refl
-  keep_listens table (Read slot store path) call met = quiet (Read slot store path) call refl
-  keep_listens table (Exists slot store path) call met = quiet (Exists slot store path) call refl
-  keep_listens table (Submit slot) call met = quiet (Submit slot) call refl
-  keep_listens table (Cancel slot) call met = quiet (Cancel slot) call refl
-  keep_listens table (Settle slot) call met = quiet (Settle slot) call refl
-  keep_listens table (OpenChain chain domain) call met = quiet (OpenChain chain domain) call refl
-  keep_listens table (ChainBegin chain slot mode) call met = quiet (ChainBegin chain slot mode) call refl
-  keep_listens table (CloseChain chain) call met = quiet (CloseChain chain) call refl
-  keep_listens table Pump call met = quiet Pump call refl
-  keep_listens table (Unlisten slot) call met = quiet (Unlisten slot) call refl
-  keep_listens table (Mirror slot) call met = quiet (Mirror slot) call refl
-  keep_listens table (Mark mark) call met = quiet (Mark mark) call refl
-  keep_listens table (After mark) call met = quiet (After mark) call refl
+  keep_listens tables (Begin slot domain mode) call met = quiet (Begin slot domain mode) call refl
+  keep_listens tables (Put slot store path value) call met = quiet (Put slot store path value) call refl
+  keep_listens tables (Merge slot store path value) call met = quiet (Merge slot store path value) call refl
+  keep_listens tables (Delete slot store path) call met = quiet (Delete slot store path) call refl
+  keep_listens tables (Read slot store path) call met = quiet (Read slot store path) call refl
+  keep_listens tables (Exists slot store path) call met = quiet (Exists slot store path) call refl
+  keep_listens tables (Submit slot) call met = quiet (Submit slot) call refl
+  keep_listens tables (Cancel slot) call met = quiet (Cancel slot) call refl
+  keep_listens tables (Settle slot) call met = quiet (Settle slot) call refl
+  keep_listens tables (OpenChain chain domain) call met = quiet (OpenChain chain domain) call refl
+  keep_listens tables (ChainBegin chain slot mode) call met = quiet (ChainBegin chain slot mode) call refl
+  keep_listens tables (CloseChain chain) call met = quiet (CloseChain chain) call refl
+  keep_listens tables Pump call met = quiet Pump call refl
+  keep_listens tables (Unlisten slot) call met = quiet (Unlisten slot) call refl
+  keep_listens tables (Mirror slot) call met = quiet (Mirror slot) call refl
+  keep_listens tables (Provide name context) call met = quiet (Provide name context) call refl
+  keep_listens tables (Withdraw name context) call met = quiet (Withdraw name context) call refl
+  keep_listens tables (Invoke slot name context value) call met = quiet (Invoke slot name context value) call refl
+  keep_listens tables (NextCall slot) call met = quiet (NextCall slot) call refl
+  keep_listens tables (Answer slot value) call met = quiet (Answer slot value) call refl
+  keep_listens tables (Collect slot) call met = quiet (Collect slot) call refl
+  keep_listens tables (Subscribe name) call met = quiet (Subscribe name) call refl
+  keep_listens tables (Offer name value) call met = quiet (Offer name value) call refl
+  keep_listens tables TakeNotes call met = quiet TakeNotes call refl
+  keep_listens tables (Mount device path) call met = quiet (Mount device path) call refl
+  keep_listens tables (Unmount domain) call met = quiet (Unmount domain) call refl
+  keep_listens tables (MountAt path) call met = quiet (MountAt path) call refl
+  keep_listens tables (Mark mark) call met = quiet (Mark mark) call refl
+  keep_listens tables (After mark) call met = quiet (After mark) call refl

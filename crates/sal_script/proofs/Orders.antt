@@ -5,12 +5,12 @@ use Rattle.std.proofs.Math.Seq.{take-append_seam}
 use Rattle.std.proofs.lemmas.List.{length-map, length-set}
 use Rattle.std.proofs.lemmas.Option.{same_Some, slice_get_within}
 use Rattle.sal_history.specs.declared.call.Entry.{Entry}
-use Rattle.sal_history.specs.World.{Domain, table_of}
+use Rattle.sal_history.specs.World.{Domain}
 use Rattle.sal_history.specs.History.{entries_of}
 use Rattle.sal_schema.specs.declared.table.SchemaTable.{SchemaTable}
 use Rattle.sal_script.specs.declared.reply.StepReply.{StepReply}
 use Rattle.sal_script.specs.Moves.{Move}
-use Rattle.sal_script.specs.Play.{Arrival, IsLegal, Made, Played, Run, Stand, arrive, calls, cons_replies, end_by, ended, go, new_client, play, play_by, play_from, replies_at, replies_of, stand_with, start, turn, turn_of}
+use Rattle.sal_script.specs.Play.{Arrival, IsLegal, Made, Played, Run, Stand, arrive, calls, cons_replies, end_by, ended, go, new_client, play, play_by, play_from, replies_at, replies_of, stand_with, start, turn, turn_of, tables_of}
 use Rattle.sal_script.specs.Orders.{Exchange, Follows, IsNumbered, OrdersEndOrFail, PlaysFollow, exchanges_in, exchanges_of}
 use Rattle.sal_script.proofs.Arriving.{IsOnWay, Makes, MakesIf, Reaches, exchanges-other, makes, reaches}
 use Rattle.sal_script.proofs.Listed.{get-push, get-set, get_some, take_left}
@@ -83,22 +83,22 @@ module _ (world : List Domain) (clients : List (List Move)) (order : List ℕ) (
         each = each-set made m;
       }
 
-module _ (table : SchemaTable) (world : List Domain) (clients : List (List Move)) where
+module _ (tables : List SchemaTable) (world : List Domain) (clients : List (List Move)) where
   -- how a client goes on
-  going : (log : List Entry) (c : ℕ) (steps : List Move) (run : Run) → IsOnWay world log c steps run → Reaches steps (exchanges_in world log c) (arrive table world log run.client run.steps)
+  going : (log : List Entry) (c : ℕ) (steps : List Move) (run : Run) → IsOnWay world log c steps run → Reaches steps (exchanges_in world log c) (arrive tables world log run.client run.steps)
   going log c steps run way =
-      subst (λ (ms : List Move). Reaches ms (exchanges_in world log c) (arrive table world log run.client run.steps)) (sym way.parts)
-      (reaches table world log run.steps way.done run.client (exchanges_in world log c) way.long way.so_far)
+      subst (λ (ms : List Move). Reaches ms (exchanges_in world log c) (arrive tables world log run.client run.steps)) (sym way.parts)
+      (reaches tables world log run.steps way.done run.client (exchanges_in world log c) way.long way.so_far)
 
-  turned_by : (order : List ℕ) (stand next : Stand) (c : ℕ) (run : Option Run) → Stands world clients order stand → slice_get stand.runs c ≡ run → turn_of table world stand c run ≡ Some next → Stands world clients (order ++ c ∷ []) next
+  turned_by : (order : List ℕ) (stand next : Stand) (c : ℕ) (run : Option Run) → Stands world clients order stand → slice_get stand.runs c ≡ run → turn_of tables world stand c run ≡ Some next → Stands world clients (order ++ c ∷ []) next
   turned_by order stand next c None was at e = cc
   turned_by order stand next c (Some run) was at e =
       let within : c < length clients = omega (arith, was.runs, slice_get_within stand.runs c run at) in
       let program : (steps : List Move) × (slice_get clients c ≡ Some steps) = get_some clients c within in
-      stands_with world clients order stand was c program.0 program.1 (go table world stand.log c run) next
-      (makes table world stand.log c program.0 (arrive table world stand.log run.client run.steps) (going stand.log c program.0 run (was.each c program.0 run program.1 at))) e
+      stands_with world clients order stand was c program.0 program.1 (go tables world stand.log c run) next
+      (makes tables world stand.log c program.0 (arrive tables world stand.log run.client run.steps) (going stand.log c program.0 run (was.each c program.0 run program.1 at))) e
 
-  turned : (order : List ℕ) (stand next : Stand) (c : ℕ) → Stands world clients order stand → turn table world stand c ≡ Some next → Stands world clients (order ++ c ∷ []) next
+  turned : (order : List ℕ) (stand next : Stand) (c : ℕ) → Stands world clients order stand → turn tables world stand c ≡ Some next → Stands world clients (order ++ c ∷ []) next
   turned order stand next c was e = turned_by order stand next c (slice_get stand.runs c) was refl e
 
 -- ---- the end
@@ -113,32 +113,32 @@ ended_with : (steps : List Move) (es : List Exchange) (a : Arrival) (rs : List S
 ended_with steps es (ended client) rs reached e = subst (λ (xs : List StepReply). (length xs ≡ length steps) × (exchanges_of steps xs ≡ es)) (same_Some client.replies rs e) reached
 ended_with steps es (calls call step run) rs reached e = cc
 
-module _ (table : SchemaTable) (world : List Domain) (log : List Entry) where
+module _ (tables : List SchemaTable) (world : List Domain) (log : List Entry) where
   -- the client's way ended with these replies
   abbrev pub EndsWith : List Run → ℕ → List StepReply → Type 0
-  EndsWith runs c rs = (run : Run) × (slice_get runs c ≡ Some run) × (replies_at (arrive table world log run.client run.steps) ≡ Some rs)
+  EndsWith runs c rs = (run : Run) × (slice_get runs c ≡ Some run) × (replies_at (arrive tables world log run.client run.steps) ≡ Some rs)
 
-  first_or_later : (run : Run) (runs : List Run) (first : List StepReply) (more : List (List StepReply)) → replies_at (arrive table world log run.client run.steps) ≡ Some first → ((c : ℕ) (rs : List StepReply) → slice_get more c ≡ Some rs → EndsWith runs c rs)
+  first_or_later : (run : Run) (runs : List Run) (first : List StepReply) (more : List (List StepReply)) → replies_at (arrive tables world log run.client run.steps) ≡ Some first → ((c : ℕ) (rs : List StepReply) → slice_get more c ≡ Some rs → EndsWith runs c rs)
       → (c : ℕ) (rs : List StepReply) → slice_get (first ∷ more) c ≡ Some rs → EndsWith (run ∷ runs) c rs
   first_or_later run runs first more is rest zero rs at = (run, refl, is ∙ at)
   first_or_later run runs first more is rest (suc c) rs at = rest c rs at
 
-  pub all_end : (runs : List Run) (all : List (List StepReply)) → replies_of table world log runs ≡ Some all → (length all ≡ length runs) × ((c : ℕ) (rs : List StepReply) → slice_get all c ≡ Some rs → EndsWith runs c rs)
+  pub all_end : (runs : List Run) (all : List (List StepReply)) → replies_of tables world log runs ≡ Some all → (length all ≡ length runs) × ((c : ℕ) (rs : List StepReply) → slice_get all c ≡ Some rs → EndsWith runs c rs)
   all_end [] [] e = (refl, λ c rs at. absurd (nothing c rs at))
     where
       nothing : (c : ℕ) (rs : List StepReply) → slice_get (let xs : List (List StepReply) = [] in xs) c ≡ Some rs → ⊥
       nothing c rs at = cc
   all_end [] (first ∷ more) e = absurd (omega (arith, ap length (same_Some (let xs : List (List StepReply) = [] in xs) (first ∷ more) e)))
   all_end (run ∷ runs) all e =
-      let p = cons_parts (replies_at (arrive table world log run.client run.steps)) (replies_of table world log runs) all e in
+      let p = cons_parts (replies_at (arrive tables world log run.client run.steps)) (replies_of tables world log runs) all e in
       let rest = all_end runs p.1 p.3 in
       subst (λ (xs : List (List StepReply)). (length xs ≡ length (run ∷ runs)) × ((c : ℕ) (rs : List StepReply) → slice_get xs c ≡ Some rs → EndsWith (run ∷ runs) c rs)) p.4
       (ap suc rest.0, first_or_later run runs p.0 p.1 p.2 rest.1)
 
-module _ (table : SchemaTable) (world : List Domain) (clients : List (List Move)) where
-  finishes : (order : List ℕ) (stand : Stand) (all : List (List StepReply)) → Stands world clients order stand → replies_of table world stand.log stand.runs ≡ Some all → Follows world clients order (record { log = stand.log; replies = all })
+module _ (tables : List SchemaTable) (world : List Domain) (clients : List (List Move)) where
+  finishes : (order : List ℕ) (stand : Stand) (all : List (List StepReply)) → Stands world clients order stand → replies_of tables world stand.log stand.runs ≡ Some all → Follows world clients order (record { log = stand.log; replies = all })
   finishes order stand all was e =
-      let ends = all_end table world stand.log stand.runs all e in
+      let ends = all_end tables world stand.log stand.runs all e in
       record {
         ordered = was.ordered;
         known = was.known;
@@ -147,26 +147,26 @@ module _ (table : SchemaTable) (world : List Domain) (clients : List (List Move)
         each = λ c steps rs at_c at_rs.
             let last = ends.1 c rs at_rs in
             let run : Run = last.0 in
-            let done = ended_with steps (exchanges_in world stand.log c) (arrive table world stand.log run.client run.steps) rs (going table world clients stand.log c steps run (was.each c steps run at_c last.1)) last.2 in
+            let done = ended_with steps (exchanges_in world stand.log c) (arrive tables world stand.log run.client run.steps) rs (going tables world clients stand.log c steps run (was.each c steps run at_c last.1)) last.2 in
             record { answered = done.0; called = done.1 };
       }
 
-  ended_by : (index : ℕ) (order : List ℕ) (stand : Stand) (all : Option (List (List StepReply))) (played : Played) → Stands world clients order stand → replies_of table world stand.log stand.runs ≡ all → end_by table world index stand.log all ≡ Ok played → Follows world clients order played
+  ended_by : (index : ℕ) (order : List ℕ) (stand : Stand) (all : Option (List (List StepReply))) (played : Played) → Stands world clients order stand → replies_of tables world stand.log stand.runs ≡ all → end_by tables world index stand.log all ≡ Ok played → Follows world clients order played
   ended_by index order stand None played was is e = cc
   ended_by index order stand (Some all) played was is e =
       subst (Follows world clients order) (same_Ok (let p : Played = record { log = stand.log; replies = all } in p) played e) (finishes order stand all was is)
 
-  going_on : (index c : ℕ) (done order : List ℕ) (stand : Stand) (next : Option Stand) (played : Played) → Stands world clients done stand → turn table world stand c ≡ next
-      → ((s : Stand) → Stands world clients (done ++ c ∷ []) s → play_from table world (index + 1) s order ≡ Ok played → Follows world clients (done ++ c ∷ order) played)
-      → play_by index (λ s. play_from table world (index + 1) s order) next ≡ Ok played → Follows world clients (done ++ c ∷ order) played
+  going_on : (index c : ℕ) (done order : List ℕ) (stand : Stand) (next : Option Stand) (played : Played) → Stands world clients done stand → turn tables world stand c ≡ next
+      → ((s : Stand) → Stands world clients (done ++ c ∷ []) s → play_from tables world (index + 1) s order ≡ Ok played → Follows world clients (done ++ c ∷ order) played)
+      → play_by index (λ s. play_from tables world (index + 1) s order) next ≡ Ok played → Follows world clients (done ++ c ∷ order) played
   going_on index c done order stand None played was is more e = cc
-  going_on index c done order stand (Some next) played was is more e = more next (turned table world clients done stand next c was is) e
+  going_on index c done order stand (Some next) played was is more e = more next (turned tables world clients done stand next c was is) e
 
-  plays : (order : List ℕ) (index : ℕ) (done : List ℕ) (stand : Stand) (played : Played) → Stands world clients done stand → play_from table world index stand order ≡ Ok played → Follows world clients (done ++ order) played
+  plays : (order : List ℕ) (index : ℕ) (done : List ℕ) (stand : Stand) (played : Played) → Stands world clients done stand → play_from tables world index stand order ≡ Ok played → Follows world clients (done ++ order) played
   plays [] index done stand played was e =
-      subst (λ (cs : List ℕ). Follows world clients cs played) (sym (append-nil done)) (ended_by index done stand (replies_of table world stand.log stand.runs) played was refl e)
+      subst (λ (cs : List ℕ). Follows world clients cs played) (sym (append-nil done)) (ended_by index done stand (replies_of tables world stand.log stand.runs) played was refl e)
   plays (c ∷ order) index done stand played was e =
-      going_on index c done order stand (turn table world stand c) played was refl
+      going_on index c done order stand (turn tables world stand c) played was refl
       (λ s new rest. subst (λ (cs : List ℕ). Follows world clients cs played) (append_assoc done (c ∷ []) order) (plays order (index + 1) (done ++ c ∷ []) s played new rest)) e
 
 -- ---- the beginning
@@ -193,23 +193,23 @@ starts world clients = record {
     no_entry i e at = cc
 
 pub plays_follow_their_order : PlaysFollow
-plays_follow_their_order world clients order played e = plays (table_of world 0) world clients order 0 [] (start clients) played (starts world clients) e
+plays_follow_their_order world clients order played e = plays (tables_of world) world clients order 0 [] (start clients) played (starts world clients) e
 
 -- ---- where an order fails
 
-module _ (table : SchemaTable) (world : List Domain) where
-  fails_at_end : (index : ℕ) (log : List Entry) (all : Option (List (List StepReply))) (i : ℕ) → end_by table world index log all ≡ Err i → i ≤ index
+module _ (tables : List SchemaTable) (world : List Domain) where
+  fails_at_end : (index : ℕ) (log : List Entry) (all : Option (List (List StepReply))) (i : ℕ) → end_by tables world index log all ≡ Err i → i ≤ index
   fails_at_end index log None i e = le_of_eq (sym (same_Err index i e))
   fails_at_end index log (Some all) i e = cc
 
-  fails_by : (index : ℕ) (order : List ℕ) (next : Option Stand) (i : ℕ) → ((s : Stand) → play_from table world (index + 1) s order ≡ Err i → i ≤ index + 1 + length order)
-      → play_by index (λ s. play_from table world (index + 1) s order) next ≡ Err i → i ≤ index + suc (length order)
+  fails_by : (index : ℕ) (order : List ℕ) (next : Option Stand) (i : ℕ) → ((s : Stand) → play_from tables world (index + 1) s order ≡ Err i → i ≤ index + 1 + length order)
+      → play_by index (λ s. play_from tables world (index + 1) s order) next ≡ Err i → i ≤ index + suc (length order)
   fails_by index order None i more e = let at = same_Err index i e in omega (arith, at)
   fails_by index order (Some s) i more e = let later = more s e in omega (arith, later)
 
-  fails_within : (order : List ℕ) (index : ℕ) (stand : Stand) (i : ℕ) → play_from table world index stand order ≡ Err i → i ≤ index + length order
-  fails_within [] index stand i e = let at = fails_at_end index stand.log (replies_of table world stand.log stand.runs) i e in omega (arith, at)
-  fails_within (c ∷ order) index stand i e = fails_by index order (turn table world stand c) i (λ s. fails_within order (index + 1) s i) e
+  fails_within : (order : List ℕ) (index : ℕ) (stand : Stand) (i : ℕ) → play_from tables world index stand order ≡ Err i → i ≤ index + length order
+  fails_within [] index stand i e = let at = fails_at_end index stand.log (replies_of tables world stand.log stand.runs) i e in omega (arith, at)
+  fails_within (c ∷ order) index stand i e = fails_by index order (turn tables world stand c) i (λ s. fails_within order (index + 1) s i) e
 
 module _ (world : List Domain) (clients : List (List Move)) (order : List ℕ) where
   end_or_fail : (r : Result Played ℕ) → play world clients order ≡ r → ((i : ℕ) → r ≡ Err i → i ≤ length order)
@@ -219,4 +219,4 @@ module _ (world : List Domain) (clients : List (List Move)) (order : List ℕ) w
 
 pub orders_end_or_fail : OrdersEndOrFail
 orders_end_or_fail world clients order =
-    end_or_fail world clients order (play world clients order) refl (λ i e. let h = fails_within (table_of world 0) world order 0 (start clients) i e in omega (arith, h))
+    end_or_fail world clients order (play world clients order) refl (λ i e. let h = fails_within (tables_of world) world order 0 (start clients) i e in omega (arith, h))

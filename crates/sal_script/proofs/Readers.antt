@@ -12,7 +12,8 @@ use Rattle.sal_script.specs.Json.{whole_below}
 use Rattle.sal_script.specs.Moves.{Move, move_of, moves_of}
 use Rattle.sal_script.specs.declared.script.ScriptStep.{ScriptStep}
 use Rattle.sal_script.specs.Reading.{IsBadAt, IsFaultOf, Reads}
-use Rattle.sal_script.specs.Script.{or_bad, client_place, step_place, program_of, programs_from, step_of, steps_from, clients_from, all_of}
+use Rattle.sal_script.specs.Script.{DeviceParts, or_bad, client_place, device_of, device_place, devices_from, placed, step_place, program_of, programs_from, steps_from, clients_from, all_of}
+use Rattle.sal_script.specs.Steps.{step_of}
 use Rattle.sal_script.proofs.Each.{each_from, before, each_fails, each_next}
 
 -- ---- the lists
@@ -47,6 +48,13 @@ client_at c program = steps_from c 0 (data_in program)
 pub clients_from-each : (c : ℕ) (ps : List (Bor (List Value))) → clients_from c (map data_in ps) ≡ each_from client_at c ps
 clients_from-each c [] = refl
 clients_from-each c (p ∷ ps) = ap (λ rest. client_at c p >>= (λ steps. rest >>= (λ clients. Ok (steps ∷ clients)))) (clients_from-each (c + 1) ps)
+
+abbrev pub device_at : ℕ → Value → Result DeviceParts (List ℕ)
+device_at i v = placed (device_place i) (device_of (view v))
+
+pub devices_from-each : (i : ℕ) (vs : List Value) → devices_from i (map view vs) ≡ each_from device_at i vs
+devices_from-each i [] = refl
+devices_from-each i (v ∷ vs) = ap (λ rest. device_at i v >>= (λ device. rest >>= (λ devices. Ok (device ∷ devices)))) (devices_from-each (i + 1) vs)
 
 abbrev pub item_at : {A : Type 0} → (Data → Option A) → List ℕ → ℕ → Value → Result A (List ℕ)
 item_at f place i v = or_bad place (f (view v))

@@ -1,11 +1,9 @@
 -- The report of what clients left tells the order of its log on its first line.
-use Rattle.std.proofs.Common.{◌≡◌, ℕ, List, [], ◌∷◌, ◌++◌, length, codes, refl, ap, flat_map}
-use Rattle.sal_types.specs.declared.value.Store.TheVariants.{Config, Oper}
+use Rattle.std.proofs.Common.{◌≡◌, ℕ, List, [], ◌∷◌, ◌++◌, codes, refl, ap, flat_map}
+use Rattle.std.specs.Prelude.{map}
 use Rattle.sal_history.specs.declared.call.Entry.{Entry}
-use Rattle.sal_history.specs.World.{table_of}
-use Rattle.sal_history.specs.History.{commits, history, newest_tree}
-use Rattle.sal_script.specs.Play.{Played}
-use Rattle.sal_script.specs.Report.{number, order_line, reply_lines, tree_line}
+use Rattle.sal_script.specs.Play.{Played, tables_of}
+use Rattle.sal_script.specs.Report.{number, order_line, reply_lines, told_domains, tree_line, trees_in}
 use Rattle.sal_script.specs.Along.{order_of}
 use Rattle.sal_script.specs.OneOrder.{IsOneOrder}
 use Rattle.sal_script.specs.SomeOrder.{LeftIsReported, line_of}
@@ -23,7 +21,7 @@ what_is_left_is_reported world clients log replies left =
     let one : IsOneOrder world clients log replies = what_is_left_is_one_order world clients log replies left in
     let played : Played = record { log = log; replies = replies } in
     let rest : List ℕ =
-    reply_lines (table_of world 0) 0 replies ++ tree_line (table_of world 0) 0 (length (commits (history world log) 0)) (newest_tree world log 0 Config) (newest_tree world log 0 Oper) in
+    reply_lines (tables_of world) 0 replies ++ flat_map (tree_line (tables_of world)) (map (trees_in world log) (told_domains world log)) in
     record {
       order = order_of log;
       told = (rest, ap (λ (line : List ℕ). line ++ rest) (same_line log));

@@ -42,7 +42,7 @@ world_of rows = record { table = table; opening = record { config = rows; oper =
 
 -- a script over `plain` without openings
 abbrev pub plain_script : List (List Move) → List ℕ → Parts
-plain_script clients order = record { modules = PLAIN.now ∷ []; config = object no_members; operational = object no_members; clients = clients; order = order }
+plain_script clients order = record { modules = PLAIN.now ∷ []; config = object no_members; operational = object no_members; devices = []; clients = clients; order = order }
 
 -- ---- steps
 

@@ -2,7 +2,7 @@
 use Rattle.std.specs.Prelude.{Bool, true, List, [], ◌∷◌, ⊤}
 use Rattle.std.specs.List.{list_all}
 use Rattle.sal_value.specs.Json.{IsJson, is_json}
-use Rattle.sal_script.specs.Moves.{Move, Begin, Put, Merge, Delete, Read, Exists, Submit, Cancel, Settle, OpenChain, ChainBegin, CloseChain, Pump, Listen, Take, Unlisten, Mirror, Mark, After}
+use Rattle.sal_script.specs.Moves.{Move, Begin, Put, Merge, Delete, Read, Exists, Submit, Cancel, Settle, OpenChain, ChainBegin, CloseChain, Pump, Listen, Take, Unlisten, Mirror, Provide, Withdraw, Invoke, NextCall, Answer, Collect, Subscribe, Offer, TakeNotes, Mount, Unmount, MountAt, Mark, After}
 
 -- the value of a step
 abbrev pub IsJsonMove : Move → Type 0
@@ -23,6 +23,18 @@ IsJsonMove (Listen listener domain store path) = ⊤
 IsJsonMove (Take listener) = ⊤
 IsJsonMove (Unlisten listener) = ⊤
 IsJsonMove (Mirror listener) = ⊤
+IsJsonMove (Provide rpc context) = ⊤
+IsJsonMove (Withdraw rpc context) = ⊤
+IsJsonMove (Invoke slot rpc context value) = IsJson value
+IsJsonMove (NextCall slot) = ⊤
+IsJsonMove (Answer slot value) = IsJson value
+IsJsonMove (Collect slot) = ⊤
+IsJsonMove (Subscribe note) = ⊤
+IsJsonMove (Offer note value) = IsJson value
+IsJsonMove TakeNotes = ⊤
+IsJsonMove (Mount device path) = ⊤
+IsJsonMove (Unmount domain) = ⊤
+IsJsonMove (MountAt path) = ⊤
 IsJsonMove (Mark mark) = ⊤
 IsJsonMove (After mark) = ⊤
 
@@ -56,6 +68,18 @@ is_json_move (Listen listener domain store path) = true
 is_json_move (Take listener) = true
 is_json_move (Unlisten listener) = true
 is_json_move (Mirror listener) = true
+is_json_move (Provide rpc context) = true
+is_json_move (Withdraw rpc context) = true
+is_json_move (Invoke slot rpc context value) = is_json value
+is_json_move (NextCall slot) = true
+is_json_move (Answer slot value) = is_json value
+is_json_move (Collect slot) = true
+is_json_move (Subscribe note) = true
+is_json_move (Offer note value) = is_json value
+is_json_move TakeNotes = true
+is_json_move (Mount device path) = true
+is_json_move (Unmount domain) = true
+is_json_move (MountAt path) = true
 is_json_move (Mark mark) = true
 is_json_move (After mark) = true
 

@@ -1,5 +1,5 @@
 -- What was read from a script's bytes fits the schema.
-use Rattle.std.specs.Prelude.{◌≡◌, ℕ, List, [], Ok, IsTrue}
+use Rattle.std.specs.Prelude.{◌≡◌, ℕ, List, [], Some, Ok, IsTrue, slice_get}
 use Rattle.sal_types.specs.declared.value.Store.{Store}
 use Rattle.sal_types.specs.declared.value.Step.{Step}
 use Rattle.sal_types.specs.declared.row.Row.{Row}
@@ -10,7 +10,7 @@ use Rattle.sal_pathtext.specs.Read.{read_path}
 use Rattle.sal_data.specs.Laws.{IsWhole}
 use Rattle.sal_data.specs.Read.{read_data}
 use Rattle.sal_rules.specs.Writes.{IsForSchema}
-use Rattle.sal_script.specs.Script.{Parts, script_of}
+use Rattle.sal_script.specs.Script.{DeviceParts, Parts, script_of}
 use Rattle.sal_script.specs.JsonScripts.{IsJsonScript, is_json_deed}
 use Rattle.sal_script.specs.Play.{Deed, act_of, op_of}
 
@@ -18,11 +18,20 @@ use Rattle.sal_script.specs.Play.{Deed, act_of, op_of}
 abbrev pub ScriptsAreJson : Type 0
 ScriptsAreJson = (bytes : List ℕ) (parts : Parts) → script_of bytes ≡ Ok parts → IsJsonScript parts
 
--- The rows that its openings stand for are whole: they fit the schema, and what is written for them reads as the same rows.
+-- the rows that the openings of a domain stand for are whole: they fit the schema, and what is written for them reads as the same
+-- rows
+abbrev pub HasWholeOpenings : SchemaTable → DeviceParts → Type 0
+HasWholeOpenings table device = (rows : List Row) → (read_data table [] device.config ≡ Ok rows → IsWhole table [] rows) × (read_data table [] device.operational ≡ Ok rows → IsWhole table [] rows)
+
+-- what domain 0 has of a script
+abbrev pub own : Parts → DeviceParts
+own parts = record { modules = parts.modules; config = parts.config; operational = parts.operational }
+
+-- So it is with domain 0, and with each device.
 abbrev pub OpeningsAreWhole : Type 0
 OpeningsAreWhole =
-    (table : SchemaTable) → IsTable table → (bytes : List ℕ) (parts : Parts) → script_of bytes ≡ Ok parts → (rows : List Row)
-    → (read_data table [] parts.config ≡ Ok rows → IsWhole table [] rows) × (read_data table [] parts.operational ≡ Ok rows → IsWhole table [] rows)
+    (table : SchemaTable) → IsTable table → (bytes : List ℕ) (parts : Parts) → script_of bytes ≡ Ok parts
+    → HasWholeOpenings table (own parts) × ((i : ℕ) (device : DeviceParts) → slice_get parts.devices i ≡ Some device → HasWholeOpenings table device)
 
 -- An operation whose path and value were read, the value as JSON that a text has, is one for the schema.
 abbrev pub WritesAreForSchema : Type 0

@@ -10,6 +10,8 @@ pub mod JsonScripts
 pub mod Laws
 pub mod Limits
 pub mod ListenerExamples
+pub mod MessageData
+pub mod Messages
 pub mod Moves
 pub mod OneOrder
 pub mod Orders
@@ -17,4 +19,8 @@ pub mod Play
 pub mod Reading
 pub mod Report
 pub mod Script
+pub mod ServiceExamples
+pub mod Services
 pub mod SomeOrder
+pub mod Steps
+pub mod Words

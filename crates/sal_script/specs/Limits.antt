@@ -6,6 +6,10 @@ use Rattle.std.specs.List.{list_all}
 abbrev pub within_limits : {Step : Type 0} → List (List Step) → Bool
 within_limits clients = nat_le (length clients) 16 && list_all (λ steps. nat_le (length steps) 60000) clients
 
+-- at most 63 devices, so there are at most 64 domains
+abbrev pub are_few : {Device : Type 0} → List Device → Bool
+are_few devices = nat_le (length devices) 63
+
 -- a text whose bytes have places below 2^32
 abbrev pub is_short : List ℕ → Bool
 is_short text = nat_lt (length text) (2 ^ 32)

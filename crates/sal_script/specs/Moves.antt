@@ -1,5 +1,5 @@
 -- The steps of a client as the definitions have them: a value is the JSON data that it stands for.
-use Rattle.std.specs.Prelude.{ℕ, List, map}
+use Rattle.std.specs.Prelude.{ℕ, List, Option, map}
 use Rattle.sal_types.specs.declared.value.Store.{Store}
 use Rattle.sal_rows.specs.declared.outcome.Mode.{Mode}
 use Rattle.serde_json.specs.Data.{Data}
@@ -25,6 +25,18 @@ pub data Move : Type 0 where
   Take : ℕ → Move
   Unlisten : ℕ → Move
   Mirror : ℕ → Move
+  Provide : List ℕ → Option (List ℕ) → Move
+  Withdraw : List ℕ → Option (List ℕ) → Move
+  Invoke : ℕ → List ℕ → Option (List ℕ) → Data → Move
+  NextCall : ℕ → Move
+  Answer : ℕ → Data → Move
+  Collect : ℕ → Move
+  Subscribe : List ℕ → Move
+  Offer : List ℕ → Data → Move
+  TakeNotes : Move
+  Mount : ℕ → List ℕ → Move
+  Unmount : ℕ → Move
+  MountAt : List ℕ → Move
   Mark : ℕ → Move
   After : ℕ → Move
 
@@ -47,6 +59,18 @@ move_of (told.Listen listener domain store path) = Listen listener domain store 
 move_of (told.Take listener) = Take listener
 move_of (told.Unlisten listener) = Unlisten listener
 move_of (told.Mirror listener) = Mirror listener
+move_of (told.Provide rpc context) = Provide rpc context
+move_of (told.Withdraw rpc context) = Withdraw rpc context
+move_of (told.Invoke call rpc context input) = Invoke call rpc context (view input)
+move_of (told.NextCall request) = NextCall request
+move_of (told.Answer request output) = Answer request (view output)
+move_of (told.Collect call) = Collect call
+move_of (told.Subscribe note) = Subscribe note
+move_of (told.Offer note value) = Offer note (view value)
+move_of told.TakeNotes = TakeNotes
+move_of (told.Mount device path) = Mount device path
+move_of (told.Unmount domain) = Unmount domain
+move_of (told.MountAt path) = MountAt path
 move_of (told.Mark mark) = Mark mark
 move_of (told.After mark) = After mark
 

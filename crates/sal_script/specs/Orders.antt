@@ -28,6 +28,18 @@ pub data Kind : Type 0 where
   listens : ℕ → Store → Kind
   takes : Kind
   unlistens : Kind
+  provides : Kind
+  withdraws : Kind
+  invokes : Kind
+  takes_request : Kind
+  answers : Kind
+  collects : Kind
+  subscribes : Kind
+  offers : Kind
+  takes_notes : Kind
+  mounts : ℕ → Kind
+  unmounts : ℕ → Kind
+  asks_mount : Kind
   leaves_mark : ℕ → Kind
   looks_after : ℕ → Kind
 
@@ -44,6 +56,18 @@ kind_of_step asked.Pump = Some pumps
 kind_of_step (asked.Listen listener domain store path) = Some (listens domain store)
 kind_of_step (asked.Take listener) = Some takes
 kind_of_step (asked.Unlisten listener) = Some unlistens
+kind_of_step (asked.Provide name context) = Some provides
+kind_of_step (asked.Withdraw name context) = Some withdraws
+kind_of_step (asked.Invoke slot name context value) = Some invokes
+kind_of_step (asked.NextCall slot) = Some takes_request
+kind_of_step (asked.Answer slot value) = Some answers
+kind_of_step (asked.Collect slot) = Some collects
+kind_of_step (asked.Subscribe name) = Some subscribes
+kind_of_step (asked.Offer name value) = Some offers
+kind_of_step asked.TakeNotes = Some takes_notes
+kind_of_step (asked.Mount device path) = Some (mounts device)
+kind_of_step (asked.Unmount domain) = Some (unmounts domain)
+kind_of_step (asked.MountAt path) = Some asks_mount
 kind_of_step (asked.Mark mark) = Some (leaves_mark mark)
 kind_of_step (asked.After mark) = Some (looks_after mark)
 kind_of_step step = None
@@ -60,6 +84,18 @@ kind_of_call made.Pump = pumps
 kind_of_call (made.Listen domain store path) = listens domain store
 kind_of_call (made.Take id) = takes
 kind_of_call (made.Unlisten id) = unlistens
+kind_of_call (made.Provide rpc context) = provides
+kind_of_call (made.Withdraw rpc context) = withdraws
+kind_of_call (made.Invoke rpc context input) = invokes
+kind_of_call made.NextCall = takes_request
+kind_of_call (made.Answer id output) = answers
+kind_of_call (made.Collect id) = collects
+kind_of_call (made.Subscribe note) = subscribes
+kind_of_call (made.Offer note rows) = offers
+kind_of_call made.TakeNotes = takes_notes
+kind_of_call (made.Mount path device) = mounts device
+kind_of_call (made.Unmount domain) = unmounts domain
+kind_of_call (made.MountAt path) = asks_mount
 kind_of_call (made.Mark mark) = leaves_mark mark
 kind_of_call (made.After mark) = looks_after mark
 

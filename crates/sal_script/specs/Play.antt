@@ -1,6 +1,6 @@
 -- What a script does in an order: each number of the order lets that client go on to its next shared call, which is
 -- then made and answered by the log; at the end each client answers the local steps that are left.
-use Rattle.std.specs.Prelude.{ℕ, ◌+◌, Bool, List, [], ◌∷◌, ◌++◌, length, map, Option, None, Some, Result, Ok, Err, IsOk, if◌then◌else◌, nat_eq, slice_get}
+use Rattle.std.specs.Prelude.{ℕ, ◌+◌, Bool, List, [], ◌∷◌, ◌++◌, length, map, Option, None, Some, Result, Ok, Err, IsOk, if◌then◌else◌, nat_eq, nat_lt, slice_get, unwrap_or}
 use Rattle.std.specs.List.{slice_set}
 use Rattle.std.specs.Option.{option_map, option_map_or}
 use Rattle.sal_types.specs.declared.value.Store.{Store}
@@ -17,8 +17,8 @@ use Rattle.sal_history.specs.declared.call.Call.{Call}
 use Rattle.sal_history.specs.declared.call.Call.TheVariants as made
 use Rattle.sal_history.specs.declared.call.Entry.{Entry}
 use Rattle.sal_history.specs.declared.reply.Reply.{Reply}
-use Rattle.sal_history.specs.declared.reply.Reply.TheVariants.{Begun, Chain, Accepted as Done, Receipt, Listener as Listening, Batch}
-use Rattle.sal_history.specs.World.{Domain, table_of}
+use Rattle.sal_history.specs.declared.reply.Reply.TheVariants.{Begun, Chain, Accepted as Done, Receipt, Listener as Listening, Batch, CallMade, Request}
+use Rattle.sal_history.specs.World.{Domain, no_table}
 use Rattle.sal_history.specs.History.{history, reply, trees_at, view, entries_of}
 use Rattle.serde_json.specs.Data.{Data}
 use Rattle.sal_schema.specs.declared.table.SchemaTable.{SchemaTable}
@@ -33,7 +33,24 @@ use Rattle.sal_script.specs.declared.reply.StepReply.{StepReply}
 use Rattle.sal_script.specs.declared.reply.StepReply.TheVariants.{Called, Accepted, Read as ReadReply, Exists as ExistsReply, Mirror as MirrorReply, Refused}
 use Rattle.sal_script.specs.declared.reply.StepRefusal.{StepRefusal}
 use Rattle.sal_script.specs.declared.reply.StepRefusal.TheVariants.{EmptySlot, ReadOnly, NoDevice, BadPath, BadData, Write}
-use Rattle.sal_script.specs.Moves.{Move, Begin, Put, Merge, Delete, Read, Exists, Submit, Cancel, Settle, OpenChain, ChainBegin, CloseChain, Pump, Listen, Take, Unlisten, Mirror, Mark, After}
+use Rattle.sal_script.specs.Moves.{Move, Begin, Put, Merge, Delete, Read, Exists, Submit, Cancel, Settle, OpenChain, ChainBegin, CloseChain, Pump, Listen, Take, Unlisten, Mirror, Provide, Withdraw, Invoke, NextCall, Answer, Collect, Subscribe, Offer, TakeNotes, Mount, Unmount, MountAt, Mark, After}
+use Rattle.sal_script.specs.Services.{Invocation, OrRefusal, answer, collect, invoke, mount, mount_at, offer, provide, subscribe, withdraw}
+
+-- ---- schemas
+
+-- the tables of the domains' schemas, by domain
+abbrev pub tables_of : List Domain → List SchemaTable
+tables_of world = map (λ (d : Domain). d.table) world
+
+-- that of a domain, without nodes where the script has none of that number
+abbrev pub table_in : List SchemaTable → ℕ → SchemaTable
+table_in tables domain = unwrap_or (slice_get tables domain) no_table
+
+-- the script has a domain of this number: the controller's own, or a device's, mounted or not
+abbrev pub has_domain : List SchemaTable → ℕ → Bool
+has_domain tables domain = nat_lt domain (length tables)
+
+-- ---- clients
 
 -- a client's transaction: where it began in the log, its domain and mode, and its operations so far
 pub record Open : Type 0 where
@@ -62,16 +79,19 @@ Slots A = ℕ → Option A
 abbrev pub set_slot : {A : Type 0} → ℕ → Option A → Slots A → Slots A
 set_slot slot x slots = λ k. if nat_eq k slot then x else slots k
 
--- a client: its slots, and the replies to its steps so far
+-- a client: its slots, for requests those of the ids of what it made and of what it was handed, and the replies to its steps
+-- so far
 pub record Client : Type 0 where
   pub transactions : Slots Open
   pub receipts : Slots ℕ
   pub chains : Slots Opened
   pub listeners : Slots Listener
+  pub invoked : Slots ℕ
+  pub handed : Slots Invocation
   pub replies : List StepReply
 
 abbrev pub new_client : Client
-new_client = record { transactions = λ k. None; receipts = λ k. None; chains = λ k. None; listeners = λ k. None; replies = [] }
+new_client = record { transactions = λ k. None; receipts = λ k. None; chains = λ k. None; listeners = λ k. None; invoked = λ k. None; handed = λ k. None; replies = [] }
 
 -- one step more is answered
 abbrev pub replied : StepReply → Client → Client
@@ -84,6 +104,15 @@ pub data Meeting : Type 0 where
 
 abbrev pub refused : StepRefusal → Client → Meeting
 refused refusal client = local (Refused refusal) client
+
+-- a shared call, or why the client makes none
+abbrev pub ask : OrRefusal Call → Client → Meeting
+ask (Err refusal) client = refused refusal client
+ask (Ok call) client = shared call
+
+-- the table by which paths and values are read in a transaction
+abbrev pub table_for : List SchemaTable → Option Open → SchemaTable
+table_for tables tx = option_map_or (λ (o : Open). table_in tables o.domain) tx no_table
 
 -- what a write does at its path, with a value that is not yet read
 pub data Deed : Type 0 where
@@ -106,7 +135,7 @@ accept slot op tx client = local Accepted (record client { transactions = set_sl
 
 abbrev pub accept_unless : Option TxFault → ℕ → Op → Open → Client → Meeting
 accept_unless None slot op tx client = accept slot op tx client
-accept_unless (Some fault) slot op tx client = refused (Write fault) client
+accept_unless (Some fault) slot op tx client = refused (Write tx.domain fault) client
 
 abbrev pub submit_in : Open → Mode → Client → Meeting
 submit_in tx Ro client = refused ReadOnly client
@@ -132,17 +161,13 @@ abbrev pub close_chain : Client → Option Opened → Meeting
 close_chain client None = refused EmptySlot client
 close_chain client (Some chain) = shared (made.CloseChain chain.id)
 
--- the domains that a script has; it has no devices yet
-abbrev pub has_domain : ℕ → Bool
-has_domain domain = nat_eq domain 0
-
 abbrev pub listen_at : ℕ → Store → Result (List Step) PathTextFault → Client → Meeting
 listen_at domain store (Err fault) client = refused (BadPath fault) client
 listen_at domain store (Ok path) client = shared (made.Listen domain store path)
 
 -- a listen: the first refusal counts, of the domain, and then of the path
-abbrev pub listen : ℕ → Store → Result (List Step) PathTextFault → Client → Meeting
-listen domain store path client = if has_domain domain then listen_at domain store path client else refused NoDevice client
+abbrev pub listen : List SchemaTable → ℕ → Store → Result (List Step) PathTextFault → Client → Meeting
+listen tables domain store path client = if has_domain tables domain then listen_at domain store path client else refused NoDevice client
 
 abbrev pub take_batch : Client → Option Listener → Meeting
 take_batch client None = refused EmptySlot client
@@ -153,35 +178,26 @@ unlisten client None = refused EmptySlot client
 unlisten client (Some listener) = shared (made.Unlisten listener.id)
 
 -- a look by a transaction that only writes is refused
-abbrev pub look_in : Mode → StepReply → Client → Meeting
-look_in Wo answer client = refused (Write WriteOnly) client
-look_in mode answer client = local answer client
+abbrev pub look_in : ℕ → Mode → StepReply → Client → Meeting
+look_in domain Wo r client = refused (Write domain WriteOnly) client
+look_in domain mode r client = local r client
 
 -- a look at the path that a text stands for; f answers what is there
-abbrev pub look_at : (List Step → StepReply) → Mode → Result (List Step) PathTextFault → Client → Meeting
-look_at f mode (Err fault) client = refused (BadPath fault) client
-look_at f mode (Ok path) client = look_in mode (f path) client
+abbrev pub look_at : (List Step → StepReply) → ℕ → Mode → Result (List Step) PathTextFault → Client → Meeting
+look_at f domain mode (Err fault) client = refused (BadPath fault) client
+look_at f domain mode (Ok path) client = look_in domain mode (f path) client
 
-module _ (table : SchemaTable) (world : List Domain) (log : List Entry) where
+-- a read answers the rows at the path and below it
+abbrev pub rows_read : Open → List Step → List Row → StepReply
+rows_read tx path rows = ReadReply tx.domain path (under rows path)
+
+abbrev pub found : Open → List Step → List Row → StepReply
+found tx path rows = ExistsReply (has rows path)
+
+module _ (world : List Domain) (log : List Entry) where
   -- what a transaction sees of a store, under its own writes
   abbrev pub seen_by : Open → Store → List Row
   seen_by tx store = view world log tx.place tx.ops store
-
-  -- ---- looks
-
-  -- a look into the view of a transaction; f answers from its rows
-  abbrev pub look : (Open → List Step → List Row → StepReply) → Store → List ℕ → Client → Option Open → Meeting
-  look f store text client None = refused EmptySlot client
-  look f store text client (Some tx) = look_at (λ path. f tx path (seen_by tx store)) tx.mode (read_path table text) client
-
-  -- a read answers the rows at the path and below it
-  abbrev pub rows_read : Open → List Step → List Row → StepReply
-  rows_read tx path rows = ReadReply tx.domain path (under rows path)
-
-  abbrev pub found : Open → List Step → List Row → StepReply
-  found tx path rows = ExistsReply (has rows path)
-
-  -- ---- mirrors
 
   -- what was committed at the listener's path and below it, at the version that was taken last
   abbrev pub mirrored : Listener → List Row
@@ -191,14 +207,22 @@ module _ (table : SchemaTable) (world : List Domain) (log : List Entry) where
   mirror client None = refused EmptySlot client
   mirror client (Some listener) = local (MirrorReply listener.domain listener.path listener.version (mirrored listener)) client
 
+module _ (table : SchemaTable) (world : List Domain) (log : List Entry) where
+  -- ---- looks
+
+  -- a look into the view of a transaction; f answers from its rows
+  abbrev pub look : (Open → List Step → List Row → StepReply) → Store → List ℕ → Client → Option Open → Meeting
+  look f store text client None = refused EmptySlot client
+  look f store text client (Some tx) = look_at (λ path. f tx path (seen_by world log tx store)) tx.domain tx.mode (read_path table text) client
+
   -- ---- writes
 
   -- the operation is refused over what the transaction sees, or taken
   abbrev pub write_op : ℕ → Op → Open → Client → Meeting
-  write_op slot op tx client = accept_unless (refusal table (seen_by tx op.store) op) slot op tx client
+  write_op slot op tx client = accept_unless (refusal table (seen_by world log tx op.store) op) slot op tx client
 
   abbrev pub write_act : ℕ → Store → List Step → Result Act DataFault → Open → Client → Meeting
-  write_act slot store path (Err fault) tx client = refused (BadData fault) client
+  write_act slot store path (Err fault) tx client = refused (BadData tx.domain fault) client
   write_act slot store path (Ok act) tx client = write_op slot (op_of store path act) tx client
 
   abbrev pub write_at : ℕ → Store → Result (List Step) PathTextFault → Deed → Open → Client → Meeting
@@ -215,14 +239,22 @@ module _ (table : SchemaTable) (world : List Domain) (log : List Entry) where
   write slot store text deed client None = refused EmptySlot client
   write slot store text deed client (Some tx) = write_in tx.mode slot store text deed tx client
 
+module _ (tables : List SchemaTable) (world : List Domain) (log : List Entry) where
+  -- by the table of the transaction's domain
+  abbrev pub write_with : ℕ → Store → List ℕ → Deed → Client → Option Open → Meeting
+  write_with slot store text deed client tx = write (table_for tables tx) world log slot store text deed client tx
+
+  abbrev pub look_with : (Open → List Step → List Row → StepReply) → Store → List ℕ → Client → Option Open → Meeting
+  look_with f store text client tx = look (table_for tables tx) world log f store text client tx
+
   -- what a client's step comes to after the log
   abbrev pub meet : Client → Move → Meeting
   meet client (Begin slot domain mode) = shared (made.Begin domain mode)
-  meet client (Put slot store path value) = write slot store path (putting value) client (client.transactions slot)
-  meet client (Merge slot store path value) = write slot store path (merging value) client (client.transactions slot)
-  meet client (Delete slot store path) = write slot store path deleting client (client.transactions slot)
-  meet client (Read slot store path) = look rows_read store path client (client.transactions slot)
-  meet client (Exists slot store path) = look found store path client (client.transactions slot)
+  meet client (Put slot store path value) = write_with slot store path (putting value) client (client.transactions slot)
+  meet client (Merge slot store path value) = write_with slot store path (merging value) client (client.transactions slot)
+  meet client (Delete slot store path) = write_with slot store path deleting client (client.transactions slot)
+  meet client (Read slot store path) = look_with rows_read store path client (client.transactions slot)
+  meet client (Exists slot store path) = look_with found store path client (client.transactions slot)
   meet client (Submit slot) = submit client (client.transactions slot)
   meet client (Cancel slot) = cancel client (client.transactions slot)
   meet client (Settle slot) = settle client (client.receipts slot)
@@ -230,10 +262,22 @@ module _ (table : SchemaTable) (world : List Domain) (log : List Entry) where
   meet client (ChainBegin chain slot mode) = chain_begin mode client (client.chains chain)
   meet client (CloseChain chain) = close_chain client (client.chains chain)
   meet client Pump = shared made.Pump
-  meet client (Listen listener domain store path) = listen domain store (read_path table path) client
+  meet client (Listen listener domain store path) = listen tables domain store (read_path (table_in tables domain) path) client
   meet client (Take listener) = take_batch client (client.listeners listener)
   meet client (Unlisten listener) = unlisten client (client.listeners listener)
-  meet client (Mirror listener) = mirror client (client.listeners listener)
+  meet client (Mirror listener) = mirror world log client (client.listeners listener)
+  meet client (Provide name context) = ask (provide (table_in tables 0) name context) client
+  meet client (Withdraw name context) = ask (withdraw (table_in tables 0) name context) client
+  meet client (Invoke slot name context value) = ask (invoke (table_in tables 0) name context value) client
+  meet client (NextCall slot) = shared made.NextCall
+  meet client (Answer slot value) = ask (answer (table_in tables 0) (client.handed slot) value) client
+  meet client (Collect slot) = ask (collect (client.invoked slot)) client
+  meet client (Subscribe name) = ask (subscribe (table_in tables 0) name) client
+  meet client (Offer name value) = ask (offer (table_in tables 0) name value) client
+  meet client TakeNotes = shared made.TakeNotes
+  meet client (Mount device path) = ask (mount (table_in tables 0) device path) client
+  meet client (Unmount domain) = shared (made.Unmount domain)
+  meet client (MountAt path) = ask (mount_at (table_in tables 0) path) client
   meet client (Mark mark) = shared (made.Mark mark)
   meet client (After mark) = shared (made.After mark)
 
@@ -258,7 +302,7 @@ abbrev pub keep_taken : ℕ → ℕ → Client → Client
 keep_taken slot version client = record client { listeners = set_slot slot (option_map (at_version version) (client.listeners slot)) client.listeners }
 
 -- What the answer to a shared call leaves in the slots; `place` is that of the call's entry. A refusal leaves them as they
--- were, and nothing empties the slot of a chain or of a listener.
+-- were, and nothing empties the slot of a chain, of a listener or of a request.
 abbrev pub keep : ℕ → Move → Reply → Client → Client
 keep place (Begin slot domain mode) (Begun commit on) client = keep_begun slot place domain mode client
 keep place (ChainBegin chain slot mode) (Begun commit on) client = keep_begun slot place (domain_in (client.chains chain)) mode client
@@ -268,6 +312,8 @@ keep place (Take slot) (Batch domain batch) client = keep_taken slot batch.to cl
 keep place (Submit slot) (Receipt number) client =
     record client { transactions = set_slot slot None client.transactions; receipts = set_slot slot (Some number) client.receipts }
 keep place (Cancel slot) Done client = record client { transactions = set_slot slot None client.transactions }
+keep place (Invoke slot name context value) (CallMade id) client = record client { invoked = set_slot slot (Some id) client.invoked }
+keep place (NextCall slot) (Request request) client = record client { handed = set_slot slot (Some (record { id = request.id; rpc = request.rpc })) client.handed }
 keep place step r client = client
 
 -- a client and the steps that are still to come
@@ -310,11 +356,11 @@ cons_replies None rest = None
 cons_replies (Some rs) None = None
 cons_replies (Some rs) (Some rest) = Some (rs ∷ rest)
 
-module _ (table : SchemaTable) (world : List Domain) where
+module _ (tables : List SchemaTable) (world : List Domain) where
   -- the client goes on to its next shared call
   abbrev pub arrive : List Entry → Client → List Move → Arrival
   arrive log client [] = ended client
-  arrive log client (step ∷ steps) = arrive_by (λ next. arrive log next steps) (λ call. calls call step (record { client = client; steps = steps })) (meet table world log client step)
+  arrive log client (step ∷ steps) = arrive_by (λ next. arrive log next steps) (λ call. calls call step (record { client = client; steps = steps })) (meet tables world log client step)
 
   -- the call is made and answered; `none` where the client has come to its end
   abbrev pub make : List Entry → ℕ → Arrival → Option Made
@@ -350,24 +396,23 @@ abbrev pub play_by : ℕ → (Stand → Result Played ℕ) → Option Stand → 
 play_by index next None = Err index
 play_by index next (Some stand) = next stand
 
-module _ (table : SchemaTable) (world : List Domain) where
+module _ (tables : List SchemaTable) (world : List Domain) where
   abbrev pub end_by : ℕ → List Entry → Option (List (List StepReply)) → Result Played ℕ
   end_by index log None = Err index
   end_by index log (Some replies) = Ok (record { log = log; replies = replies })
 
   -- the rest of an order, from this index on; the fault is the index at which it fails
   abbrev pub play_from : ℕ → Stand → List ℕ → Result Played ℕ
-  play_from index stand [] = end_by index stand.log (replies_of table world stand.log stand.runs)
-  play_from index stand (c ∷ order) = play_by index (λ next. play_from (index + 1) next order) (turn table world stand c)
+  play_from index stand [] = end_by index stand.log (replies_of tables world stand.log stand.runs)
+  play_from index stand (c ∷ order) = play_by index (λ next. play_from (index + 1) next order) (turn tables world stand c)
 
 -- the clients of a script at their beginning
 abbrev pub start : List (List Move) → Stand
 start clients = record { log = []; runs = map (λ steps. record { client = new_client; steps = steps }) clients }
 
--- what a script does in an order over its domains, or the index at which the order fails; paths and values are read by the
--- schema of domain 0
+-- what a script does in an order over its domains, or the index at which the order fails
 abbrev pub play : List Domain → List (List Move) → List ℕ → Result Played ℕ
-play world clients order = play_from (table_of world 0) world 0 (start clients) order
+play world clients order = play_from (tables_of world) world 0 (start clients) order
 
 -- the order is one of the clients' shared calls: each once, and in its client's own order
 abbrev pub IsLegal : List Domain → List (List Move) → List ℕ → Type 0

@@ -1,11 +1,12 @@
 -- What readers of a script return: what the definitions give, unless memory ran out.
-use Rattle.std.specs.Prelude.{◌≡◌, ℕ, List, Result, Ok, Err, MatchResult}
+use Rattle.std.specs.Prelude.{◌≡◌, ℕ, List, map, Result, Ok, Err, MatchResult}
 use Rattle.sal_script.specs.declared.fault.ScriptFault.{ScriptFault}
 use Rattle.sal_script.specs.declared.fault.ScriptFault.TheVariants.{BadScript, NoMemory}
 use Rattle.sal_script.specs.declared.script.Script.{Script}
+use Rattle.sal_script.specs.declared.script.ScriptDevice.{ScriptDevice}
 use Rattle.serde_json.specs.View.{view}
 use Rattle.sal_script.specs.Moves.{clients_of}
-use Rattle.sal_script.specs.Script.{Parts}
+use Rattle.sal_script.specs.Script.{DeviceParts, Parts}
 
 -- the fault names the place, unless memory ran out
 abbrev pub IsBadAt : List ℕ → ScriptFault → Type 0
@@ -21,9 +22,16 @@ IsFaultOf read NoMemory = Unit {0}
 abbrev pub Reads : {X Y : Type 0} → (X → Y) → Result X ScriptFault → Result Y (List ℕ) → Type 0
 Reads seen result read = MatchResult result (λ x. read ≡ Ok (seen x)) (IsFaultOf read)
 
+-- what a device has
+abbrev pub device : ScriptDevice → DeviceParts
+device d = record { modules = d.modules; config = view d.config; operational = view d.operational }
+
+abbrev pub devices : List ScriptDevice → List DeviceParts
+devices ds = map device ds
+
 -- what a script has
 abbrev pub parts : Script → Parts
-parts script = record { modules = script.modules; config = view script.config; operational = view script.operational; clients = clients_of script.clients; order = script.order }
+parts script = record { modules = script.modules; config = view script.config; operational = view script.operational; devices = devices script.devices; clients = clients_of script.clients; order = script.order }
 
 -- the script that is read, or the first bad place, unless memory ran out
 abbrev pub ReadsScript : Result Script ScriptFault → Result Parts (List ℕ) → Type 0

@@ -22,16 +22,16 @@ pub fn chain_steps_read()
 
 /// The words of the replies that chains, pumps and marks have.
 pub fn reply_words()
-    ensures chain { call_text table (Chain 12) ≡ codes "chain 12" }
-    ensures decided { call_text table (Decided 3 0 (Done 2)) ≡ codes "decided 3 done 2" }
-    ensures decided_as_failed { call_text table (Decided 3 0 (FailedBy 2)) ≡ codes "decided 3 chain-failed 2" }
-    ensures nothing { call_text table Nothing ≡ codes "nothing" }
-    ensures found { call_text table Found ≡ codes "found" }
-    ensures late { call_text table Late ≡ codes "late" }
-    ensures settled { call_text table (Settled 0 (FailedBy 10)) ≡ codes "chain-failed 10" }
-    ensures open { call_text table (Refused PreviousOpen) ≡ codes "refused previous-open" }
-    ensures failed { call_text table (Refused (ChainFailed 10)) ≡ codes "refused chain-failed 10" }
-    ensures closed { call_text table (Refused ChainClosed) ≡ codes "refused chain-closed" }
+    ensures chain { call_text (table ∷ []) (Chain 12) ≡ codes "chain 12" }
+    ensures decided { call_text (table ∷ []) (Decided 3 0 (Done 2)) ≡ codes "decided 3 done 2" }
+    ensures decided_as_failed { call_text (table ∷ []) (Decided 3 0 (FailedBy 2)) ≡ codes "decided 3 chain-failed 2" }
+    ensures nothing { call_text (table ∷ []) Nothing ≡ codes "nothing" }
+    ensures found { call_text (table ∷ []) Found ≡ codes "found" }
+    ensures late { call_text (table ∷ []) Late ≡ codes "late" }
+    ensures settled { call_text (table ∷ []) (Settled 0 (FailedBy 10)) ≡ codes "chain-failed 10" }
+    ensures open { call_text (table ∷ []) (Refused PreviousOpen) ≡ codes "refused previous-open" }
+    ensures failed { call_text (table ∷ []) (Refused (ChainFailed 10)) ≡ codes "refused chain-failed 10" }
+    ensures closed { call_text (table ∷ []) (Refused ChainClosed) ≡ codes "refused chain-closed" }
 {}
 
 /// A chain's second transaction begins while the first is pending, and reads what that one wrote.

@@ -1,12 +1,12 @@
 //! The steps of chains, pumps and marks, from the parts of JSON arrays.
-ghost use Rattle.std.specs.Prelude.{◌≡◌, ℕ, MatchOption, Some, None, map, option_map};
+ghost use Rattle.std.specs.Prelude.{◌≡◌, map, option_map};
 ghost use Rattle.serde_json.specs.View.{view};
 ghost use Rattle.sal_script.specs.Moves.{move_of};
 ghost use Rattle.sal_script.specs.Moves as move;
-ghost use Rattle.sal_script.specs.Script as spec;
+ghost use Rattle.sal_script.specs.Steps as spec;
 
 use crate::script::ScriptStep;
-use crate::step::{mode_of, number_of, slot_alone, slot_of};
+use crate::step::{mode_of, number_alone, number_of, slot_alone, slot_of};
 use serde_json::Value;
 
 // The step of a chain, a pump or of a mark with this word and these parts behind it.
@@ -64,25 +64,15 @@ fn pump_of(parts: &[Value]) -> Option<ScriptStep>
 }
 
 fn mark_of(parts: &[Value]) -> Option<ScriptStep>
-    ensures { option_map move_of result ≡ spec.mark_step_of move.Mark (map view parts.now) }
+    ensures { option_map move_of result ≡ spec.number_step_of move.Mark (map view parts.now) }
 {
-    let mark = mark_alone(parts)?;
+    let mark = number_alone(parts)?;
     Some(ScriptStep::Mark { mark })
 }
 
 fn after_of(parts: &[Value]) -> Option<ScriptStep>
-    ensures { option_map move_of result ≡ spec.mark_step_of move.After (map view parts.now) }
+    ensures { option_map move_of result ≡ spec.number_step_of move.After (map view parts.now) }
 {
-    let mark = mark_alone(parts)?;
+    let mark = number_alone(parts)?;
     Some(ScriptStep::After { mark })
-}
-
-// The mark, where it is the one part.
-fn mark_alone(parts: &[Value]) -> Option<u32>
-    ensures { MatchOption result ((step : ℕ → move.Move) → spec.mark_step_of step (map view parts.now) ≡ None) (λ mark. (step : ℕ → move.Move) → spec.mark_step_of step (map view parts.now) ≡ Some (step mark)) }
-{
-    let [mark] = parts else {
-        return None;
-    };
-    number_of(mark)
 }

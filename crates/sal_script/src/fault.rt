@@ -1,7 +1,7 @@
 //! Why bytes are no script.
 ghost use Rattle.std.specs.Prelude.{◌≡◌, MatchResult, string_bytes};
 ghost use Rattle.sal_script.specs.Reading.{IsBadAt};
-ghost use Rattle.sal_script.specs.Script.{client_place, step_place};
+ghost use Rattle.sal_script.specs.Script.{client_place, device_place, step_place};
 
 use sal_types::{NoMemory, Str};
 use std::alloc::{AllocError, AllocFailed, Global};
@@ -10,7 +10,7 @@ use thiserror::Error;
 /// Why bytes are no script.
 #[derive(Debug, Drop, PartialEq, Eq, Error)]
 pub enum ScriptFault {
-    /// The first bad place: `json`, `script`, `clients`, `clients/1`, `clients/1/7` or `order`.
+    /// The first bad place: `json`, `script`, `devices/1`, `clients`, `clients/1`, `clients/1/7` or `order`.
     #[error("bad script")]
     BadScript { place: Str },
     #[error("out of memory")]
@@ -64,6 +64,13 @@ pub(crate) fn bad(alloc: Global, place: &str) -> ScriptFault
     ensures { IsBadAt place.now result }
 {
     bad_at(String::from_str(alloc, place))
+}
+
+// The device of this number is the first bad place.
+pub(crate) fn bad_device(alloc: Global, device: usize) -> ScriptFault
+    ensures { IsBadAt (device_place device) result }
+{
+    bad_at(format!(in alloc; "devices/{device}"))
 }
 
 // The client of this number is the first bad place.

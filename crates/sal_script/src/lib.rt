@@ -2,8 +2,10 @@
 //!
 //! | type or call | what it is |
 //! |---|---|
-//! | `Script`, `Program`, `ScriptStep` | a script; a client's steps; one step |
+//! | `Script`, `ScriptDevice` | a script; a device that it has beside domain 0 |
+//! | `Program`, `ScriptStep` | a client's steps; one step |
 //! | `StepReply`, `StepRefusal` | what a step is answered; why it made no call |
+//! | `DomainTrees` | the trees of a domain at the end of a run |
 //! | `read_script` | the script that bytes stand for, or the first bad place |
 //! | `ScriptFault` | why bytes are no script |
 //!
@@ -11,12 +13,17 @@
 //! whether something is there; submits or cancels; and settles receipts. It opens transaction chains into slots of their own,
 //! begins their transactions and closes them; decides what is pending first, of whatever client; and leaves marks and looks
 //! for them. It listens to a store at a path, takes what changed there, and looks at its mirror, which follows by what was
-//! taken. Paths are texts and values are JSON, of any kind: both are read by the schema when the step is answered, so a text
-//! that is no path is refused then, and is no fault of the script.
+//! taken. It provides RPCs, makes requests into slots and collects their answers, and is handed requests into slots and answers
+//! them; it subscribes to notifications, offers and takes them; and it mounts devices, each a domain with a schema of its own.
 //!
-//! `specs/Script` says which script bytes stand for, with the steps of `specs/Moves`; `specs/Play` what a script does in an
-//! order, and `specs/Report` the text of that, with the batches of listeners as JSON in `specs/BatchData`. `examples`,
-//! `chain_examples`, `listener_examples` and `along_examples` have worked examples, each proved by computing it.
+//! Names and paths are texts and values are JSON, of any kind. They are read when the step is answered, so a text that is no path is
+//! refused then, and is no fault of the script. What a transaction or a listener is told goes by the schema of its domain; RPCs,
+//! notifications and mounts are domain 0's, and go by its schema.
+//!
+//! `specs/Script` says which script bytes stand for, with the steps of `specs/Moves` by their forms in `specs/Steps`; `specs/Play`
+//! what a script does in an order, with the calls on services in `specs/Services`; and `specs/Report` the text of that, with its
+//! words in `specs/Words`, and batches, inputs, outputs and notifications as JSON in `specs/BatchData` and `specs/MessageData`. `examples`, `chain_examples`, `listener_examples`, `service_examples` and
+//! `along_examples` have worked examples, each proved by computing it.
 //! `laws` says of the values of a script that was read that each name stands once in its object, and that what they say at a
 //! path that was read fits the schema; and of what is played, that its log is in the order that was given and has the shared
 //! calls of each client, each once and in the client's own order (`specs/Orders`); and of what clients leave that run at the same
@@ -32,6 +39,7 @@
 pub mod along_examples;
 pub mod chain_examples;
 mod chain_step;
+mod device;
 pub mod examples;
 pub mod fault;
 pub mod laws;
@@ -40,10 +48,16 @@ mod listener_step;
 pub mod read;
 pub mod reply;
 pub mod script;
+pub mod service_examples;
+mod service_step;
 mod step;
+pub mod trees;
 mod values;
 
 pub use fault::ScriptFault;
 pub use read::read_script;
 pub use reply::{StepRefusal, StepReply};
-pub use script::{MAX_CLIENTS, MAX_PROGRAM, PLAIN, Program, Script, ScriptStep};
+pub use script::{
+    MAX_CLIENTS, MAX_DEVICES, MAX_PROGRAM, PLAIN, Program, Script, ScriptDevice, ScriptStep,
+};
+pub use trees::DomainTrees;

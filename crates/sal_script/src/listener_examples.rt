@@ -26,14 +26,14 @@ pub fn listener_steps_read()
 
 /// The words of the replies that listeners have.
 pub fn listener_words()
-    ensures opened { call_text table (Listener 12 0 (Node 0 ∷ Node 1 ∷ []) (record { version = 3; rows = opened })) ≡ codes "listener 12 3 \"o\"" }
-    ensures root { call_text table (Listener 1 0 [] (record { version = 0; rows = [] })) ≡ codes "listener 1 0 {}" }
-    ensures batch { call_text table (Batch 0 goes) ≡ codes "batch 1 2 [[2,\"DELETE\",[[\"/plain:box/a\",\"o\",null]]]]" }
-    ensures mirror { reply_text table (Mirrored 0 (Node 0 ∷ []) 10 []) ≡ codes "mirror 10 absent" }
+    ensures opened { call_text (table ∷ []) (Listener 12 0 (Node 0 ∷ Node 1 ∷ []) (record { version = 3; rows = opened })) ≡ codes "listener 12 3 \"o\"" }
+    ensures root { call_text (table ∷ []) (Listener 1 0 [] (record { version = 0; rows = [] })) ≡ codes "listener 1 0 {}" }
+    ensures batch { call_text (table ∷ []) (Batch 0 goes) ≡ codes "batch 1 2 [[2,\"DELETE\",[[\"/plain:box/a\",\"o\",null]]]]" }
+    ensures mirror { reply_text (table ∷ []) (Mirrored 0 (Node 0 ∷ []) 10 []) ≡ codes "mirror 10 absent" }
     ensures mark { compact_text (cell_data table [] (Some Mark)) ≡ codes "{}" }
-    ensures no_listener { call_text table (Refused (NoListener 7)) ≡ codes "refused no-listener 7" }
-    ensures too_many { call_text table (Refused TooManyListeners) ≡ codes "refused too-many-listeners" }
-    ensures no_device { refusal_text table NoDevice ≡ codes "no-device" }
+    ensures no_listener { call_text (table ∷ []) (Refused (NoListener 7)) ≡ codes "refused no-listener 7" }
+    ensures too_many { call_text (table ∷ []) (Refused TooManyListeners) ≡ codes "refused too-many-listeners" }
+    ensures no_device { refusal_text (table ∷ []) NoDevice ≡ codes "no-device" }
 {}
 
 /// A container appears with its first leaf.

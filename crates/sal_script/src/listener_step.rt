@@ -3,7 +3,7 @@ ghost use Rattle.std.specs.Prelude.{◌≡◌, IfOk, MatchOption, Some, None, ma
 ghost use Rattle.serde_json.specs.View.{view};
 ghost use Rattle.sal_script.specs.Moves.{move_of};
 ghost use Rattle.sal_script.specs.Moves as move;
-ghost use Rattle.sal_script.specs.Script as spec;
+ghost use Rattle.sal_script.specs.Steps as spec;
 
 use crate::chain_step::chain_step_named;
 use crate::script::ScriptStep;

@@ -1,25 +1,25 @@
 //! Scripts, read from JSON (RFC 8259).
-ghost use Rattle.std.specs.Prelude.{◌≡◌, ◌&&◌, [], ◌∷◌, codes, map, option_and_then, option_map, IfOk, IfErr, IfSome, IsTrue};
+ghost use Rattle.std.specs.Prelude.{◌≡◌, codes, map, option_and_then, option_map, IfOk, IsTrue};
 ghost use Rattle.serde_json.specs.View.{view, members_view};
-ghost use Rattle.sal_value.specs.Json.{HasJson, is_json};
+ghost use Rattle.sal_value.specs.Json.{HasJson};
 ghost use Rattle.sal_script.specs.JsonMoves.{have_json_moves};
 ghost use Rattle.sal_script.specs.Json.{data_of};
-ghost use Rattle.sal_script.specs.Reading.{Reads, ReadsScript, parts};
+ghost use Rattle.sal_script.specs.Reading.{Reads, ReadsScript, device, devices, parts};
 ghost use Rattle.sal_script.specs.Moves.{clients_of, moves_of};
-ghost use Rattle.sal_script.specs.Limits.{are_short, is_short, within_limits};
+ghost use Rattle.sal_script.specs.Limits.{are_few, within_limits};
 ghost use Rattle.sal_script.specs.Script as spec;
-ghost use Rattle.sal_script.specs.declared.script.TheConstants.{PLAIN};
 
+use crate::device::{devices_in, modules_of, with_openings};
 use crate::fault::{ScriptFault, bad, bad_client, bad_step};
-use crate::script::{MAX_CLIENTS, MAX_PROGRAM, PLAIN, Program, Script, ScriptStep};
+use crate::script::{MAX_CLIENTS, MAX_PROGRAM, Program, Script, ScriptDevice, ScriptStep};
 use crate::step::step_of;
-use crate::values::{list_member, list_of, member, members_of, whole_below};
-use sal_types::{Seq, Str};
+use crate::values::{at_most, list_member, list_of, member, members_of, whole_below};
+use sal_types::Seq;
 use serde_json::{Map, Value};
 use std::alloc::Global;
 
 /// The script that bytes stand for, or the first bad place: the bytes as JSON, the object's members, `modules`, `config`,
-/// `operational`, `clients` and each client, the steps of each client, `order`.
+/// `operational`, `devices` and each device, `clients` and each client, the steps of each client, `order`.
 pub fn read_script(alloc: Global, bytes: &[u8]) -> Result<Script, ScriptFault>
     ensures { ReadsScript result (spec.script_of bytes.now) }
 {
@@ -46,7 +46,14 @@ fn value_of(alloc: Global, bytes: &[u8]) -> Result<Value, ScriptFault>
 fn script_members(alloc: Global, value: &Value) -> Result<&Map<String, Value>, ScriptFault>
     ensures { Reads (λ members. members_view members.now.entries) result (spec.or_bad (codes "script") (spec.members_of spec.names (view value.now))) }
 {
-    let names = &["modules", "config", "operational", "clients", "order"];
+    let names = &[
+        "modules",
+        "config",
+        "operational",
+        "devices",
+        "clients",
+        "order",
+    ];
     match members_of(value, names) {
         Some(members) => Ok(members),
         None => Err(bad(alloc, "script")),
@@ -56,9 +63,8 @@ fn script_members(alloc: Global, value: &Value) -> Result<&Map<String, Value>, S
 // What a script has but its order.
 #[derive(Drop)]
 struct Beginning {
-    modules: Vec<Str>,
-    config: Value,
-    operational: Value,
+    own: ScriptDevice,
+    devices: Vec<ScriptDevice>,
     clients: Vec<Program>,
 }
 
@@ -67,141 +73,63 @@ fn parts_of(alloc: Global, members: &Map<String, Value>) -> Result<Script, Scrip
     requires { HasJson (members_view members.now.entries) }
     ensures { Reads parts result (spec.parts_of (members_view members.now.entries)) }
 {
-    let modules = modules_of(alloc, members)?;
-    let configured = with_config(alloc, members, modules)?;
-    let opening = with_operational(alloc, members, configured)?;
-    let beginning = with_clients(alloc, members, opening)?;
+    let own = own_of(alloc, members)?;
+    let domains = with_devices(alloc, members, own)?;
+    let beginning = with_clients(alloc, members, domains)?;
     let order = order_of(alloc, members)?;
     Ok(Script {
-        modules: Seq::from_items(beginning.modules),
-        config: beginning.config,
-        operational: beginning.operational,
+        modules: beginning.own.modules,
+        config: beginning.own.config,
+        operational: beginning.own.operational,
+        devices: Seq::from_items(beginning.devices),
         clients: Seq::from_items(beginning.clients),
         order: Seq::from_items(order),
     })
 }
 
-// The modules with the data of the configuration.
-fn with_config(
-    alloc: Global,
-    members: &Map<String, Value>,
-    modules: Vec<Str>,
-) -> Result<(Vec<Str>, Value), ScriptFault>
+// What domain 0 has.
+fn own_of(alloc: Global, members: &Map<String, Value>) -> Result<ScriptDevice, ScriptFault>
     requires { HasJson (members_view members.now.entries) }
-    ensures config { Reads (λ read. view read.1) result (spec.or_bad (codes "config") (spec.opening_member (codes "config") (members_view members.now.entries))) }
-    ensures json { IfOk result (λ read. IsTrue (is_json (view read.1))) }
-    ensures modules { IfOk result (λ read. read.0 ≡ modules) }
+    ensures { Reads device result (spec.own_of (members_view members.now.entries)) }
 {
-    let config = opening_of(alloc, members, "config")?;
-    Ok((modules, config))
+    let modules = modules_of(alloc, members)?;
+    let own = with_openings(alloc, members, modules)?;
+    Ok(own)
 }
 
-// These with the operational data.
-fn with_operational(
+// This with the devices.
+fn with_devices(
     alloc: Global,
     members: &Map<String, Value>,
-    before: (Vec<Str>, Value),
-) -> Result<(Vec<Str>, Value, Value), ScriptFault>
+    own: ScriptDevice,
+) -> Result<(ScriptDevice, Vec<ScriptDevice>), ScriptFault>
     requires { HasJson (members_view members.now.entries) }
-    ensures operational { Reads (λ read. view read.2) result (spec.or_bad (codes "operational") (spec.opening_member (codes "operational") (members_view members.now.entries))) }
-    ensures json { IfOk result (λ read. IsTrue (is_json (view read.2))) }
-    ensures before { IfOk result (λ read. (read.0 ≡ before.0) × (read.1 ≡ before.1)) }
+    ensures devices { Reads (λ read. devices read.1.items) result (spec.devices_member (members_view members.now.entries)) }
+    ensures few { IfOk result (λ read. IsTrue (are_few read.1.items)) }
+    ensures own { IfOk result (λ read. read.0 ≡ own) }
 {
-    let operational = opening_of(alloc, members, "operational")?;
-    Ok((before.0, before.1, operational))
+    let devices = devices_in(alloc, members)?;
+    Ok((own, devices))
 }
 
 // These with the clients.
 fn with_clients(
     alloc: Global,
     members: &Map<String, Value>,
-    before: (Vec<Str>, Value, Value),
+    domains: (ScriptDevice, Vec<ScriptDevice>),
 ) -> Result<Beginning, ScriptFault>
     requires { HasJson (members_view members.now.entries) }
     ensures clients { Reads (λ read. clients_of read.clients.items) result (spec.clients_member (members_view members.now.entries)) }
     ensures limits { IfOk result (λ read. IsTrue (within_limits read.clients.items)) }
     ensures json { IfOk result (λ read. IsTrue (have_json_moves (clients_of read.clients.items))) }
-    ensures before { IfOk result (λ read. (read.modules ≡ before.0) × (read.config ≡ before.1) × (read.operational ≡ before.2)) }
+    ensures domains { IfOk result (λ read. (read.own ≡ domains.0) × (read.devices ≡ domains.1)) }
 {
     let clients = clients_in(alloc, members)?;
     Ok(Beginning {
-        modules: before.0,
-        config: before.1,
-        operational: before.2,
+        own: domains.0,
+        devices: domains.1,
         clients,
     })
-}
-
-// The data of an opening tree, under the member of this name.
-fn opening_of(alloc: Global, members: &Map<String, Value>, name: &str) -> Result<Value, ScriptFault>
-    ensures { Reads view result (spec.or_bad name.now (spec.opening_member name.now (members_view members.now.entries))) }
-{
-    match member(members, name) {
-        None => Ok(Value::Object(Map::new(alloc))),
-        Some(value) if value.is_object() => Ok(value.clone()?),
-        Some(_) => Err(bad(alloc, name)),
-    }
-}
-
-// The texts of the modules.
-fn modules_of(alloc: Global, members: &Map<String, Value>) -> Result<Vec<Str>, ScriptFault>
-    ensures texts { Reads (λ texts. texts.items) result (spec.or_bad (codes "modules") (spec.modules_member (members_view members.now.entries))) }
-    ensures short { IfOk result (λ texts. IsTrue (are_short texts.items)) }
-{
-    match member(members, "modules") {
-        None => plain(alloc),
-        Some(value) => match list_of(value) {
-            Some(list) => texts_of(alloc, list),
-            None => Err(bad(alloc, "modules")),
-        },
-    }
-}
-
-// The text of the module `plain` alone.
-fn plain(alloc: Global) -> Result<Vec<Str>, ScriptFault>
-    ensures texts { IfOk result (λ texts. texts.items ≡ PLAIN.now ∷ []) }
-    ensures short { IfOk result (λ texts. IsTrue (are_short texts.items)) }
-    ensures fault { IfErr result (λ e. e ≡ ScriptFault.NoMemory) }
-{
-    let mut texts = Vec::new(alloc);
-    texts.push(Str::new(alloc, PLAIN)?)?;
-    Ok(texts)
-}
-
-// The texts of these modules.
-fn texts_of(alloc: Global, list: &[Value]) -> Result<Vec<Str>, ScriptFault>
-    ensures texts { Reads (λ texts. texts.items) result (spec.or_bad (codes "modules") (spec.all_of spec.text_of (map view list.now))) }
-    ensures short { IfOk result (λ texts. IsTrue (are_short texts.items)) }
-{
-    let mut texts = Vec::with_capacity(alloc, list.len())?;
-    for value in list {
-        match text_of(value) {
-            Some(text) => texts.push(Str::new(alloc, text)?)?,
-            None => return Err(bad(alloc, "modules")),
-        }
-    }
-    Ok(texts)
-}
-
-// The text of a module.
-fn text_of(value: &Value) -> Option<&str>
-    ensures text { option_map (λ text. text.now) result ≡ spec.text_of (view value.now) }
-    ensures short { IfSome result (λ text. IsTrue (is_short text.now)) }
-{
-    match value.as_str() {
-        Some(text) if text.len() < 1 << 32 => Some(text),
-        _ => None,
-    }
-}
-
-// The list, where it is no longer than the limit.
-fn at_most(limit: usize, list: Option<&[Value]>) -> Option<&[Value]>
-    ensures { option_map (λ found. map view found.now) result ≡ option_and_then (spec.at_most limit) (option_map (λ found. map view found.now) list.entry) }
-{
-    match list {
-        Some(found) if found.len() <= limit => Some(found),
-        _ => None,
-    }
 }
 
 // The clients.

@@ -9,18 +9,20 @@ use sal_types::Path;
 /// Why a client refused a step by itself: it made no call.
 #[derive(Drop)]
 pub enum StepRefusal {
-    /// No transaction, receipt, chain or listener is in the slot.
+    /// No transaction, receipt, chain, listener or request is in the slot.
     EmptySlot,
     /// The transaction is read-only.
     ReadOnly,
     /// The script has no such domain.
     NoDevice,
+    /// Domain 0 has no RPC, or no notification, of this name.
+    UnknownName,
     /// The text is no path of the schema.
     BadPath { fault: PathTextFault },
-    /// The value is no data of the schema at the path.
-    BadData { fault: DataFault },
-    /// The transaction refused the write, or a read where it only writes.
-    Write { fault: TxFault },
+    /// The value is no data of the domain's schema at the path, or no input, output or notification of it.
+    BadData { domain: u32, fault: DataFault },
+    /// The transaction of the domain refused the write, or a read where it only writes.
+    Write { domain: u32, fault: TxFault },
 }
 
 /// The answer to a step: of a shared call, what the log gives; of a local step, what the client's own transaction gives, or its

@@ -3,7 +3,7 @@ ghost use Rattle.std.specs.Prelude.{IsTrue, ◌&&◌};
 ghost use Rattle.serde_json.specs.View.{view};
 ghost use Rattle.sal_value.specs.Json.{is_json};
 ghost use Rattle.sal_script.specs.JsonMoves.{have_json_moves};
-ghost use Rattle.sal_script.specs.Limits.{are_short, within_limits};
+ghost use Rattle.sal_script.specs.Limits.{are_few, are_short, within_limits};
 ghost use Rattle.sal_script.specs.Moves.{clients_of};
 
 use sal_rows::Mode;
@@ -13,6 +13,9 @@ use serde_json::Value;
 /// How many clients a script has at most.
 pub const MAX_CLIENTS: usize = 16;
 
+/// How many devices a script has at most.
+pub const MAX_DEVICES: usize = 63;
+
 /// How many steps a client has at most.
 pub const MAX_PROGRAM: usize = 60000;
 
@@ -20,8 +23,9 @@ pub const MAX_PROGRAM: usize = 60000;
 pub const PLAIN: &str =
     "module plain { namespace \"urn:plain\"; prefix p; container box {\n leaf a { type string; } leaf b { type string; } leaf c { type string; } leaf d { type string; }\n leaf e { type string; } leaf f { type string; } leaf g { type string; } leaf h { type string; } } }\n";
 
-/// One step of a client. Slots are the client's own places for transactions, for receipts, for chains and for listeners, from 0
-/// to 255. Paths and values are read by the schema when the step is answered.
+/// One step of a client. Slots are the client's own places for transactions, for receipts, for chains, for listeners, for the
+/// requests that it made and for those that it was handed, from 0 to 255. Names, paths and values are read by a schema when the
+/// step is answered.
 #[derive(Drop)]
 pub enum ScriptStep {
     /// Begins a transaction of the domain into the slot.
@@ -112,6 +116,60 @@ pub enum ScriptStep {
     Mirror {
         listener: u8,
     },
+    /// Registers the client as the one who answers the RPC in the context, or without one.
+    Provide {
+        rpc: Str,
+        context: Option<Str>,
+    },
+    /// Ends the client's registration.
+    Withdraw {
+        rpc: Str,
+        context: Option<Str>,
+    },
+    /// Makes a request with this input; its id goes into the call slot.
+    Invoke {
+        call: u8,
+        rpc: Str,
+        context: Option<Str>,
+        input: Value,
+    },
+    /// Takes the next request that waits for the client into the request slot.
+    NextCall {
+        request: u8,
+    },
+    /// Answers the request in the slot.
+    Answer {
+        request: u8,
+        output: Value,
+    },
+    /// Asks for the answer to the request that was made into the call slot.
+    Collect {
+        call: u8,
+    },
+    /// Subscribes the client to the notification.
+    Subscribe {
+        note: Str,
+    },
+    /// Offers a notification with this value to its subscribers.
+    Offer {
+        note: Str,
+        value: Value,
+    },
+    /// Takes all notifications that wait for the client.
+    TakeNotes,
+    /// Mounts the device at the path of domain 0. It is the domain of the same number then.
+    Mount {
+        device: u32,
+        path: Str,
+    },
+    /// Unmounts the domain.
+    Unmount {
+        domain: u32,
+    },
+    /// Asks which domain is mounted at the path of domain 0.
+    MountAt {
+        path: Str,
+    },
     /// Leaves the mark in the log.
     Mark {
         mark: u32,
@@ -125,16 +183,28 @@ pub enum ScriptStep {
 /// The steps of a client, in order.
 pub type Program = Seq<ScriptStep>;
 
-/// A script: the texts of its modules, each shorter than 4 GiB, the data of its opening trees, at most 16 clients with at most
-/// 60,000 steps each, and the order of their shared calls.
+/// A device that can be mounted: the texts of its modules, each shorter than 4 GiB, and the data of its opening trees.
+#[derive(Drop)]
+pub struct ScriptDevice {
+    pub modules: Seq<Str>,
+    pub config: Value,
+    pub operational: Value,
+    ghost short: { IsTrue (are_short modules) },
+    ghost opening: { IsTrue (is_json (view config) && is_json (view operational)) },
+}
+
+/// A script: the texts of its modules, each shorter than 4 GiB, the data of its opening trees, at most 63 devices, at most 16
+/// clients with at most 60,000 steps each, and the order of their shared calls. The device at index `i` is domain `i + 1`.
 #[derive(Drop)]
 pub struct Script {
     pub modules: Seq<Str>,
     pub config: Value,
     pub operational: Value,
+    pub devices: Seq<ScriptDevice>,
     pub clients: Seq<Program>,
     pub order: Seq<u32>,
     ghost short: { IsTrue (are_short modules) },
+    ghost few: { IsTrue (are_few devices) },
     ghost limits: { IsTrue (within_limits clients) },
     ghost opening: { IsTrue (is_json (view config) && is_json (view operational)) },
     ghost json: { IsTrue (have_json_moves (clients_of clients)) },

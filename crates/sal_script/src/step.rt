@@ -3,11 +3,11 @@ ghost use Rattle.std.specs.Prelude.{◌≡◌, ℕ, List, IfOk, MatchOption, Som
 ghost use Rattle.serde_json.specs.View.{view};
 ghost use Rattle.sal_script.specs.Moves.{move_of};
 ghost use Rattle.sal_script.specs.Moves as move;
-ghost use Rattle.sal_script.specs.Script.{Naming, Writing};
-ghost use Rattle.sal_script.specs.Script as spec;
+ghost use Rattle.sal_script.specs.Steps.{Naming, Writing};
+ghost use Rattle.sal_script.specs.Steps as spec;
 
-use crate::listener_step::listener_step_named;
 use crate::script::ScriptStep;
+use crate::service_step::service_step_named;
 use crate::values::{list_of, whole_below};
 use sal_rows::Mode;
 use sal_types::{NoMemory, Store, Str};
@@ -50,7 +50,7 @@ fn step_named(alloc: Global, word: &str, parts: &[Value]) -> Result<Option<Scrip
         "submit" => Ok(submit_of(parts)),
         "cancel" => Ok(cancel_of(parts)),
         "settle" => Ok(settle_of(parts)),
-        _ => listener_step_named(alloc, word, parts),
+        _ => service_step_named(alloc, word, parts),
     }
 }
 
@@ -183,6 +183,16 @@ pub(crate) fn slot_alone(parts: &[Value]) -> Option<u8>
         return None;
     };
     slot_of(slot)
+}
+
+// The number, such as a mark, where it is the one part.
+pub(crate) fn number_alone(parts: &[Value]) -> Option<u32>
+    ensures { MatchOption result ((step : ℕ → move.Move) → spec.number_step_of step (map view parts.now) ≡ None) (λ number. (step : ℕ → move.Move) → spec.number_step_of step (map view parts.now) ≡ Some (step number)) }
+{
+    let [number] = parts else {
+        return None;
+    };
+    number_of(number)
 }
 
 pub(crate) fn slot_of(value: &Value) -> Option<u8>

@@ -1,10 +1,10 @@
 //! Looking into JSON values, as the definitions do.
-ghost use Rattle.std.specs.Prelude.{◌≡◌, option_map, map};
+ghost use Rattle.std.specs.Prelude.{◌≡◌, option_and_then, option_map, map};
 ghost use Rattle.std.specs.List.{list_any};
 ghost use Rattle.serde_json.specs.View.{view, members_view};
 ghost use Rattle.serde_json.specs.Find.{get_member};
 ghost use Rattle.sal_script.specs.Json.{all_named, list_of, text_eq, whole_below};
-ghost use Rattle.sal_script.specs.Script.{list_member, members_of};
+ghost use Rattle.sal_script.specs.Script.{at_most, list_member, members_of};
 
 use serde_json::{Map, Value};
 
@@ -52,6 +52,16 @@ pub(crate) fn list_member<'v>(members: &'v Map<String, Value>, name: &str) -> Op
     match member(members, name) {
         Some(value) => list_of(value),
         None => Some(&[]),
+    }
+}
+
+// The list, where it is no longer than the limit.
+pub(crate) fn at_most(limit: usize, list: Option<&[Value]>) -> Option<&[Value]>
+    ensures { option_map (λ found. map view found.now) result ≡ option_and_then (at_most limit) (option_map (λ found. map view found.now) list.entry) }
+{
+    match list {
+        Some(found) if found.len() <= limit => Some(found),
+        _ => None,
     }
 }
 

@@ -18,6 +18,7 @@ use Rattle.sal_hub.proofs.journal.Journal.TheSendSync as Journal-here
 use Rattle.sal_hub.proofs.chains.Chains.TheSendSync as Chains-here
 use Rattle.sal_hub.proofs.marks.Marks.TheSendSync as Marks-here
 use Rattle.sal_hub.proofs.listeners.Listeners.TheSendSync as Listeners-here
+use Rattle.sal_hub.proofs.services.Services.TheSendSync as Services-here
 use Rattle.sal_turn.proofs.seat.Seat.TheSendSync as TurnSeat-here
 use Rattle.sal_turn.proofs.turn.Turn.TheSendSync as Turn-here
 use Rattle.sal_restrict.specs.contracts.yang_type.YangType as YangType
@@ -84,7 +85,7 @@ pub Pipeline-field_send : IsSend (Pipeline.the_field).row
 Pipeline-field_send = search (Domain-send, Submission-send, Outcome-here.the_send, crosses, maps.crosses, sendable) depth 40 fits 20000
 
 pub Hub-send : IsSend Hub.the_row
-Hub-send = search (Pipeline-field_send, Journal-here.the_send, Chains-here.the_field_send, Marks-here.the_field_send, Listeners-here.the_field_send, crosses, maps.crosses, sendable) depth 40 fits 20000
+Hub-send = search (Pipeline-field_send, Journal-here.the_send, Chains-here.the_field_send, Marks-here.the_field_send, Listeners-here.the_field_send, Services-here.the_field_send, crosses, maps.crosses, sendable) depth 40 fits 20000
 
 pub Shared-send : IsSend Shared.the_row
 Shared-send = search (Hub-send, crosses, maps.crosses, sendable) depth 40 fits 20000

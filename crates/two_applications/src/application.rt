@@ -75,6 +75,7 @@ fn try_once<R: Wait>(
         Outcome::Conflict { .. } => Ok(false),
         Outcome::Invalid { .. } => bail!("a rule of the schema is broken"),
         Outcome::ChainFailed { .. } => bail!("the transaction was of no chain"),
+        Outcome::Unmounted { .. } => bail!("the domain is the controller's own"),
     }
 }
 
@@ -101,7 +102,7 @@ fn submit<R: Wait>(
     requires seat { seat.old.lock ≡ sal.now }
     requires token { IsBegun (known seat.old.view) tx.begun tx.base }
     ensures same { Keeps sal.now seat.old seat.new }
-    ensures given { IfOk result (λ receipt. IsGiven (known seat.new.view) receipt.number) }
+    ensures given { IfOk result (IsGiven (known seat.new.view)) }
 {
     match sal.submit(rt, alloc, seat, tx) {
         Ok(receipt) => Ok(receipt),

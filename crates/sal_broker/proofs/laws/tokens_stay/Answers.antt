@@ -1,7 +1,7 @@
 -- The log grows entry by entry.
 use Rattle.sal_hub.specs.Known.{Known}
 use Rattle.sal_hub.specs.Listeners.{IsMade}
-use Rattle.sal_hub.specs.Tokens.{IsBegun, IsChain, IsGiven, IsListener}
+use Rattle.sal_hub.specs.Tokens.{IsBegun, IsCall, IsChain, IsGiven, IsListener}
 use Rattle.sal_broker.proofs.Tokens.{stays}
 use Rattle.sal_broker.proofs.laws.tokens_stay.Goals as goal
 
@@ -11,5 +11,6 @@ returns c = λ known log starts. record {
   given = λ receipt was. stays (λ (k : Known). IsGiven k receipt) (λ k e was. c.tokens_last.ensures.given k e receipt was) known log starts was;
   opened = λ chain was. stays (λ (k : Known). IsChain k chain) (λ k e was. c.tokens_last.ensures.opened k e chain was) known log starts was;
   listener = λ id was. stays (λ (k : Known). IsListener k id) (λ k e was. c.tokens_last.ensures.listener k e id was) known log starts was;
+  called = λ id was. stays (λ (k : Known). IsCall k id) (λ k e was. c.tokens_last.ensures.called k e id was) known log starts was;
   made = λ id l was. stays (λ (k : Known). IsMade k id l) (λ k e was. c.tokens_last.ensures.made k e id l was) known log starts was;
 }

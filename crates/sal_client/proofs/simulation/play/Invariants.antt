@@ -9,6 +9,6 @@ abbrev pub invariant-loop-i : goal.invariant-loop-i
 invariant-loop-i g l = record {
   world : l.simulation.hub.world ≡ l.initial.simulation.hub.world;
   runs : AreRuns l.simulation.hub l.programs l.simulation.runs.items;
-  rest : play_from l.reader l.simulation.hub.world l.i (stand_of l.programs l.simulation.hub.log l.simulation.runs.items) (drop l.i l.order)
+  rest : play_from l.readers l.simulation.hub.world l.i (stand_of l.programs l.simulation.hub.log l.simulation.runs.items) (drop l.i l.order)
       ≡ play l.initial.simulation.hub.world (clients_of l.programs) l.order;
 }

@@ -10,6 +10,6 @@ use Rattle.sal_command.proofs.top.sim_text.Goals as goal
 pub returns : goal.returns
 returns g c =
     let it = c.in_ok-prepared.prepared in
-    let same : sim_text c.args.bytes.now ≡ play_over (parts it.script) it.hub.world =
+    let same : sim_text c.args.bytes.now ≡ play_over (parts it.read.script) it.hub.world =
     ap (λ (made : Result Prepared Status). made >>= (λ script. play_over script.parts script.world)) c.in_ok-prepared.ensures.prepared in
     subst (λ (made : Result (List ℕ) Status). IsPlayOr made c.play_over.result) (sym same) c.play_over.ensures

@@ -3,9 +3,11 @@ use Rattle.std.proofs.Common.{◌-◌, ◌∷◌, [], List, ℕ, ap, ◌∙◌, 
 use Rattle.std.specs.Prelude.{slice_get}
 use Rattle.std.specs.Option.{option_to_list}
 use Rattle.sal_history.specs.History.{chain_domains, history, opened_chain, reply_to}
-use Rattle.sal_hub.proofs.Histories.{began_at-push, chains-push, sents-grow}
+use Rattle.sal_hub.proofs.Histories.{began_at-push, chains-push}
 use Rattle.sal_hub.proofs.Listed.{slice_get_more}
 use Rattle.sal_hub.proofs.Listened.{named_last, made_last}
+use Rattle.sal_hub.proofs.Routed.{call_last}
+use Rattle.sal_hub.proofs.Settling.{given_last}
 use Rattle.sal_hub.proofs.laws.tokens_last.Goals as goal
 
 pub returns-clause-begun : goal.returns-clause-begun
@@ -16,7 +18,7 @@ returns-clause-begun c = λ known e begun base was. record {
 }
 
 pub returns-clause-given : goal.returns-clause-given
-returns-clause-given c = λ known e receipt was. (was.0, omega (arith, was.1, sents-grow known.world known.log e))
+returns-clause-given c = λ known e receipt was. given_last known e receipt was
 
 pub returns-clause-opened : goal.returns-clause-opened
 returns-clause-opened c = λ known e chain was. (
@@ -27,6 +29,9 @@ returns-clause-opened c = λ known e chain was. (
 
 pub returns-clause-listener : goal.returns-clause-listener
 returns-clause-listener c = λ known e id was. named_last known e id was
+
+pub returns-clause-called : goal.returns-clause-called
+returns-clause-called c = λ known e id was. call_last known e id was
 
 pub returns-clause-made : goal.returns-clause-made
 returns-clause-made c = λ known e id l was. made_last known e id.number l was

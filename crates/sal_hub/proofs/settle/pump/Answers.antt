@@ -1,14 +1,13 @@
 -- The entry is the log's next.
-use Rattle.std.proofs.Common.{◌≡◌, ◌+◌, ◌-◌, ◌<◌, ◌≤◌, length, sym, subst, arith, slice_get, Some}
+use Rattle.std.proofs.Common.{◌≡◌, ◌+◌, ◌-◌, ◌<◌, ◌≤◌, ◌∙◌, ap, length, sym, subst, arith, slice_get, Some}
+use Rattle.std.specs.Option.{option_map}
 use Rattle.std.proofs.lemmas.Grind.{common_steps}
+use Rattle.sal_tx.specs.declared.tx.Submission.{Submission}
 use Rattle.sal_history.specs.declared.call.Call.TheVariants.{Pump}
-use Rattle.sal_history.specs.declared.reply.Reply.TheVariants.{Decided, Nothing}
-use Rattle.sal_hub.specs.Answers.{Made}
-use Rattle.sal_hub.specs.Current.{known_of}
-use Rattle.sal_hub.specs.Known.{entry_of}
+use Rattle.sal_history.specs.declared.reply.Reply.TheVariants.{Nothing}
 use Rattle.sal_hub.specs.Lines.{AreDecided, line_of}
 use Rattle.sal_hub.proofs.Beginning.{made_now}
-use Rattle.sal_hub.proofs.Settling.{few, idle_kept, idle_reply, pumped_kept, pumped_made}
+use Rattle.sal_hub.proofs.Settling.{few, idle_kept, idle_reply, pumped_given, pumped_kept, pumped_made}
 use Rattle.sal_hub.proofs.settle.pump.Goals as goal
 
 pub returns-in-Ok-clause-kept : goal.returns-in-Ok-clause-kept
@@ -36,16 +35,41 @@ returns-in-Ok-settle-clause-kept c =
     subst (λ n. AreDecided (line_of p) (n + 1 - length p.outcomes.items) (line_of c.settle.new.self)) count done.decided in
     pumped_kept c.args.journal.now c.settle.new.journal p c.requires.kept c.args.client done.log c.settle.new.self decided done.kept done.marks
 
+pub receipt_at-requires : goal.receipt_at-requires
+receipt_at-requires c =
+    let p = c.args.pipeline.now in
+    let done = c.in-Ok-settle.ensures in
+    let within : length p.outcomes.items < length p.submissions.items = grind (arith, common_steps) in
+    let count : c.len-decided.result ≡ length p.outcomes.items = grind (arith, common_steps) in
+    omega (arith, within, count, ap length done.decided.submissions, ap length c.deref.ensures.value)
+
 pub returns-in-Ok-settle-clause-answer : goal.returns-in-Ok-settle-clause-answer
 returns-in-Ok-settle-clause-answer c =
     let p = c.args.pipeline.now in
     let done = c.in-Ok-settle.ensures in
     let o = c.in-Ok-settle.outcome in
+    let r = c.receipt_at.result in
     let count : c.len-decided.result ≡ length p.outcomes.items = grind (arith, common_steps) in
     let decided : AreDecided (line_of p) (length p.outcomes.items + 1 - length p.outcomes.items) (line_of c.settle.new.self) =
     subst (λ n. AreDecided (line_of p) (n + 1 - length p.outcomes.items) (line_of c.settle.new.self)) count done.decided in
     let within : length p.outcomes.items < length p.submissions.items = grind (arith, common_steps) in
     let place : c.len-decided.result + 1 - 1 ≡ length p.outcomes.items = omega (arith, count) in
     let at : slice_get c.settle.new.self.outcomes.items (length p.outcomes.items) ≡ Some o = subst (λ n. slice_get c.settle.new.self.outcomes.items n ≡ Some o) place done.outcome in
-    subst (λ n. Made (known_of c.args.journal.now p) (known_of c.settle.new.journal c.settle.new.self) (entry_of (known_of c.args.journal.now p) c.args.client Pump) (Decided (n + 1) 0 o)) (sym count)
-    (pumped_made c.args.journal.now c.settle.new.journal p c.requires.kept c.args.client done.log c.settle.new.self decided o c.requires.room within at)
+    let number : r.number ≡ length p.outcomes.items + 1 = c.receipt_at.ensures.number ∙ ap (λ n. n + 1) count in
+    let domain : option_map (λ (s : Submission). s.domain) (slice_get c.settle.new.self.submissions.items (length p.outcomes.items)) ≡ Some r.domain =
+    (λ i. option_map (λ (s : Submission). s.domain) (slice_get (sym c.deref.ensures.value i) (sym count i))) ∙ c.receipt_at.ensures.domain in
+    pumped_made c.args.journal.now c.settle.new.journal p c.requires.kept c.args.client done.log c.settle.new.self decided r number domain o c.requires.room within at
+
+pub returns-in-Ok-settle-clause-given : goal.returns-in-Ok-settle-clause-given
+returns-in-Ok-settle-clause-given c =
+    let p = c.args.pipeline.now in
+    let done = c.in-Ok-settle.ensures in
+    let r = c.receipt_at.result in
+    let count : c.len-decided.result ≡ length p.outcomes.items = grind (arith, common_steps) in
+    let decided : AreDecided (line_of p) (length p.outcomes.items + 1 - length p.outcomes.items) (line_of c.settle.new.self) =
+    subst (λ n. AreDecided (line_of p) (n + 1 - length p.outcomes.items) (line_of c.settle.new.self)) count done.decided in
+    let within : length p.outcomes.items < length p.submissions.items = grind (arith, common_steps) in
+    let number : r.number ≡ length p.outcomes.items + 1 = c.receipt_at.ensures.number ∙ ap (λ n. n + 1) count in
+    let domain : option_map (λ (s : Submission). s.domain) (slice_get c.settle.new.self.submissions.items (length p.outcomes.items)) ≡ Some r.domain =
+    (λ i. option_map (λ (s : Submission). s.domain) (slice_get (sym c.deref.ensures.value i) (sym count i))) ∙ c.receipt_at.ensures.domain in
+    pumped_given c.args.journal.now c.settle.new.journal p c.requires.kept c.args.client done.log c.settle.new.self decided r number domain done.kept done.marks within

@@ -59,5 +59,5 @@ returns-in-Ok-accept-clause-given c =
     let free : refusal_of (length p.submissions.items - length p.outcomes.items) (mark_at c.args.journal.now.marks tx.begun.place) ≡ None =
     sym (c.refusal.ensures ∙ ap (λ (b : Begun). refusal_of (length p.submissions.items - length p.outcomes.items) (mark_at c.args.journal.now.marks b.place)) c.begun.ensures) ∙ c.in-None.is in
     let done = c.in-Ok-accept.ensures in
-    subst (λ (r : Given). IsGiven (known_of c.accept.new.journal c.accept.new.pipeline) r.number) (sym done.receipt)
+    subst (λ (r : Given). IsGiven (known_of c.accept.new.journal c.accept.new.pipeline) r) (sym done.receipt)
     (accepted_given c.args.journal.now c.accept.new.journal p c.accept.new.pipeline c.requires.kept c.args.client tx c.requires.token done.right done.log free c.requires.member done.domains done.failures done.outcomes done.submissions done.marks)

@@ -18,11 +18,11 @@ work-seat-requires-clause-stands g c κs within =
     let steps : List ScriptStep = c.items.result.now in
     let read : steps ≡ get_or programs number steps = c.items.ensures ∙ c.index-programs-run.is ∙ ap (λ (d : List ScriptStep). get_or programs number d) (sym c.items.ensures) in
     let at : slice_get programs number ≡ Some steps = slice_get_read programs (length programs) number steps refl c.requires.new.has read in
-    new_stands c.args.hall.now.reader.now c.args.hall.now.sal.now programs c.args.seated steps c.requires.limits c.requires.json c.requires.new at
+    new_stands c.args.hall.now.readers.now c.args.hall.now.sal.now programs c.args.seated steps c.requires.limits c.requires.json c.requires.new at
 
 pub returns : goal.returns
 returns g c =
-    let table = c.args.hall.now.reader.now in
+    let tables = c.args.hall.now.readers.now in
     let programs = c.args.programs.now in
     let number = c.args.seated.run.client.number in
     let steps : List ScriptStep = c.items.result.now in
@@ -35,7 +35,7 @@ returns g c =
     record {
       keeps = did.same;
       few = λ other there. subst (λ (p : List ScriptStep). length w.own ≤ length p) (same other there) did.few;
-      ended = on_ok c.work-seat.result.1 (HasEnded table steps w run) ((other : List ScriptStep) → slice_get programs c.args.seated.seat.view.number ≡ Some other → HasEnded table other w run)
-          (λ is other there. subst (λ (p : List ScriptStep). HasEnded table p w run) (same other there) is) did.ended;
+      ended = on_ok c.work-seat.result.1 (HasEnded tables steps w run) ((other : List ScriptStep) → slice_get programs c.args.seated.seat.view.number ≡ Some other → HasEnded tables other w run)
+          (λ is other there. subst (λ (p : List ScriptStep). HasEnded tables p w run) (same other there) is) did.ended;
       full = did.full;
     }

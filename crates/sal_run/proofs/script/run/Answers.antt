@@ -1,6 +1,7 @@
 -- The hub that is left when all seats are joined.
 use Rattle.std.proofs.Common.{rules, ◌≡◌, List, Err, true, ap, sym, ◌∙◌, subst}
-use Rattle.sal_history.specs.World.{Domain, table_of}
+use Rattle.sal_history.specs.World.{Domain}
+use Rattle.sal_script.specs.Play.{tables_of}
 use Rattle.sal_broker.specs.Seats.{SeatView, known}
 use Rattle.sal_script.specs.declared.script.ScriptStep.{ScriptStep}
 use Rattle.sal_script.specs.Along.{AreLeft}
@@ -16,7 +17,7 @@ close-hub-requires-clause-joined g c =
     let programs : List (List ScriptStep) = c.items-programs.result.now in
     let limits : within_limits programs ≡ true = subst (λ (ps : List (List ScriptStep)). within_limits ps ≡ true) (sym c.items-programs.ensures) c.args.script.now.limits in
     let begun = begins c.in_ok-sal.sal c.in_ok-sal.opening c.args.hub.world opened.0 opened.1 in
-    covers_all c.args.reader.now c.in_ok-sal.sal programs c.in_ok-sal.opening c.in_ok-joined.joined c.in_ok-joined.replies limits begun c.in_ok-joined.ensures
+    covers_all c.args.readers.now c.in_ok-sal.sal programs c.in_ok-sal.opening c.in_ok-joined.joined c.in_ok-joined.replies limits begun c.in_ok-joined.ensures
 
 pub unreachable-requires : goal.unreachable-requires
 unreachable-requires g c =
@@ -26,7 +27,7 @@ unreachable-requires g c =
     let begun = begins c.in_ok-sal.sal c.in_ok-sal.opening c.args.hub.world opened.0 opened.1 in
     let closed = c.close-hub.ensures in
     let full : c.in_ok-joined.replies ≡ Err HistoryFull = search rules in
-    never_full c.args.reader.now c.in_ok-sal.sal programs c.in_ok-sal.opening c.in_ok-joined.joined c.in_ok-joined.replies limits begun c.in_ok-joined.ensures
+    never_full c.args.readers.now c.in_ok-sal.sal programs c.in_ok-sal.opening c.in_ok-joined.joined c.in_ok-joined.replies limits begun c.in_ok-joined.ensures
     c.close-hub.result closed.world closed.seen closed.own closed.joined closed.others full
 
 pub returns-in-Ok-clause-left : goal.returns-in-Ok-clause-left
@@ -38,10 +39,10 @@ returns-in-Ok-clause-left g c =
     let closed = c.close-hub.ensures in
     let same : c.args.hub.world ≡ c.close-hub.result.world =
     ap (λ (v : SeatView). (known v).world) (sym opened.1)
-    ∙ same_world c.args.reader.now c.in_ok-sal.sal programs c.in_ok-sal.opening c.in_ok-joined.joined c.in_ok-joined.replies limits begun c.in_ok-joined.ensures
+    ∙ same_world c.args.readers.now c.in_ok-sal.sal programs c.in_ok-sal.opening c.in_ok-joined.joined c.in_ok-joined.replies limits begun c.in_ok-joined.ensures
     c.close-hub.result closed.world closed.seen closed.own closed.joined closed.others in
     let left =
-    are_left c.args.reader.now c.in_ok-sal.sal programs c.in_ok-sal.opening c.in_ok-joined.joined c.in_ok-joined.replies limits begun c.in_ok-joined.ensures
-    c.close-hub.result closed.world closed.seen closed.own closed.joined closed.others (c.requires.table ∙ ap (λ (w : List Domain). table_of w 0) same) c.in-Ok.replies c.in-Ok.is in
+    are_left c.args.readers.now c.in_ok-sal.sal programs c.in_ok-sal.opening c.in_ok-joined.joined c.in_ok-joined.replies limits begun c.in_ok-joined.ensures
+    c.close-hub.result closed.world closed.seen closed.own closed.joined closed.others (c.requires.tables ∙ ap (λ (w : List Domain). tables_of w) same) c.in-Ok.replies c.in-Ok.is in
     subst (λ (ps : List (List ScriptStep)). AreLeft c.args.hub.world (clients_of ps) c.close-hub.result.log c.in-Ok.replies) c.items-programs.ensures
     (subst (λ (w : List Domain). AreLeft w (clients_of programs) c.close-hub.result.log c.in-Ok.replies) (sym same) left)

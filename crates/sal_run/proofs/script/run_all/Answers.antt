@@ -11,11 +11,11 @@ run_clients-requires-clause-new g c κs _ i r within at =
     let are = c.in_ok-runs.ensures.seated in
     let long = are.long in
     let small : i < length programs = omega (arith, long, within) in
-    seated_new c.args.hall.now.reader.now c.args.hall.now.sal.now programs c.args.opening.view i r c.requires.reads c.requires.opening.seen small (are.each i r (at_index c.in_ok-runs.runs.items i r within at))
+    seated_new c.args.hall.now.readers.now c.args.hall.now.sal.now programs c.args.opening.view i r c.requires.reads c.requires.opening.seen small (are.each i r (at_index c.in_ok-runs.runs.items i r within at))
 
 pub join_all-requires-clause-others : goal.join_all-requires-clause-others
 join_all-requires-clause-others g c i f at =
-    let worked = worked_at c.args.hall.now.reader.now c.args.hall.now.sal.now c.args.programs.now c.args.opening.view (length c.args.programs.now) c.in_ok-runs.runs.items c.in-Ok.finished.items c.in_ok-runs.ensures.seated c.in-Ok.ensures.long c.in-Ok.ensures.each i f at in
+    let worked = worked_at c.args.hall.now.readers.now c.args.hall.now.sal.now c.args.programs.now c.args.opening.view (length c.args.programs.now) c.in_ok-runs.runs.items c.in-Ok.finished.items c.in_ok-runs.ensures.seated c.in-Ok.ensures.long c.in-Ok.ensures.each i f at in
     (worked.keeps.0, worked.keeps.1.4)
 
 pub returns-in-Ok : goal.returns-in-Ok
@@ -24,7 +24,7 @@ returns-in-Ok g c =
     record {
       clients = c.in-Ok.finished.items;
       long = c.in-Ok.ensures.long ∙ c.in_ok-runs.ensures.seated.long;
-      each = worked_at c.args.hall.now.reader.now lock c.args.programs.now c.args.opening.view (length c.args.programs.now) c.in_ok-runs.runs.items c.in-Ok.finished.items c.in_ok-runs.ensures.seated c.in-Ok.ensures.long c.in-Ok.ensures.each;
+      each = worked_at c.args.hall.now.readers.now lock c.args.programs.now c.args.opening.view (length c.args.programs.now) c.in_ok-runs.runs.items c.in-Ok.finished.items c.in_ok-runs.ensures.seated c.in-Ok.ensures.long c.in-Ok.ensures.each;
       joins = subst (λ (v : SeatView). Joins lock v c.in-Ok.finished.items c.join_all.result.0) c.in_ok-runs.ensures.giver.1 c.join_all.ensures.joins;
       collects = c.join_all.ensures.collects;
     }

@@ -10,14 +10,14 @@ use Rattle.sal_client.proofs.Answering.{called}
 use Rattle.sal_client.proofs.client.ClientState.after.Goals as goal
 
 pub returns-in-Ok-clause-answers : goal.returns-in-Ok-clause-answers
-returns-in-Ok-clause-answers c table =
+returns-in-Ok-clause-answers c tables =
     let client = c.args.self.now in
     let known = c.args.hub.now in
     let call = AfterCall c.args.mark in
-    (call, called table c.called.result client.number known (client_of client) (After c.args.mark) c.after.new.self (client_of client) call _ refl c.in-Ok.ensures.answer (c.called.ensures ∙ ap Called c.looked.ensures) refl)
+    (call, called tables c.called.result client.number known (client_of client) (After c.args.mark) c.after.new.self (client_of client) call _ refl c.in-Ok.ensures.answer (c.called.ensures ∙ ap Called c.looked.ensures) refl)
 
 pub returns-in-Ok-clause-sound : goal.returns-in-Ok-clause-sound
 returns-in-Ok-clause-sound c =
     let client = c.args.self.now in
     let known = c.args.hub.now in
-    subst (λ (k : Known). IsSound k client) (sym c.in-Ok.ensures.answer.log) (IsSound-more (c.tokens_last.ensures.begun, c.tokens_last.ensures.given, c.tokens_last.ensures.opened) known (entry_of known client.number (AfterCall c.args.mark)) client refl c.requires.sound)
+    subst (λ (k : Known). IsSound k client) (sym c.in-Ok.ensures.answer.log) (IsSound-more (c.tokens_last.ensures.begun, c.tokens_last.ensures.given, c.tokens_last.ensures.opened, c.tokens_last.ensures.called) known (entry_of known client.number (AfterCall c.args.mark)) client refl c.requires.sound)

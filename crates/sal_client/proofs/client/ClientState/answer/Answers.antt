@@ -11,5 +11,5 @@ returns-clause-meets c known is of =
 pub returns-clause-sound : goal.returns-clause-sound
 returns-clause-sound c = record {
   steady = λ known is. IsSteady-same known c.meet_local.new.self _ (c.in_ok-reply.ensures.sound.steady known is) refl refl;
-  sound = λ known is. IsSound-same known c.meet_local.new.self _ (c.in_ok-reply.ensures.sound.sound known is) refl refl refl (refl, refl);
+  sound = λ known is. IsSound-same known c.meet_local.new.self _ (c.in_ok-reply.ensures.sound.sound known is) refl refl refl (refl, refl, refl);
 }

@@ -18,7 +18,7 @@ use Rattle.sal_client.proofs.Answering.{called, made_refused, submit-writable}
 use Rattle.sal_client.proofs.client.ClientState.submit.Goals as goal
 
 pub returns-in_ok-fill_slot-in-Ok-clause-answers : goal.returns-in_ok-fill_slot-in-Ok-clause-answers
-returns-in_ok-fill_slot-in-Ok-clause-answers c table =
+returns-in_ok-fill_slot-in-Ok-clause-answers c tables =
     let old = c.args.self.now in
     let known = c.args.hub.now in
     let tx = c.in-Some-Write.tx in
@@ -27,7 +27,7 @@ returns-in_ok-fill_slot-in-Ok-clause-answers c table =
     let emptied = seen-emptied open_of (held old.transactions) (held c.take_slot.new.slots) c.args.slot c.take_slot.ensures.after in
     let filled = seen-filled number_of (held old.receipts) (held c.fill_slot.new.slots) c.args.slot c.in-Ok.receipt c.in_ok-fill_slot-in-Ok.ensures in (
       call,
-      called table c.called.result old.number known (client_of old) (Submit c.args.slot) c.submit.new.self _ call _ (submit-writable (client_of old) (opened old c.args.slot) (open_of (Write tx)) found c.requires.writable) c.in-Ok.ensures.answer
+      called tables c.called.result old.number known (client_of old) (Submit c.args.slot) c.submit.new.self _ call _ (submit-writable (client_of old) (opened old c.args.slot) (open_of (Write tx)) found c.requires.writable) c.in-Ok.ensures.answer
           (c.called.ensures ∙ ap (λ n. Called (Receipt n)) c.number-number.ensures) (λ i. record (client_of old) { transactions = emptied i; receipts = filled i }),
     )
 
@@ -36,8 +36,8 @@ returns-in_ok-fill_slot-in-Ok-clause-sound c =
     let old = c.args.self.now in
     let known = c.args.hub.now in
     let tx = c.in-Some-Write.tx in
-    let was : IsSound c.submit.new.self old = subst (λ (k : Known). IsSound k old) (sym c.in-Ok.ensures.answer.log) (IsSound-more (c.tokens_last.ensures.begun, c.tokens_last.ensures.given, c.tokens_last.ensures.opened) known (entry_of known old.number (SubmitCall tx.begun.place tx.changes)) old refl c.requires.sound) in
-    IsSound-submitted c.submit.new.self old _ c.args.slot c.in-Ok.receipt was c.in-Ok.ensures.given c.take_slot.ensures.after c.in_ok-fill_slot-in-Ok.ensures refl (refl, refl)
+    let was : IsSound c.submit.new.self old = subst (λ (k : Known). IsSound k old) (sym c.in-Ok.ensures.answer.log) (IsSound-more (c.tokens_last.ensures.begun, c.tokens_last.ensures.given, c.tokens_last.ensures.opened, c.tokens_last.ensures.called) known (entry_of known old.number (SubmitCall tx.begun.place tx.changes)) old refl c.requires.sound) in
+    IsSound-submitted c.submit.new.self old _ c.args.slot c.in-Ok.receipt was c.in-Ok.ensures.given c.take_slot.ensures.after c.in_ok-fill_slot-in-Ok.ensures refl (refl, refl, refl)
 
 -- a transaction that was refused is put back
 restored : (c : goal.In_ok-fill_slot-in-Err) → held c.fill_slot-in-Err.new.slots ≡ held c.args.self.now.transactions
@@ -48,7 +48,7 @@ restored c =
     (c.in_ok-fill_slot-in-Err.ensures ∙ ap (λ (w : Writing). set_slot c.args.slot (Some (Write w)) (held c.take_slot.new.slots)) c.in-Err.ensures.answer.0)
 
 pub returns-in_ok-fill_slot-in-Err-clause-answers : goal.returns-in_ok-fill_slot-in-Err-clause-answers
-returns-in_ok-fill_slot-in-Err-clause-answers c table =
+returns-in_ok-fill_slot-in-Err-clause-answers c tables =
     let old = c.args.self.now in
     let known = c.args.hub.now in
     let tx = c.in-Some-Write.tx in
@@ -59,7 +59,7 @@ returns-in_ok-fill_slot-in-Err-clause-answers c table =
     let made = made_refused known c.submit.new.self e fault fails c.in_ok-reply-in-Err.ensures.full c.in_ok-reply-in-Err.ensures.memory in
     let found : opened old c.args.slot ≡ Some (open_of (Write tx)) = ap (option_map open_of) (sym c.in-Some-Write.ensures.value) ∙ ap (λ (t : Tx). Some (open_of t)) c.in-Some-Write.field-0-is in (
       call,
-      called table c.in_ok-reply-in-Err.reply old.number known (client_of old) (Submit c.args.slot) c.submit.new.self _ call (Refused fault) (submit-writable (client_of old) (opened old c.args.slot) (open_of (Write tx)) found c.requires.writable) made
+      called tables c.in_ok-reply-in-Err.reply old.number known (client_of old) (Submit c.args.slot) c.submit.new.self _ call (Refused fault) (submit-writable (client_of old) (opened old c.args.slot) (open_of (Write tx)) found c.requires.writable) made
           c.in_ok-reply-in-Err.ensures.reply (λ i. record (client_of old) { transactions = λ k. option_map open_of (restored c i k) }),
     )
 
@@ -71,5 +71,5 @@ returns-in_ok-fill_slot-in-Err-clause-sound c =
     let fault = c.in-Err.fault in
     let fails = c.in-Err.ensures.answer.1 in
     let made = made_refused known c.submit.new.self e fault fails c.in_ok-reply-in-Err.ensures.full c.in_ok-reply-in-Err.ensures.memory in
-    let was : IsSound c.submit.new.self old = subst (λ (k : Known). IsSound k old) (sym made.log) (IsSound-more (c.tokens_last.ensures.begun, c.tokens_last.ensures.given, c.tokens_last.ensures.opened) known e old refl c.requires.sound) in
-    IsSound-same c.submit.new.self old _ was (restored c) refl refl (refl, refl)
+    let was : IsSound c.submit.new.self old = subst (λ (k : Known). IsSound k old) (sym made.log) (IsSound-more (c.tokens_last.ensures.begun, c.tokens_last.ensures.given, c.tokens_last.ensures.opened, c.tokens_last.ensures.called) known e old refl c.requires.sound) in
+    IsSound-same c.submit.new.self old _ was (restored c) refl refl (refl, refl, refl)

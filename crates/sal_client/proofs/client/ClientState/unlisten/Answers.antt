@@ -21,29 +21,29 @@ unlisten-requires c =
     record { token = token_of c.args.hub.now c.args.self.now.number f (c.requires.sound.listeners c.args.slot f (sym c.in-Some.ensures)) }
 
 pub returns-in-Ok-clause-answers : goal.returns-in-Ok-clause-answers
-returns-in-Ok-clause-answers c table =
+returns-in-Ok-clause-answers c tables =
     let client = c.args.self.now in
     let known = c.args.hub.now in
     let f = c.in-Some.follower.now in
     let found : held client.listeners c.args.slot ≡ Some f = sym c.in-Some.ensures in
     let call = UnlistenCall f.id.number in
-    (call, called table c.called.result client.number known (client_of client) (Unlisten c.args.slot) c.unlisten.new.self (client_of client) call _ (ap (λ o. unlisten (client_of client) (option_map listener_of o)) found) c.in-Ok.ensures.answer c.called.ensures refl)
+    (call, called tables c.called.result client.number known (client_of client) (Unlisten c.args.slot) c.unlisten.new.self (client_of client) call _ (ap (λ o. unlisten (client_of client) (option_map listener_of o)) found) c.in-Ok.ensures.answer c.called.ensures refl)
 
 pub returns-in-Ok-clause-sound : goal.returns-in-Ok-clause-sound
 returns-in-Ok-clause-sound c =
     let client = c.args.self.now in
     let known = c.args.hub.now in
-    subst (λ (k : Known). IsSound k client) (sym c.in-Ok.ensures.answer.log) (IsSound-more (c.tokens_last.ensures.begun, c.tokens_last.ensures.given, c.tokens_last.ensures.opened) known (entry_of known client.number (UnlistenCall c.in-Some.follower.now.id.number)) client refl c.requires.sound)
+    subst (λ (k : Known). IsSound k client) (sym c.in-Ok.ensures.answer.log) (IsSound-more (c.tokens_last.ensures.begun, c.tokens_last.ensures.given, c.tokens_last.ensures.opened, c.tokens_last.ensures.called) known (entry_of known client.number (UnlistenCall c.in-Some.follower.now.id.number)) client refl c.requires.sound)
 
 pub returns-in_ok-reply-in-Err-clause-answers : goal.returns-in_ok-reply-in-Err-clause-answers
-returns-in_ok-reply-in-Err-clause-answers c table =
+returns-in_ok-reply-in-Err-clause-answers c tables =
     let client = c.args.self.now in
     let known = c.args.hub.now in
     let f = c.in-Some.follower.now in
     let found : held client.listeners c.args.slot ≡ Some f = sym c.in-Some.ensures in
     let call = UnlistenCall f.id.number in
     let made = made_refused known c.unlisten.new.self (entry_of known client.number call) c.in-Err.fault c.in-Err.ensures.answer c.in_ok-reply-in-Err.ensures.full c.in_ok-reply-in-Err.ensures.memory in
-    (call, called table c.in_ok-reply-in-Err.reply client.number known (client_of client) (Unlisten c.args.slot) c.unlisten.new.self (client_of client) call (Refused c.in-Err.fault) (ap (λ o. unlisten (client_of client) (option_map listener_of o)) found) made c.in_ok-reply-in-Err.ensures.reply refl)
+    (call, called tables c.in_ok-reply-in-Err.reply client.number known (client_of client) (Unlisten c.args.slot) c.unlisten.new.self (client_of client) call (Refused c.in-Err.fault) (ap (λ o. unlisten (client_of client) (option_map listener_of o)) found) made c.in_ok-reply-in-Err.ensures.reply refl)
 
 pub returns-in_ok-reply-in-Err-clause-sound : goal.returns-in_ok-reply-in-Err-clause-sound
 returns-in_ok-reply-in-Err-clause-sound c =
@@ -51,4 +51,4 @@ returns-in_ok-reply-in-Err-clause-sound c =
     let known = c.args.hub.now in
     let e = entry_of known client.number (UnlistenCall c.in-Some.follower.now.id.number) in
     let made = made_refused known c.unlisten.new.self e c.in-Err.fault c.in-Err.ensures.answer c.in_ok-reply-in-Err.ensures.full c.in_ok-reply-in-Err.ensures.memory in
-    subst (λ (k : Known). IsSound k client) (sym made.log) (IsSound-more (c.tokens_last.ensures.begun, c.tokens_last.ensures.given, c.tokens_last.ensures.opened) known e client refl c.requires.sound)
+    subst (λ (k : Known). IsSound k client) (sym made.log) (IsSound-more (c.tokens_last.ensures.begun, c.tokens_last.ensures.given, c.tokens_last.ensures.opened, c.tokens_last.ensures.called) known e client refl c.requires.sound)

@@ -8,16 +8,16 @@ use Rattle.sal_client.proofs.Soundness.{HasSchema-sound}
 use Rattle.sal_client.proofs.run.ClientRun.go.Goals as goal
 
 pub next-requires-clause-schema : goal.next-requires-clause-schema
-next-requires-clause-schema g c κs _ = HasSchema-sound c.args.reader.now c.args.hub.now c.args.self.now.client c.requires.run.sound.steady c.requires.table
+next-requires-clause-schema g c κs _ = HasSchema-sound c.args.readers.now c.args.hub.now c.args.self.now.client c.requires.run.sound.steady c.requires.tables
 
 pub returns-in-Ok-clause-goes : goal.returns-in-Ok-clause-goes
 returns-in-Ok-clause-goes g c =
-    let table = c.args.reader.now in
+    let tables = c.args.readers.now in
     let steps = c.args.steps.now in
     let known = c.args.hub.now in
     let old = c.args.self.now in
     let mid = c.next.new.self in
     let wish = c.in-Some.wish in
-    let comes = subst (λ (o : Option Wish). Comes table steps old o mid) c.in-Some.is c.in_ok-next.ensures.comes in
-    goes table old.client.number known c.make.new.hub wish steps old mid c.make.new.self comes
-    (λ read. subst (λ (n : ℕ). MakesNext table n known wish (client_of mid.client) c.make.new.hub (client_of c.make.new.self.client)) c.in_ok-next.ensures.number (c.in-Ok.ensures.makes table read)) c.in-Ok.ensures.at c.requires.run.sound c.requires.table
+    let comes = subst (λ (o : Option Wish). Comes tables steps old o mid) c.in-Some.is c.in_ok-next.ensures.comes in
+    goes tables old.client.number known c.make.new.hub wish steps old mid c.make.new.self comes
+    (λ read. subst (λ (n : ℕ). MakesNext tables n known wish (client_of mid.client) c.make.new.hub (client_of c.make.new.self.client)) c.in_ok-next.ensures.number (c.in-Ok.ensures.makes tables read)) c.in-Ok.ensures.at c.requires.run.sound c.requires.tables

@@ -4,7 +4,7 @@ use Rattle.sal_client.proofs.Going.{goes_on}
 use Rattle.sal_client.proofs.run.ClientRun.make.Goals as goal
 
 pub returns-clause-makes : goal.returns-clause-makes
-returns-clause-makes c table read =
+returns-clause-makes c tables read =
     let old = c.args.self.now.client in
     let between = client_of c.call.new.self in
-    goes_on table old.number c.args.hub.now c.call.new.hub c.args.wish.now (client_of old) between _ c.in_ok-reply.reply (c.in_ok-reply.ensures.answers table read) (λ i. record between { replies = c.in_ok-push.ensures.items i })
+    goes_on tables old.number c.args.hub.now c.call.new.hub c.args.wish (client_of old) between _ c.in_ok-reply.reply (c.in_ok-reply.ensures.answers tables read) (λ i. record between { replies = c.in_ok-push.ensures.items i })

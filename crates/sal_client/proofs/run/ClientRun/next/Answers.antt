@@ -16,9 +16,9 @@ pub loop-i-preserved : goal.loop-i-preserved
 loop-i-preserved g c =
     let step = c.index-steps-i.result in
     let was = c.loop-i.invariant in
-    let table = c.args.reader.now in
+    let tables = c.args.readers.now in
     let met = c.in_ok-met.ensures in
-    let local = subst (λ o. Meets table c.loop-i.self.client (move_of step) o c.meet.new.self) c.in-None.is met.meets in
+    let local = subst (λ o. Meets tables c.loop-i.self.client (move_of step) o c.meet.new.self) c.in-None.is met.meets in
     record {
       at = refl;
       from = omega (arith, was.from);
@@ -26,17 +26,17 @@ loop-i-preserved g c =
       schema = met.schema;
       sound = record { steady = λ known is. met.sound.steady known (was.sound.steady known is); sound = λ known is. met.sound.sound known (was.sound.sound known is) };
       number = met.number ∙ was.number;
-      rest = λ known is of. was.rest known is of ∙ local_turn table known (client_of c.loop-i.self.client) (client_of c.meet.new.self) c.args.steps.now c.loop-i.i step c.loop-i-test.true c.index-steps-i.is (local known (was.sound.steady known is) of);
+      rest = λ known is of. was.rest known is of ∙ local_turn tables known (client_of c.loop-i.self.client) (client_of c.meet.new.self) c.args.steps.now c.loop-i.i step c.loop-i-test.true c.index-steps-i.is (local known (was.sound.steady known is) of);
     }
 
 pub returns-in-Some-clause-comes : goal.returns-in-Some-clause-comes
 returns-in-Some-clause-comes g c =
     let step = c.index-steps-i.result in
     let was = c.loop-i.invariant in
-    let table = c.args.reader.now in
+    let tables = c.args.readers.now in
     let met = c.in_ok-met.ensures in
-    let asks = subst (λ o. Meets table c.loop-i.self.client (move_of step) o c.meet.new.self) c.in-Some.is met.meets in (
-      λ known is of. was.rest known is of ∙ asks_turn table known (client_of c.loop-i.self.client) (client_of c.meet.new.self) c.args.steps.now c.loop-i.i step c.in-Some.wish c.loop-i-test.true c.index-steps-i.is asks.0 asks.3,
+    let asks = subst (λ o. Meets tables c.loop-i.self.client (move_of step) o c.meet.new.self) c.in-Some.is met.meets in (
+      λ known is of. was.rest known is of ∙ asks_turn tables known (client_of c.loop-i.self.client) (client_of c.meet.new.self) c.args.steps.now c.loop-i.i step c.in-Some.wish c.loop-i-test.true c.index-steps-i.is asks.0 asks.3,
       asks.1,
       asks.2,
       omega (arith, was.from),

@@ -10,8 +10,8 @@ invariant-loop-i g l = record {
   at : l.self.at ≡ l.i;
   from : l.initial.self.at ≤ l.i;
   program : IsProgram l.steps l.self;
-  schema : HasSchema l.reader l.self.client;
+  schema : HasSchema l.readers l.self.client;
   sound : StaysSound l.initial.self.client l.self.client;
   number : l.self.client.number ≡ l.initial.self.client.number;
-  rest : Everywhere l.reader l.initial.self.client (λ known. arrive l.reader known.world known.log (client_of l.initial.self.client) (moves_from l.initial.self.at l.steps) ≡ arrive l.reader known.world known.log (client_of l.self.client) (moves_from l.i l.steps));
+  rest : Everywhere l.readers l.initial.self.client (λ known. arrive l.readers known.world known.log (client_of l.initial.self.client) (moves_from l.initial.self.at l.steps) ≡ arrive l.readers known.world known.log (client_of l.self.client) (moves_from l.i l.steps));
 }

@@ -10,6 +10,6 @@ invariant-loop-i g l = record {
   log : l.self.hub ≡ l.initial.self.hub;
   long : length l.self.runs.items ≡ length l.initial.self.runs.items;
   rest : drop l.i l.self.runs.items ≡ drop l.i l.initial.self.runs.items;
-  replies : with_replies (map replies_in (take l.i l.self.runs.items)) (replies_of l.reader l.initial.self.hub.world l.initial.self.hub.log (runs_of (drop l.i l.programs) (drop l.i l.initial.self.runs.items)))
-      ≡ replies_of l.reader l.initial.self.hub.world l.initial.self.hub.log (runs_of l.programs l.initial.self.runs.items);
+  replies : with_replies (map replies_in (take l.i l.self.runs.items)) (replies_of l.readers l.initial.self.hub.world l.initial.self.hub.log (runs_of (drop l.i l.programs) (drop l.i l.initial.self.runs.items)))
+      ≡ replies_of l.readers l.initial.self.hub.world l.initial.self.hub.log (runs_of l.programs l.initial.self.runs.items);
 }

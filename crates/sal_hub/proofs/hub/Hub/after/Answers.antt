@@ -14,31 +14,31 @@ invariant_of-self-then-has c =
     let j = c.self.inside.journal in
     let p = c.self.inside.pipeline in
     let whole = c.self.invariant in
-    whole_steady j c.add.new.self p p c.self.inside.chains c.self.inside.marks c.self.inside.listeners whole
-    (quiet_kept j c.add.new.self p whole.kept c.args.client (After c.args.mark) c.in-Ok.ensures.log refl refl (λ k. refl) refl c.in-Ok.ensures.marks)
-    (entry_of (known_of j p) c.args.client (After c.args.mark)) (λ m. refl) refl (longer_now j c.add.new.self p c.self.inside.chains c.self.inside.marks c.self.inside.listeners whole c.args.client (After c.args.mark) c.in-Ok.ensures.log) refl (λ id. refl) (λ id. refl) refl
+    whole_steady j c.add.new.self p p c.self.inside.chains c.self.inside.marks c.self.inside.listeners c.self.inside.services whole
+    (quiet_kept j c.add.new.self p whole.kept c.args.client (After c.args.mark) c.in-Ok.ensures.log refl refl refl (λ k. refl) refl c.in-Ok.ensures.marks)
+    (entry_of (known_of j p) c.args.client (After c.args.mark)) (λ m. refl) refl refl (longer_now j c.add.new.self p c.self.inside.chains c.self.inside.marks c.self.inside.listeners c.self.inside.services whole c.args.client (After c.args.mark) c.in-Ok.ensures.log) refl (λ id. refl) (λ id. refl) refl
 
 pub returns-then-has-clause-answer : goal.returns-then-has-clause-answer
 returns-then-has-clause-answer c =
     let j = c.self.inside.journal in
     let p = c.self.inside.pipeline in
     let room : length j.log < 1000000 = grind (arith, common_steps) in
-    made_over j c.add.new.self p c.self.inside.chains c.self.inside.marks c.self.inside.listeners c.self.invariant c.args.client (After c.args.mark) c.in-Ok.ensures.log c.args.self.now Found c.self.view_is room
-    (seen_now j p c.self.inside.chains c.self.inside.marks c.self.inside.listeners c.args.client c.args.mark true c.self.invariant (sym c.has.ensures ∙ c.if-has.true))
+    made_over j c.add.new.self p c.self.inside.chains c.self.inside.marks c.self.inside.listeners c.self.inside.services c.self.invariant c.args.client (After c.args.mark) c.in-Ok.ensures.log c.args.self.now Found c.self.view_is room
+    (seen_now j p c.self.inside.chains c.self.inside.marks c.self.inside.listeners c.self.inside.services c.args.client c.args.mark true c.self.invariant (sym c.has.ensures ∙ c.if-has.true))
 
 pub invariant_of-self-2 : goal.invariant_of-self-2
 invariant_of-self-2 c =
     let j = c.self.inside.journal in
     let p = c.self.inside.pipeline in
     let whole = c.self.invariant in
-    whole_steady j c.add.new.self p p c.self.inside.chains c.self.inside.marks c.self.inside.listeners whole
-    (quiet_kept j c.add.new.self p whole.kept c.args.client (After c.args.mark) c.in-Ok.ensures.log refl refl (λ k. refl) refl c.in-Ok.ensures.marks)
-    (entry_of (known_of j p) c.args.client (After c.args.mark)) (λ m. refl) refl (longer_now j c.add.new.self p c.self.inside.chains c.self.inside.marks c.self.inside.listeners whole c.args.client (After c.args.mark) c.in-Ok.ensures.log) refl (λ id. refl) (λ id. refl) refl
+    whole_steady j c.add.new.self p p c.self.inside.chains c.self.inside.marks c.self.inside.listeners c.self.inside.services whole
+    (quiet_kept j c.add.new.self p whole.kept c.args.client (After c.args.mark) c.in-Ok.ensures.log refl refl refl (λ k. refl) refl c.in-Ok.ensures.marks)
+    (entry_of (known_of j p) c.args.client (After c.args.mark)) (λ m. refl) refl refl (longer_now j c.add.new.self p c.self.inside.chains c.self.inside.marks c.self.inside.listeners c.self.inside.services whole c.args.client (After c.args.mark) c.in-Ok.ensures.log) refl (λ id. refl) (λ id. refl) refl
 
 pub returns-clause-answer : goal.returns-clause-answer
 returns-clause-answer c =
     let j = c.self.inside.journal in
     let p = c.self.inside.pipeline in
     let room : length j.log < 1000000 = grind (arith, common_steps) in
-    made_over j c.add.new.self p c.self.inside.chains c.self.inside.marks c.self.inside.listeners c.self.invariant c.args.client (After c.args.mark) c.in-Ok.ensures.log c.args.self.now Late c.self.view_is room
-    (seen_now j p c.self.inside.chains c.self.inside.marks c.self.inside.listeners c.args.client c.args.mark false c.self.invariant (sym c.has.ensures ∙ c.if-has.false))
+    made_over j c.add.new.self p c.self.inside.chains c.self.inside.marks c.self.inside.listeners c.self.inside.services c.self.invariant c.args.client (After c.args.mark) c.in-Ok.ensures.log c.args.self.now Late c.self.view_is room
+    (seen_now j p c.self.inside.chains c.self.inside.marks c.self.inside.listeners c.self.inside.services c.args.client c.args.mark false c.self.invariant (sym c.has.ensures ∙ c.if-has.false))

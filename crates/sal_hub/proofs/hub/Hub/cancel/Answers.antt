@@ -16,6 +16,6 @@ invariant_of-self-2 c =
     let whole = c.self.invariant in
     let place = c.place_of-place.result in
     let log : c.spend.new.self.log ≡ jotted j.log c.args.client (Cancel place) = c.spend.ensures.log ∙ c.in-Ok.ensures.log in
-    whole_steady j c.spend.new.self p p c.self.inside.chains c.self.inside.marks c.self.inside.listeners whole
+    whole_steady j c.spend.new.self p p c.self.inside.chains c.self.inside.marks c.self.inside.listeners c.self.inside.services whole
     (cancel_kept j c.spend.new.self p whole.kept c.args.client place log (λ k. c.spend.ensures.marks k ∙ ap (λ b. nat_eq place k || b) (c.in-Ok.ensures.marks k)))
-    (entry_of (known_of j p) c.args.client (Cancel place)) (λ m. refl) refl (longer_now j c.spend.new.self p c.self.inside.chains c.self.inside.marks c.self.inside.listeners whole c.args.client (Cancel place) log) refl (λ id. refl) (λ id. refl) refl
+    (entry_of (known_of j p) c.args.client (Cancel place)) (λ m. refl) refl refl (longer_now j c.spend.new.self p c.self.inside.chains c.self.inside.marks c.self.inside.listeners c.self.inside.services whole c.args.client (Cancel place) log) refl (λ id. refl) (λ id. refl) refl

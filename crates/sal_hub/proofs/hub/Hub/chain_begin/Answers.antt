@@ -14,5 +14,5 @@ invariant_of-self c =
     let j = c.self.inside.journal in
     let p = c.self.inside.pipeline in
     let done = c.chain_begin.ensures in
-    whole_chained j c.chain_begin.new.journal p p c.self.inside.chains c.self.inside.marks c.self.inside.listeners c.self.invariant done.kept (entry_of (known_of j p) c.args.client (ChainBegin c.args.chain.now.id c.args.mode)) (λ m. refl)
-    c.chain_begin.new.chains (λ (tx : Tx). Begun (begun_of tx).base_commit (begun_of tx).on) c.chain_begin.result refl done.chains done.answer
+    whole_chained j c.chain_begin.new.journal p p c.self.inside.chains c.self.inside.marks c.self.inside.listeners c.self.inside.services c.self.invariant done.kept (entry_of (known_of j p) c.args.client (ChainBegin c.args.chain.now.id c.args.mode)) (λ m. refl)
+    c.chain_begin.new.chains (λ (tx : Tx). Begun (begun_of tx).base_commit (begun_of tx).on) c.chain_begin.result refl refl done.chains done.answer

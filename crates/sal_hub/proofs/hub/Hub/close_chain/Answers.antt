@@ -33,8 +33,8 @@ invariant_of-self c =
     let long : length c.close_chain.new.closed ≡ cs.closed.len = ap length done.closed ∙ length-set c.deref_mut.result.now (c.id.result - 1) true ∙ c.deref_mut.ensures.len in
     let room : length j.log < 1000000 = grind (arith, common_steps) in
     let cs' : Chains = record { domains = cs.domains; closed = with_items cs.closed c.close_chain.new.closed; begun = cs.begun; sent = cs.sent } in
-    close_whole j c.close_chain.new.journal p p cs ms c.self.inside.listeners whole (quiet_kept j c.close_chain.new.journal p whole.kept c.args.client (CloseChain chain.id) log refl refl (λ k. refl) refl done.marks)
-    c.args.client (entries_of j.log c.args.client) chain.id token.0 high c.in-Ok-true.field-0 was (longer_now j c.close_chain.new.journal p cs ms c.self.inside.listeners whole c.args.client (CloseChain chain.id) log)
+    close_whole j c.close_chain.new.journal p p cs ms c.self.inside.listeners c.self.inside.services whole (quiet_kept j c.close_chain.new.journal p whole.kept c.args.client (CloseChain chain.id) log refl refl refl (λ k. refl) refl done.marks)
+    c.args.client (entries_of j.log c.args.client) chain.id token.0 high c.in-Ok-true.field-0 was (longer_now j c.close_chain.new.journal p cs ms c.self.inside.listeners c.self.inside.services whole c.args.client (CloseChain chain.id) log)
     cs' room refl (with_items_is cs.closed c.close_chain.new.closed long ∙ closed) refl refl
 
 pub invariant_of-self-2 : goal.invariant_of-self-2
@@ -55,8 +55,8 @@ invariant_of-self-2 c =
     let long : length c.close_chain.new.closed ≡ cs.closed.len = ap length done.closed ∙ length-set c.deref_mut.result.now (c.id.result - 1) true ∙ c.deref_mut.ensures.len in
     let room : length j.log < 1000000 = grind (arith, common_steps) in
     let cs' : Chains = record { domains = cs.domains; closed = with_items cs.closed c.close_chain.new.closed; begun = cs.begun; sent = cs.sent } in
-    close_whole j c.close_chain.new.journal p p cs ms c.self.inside.listeners whole (quiet_kept j c.close_chain.new.journal p whole.kept c.args.client (CloseChain chain.id) log refl refl (λ k. refl) refl done.marks)
-    c.args.client (entries_of j.log c.args.client) chain.id token.0 high c.in-Ok-false.field-0 was (longer_now j c.close_chain.new.journal p cs ms c.self.inside.listeners whole c.args.client (CloseChain chain.id) log)
+    close_whole j c.close_chain.new.journal p p cs ms c.self.inside.listeners c.self.inside.services whole (quiet_kept j c.close_chain.new.journal p whole.kept c.args.client (CloseChain chain.id) log refl refl refl (λ k. refl) refl done.marks)
+    c.args.client (entries_of j.log c.args.client) chain.id token.0 high c.in-Ok-false.field-0 was (longer_now j c.close_chain.new.journal p cs ms c.self.inside.listeners c.self.inside.services whole c.args.client (CloseChain chain.id) log)
     cs' room refl (with_items_is cs.closed c.close_chain.new.closed long ∙ closed) refl refl
 
 pub invariant_of-self-in-Err : goal.invariant_of-self-in-Err
@@ -67,5 +67,5 @@ invariant_of-self-in-Err c =
     let done = c.in-Err.ensures in
     let long : length c.close_chain.new.closed ≡ cs.closed.len = ap length done.same ∙ c.deref_mut.ensures.len in
     let cs' : Chains = record { domains = cs.domains; closed = with_items cs.closed c.close_chain.new.closed; begun = cs.begun; sent = cs.sent } in
-    chains_whole j c.close_chain.new.journal p cs cs' c.self.inside.marks c.self.inside.listeners c.self.invariant done.journal
+    chains_whole j c.close_chain.new.journal p cs cs' c.self.inside.marks c.self.inside.listeners c.self.inside.services c.self.invariant done.journal
     (record { domains = refl; closed = with_items_is cs.closed c.close_chain.new.closed long ∙ done.same ∙ c.deref_mut.ensures.value; begun = refl; sent = refl })

@@ -12,5 +12,5 @@ invariant_of-self c =
     let j = c.self.inside.journal in
     let p = c.self.inside.pipeline in
     let done = c.listen.ensures in
-    whole_heard j c.listen.new.journal p p c.self.inside.chains c.self.inside.marks c.self.inside.listeners c.self.invariant done.kept (entry_of (known_of j p) c.args.client (Listen c.args.domain c.args.store c.args.path.now)) (λ m. refl)
-    c.listen.new.self (listener_reply c.args.domain c.args.path.now) c.listen.result done.listeners done.answer (λ r. refl) (λ r id. refl) (λ r id. refl) (λ r. refl)
+    whole_heard j c.listen.new.journal p p c.self.inside.chains c.self.inside.marks c.self.inside.listeners c.self.inside.services c.self.invariant done.kept (entry_of (known_of j p) c.args.client (Listen c.args.domain c.args.store c.args.path.now)) (λ m. refl)
+    c.listen.new.self (listener_reply c.args.domain c.args.path.now) c.listen.result refl done.listeners done.answer (λ r. refl) (λ r id. refl) (λ r id. refl) (λ r. refl)

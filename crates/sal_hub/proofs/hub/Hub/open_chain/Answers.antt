@@ -13,5 +13,5 @@ invariant_of-self c =
     let j = c.self.inside.journal in
     let p = c.self.inside.pipeline in
     let done = c.open_chain.ensures in
-    whole_chained j c.open_chain.new.journal p c.open_chain.new.pipeline c.self.inside.chains c.self.inside.marks c.self.inside.listeners c.self.invariant done.kept (entry_of (known_of j p) c.args.client (OpenChain c.args.domain)) (λ m. refl)
-    c.open_chain.new.chains (λ (chain : Chain). Opened chain.id) c.open_chain.result refl done.chains done.answer
+    whole_chained j c.open_chain.new.journal p c.open_chain.new.pipeline c.self.inside.chains c.self.inside.marks c.self.inside.listeners c.self.inside.services c.self.invariant done.kept (entry_of (known_of j p) c.args.client (OpenChain c.args.domain)) (λ m. refl)
+    c.open_chain.new.chains (λ (chain : Chain). Opened chain.id) c.open_chain.result refl refl done.chains done.answer

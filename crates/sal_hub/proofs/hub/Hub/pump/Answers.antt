@@ -11,5 +11,5 @@ pub invariant_of-self : goal.invariant_of-self
 invariant_of-self c =
     let j = c.self.inside.journal in
     let p = c.self.inside.pipeline in
-    whole_called j c.pump.new.journal p c.pump.new.pipeline c.self.inside.chains c.self.inside.marks c.self.inside.listeners c.self.invariant c.pump.ensures.kept (entry_of (known_of j p) c.args.client Pump) (λ m. refl) pump_reply c.pump.result refl c.pump.ensures.answer
+    whole_called j c.pump.new.journal p c.pump.new.pipeline c.self.inside.chains c.self.inside.marks c.self.inside.listeners c.self.inside.services c.self.invariant c.pump.ensures.kept (entry_of (known_of j p) c.args.client Pump) (λ m. refl) pump_reply c.pump.result refl refl c.pump.ensures.answer
     (λ r. refl) (λ r id. refl) (λ r id. refl) (λ r. refl)

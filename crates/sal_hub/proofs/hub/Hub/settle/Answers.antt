@@ -12,5 +12,5 @@ pub invariant_of-self : goal.invariant_of-self
 invariant_of-self c =
     let j = c.self.inside.journal in
     let p = c.self.inside.pipeline in
-    whole_called j c.settle.new.journal p c.settle.new.pipeline c.self.inside.chains c.self.inside.marks c.self.inside.listeners c.self.invariant c.settle.ensures.kept (entry_of (known_of j p) c.args.client (Settle c.number-number.result)) (λ m. refl) (λ (o : Outcome). Settled 0 o) c.settle.result refl c.settle.ensures.answer
+    whole_called j c.settle.new.journal p c.settle.new.pipeline c.self.inside.chains c.self.inside.marks c.self.inside.listeners c.self.inside.services c.self.invariant c.settle.ensures.kept (entry_of (known_of j p) c.args.client (Settle c.args.receipt.number)) (λ m. refl) (λ (o : Outcome). Settled c.args.receipt.domain o) c.settle.result refl refl c.settle.ensures.answer
     (λ r. refl) (λ r id. refl) (λ r id. refl) (λ r. refl)

@@ -13,5 +13,5 @@ invariant_of-self c =
     let j = c.self.inside.journal in
     let p = c.self.inside.pipeline in
     let done = c.take.ensures in
-    whole_heard j c.take.new.journal p p c.self.inside.chains c.self.inside.marks c.self.inside.listeners c.self.invariant done.kept (entry_of (known_of j p) c.args.client (Take c.args.id.number)) (λ m. refl)
-    c.take.new.self (λ (b : Batch). Told c.args.id.domain b) c.take.result done.listeners done.answer (λ r. refl) (λ r id. refl) (λ r id. refl) (λ r. refl)
+    whole_heard j c.take.new.journal p p c.self.inside.chains c.self.inside.marks c.self.inside.listeners c.self.inside.services c.self.invariant done.kept (entry_of (known_of j p) c.args.client (Take c.args.id.number)) (λ m. refl)
+    c.take.new.self (λ (b : Batch). Told c.args.id.domain b) c.take.result refl done.listeners done.answer (λ r. refl) (λ r id. refl) (λ r id. refl) (λ r. refl)

@@ -1,5 +1,5 @@
--- The mark of the domain is the log's.
-use Rattle.std.proofs.Common.{◌<◌, length, sym, ◌∙◌, arith}
+-- The mark of the domain is the one that is kept.
+use Rattle.std.proofs.Common.{◌<◌, length, ◌∙◌, arith}
 use Rattle.std.proofs.lemmas.Grind.{common_steps}
 use Rattle.sal_hub.proofs.Serving.{live_at, shown_at}
 use Rattle.sal_hub.proofs.pipeline.Pipeline.live.Goals as goal
@@ -7,7 +7,7 @@ use Rattle.sal_hub.proofs.pipeline.Pipeline.live.Goals as goal
 pub returns-then-found-clause-live : goal.returns-then-found-clause-live
 returns-then-found-clause-live c =
     let h : c.args.domain < length c.args.self.now.domains.items = grind (arith, common_steps) in
-    sym (live_at c.args.self.now c.args.domain c.index-found.result.now c.requires.sound h c.index-found.ensures) ∙ c.if-found.true
+    live_at c.args.self.now c.args.domain c.index-found.result.now h c.index-found.ensures ∙ c.if-found.true
 
 pub returns-then-found-clause-found : goal.returns-then-found-clause-found
 returns-then-found-clause-found c =
@@ -17,4 +17,4 @@ returns-then-found-clause-found c =
 pub returns-else-found-clause-live : goal.returns-else-found-clause-live
 returns-else-found-clause-live c =
     let h : c.args.domain < length c.args.self.now.domains.items = grind (arith, common_steps) in
-    sym (live_at c.args.self.now c.args.domain c.index-found.result.now c.requires.sound h c.index-found.ensures) ∙ c.if-found.false
+    live_at c.args.self.now c.args.domain c.index-found.result.now h c.index-found.ensures ∙ c.if-found.false

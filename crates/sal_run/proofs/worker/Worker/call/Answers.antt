@@ -10,7 +10,7 @@ pub make-made-requires-clause-sound : goal.make-made-requires-clause-sound
 make-made-requires-clause-sound g c =
     let last = c.tokens_last.ensures in
     let enters = c.turn_for-held.ensures in
-    let found = found_stands (last.begun, last.given, last.opened) c.args.self.now.reader.now c.args.self.now.steps.now c.args.seat.view c.args.self.now.sal.now c.turn_for-held.result c.args.run.now (asking c.args.wish.now c.args.self.now.steps.now c.args.run.now) enters c.requires.stands in
+    let found = found_stands (last.begun, last.given, last.opened, last.called) c.args.self.now.readers.now c.args.self.now.steps.now c.args.seat.view c.args.self.now.sal.now c.turn_for-held.result c.args.run.now (asking c.args.wish c.args.self.now.steps.now c.args.run.now) enters c.requires.stands in
     subst (λ (k : Known). IsSound k c.args.run.now.client) (sym (c.hub.ensures.value ∙ enters.hub)) found.sound
 
 pub returns-in-Ok-clause-few : goal.returns-in-Ok-clause-few
@@ -21,12 +21,12 @@ returns-in-Ok-clause-few g c =
 pub returns-in-Ok-clause-goes : goal.returns-in-Ok-clause-goes
 returns-in-Ok-clause-goes g c made =
     let last = c.tokens_last.ensures in
-    let table = c.args.self.now.reader.now in
+    let tables = c.args.self.now.readers.now in
     let old = c.args.run.now in
     let new = c.make-made.new.self in
     let left = c.make-made.new.hub in
-    let makes = subst (λ (k : Known). MakesNext table old.client.number k c.args.wish.now (client_of old.client) left (client_of new.client)) c.hub.ensures.value (c.in-Ok.ensures.makes table c.requires.read) in
-    left_stands (last.begun, last.given, last.opened) table c.args.self.now.steps.now c.args.seat.view c.args.self.now.sal.now c.turn_for-held.result left c.leave-seat.result.view c.args.wish.now old new
+    let makes = subst (λ (k : Known). MakesNext tables old.client.number k c.args.wish (client_of old.client) left (client_of new.client)) c.hub.ensures.value (c.in-Ok.ensures.makes tables c.requires.read) in
+    left_stands (last.begun, last.given, last.opened, last.called) tables c.args.self.now.steps.now c.args.seat.view c.args.self.now.sal.now c.turn_for-held.result left c.leave-seat.result.view c.args.wish old new
     c.turn_for-held.ensures c.leave-seat.ensures.same.1 c.leave-seat.ensures.turn makes c.in-Ok.ensures.sound c.in-Ok.ensures.at c.in-Ok.ensures.number c.requires.stands
 
 pub returns-in-Err-clause-few : goal.returns-in-Err-clause-few

@@ -8,7 +8,7 @@ use Rattle.sal_run.proofs.worker.Worker.work.Given as goal
 abbrev pub invariant-loop-turn : goal.invariant-loop-turn
 invariant-loop-turn g l = record {
   keeps : Keeps l.self.sal.now l.fn.seat l.seat;
-  stands : Stands l.self.reader.now l.self.steps.now l.seat.view l.run (run_of l.self.steps.now l.run);
+  stands : Stands l.self.readers.now l.self.steps.now l.seat.view l.run (run_of l.self.steps.now l.run);
   room : length l.seat.view.own ≤ l.run.at;
   on : l._turn ≤ l.run.at;
 }

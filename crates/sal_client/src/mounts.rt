@@ -1,0 +1,105 @@
+//! The steps of a client for mounts.
+ghost use Rattle.std.specs.Prelude.{◌≡◌, IfOk, IfErr, OnOk};
+ghost use Rattle.sal_script.specs.Moves.{Mount, MountAt};
+ghost use Rattle.sal_client.specs.declared.wish.Wish.TheVariants.{Mount as MountCall};
+
+use crate::answers::{accepted, answer_to, mounted};
+use crate::client::ClientState;
+use crate::messages::path_at;
+use crate::readers::Readers;
+use crate::wish::{RunFault, Wish};
+use sal_hub::{Hub, laws};
+use sal_script::{StepRefusal, StepReply};
+use sal_types::{NoMemory, Path, Str};
+use std::alloc::Global;
+use std::snapshot::Snapshot;
+
+/// A call for mounts that a client is ready to make. The texts of paths are there for contracts alone.
+#[derive(Drop)]
+pub enum MountWish {
+    /// Mounts the device at the path.
+    Mount {
+        device: u32,
+        text: Snapshot<Str>,
+        path: Path,
+    },
+    /// Unmounts the domain.
+    Unmount {
+        domain: u32,
+    },
+    /// Asks which domain is mounted at the path.
+    MountAt {
+        text: Snapshot<Str>,
+        path: Path,
+    },
+}
+
+impl ClientState {
+    ghost use Rattle.sal_client.specs.Clients.{client_of, IsSound};
+    ghost use Rattle.sal_client.specs.Wishes.{GrowsAtMost, MakesFor, Stops, Wants};
+
+    /// To mount the device at the path of the text, where it is one.
+    pub(crate) fn mount_wish(
+        &self,
+        alloc: Global,
+        readers: &Readers,
+        device: u32,
+        text: &Str,
+    ) -> Result<Result<Wish, StepRefusal>, NoMemory>
+        ensures { IfOk result (Wants readers.now self.now (Mount device text.now)) }
+    {
+        match path_at(alloc, readers.own(), text)? {
+            Ok(path) => Ok(Ok(Wish::Mount(MountWish::Mount {
+                device,
+                text: Snapshot::of(text),
+                path,
+            }))),
+            Err(refusal) => Ok(Err(refusal)),
+        }
+    }
+
+    /// To ask which domain is mounted at the path of the text, where it is one.
+    pub(crate) fn mount_at_wish(
+        &self,
+        alloc: Global,
+        readers: &Readers,
+        text: &Str,
+    ) -> Result<Result<Wish, StepRefusal>, NoMemory>
+        ensures { IfOk result (Wants readers.now self.now (MountAt text.now)) }
+    {
+        match path_at(alloc, readers.own(), text)? {
+            Ok(path) => Ok(Ok(Wish::Mount(MountWish::MountAt {
+                text: Snapshot::of(text),
+                path,
+            }))),
+            Err(refusal) => Ok(Err(refusal)),
+        }
+    }
+
+    /// Makes the call for mounts. It changes no slot.
+    pub(crate) fn call_mount(
+        &self,
+        alloc: Global,
+        hub: &mut Hub,
+        wish: MountWish,
+    ) -> Result<StepReply, RunFault>
+        requires sound { IsSound hub.old self.now }
+        ensures answers { IfOk result (MakesFor (MountCall wish) self.now.number hub.old (client_of self.now) hub.new (client_of self.now)) }
+        ensures sound { OnOk result (IsSound hub.new self.now) }
+        ensures grows { GrowsAtMost self.now.number hub.old hub.new }
+        ensures stops { IfErr result (Stops self.now.number hub.old hub.new) }
+    {
+        laws::tokens_last();
+        match wish {
+            MountWish::Mount { device, path, .. } => {
+                answer_to(accepted(hub.mount(alloc, self.number, &path, device)))
+            }
+            MountWish::Unmount { domain } => {
+                answer_to(accepted(hub.unmount(alloc, self.number, domain)))
+            }
+            MountWish::MountAt { path, .. } => {
+                answer_to(mounted(hub.mount_at(alloc, self.number, &path)))
+            }
+        }
+    }
+}

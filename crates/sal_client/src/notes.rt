@@ -1,0 +1,106 @@
+//! The steps of a client for notifications.
+ghost use Rattle.std.specs.Prelude.{◌≡◌, IfOk, IfErr, OnOk};
+ghost use Rattle.serde_json.specs.View.{view};
+ghost use Rattle.sal_script.specs.Moves.{Subscribe, Offer};
+ghost use Rattle.sal_client.specs.declared.wish.Wish.TheVariants.{Note as NoteCall};
+
+use crate::answers::{accepted, answer_to, notes, offered};
+use crate::client::ClientState;
+use crate::messages::{note_of, rows_under};
+use crate::readers::Readers;
+use crate::wish::{RunFault, Wish};
+use sal_hub::{Hub, laws};
+use sal_rows::Rows;
+use sal_script::{StepRefusal, StepReply};
+use sal_types::{NoMemory, Str};
+use serde_json::Value;
+use std::alloc::Global;
+use std::snapshot::Snapshot;
+
+/// A call for notifications that a client is ready to make. Names and values that were read are there for contracts alone.
+#[derive(Drop)]
+pub enum NoteWish {
+    /// Subscribes the client to the notification.
+    Subscribe {
+        name: Snapshot<Str>,
+        note: u32,
+    },
+    /// Offers the notification with these rows to its subscribers.
+    Offer {
+        name: Snapshot<Str>,
+        value: Snapshot<Value>,
+        note: u32,
+        rows: Rows,
+    },
+    /// Takes all notifications that wait for the client.
+    TakeNotes,
+}
+
+impl ClientState {
+    ghost use Rattle.sal_client.specs.Clients.{client_of, IsSound};
+    ghost use Rattle.sal_client.specs.Wishes.{GrowsAtMost, MakesFor, Stops, Wants};
+
+    /// To subscribe to the notification of this name, where there is one.
+    pub(crate) fn subscribe_wish(&self, readers: &Readers, name: &Str) -> Result<Wish, StepRefusal>
+        ensures { Wants readers.now self.now (Subscribe name.now) result }
+    {
+        match note_of(readers.own().schema(), name.as_str()) {
+            Ok(note) => Ok(Wish::Note(NoteWish::Subscribe {
+                name: Snapshot::of(name),
+                note,
+            })),
+            Err(refusal) => Err(refusal),
+        }
+    }
+
+    /// To offer the notification of this name, where the value is data of it.
+    pub(crate) fn offer_wish(
+        &self,
+        alloc: Global,
+        readers: &Readers,
+        name: &Str,
+        value: &Value,
+    ) -> Result<Result<Wish, StepRefusal>, NoMemory>
+        ensures { IfOk result (Wants readers.now self.now (Offer name.now (view value.now))) }
+    {
+        let reader = readers.own();
+        let note = match note_of(reader.schema(), name.as_str()) {
+            Ok(note) => note,
+            Err(refusal) => return Ok(Err(refusal)),
+        };
+        match rows_under(alloc, reader, note, value)? {
+            Ok(rows) => Ok(Ok(Wish::Note(NoteWish::Offer {
+                name: Snapshot::of(name),
+                value: Snapshot::of(value),
+                note,
+                rows,
+            }))),
+            Err(refusal) => Ok(Err(refusal)),
+        }
+    }
+
+    /// Makes the call for notifications. It changes no slot.
+    pub(crate) fn call_note(
+        &self,
+        alloc: Global,
+        hub: &mut Hub,
+        wish: NoteWish,
+    ) -> Result<StepReply, RunFault>
+        requires sound { IsSound hub.old self.now }
+        ensures answers { IfOk result (MakesFor (NoteCall wish) self.now.number hub.old (client_of self.now) hub.new (client_of self.now)) }
+        ensures sound { OnOk result (IsSound hub.new self.now) }
+        ensures grows { GrowsAtMost self.now.number hub.old hub.new }
+        ensures stops { IfErr result (Stops self.now.number hub.old hub.new) }
+    {
+        laws::tokens_last();
+        match wish {
+            NoteWish::Subscribe { note, .. } => {
+                answer_to(accepted(hub.subscribe(alloc, self.number, note)))
+            }
+            NoteWish::Offer { note, rows, .. } => {
+                answer_to(offered(hub.offer(alloc, self.number, note, rows)))
+            }
+            NoteWish::TakeNotes => answer_to(notes(hub.take_notes(alloc, self.number))),
+        }
+    }
+}

@@ -1,0 +1,162 @@
+//! The shared calls of a client for RPCs.
+ghost use Rattle.std.specs.Prelude.{◌≡◌, IfOk, IfErr, IsSome, OnOk};
+ghost use Rattle.sal_hub.specs.Routed.{request_reply};
+ghost use Rattle.sal_client.specs.Asked.{handed_with};
+ghost use Rattle.sal_client.specs.Slots.{held};
+ghost use Rattle.sal_client.specs.declared.rpcs.RpcWish.TheVariants.{Collect, Invoke, NextCall};
+ghost use Rattle.sal_client.specs.declared.wish.Wish.TheVariants.{Rpc as RpcCall};
+
+use crate::answers::{accepted, answer_to, output};
+use crate::calls::{called, refused_call};
+use crate::client::ClientState;
+use crate::messages::Service;
+use crate::rpcs::{Answer, Ask, Invocation, RpcWish};
+use crate::slots::{Slots, fill_slot, look_at};
+use crate::wish::RunFault;
+use sal_history::Reply;
+use sal_hub::{Hub, laws};
+use sal_rpc::Request;
+use sal_script::StepReply;
+use sal_types::NoMemory;
+use std::alloc::Global;
+
+// The answer to a look for the next request that is good.
+fn handed(found: Option<Request>) -> Reply
+    ensures { result ≡ request_reply found }
+{
+    match found {
+        Some(request) => Reply::Request { request },
+        None => Reply::Nothing,
+    }
+}
+
+// Puts the request, if there is one, into the slot.
+fn put_handed(
+    slots: &mut Slots<Invocation>,
+    slot: u8,
+    found: &Option<Request>,
+) -> Result<(), NoMemory>
+    ensures { OnOk result (held slots.new ≡ handed_with slot found.now (held slots.old)) }
+{
+    let Some(request) = found else {
+        return Ok(());
+    };
+    let invocation = Invocation {
+        id: request.id,
+        rpc: request.rpc,
+    };
+    fill_slot(slots, slot, invocation)
+}
+
+impl ClientState {
+    ghost use Rattle.sal_client.specs.Clients.{client_of, IsSound, Same};
+    ghost use Rattle.sal_client.specs.Wishes.{CanMake, GrowsAtMost, GrowsBy, MakesFor, Stops};
+
+    // Makes a request; its id goes into the slot.
+    fn invoke(
+        &mut self,
+        alloc: Global,
+        hub: &mut Hub,
+        slot: u8,
+        ask: Ask,
+    ) -> Result<StepReply, RunFault>
+        requires sound { IsSound hub.old self.old }
+        ensures grows { OnOk result (GrowsBy self.old.number hub.old hub.new) }
+        ensures answers { IfOk result (MakesFor (RpcCall (Invoke slot ask)) self.old.number hub.old (client_of self.old) hub.new (client_of self.new)) }
+        ensures sound { OnOk result (IsSound hub.new self.new) }
+        ensures same { OnOk result (Same self.old self.new) }
+        ensures stops { IfErr result (Stops self.old.number hub.old hub.new) }
+    {
+        laws::tokens_last();
+        let Ask { service, input, .. } = ask;
+        let Service { rpc, context, .. } = service;
+        match hub.invoke(alloc, self.number, rpc, context, input) {
+            Ok(id) => {
+                fill_slot(&mut self.invoked, slot, id)?;
+                let number = id.number();
+                Ok(called(Reply::CallMade { id: number }))
+            }
+            Err(fault) => {
+                let reply = refused_call(fault)?;
+                Ok(reply)
+            }
+        }
+    }
+
+    // Takes the next request that waits for the client into the slot.
+    fn next_call(&mut self, alloc: Global, hub: &mut Hub, slot: u8) -> Result<StepReply, RunFault>
+        requires sound { IsSound hub.old self.old }
+        ensures grows { OnOk result (GrowsBy self.old.number hub.old hub.new) }
+        ensures answers { IfOk result (MakesFor (RpcCall (NextCall slot)) self.old.number hub.old (client_of self.old) hub.new (client_of self.new)) }
+        ensures sound { OnOk result (IsSound hub.new self.new) }
+        ensures same { OnOk result (Same self.old self.new) }
+        ensures stops { IfErr result (Stops self.old.number hub.old hub.new) }
+    {
+        laws::tokens_last();
+        match hub.next_call(alloc, self.number) {
+            Ok(found) => {
+                put_handed(&mut self.handed, slot, &found)?;
+                Ok(called(handed(found)))
+            }
+            Err(fault) => {
+                let reply = refused_call(fault)?;
+                Ok(reply)
+            }
+        }
+    }
+
+    // Asks for the answer to the request in the slot.
+    fn collect(&self, alloc: Global, hub: &mut Hub, slot: u8) -> Result<StepReply, RunFault>
+        requires sound { IsSound hub.old self.now }
+        requires filled { IsSome (held self.now.invoked slot) }
+        ensures answers { IfOk result (MakesFor (RpcCall (Collect slot)) self.now.number hub.old (client_of self.now) hub.new (client_of self.now)) }
+        ensures sound { OnOk result (IsSound hub.new self.now) }
+        ensures grows { GrowsAtMost self.now.number hub.old hub.new }
+        ensures stops { IfErr result (Stops self.now.number hub.old hub.new) }
+    {
+        laws::tokens_last();
+        match look_at(&self.invoked, slot) {
+            None => unreachable!(),
+            Some(id) => answer_to(output(id.rpc(), hub.collect(alloc, self.number, *id))),
+        }
+    }
+
+    /// Makes the call for RPCs, and keeps what its answer leaves in the slots.
+    pub(crate) fn call_rpc(
+        &mut self,
+        alloc: Global,
+        hub: &mut Hub,
+        wish: RpcWish,
+    ) -> Result<StepReply, RunFault>
+        requires sound { IsSound hub.old self.old }
+        requires can { CanMake (RpcCall wish) self.old }
+        ensures answers { IfOk result (MakesFor (RpcCall wish) self.old.number hub.old (client_of self.old) hub.new (client_of self.new)) }
+        ensures sound { OnOk result (IsSound hub.new self.new) }
+        ensures same { OnOk result (Same self.old self.new) }
+        ensures grows { GrowsAtMost self.old.number hub.old hub.new }
+        ensures stops { IfErr result (Stops self.old.number hub.old hub.new) }
+    {
+        laws::tokens_last();
+        match wish {
+            RpcWish::Provide { service } => {
+                let Service { rpc, context, .. } = service;
+                answer_to(accepted(hub.provide(alloc, self.number, rpc, context)))
+            }
+            RpcWish::Withdraw { service } => {
+                let Service { rpc, context, .. } = service;
+                answer_to(accepted(hub.withdraw(alloc, self.number, rpc, context)))
+            }
+            RpcWish::Invoke { slot, ask } => self.invoke(alloc, hub, slot, ask),
+            RpcWish::NextCall { slot } => self.next_call(alloc, hub, slot),
+            RpcWish::Answer { answer, .. } => {
+                let Answer {
+                    request,
+                    output,
+                    ..
+                } = answer;
+                answer_to(accepted(hub.answer(alloc, self.number, request.id, output)))
+            }
+            RpcWish::Collect { slot } => self.collect(alloc, hub, slot),
+        }
+    }
+}

@@ -1,0 +1,82 @@
+//! The report of what a script came to: what was answered, and the trees of each domain that was told.
+ghost use Rattle.std.specs.Prelude.{◌≡◌, ◌<◌, ◌≤◌, All, IfOk, length, map};
+ghost use Rattle.sal_tree.specs.Rows.{rows_of};
+ghost use Rattle.sal_script.specs.Play.{tables_of};
+ghost use Rattle.sal_script.specs.Report as spec;
+ghost use Rattle.sal_command.specs.Scripted.{tables_in};
+
+use sal_client::Played;
+use sal_hub::Hub;
+use sal_report::{report, told_domains};
+use sal_rows::Rows;
+use sal_schema::Schema;
+use sal_script::DomainTrees;
+use sal_tree::Root;
+use sal_types::{NoMemory, Path, Str};
+use std::alloc::Global;
+use std::sync::Arc;
+
+/// The report of what was played, by the schemas of its domains.
+pub(crate) fn report_of(
+    alloc: Global,
+    schemas: &[Arc<Schema>],
+    played: &Played,
+) -> Result<Str, NoMemory>
+    requires schemas { tables_in schemas.now ≡ tables_of played.now.hub.world }
+    requires few { length schemas.now ≤ 64 }
+    ensures { IfOk result (λ text. text ≡ spec.report played.now.hub.world (record { log = played.now.hub.log; replies = played.now.replies })) }
+{
+    let trees = trees_of(alloc, &played.hub, schemas.len() as u32)?;
+    report(
+        alloc,
+        schemas,
+        played.hub.log(),
+        played.replies.items(),
+        &trees,
+    )
+}
+
+// The trees at the end of each domain that is told, of so many.
+fn trees_of(alloc: Global, hub: &Hub, domains: u32) -> Result<Vec<DomainTrees>, NoMemory>
+    requires { «domains» ≡ length hub.now.world }
+    ensures { IfOk result (λ trees. trees.items ≡ map (spec.trees_in hub.now.world hub.now.log) (spec.told_domains hub.now.world hub.now.log)) }
+{
+    let told = told_domains(alloc, domains, hub.log())?;
+    trees_in(alloc, hub, &told)
+}
+
+// The trees at the end of these domains.
+fn trees_in(alloc: Global, hub: &Hub, domains: &[u32]) -> Result<Vec<DomainTrees>, NoMemory>
+    requires { All (λ d. d < length hub.now.world) domains.now }
+    ensures { IfOk result (λ trees. trees.items ≡ map (spec.trees_in hub.now.world hub.now.log) domains.now) }
+{
+    let mut trees = Vec::with_capacity(alloc, domains.len())?;
+    for domain in domains {
+        trees.push(domain_trees(alloc, hub, *domain)?)?;
+    }
+    Ok(trees)
+}
+
+// The trees at the end of a domain.
+fn domain_trees(alloc: Global, hub: &Hub, domain: u32) -> Result<DomainTrees, NoMemory>
+    requires { domain < length hub.now.world }
+    ensures { IfOk result (λ trees. trees ≡ spec.trees_in hub.now.world hub.now.log domain) }
+{
+    let trees = hub.trees_of(domain);
+    let config = all_rows(alloc, &trees.config)?;
+    let oper = all_rows(alloc, &trees.oper)?;
+    Ok(DomainTrees {
+        domain,
+        commits: hub.newest_of(domain),
+        config,
+        oper,
+    })
+}
+
+// The rows of a tree.
+fn all_rows(alloc: Global, root: &Root) -> Result<Rows, NoMemory>
+    ensures { IfOk result (λ rows. rows ≡ rows_of root.now) }
+{
+    let rows = root.rows(alloc, &Path::root(alloc))?;
+    Ok(rows)
+}

@@ -1,0 +1,112 @@
+-- The calls on notifications among those of the log: what a call leaves, and what it is answered.
+use Rattle.std.proofs.Common.{◌≡◌, ℕ, ◌<◌, true, List, [], ◌∷◌, ◌++◌, length, Option, None, Some, refl, ap, sym, ◌∙◌, subst}
+use Rattle.std.specs.Option.{option_to_list}
+use Rattle.sal_note.specs.declared.call.NoteCall.{NoteCall}
+use Rattle.sal_note.specs.declared.call.NoteCall.TheVariants as notes
+use Rattle.sal_note.specs.declared.call.NoteFault.{NoteFault}
+use Rattle.sal_note.specs.declared.call.NoteFault.TheVariants as faults
+use Rattle.sal_note.specs.declared.call.NoteReply.{NoteReply}
+use Rattle.sal_note.specs.declared.call.NoteReply.TheVariants as replies
+use Rattle.sal_note.specs.Answers as queued
+use Rattle.sal_note.specs.Boxes.{Boxes, IsOf}
+use Rattle.sal_note.specs.Queues.{Asked}
+use Rattle.sal_history.specs.declared.call.Call.{Call}
+use Rattle.sal_history.specs.declared.call.Call.TheVariants.{Offer, Subscribe, TakeNotes}
+use Rattle.sal_history.specs.declared.call.Entry.{Entry}
+use Rattle.sal_history.specs.declared.reply.Reply.{Reply}
+use Rattle.sal_history.specs.World.{Domain}
+use Rattle.sal_history.specs.History.{Answered, entries_of, history, reply_to}
+use Rattle.sal_history.specs.Services.{by_notes, mount_call, note_asked, note_calls, note_fault, note_reply}
+use Rattle.sal_hub.specs.declared.pipeline.Pipeline.{Pipeline}
+use Rattle.sal_hub.specs.Answers.{Fails, Made}
+use Rattle.sal_hub.specs.Current.{IsKept, known_of}
+use Rattle.sal_hub.specs.Journals.{Noted, jotted, mark_at, taken_back}
+use Rattle.sal_hub.specs.Known.{Known, entry_of}
+use Rattle.sal_hub.specs.Notified.{AreNoted, left_by}
+use Rattle.sal_hub.proofs.Beginning.{made_now, quiet_kept}
+use Rattle.sal_hub.proofs.Histories.{note-push}
+use Rattle.sal_hub.proofs.Served.{is_serving, serving_undecided, serving_unopened, serving_unsent, serving_unspent}
+
+-- ---- the calls on notifications, as shared calls
+
+abbrev pub shared : NoteCall → Call
+shared (notes.Subscribe note) = Subscribe note
+shared (notes.Offer note rows) = Offer note rows
+shared notes.TakeNotes = TakeNotes
+
+asked_once : (client : ℕ) (c : NoteCall) → note_asked client (shared c) ≡ Some (record { client = client; call = c })
+asked_once client (notes.Subscribe note) = refl
+asked_once client (notes.Offer note rows) = refl
+asked_once client notes.TakeNotes = refl
+
+answered_by : (world : List Domain) (answered : List Answered) (client : ℕ) (c : NoteCall) → reply_to world answered client (shared c) ≡ by_notes answered client c
+answered_by world answered client (notes.Subscribe note) = refl
+answered_by world answered client (notes.Offer note rows) = refl
+answered_by world answered client notes.TakeNotes = refl
+
+-- they are none on mounts
+unmounting : (c : NoteCall) → mount_call (shared c) ≡ None
+unmounting (notes.Subscribe note) = refl
+unmounting c = refl
+
+serving : (c : NoteCall) → is_serving (shared c) ≡ true
+serving (notes.Subscribe note) = refl
+serving c = refl
+
+-- ---- a call of a client
+
+-- what a call leaves that answers with a fault
+pub record Failed (known : Known) (j : Noted) (p : Pipeline) (b : Boxes) (e : Entry) (fault : NoteFault) : Type 0 where
+  pub kept : IsKept j p
+  pub noted : AreNoted (known_of j p) b
+  pub answer : Fails known (known_of j p) e (note_fault fault)
+
+module _ (j j' : Noted) (p : Pipeline) (kept : IsKept j p) (client : ℕ) (c : NoteCall) (log : j'.log ≡ jotted j.log client (shared c)) (marks : (k : ℕ) → mark_at j'.marks k ≡ mark_at j.marks k) where
+  abbrev old : Known
+  old = known_of j p
+
+  abbrev answered : List Answered
+  answered = history (known_of j p).world j.log
+
+  abbrev calls : List Asked
+  calls = note_calls (history (known_of j p).world j.log)
+
+  pub entered_kept : IsKept j' p
+  entered_kept =
+      let call : Call = shared c in
+      let r : Reply = reply_to old.world answered client (shared c) in
+      quiet_kept j j' p kept client (shared c) log (unmounting c) (serving_unsent answered call (serving c) r) (serving_undecided old.world answered call (serving c)) (serving_unspent call (serving c) r)
+      (serving_unopened call (serving c) r) marks
+
+  longer : note_calls (history (known_of j p).world j'.log) ≡ note_calls (history (known_of j p).world j.log) ++ record { client = client; call = c } ∷ []
+  longer =
+      (λ i. note_calls (history old.world (log i)))
+      ∙ note-push old.world j.log (record { client = client; number = entries_of j.log client; call = shared c })
+      ∙ ap (λ (o : Option Asked). calls ++ option_to_list o) (asked_once client c)
+
+  module _ (b b' : Boxes) (noted : AreNoted (known_of j p) b) where
+    module _ (reply : NoteReply) (made : queued.Makes b b' client c reply) where
+      pub entered_noted : AreNoted (known_of j' p) b'
+      entered_noted = subst (λ (l : List Asked). IsOf l b') (sym longer) (made.longer calls noted)
+
+      pub entered_answer : length j.log < 1000000 → Made (known_of j p) (known_of j' p) (entry_of (known_of j p) client (shared c)) (note_reply reply)
+      entered_answer room =
+          made_now j j' p kept client (shared c) log (note_reply reply) room
+          (answered_by old.world answered client c ∙ ap note_reply (made.answer calls noted))
+
+    module _ (undo : taken_back j' ≡ j) where
+      failed_at : (fault : NoteFault) → length j.log < 1000000 → queued.Fails b b' client c fault → Failed (known_of j p) (left_by fault j') p b' (entry_of (known_of j p) client (shared c)) fault
+      failed_at (faults.NoteRejected subscriber) room is = record {
+        kept = entered_kept;
+        noted = entered_noted (replies.Refused (faults.NoteRejected subscriber)) is.made;
+        answer = entered_answer (replies.Refused (faults.NoteRejected subscriber)) is.made room;
+      }
+      failed_at faults.NoMemory room same = subst (λ (x : Noted). Failed (known_of j p) x p b' (entry_of (known_of j p) client (shared c)) faults.NoMemory) (sym undo) (record {
+        kept = kept;
+        noted = subst (λ (x : Boxes). AreNoted (known_of j p) x) (sym same) noted;
+        answer = refl;
+      })
+
+      -- a fault of a call
+      pub failed_call : (fault : NoteFault) (j'' : Noted) → j'' ≡ left_by fault j' → length j.log < 1000000 → queued.Fails b b' client c fault → Failed (known_of j p) j'' p b' (entry_of (known_of j p) client (shared c)) fault
+      failed_call fault j'' left room fails = subst (λ (x : Noted). Failed (known_of j p) x p b' (entry_of (known_of j p) client (shared c)) fault) (sym left) (failed_at fault room fails)

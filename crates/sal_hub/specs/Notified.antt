@@ -1,0 +1,19 @@
+-- What a hub keeps of notifications is what its log gives, and what a call on them leaves.
+use Rattle.sal_note.specs.declared.call.NoteFault.{NoteFault}
+use Rattle.sal_note.specs.declared.call.NoteFault.TheVariants.{NoMemory, NoteRejected}
+use Rattle.sal_note.specs.Boxes.{Boxes, IsOf}
+use Rattle.sal_history.specs.History.{history}
+use Rattle.sal_history.specs.Services.{note_calls}
+use Rattle.sal_hub.specs.Journals.{Noted, taken_back}
+use Rattle.sal_hub.specs.Known.{Known}
+
+-- the boxes are those of the log's calls on notifications
+abbrev pub AreNoted : Known → Boxes → Type 0
+AreNoted known notes = IsOf (note_calls (history known.world known.log)) notes
+
+-- ---- what calls do
+
+-- the journal behind a call that failed: its entry stands, unless memory was wanting
+abbrev pub left_by : NoteFault → Noted → Noted
+left_by NoMemory j = taken_back j
+left_by (NoteRejected subscriber) j = j

@@ -1,0 +1,36 @@
+-- What a hub keeps of RPCs is what its log gives, and what a call on the router leaves.
+use Rattle.std.specs.Prelude.{ℕ, List, Option, None, Some}
+use Rattle.sal_types.specs.declared.row.Row.{Row}
+use Rattle.sal_rpc.specs.declared.call.Request.{Request as Requested}
+use Rattle.sal_rpc.specs.declared.call.RpcFault.{RpcFault}
+use Rattle.sal_rpc.specs.declared.call.RpcFault.TheVariants.{NoMemory}
+use Rattle.sal_rpc.specs.Routes.{IsOf, Routes}
+use Rattle.sal_history.specs.declared.reply.Reply.{Reply}
+use Rattle.sal_history.specs.declared.reply.Reply.TheVariants.{Nothing, Output, Request}
+use Rattle.sal_history.specs.History.{history}
+use Rattle.sal_history.specs.Services.{rpc_calls}
+use Rattle.sal_hub.specs.Journals.{Noted, taken_back}
+use Rattle.sal_hub.specs.Known.{Known}
+
+-- the routes are those of the log's calls on the router
+abbrev pub AreRouted : Known → Routes → Type 0
+AreRouted known router = IsOf (rpc_calls (history known.world known.log)) router
+
+-- ---- answers
+
+-- the next request, if one waits
+abbrev pub request_reply : Option Requested → Reply
+request_reply None = Nothing
+request_reply (Some request) = Request request
+
+-- the answer to a request of the RPC, if it has one
+abbrev pub collect_reply : ℕ → Option (List Row) → Reply
+collect_reply rpc None = Nothing
+collect_reply rpc (Some rows) = Output rpc rows
+
+-- ---- what calls do
+
+-- the journal behind a call that failed: its entry stands, unless memory was wanting
+abbrev pub left_by : RpcFault → Noted → Noted
+left_by NoMemory j = taken_back j
+left_by fault j = j

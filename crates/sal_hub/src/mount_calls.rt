@@ -1,0 +1,233 @@
+//! The calls of mounts.
+ghost use Rattle.std.specs.Prelude.{◌≡◌, ℕ, ◌<◌, OnErr, OnOk, Option, length};
+ghost use Rattle.sal_mount.specs.Answers as mounting;
+ghost use Rattle.sal_mount.specs.declared.call.MountCall.TheVariants as asked;
+ghost use Rattle.sal_mount.specs.declared.call.MountReply.TheVariants as told;
+ghost use Rattle.sal_history.specs.declared.call.Call.TheVariants.{Mount, MountAt, Unmount};
+ghost use Rattle.sal_history.specs.declared.reply.Reply.TheVariants.{Accepted, MountAt as Mounted};
+ghost use Rattle.sal_history.specs.Services as services;
+ghost use Rattle.sal_hub.specs.Answers.{Calls, limit};
+ghost use Rattle.sal_hub.specs.Current.{IsKept, known_of};
+ghost use Rattle.sal_hub.specs.Journals.{taken_back};
+ghost use Rattle.sal_hub.specs.Known.{entry_of};
+ghost use Rattle.sal_hub.specs.Mounted.{AreMounted, Enters, IsJotted};
+
+use crate::hub::Hub;
+use crate::journal::Journal;
+use crate::pipeline::Pipeline;
+use sal_history::Call;
+use sal_mount::{MountFault, Mounts};
+use sal_rows::CallFault;
+use sal_types::{Duplicate, NoMemory, Path};
+use std::alloc::Global;
+
+impl Hub {
+    /// Mounts the device at the path of the controller's own domain: the domain of its number is live from now on.
+    pub fn mount(
+        &mut self,
+        alloc: Global,
+        client: u32,
+        path: &Path,
+        device: u32,
+    ) -> Result<(), CallFault>
+        ensures answer { Calls self.old self.new (entry_of self.old client (Mount path.now device)) (λ _. Accepted) result }
+    {
+        if self.journal.is_full() {
+            return Err(CallFault::HistoryFull);
+        }
+        mount(
+            &mut self.pipeline,
+            &mut self.journal,
+            &mut self.services.mounts,
+            client,
+            path,
+            device,
+        )
+    }
+
+    /// Unmounts the domain of a device: it is not live any more, and what is pending there will not be committed.
+    pub fn unmount(&mut self, alloc: Global, client: u32, domain: u32) -> Result<(), CallFault>
+        ensures answer { Calls self.old self.new (entry_of self.old client (Unmount domain)) (λ _. Accepted) result }
+    {
+        if self.journal.is_full() {
+            return Err(CallFault::HistoryFull);
+        }
+        unmount(
+            &mut self.pipeline,
+            &mut self.journal,
+            &mut self.services.mounts,
+            client,
+            domain,
+        )
+    }
+
+    /// The live domain that is mounted at the path, if one is.
+    pub fn mount_at(
+        &mut self,
+        alloc: Global,
+        client: u32,
+        path: &Path,
+    ) -> Result<Option<u32>, CallFault>
+        ensures answer { Calls self.old self.new (entry_of self.old client (MountAt path.now)) (λ (at : Option ℕ). Mounted at) result }
+    {
+        if self.journal.is_full() {
+            return Err(CallFault::HistoryFull);
+        }
+        mount_at(
+            &self.pipeline,
+            &mut self.journal,
+            &self.services.mounts,
+            client,
+            path,
+        )
+    }
+}
+
+// Mounts the device at the path, unless that is refused, and adds the entry. Its domain is live then.
+fn mount(
+    pipeline: &mut Pipeline,
+    journal: &mut Journal,
+    mounts: &mut Mounts,
+    client: u32,
+    path: &Path,
+    device: u32,
+) -> Result<(), CallFault>
+    requires kept { IsKept journal.old pipeline.old }
+    requires mounts { AreMounted (known_of journal.old pipeline.old) mounts.old }
+    requires room { length journal.old.log < limit }
+    ensures kept { IsKept journal.new pipeline.new }
+    ensures mounts { AreMounted (known_of journal.new pipeline.new) mounts.new }
+    ensures answer { Calls (known_of journal.old pipeline.old) (known_of journal.new pipeline.new) (entry_of (known_of journal.old pipeline.old) client (Mount path.now device)) (λ _. Accepted) result }
+{
+    match add_mount(journal, mounts, client, path, device) {
+        Ok(()) => {
+            pipeline.set_live(device, true);
+            Ok(())
+        }
+        Err(fault) => Err(mount_fault(fault)),
+    }
+}
+
+// Unmounts the domain, unless that is refused, and adds the entry. The domain is not live any more.
+fn unmount(
+    pipeline: &mut Pipeline,
+    journal: &mut Journal,
+    mounts: &mut Mounts,
+    client: u32,
+    domain: u32,
+) -> Result<(), CallFault>
+    requires kept { IsKept journal.old pipeline.old }
+    requires mounts { AreMounted (known_of journal.old pipeline.old) mounts.old }
+    requires room { length journal.old.log < limit }
+    ensures kept { IsKept journal.new pipeline.new }
+    ensures mounts { AreMounted (known_of journal.new pipeline.new) mounts.new }
+    ensures answer { Calls (known_of journal.old pipeline.old) (known_of journal.new pipeline.new) (entry_of (known_of journal.old pipeline.old) client (Unmount domain)) (λ _. Accepted) result }
+{
+    match add_unmount(journal, mounts, client, domain) {
+        Ok(()) => {
+            pipeline.set_live(domain, false);
+            Ok(())
+        }
+        Err(fault) => Err(mount_fault(fault)),
+    }
+}
+
+// The domain that is mounted at the path, if one is. It adds the entry.
+fn mount_at(
+    pipeline: &Pipeline,
+    journal: &mut Journal,
+    mounts: &Mounts,
+    client: u32,
+    path: &Path,
+) -> Result<Option<u32>, CallFault>
+    requires kept { IsKept journal.old pipeline.now }
+    requires mounts { AreMounted (known_of journal.old pipeline.now) mounts.now }
+    requires room { length journal.old.log < limit }
+    ensures kept { IsKept journal.new pipeline.now }
+    ensures mounts { AreMounted (known_of journal.new pipeline.now) mounts.now }
+    ensures answer { Calls (known_of journal.old pipeline.now) (known_of journal.new pipeline.now) (entry_of (known_of journal.old pipeline.now) client (MountAt path.now)) (λ (at : Option ℕ). Mounted at) result }
+{
+    match note_question(journal, client, path) {
+        Ok(()) => Ok(mounts.mount_at(path)),
+        Err(NoMemory) => Err(CallFault::NoMemory),
+    }
+}
+
+// The fault of a call on mounts, as that of a shared call.
+fn mount_fault(fault: MountFault) -> CallFault
+    ensures { result ≡ services.mount_fault fault }
+{
+    match fault {
+        MountFault::NoDomain { id } => CallFault::NoDomain { id },
+        MountFault::DeviceUsed { id } => CallFault::DeviceUsed { id },
+        MountFault::MountTaken { id } => CallFault::MountTaken { id },
+        MountFault::NoMemory => CallFault::NoMemory,
+    }
+}
+
+// Makes the call, and adds its entry. Where memory is wanting, nothing changes that is seen.
+fn add_mount(
+    journal: &mut Journal,
+    mounts: &mut Mounts,
+    client: u32,
+    path: &Path,
+    device: u32,
+) -> Result<(), MountFault>
+    requires { length journal.old.log < limit }
+    ensures made { mounting.Answers mounts.old mounts.new (asked.Mount path.now device) (λ _. told.Accepted) result }
+    ensures entry { Enters journal.old journal.new client (Mount path.now device) result }
+{
+    match note_mount(journal, client, path, device) {
+        Ok(()) => {}
+        Err(NoMemory) => return Err(MountFault::NoMemory),
+    }
+    match mounts.mount(path, device) {
+        Ok(()) => Ok(()),
+        Err(MountFault::NoMemory) => {
+            journal.take_back();
+            Err(MountFault::NoMemory)
+        }
+        Err(fault) => Err(fault),
+    }
+}
+
+// Adds the entry of a mount.
+fn note_mount(journal: &mut Journal, client: u32, path: &Path, device: u32) -> Result<(), NoMemory>
+    requires { length journal.old.log < limit }
+    ensures entry { OnOk result (IsJotted journal.old journal.new client (Mount path.now device)) }
+    ensures undo { OnOk result (taken_back journal.new ≡ journal.old) }
+    ensures err { OnErr result (journal.new ≡ journal.old) }
+{
+    let path = path.copy()?;
+    journal.add(client, Call::Mount { path, device })?;
+    Ok(())
+}
+
+// Makes the call, and adds its entry. Where memory is wanting, nothing changes that is seen.
+fn add_unmount(
+    journal: &mut Journal,
+    mounts: &mut Mounts,
+    client: u32,
+    domain: u32,
+) -> Result<(), MountFault>
+    requires { length journal.old.log < limit }
+    ensures made { mounting.Answers mounts.old mounts.new (asked.Unmount domain) (λ _. told.Accepted) result }
+    ensures entry { Enters journal.old journal.new client (Unmount domain) result }
+{
+    match journal.add(client, Call::Unmount { domain }) {
+        Ok(()) => {}
+        Err(NoMemory) => return Err(MountFault::NoMemory),
+    }
+    mounts.unmount(domain)
+}
+
+// Adds the entry of a question for the path.
+fn note_question(journal: &mut Journal, client: u32, path: &Path) -> Result<(), NoMemory>
+    requires { length journal.old.log < limit }
+    ensures entry { OnOk result (IsJotted journal.old journal.new client (MountAt path.now)) }
+    ensures err { OnErr result (journal.new ≡ journal.old) }
+{
+    let path = path.copy()?;
+    journal.add(client, Call::MountAt { path })?;
+    Ok(())
+}

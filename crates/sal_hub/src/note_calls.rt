@@ -1,0 +1,128 @@
+//! The calls on notifications.
+ghost use Rattle.std.specs.Prelude.{◌≡◌, ℕ, ◌<◌, OnErr, OnOk, length};
+ghost use Rattle.sal_history.specs.declared.call.Call.TheVariants.{Offer, Subscribe, TakeNotes};
+ghost use Rattle.sal_history.specs.declared.reply.Reply.TheVariants.{Accepted, Notes as Gives, Offered};
+ghost use Rattle.sal_history.specs.Services as services;
+ghost use Rattle.sal_hub.specs.Answers.{Calls, limit};
+ghost use Rattle.sal_hub.specs.Current.{IsKept, known_of};
+ghost use Rattle.sal_hub.specs.Journals.{jotted, mark_at, taken_back};
+ghost use Rattle.sal_hub.specs.Known.{entry_of};
+ghost use Rattle.sal_hub.specs.Notified.{AreNoted, left_by};
+
+use crate::journal::Journal;
+use crate::pipeline::Pipeline;
+use sal_history::Call;
+use sal_note::{NoteFault, NoteList, Notes};
+use sal_rows::{CallFault, Rows};
+use sal_types::{Duplicate, NoMemory};
+use std::alloc::Global;
+
+/// Subscribes the client to the notification, and adds the entry.
+pub(crate) fn subscribe(
+    alloc: Global,
+    pipeline: &Pipeline,
+    journal: &mut Journal,
+    notes: &mut Notes,
+    client: u32,
+    note: u32,
+) -> Result<(), CallFault>
+    requires kept { IsKept journal.old pipeline.now }
+    requires noted { AreNoted (known_of journal.old pipeline.now) notes.old }
+    requires room { length journal.old.log < limit }
+    ensures kept { IsKept journal.new pipeline.now }
+    ensures noted { AreNoted (known_of journal.new pipeline.now) notes.new }
+    ensures answer { Calls (known_of journal.old pipeline.now) (known_of journal.new pipeline.now) (entry_of (known_of journal.old pipeline.now) client (Subscribe note)) (λ _. Accepted) result }
+{
+    match journal.add(client, Call::Subscribe { note }) {
+        Ok(()) => {}
+        Err(NoMemory) => return Err(CallFault::NoMemory),
+    }
+    match notes.subscribe(alloc, client, note) {
+        Ok(()) => Ok(()),
+        Err(fault) => Err(failed(journal, fault)),
+    }
+}
+
+/// Gives the notification to all that are subscribed to it, unless that is refused, and adds the entry.
+pub(crate) fn offer(
+    alloc: Global,
+    pipeline: &Pipeline,
+    journal: &mut Journal,
+    notes: &mut Notes,
+    client: u32,
+    note: u32,
+    rows: Rows,
+) -> Result<u32, CallFault>
+    requires kept { IsKept journal.old pipeline.now }
+    requires noted { AreNoted (known_of journal.old pipeline.now) notes.old }
+    requires room { length journal.old.log < limit }
+    ensures kept { IsKept journal.new pipeline.now }
+    ensures noted { AreNoted (known_of journal.new pipeline.now) notes.new }
+    ensures answer { Calls (known_of journal.old pipeline.now) (known_of journal.new pipeline.now) (entry_of (known_of journal.old pipeline.now) client (Offer note rows)) (λ (count : ℕ). Offered count) result }
+{
+    match enter_offer(journal, client, note, &rows) {
+        Ok(()) => {}
+        Err(NoMemory) => return Err(CallFault::NoMemory),
+    }
+    match notes.offer(alloc, client, note, rows) {
+        Ok(count) => Ok(count),
+        Err(fault) => Err(failed(journal, fault)),
+    }
+}
+
+/// Takes all that waits for the client, and adds the entry.
+pub(crate) fn take_notes(
+    alloc: Global,
+    pipeline: &Pipeline,
+    journal: &mut Journal,
+    notes: &mut Notes,
+    client: u32,
+) -> Result<NoteList, CallFault>
+    requires kept { IsKept journal.old pipeline.now }
+    requires noted { AreNoted (known_of journal.old pipeline.now) notes.old }
+    requires room { length journal.old.log < limit }
+    ensures kept { IsKept journal.new pipeline.now }
+    ensures noted { AreNoted (known_of journal.new pipeline.now) notes.new }
+    ensures answer { Calls (known_of journal.old pipeline.now) (known_of journal.new pipeline.now) (entry_of (known_of journal.old pipeline.now) client TakeNotes) Gives result }
+{
+    match journal.add(client, Call::TakeNotes) {
+        Ok(()) => {}
+        Err(NoMemory) => return Err(CallFault::NoMemory),
+    }
+    let list = notes.take_notes(alloc, client);
+    Ok(list)
+}
+
+// The refusal of a call on notifications, as one of the call.
+fn note_fault(fault: NoteFault) -> CallFault
+    ensures { result ≡ services.note_fault fault }
+{
+    match fault {
+        NoteFault::NoteRejected { subscriber } => CallFault::NoteRejected { subscriber },
+        NoteFault::NoMemory => CallFault::NoMemory,
+    }
+}
+
+// The same, where memory may have been wanting: then the entry is taken back.
+fn failed(journal: &mut Journal, fault: NoteFault) -> CallFault
+    ensures fault { result ≡ services.note_fault fault }
+    ensures journal { journal.new ≡ left_by fault journal.old }
+{
+    if let NoteFault::NoMemory = fault {
+        journal.take_back();
+        return CallFault::NoMemory;
+    }
+    note_fault(fault)
+}
+
+// Adds the entry of an offer.
+fn enter_offer(journal: &mut Journal, client: u32, note: u32, rows: &Rows) -> Result<(), NoMemory>
+    requires { length journal.old.log < limit }
+    ensures log { OnOk result (journal.new.log ≡ jotted journal.old.log client (Offer note rows.now)) }
+    ensures marks { OnOk result ((k : ℕ) → mark_at journal.new.marks k ≡ mark_at journal.old.marks k) }
+    ensures undo { OnOk result (taken_back journal.new ≡ journal.old) }
+    ensures err { OnErr result (journal.new ≡ journal.old) }
+{
+    let rows = rows.copy()?;
+    journal.add(client, Call::Offer { note, rows })
+}

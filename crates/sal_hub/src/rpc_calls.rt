@@ -1,0 +1,282 @@
+//! The calls on the router.
+ghost use Rattle.std.specs.Prelude.{◌≡◌, ℕ, ◌<◌, IfOk, OnErr, OnOk, length};
+ghost use Rattle.sal_history.specs.declared.call.Call.TheVariants.{Answer, Collect, Invoke, NextCall, Provide, Withdraw};
+ghost use Rattle.sal_history.specs.declared.reply.Reply.TheVariants.{Accepted, CallMade};
+ghost use Rattle.sal_history.specs.Services as services;
+ghost use Rattle.sal_hub.specs.declared.call_id.CallId.{CallId as Given};
+ghost use Rattle.sal_hub.specs.Answers.{Calls, limit};
+ghost use Rattle.sal_hub.specs.Current.{IsKept, known_of};
+ghost use Rattle.sal_hub.specs.Journals.{jotted, mark_at, taken_back};
+ghost use Rattle.sal_hub.specs.Known.{entry_of};
+ghost use Rattle.sal_hub.specs.Routed.{AreRouted, left_by, collect_reply, request_reply};
+ghost use Rattle.sal_hub.specs.Tokens.{IsCall};
+
+use crate::call_id::CallId;
+use crate::journal::Journal;
+use crate::pipeline::Pipeline;
+use sal_history::Call;
+use sal_rows::{CallFault, Rows};
+use sal_rpc::{Request, Router, RpcFault};
+use sal_types::{Duplicate, NoMemory, Path};
+use std::alloc::Global;
+
+/// Registers the client for the RPC in the context, unless that is refused, and adds the entry.
+pub(crate) fn provide(
+    pipeline: &Pipeline,
+    journal: &mut Journal,
+    router: &mut Router,
+    client: u32,
+    rpc: u32,
+    context: Option<Path>,
+) -> Result<(), CallFault>
+    requires kept { IsKept journal.old pipeline.now }
+    requires routed { AreRouted (known_of journal.old pipeline.now) router.old }
+    requires room { length journal.old.log < limit }
+    ensures kept { IsKept journal.new pipeline.now }
+    ensures routed { AreRouted (known_of journal.new pipeline.now) router.new }
+    ensures answer { Calls (known_of journal.old pipeline.now) (known_of journal.new pipeline.now) (entry_of (known_of journal.old pipeline.now) client (Provide rpc context)) (λ _. Accepted) result }
+{
+    match enter_provide(journal, client, rpc, &context) {
+        Ok(()) => {}
+        Err(NoMemory) => return Err(CallFault::NoMemory),
+    }
+    match router.provide(client, rpc, context) {
+        Ok(()) => Ok(()),
+        Err(fault) => Err(failed(journal, fault)),
+    }
+}
+
+/// Ends the client's registration, unless that is refused, and adds the entry.
+pub(crate) fn withdraw(
+    pipeline: &Pipeline,
+    journal: &mut Journal,
+    router: &mut Router,
+    client: u32,
+    rpc: u32,
+    context: Option<Path>,
+) -> Result<(), CallFault>
+    requires kept { IsKept journal.old pipeline.now }
+    requires routed { AreRouted (known_of journal.old pipeline.now) router.old }
+    requires room { length journal.old.log < limit }
+    ensures kept { IsKept journal.new pipeline.now }
+    ensures routed { AreRouted (known_of journal.new pipeline.now) router.new }
+    ensures answer { Calls (known_of journal.old pipeline.now) (known_of journal.new pipeline.now) (entry_of (known_of journal.old pipeline.now) client (Withdraw rpc context)) (λ _. Accepted) result }
+{
+    match enter_withdraw(journal, client, rpc, &context) {
+        Ok(()) => {}
+        Err(NoMemory) => return Err(CallFault::NoMemory),
+    }
+    match router.withdraw(client, rpc, context) {
+        Ok(()) => Ok(()),
+        Err(fault) => Err(rpc_fault(fault)),
+    }
+}
+
+/// Makes a request, unless that is refused, and adds the entry.
+pub(crate) fn invoke(
+    alloc: Global,
+    pipeline: &Pipeline,
+    journal: &mut Journal,
+    router: &mut Router,
+    client: u32,
+    rpc: u32,
+    context: Option<Path>,
+    input: Rows,
+) -> Result<CallId, CallFault>
+    requires kept { IsKept journal.old pipeline.now }
+    requires routed { AreRouted (known_of journal.old pipeline.now) router.old }
+    requires room { length journal.old.log < limit }
+    ensures kept { IsKept journal.new pipeline.now }
+    ensures routed { AreRouted (known_of journal.new pipeline.now) router.new }
+    ensures answer { Calls (known_of journal.old pipeline.now) (known_of journal.new pipeline.now) (entry_of (known_of journal.old pipeline.now) client (Invoke rpc context input)) (λ (id : Given). CallMade id.number) result }
+    ensures given { IfOk result (IsCall (known_of journal.new pipeline.now)) }
+    ensures rpc { IfOk result (λ id. id.rpc ≡ rpc) }
+{
+    match enter_invoke(journal, client, rpc, &context, &input) {
+        Ok(()) => {}
+        Err(NoMemory) => return Err(CallFault::NoMemory),
+    }
+    match router.invoke(alloc, client, rpc, context, input) {
+        Ok(number) => Ok(CallId::of(number, rpc)),
+        Err(fault) => Err(failed(journal, fault)),
+    }
+}
+
+/// Takes the next request that waits for the client, if one does, and adds the entry.
+pub(crate) fn next_call(
+    pipeline: &Pipeline,
+    journal: &mut Journal,
+    router: &mut Router,
+    client: u32,
+) -> Result<Option<Request>, CallFault>
+    requires kept { IsKept journal.old pipeline.now }
+    requires routed { AreRouted (known_of journal.old pipeline.now) router.old }
+    requires room { length journal.old.log < limit }
+    ensures kept { IsKept journal.new pipeline.now }
+    ensures routed { AreRouted (known_of journal.new pipeline.now) router.new }
+    ensures answer { Calls (known_of journal.old pipeline.now) (known_of journal.new pipeline.now) (entry_of (known_of journal.old pipeline.now) client NextCall) request_reply result }
+{
+    match journal.add(client, Call::NextCall) {
+        Ok(()) => {}
+        Err(NoMemory) => return Err(CallFault::NoMemory),
+    }
+    let request = router.next_call(client);
+    Ok(request)
+}
+
+/// Answers a request that the client took, unless that is refused, and adds the entry.
+pub(crate) fn answer(
+    pipeline: &Pipeline,
+    journal: &mut Journal,
+    router: &mut Router,
+    client: u32,
+    id: u64,
+    output: Rows,
+) -> Result<(), CallFault>
+    requires kept { IsKept journal.old pipeline.now }
+    requires routed { AreRouted (known_of journal.old pipeline.now) router.old }
+    requires room { length journal.old.log < limit }
+    ensures kept { IsKept journal.new pipeline.now }
+    ensures routed { AreRouted (known_of journal.new pipeline.now) router.new }
+    ensures answer { Calls (known_of journal.old pipeline.now) (known_of journal.new pipeline.now) (entry_of (known_of journal.old pipeline.now) client (Answer id output)) (λ _. Accepted) result }
+{
+    match enter_answer(journal, client, id, &output) {
+        Ok(()) => {}
+        Err(NoMemory) => return Err(CallFault::NoMemory),
+    }
+    match router.answer(client, id, output) {
+        Ok(()) => Ok(()),
+        Err(fault) => Err(rpc_fault(fault)),
+    }
+}
+
+/// The answer to a request that the client made, if it has one; the entry is added.
+pub(crate) fn collect(
+    pipeline: &Pipeline,
+    journal: &mut Journal,
+    router: &Router,
+    client: u32,
+    id: CallId,
+) -> Result<Option<Rows>, CallFault>
+    requires kept { IsKept journal.old pipeline.now }
+    requires routed { AreRouted (known_of journal.old pipeline.now) router.now }
+    requires room { length journal.old.log < limit }
+    requires token { IsCall (known_of journal.old pipeline.now) id }
+    ensures kept { IsKept journal.new pipeline.now }
+    ensures routed { AreRouted (known_of journal.new pipeline.now) router.now }
+    ensures answer { Calls (known_of journal.old pipeline.now) (known_of journal.new pipeline.now) (entry_of (known_of journal.old pipeline.now) client (Collect id.number)) (collect_reply id.rpc) result }
+{
+    let number = id.number();
+    match journal.add(client, Call::Collect { id: number }) {
+        Ok(()) => {}
+        Err(NoMemory) => return Err(CallFault::NoMemory),
+    }
+    match router.collect(client, number) {
+        Ok(output) => Ok(output),
+        Err(fault) => Err(failed(journal, fault)),
+    }
+}
+
+// The router's refusal, as one of the call.
+fn rpc_fault(fault: RpcFault) -> CallFault
+    ensures { result ≡ services.rpc_fault fault }
+{
+    match fault {
+        RpcFault::NoProvider { rpc } => CallFault::NoProvider { rpc },
+        RpcFault::ProviderTaken { rpc } => CallFault::ProviderTaken { rpc },
+        RpcFault::NoCall { id } => CallFault::NoCall { id },
+        RpcFault::NoMemory => CallFault::NoMemory,
+    }
+}
+
+// The same, where memory may have been wanting: then the entry is taken back.
+fn failed(journal: &mut Journal, fault: RpcFault) -> CallFault
+    ensures fault { result ≡ services.rpc_fault fault }
+    ensures journal { journal.new ≡ left_by fault journal.old }
+{
+    if let RpcFault::NoMemory = fault {
+        journal.take_back();
+        return CallFault::NoMemory;
+    }
+    rpc_fault(fault)
+}
+
+// A copy of the context.
+fn copied(context: &Option<Path>) -> Result<Option<Path>, NoMemory>
+    ensures { IfOk result (λ copy. copy ≡ context.now) }
+{
+    match context {
+        None => Ok(None),
+        Some(path) => Ok(Some(path.copy()?)),
+    }
+}
+
+// Adds the entry of a registration.
+fn enter_provide(
+    journal: &mut Journal,
+    client: u32,
+    rpc: u32,
+    context: &Option<Path>,
+) -> Result<(), NoMemory>
+    requires { length journal.old.log < limit }
+    ensures log { OnOk result (journal.new.log ≡ jotted journal.old.log client (Provide rpc context.now)) }
+    ensures marks { OnOk result ((k : ℕ) → mark_at journal.new.marks k ≡ mark_at journal.old.marks k) }
+    ensures undo { OnOk result (taken_back journal.new ≡ journal.old) }
+    ensures err { OnErr result (journal.new ≡ journal.old) }
+{
+    let context = copied(context)?;
+    journal.add(client, Call::Provide { rpc, context })
+}
+
+// Adds the entry of the end of a registration.
+fn enter_withdraw(
+    journal: &mut Journal,
+    client: u32,
+    rpc: u32,
+    context: &Option<Path>,
+) -> Result<(), NoMemory>
+    requires { length journal.old.log < limit }
+    ensures log { OnOk result (journal.new.log ≡ jotted journal.old.log client (Withdraw rpc context.now)) }
+    ensures marks { OnOk result ((k : ℕ) → mark_at journal.new.marks k ≡ mark_at journal.old.marks k) }
+    ensures err { OnErr result (journal.new ≡ journal.old) }
+{
+    let context = copied(context)?;
+    journal.add(client, Call::Withdraw { rpc, context })
+}
+
+// Adds the entry of a request.
+fn enter_invoke(
+    journal: &mut Journal,
+    client: u32,
+    rpc: u32,
+    context: &Option<Path>,
+    input: &Rows,
+) -> Result<(), NoMemory>
+    requires { length journal.old.log < limit }
+    ensures log { OnOk result (journal.new.log ≡ jotted journal.old.log client (Invoke rpc context.now input.now)) }
+    ensures marks { OnOk result ((k : ℕ) → mark_at journal.new.marks k ≡ mark_at journal.old.marks k) }
+    ensures undo { OnOk result (taken_back journal.new ≡ journal.old) }
+    ensures err { OnErr result (journal.new ≡ journal.old) }
+{
+    let context = copied(context)?;
+    let input = input.copy()?;
+    journal.add(
+        client,
+        Call::Invoke {
+            rpc,
+            context,
+            input,
+        },
+    )
+}
+
+// Adds the entry of an answer.
+fn enter_answer(journal: &mut Journal, client: u32, id: u64, output: &Rows) -> Result<(), NoMemory>
+    requires { length journal.old.log < limit }
+    ensures log { OnOk result (journal.new.log ≡ jotted journal.old.log client (Answer id output.now)) }
+    ensures marks { OnOk result ((k : ℕ) → mark_at journal.new.marks k ≡ mark_at journal.old.marks k) }
+    ensures err { OnErr result (journal.new ≡ journal.old) }
+{
+    let output = output.copy()?;
+    journal.add(client, Call::Answer { id, output })
+}

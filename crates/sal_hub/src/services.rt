@@ -1,0 +1,12 @@
+//! The services of the broker that the hub keeps beside the data.
+use sal_mount::Mounts;
+use sal_note::Notes;
+use sal_rpc::Router;
+
+/// The services, each with what it keeps of its own calls.
+#[derive(Drop)]
+pub(crate) struct Services {
+    pub(crate) mounts: Mounts,
+    pub(crate) router: Router,
+    pub(crate) notes: Notes,
+}

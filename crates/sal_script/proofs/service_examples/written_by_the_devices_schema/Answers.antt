@@ -1,0 +1,16 @@
+-- The replies are computed.
+use Rattle.std.specs.Fmt.{digits}
+use Rattle.std.specs.Str.{chars}
+use Rattle.sal_restrict.specs.declared.yang_type.YangType.TheViews.{out-roll-YangType}
+use Rattle.sal_schema.specs.Table.{closest}
+use Rattle.sal_json.specs.Read.{type_scalar, own_json}
+use Rattle.sal_pathtext.specs.Words.{name, single, said}
+use Rattle.sal_pathtext.specs.Read.{read_path, steps, one_more, named, entered, predicates, predicate, subject}
+use Rattle.sal_rules.specs.Breaches.{first}
+use Rattle.sal_rules.specs.Contexts.{through_plain, from_list}
+use Rattle.sal_rules.specs.Rules.{is_there}
+use Rattle.sal_script.proofs.service_examples.written_by_the_devices_schema.Goals as goal
+
+pub returns : goal.returns
+unfolding read_path steps one_more named entered predicates predicate subject name single said closest first through_plain from_list is_there digits chars
+returns c = simp (type_scalar, own_json, out-roll-YangType)

@@ -1,0 +1,11 @@
+//! What a domain has at the end of a run.
+use sal_rows::Rows;
+
+/// The trees of a domain, and how many commits led to them.
+#[derive(Drop)]
+pub struct DomainTrees {
+    pub domain: u32,
+    pub commits: u64,
+    pub config: Rows,
+    pub oper: Rows,
+}

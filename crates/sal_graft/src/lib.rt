@@ -18,6 +18,7 @@
 #![tactic(auto)]
 
 mod foreign;
+mod naming;
 mod search;
 mod span;
 mod standing;

@@ -1,13 +1,15 @@
-//! Conflicts of a submission, found by looking through the commits after its base.
+//! Conflicts of a submission with the commits after its base, found by the stamps at the ends of their spans.
 ghost use Rattle.std.specs.Prelude.{◌≡◌, ◌≤◌, IfSome, length, All};
 ghost use Rattle.sal_rows.specs.PathClash.{is_covered};
 ghost use Rattle.sal_tree.specs.Rows.{rows_of};
 ghost use Rattle.sal_rows.specs.Clash.{clash};
 ghost use Rattle.sal_rows.specs.Clash as spec;
+ghost use Rattle.sal_graft.specs.Following.{AreFollowing};
 ghost use Rattle.sal_graft.specs.Rows.{is_lost_of, lost_depth};
 ghost use Rattle.sal_graft.specs.Kept.{AreKept, IsSpanOf, opening_in, ops_of, rows_in};
 
-use crate::span::{changed_span, kind_over, last_touch, last_touch_over, tree_of};
+use crate::naming::{last_touch, last_touch_over};
+use crate::span::{changed_span, kind_over, tree_of};
 use crate::standing::{has_cell, stands};
 use crate::touched::is_set;
 use sal_mod::Mod;
@@ -21,6 +23,7 @@ use sal_types::{Step, Store};
 /// The spans are the commits after its base without those of its own chain. It takes no memory.
 pub fn conflict(changes: &Mod, base: &Pair, spans: &[Span], commits: &[Commit]) -> Option<Clash>
     requires kept { AreKept commits.now }
+    requires following { AreFollowing commits.now }
     requires spans { All (IsSpanOf commits.now) spans.now }
     ensures { result ≡ clash (opening_in commits.now) (ops_of commits.now) (rows_in base.now) spans.now changes.now }
 {
@@ -44,6 +47,7 @@ fn op_clash(
     commits: &[Commit],
 ) -> Option<Clash>
     requires kept { AreKept commits.now }
+    requires following { AreFollowing commits.now }
     requires spans { All (IsSpanOf commits.now) spans.now }
     requires covered { covered ≡ is_covered earlier.now op.now.store op.now.path }
     ensures { result ≡ spec.op_clash (opening_in commits.now) (ops_of commits.now) (rows_in base.now) spans.now earlier.now op.now }
@@ -63,6 +67,7 @@ fn parent_clash(
     commits: &[Commit],
 ) -> Option<Clash>
     requires kept { AreKept commits.now }
+    requires following { AreFollowing commits.now }
     requires spans { All (IsSpanOf commits.now) spans.now }
     ensures { result ≡ spec.parent_clash (opening_in commits.now) (ops_of commits.now) (rows_in base.now) spans.now earlier.now op.now }
 {
@@ -138,6 +143,7 @@ fn path_clash(
     commits: &[Commit],
 ) -> Option<Clash>
     requires kept { AreKept commits.now }
+    requires following { AreFollowing commits.now }
     requires spans { All (IsSpanOf commits.now) spans.now }
     requires covered { covered ≡ is_covered earlier.now op.now.store op.now.path }
     ensures { result ≡ spec.path_clash (opening_in commits.now) (ops_of commits.now) spans.now earlier.now op.now }

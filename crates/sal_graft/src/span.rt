@@ -1,14 +1,12 @@
 //! What became of a path over the commits in spans.
-ghost use Rattle.std.specs.Prelude.{◌≡◌, ◌≤◌, ◌<◌, length, not, find, All, IfSome};
-ghost use Rattle.std.specs.List.{list_any};
+ghost use Rattle.std.specs.Prelude.{◌≡◌, ◌<◌, length, not, find, All, IfSome};
 ghost use Rattle.sal_rows.specs.Commits as commits_spec;
 ghost use Rattle.sal_rows.specs.Commits.{kind_by};
 ghost use Rattle.sal_types.specs.Tree.{has};
-ghost use Rattle.sal_rows.specs.Clash as spec;
+ghost use Rattle.sal_graft.specs.Following.{AreFollowing};
 ghost use Rattle.sal_graft.specs.Kept.{AreKept, IsSpanOf, opening_in, ops_of, tree_in};
 
-use crate::standing::stands;
-use crate::touched::is_touched;
+use crate::standing::{is_alike, stands};
 use sal_rows::{ClashKind, Span};
 use sal_tree::{Commit, Pair, Root};
 use sal_types::{Step, Store};
@@ -31,6 +29,7 @@ pub(crate) fn changed_span(
     steps: &[Step],
 ) -> Option<Span>
     requires kept { AreKept commits.now }
+    requires following { AreFollowing commits.now }
     requires spans { All (IsSpanOf commits.now) spans.now }
     ensures span { result ≡ find (λ span. not (commits_spec.is_unchanged (opening_in commits.now) (ops_of commits.now) store steps.now span)) spans.now }
     ensures kept { IfSome result (IsSpanOf commits.now) }
@@ -44,22 +43,18 @@ pub(crate) fn changed_span(
     None
 }
 
+// Whether nothing stands at the path at either end of the span, or at both one node, by its stamp.
 fn is_unchanged(commits: &[Commit], span: Span, store: Store, steps: &[Step]) -> bool
     requires kept { AreKept commits.now }
+    requires following { AreFollowing commits.now }
     requires span { IsSpanOf commits.now span }
     ensures { result ≡ commits_spec.is_unchanged (opening_in commits.now) (ops_of commits.now) store steps.now span }
 {
-    let was = stands_after(commits, span.from, store, steps);
-    let is = stands_after(commits, span.to, store, steps);
-    (!was && !is) || ((was && is) && !touched_in(commits, span, store, steps))
-}
-
-fn touched_in(commits: &[Commit], span: Span, store: Store, steps: &[Step]) -> bool
-    requires kept { AreKept commits.now }
-    requires span { IsSpanOf commits.now span }
-    ensures { result ≡ list_any (commits_spec.touches_at (opening_in commits.now) (ops_of commits.now) store steps.now) (commits_spec.numbers_in span) }
-{
-    last_touch(commits, span, store, steps).is_some()
+    let before = tree_of(&commits[span.from as usize].trees, store);
+    let after = tree_of(&commits[span.to as usize].trees, store);
+    let _ = before.node();
+    let _ = after.node();
+    is_alike(before, after, steps)
 }
 
 /// How the path differs at the ends of a span over which it is not unchanged.
@@ -92,64 +87,4 @@ fn stands_after(commits: &[Commit], number: u64, store: Store, steps: &[Step]) -
     ensures { result ≡ has (commits_spec.tree_at (opening_in commits.now) (ops_of commits.now) store number) steps.now }
 {
     stands(tree_of(&commits[number as usize].trees, store), steps)
-}
-
-/// The last commit in the spans that touched the path.
-pub(crate) fn last_touch_over(
-    commits: &[Commit],
-    spans: &[Span],
-    store: Store,
-    steps: &[Step],
-) -> Option<u64>
-    requires kept { AreKept commits.now }
-    requires spans { All (IsSpanOf commits.now) spans.now }
-    ensures { result ≡ spec.last_touch_over (opening_in commits.now) (ops_of commits.now) spans.now store steps.now }
-{
-    for back in 0..spans.len() {
-        let at = spans.len() - 1 - back;
-        if let Some(number) = touch_in(commits, &spans[at], store, steps) {
-            return Some(number);
-        }
-    }
-    None
-}
-
-fn touch_in(commits: &[Commit], span: &Span, store: Store, steps: &[Step]) -> Option<u64>
-    requires kept { AreKept commits.now }
-    requires span { IsSpanOf commits.now span.now }
-    ensures { result ≡ commits_spec.last_touch (opening_in commits.now) (ops_of commits.now) store steps.now span.now }
-{
-    last_touch(commits, *span, store, steps)
-}
-
-/// The last commit in the span that touched the path.
-pub(crate) fn last_touch(
-    commits: &[Commit],
-    span: Span,
-    store: Store,
-    steps: &[Step],
-) -> Option<u64>
-    requires kept { AreKept commits.now }
-    requires span { IsSpanOf commits.now span }
-    ensures { result ≡ commits_spec.last_touch (opening_in commits.now) (ops_of commits.now) store steps.now span }
-{
-    for back in 0..span.to - span.from {
-        let number = span.to - back;
-        if touches_at(commits, number, store, steps) {
-            return Some(number);
-        }
-    }
-    None
-}
-
-// Whether the commit of this number touched the path.
-fn touches_at(commits: &[Commit], number: u64, store: Store, steps: &[Step]) -> bool
-    requires kept { AreKept commits.now }
-    requires low { 1 ≤ number }
-    requires high { number < length commits.now }
-    ensures { result ≡ commits_spec.touches_at (opening_in commits.now) (ops_of commits.now) store steps.now number }
-{
-    let at = number as usize;
-    let before = tree_of(&commits[at - 1].trees, store);
-    is_touched(before, store, commits[at].ops.items(), steps)
 }

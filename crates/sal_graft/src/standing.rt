@@ -2,8 +2,10 @@
 ghost use Rattle.std.specs.Prelude.{◌≡◌, Some, is_some};
 ghost use Rattle.sal_types.specs.Tree.{cell, has};
 ghost use Rattle.sal_node.specs.Shape.{tree_at};
+ghost use Rattle.sal_tree.specs.Alike.{alike};
 ghost use Rattle.sal_tree.specs.Grow.{at, kid, present, IsSound};
 ghost use Rattle.sal_tree.specs.Rows.{rows_of};
+ghost use Rattle.sal_graft.specs.Following.{filled};
 
 use sal_node::Node;
 use sal_tree::Root;
@@ -28,6 +30,46 @@ pub(crate) fn has_cell(tree: &Root, steps: &[Step]) -> bool
         None => false,
         Some(node) => is_celled(node),
     }
+}
+
+/// Whether nothing stands at the steps in either tree, or something in both and with one stamp.
+pub(crate) fn is_alike(before: &Root, after: &Root, steps: &[Step]) -> bool
+    ensures { result ≡ alike (filled (at (Some before.now) steps.now)) (filled (at (Some after.now) steps.now)) }
+{
+    same_stamp(filled_at(before, steps), filled_at(after, steps))
+}
+
+fn same_stamp(before: Option<&Arc<Node>>, after: Option<&Arc<Node>>) -> bool
+    ensures { result ≡ alike (tree_at before.entry) (tree_at after.entry) }
+{
+    match (before, after) {
+        (None, None) => true,
+        (Some(one), Some(other)) => one.stamp() == other.stamp(),
+        _ => false,
+    }
+}
+
+// The node that the steps lead to, where a row stands at it or below it.
+fn filled_at<'a>(tree: &'a Root, steps: &[Step]) -> Option<&'a Arc<Node>>
+    ensures { tree_at result ≡ filled (at (Some tree.now) steps.now) }
+{
+    match node_at(tree, steps) {
+        None => None,
+        Some(node) => if_filled(node),
+    }
+}
+
+fn if_filled(node: &Arc<Node>) -> Option<&Arc<Node>>
+    ensures { tree_at result ≡ filled (Some node.entry.now.value) }
+{
+    if node.is_filled() { Some(node) } else { None }
+}
+
+/// The node that the steps lead to.
+pub(crate) fn node_at<'a>(tree: &'a Root, steps: &[Step]) -> Option<&'a Arc<Node>>
+    ensures { tree_at result ≡ at (Some tree.now) steps.now }
+{
+    reached(Some(tree.node()), steps)
 }
 
 fn is_celled(node: &Node) -> bool

@@ -6,7 +6,7 @@ use Rattle.sal_rows.specs.Commits.{touches_at}
 use Rattle.sal_rows.specs.Clash.{numbers_over}
 use Rattle.sal_graft.specs.Kept.{opening_in, ops_of}
 use Rattle.sal_graft.proofs.Clashes.{turn_at}
-use Rattle.sal_graft.proofs.span.last_touch_over.Goals as goal
+use Rattle.sal_graft.proofs.naming.last_touch_over.Goals as goal
 
 pub returns-in-Some : goal.returns-in-Some
 returns-in-Some c =

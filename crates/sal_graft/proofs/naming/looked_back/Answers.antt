@@ -4,7 +4,7 @@ use Rattle.std.specs.Prelude.{find}
 use Rattle.sal_rows.specs.Commits.{numbers_after, touches_at}
 use Rattle.sal_graft.specs.Kept.{opening_in, ops_of}
 use Rattle.sal_graft.proofs.Looking.{turn_back}
-use Rattle.sal_graft.proofs.span.last_touch.Goals as goal
+use Rattle.sal_graft.proofs.naming.looked_back.Goals as goal
 
 pub returns-then-touches_at : goal.returns-then-touches_at
 returns-then-touches_at c =

@@ -4,7 +4,7 @@ use Rattle.std.specs.Prelude.{find}
 use Rattle.sal_rows.specs.Commits.{touches_at}
 use Rattle.sal_rows.specs.Clash.{last_touch_over, numbers_over}
 use Rattle.sal_graft.specs.Kept.{opening_in, ops_of}
-use Rattle.sal_graft.proofs.span.last_touch_over.Given as goal
+use Rattle.sal_graft.proofs.naming.last_touch_over.Given as goal
 
 abbrev pub invariant-loop-back : goal.invariant-loop-back
 invariant-loop-back l =

@@ -5,7 +5,7 @@ use Rattle.sal_rows.specs.declared.op.Op.{Op}
 use Rattle.sal_graft.specs.Kept.{rows_in}
 use Rattle.sal_tree.specs.declared.commit.Commit.{Commit}
 use Rattle.sal_graft.proofs.KeptLemmas.{touches_at-kept}
-use Rattle.sal_graft.proofs.span.touches_at.Goals as goal
+use Rattle.sal_graft.proofs.naming.touches_at.Goals as goal
 
 pub returns : goal.returns
 returns c =

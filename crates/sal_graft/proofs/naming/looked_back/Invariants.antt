@@ -3,7 +3,7 @@ use Rattle.std.proofs.Common.{◌≡◌, ◌-◌, reverse}
 use Rattle.std.specs.Prelude.{find}
 use Rattle.sal_rows.specs.Commits.{numbers_after, touches_at, last_touch}
 use Rattle.sal_graft.specs.Kept.{opening_in, ops_of}
-use Rattle.sal_graft.proofs.span.last_touch.Given as goal
+use Rattle.sal_graft.proofs.naming.looked_back.Given as goal
 
 abbrev pub invariant-loop-back : goal.invariant-loop-back
 invariant-loop-back l =

@@ -81,7 +81,11 @@ module _ (kept : List Commit) (are : AreKept kept) (following : AreFollowing kep
         let fewer : suc n - 1 ≡ n = omega arith in
         subst (Tells a (suc n) c d) (sym (find_back t a (suc n) (omega arith) ∙ ap (λ k. cond (t (a + suc n)) (Some (a + suc n)) (find t (reverse (numbers_after a k)))) fewer))
         (elim (t (a + suc n)) as (λ b. t (a + suc n) ≡ b → Tells a (suc n) c d (cond b (Some (a + suc n)) (find t (reverse (numbers_after a n))))) [
-          | true ↦ λ is. (omega arith, omega arith, λ x m at_x stands.
-              (made.follows s).stamped p m (sym asks ∙ is) stands ∙ ap (λ (y : Commit). stamp_of y.receipt) (same_at (a + suc n) (a + suc n) d x refl short at_d at_x))
+          | true ↦ λ is. (
+            omega arith,
+            omega arith,
+            λ x m at_x stands.
+                (made.follows s).stamped p m (sym asks ∙ is) stands ∙ ap (λ (y : Commit). stamp_of y.receipt) (same_at (a + suc n) (a + suc n) d x refl short at_d at_x),
+          )
           | false ↦ λ is. tells_back a n c e d (find t (reverse (numbers_after a n))) ((made.follows s).kept p (sym asks ∙ is)) (tells n a c e (omega (arith, short)) at_c at_e)
         ] refl)

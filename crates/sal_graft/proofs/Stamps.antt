@@ -132,15 +132,15 @@ module _ (kept : List Commit) (are : AreKept kept) (following : AreFollowing kep
                 let higher = rise number k (get_or kept number d) (get_or kept k d) (omega (arith, less)) short (at_some number within) (at_some k short) in
                 absurd (omega (arith, lower, higher, limit, less))
             | inr more ↦ elim (cases_lt k number) [
-                | inl less ↦
-                    let within : number - 1 < length kept = omega (arith, less, first.high, is.ends) in
-                    let lower = first.before (get_or kept (number - 1) d) (omega (arith, tell.0, less)) (at_some (number - 1) within) in
-                    let higher = rise k (number - 1) (get_or kept k d) (get_or kept (number - 1) d) (omega (arith, less)) within (at_some k short) (at_some (number - 1) within) in
-                    absurd (omega (arith, lower, higher, limit))
-                | inr same ↦
-                    let is_k : number ≡ k = omega (arith, more, same) in
-                    ap (λ b. if b then None else Some number) (apart (omega (arith, tell.0, is_k))) ∙ ap Some is_k
-              ]
+              | inl less ↦
+                  let within : number - 1 < length kept = omega (arith, less, first.high, is.ends) in
+                  let lower = first.before (get_or kept (number - 1) d) (omega (arith, tell.0, less)) (at_some (number - 1) within) in
+                  let higher = rise k (number - 1) (get_or kept k d) (get_or kept (number - 1) d) (omega (arith, less)) within (at_some k short) (at_some (number - 1) within) in
+                  absurd (omega (arith, lower, higher, limit))
+              | inr same ↦
+                  let is_k : number ≡ k = omega (arith, more, same) in
+                  ap (λ b. if b then None else Some number) (apart (omega (arith, tell.0, is_k))) ∙ ap Some is_k
+            ]
           ]
 
   pub first-last : (number stamp : ℕ) (d : Commit) (n : Tree) → IsFirst (stamp / 2) number → d ≡ get_or kept span.to d → at (Some (tree_in d.trees s)) p ≡ Some n → n.stamp ≡ stamp

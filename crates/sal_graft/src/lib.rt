@@ -1,7 +1,10 @@
-//! Which later commit a submission clashes with, by looking through the kept commits.
+//! Which later commit a submission clashes with, by the stamps in the trees of the kept commits.
 //!
 //! `conflict` answers the clash of the definitions (`Clash` in `sal_rows`, with both its tests) over the trees of the
-//! kept commits, which are those that their operations make of the opening (`AreKept`).
+//! kept commits, which are those that their operations make of the opening (`AreKept`), each made of the one before it: what it
+//! touched has the stamp of its receipt, and every other node stayed (`AreFollowing`). So a path is unchanged over a span exactly
+//! where nothing stands there at either end, or at both ends something with one stamp, and what stands there at the end tells
+//! by its stamp which commit touched it last.
 //!
 //! `foreign_spans` answers where the commits lie that may clash with a submission (`Spans` in `sal_rows`): the pieces of
 //! those after its base that the commits of its own chain part. A submission of no chain has one span.
@@ -11,10 +14,13 @@
 //! let found = conflict(&changes, &base, &spans, &commits);
 //! ```
 //!
-//! `conflict` takes no memory. It looks at both ends of each span for each put and delete, and back through the commits of
-//! a span at a path that is present at both ends; each look at a commit goes over its operations and their rows.
-//! `foreign_spans` takes the list of the spans. It looks at the chain of each commit after the base, or, for a submission
-//! of no chain, at none.
+//! | call | cost |
+//! |---|---|
+//! | `conflict`, for each put or delete that nothing covers | two searches for its path at the ends of each span, whatever commits lie between; no memory |
+//! | `conflict`, for each put and merge | one search in the base for each step above its path, and two in the newest tree where that finds a row |
+//! | the commit that a conflict names, where something stands at its path at the end of the span | one search for the path, and one by halves for the receipt |
+//! | the same, where nothing stands there | a look back through the commits of the span, at the operations of each and their rows |
+//! | `foreign_spans` | the list of the spans, and a look at the chain of each commit after the base; of no chain one span, and no look |
 #![tactic(auto)]
 
 mod foreign;

@@ -51,11 +51,13 @@ fn lies_below(op: &Op) -> bool
 {
     match &op.act {
         Act::Put(rows) => lie_under(rows, &op.path),
-        _ => false,
+        Act::Merge(rows) => lie_under(rows, &op.path),
+        Act::Delete => false,
     }
 }
 
-fn changed(alloc: Global, op: Op) -> Result<Mod, NoMemory>
+/// A transaction of one operation.
+pub(crate) fn changed(alloc: Global, op: Op) -> Result<Mod, NoMemory>
     ensures { IfOk result (λ changes. changes ≡ op ∷ []) }
 {
     let mut changes = Mod::new(alloc);
@@ -107,8 +109,8 @@ fn next_receipt(domain: &Domain) -> Result<u64, Fail>
     Ok(last.receipt + 1)
 }
 
-// The outcome of an operation on the trees of a commit.
-fn decided(domain: &mut Domain, alloc: Global, base_commit: u64, op: Op) -> Result<Outcome, Fail>
+/// The outcome of an operation on the trees of a commit.
+pub(crate) fn decided(domain: &mut Domain, alloc: Global, base_commit: u64, op: Op) -> Result<Outcome, Fail>
     requires { AreKept domain.old.commits.items }
     ensures { IfOk result (λ o. AreKept domain.new.commits.items) }
 {

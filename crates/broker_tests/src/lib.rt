@@ -10,6 +10,8 @@ mod hub;
 #[cfg(test)]
 mod mirror;
 #[cfg(test)]
+mod near;
+#[cfg(test)]
 mod node;
 #[cfg(test)]
 mod operations;

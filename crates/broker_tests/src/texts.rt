@@ -80,12 +80,18 @@ fn add(list: &mut Vec<Row>, alloc: Global, word: &str) -> Result<(), Fail> {
     Ok(())
 }
 
+/// Puts the rows of a text with blanks between them at the end of a list.
+pub(crate) fn add_all(list: &mut Vec<Row>, alloc: Global, text: &str) -> Result<(), Fail> {
+    for word in text.split(' ') {
+        add(list, alloc, word)?;
+    }
+    Ok(())
+}
+
 /// The rows of a text with blanks between them, as a list.
 pub(crate) fn list_of(alloc: Global, text: &str) -> Result<Vec<Row>, Fail> {
     let mut list = Vec::new(alloc);
-    for word in text.split(' ') {
-        add(&mut list, alloc, word)?;
-    }
+    add_all(&mut list, alloc, text)?;
     Ok(list)
 }
 

@@ -1,4 +1,4 @@
-pub mod Agreeing
+pub mod Following
 pub mod Applying
 pub mod Decided
 pub mod Sounds

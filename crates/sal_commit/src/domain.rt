@@ -2,11 +2,12 @@
 ghost use Rattle.std.specs.Prelude.{◌≡◌, ◌+◌, ◌<◌, [], ◌∷◌, None, IfOk, MatchResult, OnOk, length, take};
 ghost use Rattle.std.specs.Coded.{codes};
 ghost use Rattle.sal_node.specs.Code.{tree_code};
+ghost use Rattle.sal_graft.specs.Following.{AreFollowing};
 ghost use Rattle.sal_graft.specs.Kept.{AreKept, chains_of, opening_in, ops_of};
 ghost use Rattle.sal_delta.specs.Agreed.{AreAgreed};
 ghost use Rattle.sal_commit.specs.Opening.{fault_of, IsFaultOf, opening_of_device};
 ghost use Rattle.sal_commit.specs.Sound.{AreSound};
-ghost use Rattle.sal_commit.specs.Stamps.{AreStamped, receipts_of};
+ghost use Rattle.sal_commit.specs.Stamps.{receipts_of};
 
 use crate::fault::DomainFault;
 use crate::opening::{first_commits, sound_trees};
@@ -19,8 +20,8 @@ use std::alloc::Global;
 use std::sync::Arc;
 
 /// A domain: a pair of stores with one schema, and its commits from the opening on. Commit `k` stands at index `k`. No
-/// tree of a commit breaks a structural rule. Where nodes of a commit and of the next one have one path and one stamp, they
-/// are the same.
+/// tree of a commit breaks a structural rule. Each commit was made of the one before it: what its operations touch has the stamp of
+/// its receipt, and every other node stayed. So where nodes of two neighbours have one path and one stamp, they are the same.
 #[derive(Drop)]
 pub struct Domain {
     pub number: u32,
@@ -32,7 +33,7 @@ pub struct Domain {
     pub ghost planned: { plan.schema.value ≡ schema.value },
     pub ghost sound: { AreSound schema.value commits.items },
     pub ghost agreed: { AreAgreed commits.items } by { Prim.hlevel (codes, tree_code) },
-    pub ghost stamped: { AreStamped commits.items },
+    pub ghost following: { AreFollowing commits.items } by { Prim.hlevel (codes, tree_code) },
 }
 
 impl Domain {

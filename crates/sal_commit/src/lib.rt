@@ -2,7 +2,7 @@
 //!
 //! | item | what it is |
 //! |---|---|
-//! | `Domain` | a domain: its number, its schema and its commits, the opening first; no tree of a commit breaks a structural rule, and the trees of neighbours agree by their stamps |
+//! | `Domain` | a domain: its number, its schema and its commits, the opening first; no tree of a commit breaks a structural rule, and each was made of the one before it by the commit's operations and the stamp of its receipt |
 //! | `DomainFault` | why a domain is not opened |
 //! | `can` | whether a submission's chain has failed, its domain is not live, or it conflicts with the foreign commits after its base |
 //! | `pre` | both trees after the submission, where they break no structural rule |
@@ -16,8 +16,8 @@
 //! foreign where it is not of the submission's own chain; all are to a submission of none. `pre` takes the memory of the
 //! new commit and changes nothing; `publish` takes none, so it changes both stores, or, where it is not reached, neither.
 //!
-//! `specs/` says which commits break no rule and what a change keeps of the newest trees (`Sound`), which stamps commits give
-//! and what may follow them (`Stamps`), what opens a domain
+//! `specs/` says which commits break no rule and what a change keeps of the newest trees (`Sound`), which stamp a new
+//! commit gives and what may stand behind others (`Stamps`), what opens a domain
 //! (`Opening`), what stays of one (`Domains`), what each phase gives and what a decision leaves (`Deciding`), and what `can`
 //! and `pre` come to together (`Attempts`).
 //!
@@ -30,7 +30,7 @@
 //! | `Domain::open` | a node for each path of the opening, and a list of numbers for each schema node | the schema | the opening's rows, and both trees whole |
 //! | `Domain::reserve` | the list of commits, as it grows, without what they hold | all of them | |
 //! | `Domain::cut_to` | | | the commits that it drops |
-//! | `can` | the spans between the commits of the chain, and the path that a conflict names | | of a chained submission the chains of the commits after its base; for each operation its path at both ends of each span, and back through the foreign commits with their operations and rows; nothing where the chain has failed or the domain is not live |
+//! | `can` | the spans between the commits of the chain, and the path that a conflict names | | of a chained submission the chains of the commits after its base; for each operation its path at both ends of each span; for a conflict whose path is absent at the end of its span that span's commits with their operations and rows; nothing where the chain has failed or the domain is not live |
 //! | `pre` | the operations with their rows, and for each of them the nodes on the way to what it sets | all other nodes of both trees | of both new trees the nodes that are not shared, and the lists in which something changed, where they state a count, or a `unique` of which a leaf changed |
 //! | `publish` | | the commit, which is moved | |
 //! | `decide` | what `can`, `pre` and `reserve` copy | as these | as these |

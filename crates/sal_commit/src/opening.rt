@@ -3,11 +3,11 @@ ghost use Rattle.std.specs.Prelude.{◌≡◌, [], ◌∷◌, IfOk, MatchResult,
 ghost use Rattle.sal_types.specs.declared.value.Store.{Store as Of};
 ghost use Rattle.sal_schema.specs.declared.table.SchemaTable.{SchemaTable as Table};
 ghost use Rattle.sal_tree.specs.Rows.{rows_of};
+ghost use Rattle.sal_graft.specs.Following.{AreFollowing, BothUpTo};
 ghost use Rattle.sal_graft.specs.Kept.{AreKept, chains_of, opening_in, ops_of, rows_in};
-ghost use Rattle.sal_delta.specs.Agreed.{AreAgreed};
 ghost use Rattle.sal_commit.specs.Opening as spec;
 ghost use Rattle.sal_commit.specs.Sound.{AreSound, BreakNone};
-ghost use Rattle.sal_commit.specs.Stamps.{AreStamped, BothUpTo, receipts_of};
+ghost use Rattle.sal_commit.specs.Stamps.{receipts_of};
 
 use crate::fault::DomainFault;
 use sal_check::{Plan, check_by};
@@ -73,8 +73,7 @@ pub(crate) fn first_commits(alloc: Global, trees: Pair) -> Result<Vec<Commit>, N
     ensures receipts { IfOk result (λ v. receipts_of v.items ≡ 0 ∷ []) }
     ensures opening { IfOk result (λ v. (s : Of) → opening_in v.items s ≡ rows_in trees s) }
     ensures sound { IfOk result (λ v. (table : Table) → BreakNone table trees → AreSound table v.items) }
-    ensures agreed { IfOk result (λ v. AreAgreed v.items) }
-    ensures stamped { IfOk result (λ v. BothUpTo 1 trees → AreStamped v.items) }
+    ensures following { IfOk result (λ v. BothUpTo 1 trees → AreFollowing v.items) }
 {
     let opening = Commit {
         number: 0,

@@ -157,7 +157,7 @@ fn copied(alloc: Global, ops: &[Op]) -> Result<Ops, NoMemory>
 
 /// commit: the prepared commit is the domain's newest one, with both its trees. It takes no memory.
 ///
-/// The commit was prepared for the domain: its trees break no rule of the domain's schema, and agree with the newest ones.
+/// The commit was prepared for the domain: its trees break no rule of the domain's schema, and were made of the newest ones.
 pub fn publish(prepared: Prepared, domain: &mut Domain) -> Outcome
     requires room { is_roomy domain.old }
     requires sound { BreakNone domain.old.schema.value prepared.commit.trees }

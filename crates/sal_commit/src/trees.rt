@@ -6,13 +6,17 @@ ghost use Rattle.sal_types.specs.declared.value.Store.TheVariants.{Config, Oper}
 ghost use Rattle.sal_types.specs.Tree.{under};
 ghost use Rattle.sal_rows.specs.Apply.{apply_ops, rows_of_act};
 ghost use Rattle.sal_rules.specs.Breaches.{breach};
+ghost use Rattle.sal_rows.specs.Touch.{touches};
 ghost use Rattle.sal_check.specs.Near.{Keeps};
+ghost use Rattle.sal_node.specs.Tree.{IsGrove};
+ghost use Rattle.sal_tree.specs.Follows.{Follows, exactly};
 ghost use Rattle.sal_tree.specs.Rows.{rows_of};
 ghost use Rattle.sal_tree.specs.declared.commit.Commit.{Commit as Kept};
 ghost use Rattle.sal_rows.specs.Clash.{tip};
 ghost use Rattle.sal_graft.specs.Kept.{AreKept, opening_in, ops_of, rows_in, tree_in};
 ghost use Rattle.sal_commit.specs.Deciding as spec;
 ghost use Rattle.sal_commit.specs.Sound.{BreakNone, KeepNewest};
+ghost use Rattle.sal_commit.specs.Stamps.{FollowNewest};
 
 use crate::domain::Domain;
 use sal_check::{Plan, check_near};
@@ -33,6 +37,7 @@ pub(crate) fn next_trees(
     requires { spec.IsFor domain.now sub.now }
     ensures rows { IfOk result (λ trees. (s : OfStore) → rows_in trees s ≡ apply_ops (tip (opening_in domain.now.commits.items) (ops_of domain.now.commits.items) s) s sub.now.changes) }
     ensures stamps { IfOk result (KeepNewest (fresh ∷ []) domain.now.commits.items) }
+    ensures follows { IfOk result (FollowNewest fresh sub.now.changes domain.now.commits.items) }
 {
     let mut trees = newest(&domain.commits)?;
     for op in sub.changes.ops() {
@@ -45,6 +50,7 @@ pub(crate) fn next_trees(
 fn newest(commits: &[Commit]) -> Result<Pair, NoMemory>
     requires { AreKept commits.now }
     ensures rows { IfOk result (λ trees. (s : OfStore) → rows_in trees s ≡ apply_ops (tip (opening_in commits.now) (ops_of commits.now) s) s []) }
+    ensures whole { IfOk result (λ trees. (s : OfStore) → IsGrove (tree_in trees s).kids) }
     ensures same { IfOk result (λ trees. (c : Kept) → c ≡ slice_index_or commits.now (length commits.now - 1) c → trees ≡ c.trees) }
 {
     let last = &commits[commits.len() - 1].trees;
@@ -58,7 +64,8 @@ fn newest(commits: &[Commit]) -> Result<Pair, NoMemory>
 fn applied(alloc: Global, trees: Pair, op: &Op, fresh: u64) -> Result<Pair, NoMemory>
     requires { under (rows_of_act op.now.act) op.now.path ≡ rows_of_act op.now.act }
     ensures rows { IfOk result (λ after. (s : OfStore) → rows_in after s ≡ apply_ops (rows_in trees s) s (op.now ∷ [])) }
-    ensures stamps { IfOk result (λ after. (s : OfStore) → Keeps (fresh ∷ []) (tree_in trees s) (tree_in after s)) }
+    ensures whole { IfOk result (λ after. (s : OfStore) → IsGrove (tree_in after s).kids) }
+    ensures stamps { IfOk result (λ after. (s : OfStore) → Follows (exactly fresh) (touches (rows_in trees s) s (op.now ∷ [])) (tree_in trees s) (tree_in after s)) }
 {
     let config = after_op(alloc, &trees.config, Store::Config, op, fresh)?;
     let oper = after_op(alloc, &trees.oper, Store::Oper, op, fresh)?;
@@ -69,7 +76,8 @@ fn applied(alloc: Global, trees: Pair, op: &Op, fresh: u64) -> Result<Pair, NoMe
 fn after_op(alloc: Global, tree: &Root, store: Store, op: &Op, fresh: u64) -> Result<Root, NoMemory>
     requires { under (rows_of_act op.now.act) op.now.path ≡ rows_of_act op.now.act }
     ensures rows { IfOk result (λ after. rows_of after ≡ apply_ops (rows_of tree.now) store (op.now ∷ [])) }
-    ensures stamps { IfOk result (λ after. Keeps (fresh ∷ []) tree.now after) }
+    ensures whole { IfOk result (λ after. IsGrove after.kids) }
+    ensures stamps { IfOk result (λ after. Follows (exactly fresh) (touches (rows_of tree.now) store (op.now ∷ [])) tree.now after) }
 {
     let _ = tree.node();
     if !same_store(op.store, store) {

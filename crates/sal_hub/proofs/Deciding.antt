@@ -12,6 +12,7 @@ use Rattle.sal_rows.specs.declared.op.Op.{Op}
 use Rattle.sal_rows.specs.declared.outcome.Outcome.{Outcome}
 use Rattle.sal_rows.specs.declared.outcome.Outcome.TheVariants.{ChainFailed}
 use Rattle.sal_rows.specs.Spans.{spans}
+use Rattle.sal_graft.specs.Following.{stamp_of}
 use Rattle.sal_graft.specs.Kept.{AreKept, chains_of, opening_in, ops_of, rows_in}
 use Rattle.sal_graft.proofs.KeptLemmas.{length-ops_of}
 use Rattle.sal_tx.specs.declared.tx.Submission.{Submission}
@@ -19,7 +20,7 @@ use Rattle.sal_commit.specs.declared.domain.Domain.{Domain}
 use Rattle.sal_commit.specs.Deciding.{Decides, IsFor}
 use Rattle.sal_commit.specs.Deciding as commit
 use Rattle.sal_commit.specs.Domains.{IsSame}
-use Rattle.sal_commit.specs.Stamps.{IsNewStamp, receipts_of, stamp_of}
+use Rattle.sal_commit.specs.Stamps.{IsNewStamp, receipts_of}
 use Rattle.sal_history.specs.Outcome as rules
 use Rattle.sal_history.specs.World.{opening_of, table_of}
 use Rattle.sal_history.specs.History.{decide_front, outcome, unmounted_of}

@@ -1,6 +1,6 @@
 -- Each node has the stamp 0.
 use Rattle.std.proofs.Common.{◌≤◌, arith}
-use Rattle.sal_commit.proofs.Agreeing.{up_to-stamped}
+use Rattle.sal_commit.proofs.Following.{up_to-stamped}
 use Rattle.sal_commit.proofs.opening.opened.Goals as goal
 
 pub returns-clause-stamps : goal.returns-clause-stamps

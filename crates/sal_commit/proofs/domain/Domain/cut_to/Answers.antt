@@ -1,16 +1,17 @@
--- The commits that stay break no rule, and agree.
+-- The commits that stay break no rule, and follow one another.
 use Rattle.std.proofs.Common.{◌+◌, sym, subst}
-use Rattle.sal_delta.specs.Agreed.{AreAgreed}
+use Rattle.sal_graft.specs.Following.{AreFollowing}
 use Rattle.sal_commit.specs.Sound.{AreSound}
-use Rattle.sal_commit.specs.Stamps.{AreStamped}
-use Rattle.sal_commit.proofs.Agreeing.{AreAgreed-take, AreStamped-take}
+use Rattle.sal_commit.proofs.Following.{AreAgreed-following, AreFollowing-take}
 use Rattle.sal_commit.proofs.Sounds.{AreSound-take}
 use Rattle.sal_commit.proofs.domain.Domain.cut_to.Goals as goal
 
 pub invariant_of-self : goal.invariant_of-self
-invariant_of-self c = record {
-  planned = c.args.self.now.planned;
-  sound = subst (AreSound c.args.self.now.schema.value) (sym c.truncate.ensures.items) (AreSound-take c.args.self.now.schema.value (c.args.number + 1) c.args.self.now.commits.items c.args.self.now.sound);
-  agreed = subst AreAgreed (sym c.truncate.ensures.items) (AreAgreed-take (c.args.number + 1) c.args.self.now.commits.items c.args.self.now.agreed);
-  stamped = subst AreStamped (sym c.truncate.ensures.items) (AreStamped-take (c.args.number + 1) c.args.self.now.commits.items c.args.self.now.stamped);
-}
+invariant_of-self c =
+    let following : AreFollowing c.truncate.new.self.items = subst AreFollowing (sym c.truncate.ensures.items) (AreFollowing-take (c.args.number + 1) c.args.self.now.commits.items c.args.self.now.following) in
+    record {
+      planned = c.args.self.now.planned;
+      sound = subst (AreSound c.args.self.now.schema.value) (sym c.truncate.ensures.items) (AreSound-take c.args.self.now.schema.value (c.args.number + 1) c.args.self.now.commits.items c.args.self.now.sound);
+      agreed = AreAgreed-following c.truncate.new.self.items following;
+      following = following;
+    }

@@ -107,7 +107,7 @@ module _ (old : Domain) (sub : Submission) (next : Commit) (are : AreKept old.co
   pub Decides-done : (new : Domain) (n : ℕ) → IsSame old new → new.commits.items ≡ old.commits.items ++ next ∷ [] → Decides old sub (Done n) new
   Decides-done new n same pushed = record {
     same = same;
-    kept = subst AreKept (sym pushed) (AreKept-push old.commits.items last next are at_last after);
+    kept = subst AreKept (sym pushed) (AreKept-push old.commits.items last next are is.number at_last after);
     opening = ap opening_in pushed ∙ (λ i s. opening_in-push old.commits.items next s are.opened i);
     commits = ap ops_of pushed ∙ ops_of-push old.commits.items next are.opened ∙ ap (λ ops. ops_of old.commits.items ++ ops ∷ []) is.ops;
     chains = ap chains_of pushed ∙ chains_of-push old.commits.items next are.opened ∙ ap (λ chain. chains_of old.commits.items ++ chain ∷ []) is.chain;

@@ -14,12 +14,17 @@ use Rattle.sal_tree.specs.declared.commit.Commit.{Commit}
 use Rattle.sal_graft.specs.Kept.{AreKept, chains_of, opening_in, all_ops, ops_of, rows_in}
 use Rattle.sal_graft.proofs.KeptLemmas.{length-ops_of}
 
-pub AreKept-opening : (c : Commit) → AreKept (c ∷ [])
-AreKept-opening c = record {
+pub AreKept-opening : (c : Commit) → c.number ≡ 0 → AreKept (c ∷ [])
+AreKept-opening c first = record {
   opened = omega arith;
+  numbers = numbered;
   trees = at;
 }
   where
+    numbered : (k : ℕ) (x : Commit) → k < 1 → x ≡ get_or (c ∷ []) k x → x.number ≡ k
+    numbered zero x h is = ap (λ (y : Commit). y.number) is ∙ first
+    numbered (suc k) x h is = absurd (omega arith)
+
     at : (k : ℕ) (x : Commit) (s : Store) → k < 1 → x ≡ get_or (c ∷ []) k x → rows_in x.trees s ≡ tree_at (opening_in (c ∷ [])) [] s k
     at zero x s h is = ap (λ (y : Commit). rows_in y.trees s) is
     at (suc k) x s h is = absurd (omega arith)
@@ -51,7 +56,7 @@ tree_at-push opening ops new s k h = ap (tree_after s (opening s)) (take-append-
 tree_at-all : (opening : Store → List Row) (ops : List (List Op)) (s : Store) (k : ℕ) → length ops ≤ k → tree_at opening ops s k ≡ tree_after s (opening s) ops
 tree_at-all opening ops s k h = ap (tree_after s (opening s)) (take_all k ops h)
 
-module _ (kept : List Commit) (last next : Commit) (are : AreKept kept) (at_last : last ≡ get_or kept (length kept - 1) last) (after : (s : Store) → rows_in next.trees s ≡ apply_ops (rows_in last.trees s) s next.ops.value) where
+module _ (kept : List Commit) (last next : Commit) (are : AreKept kept) (numbered : next.number ≡ length kept) (at_last : last ≡ get_or kept (length kept - 1) last) (after : (s : Store) → rows_in next.trees s ≡ apply_ops (rows_in last.trees s) s next.ops.value) where
   long : length (ops_of kept) ≡ length kept - 1
   long = length-ops_of kept are.opened
 
@@ -82,10 +87,20 @@ module _ (kept : List Commit) (last next : Commit) (are : AreKept kept) (at_last
       pushed : (d : Commit) → get_or (kept ++ next ∷ []) (length kept) d ≡ next
       pushed d = get_or-append_seam kept next [] d
 
-  -- a commit whose trees are those of the last one after its operations
+  number_at : (k : ℕ) (c : Commit) → k ≡ length kept → c ≡ get_or (kept ++ next ∷ []) k c → c.number ≡ k
+  number_at k c h is =
+      ap (λ (x : Commit). x.number) (is ∙ ap (λ i. get_or (kept ++ next ∷ []) i c) h ∙ get_or-append_seam kept next [] c)
+      ∙ numbered ∙ sym h
+
+  -- a commit behind the last one, with the next number, whose trees are those of the last one after its operations
   pub AreKept-push : AreKept (kept ++ next ∷ [])
   AreKept-push = record {
     opened = omega (arith, length-append kept (next ∷ []));
+    numbers = λ k c h is.
+        elim (cases_lt k (length kept)) [
+          | inl less ↦ are.numbers k c less (is ∙ get_or_append_left kept (next ∷ []) c k less)
+          | inr more ↦ number_at k c (omega (arith, length-append kept (next ∷ []))) is
+        ];
     trees = λ k c s h is.
         elim (cases_lt k (length kept)) [
           | inl less ↦ before k c s less is

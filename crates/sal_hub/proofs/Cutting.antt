@@ -65,6 +65,9 @@ chains_of-take (c ∷ cs) k = chains-take cs k
 pub AreKept-take : (cs : List Commit) (k : ℕ) → AreKept cs → AreKept (take (suc k) cs)
 AreKept-take cs k are = record {
   opened = omega (arith, length-take (suc k) cs, are.opened);
+  numbers = λ j c h is.
+      let short : j < suc k = omega (arith, h, length-take (suc k) cs) in
+      are.numbers j c (omega (arith, h, length-take (suc k) cs)) (is ∙ get_or-take (suc k) cs j c short);
   trees = λ j c s h is.
       let short : j < suc k = omega (arith, h, length-take (suc k) cs) in
       let within : j < length cs = omega (arith, h, length-take (suc k) cs) in

@@ -11,7 +11,7 @@ use Rattle.sal_history.specs.declared.reply.Reply.{Reply}
 use Rattle.sal_history.specs.World.{Domain}
 use Rattle.sal_history.specs.History.{Answered, chain_domains, commits, decided_by, history, is_live, is_spent, opened_chain, outcomes, reply_to, sent_by, sents, spends}
 use Rattle.sal_history.specs.Services.{mount_call}
-use Rattle.sal_history.specs.Submissions.{Sent, done, done_ops, failing}
+use Rattle.sal_history.specs.Submissions.{Sent, done, done_chains, done_ops, failing}
 use Rattle.sal_hub.specs.Current.{IsCurrent, answers}
 use Rattle.sal_hub.specs.Journals.{mark_at}
 use Rattle.sal_hub.specs.CommitReceipts.{commit_receipts}
@@ -36,6 +36,9 @@ none_more n = omega arith
 -- the commits that are kept are the log's
 pub commits-current : (log : List Entry) (marks : List Bool) (line : Line) (n : ℕ) → IsCurrent log marks line → commits_in line n ≡ commits (answers log line) n
 commits-current log marks line n was = λ i. done_ops n (was.submissions i) (was.outcomes i)
+
+pub chains-current : (log : List Entry) (marks : List Bool) (line : Line) (n : ℕ) → IsCurrent log marks line → chains_in line n ≡ done_chains n (sents (answers log line)) (outcomes (answers log line))
+chains-current log marks line n was = λ i. done_chains n (was.submissions i) (was.outcomes i)
 
 pub receipts-current : (log : List Entry) (marks : List Bool) (line : Line) (n : ℕ) → IsCurrent log marks line → receipts_in line n ≡ commit_receipts n (sents (answers log line)) (outcomes (answers log line))
 receipts-current log marks line n was = λ i. commit_receipts n (was.submissions i) (was.outcomes i)

@@ -18,7 +18,7 @@ use Rattle.sal_hub.specs.Journals.{Noted}
 use Rattle.sal_hub.specs.Known.{Known}
 use Rattle.sal_hub.specs.Lines.{AllKept, is_live_in, line_of, opened_as, shown, world_in}
 use Rattle.sal_hub.proofs.Deciding.{live-here, live-within, opening-at, table-at}
-use Rattle.sal_hub.proofs.Keeping.{commits-current, receipts-current}
+use Rattle.sal_hub.proofs.Keeping.{chains-current, commits-current, receipts-current}
 use Rattle.sal_hub.proofs.Listed.{slice_get_at}
 
 pub shown_at : (ds : List Domain) (n : ℕ) (d : Domain) → n < length ds → d ≡ get_or ds n d → slice_get (map shown ds) n ≡ Some (shown d)
@@ -54,6 +54,7 @@ module _ (journal : Noted) (p : Pipeline) (is : IsKept journal p) where
           kept = kept_at p.domains.items n d is.kept h at;
           opening = λ i s. sym (opening-at (line_of p).domains n (shown d) s here) i;
           commits = stored.commits ∙ commits-current journal.log journal.marks (line_of p) n is.current;
+          chains = stored.chains ∙ chains-current journal.log journal.marks (line_of p) n is.current;
           receipts = stored.receipts ∙ receipts-current journal.log journal.marks (line_of p) n is.current;
         }
 

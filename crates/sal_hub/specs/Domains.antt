@@ -1,10 +1,11 @@
 -- What a hub keeps of its domains.
 use Rattle.std.specs.Prelude.{◌≡◌, ℕ, ◌<◌, List, length, slice_index_or}
-use Rattle.sal_graft.specs.Kept.{AreKept, opening_in, ops_of}
+use Rattle.sal_graft.specs.Kept.{AreKept, chains_of, opening_in, ops_of}
 use Rattle.sal_commit.specs.declared.domain.Domain.{Domain}
 use Rattle.sal_commit.specs.Stamps.{receipts_of}
 use Rattle.sal_history.specs.World.{opening_of, table_of}
 use Rattle.sal_history.specs.History.{commits, history, is_live, outcomes, sents}
+use Rattle.sal_history.specs.Submissions.{done_chains}
 use Rattle.sal_hub.specs.CommitReceipts.{commit_receipts}
 use Rattle.sal_hub.specs.Known.{Known}
 
@@ -16,6 +17,7 @@ pub record IsDomain (known : Known) (n : ℕ) (d : Domain) : Type 0 where
   pub kept : AreKept d.commits.items
   pub opening : opening_in d.commits.items ≡ opening_of known.world n
   pub commits : ops_of d.commits.items ≡ commits (history known.world known.log) n
+  pub chains : chains_of d.commits.items ≡ done_chains n (sents (history known.world known.log)) (outcomes (history known.world known.log))
   pub receipts : receipts_of d.commits.items ≡ commit_receipts n (sents (history known.world known.log)) (outcomes (history known.world known.log))
 
 pub record AreDomains (known : Known) (ds : List Domain) : Type 0 where

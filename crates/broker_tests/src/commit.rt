@@ -110,7 +110,12 @@ fn next_receipt(domain: &Domain) -> Result<u64, Fail>
 }
 
 /// The outcome of an operation on the trees of a commit.
-pub(crate) fn decided(domain: &mut Domain, alloc: Global, base_commit: u64, op: Op) -> Result<Outcome, Fail>
+pub(crate) fn decided(
+    domain: &mut Domain,
+    alloc: Global,
+    base_commit: u64,
+    op: Op,
+) -> Result<Outcome, Fail>
     requires { AreKept domain.old.commits.items }
     ensures { IfOk result (λ o. AreKept domain.new.commits.items) }
 {

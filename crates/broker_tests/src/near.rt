@@ -141,6 +141,9 @@ fn decided_and_asked(domain: &mut Domain, alloc: Global) -> Result<(bool, bool, 
 fn near_and_stamps(rt: HostRuntime) -> Result<(), Fail> {
     let device = device(rt.alloc(), 2_000)?;
     let mut domain = Domain::open(rt.alloc(), 0, &device, true)?;
-    assert_eq!(rt; decided_and_asked(&mut domain, rt.alloc())?, (true, true, 1_000));
+    assert_eq!(rt;
+        decided_and_asked(&mut domain, rt.alloc())?,
+        (true, true, 1_000)
+    );
     Ok(())
 }

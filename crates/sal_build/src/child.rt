@@ -1,5 +1,5 @@
 //! Nodes by their names below other nodes.
-ghost use Rattle.std.specs.Prelude.{◌≡◌, ℕ, ◌+◌, ◌≤◌, List, Option, Some, None, true, IfOk, take, length};
+ghost use Rattle.std.specs.Prelude.{◌≡◌, ◌≤◌, Some, None, IfOk, length, if◌then◌else◌};
 ghost use Rattle.std.specs.BTreeMap.{get};
 ghost use Rattle.sal_grouping.specs.declared.forest.Branch.{Branch as Knot};
 ghost use Rattle.sal_build.specs.declared.child.Key.{Key as Name};
@@ -74,20 +74,17 @@ fn data_key(
     }))
 }
 
-/// The key has this number, where it has none.
+/// The key has this number, whatever it had.
 fn put(map: &mut Found, key: Option<Key>, k: u32) -> Result<(), NoMemory>
-    requires { (a b : Name) → spec.same_key a b ≡ true → get spec.key_cmp map.old a ≡ get spec.key_cmp map.old b }
-    ensures { IfOk result (λ _. (q : Name) → get spec.key_cmp map.new q ≡ spec.with_first (get spec.key_cmp map.old q) (spec.is_found_by q key) k) }
+    ensures { IfOk result (λ _. (q : Name) → get spec.key_cmp map.new q ≡ (if spec.is_found_by q key then Some k else get spec.key_cmp map.old q)) }
 {
     if let Some(key) = key {
-        if !map.contains_key(&key) {
-            map.insert(key, k)?;
-        }
+        map.insert(key, k)?;
     }
     Ok(())
 }
 
-/// The nodes by their parents and names.
+/// The nodes by their parents and names. From the last one to the first, so that the first with a key counts.
 pub(crate) fn children_of(
     alloc: Global,
     modules: &Modules,
@@ -97,8 +94,9 @@ pub(crate) fn children_of(
     ensures { IfOk result (λ map. (q : Name) → get spec.key_cmp map q ≡ spec.first_with (spec.child_key modules.now) forest.now q) }
 {
     let mut map = BTreeMap::new(alloc);
-    for (k, branch) in forest.iter().enumerate() {
-        let key = child_key(alloc, modules, branch)?;
+    for done in 0..forest.len() {
+        let k = forest.len() - 1 - done;
+        let key = child_key(alloc, modules, &forest[k])?;
         put(&mut map, key, k as u32)?;
     }
     Ok(map)
@@ -116,8 +114,9 @@ pub(crate) fn data_children_of(
     ensures { IfOk result (λ map. (q : Name) → get spec.key_cmp map q ≡ spec.first_with (spec.data_key modules.now forest.now) forest.now q) }
 {
     let mut map = BTreeMap::new(alloc);
-    for (k, branch) in forest.iter().enumerate() {
-        let key = data_key(alloc, modules, forest, nodes, branch)?;
+    for done in 0..forest.len() {
+        let k = forest.len() - 1 - done;
+        let key = data_key(alloc, modules, forest, nodes, &forest[k])?;
         put(&mut map, key, k as u32)?;
     }
     Ok(map)

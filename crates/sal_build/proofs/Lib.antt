@@ -17,6 +17,7 @@ pub mod Kept
 pub mod Quiet
 pub mod Built
 pub mod NamedModules
+pub mod LeafWord
 pub mod InfoLists
 pub mod TypedLeafs
 pub mod Shapes

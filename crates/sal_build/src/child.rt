@@ -7,7 +7,7 @@ ghost use Rattle.sal_build.specs.Inherited.{AreInherited, with_data_node};
 ghost use Rattle.sal_build.specs.Children as spec;
 
 use crate::inherited::data_parent;
-use crate::node::{kind_of, name_of};
+use crate::node::{kind_in, name_in, stmt_of};
 use sal_grouping::Branch;
 use sal_module::Modules;
 use sal_schema::Kind;
@@ -43,9 +43,11 @@ fn is_leaf(kind: Kind) -> bool
 fn child_key(alloc: Global, modules: &Modules, branch: &Branch) -> Result<Option<Key>, NoMemory>
     ensures { IfOk result (λ key. key ≡ spec.child_key modules.now branch.now) }
 {
-    let name = Str::new(alloc, name_of(modules, branch))?;
+    let stmt = stmt_of(modules, branch);
+    let kind = kind_in(stmt, branch.implied);
+    let name = Str::new(alloc, name_in(kind, stmt))?;
     Ok(Some(Key {
-        leaf: is_leaf(kind_of(modules, branch)),
+        leaf: is_leaf(kind),
         above: branch.parent,
         module: branch.module,
         name,
@@ -62,10 +64,12 @@ fn data_key(
     requires { AreInherited (with_data_node modules.now) None forest.now nodes.now }
     ensures { IfOk result (λ key. key ≡ spec.data_key modules.now forest.now branch.now) }
 {
-    if !kind_of(modules, branch).is_data() {
+    let stmt = stmt_of(modules, branch);
+    let kind = kind_in(stmt, branch.implied);
+    if !kind.is_data() {
         return Ok(None);
     }
-    let name = Str::new(alloc, name_of(modules, branch))?;
+    let name = Str::new(alloc, name_in(kind, stmt))?;
     Ok(Some(Key {
         leaf: false,
         above: data_parent(modules, forest, nodes, branch.parent),

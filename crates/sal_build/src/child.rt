@@ -1,5 +1,5 @@
 //! Nodes by their names below other nodes.
-ghost use Rattle.std.specs.Prelude.{◌≡◌, ◌≤◌, Some, None, IfOk, length, if◌then◌else◌};
+ghost use Rattle.std.specs.Prelude.{◌≡◌, ◌<◌, ◌≤◌, Some, None, IfOk, length, slice_index_or, if◌then◌else◌};
 ghost use Rattle.std.specs.BTreeMap.{get};
 ghost use Rattle.sal_grouping.specs.declared.forest.Branch.{Branch as Knot};
 ghost use Rattle.sal_build.specs.declared.child.Key.{Key as Name};
@@ -88,6 +88,14 @@ fn put(map: &mut Found, key: Option<Key>, k: u32) -> Result<(), NoMemory>
     Ok(())
 }
 
+/// The node of this number.
+fn branch_at(forest: &[Branch], k: usize) -> &Branch
+    requires { k < length forest.now }
+    ensures { result.now ≡ slice_index_or forest.now k result.now }
+{
+    &forest[k]
+}
+
 /// The nodes by their parents and names. From the last one to the first, so that the first with a key counts.
 pub(crate) fn children_of(
     alloc: Global,
@@ -100,7 +108,8 @@ pub(crate) fn children_of(
     let mut map = BTreeMap::new(alloc);
     for done in 0..forest.len() {
         let k = forest.len() - 1 - done;
-        let key = child_key(alloc, modules, &forest[k])?;
+        let branch = branch_at(forest, k);
+        let key = child_key(alloc, modules, branch)?;
         put(&mut map, key, k as u32)?;
     }
     Ok(map)
@@ -120,7 +129,8 @@ pub(crate) fn data_children_of(
     let mut map = BTreeMap::new(alloc);
     for done in 0..forest.len() {
         let k = forest.len() - 1 - done;
-        let key = data_key(alloc, modules, forest, nodes, &forest[k])?;
+        let branch = branch_at(forest, k);
+        let key = data_key(alloc, modules, forest, nodes, branch)?;
         put(&mut map, key, k as u32)?;
     }
     Ok(map)

@@ -4,5 +4,5 @@ use Rattle.sal_grouping.specs.Indexes.{lists}
 use Rattle.sal_build.specs.Leafrefs.{no_targets}
 use Rattle.sal_build.proofs.leafrefs.no_edges.Given as goal
 
-abbrev pub invariant-loop-_branch : goal.invariant-loop-_branch
-invariant-loop-_branch l = lists l.edges.items ≡ map no_targets (take l._branch-index l.forest)
+abbrev pub invariant-loop-branch : goal.invariant-loop-branch
+invariant-loop-branch l = lists l.edges.items ≡ map no_targets (take l._branch-index l.forest)

@@ -1,6 +1,6 @@
-use Rattle.std.proofs.Common.{◌≡◌, ◌∙◌, ◌-◌, Some, length, ap, arith, if◌then◌else◌}
+use Rattle.std.proofs.Common.{◌∙◌, ◌-◌, Some, length, ap, arith, if◌then◌else◌}
 use Rattle.sal_build.specs.Typed.{same_place}
-use Rattle.sal_build.proofs.FromLast.{none-yet, one-before, all-done}
+use Rattle.sal_build.proofs.FromLast.{one-before, all-done}
 use Rattle.sal_build.proofs.typed.by_place.Goals as goal
 
 pub loop-done-preserved : goal.loop-done-preserved
@@ -9,7 +9,8 @@ loop-done-preserved c q =
     let done = c.loop-done.done in
     let k = length places - 1 - done in
     let p = c.numbered-place.result in
-    ?
+    c.in_ok-put.ensures q ∙ ap (λ r. if same_place q p then Some k else r) (c.loop-done.invariant q)
+    ∙ one-before (same_place q) places done p c.loop-done-test.true c.numbered-place.ensures
 
 pub returns : goal.returns
-returns c q = all-done (same_place q) c.args.places.now c.loop-done.done (omega arith)
+returns c q = c.loop-done.invariant q ∙ all-done (same_place q) c.args.places.now c.loop-done.done (omega arith)

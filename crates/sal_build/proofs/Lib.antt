@@ -1,5 +1,6 @@
 pub mod Pieces
 pub mod Above
+pub mod FromLast
 pub mod Keys
 pub mod Infos
 pub mod Climbs
@@ -8,6 +9,7 @@ pub mod Seen
 pub mod Ranked
 pub mod Fillings
 pub mod Leading
+pub mod Nowhere
 pub mod Walked
 pub mod Preorder
 pub mod PlaceMaps
@@ -15,6 +17,7 @@ pub mod Kept
 pub mod Quiet
 pub mod Built
 pub mod NamedModules
+pub mod LeafWord
 pub mod InfoLists
 pub mod TypedLeafs
 pub mod Shapes

@@ -1,5 +1,5 @@
 -- Where leafrefs lead, and the types of nodes (RFC 7950 sections 6.4.1 and 9.9).
-use Rattle.std.specs.Prelude.{◌≡◌, ◌≤◌, ℕ, zero, suc, ◌-◌, ◌==◌, Bool, false, ◌&&◌, List, [], ◌∷◌, ◌++◌, map, find, length, take, Option, Some, None, option_map, option_and_then, if◌then◌else◌}
+use Rattle.std.specs.Prelude.{◌≡◌, ◌≤◌, ℕ, zero, suc, ◌-◌, ◌==◌, Bool, true, false, ◌&&◌, List, [], ◌∷◌, ◌++◌, map, find, length, take, Option, Some, None, option_map, option_and_then, if◌then◌else◌}
 use Rattle.std.specs.List.{flat_map, enumerate_from, slice_get}
 use Rattle.std.specs.Option.{option_map_or, option_to_list}
 use Rattle.sal_stmt.specs.Words.{colon_at}
@@ -217,3 +217,12 @@ seen all = map leafref_seen all
 
 abbrev pub seen_all : List (Vec Leafref Global) → List (List Reference)
 seen_all lists = map (λ (all : Vec Leafref Global). seen all.items) lists
+
+-- ---- nodes without leafrefs
+
+abbrev pub is_some_reference : List Reference → Bool
+is_some_reference [] = false
+is_some_reference (one ∷ more) = true
+
+abbrev pub no_targets : Branch → List ℕ
+no_targets b = []

@@ -1,5 +1,5 @@
 //! Nodes by their names below other nodes.
-ghost use Rattle.std.specs.Prelude.{◌≡◌, ℕ, ◌+◌, ◌≤◌, List, Option, Some, None, true, IfOk, take, length};
+ghost use Rattle.std.specs.Prelude.{◌≡◌, ◌<◌, ◌≤◌, Some, None, IfOk, length, slice_index_or, if◌then◌else◌};
 ghost use Rattle.std.specs.BTreeMap.{get};
 ghost use Rattle.sal_grouping.specs.declared.forest.Branch.{Branch as Knot};
 ghost use Rattle.sal_build.specs.declared.child.Key.{Key as Name};
@@ -7,7 +7,7 @@ ghost use Rattle.sal_build.specs.Inherited.{AreInherited, with_data_node};
 ghost use Rattle.sal_build.specs.Children as spec;
 
 use crate::inherited::data_parent;
-use crate::node::{kind_of, name_of};
+use crate::node::{kind_in, name_in, stmt_of};
 use sal_grouping::Branch;
 use sal_module::Modules;
 use sal_schema::Kind;
@@ -43,9 +43,11 @@ fn is_leaf(kind: Kind) -> bool
 fn child_key(alloc: Global, modules: &Modules, branch: &Branch) -> Result<Option<Key>, NoMemory>
     ensures { IfOk result (λ key. key ≡ spec.child_key modules.now branch.now) }
 {
-    let name = Str::new(alloc, name_of(modules, branch))?;
+    let stmt = stmt_of(modules, branch);
+    let kind = kind_in(stmt, branch.implied);
+    let name = Str::new(alloc, name_in(kind, stmt))?;
     Ok(Some(Key {
-        leaf: is_leaf(kind_of(modules, branch)),
+        leaf: is_leaf(kind),
         above: branch.parent,
         module: branch.module,
         name,
@@ -62,10 +64,12 @@ fn data_key(
     requires { AreInherited (with_data_node modules.now) None forest.now nodes.now }
     ensures { IfOk result (λ key. key ≡ spec.data_key modules.now forest.now branch.now) }
 {
-    if !kind_of(modules, branch).is_data() {
+    let stmt = stmt_of(modules, branch);
+    let kind = kind_in(stmt, branch.implied);
+    if !kind.is_data() {
         return Ok(None);
     }
-    let name = Str::new(alloc, name_of(modules, branch))?;
+    let name = Str::new(alloc, name_in(kind, stmt))?;
     Ok(Some(Key {
         leaf: false,
         above: data_parent(modules, forest, nodes, branch.parent),
@@ -74,20 +78,25 @@ fn data_key(
     }))
 }
 
-/// The key has this number, where it has none.
+/// The key has this number, whatever it had.
 fn put(map: &mut Found, key: Option<Key>, k: u32) -> Result<(), NoMemory>
-    requires { (a b : Name) → spec.same_key a b ≡ true → get spec.key_cmp map.old a ≡ get spec.key_cmp map.old b }
-    ensures { IfOk result (λ _. (q : Name) → get spec.key_cmp map.new q ≡ spec.with_first (get spec.key_cmp map.old q) (spec.is_found_by q key) k) }
+    ensures { IfOk result (λ _. (q : Name) → get spec.key_cmp map.new q ≡ (if spec.is_found_by q key then Some k else get spec.key_cmp map.old q)) }
 {
     if let Some(key) = key {
-        if !map.contains_key(&key) {
-            map.insert(key, k)?;
-        }
+        map.insert(key, k)?;
     }
     Ok(())
 }
 
-/// The nodes by their parents and names.
+/// The node of this number.
+fn branch_at(forest: &[Branch], k: usize) -> &Branch
+    requires { k < length forest.now }
+    ensures { result.now ≡ slice_index_or forest.now k result.now }
+{
+    &forest[k]
+}
+
+/// The nodes by their parents and names. From the last one to the first, so that the first with a key counts.
 pub(crate) fn children_of(
     alloc: Global,
     modules: &Modules,
@@ -97,7 +106,9 @@ pub(crate) fn children_of(
     ensures { IfOk result (λ map. (q : Name) → get spec.key_cmp map q ≡ spec.first_with (spec.child_key modules.now) forest.now q) }
 {
     let mut map = BTreeMap::new(alloc);
-    for (k, branch) in forest.iter().enumerate() {
+    for done in 0..forest.len() {
+        let k = forest.len() - 1 - done;
+        let branch = branch_at(forest, k);
         let key = child_key(alloc, modules, branch)?;
         put(&mut map, key, k as u32)?;
     }
@@ -116,7 +127,9 @@ pub(crate) fn data_children_of(
     ensures { IfOk result (λ map. (q : Name) → get spec.key_cmp map q ≡ spec.first_with (spec.data_key modules.now forest.now) forest.now q) }
 {
     let mut map = BTreeMap::new(alloc);
-    for (k, branch) in forest.iter().enumerate() {
+    for done in 0..forest.len() {
+        let k = forest.len() - 1 - done;
+        let branch = branch_at(forest, k);
         let key = data_key(alloc, modules, forest, nodes, branch)?;
         put(&mut map, key, k as u32)?;
     }

@@ -1,12 +1,16 @@
 //! The nodes of the table.
-ghost use Rattle.std.specs.Prelude.{◌≡◌, ◌+◌, ◌++◌, ◌<◌, IfOk, if◌then◌else◌};
+ghost use Rattle.std.specs.Prelude.{◌≡◌, ◌+◌, ◌++◌, ◌<◌, IfOk, None, Some, if◌then◌else◌};
 ghost use Rattle.sal_build.specs.Lists as lists;
+ghost use Rattle.sal_build.specs.Nodes.{kind_of as node_kind};
 ghost use Rattle.sal_build.specs.Table as spec;
+ghost use Rattle.sal_schema.specs.Kinds as kinds;
 
 use crate::append::append;
 use crate::inherited::config_at;
 use crate::lists::{block_of, given, is_list, keys_named, uniques_named};
-use crate::node::{is_mandatory, kind_of, max_elements, min_elements, name_of, own_stmt};
+use crate::node::{
+    is_mandatory, kind_in, kind_of, max_elements, min_elements, name_in, own_in, stmt_of,
+};
 use crate::tables::Tables;
 use crate::words::words_of;
 use sal_grouping::Branch;
@@ -47,12 +51,14 @@ fn keys_of(
     tables: &Tables,
     k: u32,
     branch: &Branch,
+    kind: Kind,
 ) -> Result<Vec<u32>, NoMemory>
-    requires { lists.AreTables modules.now forest.now tables.now }
+    requires tables { lists.AreTables modules.now forest.now tables.now }
+    requires kind { kind ≡ node_kind modules.now branch.now }
     ensures { IfOk result (λ keys. keys.items ≡ lists.keys_of modules.now forest.now k branch.now) }
 {
     let mut keys = Vec::new(alloc);
-    if !is_list(kind_of(modules, branch)) {
+    if !is_list(kind) {
         return Ok(keys);
     }
     for sub in block_of(modules, branch) {
@@ -91,12 +97,14 @@ fn uniques_of(
     tables: &Tables,
     k: u32,
     branch: &Branch,
+    kind: Kind,
 ) -> Result<Vec<Leafs>, NoMemory>
-    requires { lists.AreTables modules.now forest.now tables.now }
+    requires tables { lists.AreTables modules.now forest.now tables.now }
+    requires kind { kind ≡ node_kind modules.now branch.now }
     ensures { IfOk result (λ uniques. uniques.items ≡ lists.uniques_of modules.now forest.now k branch.now) }
 {
     let mut uniques = Vec::new(alloc);
-    if !is_list(kind_of(modules, branch)) {
+    if !is_list(kind) {
         return Ok(uniques);
     }
     for sub in block_of(modules, branch) {
@@ -105,25 +113,27 @@ fn uniques_of(
     Ok(uniques)
 }
 
-/// Whether a node has a type.
-pub(crate) fn is_typed(modules: &Modules, branch: &Branch) -> bool
-    ensures { result ≡ spec.is_typed modules.now branch.now }
+fn has_type(kind: Kind) -> bool
+    ensures { result ≡ kinds.has_type kind }
 {
-    match kind_of(modules, branch) {
+    match kind {
         Kind::Leaf => true,
         Kind::LeafList => true,
         _ => false,
     }
 }
 
-fn type_number(modules: &Modules, branch: &Branch, n: u32) -> Option<u32>
-    ensures { result ≡ spec.type_number modules.now branch.now n }
+/// Whether a node has a type.
+pub(crate) fn is_typed(modules: &Modules, branch: &Branch) -> bool
+    ensures { result ≡ spec.is_typed modules.now branch.now }
 {
-    if is_typed(modules, branch) {
-        Some(n)
-    } else {
-        None
-    }
+    has_type(kind_of(modules, branch))
+}
+
+fn type_number(kind: Kind, n: u32) -> Option<u32>
+    ensures { result ≡ (if kinds.has_type kind then Some n else None) }
+{
+    if has_type(kind) { Some(n) } else { None }
 }
 
 fn info_of(
@@ -139,19 +149,21 @@ fn info_of(
     requires types { types ≡ spec.types_before modules.now forest.now k }
     ensures { IfOk result (λ info. info ≡ spec.info_of modules.now forest.now k branch.now) }
 {
-    let own = own_stmt(modules, branch);
+    let stmt = stmt_of(modules, branch);
+    let kind = kind_in(stmt, branch.implied);
+    let own = own_in(stmt, branch.implied);
     Ok(NodeInfo {
         parent: branch.parent,
-        kind: kind_of(modules, branch),
+        kind,
         module: branch.module,
-        name: Str::new(alloc, name_of(modules, branch))?,
+        name: Str::new(alloc, name_in(kind, stmt))?,
         config: config_at(modules, forest, &tables.configs, Some(k)),
-        ty: type_number(modules, branch, types),
-        keys: Seq::from_items(keys_of(alloc, modules, forest, tables, k, branch)?),
+        ty: type_number(kind, types),
+        keys: Seq::from_items(keys_of(alloc, modules, forest, tables, k, branch, kind)?),
         mandatory: is_mandatory(own),
         min_elements: min_elements(own),
         max_elements: max_elements(own),
-        unique: Seq::from_items(uniques_of(alloc, modules, forest, tables, k, branch)?),
+        unique: Seq::from_items(uniques_of(alloc, modules, forest, tables, k, branch, kind)?),
     })
 }
 

@@ -2,8 +2,9 @@
 ghost use Rattle.std.specs.Prelude.{◌≡◌, ℕ, ◌≤◌, List, Some, None, true, IfOk, length, slice_index_or};
 ghost use Rattle.std.specs.Option.{option_copied};
 ghost use Rattle.sal_build.specs.Inherited as spec;
+ghost use Rattle.sal_build.specs.Nodes as nodes;
 
-use crate::node::{is_operation, kind_of, own_config, own_stmt};
+use crate::node::{is_operation, kind_in, kind_of, own_config, own_in, stmt_of};
 use sal_grouping::Branch;
 use sal_module::Modules;
 use sal_schema::Kind;
@@ -44,6 +45,14 @@ fn config_in(kind: Kind, own: Option<&Stmt>, over: Option<bool>) -> Option<bool>
     }
 }
 
+/// Whether a node is configuration, by the one above it.
+fn config_of(modules: &Modules, branch: &Branch, over: Option<bool>) -> Option<bool>
+    ensures { result ≡ spec.config_in (nodes.kind_of modules.now branch.now) (nodes.own_stmt modules.now branch.now) over }
+{
+    let stmt = stmt_of(modules, branch);
+    config_in(kind_in(stmt, branch.implied), own_in(stmt, branch.implied), over)
+}
+
 /// Whether each node is configuration; none in operations.
 pub(crate) fn configs_of(
     alloc: Global,
@@ -55,7 +64,7 @@ pub(crate) fn configs_of(
     let mut all = Vec::with_capacity(alloc, forest.len())?;
     for (k, branch) in forest.iter().enumerate() {
         let over = config_over(&all, k, branch.parent);
-        all.push(config_in(kind_of(modules, branch), own_stmt(modules, branch), over))?;
+        all.push(config_of(modules, branch, over))?;
     }
     Ok(all)
 }

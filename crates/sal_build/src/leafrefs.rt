@@ -1,6 +1,6 @@
 //! Leafrefs: where those of each node lead, and their faults (RFC 7950 section 9.9).
-ghost use Rattle.std.specs.Prelude.{◌≡◌, ◌++◌, [], None, IfOk, IfSome, map, length, slice_index_or};
-ghost use Rattle.std.specs.List.{flat_map};
+ghost use Rattle.std.specs.Prelude.{◌≡◌, ◌≤◌, ◌++◌, [], None, false, IfOk, IfSome, map, length, slice_index_or};
+ghost use Rattle.std.specs.List.{flat_map, list_any};
 ghost use Rattle.std.specs.Option.{option_to_list};
 ghost use Rattle.sal_module.specs.Faults.{least};
 ghost use Rattle.sal_grouping.specs.Indexes.{lists};
@@ -11,7 +11,7 @@ ghost use Rattle.sal_build.specs.Leafrefs as spec;
 use crate::append::append;
 use crate::identities::is_cyclic;
 use crate::lists::with_bad;
-use crate::walk::{Ways, end_of};
+use crate::walk::{Ways, end_of, ways_of};
 use sal_grouping::{Branch, ranking};
 use sal_module::{Cause, Found, Keyword, Modules, first_named, value_of};
 use sal_typedefs::{Leafref, count_up, path_names};
@@ -215,4 +215,98 @@ pub(crate) fn leafrefs_fault(
 {
     let ranks = ranking(alloc, edges)?;
     ranked_fault(alloc, modules, forest, ways, leafrefs, edges, &ranks)
+}
+
+// ---- both
+
+/// Where the leafrefs of each node lead, and the first fault of leafrefs.
+#[derive(Drop)]
+pub(crate) struct Led {
+    /// The targets of each node's leafrefs.
+    pub edges: Vec<Vec<usize>>,
+    /// The first fault.
+    pub fault: Option<Found>,
+}
+
+fn has_one(own: &[Leafref]) -> bool
+    ensures { result ≡ spec.is_some_reference (spec.seen own.now) }
+{
+    match own.split_first() {
+        None => false,
+        Some((_one, _more)) => true,
+    }
+}
+
+/// Whether a node has a leafref.
+fn has_leafrefs(leafrefs: &[Vec<Leafref>]) -> bool
+    ensures { result ≡ list_any spec.is_some_reference (spec.seen_all leafrefs.now) }
+{
+    for own in leafrefs {
+        if has_one(own) {
+            return true;
+        }
+    }
+    false
+}
+
+/// No targets for each node.
+fn no_edges(alloc: Global, forest: &[Branch]) -> Result<Vec<Vec<usize>>, NoMemory>
+    ensures { IfOk result (λ edges. lists edges.items ≡ map spec.no_targets forest.now) }
+{
+    let mut edges = Vec::with_capacity(alloc, forest.len())?;
+    for _branch in forest {
+        append(&mut edges, Vec::new(alloc))?;
+    }
+    Ok(edges)
+}
+
+fn led_nowhere(
+    alloc: Global,
+    modules: &Modules,
+    forest: &[Branch],
+    leafrefs: &[Vec<Leafref>],
+) -> Result<Led, NoMemory>
+    requires leafrefs { spec.seen_all leafrefs.now ≡ map (spec.references_at modules.now) forest.now }
+    requires none { list_any spec.is_some_reference (spec.seen_all leafrefs.now) ≡ false }
+    ensures edges { IfOk result (λ led. lists led.edges.items ≡ spec.edges_of modules.now forest.now) }
+    ensures fault { IfOk result (λ led. led.fault ≡ least None (spec.all_faults modules.now forest.now)) }
+{
+    let edges = no_edges(alloc, forest)?;
+    Ok(Led { edges, fault: None })
+}
+
+fn led_along(
+    alloc: Global,
+    modules: &Modules,
+    forest: &[Branch],
+    ways: &Ways,
+    leafrefs: &[Vec<Leafref>],
+) -> Result<Led, NoMemory>
+    requires ways { spec.AreWays modules.now forest.now ways.now }
+    requires leafrefs { spec.seen_all leafrefs.now ≡ map (spec.references_at modules.now) forest.now }
+    ensures edges { IfOk result (λ led. lists led.edges.items ≡ spec.edges_of modules.now forest.now) }
+    ensures fault { IfOk result (λ led. led.fault ≡ least None (spec.all_faults modules.now forest.now)) }
+{
+    let edges = edges_of(alloc, modules, forest, ways, leafrefs)?;
+    let fault = leafrefs_fault(alloc, modules, forest, ways, leafrefs, &edges)?;
+    Ok(Led { edges, fault })
+}
+
+/// Where these leafrefs lead. What paths are followed by is made only where there is one.
+pub(crate) fn led_of(
+    alloc: Global,
+    modules: &Modules,
+    forest: &[Branch],
+    leafrefs: &[Vec<Leafref>],
+) -> Result<Led, NoMemory>
+    requires few { length forest.now ≤ 65536 }
+    requires leafrefs { spec.seen_all leafrefs.now ≡ map (spec.references_at modules.now) forest.now }
+    ensures edges { IfOk result (λ led. lists led.edges.items ≡ spec.edges_of modules.now forest.now) }
+    ensures fault { IfOk result (λ led. led.fault ≡ least None (spec.all_faults modules.now forest.now)) }
+{
+    if !has_leafrefs(leafrefs) {
+        return led_nowhere(alloc, modules, forest, leafrefs);
+    }
+    let ways = ways_of(alloc, modules, forest)?;
+    led_along(alloc, modules, forest, &ways, leafrefs)
 }

@@ -1,8 +1,11 @@
 //! What the statement of a node says of it.
-ghost use Rattle.std.specs.Prelude.{◌≡◌, min};
+ghost use Rattle.std.specs.Prelude.{◌≡◌, None, codes, is_some, min, if◌then◌else◌};
 ghost use Rattle.std.specs.Option.{option_copied};
 ghost use Rattle.sal_stmt.specs.declared.stmt.Stmt.{Stmt as Statement};
+ghost use Rattle.sal_stmt.specs.declared.stmt.Stmt.TheViews.{out-Stmt};
 ghost use Rattle.sal_module.specs.Arguments.{decimal};
+ghost use Rattle.sal_module.specs.Keywords as keywords;
+ghost use Rattle.sal_module.specs.Keywords.{same};
 ghost use Rattle.sal_build.specs.Nodes as spec;
 
 use sal_grouping::{Branch, Implied};
@@ -28,6 +31,13 @@ pub(crate) fn own_stmt<'m>(modules: &'m Modules, branch: &Branch) -> Option<&'m 
     }
 }
 
+/// The same by the statement at its place.
+pub(crate) fn own_in<'m>(stmt: Option<&'m Stmt>, implied: Option<Implied>) -> Option<&'m Stmt>
+    ensures { option_copied result ≡ (if is_some implied then None else option_copied stmt.entry) }
+{
+    if implied.is_some() { None } else { stmt }
+}
+
 fn has(keyword: Keyword, stmt: Option<&Stmt>) -> bool
     ensures { result ≡ spec.has keyword (option_copied stmt.entry) }
 {
@@ -37,12 +47,28 @@ fn has(keyword: Keyword, stmt: Option<&Stmt>) -> bool
     }
 }
 
+fn is_leaf_stmt(stmt: &Stmt) -> bool
+    ensures { result ≡ same (out-Stmt stmt.now).keyword (codes "leaf") }
+{
+    stmt.keyword.as_str() == "leaf"
+}
+
+/// The keyword of a statement. Most nodes are leafs: their word is looked at first.
+fn node_keyword(stmt: &Stmt) -> Option<Keyword>
+    ensures { result ≡ keywords.keyword_of (out-Stmt stmt.now).keyword }
+{
+    if is_leaf_stmt(stmt) {
+        return Some(Keyword::Leaf);
+    }
+    keyword_of(stmt.keyword.as_str())
+}
+
 fn keyword_in(stmt: Option<&Stmt>) -> Option<Keyword>
     ensures { result ≡ spec.keyword_in (option_copied stmt.entry) }
 {
     match stmt {
         None => None,
-        Some(stmt) => keyword_of(stmt.keyword.as_str()),
+        Some(stmt) => node_keyword(stmt),
     }
 }
 
@@ -66,7 +92,8 @@ fn kind_among(presence: bool, keyword: Option<Keyword>) -> Kind
     }
 }
 
-fn kind_in(stmt: Option<&Stmt>, implied: Option<Implied>) -> Kind
+/// The kind of a node with this statement at its place.
+pub(crate) fn kind_in(stmt: Option<&Stmt>, implied: Option<Implied>) -> Kind
     ensures { result ≡ spec.kind_in (option_copied stmt.entry) implied }
 {
     match implied {
@@ -93,15 +120,23 @@ fn argument_in(stmt: Option<&Stmt>) -> &str
     }
 }
 
+/// The name of a node of this kind, with this statement at its place.
+pub(crate) fn name_in<'m>(kind: Kind, stmt: Option<&'m Stmt>) -> &'m str
+    ensures { result.now ≡ spec.name_in kind (spec.argument_in (option_copied stmt.entry)) }
+{
+    match kind {
+        Kind::Input => "input",
+        Kind::Output => "output",
+        _ => argument_in(stmt),
+    }
+}
+
 /// The name of a node, without its module.
 pub fn name_of<'m>(modules: &'m Modules, branch: &Branch) -> &'m str
     ensures { result.now ≡ spec.name_of modules.now branch.now }
 {
-    match kind_of(modules, branch) {
-        Kind::Input => "input",
-        Kind::Output => "output",
-        _ => argument_in(stmt_of(modules, branch)),
-    }
+    let stmt = stmt_of(modules, branch);
+    name_in(kind_in(stmt, branch.implied), stmt)
 }
 
 /// Whether it is an RPC or a notification.

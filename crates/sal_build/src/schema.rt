@@ -9,25 +9,29 @@ ghost use Rattle.sal_module.specs.Statements.{argument_of as argument};
 ghost use Rattle.sal_grouping.specs.Indexes.{lists};
 ghost use Rattle.sal_build.specs.Filled as fillings;
 ghost use Rattle.sal_build.specs.Leafrefs as leads;
+ghost use Rattle.sal_build.specs.Lists.{AreTables};
 ghost use Rattle.sal_build.specs.Build as spec;
 ghost use Rattle.sal_build.specs.Identities as identities;
 ghost use Rattle.sal_build.specs.Table.{infos_of};
+ghost use Rattle.sal_build.specs.Typed.{AreTyped};
+ghost use Rattle.sal_build.specs.Types as types;
 
 use crate::append::append;
 use crate::fill::{filled_types, type_at};
-use crate::info::is_typed;
-use crate::leafrefs::{edges_of, leafrefs_fault};
-use crate::typed::{leafrefs_of_nodes, own_types};
+use crate::info::{infos_of as nodes_of, is_typed};
+use crate::leafrefs::{Led, led_of};
+use crate::lists::lists_fault;
+use crate::tables::{Tables, tables_of};
+use crate::typed::{NodeTypes, leafrefs_of_nodes, node_types, own_types};
 use crate::types::{type_name_fault, type_other_fault};
-use crate::walk::{Ways, ways_of};
-use crate::whole::{identity_fault, identity_infos, list_fault, node_infos};
+use crate::whole::{identity_fault, identity_infos};
 use sal_grouping::{Branch, Forest, expand};
 use sal_module::{BuildFault, Found, Modules, argument_of, better, check};
 use sal_restrict::YangType;
 use sal_schema::{IdentityInfo, NodeInfo, Schema, SchemaTable};
 use sal_stmt::Stmt;
 use sal_table::schema_of;
-use sal_typedefs::{Leafref, Typedefs};
+use sal_typedefs::Typedefs;
 use sal_types::{NoMemory, Seq, Str};
 use std::alloc::Global;
 
@@ -95,14 +99,14 @@ fn types_in(
     alloc: Global,
     modules: &Modules,
     forest: &[Branch],
-    typedefs: &Typedefs,
+    typed: &NodeTypes,
     edges: &[Vec<usize>],
 ) -> Result<Vec<YangType>, NoMemory>
-    requires typedefs { typedefs.now ≡ modules.now }
+    requires typed { AreTyped modules.now forest.now typed.now }
     requires edges { lists edges.now ≡ leads.edges_of modules.now forest.now }
     ensures { IfOk result (λ types. types.items ≡ leads.types_of modules.now forest.now) }
 {
-    let own = own_types(alloc, modules, typedefs, forest)?;
+    let own = own_types(alloc, modules, typed, forest)?;
     types_of(alloc, modules, forest, &own, edges)
 }
 
@@ -116,33 +120,35 @@ struct Grown {
 fn node_table(
     alloc: Global,
     modules: &Modules,
-    forest: &Forest,
-    typedefs: &Typedefs,
+    forest: &[Branch],
+    typed: &NodeTypes,
     edges: &[Vec<usize>],
+    tables: &Tables,
 ) -> Result<Grown, NoMemory>
-    requires few { length forest.now ≤ 65536 }
-    requires typedefs { typedefs.now ≡ modules.now }
+    requires typed { AreTyped modules.now forest.now typed.now }
     requires edges { lists edges.now ≡ leads.edges_of modules.now forest.now }
+    requires tables { AreTables modules.now forest.now tables.now }
     ensures nodes { IfOk result (λ it. it.nodes ≡ infos_of modules.now forest.now) }
     ensures types { IfOk result (λ it. it.types ≡ leads.types_of modules.now forest.now) }
 {
-    let types = types_in(alloc, modules, forest.items(), typedefs, edges)?;
-    with_nodes(alloc, modules, forest, types)
+    let types = types_in(alloc, modules, forest, typed, edges)?;
+    with_nodes(alloc, modules, forest, tables, types)
 }
 
 fn with_nodes(
     alloc: Global,
     modules: &Modules,
-    forest: &Forest,
+    forest: &[Branch],
+    tables: &Tables,
     types: Vec<YangType>,
 ) -> Result<Grown, NoMemory>
-    requires { length forest.now ≤ 65536 }
+    requires { AreTables modules.now forest.now tables.now }
     ensures nodes { IfOk result (λ it. it.nodes ≡ infos_of modules.now forest.now) }
     ensures types { IfOk result (λ it. it.types ≡ types.items) }
 {
-    let nodes = node_infos(alloc, modules, forest)?;
+    let nodes = nodes_of(alloc, modules, forest, tables)?;
     Ok(Grown {
-        nodes,
+        nodes: Seq::from_items(nodes),
         types: Seq::from_items(types),
     })
 }
@@ -183,16 +189,19 @@ fn with_identities(
 fn table_of(
     alloc: Global,
     modules: &Modules,
-    forest: &Forest,
+    forest: &[Branch],
     typedefs: &Typedefs,
+    typed: &NodeTypes,
     edges: &[Vec<usize>],
+    tables: &Tables,
 ) -> Result<SchemaTable, NoMemory>
-    requires few { length forest.now ≤ 65536 }
     requires typedefs { typedefs.now ≡ modules.now }
+    requires typed { AreTyped modules.now forest.now typed.now }
     requires edges { lists edges.now ≡ leads.edges_of modules.now forest.now }
+    requires tables { AreTables modules.now forest.now tables.now }
     ensures { IfOk result (λ table. table ≡ spec.table_of modules.now forest.now) }
 {
-    let grown = node_table(alloc, modules, forest, typedefs, edges)?;
+    let grown = node_table(alloc, modules, forest, typed, edges, tables)?;
     let stated = stated_of(alloc, modules, typedefs)?;
     let Grown { nodes, types } = grown;
     let Stated {
@@ -213,22 +222,17 @@ fn table_of(
 fn name_fault(
     alloc: Global,
     modules: &Modules,
-    typedefs: &Typedefs,
     forest: &[Branch],
-    ways: &Ways,
-    leafrefs: &[Vec<Leafref>],
-    edges: &[Vec<usize>],
+    typedefs: &Typedefs,
+    of_leafrefs: Option<Found>,
 ) -> Result<Option<Found>, NoMemory>
     requires typedefs { typedefs.now ≡ modules.now }
-    requires ways { leads.AreWays modules.now forest.now ways.now }
-    requires leafrefs { leads.seen_all leafrefs.now ≡ map (leads.references_at modules.now) forest.now }
-    requires edges { lists edges.now ≡ leads.edges_of modules.now forest.now }
+    requires of_leafrefs { of_leafrefs ≡ least None (leads.all_faults modules.now forest.now) }
     ensures { IfOk result (λ found. found ≡ least None (spec.name_faults modules.now forest.now)) }
 {
     let best = type_name_fault(alloc, modules, typedefs)?;
     let best = merged(best, identity_fault(alloc, modules, typedefs)?);
-    let more = leafrefs_fault(alloc, modules, forest, ways, leafrefs, edges)?;
-    Ok(merged(best, more))
+    Ok(merged(best, of_leafrefs))
 }
 
 /// The fault as callers get it.
@@ -243,16 +247,44 @@ fn fault_in(alloc: Global, found: Found) -> BuildFault
 
 // What follows is made a part at a time, each function with one value of its own: several over early exits make a proof long.
 
+/// The table of a forest whose names and types are good, or the first fault of lists.
+fn judged_lists(
+    alloc: Global,
+    modules: &Modules,
+    forest: &[Branch],
+    typedefs: &Typedefs,
+    typed: &NodeTypes,
+    edges: &[Vec<usize>],
+    tables: &Tables,
+) -> Result<SchemaTable, BuildFault>
+    requires typedefs { typedefs.now ≡ modules.now }
+    requires typed { AreTyped modules.now forest.now typed.now }
+    requires edges { lists edges.now ≡ leads.edges_of modules.now forest.now }
+    requires tables { AreTables modules.now forest.now tables.now }
+    requires names { least None (spec.name_faults modules.now forest.now) ≡ None }
+    requires types { least None (types.other_faults modules.now) ≡ None }
+    ensures { GivesUnless Fault.NoMemory (λ table. table) result (spec.judged modules.now forest.now) }
+{
+    if let Some(found) = lists_fault(alloc, modules, forest, tables)? {
+        return Err(fault_in(alloc, found));
+    }
+    Ok(table_of(
+        alloc, modules, forest, typedefs, typed, edges, tables,
+    )?)
+}
+
 /// The table of a forest whose names are good, or the first other fault of types, then of lists.
 fn judged_apart_from_names(
     alloc: Global,
     modules: &Modules,
-    forest: &Forest,
+    forest: &[Branch],
     typedefs: &Typedefs,
+    typed: &NodeTypes,
     edges: &[Vec<usize>],
 ) -> Result<SchemaTable, BuildFault>
     requires few { length forest.now ≤ 65536 }
     requires typedefs { typedefs.now ≡ modules.now }
+    requires typed { AreTyped modules.now forest.now typed.now }
     requires edges { lists edges.now ≡ leads.edges_of modules.now forest.now }
     requires names { least None (spec.name_faults modules.now forest.now) ≡ None }
     ensures { GivesUnless Fault.NoMemory (λ table. table) result (spec.judged modules.now forest.now) }
@@ -260,65 +292,78 @@ fn judged_apart_from_names(
     if let Some(found) = type_other_fault(alloc, modules, typedefs)? {
         return Err(fault_in(alloc, found));
     }
-    if let Some(found) = list_fault(alloc, modules, forest)? {
-        return Err(fault_in(alloc, found));
-    }
-    Ok(table_of(alloc, modules, forest, typedefs, edges)?)
+    let tables = tables_of(alloc, modules, forest)?;
+    judged_lists(alloc, modules, forest, typedefs, typed, edges, &tables)
 }
 
 /// The table of a forest, or its first fault, by where its leafrefs lead.
-fn judged_by_leafrefs(
+fn judged_by_edges(
     alloc: Global,
     modules: &Modules,
-    forest: &Forest,
+    forest: &[Branch],
     typedefs: &Typedefs,
-    ways: &Ways,
-    leafrefs: &[Vec<Leafref>],
+    typed: &NodeTypes,
+    led: &Led,
 ) -> Result<SchemaTable, BuildFault>
     requires few { length forest.now ≤ 65536 }
     requires typedefs { typedefs.now ≡ modules.now }
-    requires ways { leads.AreWays modules.now forest.now ways.now }
-    requires leafrefs { leads.seen_all leafrefs.now ≡ map (leads.references_at modules.now) forest.now }
+    requires typed { AreTyped modules.now forest.now typed.now }
+    requires edges { lists led.now.edges.items ≡ leads.edges_of modules.now forest.now }
+    requires fault { led.now.fault ≡ least None (leads.all_faults modules.now forest.now) }
     ensures { GivesUnless Fault.NoMemory (λ table. table) result (spec.judged modules.now forest.now) }
 {
-    let nodes = forest.items();
-    let edges = edges_of(alloc, modules, nodes, ways, leafrefs)?;
-    if let Some(found) = name_fault(alloc, modules, typedefs, nodes, ways, leafrefs, &edges)? {
+    if let Some(found) = name_fault(alloc, modules, forest, typedefs, led.fault)? {
         return Err(fault_in(alloc, found));
     }
-    judged_apart_from_names(alloc, modules, forest, typedefs, &edges)
+    judged_apart_from_names(alloc, modules, forest, typedefs, typed, &led.edges)
 }
 
-/// The table of a forest, or its first fault, by the ways between its nodes.
-fn judged_by_ways(
+/// Where the leafrefs of each node lead, and their first fault.
+fn led_in(
     alloc: Global,
     modules: &Modules,
-    forest: &Forest,
+    forest: &[Branch],
+    typed: &NodeTypes,
+) -> Result<Led, NoMemory>
+    requires few { length forest.now ≤ 65536 }
+    requires typed { AreTyped modules.now forest.now typed.now }
+    ensures edges { IfOk result (λ led. lists led.edges.items ≡ leads.edges_of modules.now forest.now) }
+    ensures fault { IfOk result (λ led. led.fault ≡ least None (leads.all_faults modules.now forest.now)) }
+{
+    let leafrefs = leafrefs_of_nodes(alloc, modules, typed, forest)?;
+    led_of(alloc, modules, forest, &leafrefs)
+}
+
+/// The table of a forest, or its first fault, by what the type statements of its nodes mean.
+fn judged_by_types(
+    alloc: Global,
+    modules: &Modules,
+    forest: &[Branch],
     typedefs: &Typedefs,
-    ways: &Ways,
+    typed: &NodeTypes,
 ) -> Result<SchemaTable, BuildFault>
     requires few { length forest.now ≤ 65536 }
     requires typedefs { typedefs.now ≡ modules.now }
-    requires ways { leads.AreWays modules.now forest.now ways.now }
+    requires typed { AreTyped modules.now forest.now typed.now }
     ensures { GivesUnless Fault.NoMemory (λ table. table) result (spec.judged modules.now forest.now) }
 {
-    let leafrefs = leafrefs_of_nodes(alloc, modules, typedefs, forest.items())?;
-    judged_by_leafrefs(alloc, modules, forest, typedefs, ways, &leafrefs)
+    let led = led_in(alloc, modules, forest, typed)?;
+    judged_by_edges(alloc, modules, forest, typedefs, typed, &led)
 }
 
 /// The table of a forest, or its first fault, by its typedefs.
 fn judged_by_typedefs(
     alloc: Global,
     modules: &Modules,
-    forest: &Forest,
+    forest: &[Branch],
     typedefs: &Typedefs,
 ) -> Result<SchemaTable, BuildFault>
     requires few { length forest.now ≤ 65536 }
     requires typedefs { typedefs.now ≡ modules.now }
     ensures { GivesUnless Fault.NoMemory (λ table. table) result (spec.judged modules.now forest.now) }
 {
-    let ways = ways_of(alloc, modules, forest.items())?;
-    judged_by_ways(alloc, modules, forest, typedefs, &ways)
+    let typed = node_types(alloc, modules, typedefs, forest)?;
+    judged_by_types(alloc, modules, forest, typedefs, &typed)
 }
 
 /// The table of a forest, or the first fault of types, then of lists.
@@ -327,7 +372,7 @@ fn judged(alloc: Global, modules: &Modules, forest: &Forest) -> Result<SchemaTab
     ensures { GivesUnless Fault.NoMemory (λ table. table) result (spec.judged modules.now forest.now) }
 {
     let typedefs = Typedefs::new(alloc, modules)?;
-    judged_by_typedefs(alloc, modules, forest, &typedefs)
+    judged_by_typedefs(alloc, modules, forest.items(), &typedefs)
 }
 
 /// The table of the schema of these modules, or their first fault.

@@ -1,5 +1,5 @@
 //! The type statements of nodes, and what they mean.
-ghost use Rattle.std.specs.Prelude.{◌≡◌, ◌<◌, slice_index_or, ◌++◌, ◌∷◌, [], ℕ, List, Some, IfOk, true, map, find, option_map, length};
+ghost use Rattle.std.specs.Prelude.{◌≡◌, ◌<◌, slice_index_or, ◌++◌, ◌∷◌, [], Some, IfOk, map, find, option_map, length, if◌then◌else◌};
 ghost use Rattle.std.specs.BTreeMap.{get};
 ghost use Rattle.std.specs.List.{slice_get};
 ghost use Rattle.std.specs.Option.{option_copied};
@@ -75,14 +75,11 @@ fn place_of_node(branch: &Branch) -> Place
     }
 }
 
-/// The place has this number, where it has none.
+/// The place has this number, whatever it had.
 fn put(map: &mut Places, place: Place, k: usize) -> Result<(), NoMemory>
-    requires { (a b : Spot) → spec.same_place a b ≡ true → get spec.place_cmp map.old a ≡ get spec.place_cmp map.old b }
-    ensures { IfOk result (λ _. (q : Spot) → get spec.place_cmp map.new q ≡ spec.with_first (get spec.place_cmp map.old q) (spec.same_place q place) k) }
+    ensures { IfOk result (λ _. (q : Spot) → get spec.place_cmp map.new q ≡ (if spec.same_place q place then Some k else get spec.place_cmp map.old q)) }
 {
-    if !map.contains_key(&place) {
-        map.insert(place, k)?;
-    }
+    map.insert(place, k)?;
     Ok(())
 }
 
@@ -94,12 +91,13 @@ fn numbered(places: &[Place], k: usize) -> Place
     places[k]
 }
 
-/// The numbers of these places: the first of each.
+/// The numbers of these places: the first of each. From the last one to the first, so that the first counts.
 fn by_place(alloc: Global, places: &[Place]) -> Result<Places, NoMemory>
     ensures { IfOk result (λ map. spec.AreFirst places.now map) }
 {
     let mut map = BTreeMap::new(alloc);
-    for k in 0..places.len() {
+    for done in 0..places.len() {
+        let k = places.len() - 1 - done;
         let place = numbered(places, k);
         put(&mut map, place, k)?;
     }
@@ -274,8 +272,11 @@ fn typings_of<'x, 'a>(
     Ok(all)
 }
 
-/// What the type statements of these nodes mean.
-fn node_types<'x, 'a>(
+/// What the type statements of these nodes mean, their leafrefs still paths.
+///
+/// It takes time linear in the statements, in the nodes, and in what their type statements rest on, times the logarithm of
+/// the nodes.
+pub(crate) fn node_types<'x, 'a>(
     alloc: Global,
     modules: &'a Modules,
     typedefs: &'x Typedefs<'a>,
@@ -369,21 +370,19 @@ fn leafrefs_of_node<'a>(
 /// What the type statement of each node means, its leafrefs still paths; the type without values where a node has none, or
 /// one with a fault.
 ///
-/// It takes time linear in the statements, in the nodes, and in what their type statements rest on, times the logarithm of
-/// the nodes.
-pub(crate) fn own_types<'x, 'a>(
+/// It takes a search among the statements for each node.
+pub(crate) fn own_types(
     alloc: Global,
-    modules: &'a Modules,
-    typedefs: &'x Typedefs<'a>,
+    modules: &Modules,
+    types: &NodeTypes,
     forest: &[Branch],
 ) -> Result<Vec<YangType>, NoMemory>
-    requires { typedefs.now ≡ modules.now }
-    ensures { IfOk result (λ types. types.items ≡ leafrefs.own_types modules.now forest.now) }
+    requires { spec.AreTyped modules.now forest.now types.now }
+    ensures { IfOk result (λ own. own.items ≡ leafrefs.own_types modules.now forest.now) }
 {
-    let types = node_types(alloc, modules, typedefs, forest)?;
     let mut all = Vec::with_capacity(alloc, forest.len())?;
     for branch in forest {
-        append(&mut all, type_of_node(alloc, modules, &types, branch)?)?;
+        append(&mut all, type_of_node(alloc, modules, types, branch)?)?;
     }
     Ok(all)
 }
@@ -393,17 +392,16 @@ pub(crate) fn own_types<'x, 'a>(
 /// It takes the time of `own_types`.
 pub(crate) fn leafrefs_of_nodes<'x, 'a>(
     alloc: Global,
-    modules: &'a Modules,
-    typedefs: &'x Typedefs<'a>,
+    modules: &Modules,
+    types: &'x NodeTypes<'a>,
     forest: &[Branch],
 ) -> Result<Vec<Vec<Leafref<'a>>>, NoMemory>
-    requires { typedefs.now ≡ modules.now }
+    requires { spec.AreTyped modules.now forest.now types.now }
     ensures { IfOk result (λ all. spec.leafrefs_seen all.items ≡ map (λ b. map stmt_in (leafrefs.leafrefs_at modules.now b)) forest.now) }
 {
-    let types = node_types(alloc, modules, typedefs, forest)?;
     let mut all = Vec::with_capacity(alloc, forest.len())?;
     for branch in forest {
-        append(&mut all, leafrefs_of_node(alloc, modules, &types, branch)?)?;
+        append(&mut all, leafrefs_of_node(alloc, modules, types, branch)?)?;
     }
     Ok(all)
 }

@@ -1,6 +1,8 @@
 //! The first fault of type statements.
-ghost use Rattle.std.specs.Prelude.{◌≡◌, ◌∷◌, [], None, IfOk};
+ghost use Rattle.std.specs.Prelude.{◌≡◌, ◌||◌, ◌∷◌, [], None, IfOk, codes};
+ghost use Rattle.sal_stmt.specs.declared.stmt.Stmt.TheViews.{out-Stmt};
 ghost use Rattle.sal_module.specs.Faults.{least};
+ghost use Rattle.sal_module.specs.Keywords.{same};
 ghost use Rattle.sal_typedefs.specs.Judgements.{merged};
 ghost use Rattle.sal_typedefs.specs.Spots.{site_in};
 ghost use Rattle.sal_build.specs.Types as spec;
@@ -24,10 +26,20 @@ pub(crate) enum Asked {
 /// How deep the blocks of a statement may be open in one another.
 const MAX_BLOCKS: u32 = 64;
 
-/// Whether what stands in a statement means something.
+fn is_leaf_or_type(stmt: &Stmt) -> bool
+    ensures { result ≡ (same (out-Stmt stmt.now).keyword (codes "leaf") || same (out-Stmt stmt.now).keyword (codes "type")) }
+{
+    let word = stmt.keyword.as_str();
+    word == "leaf" || word == "type"
+}
+
+/// Whether what stands in a statement means something. Most statements are leafs and their types: their words are looked at first.
 fn is_read(stmt: &Stmt) -> bool
     ensures { result ≡ spec.is_read stmt.now }
 {
+    if is_leaf_or_type(stmt) {
+        return true;
+    }
     keyword_of(stmt.keyword.as_str()).is_some() && !is_named(Keyword::Extension, stmt)
 }
 

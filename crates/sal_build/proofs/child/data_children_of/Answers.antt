@@ -1,16 +1,18 @@
-use Rattle.std.proofs.Common.{◌∙◌, take, ap}
-use Rattle.std.proofs.lemmas.List.{get_or_default}
-use Rattle.sal_build.specs.Children.{data_key, first_with, with_first, is_found_by}
-use Rattle.sal_build.proofs.Keys.{alike-known, one-more}
+use Rattle.std.proofs.Common.{◌∙◌, ◌-◌, Bool, Some, length, ap, arith, if◌then◌else◌}
+use Rattle.sal_grouping.specs.declared.forest.Branch.{Branch}
+use Rattle.sal_build.specs.Children.{data_key, is_found_by}
+use Rattle.sal_build.proofs.FromLast.{first_of_last, one-before, all-done}
 use Rattle.sal_build.proofs.child.data_children_of.Goals as goal
 
-pub put-requires : goal.put-requires
-put-requires c = alike-known (data_key c.args.modules.now c.args.forest.now) c.args.forest.now (take c.loop-k.k c.args.forest.now) c.loop-k.map c.loop-k.invariant
-
-pub loop-k-preserved : goal.loop-k-preserved
-loop-k-preserved c q =
+pub loop-done-preserved : goal.loop-done-preserved
+loop-done-preserved c q =
     let forest = c.args.forest.now in
-    let k = c.loop-k.k in
-    c.in_ok-put.ensures q ∙ ap (λ r. with_first r (is_found_by q c.in_ok-key.key) k) (c.loop-k.invariant q)
-    ∙ ap (λ key. with_first (first_with (data_key c.args.modules.now c.args.forest.now) (take k forest) q) (is_found_by q key) k) c.in_ok-key.ensures
-    ∙ one-more (data_key c.args.modules.now c.args.forest.now) forest k _ c.loop-k-test.true (get_or_default forest k _ _ c.loop-k-test.true) q
+    let done = c.loop-done.done in
+    let k = length forest - 1 - done in
+    let p : Branch → Bool = λ b. is_found_by q (data_key c.args.modules.now c.args.forest.now b) in
+    c.in_ok-put.ensures q ∙ ap (λ r. if is_found_by q c.in_ok-key.key then Some k else r) (c.loop-done.invariant q)
+    ∙ ap (λ key. if is_found_by q key then Some k else first_of_last p forest done) c.in_ok-key.ensures
+    ∙ one-before p forest done c.branch_at-branch.result.now c.loop-done-test.true c.branch_at-branch.ensures
+
+pub returns : goal.returns
+returns c q = c.loop-done.invariant q ∙ all-done (λ (b : Branch). is_found_by q (data_key c.args.modules.now c.args.forest.now b)) c.args.forest.now c.loop-done.done (omega arith)

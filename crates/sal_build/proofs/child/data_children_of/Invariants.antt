@@ -1,9 +1,11 @@
--- The nodes so far.
-use Rattle.std.proofs.Common.{◌≡◌, take}
+-- The nodes so far, from the last one.
+use Rattle.std.proofs.Common.{◌≡◌}
 use Rattle.std.specs.BTreeMap.{get}
 use Rattle.sal_build.specs.declared.child.Key.{Key}
-use Rattle.sal_build.specs.Children.{key_cmp, first_with, data_key}
+use Rattle.sal_build.specs.Children.{key_cmp, data_key, is_found_by}
+use Rattle.sal_grouping.specs.declared.forest.Branch.{Branch}
+use Rattle.sal_build.proofs.FromLast.{first_of_last}
 use Rattle.sal_build.proofs.child.data_children_of.Given as goal
 
-abbrev pub invariant-loop-k : goal.invariant-loop-k
-invariant-loop-k l = (q : Key) → get key_cmp l.map q ≡ first_with (data_key l.modules l.forest) (take l.k l.forest) q
+abbrev pub invariant-loop-done : goal.invariant-loop-done
+invariant-loop-done l = (q : Key) → get key_cmp l.map q ≡ first_of_last (λ (b : Branch). is_found_by q (data_key l.modules l.forest b)) l.forest l.done

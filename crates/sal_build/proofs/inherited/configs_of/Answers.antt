@@ -10,8 +10,8 @@ loop-k-preserved c =
     let k = c.loop-k.k in
     let pushed = c.in_ok-push.ensures.items in
     let over = rw c.deref.ensures.value at c.config_over-over.ensures in
-    let is = rw (c.kind_of.ensures, c.own_stmt.ensures, over) at c.config_in.ensures in
+    let is = rw over at c.config_of.ensures in
     let more =
-    inherited-more (with_config c.args.modules.now) (Some true) forest c.loop-k.all.items k _ c.config_in.result c.loop-k-test.true (slice_get-get_or forest k _ c.loop-k-test.true)
+    inherited-more (with_config c.args.modules.now) (Some true) forest c.loop-k.all.items k _ c.config_of.result c.loop-k-test.true (slice_get-get_or forest k _ c.loop-k-test.true)
     c.loop-k.invariant.count c.loop-k.invariant.each is in
     record { count = search rules; each = λ m d h. ap (λ xs. get_or xs m d) pushed ∙ more m d h }

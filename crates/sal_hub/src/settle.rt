@@ -63,7 +63,11 @@ pub(crate) fn pump(
             Err(NoMemory) => Err(CallFault::NoMemory),
         };
     }
-    let receipt = receipt_at(&pipeline.waiting, decided - pipeline.gone, decided as u64 + 1);
+    let receipt = receipt_at(
+        &pipeline.waiting,
+        decided - pipeline.gone,
+        decided as u64 + 1,
+    );
     match pipeline.settle(alloc, journal, client, Call::Pump, decided + 1) {
         Ok(outcome) => Ok(Some((receipt, outcome))),
         Err(NoMemory) => Err(CallFault::NoMemory),

@@ -17,7 +17,7 @@ use Rattle.sal_history.specs.declared.call.Entry.{Entry}
 use Rattle.sal_history.specs.declared.reply.Reply.{Reply}
 use Rattle.sal_history.specs.declared.reply.Reply.TheVariants.{Begun, Refused}
 use Rattle.sal_history.specs.World as world
-use Rattle.sal_history.specs.History.{Answered, began_at, began_by, commits, decided_by, entries_of, history, opened_chain, reply_to, sent_by, spends, trees_of}
+use Rattle.sal_history.specs.History.{Answered, began_at, began_by, commits, decided_by, entries_of, history, opened_chain, reply_to, sents, sent_by, spends, trees_of}
 use Rattle.sal_history.specs.Services.{mount_call}
 use Rattle.sal_history.specs.Submissions.{Base}
 use Rattle.sal_hub.specs.declared.pipeline.Pipeline.{Pipeline}
@@ -81,7 +81,7 @@ module _ (journal : Noted) (p : Pipeline) (is : IsKept journal p) (domain : ℕ)
   abbrev before : List Answered
   before = answers journal.log (line_of p)
 
-  stored : IsStored (line_of p) domain (shown d)
+  stored : IsStored (sents before) (line_of p) domain (shown d)
   stored = is.current.sound.domains domain (shown d) at
 
   the_commits : ops_of d.commits.items ≡ commits before domain

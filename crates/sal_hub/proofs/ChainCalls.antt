@@ -32,14 +32,14 @@ use Rattle.sal_hub.specs.Current.{IsCurrent, IsKept, answers, known_of}
 use Rattle.sal_hub.specs.Failures.{IsWithin, flag_in, noted_in, noted_with}
 use Rattle.sal_hub.specs.Journals.{Noted, jotted, mark_at}
 use Rattle.sal_hub.specs.Known.{Known, more}
-use Rattle.sal_hub.specs.Lines.{AllKept, IsSound, Line, is_live_in, line_of, sent_of, sents_in, shown, world_in}
+use Rattle.sal_hub.specs.Lines.{AllKept, IsSound, Line, is_live_in, line_of, sent_of, shown, world_in}
 use Rattle.sal_hub.specs.Starts.{Starts}
 use Rattle.sal_hub.specs.Tokens.{IsChain, IsFresh, IsToken, base_of, begun_of}
 use Rattle.sal_hub.proofs.Beginning.{made_now, newest_commit, newest_trees, quiet_kept, token_now}
 use Rattle.sal_hub.proofs.Chained.{adds_even, chains_now, steady}
 use Rattle.sal_hub.proofs.Deciding.{table-at}
 use Rattle.sal_hub.proofs.Histories.{now_of}
-use Rattle.sal_hub.proofs.Keeping.{or_false, pushed, still_live}
+use Rattle.sal_hub.proofs.Keeping.{length-submissions, or_false, pushed, still_live, unsent}
 use Rattle.sal_hub.proofs.Listed.{slice_get_seam}
 use Rattle.sal_hub.proofs.Members.{last_from-passes, last_from-within}
 use Rattle.sal_hub.proofs.Noted.{flag_at, flag_in-push, length-with, noted_at, noted_in-push, noted_in-with}
@@ -79,7 +79,7 @@ module _ (journal journal' : Noted) (p : Pipeline) (is : IsKept journal p) (clie
         subst (λ known. AreChains known cs) (known_is journal journal' p p entry log refl)
         (steady (known_of journal p) entry cs are cs (record { domains = refl; closed = refl; begun = refl; sent = refl }) unopened (λ id. refl) (λ id. refl) refl)
 
-  module _ (p' : Pipeline) (live : is_live_in (line_of p).domains domain ≡ true) (kept : p'.domains ≡ p.domains) (same : p'.submissions ≡ p.submissions) (undecided : p'.outcomes ≡ p.outcomes) (failures : p'.failures.items ≡ p.failures.items ++ None ∷ []) where
+  module _ (p' : Pipeline) (live : is_live_in (line_of p).domains domain ≡ true) (kept : p'.domains ≡ p.domains) (as_gone : p'.gone ≡ p.gone) (same : p'.waiting ≡ p.waiting) (undecided : p'.outcomes ≡ p.outcomes) (failures : p'.failures.items ≡ p.failures.items ++ None ∷ []) where
     opened_reply : reply_to w answered client (OpenChain domain) ≡ Opened (length (chain_domains answered) + 1)
     opened_reply = ap (λ b. if b then Opened (length (chain_domains answered) + 1) else Refused (NoDomain domain)) (sym (is.current.live domain) ∙ live)
 
@@ -90,7 +90,7 @@ module _ (journal journal' : Noted) (p : Pipeline) (is : IsKept journal p) (clie
     line' = record (line_of p) { failures = (line_of p).failures ++ None ∷ [] }
 
     line_is : line' ≡ line_of p'
-    line_is = λ i. record { domains = map shown (sym kept i).items; submissions = (sym same i).items; outcomes = (sym undecided i).items; failures = sym failures i }
+    line_is = λ i. record { domains = map shown (sym kept i).items; gone = sym as_gone i; waiting = (sym same i).items; outcomes = (sym undecided i).items; failures = sym failures i }
 
     wider : (n : ℕ) (chain : Option ℕ) → IsWithin n chain → IsWithin (n + 1) chain
     wider n chain within id at = ((within id at).0, omega (arith, (within id at).1))
@@ -98,12 +98,14 @@ module _ (journal journal' : Noted) (p : Pipeline) (is : IsKept journal p) (clie
     longer : length line'.failures ≡ length (line_of p).failures + 1
     longer = length-append (line_of p).failures (None ∷ [])
 
-    sound_now : IsSound line'
+    sound_now : IsSound (sents answered) line'
     sound_now = record {
       some = is.current.sound.some;
       within = is.current.sound.within;
+      behind = is.current.sound.behind;
       domains = λ n d at. let had = is.current.sound.domains n d at in record { number = had.number; commits = had.commits; chains = had.chains; receipts = had.receipts };
-      submissions = λ i s at. let had = is.current.sound.submissions i s at in record { domain = had.domain; base = had.base; chain = subst (λ n. IsWithin n s.chain) (sym longer) (wider (length (line_of p).failures) s.chain had.chain); view = had.view; below = had.below };
+      waiting = is.current.sound.waiting;
+      standing = λ i s at. let had = is.current.sound.standing i s at in record { domain = had.domain; base = had.base; chain = subst (λ n. IsWithin n s.chain) (sym longer) (wider (length (line_of p).failures) s.chain had.chain); view = had.view; below = had.below };
       numbers = is.current.sound.numbers;
       failures = λ k. noted_in-push (line_of p).failures k ∙ is.current.sound.failures k;
     }
@@ -112,7 +114,7 @@ module _ (journal journal' : Noted) (p : Pipeline) (is : IsKept journal p) (clie
     opened_kept marks = record {
       kept = subst (λ ds. AllKept ds) (λ i. (sym kept i).items) is.kept;
       current = subst (λ l. IsCurrent l journal'.marks (line_of p')) (sym log) (subst (IsCurrent (journal.log ++ entry ∷ []) journal'.marks) line_is
-          (pushed journal.log journal.marks (line_of p) is.current entry line' journal'.marks sound_now refl (sym (append-nil (sents_in (line_of p)))) (sym (append-nil (line_of p).outcomes))
+          (pushed journal.log journal.marks (line_of p) is.current entry line' journal'.marks (unsent journal.log journal.marks (line_of p) is.current entry line' refl sound_now) refl (sym (append-nil (line_of p).outcomes))
           (λ k. marks k ∙ sym (or_false (mark_at journal.marks k))) (longer ∙ ap (λ (o : Option ℕ). length (line_of p).failures + length (option_to_list o)) (sym opened))
           (still_live journal.log journal.marks (line_of p) is.current entry line' refl (λ n. refl))));
     }
@@ -170,7 +172,7 @@ module _ (journal : Noted) (p : Pipeline) (is : IsKept journal p) (cs : Chains) 
   pub failed_is : (x : Option ℕ) → x ≡ get_or p.failures.items (chain.id - 1) x → x ≡ failed_by (answers journal.log (line_of p)) chain.id
   failed_is x at =
       sym (noted_at p.failures.items chain.id x token.0 (omega (arith, id_within, ap length are.domains, is.current.chains)) at)
-      ∙ is.current.sound.failures chain.id ∙ (λ i. failing (Some chain.id) (is.current.submissions i) (is.current.outcomes i))
+      ∙ is.current.sound.failures chain.id ∙ (λ i. failing (Some chain.id) (sents done) (is.current.outcomes i))
 
   pub begun_is : (x : Option ℕ) → x ≡ get_or cs.begun.items (chain.id - 1) x → x ≡ last_begun (answers journal.log (line_of p)) chain.id
   begun_is x at = sym (noted_at cs.begun.items chain.id x token.0 (omega (arith, id_within, are.even.begun)) at) ∙ are.begun chain.id
@@ -181,10 +183,10 @@ module _ (journal : Noted) (p : Pipeline) (is : IsKept journal p) (cs : Chains) 
   pub sent_is : (x : Option ℕ) → x ≡ get_or cs.sent.items (chain.id - 1) x → x ≡ last_receipt (sents (answers journal.log (line_of p))) (Some chain.id)
   sent_is x at = sym (noted_at cs.sent.items chain.id x token.0 (omega (arith, id_within, are.even.sent)) at) ∙ are.sent chain.id
 
-  pub sent_within : (x : Option ℕ) → x ≡ get_or cs.sent.items (chain.id - 1) x → IsWithin (length p.submissions.items) x
+  pub sent_within : (x : Option ℕ) → x ≡ get_or cs.sent.items (chain.id - 1) x → IsWithin (p.gone + length p.waiting.items) x
   sent_within x at = λ n some.
       let h = last_from-within 1 (is_in (Some chain.id)) (sents done) n (sym (sent_is x at) ∙ some) in
-      let long : length (sents done) ≡ length p.submissions.items = sym (ap length is.current.submissions) ∙ length-map p.submissions.items sent_of in
+      let long : length (sents done) ≡ p.gone + length p.waiting.items = sym (length-submissions journal.log journal.marks (line_of p) is.current) in
       (omega (arith, h.0), omega (arith, h.1, long))
 
   pub domain_is : domain_of (answers journal.log (line_of p)) chain.id ≡ chain.domain
@@ -241,10 +243,10 @@ module _ (journal : Noted) (p : Pipeline) (is : IsKept journal p) (cs : Chains) 
   on_footing (Some n) on = on.2.pending
 
   -- the chain's last submission is in its domain
-  last_domain : (n : ℕ) (sub : Submission) → sent ≡ Some n → slice_get p.submissions.items (n - 1) ≡ Some sub → sub.domain ≡ chain.domain
+  last_domain : (n : ℕ) (sub : Submission) → sent ≡ Some n → slice_get (sents so_far) (n - 1) ≡ Some (sent_of sub) → sub.domain ≡ chain.domain
   last_domain n sub some here =
       let (s, there, mine) = last_from-passes 1 (is_in (Some chain.id)) (sents so_far) n (sym (sent_is journal p is cs are chain token sent sent_at) ∙ some) in
-      let same : s ≡ sent_of sub = same_Some s (sent_of sub) (sym there ∙ kept_sent journal p is (n - 1) sub here) in
+      let same : s ≡ sent_of sub = same_Some s (sent_of sub) (sym there ∙ here) in
       let own : slice_get (chain_domains so_far) (chain.id - 1) ≡ Some s.base.domain = are.places.sent (n - 1) s there chain.id (of_chain chain.id s.base.chain mine) in
       same_Some sub.domain chain.domain (ap (λ (x : Sent). Some x.base.domain) (sym same) ∙ sym own ∙ token.1)
 
@@ -253,8 +255,22 @@ module _ (journal : Noted) (p : Pipeline) (is : IsKept journal p) (cs : Chains) 
   some_pending (Some k) n e =
       elim (nat_lt (length p.outcomes.items) k) as (λ b. (if b then Some k else None) ≡ Some n → Some k ≡ Some n) [ true ↦ λ same. same | false ↦ λ none. cc ] e
 
-  base_footing : (o : Option ℕ) → ((n : ℕ) → o ≡ Some n → sent ≡ Some n) → IsFooting o p d footing → base_on there so_far chain.id (option_and_then (λ n. slice_get (sents so_far) (n - 1)) o) ≡ begun_base
-  base_footing None last newest =
+  late_pending : (o : Option ℕ) (n : ℕ) → pending_of (length p.outcomes.items) o ≡ Some n → length p.outcomes.items < n
+  late_pending None n e = cc
+  late_pending (Some k) n e =
+      elim (nat_lt (length p.outcomes.items) k) as (λ b. nat_lt (length p.outcomes.items) k ≡ b → (if b then Some k else None) ≡ Some n → length p.outcomes.items < n) [
+        | true ↦ λ is_late same. (let late : length p.outcomes.items < k = grind (arith, nat_tests, is_late) in omega (arith, late, same_Some k n same))
+        | false ↦ λ is_late none. cc
+      ] refl e
+
+  -- the pending submission, as the log has it
+  last_sent : (n : ℕ) (sub : Submission) → length p.outcomes.items < n → slice_get p.waiting.items (n - 1 - p.gone) ≡ Some sub → slice_get (sents so_far) (n - 1) ≡ Some (sent_of sub)
+  last_sent n sub late at =
+      let place : p.gone + (n - 1 - p.gone) ≡ n - 1 = omega (arith, late, is.current.sound.behind) in
+      ap (slice_get (sents so_far)) (sym place) ∙ kept_sent journal p is (n - 1 - p.gone) sub at
+
+  base_footing : (o : Option ℕ) → ((n : ℕ) → o ≡ Some n → sent ≡ Some n) → ((n : ℕ) → o ≡ Some n → length p.outcomes.items < n) → IsFooting o p d footing → base_on there so_far chain.id (option_and_then (λ n. slice_get (sents so_far) (n - 1)) o) ≡ begun_base
+  base_footing None last late newest =
       let domain : domain_of so_far chain.id ≡ chain.domain = domain_is journal p is cs are chain token in
       ap (λ n. newest_base there so_far n (Some chain.id)) domain
       ∙ (λ i. let b : Base = record {
@@ -263,19 +279,20 @@ module _ (journal : Noted) (p : Pipeline) (is : IsKept journal p) (cs : Chains) 
         chain = sym starts.chain i;
         trees = λ s. sym (trees s ∙ newest_trees journal p is chain.domain d at footing newest s) i;
       } in b)
-  base_footing (Some n) last on =
+  base_footing (Some n) last late on =
       let sub : Submission = on.0 in
-      let had = is.current.sound.submissions (n - 1) sub on.1 in
-      ap (base_on there so_far chain.id) (kept_sent journal p is (n - 1) sub on.1)
+      let had = is.current.sound.standing (n - 1 - p.gone) sub on.1 in
+      let here : slice_get (sents so_far) (n - 1) ≡ Some (sent_of sub) = last_sent n sub (late n refl) on.1 in
+      ap (base_on there so_far chain.id) here
       ∙ (λ i. let b : Base = record {
-        domain = (last_domain n sub (last n refl) on.1 ∙ sym number) i;
+        domain = (last_domain n sub (last n refl) here ∙ sym number) i;
         commit = sym (starts.commit ∙ on.2.commit) i;
         chain = sym starts.chain i;
         trees = λ s. (sym (had.view s) ∙ ap (λ (x : Pair). kept_rows x s) (sym on.2.trees) ∙ sym (trees s)) i;
       } in b)
 
   base_is : chained_base there so_far chain.id ≡ begun_base
-  base_is = ap (λ (o : Option ℕ). base_on there so_far chain.id (option_and_then (λ n. slice_get (sents so_far) (n - 1)) o)) (sym stands_is) ∙ base_footing (pending_of (length p.outcomes.items) sent) (some_pending sent) stands
+  base_is = ap (λ (o : Option ℕ). base_on there so_far chain.id (option_and_then (λ n. slice_get (sents so_far) (n - 1)) o)) (sym stands_is) ∙ base_footing (pending_of (length p.outcomes.items) sent) (some_pending sent) (late_pending sent) stands
 
   on_is : (begun_of tx).on ≡ stands_on so_far chain.id
   on_is = starts.on ∙ on_footing (pending_of (length p.outcomes.items) sent) stands ∙ stands_is

@@ -20,7 +20,7 @@ use Rattle.sal_history.specs.History.{decide_front, decide_next}
 use Rattle.sal_history.specs.Submissions.{Sent}
 use Rattle.sal_hub.specs.declared.pipeline.Pipeline.{Pipeline}
 use Rattle.sal_hub.specs.Failures.{cut_failures}
-use Rattle.sal_hub.specs.Lines.{AllKept, AreDecided, HasGrown, HaveGrown, IsSound, Line, Shown, counts_of, cut_all, is_live_in, line_of, sent_of, sents_in, shown, world_in}
+use Rattle.sal_hub.specs.Lines.{AllKept, AreDecided, Decides, HasGrown, HaveGrown, IsSound, Line, Shown, counts_of, cut_all, is_live_in, line_of, shown, world_in}
 use Rattle.sal_hub.proofs.Listed.{Grows-then, length-Grows, slice_get_at, take-Grows}
 use Rattle.sal_hub.proofs.Noted.{cut_twice}
 
@@ -137,7 +137,8 @@ HaveGrown-then (d ∷ ds) (e ∷ es) (f ∷ fs) g h = (
 pub HasGrown-then : (a b c : Line) → HasGrown a b → HasGrown b c → HasGrown a c
 HasGrown-then a b c g h = record {
   domains = HaveGrown-then a.domains b.domains c.domains g.domains h.domains;
-  submissions = h.submissions ∙ g.submissions;
+  gone = h.gone ∙ g.gone;
+  waiting = h.waiting ∙ g.waiting;
   outcomes = Grows-then a.outcomes b.outcomes c.outcomes g.outcomes h.outcomes;
   failures =
       sym (cut_twice (length a.outcomes) (length b.outcomes) c.failures (length-Grows a.outcomes b.outcomes g.outcomes))
@@ -156,28 +157,26 @@ decide_next-plus world live ss os (suc m) n =
     ∙ sym (append_assoc front (decide_next world live ss (os ++ front) m) (decide_next world live ss ((os ++ front) ++ decide_next world live ss (os ++ front) m) n))
     ∙ ap (λ (us : List Outcome). (front ++ decide_next world live ss (os ++ front) m) ++ decide_next world live ss us n) (append_assoc os front (decide_next world live ss (os ++ front) m))
 
-pub AreDecided-none : (line : Line) → IsSound line → AreDecided line 0 line
-AreDecided-none line sound = record { sound = sound; world = refl; live = λ n. refl; submissions = refl; outcomes = sym (append-nil line.outcomes); chains = refl }
+pub Decides-none : (line : Line) → Decides line 0 line
+Decides-none line = λ ss sound. record { sound = sound; world = refl; live = λ n. refl; outcomes = sym (append-nil line.outcomes); chains = refl }
 
-pub AreDecided-then : (a b c : Line) (m n k : ℕ) → k ≡ m + n → AreDecided a m b → AreDecided b n c → AreDecided a k c
-AreDecided-then a b c m n k sum g h =
-    let ss : List Sent = sents_in a in
+AreDecided-then : (ss : List Sent) (a b c : Line) (m n k : ℕ) → k ≡ m + n → AreDecided ss a m b → AreDecided ss b n c → AreDecided ss a k c
+AreDecided-then ss a b c m n k sum g h =
     let w : List Domain = world_in a.domains in
     let l : ℕ → Bool = is_live_in a.domains in
     record {
       sound = h.sound;
       world = h.world ∙ g.world;
       live = λ d. h.live d ∙ g.live d;
-      submissions = h.submissions ∙ g.submissions;
       outcomes =
-          h.outcomes ∙ (λ i. g.outcomes i ++ decide_next (g.world i) (λ d. g.live d i) (map sent_of (g.submissions i)) (g.outcomes i) n)
+          h.outcomes ∙ (λ i. g.outcomes i ++ decide_next (g.world i) (λ d. g.live d i) ss (g.outcomes i) n)
           ∙ append_assoc a.outcomes (decide_next w l ss a.outcomes m) (decide_next w l ss (a.outcomes ++ decide_next w l ss a.outcomes m) n)
           ∙ ap (λ (us : List Outcome). a.outcomes ++ us) (sym (decide_next-plus w l ss a.outcomes m n) ∙ ap (decide_next w l ss a.outcomes) (sym sum));
       chains = h.chains ∙ g.chains;
     }
 
-pub one_more : (a b c : Line) (start i : ℕ) → start ≤ i → AreDecided a (i - start) b → AreDecided b 1 c → AreDecided a (i + 1 - start) c
-one_more a b c start i h g one = AreDecided-then a b c (i - start) 1 (i + 1 - start) (omega (arith, h)) g one
+pub one_more : (a b c : Line) (start i : ℕ) → start ≤ i → Decides a (i - start) b → Decides b 1 c → Decides a (i + 1 - start) c
+one_more a b c start i h g one = λ ss sound. AreDecided-then ss a b c (i - start) 1 (i + 1 - start) (omega (arith, h)) (g ss sound) (one ss (g ss sound).sound)
 
 -- ---- code's lists of domains
 
@@ -224,9 +223,9 @@ module _ (old new : Pipeline) (kept : AllKept old.domains.items) (grown : HasGro
       ap length counts_are ∙ length-map (map shown old.domains.items) (λ (d : Shown). length d.ops)
       ∙ sym (HaveGrown-long (map shown old.domains.items) (map shown new.domains.items) grown.domains) ∙ length-map new.domains.items shown
 
-  pub taken_back : (ds : List Stored) (ss : List Submission) (os : List Outcome) (fs : List (Option ℕ)) → map shown ds ≡ cut_all (map shown new.domains.items) counts → ss ≡ new.submissions.items → os ≡ take (length old.outcomes.items) new.outcomes.items → fs ≡ cut_failures (length old.outcomes.items) new.failures.items
-      → ◌≡◌ {A = Line} (record { domains = map shown ds; submissions = ss; outcomes = os; failures = fs }) (line_of old)
-  taken_back ds ss os fs cut same taken forgotten =
+  pub taken_back : (ds : List Stored) (gone : ℕ) (ss : List Submission) (os : List Outcome) (fs : List (Option ℕ)) → map shown ds ≡ cut_all (map shown new.domains.items) counts → gone ≡ new.gone → ss ≡ new.waiting.items → os ≡ take (length old.outcomes.items) new.outcomes.items → fs ≡ cut_failures (length old.outcomes.items) new.failures.items
+      → ◌≡◌ {A = Line} (record { domains = map shown ds; gone = gone; waiting = ss; outcomes = os; failures = fs }) (line_of old)
+  taken_back ds gone ss os fs cut as_gone same taken forgotten =
       let domains : map shown ds ≡ map shown old.domains.items = cut ∙ ap (cut_all (map shown new.domains.items)) counts_are ∙ cut_back (map shown old.domains.items) (map shown new.domains.items) (level old.domains.items kept) grown.domains in
       let outcomes : os ≡ old.outcomes.items = taken ∙ take-Grows old.outcomes.items new.outcomes.items grown.outcomes in
-      λ i. record { domains = domains i; submissions = (same ∙ grown.submissions) i; outcomes = outcomes i; failures = (forgotten ∙ grown.failures) i }
+      λ i. record { domains = domains i; gone = (as_gone ∙ grown.gone) i; waiting = (same ∙ grown.waiting) i; outcomes = outcomes i; failures = (forgotten ∙ grown.failures) i }

@@ -1,5 +1,5 @@
 -- Lists looked at by index.
-use Rattle.std.proofs.Common.{◌≡◌, ℕ, zero, suc, ◌<◌, ◌≤◌, List, [], ◌∷◌, ◌++◌, length, get_or, set, take, None, Some, refl, ap, sym, ◌∙◌, arith, append_assoc, length-append, inl, inr, ◌⊎◌}
+use Rattle.std.proofs.Common.{◌≡◌, ℕ, zero, suc, ◌+◌, ◌<◌, ◌≤◌, List, [], ◌∷◌, ◌++◌, drop, length, get_or, set, take, None, Some, refl, ap, sym, ◌∙◌, arith, append_assoc, length-append, inl, inr, ◌⊎◌}
 use Rattle.std.specs.Prelude.{slice_get}
 use Rattle.std.proofs.lemmas.Option.{same_Some}
 use Rattle.std.proofs.Math.Seq.{take-append_seam}
@@ -59,6 +59,12 @@ slice_get_more (y ∷ xs) ys (suc k) x e = slice_get_more xs ys k x e
 pub slice_get_seam : {X : Type 0} (xs : List X) (y : X) (ys : List X) → slice_get (xs ++ y ∷ ys) (length xs) ≡ Some y
 slice_get_seam [] y ys = refl
 slice_get_seam (x ∷ xs) y ys = slice_get_seam xs y ys
+
+-- what stands behind the first ones
+pub slice_get-drop : {X : Type 0} (xs : List X) (k i : ℕ) → slice_get (drop k xs) i ≡ slice_get xs (k + i)
+slice_get-drop xs zero i = let same : i ≡ 0 + i = omega arith in ap (slice_get xs) same
+slice_get-drop [] (suc k) i = refl
+slice_get-drop (x ∷ xs) (suc k) i = let next : suc (k + i) ≡ suc k + i = omega arith in slice_get-drop xs k i ∙ ap (slice_get (x ∷ xs)) next
 
 -- ---- lists that grow at their ends
 

@@ -21,7 +21,7 @@ use Rattle.sal_history.specs.declared.call.Call.TheVariants.{Mount, MountAt, Unm
 use Rattle.sal_history.specs.declared.call.Entry.{Entry}
 use Rattle.sal_history.specs.declared.reply.Reply.{Reply}
 use Rattle.sal_history.specs.World.{Domain}
-use Rattle.sal_history.specs.History.{Answered, entries_of, history, is_live, reply_to}
+use Rattle.sal_history.specs.History.{Answered, entries_of, history, is_live, reply_to, sents}
 use Rattle.sal_history.specs.Services.{by_mounts, mount_call, mount_fault, mount_reply, mounted, mounting}
 use Rattle.sal_history.specs.Submissions.{Sent}
 use Rattle.sal_commit.specs.declared.domain.Domain.{Domain as Stored}
@@ -30,10 +30,10 @@ use Rattle.sal_hub.specs.Answers.{Fails, Made}
 use Rattle.sal_hub.specs.Current.{IsCurrent, IsKept, answers, known_of}
 use Rattle.sal_hub.specs.Journals.{Noted, mark_at}
 use Rattle.sal_hub.specs.Known.{Known}
-use Rattle.sal_hub.specs.Lines.{AllKept, IsSound, Line, Shown, is_live_in, line_of, opened_as, sents_in, set_live, shown, with_live, world_in}
+use Rattle.sal_hub.specs.Lines.{AllKept, IsSound, Line, Shown, is_live_in, line_of, opened_as, set_live, shown, with_live, world_in}
 use Rattle.sal_hub.specs.Mounted.{AreMounted, Enters, IsJotted}
 use Rattle.sal_hub.proofs.Histories.{mounting-push}
-use Rattle.sal_hub.proofs.Keeping.{none_more, or_false, pushed}
+use Rattle.sal_hub.proofs.Keeping.{none_more, or_false, pushed, unsent}
 use Rattle.sal_hub.proofs.Living.{is_device_low, live-mounted, live-same, live-unmounted, live_there}
 use Rattle.sal_hub.proofs.Served.{is_serving, serving_undecided, serving_unopened, serving_unsent, serving_unspent}
 
@@ -66,8 +66,8 @@ shown-with (x ∷ ds) zero b d d' h is same = ap (λ (e : Shown). e ∷ map show
 shown-with (x ∷ ds) (suc i) b d d' h is same = ap (λ (es : List Shown). shown x ∷ es) (shown-with ds i b d d' (omega (arith, h)) is same)
 
 pub line_with : (p : Pipeline) (i : ℕ) (b : Bool) (d d' : Stored) → i < length p.domains.items → d ≡ get_or p.domains.items i d → shown d' ≡ record (shown d) { live = b }
-    → ◌≡◌ {A = Line} (record { domains = map shown (set p.domains.items i d'); submissions = p.submissions.items; outcomes = p.outcomes.items; failures = p.failures.items }) (set_live (line_of p) i b)
-line_with p i b d d' h is same = λ j. record { domains = shown-with p.domains.items i b d d' h is same j; submissions = p.submissions.items; outcomes = p.outcomes.items; failures = p.failures.items }
+    → ◌≡◌ {A = Line} (record { domains = map shown (set p.domains.items i d'); gone = p.gone; waiting = p.waiting.items; outcomes = p.outcomes.items; failures = p.failures.items }) (set_live (line_of p) i b)
+line_with p i b d d' h is same = λ j. record { domains = shown-with p.domains.items i b d d' h is same j; gone = p.gone; waiting = p.waiting.items; outcomes = p.outcomes.items; failures = p.failures.items }
 
 -- nothing else of a domain changes
 at-with : (ds : List Shown) (i : ℕ) (b : Bool) (n : ℕ) (e : Shown) → slice_get (with_live ds i b) n ≡ Some e → (d : Shown) × (slice_get ds n ≡ Some d) × (e ≡ record d { live = e.live })
@@ -81,10 +81,11 @@ at-with (d ∷ ds) zero b (suc n) e at = (e, at, refl)
 at-with (d ∷ ds) (suc i) b zero e at = (e, at, refl)
 at-with (d ∷ ds) (suc i) b (suc n) e at = at-with ds i b n e at
 
-sound-with : (line : Line) (i : ℕ) (b : Bool) → IsSound line → IsSound (set_live line i b)
-sound-with line i b sound = record {
+sound-with : (ss : List Sent) (line : Line) (i : ℕ) (b : Bool) → IsSound ss line → IsSound ss (set_live line i b)
+sound-with ss line i b sound = record {
   some = omega (arith, sound.some, length-with line.domains i b);
   within = sound.within;
+  behind = sound.behind;
   domains = λ n e at. (
       let (d, was, same) = at-with line.domains i b n e at in
       let had = sound.domains n d was in
@@ -95,7 +96,8 @@ sound-with line i b sound = record {
         receipts = ap (λ (x : Shown). x.receipts) same ∙ had.receipts;
       }
       );
-  submissions = λ k s at. let had = sound.submissions k s at in record { domain = omega (arith, had.domain, length-with line.domains i b); base = had.base; chain = had.chain; view = had.view; below = had.below };
+  waiting = sound.waiting;
+  standing = λ k s at. let had = sound.standing k s at in record { domain = omega (arith, had.domain, length-with line.domains i b); base = had.base; chain = had.chain; view = had.view; below = had.below };
   numbers = sound.numbers;
   failures = sound.failures;
 }
@@ -173,16 +175,16 @@ module _ (journal journal' : Noted) (p : Pipeline) (is : IsKept journal p) (r r'
         reply = by_call w answered client call m asks ∙ ap mount_reply reply_is;
       }
 
-      current_now : (line : Line) → line ≡ line_of p' → IsSound line → sents_in line ≡ sents_in (line_of p) → line.outcomes ≡ p.outcomes.items → length line.failures ≡ length p.failures.items
+      current_now : (line : Line) → line ≡ line_of p' → IsSound (sents (answers journal.log (line_of p))) line → line.outcomes ≡ p.outcomes.items → length line.failures ≡ length p.failures.items
           → ((n : ℕ) → is_live_in line.domains n ≡ is_up (before ++ record { call = m; reply = reply } ∷ []) n) → IsCurrent journal'.log journal'.marks (line_of p')
-      current_now line is_line sound sent decided failed lives =
+      current_now line is_line sound decided failed lives =
           let on : is_serving call ≡ true = serves call m asks in
           let shared : Reply = reply_to w answered client call in
           subst (λ (l : List Entry). IsCurrent l journal'.marks (line_of p')) (sym entered.log)
           (subst (IsCurrent (journal.log ++ entry ∷ []) journal'.marks) is_line
-          (pushed journal.log journal.marks (line_of p) is.current entry line journal'.marks sound
+          (pushed journal.log journal.marks (line_of p) is.current entry line journal'.marks
+          (unsent journal.log journal.marks (line_of p) is.current entry line (serving_unsent answered call on shared) sound)
           (ap (λ (l : Line). world_in l.domains) is_line ∙ same)
-          (sent ∙ sym (append-nil (sents_in (line_of p))) ∙ ap (λ (o : Option Sent). sents_in (line_of p) ++ option_to_list o) (sym (serving_unsent answered call on shared)))
           (decided ∙ sym (append-nil p.outcomes.items) ∙ ap (λ os. p.outcomes.items ++ os) (sym (serving_undecided w answered call on)))
           (λ k. entered.marks k ∙ sym (or_false (mark_at journal.marks k)) ∙ ap (λ b. mark_at journal.marks k || b) (sym (serving_unspent call on shared k)))
           (failed ∙ none_more (length p.failures.items) ∙ ap (λ (o : Option ℕ). length p.failures.items + length (option_to_list o)) (sym (serving_unopened call on shared)))
@@ -193,7 +195,7 @@ module _ (journal journal' : Noted) (p : Pipeline) (is : IsKept journal p) (r r'
       pub same_kept : IsKept journal' p
       same_kept = record {
         kept = is.kept;
-        current = current_now entered p refl (line_of p) refl is.current.sound refl refl refl
+        current = current_now entered p refl (line_of p) refl is.current.sound refl refl
             (λ n. is.current.live n ∙ sym (live-same before (record { call = m; reply = reply }) no_mount no_unmount n));
       }
 
@@ -211,7 +213,7 @@ module _ (journal journal' : Noted) (p : Pipeline) (is : IsKept journal p) (r r'
       pub set_kept : IsKept journal' p'
       set_kept = record {
         kept = kept;
-        current = current_now entered p' same_world (set_live (line_of p) domain live) (sym line) (sound-with (line_of p) domain live is.current.sound) refl refl refl flags;
+        current = current_now entered p' same_world (set_live (line_of p) domain live) (sym line) (sound-with (sents (answers journal.log (line_of p))) (line_of p) domain live is.current.sound) refl refl flags;
       }
 
 -- ---- a call that is refused, or for which memory is wanting

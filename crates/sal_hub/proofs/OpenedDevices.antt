@@ -93,25 +93,26 @@ or_none : (b : Bool) → b ≡ (b || (false && not false))
 or_none true = refl
 or_none false = refl
 
-pub opened_kept : (devices : List Device) (p : Pipeline) (journal : Noted) → 1 ≤ length devices → AllKept p.domains.items → map shown p.domains.items ≡ shown_from 0 devices → p.submissions.items ≡ [] → p.outcomes.items ≡ [] → p.failures.items ≡ [] → journal ≡ record { log = []; marks = [] } → IsKept journal p
-opened_kept devices p journal some kept are none undecided unopened empty =
-    let line : Line = record { domains = shown_from 0 devices; submissions = []; outcomes = []; failures = [] } in
+pub opened_kept : (devices : List Device) (p : Pipeline) (journal : Noted) → 1 ≤ length devices → AllKept p.domains.items → map shown p.domains.items ≡ shown_from 0 devices → p.gone ≡ 0 → p.waiting.items ≡ [] → p.outcomes.items ≡ [] → p.failures.items ≡ [] → journal ≡ record { log = []; marks = [] } → IsKept journal p
+opened_kept devices p journal some kept are zeroth none undecided unopened empty =
+    let line : Line = record { domains = shown_from 0 devices; gone = 0; waiting = []; outcomes = []; failures = [] } in
     let start : IsCurrent [] [] line = record {
       sound = record {
         some = omega (arith, some, length-shown 0 devices);
         within = omega arith;
-        domains = λ n d at. let facts = shown_at 0 devices n d at in let zeroth : 0 + n ≡ n = omega arith in record { number = facts.0 ∙ zeroth; commits = facts.1; chains = facts.2; receipts = facts.3 };
-        submissions = λ i s at. cc;
+        behind = omega arith;
+        domains = λ n d at. let facts = shown_at 0 devices n d at in let first : 0 + n ≡ n = omega arith in record { number = facts.0 ∙ first; commits = facts.1; chains = facts.2; receipts = facts.3 };
+        waiting = refl;
+        standing = λ i s at. cc;
         numbers = λ i s at. cc;
         failures = no_failure;
       };
-      submissions = refl;
       outcomes = refl;
       marks = λ place. refl;
       chains = refl;
       live = λ n. live_first n devices some ∙ or_none (nat_eq n 0);
     } in
-    let same : ◌≡◌ {A = Line} line (line_of p) = λ i. record { domains = sym are i; submissions = sym none i; outcomes = sym undecided i; failures = sym unopened i } in
+    let same : ◌≡◌ {A = Line} line (line_of p) = λ i. record { domains = sym are i; gone = sym zeroth i; waiting = sym none i; outcomes = sym undecided i; failures = sym unopened i } in
     record {
       kept = kept;
       current = subst (λ (j : Noted). IsCurrent j.log j.marks (line_of p)) (sym empty) (subst (IsCurrent [] []) same start);

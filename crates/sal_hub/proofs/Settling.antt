@@ -20,11 +20,12 @@ use Rattle.sal_hub.specs.Answers.{Made}
 use Rattle.sal_hub.specs.Current.{IsCurrent, IsKept, answers, known_of}
 use Rattle.sal_hub.specs.Journals.{Noted, jotted, mark_at}
 use Rattle.sal_hub.specs.Known.{Known, more}
-use Rattle.sal_hub.specs.Lines.{AllKept, AreDecided, is_live_in, line_of, sent_of, sents_in, world_in}
+use Rattle.sal_hub.specs.Lines.{AllKept, AreDecided, is_live_in, line_of, sent_of, world_in}
 use Rattle.sal_hub.specs.Tokens.{IsGiven}
 use Rattle.sal_hub.proofs.Beginning.{quiet_kept}
+use Rattle.sal_hub.proofs.Deciding.{sent_at}
 use Rattle.sal_hub.proofs.Histories.{sents-few, sents-push}
-use Rattle.sal_hub.proofs.Keeping.{length-submissions, none_more, or_false, pushed, still_live}
+use Rattle.sal_hub.proofs.Keeping.{length-submissions, none_more, or_false, pushed, still_live, unsent}
 use Rattle.sal_hub.proofs.Listed.{slice_get_more, slice_get_none, slice_get_seam, slice_get_some}
 use Rattle.sal_hub.proofs.Submitting.{given_domain, swapped}
 
@@ -36,35 +37,38 @@ cancel_kept journal journal' p is client place log marks =
     record {
       kept = is.kept;
       current = subst (λ (l : List Entry). IsCurrent l journal'.marks (line_of p)) (sym log)
-          (pushed journal.log journal.marks (line_of p) is.current e (line_of p) journal'.marks is.current.sound refl
-          (sym (append-nil (sents_in (line_of p)))) (sym (append-nil (line_of p).outcomes)) (λ k. marks k ∙ swapped (nat_eq place k) (mark_at journal.marks k)) (none_more (length (line_of p).failures))
+          (pushed journal.log journal.marks (line_of p) is.current e (line_of p) journal'.marks (unsent journal.log journal.marks (line_of p) is.current e (line_of p) refl is.current.sound) refl
+          (sym (append-nil (line_of p).outcomes)) (λ k. marks k ∙ swapped (nat_eq place k) (mark_at journal.marks k)) (none_more (length (line_of p).failures))
           (still_live journal.log journal.marks (line_of p) is.current e (line_of p) refl (λ n. refl)));
     }
 
 -- ---- decisions
 
 -- there are no more submissions than entries
-pub few : (journal : Noted) (p : Pipeline) → IsKept journal p → length p.submissions.items ≤ length journal.log
+pub few : (journal : Noted) (p : Pipeline) → IsKept journal p → p.gone + length p.waiting.items ≤ length journal.log
 few journal p is =
     omega (arith, length-submissions journal.log journal.marks (line_of p) is.current, sents-few (world_in (line_of p).domains) journal.log)
 
+-- and no more outcomes than submissions
+pub decided_within : (journal : Noted) (p : Pipeline) → IsKept journal p → length p.outcomes.items ≤ p.gone + length p.waiting.items
+decided_within journal p is = omega (arith, length-submissions journal.log journal.marks (line_of p) is.current, is.current.sound.within)
+
 -- the submission of a receipt that was given is of its domain
-pub given_at : (journal : Noted) (p : Pipeline) (receipt : Receipt) → IsKept journal p → IsGiven (known_of journal p) receipt → (s : Submission) × (slice_get p.submissions.items (receipt.number - 1) ≡ Some s) × (s.domain ≡ receipt.domain)
-given_at journal p receipt is given = found (slice_get p.submissions.items (receipt.number - 1)) refl
+pub given_at : (known : Known) (receipt : Receipt) → IsGiven known receipt → (s : Sent) × (slice_get (sents (history known.world known.log)) (receipt.number - 1) ≡ Some s) × (s.base.domain ≡ receipt.domain)
+given_at known receipt given = found (slice_get (sents (history known.world known.log)) (receipt.number - 1)) refl given.1
   where
-    found : (o : Option Submission) → slice_get p.submissions.items (receipt.number - 1) ≡ o → (s : Submission) × (slice_get p.submissions.items (receipt.number - 1) ≡ Some s) × (s.domain ≡ receipt.domain)
-    found None at =
-        let nothing : slice_get (sents (answers journal.log (line_of p))) (receipt.number - 1) ≡ None = ap (λ (ss : List Sent). slice_get ss (receipt.number - 1)) (sym is.current.submissions) ∙ slice_get-map sent_of p.submissions.items (receipt.number - 1) ∙ ap (option_map sent_of) at in
-        let none : None ≡ Some receipt.domain = ap (option_map (λ (t : Sent). t.base.domain)) (sym nothing) ∙ given.1 in cc
-    found (Some s) at = (s, at, same_Some s.domain receipt.domain (sym (given_domain journal p is (receipt.number - 1) s at) ∙ given.1))
+    found : (o : Option Sent) → slice_get (sents (history known.world known.log)) (receipt.number - 1) ≡ o → option_map (λ (s : Sent). s.base.domain) o ≡ Some receipt.domain
+        → (s : Sent) × (slice_get (sents (history known.world known.log)) (receipt.number - 1) ≡ Some s) × (s.base.domain ≡ receipt.domain)
+    found None at of_domain = cc
+    found (Some s) at of_domain = (s, at, same_Some s.base.domain receipt.domain of_domain)
 
-pub given_within : (journal : Noted) (p : Pipeline) (receipt : Receipt) → IsKept journal p → IsGiven (known_of journal p) receipt → receipt.number ≤ length p.submissions.items
+pub given_within : (journal : Noted) (p : Pipeline) (receipt : Receipt) → IsKept journal p → IsGiven (known_of journal p) receipt → receipt.number ≤ p.gone + length p.waiting.items
 given_within journal p receipt is given =
-    let (s, at, same) = given_at journal p receipt is given in
-    let low : receipt.number - 1 < length p.submissions.items = slice_get_within p.submissions.items (receipt.number - 1) s at in
-    omega (arith, low, given.0)
+    let (s, at, same) = given_at (known_of journal p) receipt given in
+    let low : receipt.number - 1 < length (sents (answers journal.log (line_of p))) = slice_get_within (sents (answers journal.log (line_of p))) (receipt.number - 1) s at in
+    omega (arith, low, given.0, length-submissions journal.log journal.marks (line_of p) is.current)
 
-module _ (journal journal' : Noted) (p p' : Pipeline) (is : IsKept journal p) (client : ℕ) (call : Call) (n : ℕ) (log : journal'.log ≡ jotted journal.log client call) (decided : AreDecided (line_of p) n (line_of p')) where
+module _ (journal journal' : Noted) (p p' : Pipeline) (is : IsKept journal p) (client : ℕ) (call : Call) (n : ℕ) (log : journal'.log ≡ jotted journal.log client call) (decided : AreDecided (sents (answers journal.log (line_of p))) (line_of p) n (line_of p')) where
   abbrev w : List Domain
   w = world_in (line_of p).domains
 
@@ -75,7 +79,7 @@ module _ (journal journal' : Noted) (p p' : Pipeline) (is : IsKept journal p) (c
   entry = record { client = client; number = entries_of journal.log client; call = call }
 
   -- a call that decides the next n
-  pub decided_kept : mount_call call ≡ None → decided_by (world_in (line_of p).domains) (answers journal.log (line_of p)) call ≡ decide_next (world_in (line_of p).domains) (is_live_in (line_of p).domains) (sents_in (line_of p)) p.outcomes.items n
+  pub decided_kept : mount_call call ≡ None → decided_by (world_in (line_of p).domains) (answers journal.log (line_of p)) call ≡ decide_next (world_in (line_of p).domains) (is_live_in (line_of p).domains) (sents (answers journal.log (line_of p))) p.outcomes.items n
       → sent_by (answers journal.log (line_of p)) call (reply_to (world_in (line_of p).domains) (answers journal.log (line_of p)) client call) ≡ None
       → ((k : ℕ) → spends call (reply_to (world_in (line_of p).domains) (answers journal.log (line_of p)) client call) k ≡ false)
       → opened_chain call (reply_to (world_in (line_of p).domains) (answers journal.log (line_of p)) client call) ≡ None
@@ -83,8 +87,7 @@ module _ (journal journal' : Noted) (p p' : Pipeline) (is : IsKept journal p) (c
   decided_kept unmounted decides none unspent unopened kept marks = record {
     kept = kept;
     current = subst (λ (l : List Entry). IsCurrent l journal'.marks (line_of p')) (sym log)
-        (pushed journal.log journal.marks (line_of p) is.current entry (line_of p') journal'.marks decided.sound decided.world
-        (ap (map sent_of) decided.submissions ∙ sym (append-nil (sents_in (line_of p))) ∙ ap (λ (o : Option Sent). sents_in (line_of p) ++ option_to_list o) (sym none))
+        (pushed journal.log journal.marks (line_of p) is.current entry (line_of p') journal'.marks (unsent journal.log journal.marks (line_of p) is.current entry (line_of p') none decided.sound) decided.world
         (decided.outcomes ∙ ap (λ (os : List Outcome). p.outcomes.items ++ os) (sym decides))
         (λ k. marks k ∙ sym (or_false (mark_at journal.marks k)) ∙ ap (λ b. mark_at journal.marks k || b) (sym (unspent k)))
         (decided.chains ∙ none_more (length (line_of p).failures) ∙ ap (λ (o : Option ℕ). length (line_of p).failures + length (option_to_list o)) (sym unopened))
@@ -97,12 +100,12 @@ module _ (journal journal' : Noted) (p p' : Pipeline) (is : IsKept journal p) (c
 -- what is decided, by what is kept
 kept_decides : (journal : Noted) (p : Pipeline) (is : IsKept journal p) (n : ℕ)
     → decide_next (world_in (line_of p).domains) (is_live (world_in (line_of p).domains) (answers journal.log (line_of p))) (sents (answers journal.log (line_of p))) (outcomes (answers journal.log (line_of p))) n
-    ≡ decide_next (world_in (line_of p).domains) (is_live_in (line_of p).domains) (sents_in (line_of p)) p.outcomes.items n
-kept_decides journal p is n = λ i. decide_next (world_in (line_of p).domains) (λ d. sym (is.current.live d) i) (sym is.current.submissions i) (sym is.current.outcomes i) n
+    ≡ decide_next (world_in (line_of p).domains) (is_live_in (line_of p).domains) (sents (answers journal.log (line_of p))) p.outcomes.items n
+kept_decides journal p is n = λ i. decide_next (world_in (line_of p).domains) (λ d. sym (is.current.live d) i) (sents (answers journal.log (line_of p))) (sym is.current.outcomes i) n
 
--- the submission at an index, as the log has it
-pub kept_sent : (journal : Noted) (p : Pipeline) (is : IsKept journal p) (i : ℕ) (s : Submission) → slice_get p.submissions.items i ≡ Some s → slice_get (sents (answers journal.log (line_of p))) i ≡ Some (sent_of s)
-kept_sent journal p is i s at = ap (λ (ss : List Sent). slice_get ss i) (sym is.current.submissions) ∙ slice_get-map sent_of p.submissions.items i ∙ ap (option_map sent_of) at
+-- a submission that waits, as the log has it
+pub kept_sent : (journal : Noted) (p : Pipeline) (is : IsKept journal p) (i : ℕ) (s : Submission) → slice_get p.waiting.items i ≡ Some s → slice_get (sents (answers journal.log (line_of p))) (p.gone + i) ≡ Some (sent_of s)
+kept_sent journal p is i s at = sent_at (sents (answers journal.log (line_of p))) (line_of p) is.current.sound i s at
 
 -- a receipt stays one
 pub given_last : (known : Known) (e : Entry) (receipt : Receipt) → IsGiven known receipt → IsGiven (more known e) receipt
@@ -119,11 +122,11 @@ given_last known e receipt was = (was.0, last (slice_get (sents (history known.w
 
 -- ---- settle
 
-module _ (journal journal' : Noted) (p p' : Pipeline) (is : IsKept journal p) (client : ℕ) (receipt : Receipt) (log : journal'.log ≡ jotted journal.log client (Settle receipt.number)) (decided : AreDecided (line_of p) (receipt.number - length p.outcomes.items) (line_of p')) where
+module _ (journal journal' : Noted) (p p' : Pipeline) (is : IsKept journal p) (client : ℕ) (receipt : Receipt) (log : journal'.log ≡ jotted journal.log client (Settle receipt.number)) (decided : AreDecided (sents (answers journal.log (line_of p))) (line_of p) (receipt.number - length p.outcomes.items) (line_of p')) where
   abbrev n : ℕ
   n = receipt.number
 
-  now_decided : decided_by (world_in (line_of p).domains) (answers journal.log (line_of p)) (Settle n) ≡ decide_next (world_in (line_of p).domains) (is_live_in (line_of p).domains) (sents_in (line_of p)) p.outcomes.items (n - length p.outcomes.items)
+  now_decided : decided_by (world_in (line_of p).domains) (answers journal.log (line_of p)) (Settle n) ≡ decide_next (world_in (line_of p).domains) (is_live_in (line_of p).domains) (sents (answers journal.log (line_of p))) p.outcomes.items (n - length p.outcomes.items)
   now_decided =
       ap (λ (os : List Outcome). decide_next (world_in (line_of p).domains) (is_live (world_in (line_of p).domains) (answers journal.log (line_of p))) (sents (answers journal.log (line_of p))) (outcomes (answers journal.log (line_of p))) (n - length os)) (sym is.current.outcomes)
       ∙ kept_decides journal p is (n - length p.outcomes.items)
@@ -134,11 +137,11 @@ module _ (journal journal' : Noted) (p p' : Pipeline) (is : IsKept journal p) (c
   pub settled_made : (o : Outcome) → length journal.log < 1000000 → IsGiven (known_of journal p) receipt → slice_get p'.outcomes.items (receipt.number - 1) ≡ Some o
       → Made (known_of journal p) (known_of journal' p') (record { client = client; number = entries_of journal.log client; call = Settle receipt.number }) (Settled receipt.domain o)
   settled_made o room given at =
-      let (s, here, of_domain) = given_at journal p receipt is given in
+      let (s, here, of_domain) = given_at (known_of journal p) receipt given in
       let outcome : slice_get (outcomes (answers journal.log (line_of p)) ++ decided_by (world_in (line_of p).domains) (answers journal.log (line_of p)) (Settle n)) (n - 1) ≡ Some o =
       ap (λ (os : List Outcome). slice_get os (n - 1)) ((λ i. sym is.current.outcomes i ++ now_decided i) ∙ sym decided.outcomes) ∙ at in
       decided_made journal journal' p p' is client (Settle n) (n - length p.outcomes.items) log decided (Settled receipt.domain o) room
-      ((λ i. settled (kept_sent journal p is (n - 1) s here i) (outcome i)) ∙ ap (λ d. Settled d o) of_domain)
+      ((λ i. settled (here i) (outcome i)) ∙ ap (λ d. Settled d o) of_domain)
 
 -- ---- pump
 
@@ -155,53 +158,66 @@ module _ (journal journal' : Noted) (p : Pipeline) (is : IsKept journal p) (clie
   count : length (outcomes done) ≡ length p.outcomes.items
   count = sym (ap length is.current.outcomes)
 
-  front : (n : ℕ) → n ≡ length p.outcomes.items → slice_get (sents done) (length (outcomes done)) ≡ slice_get (sents_in (line_of p)) n
-  front n same = λ i. slice_get (sym is.current.submissions i) ((count ∙ sym same) i)
+  -- the first that is not decided
+  abbrev front : Option Sent
+  front = slice_get (sents done) (length p.outcomes.items)
 
-  module _ (none : length p.submissions.items ≤ length p.outcomes.items) where
-    nothing_left : slice_get (sents_in (line_of p)) (length p.outcomes.items) ≡ None
-    nothing_left = slice_get-map sent_of p.submissions.items (length p.outcomes.items) ∙ ap (option_map sent_of) (slice_get_none p.submissions.items (length p.outcomes.items) none)
+  is_front : slice_get (sents done) (length (outcomes done)) ≡ front
+  is_front = ap (slice_get (sents done)) count
+
+  module _ (none : length p.waiting.items ≤ length p.outcomes.items - p.gone) where
+    nothing_left : front ≡ None
+    nothing_left = slice_get_none (sents done) (length p.outcomes.items) (omega (arith, none, length-submissions journal.log journal.marks (line_of p) is.current, is.current.sound.behind))
 
     nothing_decided : decided_by here done Pump ≡ []
-    nothing_decided = kept_decides journal p is 1 ∙ ap (λ (o : Option Sent). decide_front here lives (sents_in (line_of p)) p.outcomes.items o ++ []) nothing_left
+    nothing_decided = kept_decides journal p is 1 ∙ ap (λ (o : Option Sent). decide_front here lives (sents done) p.outcomes.items o ++ []) nothing_left
 
     pub idle_kept : ((k : ℕ) → mark_at journal'.marks k ≡ mark_at journal.marks k) → IsKept journal' p
     idle_kept marks = quiet_kept journal journal' p is client Pump log refl refl nothing_decided (λ k. refl) refl marks
 
     pub idle_reply : reply_to (world_in (line_of p).domains) (answers journal.log (line_of p)) client Pump ≡ Nothing
-    idle_reply = λ i. pumped (length (outcomes done) + 1) ((front (length p.outcomes.items) refl ∙ nothing_left) i) (nothing_decided i)
+    idle_reply = λ i. pumped (length (outcomes done) + 1) ((is_front ∙ nothing_left) i) (nothing_decided i)
 
-  module _ (p' : Pipeline) (decided : AreDecided (line_of p) (length p.outcomes.items + 1 - length p.outcomes.items) (line_of p')) where
-    one_decided : AreDecided (line_of p) 1 (line_of p')
-    one_decided = let one : length p.outcomes.items + 1 - length p.outcomes.items ≡ 1 = omega arith in subst (λ n. AreDecided (line_of p) n (line_of p')) one decided
+  module _ (p' : Pipeline) (decided : AreDecided (sents (answers journal.log (line_of p))) (line_of p) (length p.outcomes.items + 1 - length p.outcomes.items) (line_of p')) where
+    one_decided : AreDecided (sents done) (line_of p) 1 (line_of p')
+    one_decided = let one : length p.outcomes.items + 1 - length p.outcomes.items ≡ 1 = omega arith in subst (λ n. AreDecided (sents done) (line_of p) n (line_of p')) one decided
 
     pub pumped_kept : AllKept p'.domains.items → ((k : ℕ) → mark_at journal'.marks k ≡ mark_at journal.marks k) → IsKept journal' p'
     pumped_kept kept marks = decided_kept journal journal' p p' is client Pump 1 log one_decided refl (kept_decides journal p is 1) refl (λ k. refl) refl kept marks
 
-    module _ (receipt : Receipt) (number : receipt.number ≡ length p.outcomes.items + 1) (of_domain : option_map (λ (s : Submission). s.domain) (slice_get p'.submissions.items (length p.outcomes.items)) ≡ Some receipt.domain) where
-      -- what was submitted stays
-      its_domain : option_map (λ (s : Submission). s.domain) (slice_get p.submissions.items (length p.outcomes.items)) ≡ Some receipt.domain
-      its_domain = ap (λ (ss : List Submission). option_map (λ (s : Submission). s.domain) (slice_get ss (length p.outcomes.items))) (sym one_decided.submissions) ∙ of_domain
+    module _ (receipt : Receipt) (number : receipt.number ≡ length p.outcomes.items + 1) (of_domain : option_map (λ (s : Submission). s.domain) (slice_get p.waiting.items (length p.outcomes.items - p.gone)) ≡ Some receipt.domain) where
+      -- the submission that is decided, as the log has it
+      its_front : (s : Submission) → slice_get p.waiting.items (length p.outcomes.items - p.gone) ≡ Some s → front ≡ Some (sent_of s)
+      its_front s there =
+          let place : p.gone + (length p.outcomes.items - p.gone) ≡ length p.outcomes.items = omega (arith, is.current.sound.behind) in
+          ap (slice_get (sents done)) (sym place) ∙ kept_sent journal p is (length p.outcomes.items - p.gone) s there
 
-      pub pumped_made : (o : Outcome) → length journal.log < 1000000 → length p.outcomes.items < length p.submissions.items → slice_get p'.outcomes.items (length p.outcomes.items) ≡ Some o
+      waits : length p.outcomes.items - p.gone < length p.waiting.items → (s : Submission) × (slice_get p.waiting.items (length p.outcomes.items - p.gone) ≡ Some s)
+      waits within = slice_get_some p.waiting.items (length p.outcomes.items - p.gone) within
+
+      pub pumped_made : (o : Outcome) → length journal.log < 1000000 → length p.outcomes.items - p.gone < length p.waiting.items → slice_get p'.outcomes.items (length p.outcomes.items) ≡ Some o
           → Made (known_of journal p) (known_of journal' p') (record { client = client; number = entries_of journal.log client; call = Pump }) (Decided receipt.number receipt.domain o)
       pumped_made o room within at =
-          let (s, there) = slice_get_some p.submissions.items (length p.outcomes.items) within in
-          let sent : slice_get (sents_in (line_of p)) (length p.outcomes.items) ≡ Some (sent_of s) = slice_get-map sent_of p.submissions.items (length p.outcomes.items) ∙ ap (option_map sent_of) there in
-          let x : Outcome = outcome here lives (sents_in (line_of p)) p.outcomes.items (sent_of s) in
-          let one : decide_next here lives (sents_in (line_of p)) p.outcomes.items 1 ≡ x ∷ [] = ap (λ (t : Option Sent). decide_front here lives (sents_in (line_of p)) p.outcomes.items t ++ []) sent in
+          let (s, there) = waits within in
+          let sent : front ≡ Some (sent_of s) = its_front s there in
+          let x : Outcome = outcome here lives (sents done) p.outcomes.items (sent_of s) in
+          let one : decide_next here lives (sents done) p.outcomes.items 1 ≡ x ∷ [] = ap (λ (t : Option Sent). decide_front here lives (sents done) p.outcomes.items t ++ []) sent in
           let grown : p'.outcomes.items ≡ p.outcomes.items ++ x ∷ [] = one_decided.outcomes ∙ ap (λ (os : List Outcome). p.outcomes.items ++ os) one in
           let same : x ≡ o = same_Some x o (sym (slice_get_seam p.outcomes.items x []) ∙ ap (λ (os : List Outcome). slice_get os (length p.outcomes.items)) (sym grown) ∙ at) in
-          let domain : s.domain ≡ receipt.domain = same_Some s.domain receipt.domain (ap (option_map (λ (t : Submission). t.domain)) (sym there) ∙ its_domain) in
+          let domain : s.domain ≡ receipt.domain = same_Some s.domain receipt.domain (ap (option_map (λ (t : Submission). t.domain)) (sym there) ∙ of_domain) in
           decided_made journal journal' p p' is client Pump 1 log one_decided (Decided receipt.number receipt.domain o) room
-          ((λ i. pumped (count i + 1) ((front (length p.outcomes.items) refl ∙ sent) i) ((kept_decides journal p is 1 ∙ one ∙ ap (λ y. y ∷ []) same) i))
+          ((λ i. pumped (count i + 1) ((is_front ∙ sent) i) ((kept_decides journal p is 1 ∙ one ∙ ap (λ y. y ∷ []) same) i))
           ∙ (λ i. Decided (sym number i) (domain i) o))
 
       -- its receipt was given
-      pub pumped_given : AllKept p'.domains.items → ((k : ℕ) → mark_at journal'.marks k ≡ mark_at journal.marks k) → length p.outcomes.items < length p.submissions.items → IsGiven (known_of journal' p') receipt
-      pumped_given kept marks within =
+      pub pumped_given : length p.outcomes.items - p.gone < length p.waiting.items → IsGiven (known_of journal' p') receipt
+      pumped_given within =
           let place : receipt.number - 1 ≡ length p.outcomes.items = omega (arith, number) in
-          let (s, there) = slice_get_some p'.submissions.items (length p.outcomes.items) (omega (arith, within, ap length one_decided.submissions)) in (
+          let (s, there) = waits within in
+          let e : Entry = record { client = client; number = entries_of journal.log client; call = Pump } in
+          let before : IsGiven (known_of journal p) receipt = (
             omega (arith, number),
-            ap (λ n. option_map (λ (t : Sent). t.base.domain) (slice_get (sents (answers journal'.log (line_of p'))) n)) place ∙ given_domain journal' p' (pumped_kept kept marks) (length p.outcomes.items) s there ∙ ap (option_map (λ (t : Submission). t.domain)) (sym there) ∙ of_domain,
-          )
+            ap (λ n. option_map (λ (t : Sent). t.base.domain) (slice_get (sents done) n)) place ∙ ap (option_map (λ (t : Sent). t.base.domain)) (its_front s there)
+                ∙ ap (option_map (λ (t : Submission). t.domain)) (sym there) ∙ of_domain,
+          ) in
+          subst (λ (known : Known). IsGiven known receipt) (λ i. let known : Known = record { world = sym one_decided.world i; log = sym log i } in known) (given_last (known_of journal p) e receipt before)

@@ -32,11 +32,12 @@ use Rattle.sal_hub.specs.Current.{IsCurrent, IsKept, answers, known_of}
 use Rattle.sal_hub.specs.Failures.{IsWithin}
 use Rattle.sal_hub.specs.Journals.{Noted, jotted, mark_at}
 use Rattle.sal_hub.specs.Known.{Known}
-use Rattle.sal_hub.specs.Lines.{AllKept, Line, Stands, commits_in, line_of, opened_as, sent_of, sents_in, shown, world_in}
+use Rattle.sal_hub.specs.Lines.{AllKept, IsSound, Line, Stands, commits_in, line_of, opened_as, sent_of, shown, world_in}
 use Rattle.sal_hub.specs.Submits.{refusal_of, submission_of}
 use Rattle.sal_hub.specs.Tokens.{IsBegun, IsGiven}
 use Rattle.sal_hub.proofs.Beginning.{quiet_kept}
-use Rattle.sal_hub.proofs.Keeping.{commits-current, length-submissions, none_more, pushed, sents-longer, sound-longer, still_live}
+use Rattle.sal_hub.proofs.Keeping.{commits-current, length-submissions, none_more, pushed, sound-longer, still_live}
+use Rattle.sal_hub.proofs.Deciding.{sent_at}
 use Rattle.sal_hub.proofs.Listed.{slice_get_seam}
 use Rattle.sal_hub.proofs.Standing.{IsAt, are_at}
 use Rattle.sal_hub.proofs.Starting.{same_rows}
@@ -99,27 +100,27 @@ module _ (journal journal' : Noted) (p : Pipeline) (is : IsKept journal p) (clie
   entry = record { client = client; number = entries_of journal.log client; call = Submit place ops }
 
   abbrev waiting : ℕ
-  waiting = length p.submissions.items - length p.outcomes.items
+  waiting = p.gone + length p.waiting.items - length p.outcomes.items
 
   -- the answer, by what is kept
-  by_kept : submitted answered place ≡ answer_by (length p.submissions.items) waiting (mark_at journal.marks place)
+  by_kept : submitted answered place ≡ answer_by (p.gone + length p.waiting.items) waiting (mark_at journal.marks place)
   by_kept =
-      let count : length (sents answered) ≡ length p.submissions.items = sym (length-submissions journal.log journal.marks (line_of p) is.current) in
+      let count : length (sents answered) ≡ p.gone + length p.waiting.items = sym (length-submissions journal.log journal.marks (line_of p) is.current) in
       let done : length (outcomes answered) ≡ length p.outcomes.items = sym (ap length is.current.outcomes) in
       λ i. answer_by (count i) (count i - done i) (sym (is.current.marks place) i)
 
-  pub refused_now : (f : CallFault) → refusal_of (length p.submissions.items - length p.outcomes.items) (mark_at journal.marks place) ≡ Some f → reply_to (world_in (line_of p).domains) (answers journal.log (line_of p)) client (Submit place ops) ≡ Refused f
-  refused_now f e = by_kept ∙ refused_by (length p.submissions.items) waiting (mark_at journal.marks place) f e
+  pub refused_now : (f : CallFault) → refusal_of (p.gone + length p.waiting.items - length p.outcomes.items) (mark_at journal.marks place) ≡ Some f → reply_to (world_in (line_of p).domains) (answers journal.log (line_of p)) client (Submit place ops) ≡ Refused f
+  refused_now f e = by_kept ∙ refused_by (p.gone + length p.waiting.items) waiting (mark_at journal.marks place) f e
 
-  pub accepted_now : refusal_of (length p.submissions.items - length p.outcomes.items) (mark_at journal.marks place) ≡ None → reply_to (world_in (line_of p).domains) (answers journal.log (line_of p)) client (Submit place ops) ≡ Receipt (length p.submissions.items + 1)
-  accepted_now e = by_kept ∙ accepted_by (length p.submissions.items) waiting (mark_at journal.marks place) e
+  pub accepted_now : refusal_of (p.gone + length p.waiting.items - length p.outcomes.items) (mark_at journal.marks place) ≡ None → reply_to (world_in (line_of p).domains) (answers journal.log (line_of p)) client (Submit place ops) ≡ Receipt (p.gone + length p.waiting.items + 1)
+  accepted_now e = by_kept ∙ accepted_by (p.gone + length p.waiting.items) waiting (mark_at journal.marks place) e
 
-  pub refused_kept : (f : CallFault) → refusal_of (length p.submissions.items - length p.outcomes.items) (mark_at journal.marks place) ≡ Some f → ((k : ℕ) → mark_at journal'.marks k ≡ mark_at journal.marks k) → IsKept journal' p
+  pub refused_kept : (f : CallFault) → refusal_of (p.gone + length p.waiting.items - length p.outcomes.items) (mark_at journal.marks place) ≡ Some f → ((k : ℕ) → mark_at journal'.marks k ≡ mark_at journal.marks k) → IsKept journal' p
   refused_kept f e marks =
       let reply = refused_now f e in
       quiet_kept journal journal' p is client (Submit place ops) log refl (ap (sent_by answered (Submit place ops)) reply) refl (λ k. ap (λ r. spends (Submit place ops) r k) reply) refl marks
 
-  pub refused_made : (f : CallFault) → length journal.log < 1000000 → refusal_of (length p.submissions.items - length p.outcomes.items) (mark_at journal.marks place) ≡ Some f → Made (known_of journal p) (known_of journal' p) (record { client = client; number = entries_of journal.log client; call = Submit place ops }) (Refused f)
+  pub refused_made : (f : CallFault) → length journal.log < 1000000 → refusal_of (p.gone + length p.waiting.items - length p.outcomes.items) (mark_at journal.marks place) ≡ Some f → Made (known_of journal p) (known_of journal' p) (record { client = client; number = entries_of journal.log client; call = Submit place ops }) (Refused f)
   refused_made f room e = record {
     room = room;
     log = λ i. record { world = w; log = log i };
@@ -127,13 +128,13 @@ module _ (journal journal' : Noted) (p : Pipeline) (is : IsKept journal p) (clie
   }
 
 -- the domain of a submission, as the log has it
-pub given_domain : (journal : Noted) (p : Pipeline) → IsKept journal p → (i : ℕ) (s : Submission) → slice_get p.submissions.items i ≡ Some s → option_map (λ (t : Sent). t.base.domain) (slice_get (sents (answers journal.log (line_of p))) i) ≡ Some s.domain
-given_domain journal p is i s at = ap (option_map (λ (t : Sent). t.base.domain)) (ap (λ (ss : List Sent). slice_get ss i) (sym is.current.submissions) ∙ slice_get-map sent_of p.submissions.items i ∙ ap (option_map sent_of) at)
+pub given_domain : (journal : Noted) (p : Pipeline) → IsKept journal p → (i : ℕ) (s : Submission) → slice_get p.waiting.items i ≡ Some s → option_map (λ (t : Sent). t.base.domain) (slice_get (sents (answers journal.log (line_of p))) (p.gone + i)) ≡ Some s.domain
+given_domain journal p is i s at = ap (option_map (λ (t : Sent). t.base.domain)) (sent_at (sents (answers journal.log (line_of p))) (line_of p) is.current.sound i s at)
 
 -- ---- a submission more
 
-module _ (journal journal' : Noted) (p p' : Pipeline) (is : IsKept journal p) (client : ℕ) (tx : Writing) (token : IsBegun (known_of journal p) tx.begun tx.base) (right : IsRight tx) (log : journal'.log ≡ jotted journal.log client (Submit tx.begun.place tx.changes)) (open_now : refusal_of (length p.submissions.items - length p.outcomes.items) (mark_at journal.marks tx.begun.place) ≡ None)
-    (member : IsWithin (length p.failures.items) tx.begun.chain) (domains : p'.domains ≡ p.domains) (failures_same : p'.failures ≡ p.failures) (outcomes_same : p'.outcomes ≡ p.outcomes) (submissions : p'.submissions.items ≡ p.submissions.items ++ submission_of tx (length p.submissions.items + 1) ∷ []) (marks : (k : ℕ) → mark_at journal'.marks k ≡ (nat_eq tx.begun.place k || mark_at journal.marks k)) where
+module _ (journal journal' : Noted) (p p' : Pipeline) (is : IsKept journal p) (client : ℕ) (tx : Writing) (token : IsBegun (known_of journal p) tx.begun tx.base) (right : IsRight tx) (log : journal'.log ≡ jotted journal.log client (Submit tx.begun.place tx.changes)) (open_now : refusal_of (p.gone + length p.waiting.items - length p.outcomes.items) (mark_at journal.marks tx.begun.place) ≡ None)
+    (member : IsWithin (length p.failures.items) tx.begun.chain) (domains : p'.domains ≡ p.domains) (failures_same : p'.failures ≡ p.failures) (outcomes_same : p'.outcomes ≡ p.outcomes) (as_gone : p'.gone ≡ p.gone) (waits : p'.waiting.items ≡ p.waiting.items ++ submission_of tx (p.gone + length p.waiting.items + 1) ∷ []) (marks : (k : ℕ) → mark_at journal'.marks k ≡ (nat_eq tx.begun.place k || mark_at journal.marks k)) where
   abbrev new_world : List world.Domain
   new_world = world_in (line_of p).domains
 
@@ -141,27 +142,27 @@ module _ (journal journal' : Noted) (p p' : Pipeline) (is : IsKept journal p) (c
   before = answers journal.log (line_of p)
 
   abbrev sub : Submission
-  sub = submission_of tx (length p.submissions.items + 1)
+  sub = submission_of tx (p.gone + length p.waiting.items + 1)
 
   abbrev made_entry : Entry
   made_entry = record { client = client; number = entries_of journal.log client; call = Submit tx.begun.place tx.changes }
 
   abbrev more : Line
-  more = record { domains = (line_of p).domains; submissions = (line_of p).submissions ++ sub ∷ []; outcomes = (line_of p).outcomes; failures = (line_of p).failures }
+  more = record { domains = (line_of p).domains; gone = (line_of p).gone; waiting = (line_of p).waiting ++ sub ∷ []; outcomes = (line_of p).outcomes; failures = (line_of p).failures }
 
   line_is : more ≡ line_of p'
-  line_is = λ i. record { domains = map shown (sym domains i).items; submissions = sym submissions i; outcomes = (sym outcomes_same i).items; failures = (sym failures_same i).items }
+  line_is = λ i. record { domains = map shown (sym domains i).items; gone = sym as_gone i; waiting = sym waits i; outcomes = (sym outcomes_same i).items; failures = (sym failures_same i).items }
 
   view : (store : Store) → rows_in tx.view store ≡ apply_ops (rows_in tx.base store) store tx.changes
   view Config = right.config.rows
   view Oper = right.oper.rows
 
-  stands : Stands (line_of p) sub
+  stands : Stands (sents before) (line_of p) sub
   stands =
       let b : Base = record { domain = tx.begun.domain; commit = tx.begun.base_commit; chain = tx.begun.chain; trees = tx_rows tx.base } in
       let some : 0 < length new_world = omega (arith, is.current.sound.some, length-map (line_of p).domains opened_as) in
       let on : IsAt new_world before b = (are_at new_world some journal.log).begun tx.begun.place b token.began in
-      let same : commits_in (line_of p) tx.begun.domain ≡ commits before tx.begun.domain = commits-current journal.log journal.marks (line_of p) tx.begun.domain is.current in
+      let same : commits_in (sents before) (line_of p) tx.begun.domain ≡ commits before tx.begun.domain = commits-current journal.log journal.marks (line_of p) tx.begun.domain is.current in
       record {
         domain = omega (arith, on.0, length-map (line_of p).domains opened_as);
         base = subst (λ (cs : List (List Op)). tx.begun.base_commit ≤ length cs) (sym same) on.1;
@@ -170,7 +171,7 @@ module _ (journal journal' : Noted) (p p' : Pipeline) (is : IsKept journal p) (c
         below = lie_below tx.begun.schema.value tx.base [] tx.changes right.lawful;
       }
 
-  reply_now : reply_to new_world before client (Submit tx.begun.place tx.changes) ≡ Receipt (length p.submissions.items + 1)
+  reply_now : reply_to new_world before client (Submit tx.begun.place tx.changes) ≡ Receipt (p.gone + length p.waiting.items + 1)
   reply_now = accepted_now journal journal' p is client tx.begun.place tx.changes log open_now
 
   sent_now : sent_by before (Submit tx.begun.place tx.changes) (reply_to new_world before client (Submit tx.begun.place tx.changes)) ≡ Some (sent_of sub)
@@ -182,8 +183,7 @@ module _ (journal journal' : Noted) (p p' : Pipeline) (is : IsKept journal p) (c
   current_now : IsCurrent (journal.log ++ made_entry ∷ []) journal'.marks more
   current_now =
       pushed journal.log journal.marks (line_of p) is.current made_entry more journal'.marks
-      (sound-longer (line_of p) is.current.sound sub stands refl) refl
-      (sents-longer (line_of p) is.current.sound sub stands refl ∙ ap (λ (o : Option Sent). sents_in (line_of p) ++ option_to_list o) (sym sent_now))
+      (subst (λ (o : Option Sent). IsSound (sents before ++ option_to_list o) more) (sym sent_now) (sound-longer (sents before) (line_of p) is.current.sound sub stands refl)) refl
       (sym (append-nil (line_of p).outcomes))
       (λ k.
       marks k ∙ swapped (nat_eq tx.begun.place k) (mark_at journal.marks k)
@@ -197,15 +197,15 @@ module _ (journal journal' : Noted) (p p' : Pipeline) (is : IsKept journal p) (c
     current = subst (λ (l : List Entry). IsCurrent l journal'.marks (line_of p')) (sym log) (subst (IsCurrent (journal.log ++ made_entry ∷ []) journal'.marks) line_is current_now);
   }
 
-  pub accepted_made : length journal.log < 1000000 → Made (known_of journal p) (known_of journal' p') (record { client = client; number = entries_of journal.log client; call = Submit tx.begun.place tx.changes }) (Receipt (length p.submissions.items + 1))
+  pub accepted_made : length journal.log < 1000000 → Made (known_of journal p) (known_of journal' p') (record { client = client; number = entries_of journal.log client; call = Submit tx.begun.place tx.changes }) (Receipt (p.gone + length p.waiting.items + 1))
   accepted_made room = record {
     room = room;
     log = λ i. record { world = world_in (sym line_is i).domains; log = log i };
     reply = reply_now;
   }
 
-  pub accepted_given : IsGiven (known_of journal' p') (record { number = length p.submissions.items + 1; domain = tx.begun.domain })
+  pub accepted_given : IsGiven (known_of journal' p') (record { number = p.gone + length p.waiting.items + 1; domain = tx.begun.domain })
   accepted_given =
-      let last : length p.submissions.items + 1 - 1 ≡ length p.submissions.items = omega arith in
-      let there : slice_get p'.submissions.items (length p.submissions.items + 1 - 1) ≡ Some sub = ap (slice_get p'.submissions.items) last ∙ ap (λ (ss : List Submission). slice_get ss (length p.submissions.items)) submissions ∙ slice_get_seam p.submissions.items sub [] in
-      (omega arith, given_domain journal' p' accepted_kept (length p.submissions.items + 1 - 1) sub there)
+      let last : p'.gone + length p.waiting.items ≡ p.gone + length p.waiting.items + 1 - 1 = omega (arith, as_gone) in
+      let there : slice_get p'.waiting.items (length p.waiting.items) ≡ Some sub = ap (λ (ss : List Submission). slice_get ss (length p.waiting.items)) waits ∙ slice_get_seam p.waiting.items sub [] in
+      (omega arith, subst (λ n. option_map (λ (t : Sent). t.base.domain) (slice_get (sents (answers journal'.log (line_of p'))) n) ≡ Some tx.begun.domain) last (given_domain journal' p' accepted_kept (length p.waiting.items) sub there))

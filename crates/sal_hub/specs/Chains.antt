@@ -78,4 +78,4 @@ pending_of decided sent = option_and_then (λ n. if nat_lt decided n then Some n
 -- where the next transaction of a chain begins: on its pending submission, or at the newest commit
 abbrev pub IsFooting : Option ℕ → Pipeline → Domain → Footing → Type 0
 IsFooting None p d footing = IsNewest d footing
-IsFooting (Some n) p d footing = (sub : Submission) × (slice_get p.submissions.items (n - 1) ≡ Some sub) × IsOn sub n footing
+IsFooting (Some n) p d footing = (sub : Submission) × (slice_get p.waiting.items (n - 1 - p.gone) ≡ Some sub) × IsOn sub n footing

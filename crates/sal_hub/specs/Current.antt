@@ -5,7 +5,7 @@ use Rattle.sal_history.specs.History.{Answered, chain_domains, history, is_live,
 use Rattle.sal_hub.specs.declared.pipeline.Pipeline.{Pipeline}
 use Rattle.sal_hub.specs.Journals.{Noted, mark_at}
 use Rattle.sal_hub.specs.Known.{Known}
-use Rattle.sal_hub.specs.Lines.{AllKept, IsSound, Line, is_live_in, line_of, sents_in, world_in}
+use Rattle.sal_hub.specs.Lines.{AllKept, IsSound, Line, is_live_in, line_of, world_in}
 
 -- the answered log
 abbrev pub answers : List Entry → Line → List Answered
@@ -13,8 +13,7 @@ answers log line = history (world_in line.domains) log
 
 -- the submissions, the outcomes, the commits, the marks, the chains that failed and the domains that are live are the log's
 pub record IsCurrent (log : List Entry) (noted : List Bool) (line : Line) : Type 0 where
-  pub sound : IsSound line
-  pub submissions : sents_in line ≡ sents (answers log line)
+  pub sound : IsSound (sents (answers log line)) line
   pub outcomes : line.outcomes ≡ outcomes (answers log line)
   pub marks : (place : ℕ) → mark_at noted place ≡ is_spent (answers log line) place
   pub chains : length line.failures ≡ length (chain_domains (answers log line))

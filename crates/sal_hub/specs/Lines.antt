@@ -1,5 +1,6 @@
--- What a hub keeps beside its log: the domains with their commits, the submissions, the outcomes, and which chains failed.
-use Rattle.std.specs.Prelude.{◌≡◌, ℕ, zero, suc, ◌+◌, ◌<◌, ◌≤◌, Bool, List, [], ◌∷◌, ◌++◌, false, length, map, take, Option, Some, All, slice_get}
+-- What a hub keeps beside its log: the domains with their commits, the submissions that were not let go, the outcomes, and which
+-- chains failed.
+use Rattle.std.specs.Prelude.{◌≡◌, ℕ, zero, suc, ◌+◌, ◌-◌, ◌<◌, ◌≤◌, Bool, List, [], ◌∷◌, ◌++◌, false, drop, length, map, take, Option, Some, All, slice_get}
 use Rattle.std.specs.Option.{option_map_or}
 use Rattle.sal_types.specs.declared.value.Store.{Store}
 use Rattle.sal_types.specs.declared.value.Store.TheVariants.{Config, Oper}
@@ -34,7 +35,10 @@ pub record Shown : Type 0 where
 
 pub record Line : Type 0 where
   pub domains : List Shown
-  pub submissions : List Submission
+  -- how many submissions were let go, those of the first receipts
+  pub gone : ℕ
+  -- those behind
+  pub waiting : List Submission
   pub outcomes : List Outcome
   -- for each chain the receipt by which it failed
   pub failures : List (Option ℕ)
@@ -44,7 +48,7 @@ shown d =
     record { number = d.number; live = d.live; table = d.schema.value; opening = opening_in d.commits.items; ops = ops_of d.commits.items; chains = chains_of d.commits.items; receipts = receipts_of d.commits.items }
 
 abbrev pub line_of : Pipeline → Line
-line_of p = record { domains = map shown p.domains.items; submissions = p.submissions.items; outcomes = p.outcomes.items; failures = p.failures.items }
+line_of p = record { domains = map shown p.domains.items; gone = p.gone; waiting = p.waiting.items; outcomes = p.outcomes.items; failures = p.failures.items }
 
 -- the domain of this number is live, by its flag; there is none behind the last
 abbrev pub is_live_in : List Shown → ℕ → Bool
@@ -61,46 +65,50 @@ world_in domains = map opened_as domains
 abbrev pub sent_of : Submission → Sent
 sent_of s = record { base = record { domain = s.domain; commit = s.base_commit; chain = s.chain; trees = rows_in s.base }; ops = s.changes }
 
-abbrev pub sents_in : Line → List Sent
-sents_in line = map sent_of line.submissions
-
--- the commits of a domain, by the submissions and their outcomes
-abbrev pub commits_in : Line → ℕ → List (List Op)
-commits_in line n = done_ops n (sents_in line) line.outcomes
+-- the commits of a domain, by all submissions and their outcomes
+abbrev pub commits_in : List Sent → Line → ℕ → List (List Op)
+commits_in ss line n = done_ops n ss line.outcomes
 
 -- and their chains
-abbrev pub chains_in : Line → ℕ → List (Option ℕ)
-chains_in line n = done_chains n (sents_in line) line.outcomes
+abbrev pub chains_in : List Sent → Line → ℕ → List (Option ℕ)
+chains_in ss line n = done_chains n ss line.outcomes
 
 -- and their receipts, that of the opening first
-abbrev pub receipts_in : Line → ℕ → List ℕ
-receipts_in line n = commit_receipts n (sents_in line) line.outcomes
+abbrev pub receipts_in : List Sent → Line → ℕ → List ℕ
+receipts_in ss line n = commit_receipts n ss line.outcomes
 
--- ---- what holds of it
+-- ---- what holds of it, by all submissions
 
 -- a domain has its number, and the commits that the outcomes tell, with their chains and receipts
-pub record IsStored (line : Line) (n : ℕ) (d : Shown) : Type 0 where
+pub record IsStored (ss : List Sent) (line : Line) (n : ℕ) (d : Shown) : Type 0 where
   pub number : d.number ≡ n
-  pub commits : d.ops ≡ commits_in line n
-  pub chains : d.chains ≡ chains_in line n
-  pub receipts : d.receipts ≡ receipts_in line n
+  pub commits : d.ops ≡ commits_in ss line n
+  pub chains : d.chains ≡ chains_in ss line n
+  pub receipts : d.receipts ≡ receipts_in ss line n
 
 -- A submission stands on a commit of its domain, and its chain is one that was opened; its view is its base after its
 -- operations, whose rows lie below their paths.
-pub record Stands (line : Line) (s : Submission) : Type 0 where
+pub record Stands (ss : List Sent) (line : Line) (s : Submission) : Type 0 where
   pub domain : s.domain < length line.domains
-  pub base : s.base_commit ≤ length (commits_in line s.domain)
+  pub base : s.base_commit ≤ length (commits_in ss line s.domain)
   pub chain : IsWithin (length line.failures) s.chain
   pub view : (store : Store) → rows_in s.view store ≡ apply_ops (rows_in s.base store) store s.changes
   pub below : LieBelow s.changes
 
-pub record IsSound (line : Line) : Type 0 where
+-- only what is decided was let go, and the rest is kept
+pub record IsSound (ss : List Sent) (line : Line) : Type 0 where
   pub some : 1 ≤ length line.domains
-  pub within : length line.outcomes ≤ length line.submissions
-  pub domains : (n : ℕ) (d : Shown) → slice_get line.domains n ≡ Some d → IsStored line n d
-  pub submissions : (i : ℕ) (s : Submission) → slice_get line.submissions i ≡ Some s → Stands line s
-  pub numbers : (i : ℕ) (s : Submission) → slice_get line.submissions i ≡ Some s → s.receipt ≡ i + 1
-  pub failures : (chain : ℕ) → noted_in line.failures chain ≡ failing (Some chain) (sents_in line) line.outcomes
+  pub within : length line.outcomes ≤ length ss
+  pub behind : line.gone ≤ length line.outcomes
+  pub domains : (n : ℕ) (d : Shown) → slice_get line.domains n ≡ Some d → IsStored ss line n d
+  pub waiting : map sent_of line.waiting ≡ drop line.gone ss
+  pub standing : (i : ℕ) (s : Submission) → slice_get line.waiting i ≡ Some s → Stands ss line s
+  pub numbers : (i : ℕ) (s : Submission) → slice_get line.waiting i ≡ Some s → s.receipt ≡ line.gone + i + 1
+  pub failures : (chain : ℕ) → noted_in line.failures chain ≡ failing (Some chain) ss line.outcomes
+
+-- what was let go is not seen: there are submissions by which it holds
+abbrev pub HasSents : Line → Type 0
+HasSents line = (ss : List Sent) × IsSound ss line
 
 -- the commits of each domain have their trees
 abbrev pub AllKept : List Domain → Type 0
@@ -115,7 +123,11 @@ with_live (d ∷ ds) zero live = record d { live = live } ∷ ds
 with_live (d ∷ ds) (suc n) live = d ∷ with_live ds n live
 
 abbrev pub set_live : Line → ℕ → Bool → Line
-set_live line n live = record { domains = with_live line.domains n live; submissions = line.submissions; outcomes = line.outcomes; failures = line.failures }
+set_live line n live = record { domains = with_live line.domains n live; gone = line.gone; waiting = line.waiting; outcomes = line.outcomes; failures = line.failures }
+
+-- what is decided is let go
+abbrev pub shorter : Line → Line
+shorter line = record { domains = line.domains; gone = length line.outcomes; waiting = drop (length line.outcomes - line.gone) line.waiting; outcomes = line.outcomes; failures = line.failures }
 
 -- the list has grown at its end, if at all
 abbrev pub Grows : {X : Type 0} → List X → List X → Type 0
@@ -131,7 +143,8 @@ HaveGrown (d ∷ ds) (e ∷ es) = ((e ≡ record d { ops = e.ops; chains = e.cha
 -- decisions were added, if any
 pub record HasGrown (old new : Line) : Type 0 where
   pub domains : HaveGrown old.domains new.domains
-  pub submissions : new.submissions ≡ old.submissions
+  pub gone : new.gone ≡ old.gone
+  pub waiting : new.waiting ≡ old.waiting
   pub outcomes : Grows old.outcomes new.outcomes
   pub failures : cut_failures (length old.outcomes) new.failures ≡ old.failures
 
@@ -146,10 +159,13 @@ abbrev pub counts_of : List Shown → List ℕ
 counts_of ds = map (λ (d : Shown). length d.ops) ds
 
 -- the next n of the submissions were decided, the same domains are live, and as many chains are known
-pub record AreDecided (old : Line) (n : ℕ) (new : Line) : Type 0 where
-  pub sound : IsSound new
+pub record AreDecided (ss : List Sent) (old : Line) (n : ℕ) (new : Line) : Type 0 where
+  pub sound : IsSound ss new
   pub world : world_in new.domains ≡ world_in old.domains
   pub live : (domain : ℕ) → is_live_in new.domains domain ≡ is_live_in old.domains domain
-  pub submissions : new.submissions ≡ old.submissions
-  pub outcomes : new.outcomes ≡ old.outcomes ++ decide_next (world_in old.domains) (is_live_in old.domains) (sents_in old) old.outcomes n
+  pub outcomes : new.outcomes ≡ old.outcomes ++ decide_next (world_in old.domains) (is_live_in old.domains) ss old.outcomes n
   pub chains : length new.failures ≡ length old.failures
+
+-- the same by any submissions by which it held
+abbrev pub Decides : Line → ℕ → Line → Type 0
+Decides old n new = (ss : List Sent) → IsSound ss old → AreDecided ss old n new

@@ -212,14 +212,16 @@ fn begin_next(
 // Where a transaction behind the submission with this receipt, if any, begins.
 fn footing_in(pipeline: &Pipeline, domain: &Domain, sent: Option<u64>) -> Result<Footing, NoMemory>
     requires kept { AreKept domain.now.commits.items }
-    requires given { IsWithin (length pipeline.now.submissions.items) sent }
+    requires given { IsWithin (pipeline.now.gone + length pipeline.now.waiting.items) sent }
+    requires behind { pipeline.now.gone ≤ length pipeline.now.outcomes.items }
     ensures { IfOk result (IsFooting (pending_of (length pipeline.now.outcomes.items) sent) pipeline.now domain.now) }
 {
     match sent {
         None => newest(domain),
         Some(receipt) => {
             if pipeline.outcomes.len() < receipt as usize {
-                on_pending(&pipeline.submissions[receipt as usize - 1], receipt)
+                let index = receipt as usize - 1 - pipeline.gone;
+                on_pending(&pipeline.waiting[index], receipt)
             } else {
                 newest(domain)
             }

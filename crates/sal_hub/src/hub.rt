@@ -46,6 +46,7 @@ use sal_tree::Pair;
 use sal_tx::{Tx, WriteTx};
 use sal_types::{NoMemory, Path, Store};
 use std::alloc::Global;
+use std::collections::VecDeque;
 use std::marker::Model;
 
 /// How many entries the log has at most.
@@ -103,7 +104,8 @@ impl Hub {
         let mounts = Mounts::new(alloc, devices.len() as u32);
         let pipeline = Pipeline {
             domains,
-            submissions: Vec::new(alloc),
+            gone: 0,
+            waiting: VecDeque::new(alloc),
             outcomes: Vec::new(alloc),
             failures: Vec::new(alloc),
         };

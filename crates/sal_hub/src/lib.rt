@@ -19,9 +19,12 @@
 //! once: where memory is wanting, the hub is as it was. A settle that finds no memory takes back what it decided, and a call on a
 //! service that finds none takes its entry back.
 //!
-//! What is kept beside the log is tied to it by `specs/Current`: the submissions, the outcomes, the marks of spent transactions
-//! and the flags of live domains are those of the answered log, and `specs/Lines` says that the commits of each domain, and the
-//! receipts by which chains failed, are those that the outcomes tell. What is kept of chains is tied to the log by
+//! A submission is let go once it was decided, with its base, its view and its operations: what stays of it is its entry in the
+//! log, its outcome and, where it is done, its commit. A settle that finds no memory lets nothing go.
+//!
+//! What is kept beside the log is tied to it by `specs/Current`: the submissions that wait, the outcomes, the marks of spent
+//! transactions and the flags of live domains are those of the answered log, and `specs/Lines` says that the commits of each
+//! domain, and the receipts by which chains failed, are those that the outcomes tell. What is kept of chains is tied to the log by
 //! `specs/Chains`, what is kept of listeners by `specs/Listeners`, the marks that were left by `specs/Marks`, and what each
 //! service keeps of its calls by `specs/Services`; `specs/Whole` has them all.
 //!

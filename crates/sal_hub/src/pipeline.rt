@@ -1,10 +1,10 @@
-//! The domains with their commits, and the submissions with their outcomes.
-ghost use Rattle.std.specs.Prelude.{◌≡◌, ℕ, ◌+◌, ◌-◌, ◌<◌, ◌≤◌, [], ◌∷◌, ◌++◌, false, true, IfOk, MatchOption, OnErr, OnOk, Some, length, map, slice_get, take};
+//! The domains with their commits, the submissions that wait, and the outcomes.
+ghost use Rattle.std.specs.Prelude.{◌≡◌, ℕ, ◌+◌, ◌-◌, ◌<◌, ◌≤◌, [], ◌∷◌, ◌++◌, false, true, IfOk, MatchOption, OnErr, OnOk, Some, drop, length, map, slice_get, take};
 ghost use Rattle.sal_graft.specs.Kept.{AreKept};
 ghost use Rattle.sal_hub.specs.Answers.{limit};
 ghost use Rattle.sal_hub.specs.Failures as failing;
 ghost use Rattle.sal_hub.specs.Journals.{jotted, mark_at};
-ghost use Rattle.sal_hub.specs.Lines.{AllKept, AreDecided, HasGrown, IsSound, counts_of, cut_all, is_live_in, line_of, set_live, shown};
+ghost use Rattle.sal_hub.specs.Lines.{AllKept, Decides, HasGrown, HasSents, counts_of, cut_all, is_live_in, line_of, set_live, shown};
 
 use crate::failures::{cut_failures, failure_of, is_done, note_failure};
 use crate::journal::Journal;
@@ -14,13 +14,16 @@ use sal_rows::Outcome;
 use sal_tx::Submission;
 use sal_types::{Duplicate, NoMemory};
 use std::alloc::Global;
+use std::collections::VecDeque;
 
-/// The domains with their commits, the submissions by receipt from 1 on, the outcomes of those that were decided, and for
-/// each chain the receipt by which it failed.
+/// The domains with their commits, the submissions by receipt without the first ones, which were decided and let go, the
+/// outcomes of all that were decided, and for each chain the receipt by which it failed.
 #[derive(Drop)]
 pub(crate) struct Pipeline {
     pub(crate) domains: Vec<Domain>,
-    pub(crate) submissions: Vec<Submission>,
+    /// How many submissions were let go.
+    pub(crate) gone: usize,
+    pub(crate) waiting: VecDeque<Submission>,
     pub(crate) outcomes: Vec<Outcome>,
     pub(crate) failures: Vec<Option<u64>>,
 }
@@ -65,17 +68,17 @@ impl Pipeline {
     // Decides the submission at the index, which is the next one. Where memory is wanting, nothing changes that is seen.
     fn decide_one(&mut self, alloc: Global, index: usize) -> Result<(), NoMemory>
         requires kept { AllKept self.old.domains.items }
-        requires sound { IsSound (line_of self.old) }
+        requires sound { HasSents (line_of self.old) }
         requires next { index ≡ length self.old.outcomes.items }
-        requires given { index < length self.old.submissions.items }
-        requires few { length self.old.submissions.items ≤ limit }
+        requires given { index < self.old.gone + length self.old.waiting.items }
+        requires few { self.old.gone + length self.old.waiting.items ≤ limit }
         ensures kept { AllKept self.new.domains.items }
-        ensures ok { OnOk result (AreDecided (line_of self.old) 1 (line_of self.new)) }
+        ensures ok { OnOk result (Decides (line_of self.old) 1 (line_of self.new)) }
         ensures count { OnOk result (length self.new.outcomes.items ≡ length self.old.outcomes.items + 1) }
         ensures grown { HasGrown (line_of self.old) (line_of self.new) }
     {
         self.outcomes.reserve(1)?;
-        let submission = &self.submissions[index];
+        let submission = &self.waiting[index - self.gone];
         let failed = failure_of(&self.failures, submission.chain);
         let domain = &mut self.domains[submission.domain as usize];
         let receipt = index as u64 + 1;
@@ -89,11 +92,11 @@ impl Pipeline {
     // Decides the next submissions, up to `upto` in all. Where memory is wanting, some may be decided.
     fn decide_upto(&mut self, alloc: Global, upto: usize) -> Result<(), NoMemory>
         requires kept { AllKept self.old.domains.items }
-        requires sound { IsSound (line_of self.old) }
-        requires given { upto ≤ length self.old.submissions.items }
-        requires few { length self.old.submissions.items ≤ limit }
+        requires sound { HasSents (line_of self.old) }
+        requires given { upto ≤ self.old.gone + length self.old.waiting.items }
+        requires few { self.old.gone + length self.old.waiting.items ≤ limit }
         ensures kept { AllKept self.new.domains.items }
-        ensures ok { OnOk result (AreDecided (line_of self.old) (upto - length self.old.outcomes.items) (line_of self.new)) }
+        ensures ok { OnOk result (Decides (line_of self.old) (upto - length self.old.outcomes.items) (line_of self.new)) }
         ensures reached { OnOk result (upto ≤ length self.new.outcomes.items) }
         ensures grown { HasGrown (line_of self.old) (line_of self.new) }
     {
@@ -109,7 +112,8 @@ impl Pipeline {
         requires long { length counts.now ≡ length self.old.domains.items }
         ensures kept { AllKept self.new.domains.items }
         ensures domains { map shown self.new.domains.items ≡ cut_all (map shown self.old.domains.items) counts.now }
-        ensures submissions { self.new.submissions.items ≡ self.old.submissions.items }
+        ensures gone { self.new.gone ≡ self.old.gone }
+        ensures waiting { self.new.waiting.items ≡ self.old.waiting.items }
         ensures outcomes { self.new.outcomes.items ≡ take outcomes self.old.outcomes.items }
         ensures failures { self.new.failures.items ≡ failing.cut_failures outcomes self.old.failures.items }
     {
@@ -129,14 +133,14 @@ impl Pipeline {
         receipt: usize,
     ) -> Result<Outcome, NoMemory>
         requires kept { AllKept self.old.domains.items }
-        requires sound { IsSound (line_of self.old) }
+        requires sound { HasSents (line_of self.old) }
         requires some { 0 < receipt }
-        requires given { receipt ≤ length self.old.submissions.items }
-        requires few { length self.old.submissions.items ≤ limit }
+        requires given { receipt ≤ self.old.gone + length self.old.waiting.items }
+        requires few { self.old.gone + length self.old.waiting.items ≤ limit }
         requires room { length journal.old.log < limit }
         ensures kept { AllKept self.new.domains.items }
         ensures outcome { IfOk result (λ o. slice_get self.new.outcomes.items (receipt - 1) ≡ Some o) }
-        ensures decided { OnOk result (AreDecided (line_of self.old) (receipt - length self.old.outcomes.items) (line_of self.new)) }
+        ensures decided { OnOk result (Decides (line_of self.old) (receipt - length self.old.outcomes.items) (line_of self.new)) }
         ensures grown { HasGrown (line_of self.old) (line_of self.new) }
         ensures log { OnOk result (journal.new.log ≡ jotted journal.old.log client call) }
         ensures marks { OnOk result ((k : ℕ) → mark_at journal.new.marks k ≡ mark_at journal.old.marks k) }
@@ -148,8 +152,8 @@ impl Pipeline {
         Ok(outcome)
     }
 
-    /// Decides what is pending up to the receipt, adds the entry of the call, and answers the outcome. Where memory is
-    /// wanting, nothing changes that is seen.
+    /// Decides what is pending up to the receipt, adds the entry of the call, and answers the outcome. What is decided is let
+    /// go then. Where memory is wanting, nothing changes that is seen.
     pub(crate) fn settle(
         &mut self,
         alloc: Global,
@@ -159,14 +163,14 @@ impl Pipeline {
         receipt: usize,
     ) -> Result<Outcome, NoMemory>
         requires kept { AllKept self.old.domains.items }
-        requires sound { IsSound (line_of self.old) }
+        requires sound { HasSents (line_of self.old) }
         requires some { 0 < receipt }
-        requires given { receipt ≤ length self.old.submissions.items }
-        requires few { length self.old.submissions.items ≤ limit }
+        requires given { receipt ≤ self.old.gone + length self.old.waiting.items }
+        requires few { self.old.gone + length self.old.waiting.items ≤ limit }
         requires room { length journal.old.log < limit }
         ensures kept { AllKept self.new.domains.items }
         ensures outcome { IfOk result (λ o. slice_get self.new.outcomes.items (receipt - 1) ≡ Some o) }
-        ensures decided { OnOk result (AreDecided (line_of self.old) (receipt - length self.old.outcomes.items) (line_of self.new)) }
+        ensures decided { OnOk result (Decides (line_of self.old) (receipt - length self.old.outcomes.items) (line_of self.new)) }
         ensures same { OnErr result (line_of self.new ≡ line_of self.old) }
         ensures log { OnOk result (journal.new.log ≡ jotted journal.old.log client call) }
         ensures marks { OnOk result ((k : ℕ) → mark_at journal.new.marks k ≡ mark_at journal.old.marks k) }
@@ -175,12 +179,34 @@ impl Pipeline {
         let outcomes = self.outcomes.len();
         let counts = counts_of(alloc, &self.domains)?;
         match self.settle_some(alloc, journal, client, call, receipt) {
-            Ok(outcome) => Ok(outcome),
+            Ok(outcome) => {
+                let_go(&mut self.waiting, &mut self.gone, self.outcomes.len());
+                Ok(outcome)
+            }
             Err(NoMemory) => {
                 self.cut_back(outcomes, &counts);
                 Err(NoMemory)
             }
         }
+    }
+}
+
+// Lets the first submissions go, so that so many are gone. It takes no memory.
+fn let_go(waiting: &mut VecDeque<Submission>, gone: &mut usize, decided: usize)
+    requires { gone.old ≤ decided }
+    ensures waiting { waiting.new.items ≡ drop (decided - gone.old) waiting.old.items }
+    ensures gone { gone.new ≡ decided }
+{
+    drop_first(waiting, decided - *gone);
+    *gone = decided;
+}
+
+// Drops the first ones, as many as told. It takes no memory.
+fn drop_first(waiting: &mut VecDeque<Submission>, count: usize)
+    ensures { waiting.new.items ≡ drop count waiting.old.items }
+{
+    for _ in 0..count {
+        let _ = waiting.pop_front();
     }
 }
 

@@ -19,6 +19,7 @@ use sal_rows::{CallFault, Outcome};
 use sal_tx::Submission;
 use sal_types::NoMemory;
 use std::alloc::Global;
+use std::collections::VecDeque;
 
 /// Decides what is pending, up to and including the receipt, adds the entry, and answers the outcome.
 pub(crate) fn settle(
@@ -56,23 +57,28 @@ pub(crate) fn pump(
     ensures given { IfOk result (λ decided. IfSome decided (λ d. IsGiven (known_of journal.new pipeline.new) d.0)) }
 {
     let decided = pipeline.outcomes.len();
-    if decided >= pipeline.submissions.len() {
+    if decided - pipeline.gone >= pipeline.waiting.len() {
         return match journal.add(client, Call::Pump) {
             Ok(()) => Ok(None),
             Err(NoMemory) => Err(CallFault::NoMemory),
         };
     }
+    let receipt = receipt_at(
+        &pipeline.waiting,
+        decided - pipeline.gone,
+        decided as u64 + 1,
+    );
     match pipeline.settle(alloc, journal, client, Call::Pump, decided + 1) {
-        Ok(outcome) => Ok(Some((receipt_at(&pipeline.submissions, decided), outcome))),
+        Ok(outcome) => Ok(Some((receipt, outcome))),
         Err(NoMemory) => Err(CallFault::NoMemory),
     }
 }
 
-// The receipt of the submission at the index.
-fn receipt_at(submissions: &[Submission], index: usize) -> Receipt
-    requires { index < length submissions.now }
-    ensures number { result.number ≡ index + 1 }
-    ensures domain { option_map (λ (s : Sent). s.domain) (slice_get submissions.now index) ≡ Some result.domain }
+// The receipt of this number, of the submission at the index.
+fn receipt_at(waiting: &VecDeque<Submission>, index: usize, number: u64) -> Receipt
+    requires { index < length waiting.now.items }
+    ensures number { result.number ≡ number }
+    ensures domain { option_map (λ (s : Sent). s.domain) (slice_get waiting.now.items index) ≡ Some result.domain }
 {
-    Receipt::of(index as u64 + 1, submissions[index].domain)
+    Receipt::of(number, waiting[index].domain)
 }

@@ -52,10 +52,11 @@ pub(crate) fn submit(
 
 // Why the submit of the transaction that began at the place is refused.
 fn refusal(pipeline: &Pipeline, journal: &Journal, place: usize) -> Option<CallFault>
-    requires { length pipeline.now.outcomes.items ≤ length pipeline.now.submissions.items }
-    ensures { result ≡ refusal_of (length pipeline.now.submissions.items - length pipeline.now.outcomes.items) (mark_at journal.now.marks place) }
+    requires behind { pipeline.now.gone ≤ length pipeline.now.outcomes.items }
+    requires within { length pipeline.now.outcomes.items ≤ pipeline.now.gone + length pipeline.now.waiting.items }
+    ensures { result ≡ refusal_of (pipeline.now.gone + length pipeline.now.waiting.items - length pipeline.now.outcomes.items) (mark_at journal.now.marks place) }
 {
-    let pending = pipeline.submissions.len() - pipeline.outcomes.len();
+    let pending = pipeline.waiting.len() - (pipeline.outcomes.len() - pipeline.gone);
     if pending >= MAX_PENDING {
         return Some(CallFault::PipelineFull);
     }
@@ -99,20 +100,22 @@ fn accept(
     tx: WriteTx,
 ) -> Result<Receipt, WriteTx>
     requires room { length journal.old.log < limit }
+    requires few { pipeline.old.gone + length pipeline.old.waiting.items ≤ length journal.old.log }
     requires placed { tx.begun.place < length journal.old.log }
-    ensures receipt { IfOk result (λ receipt. receipt ≡ record { number = length pipeline.old.submissions.items + 1; domain = tx.begun.domain }) }
+    ensures receipt { IfOk result (λ receipt. receipt ≡ record { number = pipeline.old.gone + length pipeline.old.waiting.items + 1; domain = tx.begun.domain }) }
     ensures right { OnOk result (IsRight tx) }
-    ensures submissions { OnOk result (pipeline.new.submissions.items ≡ pipeline.old.submissions.items ++ submission_of tx (length pipeline.old.submissions.items + 1) ∷ []) }
+    ensures waiting { OnOk result (pipeline.new.waiting.items ≡ pipeline.old.waiting.items ++ submission_of tx (pipeline.old.gone + length pipeline.old.waiting.items + 1) ∷ []) }
+    ensures gone { pipeline.new.gone ≡ pipeline.old.gone }
     ensures log { OnOk result (journal.new.log ≡ jotted journal.old.log client (Submit tx.begun.place tx.changes)) }
     ensures marks { OnOk result ((k : ℕ) → mark_at journal.new.marks k ≡ (nat_eq tx.begun.place k || mark_at journal.old.marks k)) }
     ensures back { MatchResult result (λ _. Unit {0}) (λ back. back ≡ tx) }
     ensures domains { pipeline.new.domains ≡ pipeline.old.domains }
     ensures outcomes { pipeline.new.outcomes ≡ pipeline.old.outcomes }
     ensures failures { pipeline.new.failures ≡ pipeline.old.failures }
-    ensures waiting { OnErr result (pipeline.new.submissions.items ≡ pipeline.old.submissions.items) }
+    ensures same { OnErr result (pipeline.new.waiting.items ≡ pipeline.old.waiting.items) }
     ensures journal { OnErr result (journal.new ≡ journal.old) }
 {
-    match pipeline.submissions.reserve(1) {
+    match pipeline.waiting.reserve(1) {
         Ok(()) => {}
         Err(_) => return Err(tx),
     }
@@ -120,12 +123,11 @@ fn accept(
         Ok(()) => {}
         Err(NoMemory) => return Err(tx),
     }
-    let receipt = pipeline.submissions.len() as u64 + 1;
+    let receipt = (pipeline.gone + pipeline.waiting.len()) as u64 + 1;
     let domain = tx.begun().domain;
     journal.spend(tx.begun().place as usize);
     pipeline
-        .submissions
-        .push(tx.into_submission(receipt))
-        .unwrap();
+        .waiting
+        .push_back_reserved(tx.into_submission(receipt));
     Ok(Receipt::of(receipt, domain))
 }

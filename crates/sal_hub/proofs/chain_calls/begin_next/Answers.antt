@@ -21,6 +21,9 @@ footing_in-requires-clause-given c =
     let sent = c.index-sent.result.now in
     sent_within c.args.journal.now c.args.pipeline.now c.requires.kept cs c.requires.chains c.args.chain.now c.requires.token sent (c.index-sent.ensures ∙ ap (λ n. get_or cs.sent.items (n - 1) sent) c.id-2.ensures)
 
+pub footing_in-requires-clause-behind : goal.footing_in-requires-clause-behind
+footing_in-requires-clause-behind c = c.requires.kept.current.sound.behind
+
 pub note-requires : goal.note-requires
 note-requires c = λ id same.
     let is : id ≡ c.args.chain.now.id = sym (same_Some c.id.result id same) ∙ c.id.ensures in

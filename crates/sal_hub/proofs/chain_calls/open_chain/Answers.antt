@@ -35,32 +35,32 @@ returns-in-Ok-add_chain-clause-kept c =
     let live : is_live_in (line_of c.args.pipeline.now).domains c.args.domain ≡ true = grind (arith, common_steps) in
     let p = c.args.pipeline.now in
     let done = c.in-Ok-add_chain.ensures in
-    let p' : Pipeline = record { domains = p.domains; submissions = p.submissions; outcomes = p.outcomes; failures = c.add_chain.new.failures } in
-    opened_kept c.args.journal.now c.add_chain.new.journal p c.requires.kept c.args.client c.args.domain done.log p' live refl refl refl done.failures done.marks
+    let p' : Pipeline = record { domains = p.domains; gone = p.gone; waiting = p.waiting; outcomes = p.outcomes; failures = c.add_chain.new.failures } in
+    opened_kept c.args.journal.now c.add_chain.new.journal p c.requires.kept c.args.client c.args.domain done.log p' live refl refl refl refl done.failures done.marks
 
 pub returns-in-Ok-add_chain-clause-chains : goal.returns-in-Ok-add_chain-clause-chains
 returns-in-Ok-add_chain-clause-chains c =
     let live : is_live_in (line_of c.args.pipeline.now).domains c.args.domain ≡ true = grind (arith, common_steps) in
     let p = c.args.pipeline.now in
     let done = c.in-Ok-add_chain.ensures in
-    let p' : Pipeline = record { domains = p.domains; submissions = p.submissions; outcomes = p.outcomes; failures = c.add_chain.new.failures } in
-    opened_chains c.args.journal.now c.add_chain.new.journal p c.requires.kept c.args.client c.args.domain done.log p' live refl refl refl done.failures c.args.chains.now c.add_chain.new.chains c.requires.chains done.chains
+    let p' : Pipeline = record { domains = p.domains; gone = p.gone; waiting = p.waiting; outcomes = p.outcomes; failures = c.add_chain.new.failures } in
+    opened_chains c.args.journal.now c.add_chain.new.journal p c.requires.kept c.args.client c.args.domain done.log p' live refl refl refl refl done.failures c.args.chains.now c.add_chain.new.chains c.requires.chains done.chains
 
 pub returns-in-Ok-add_chain-clause-answer : goal.returns-in-Ok-add_chain-clause-answer
 returns-in-Ok-add_chain-clause-answer c =
     let live : is_live_in (line_of c.args.pipeline.now).domains c.args.domain ≡ true = grind (arith, common_steps) in
     let p = c.args.pipeline.now in
     let done = c.in-Ok-add_chain.ensures in
-    let p' : Pipeline = record { domains = p.domains; submissions = p.submissions; outcomes = p.outcomes; failures = c.add_chain.new.failures } in
+    let p' : Pipeline = record { domains = p.domains; gone = p.gone; waiting = p.waiting; outcomes = p.outcomes; failures = c.add_chain.new.failures } in
     subst (λ n. Made (known_of c.args.journal.now p) (known_of c.add_chain.new.journal p') (entry_of (known_of c.args.journal.now p) c.args.client (OpenChain c.args.domain)) (Opened n))
     (sym (ap (λ (x : Chain). x.id) c.of.ensures ∙ done.id))
-    (opened_made c.args.journal.now c.add_chain.new.journal p c.requires.kept c.args.client c.args.domain done.log p' live refl refl refl done.failures c.args.chains.now c.add_chain.new.chains c.requires.chains done.chains c.requires.room)
+    (opened_made c.args.journal.now c.add_chain.new.journal p c.requires.kept c.args.client c.args.domain done.log p' live refl refl refl refl done.failures c.args.chains.now c.add_chain.new.chains c.requires.chains done.chains c.requires.room)
 
 pub returns-in-Ok-add_chain-clause-given : goal.returns-in-Ok-add_chain-clause-given
 returns-in-Ok-add_chain-clause-given c =
     let live : is_live_in (line_of c.args.pipeline.now).domains c.args.domain ≡ true = grind (arith, common_steps) in
     let p = c.args.pipeline.now in
     let done = c.in-Ok-add_chain.ensures in
-    let p' : Pipeline = record { domains = p.domains; submissions = p.submissions; outcomes = p.outcomes; failures = c.add_chain.new.failures } in
-    opened_given c.args.journal.now c.add_chain.new.journal p c.requires.kept c.args.client c.args.domain done.log p' live refl refl refl done.failures c.args.chains.now c.add_chain.new.chains c.requires.chains done.chains
+    let p' : Pipeline = record { domains = p.domains; gone = p.gone; waiting = p.waiting; outcomes = p.outcomes; failures = c.add_chain.new.failures } in
+    opened_given c.args.journal.now c.add_chain.new.journal p c.requires.kept c.args.client c.args.domain done.log p' live refl refl refl refl done.failures c.args.chains.now c.add_chain.new.chains c.requires.chains done.chains
     c.of.result (ap (λ (x : Chain). x.id) c.of.ensures ∙ done.id) (ap (λ (x : Chain). x.domain) c.of.ensures)

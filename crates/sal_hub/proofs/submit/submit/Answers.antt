@@ -1,5 +1,5 @@
 -- The entry is the log's next.
-use Rattle.std.proofs.Common.{◌≡◌, ◌-◌, length, Some, None, refl, ap, sym, ◌∙◌, subst}
+use Rattle.std.proofs.Common.{◌≡◌, ◌+◌, ◌-◌, length, Some, None, refl, ap, sym, ◌∙◌, subst}
 use Rattle.sal_tx.specs.declared.begun.Begun.{Begun}
 use Rattle.sal_history.specs.declared.call.Call.TheVariants.{Submit}
 use Rattle.sal_history.specs.declared.reply.Reply.TheVariants.{Receipt}
@@ -10,6 +10,7 @@ use Rattle.sal_hub.specs.Journals.{mark_at}
 use Rattle.sal_hub.specs.Known.{entry_of}
 use Rattle.sal_hub.specs.Submits.{refusal_of}
 use Rattle.sal_hub.specs.Tokens.{IsGiven}
+use Rattle.sal_hub.proofs.Settling.{decided_within, few}
 use Rattle.sal_hub.proofs.Submitting.{accepted_given, accepted_kept, accepted_made, fails_by, refused_kept, refused_made}
 use Rattle.sal_hub.proofs.submit.submit.Goals as goal
 
@@ -17,15 +18,15 @@ pub returns-in-Ok-clause-kept : goal.returns-in-Ok-clause-kept
 returns-in-Ok-clause-kept c =
     let p = c.args.pipeline.now in
     let tx = c.args.tx in
-    let why : refusal_of (length p.submissions.items - length p.outcomes.items) (mark_at c.args.journal.now.marks tx.begun.place) ≡ Some c.in-Some.fault =
-    sym (c.refusal.ensures ∙ ap (λ (b : Begun). refusal_of (length p.submissions.items - length p.outcomes.items) (mark_at c.args.journal.now.marks b.place)) c.begun.ensures) ∙ c.in-Some.is in
+    let why : refusal_of (p.gone + length p.waiting.items - length p.outcomes.items) (mark_at c.args.journal.now.marks tx.begun.place) ≡ Some c.in-Some.fault =
+    sym (c.refusal.ensures ∙ ap (λ (b : Begun). refusal_of (p.gone + length p.waiting.items - length p.outcomes.items) (mark_at c.args.journal.now.marks b.place)) c.begun.ensures) ∙ c.in-Some.is in
     refused_kept c.args.journal.now c.note.new.journal p c.requires.kept c.args.client tx.begun.place tx.changes c.in-Ok.ensures.log c.in-Some.fault why c.in-Ok.ensures.marks
 
 pub returns-in-Ok-clause-answer : goal.returns-in-Ok-clause-answer
 returns-in-Ok-clause-answer c =
     let p = c.args.pipeline.now in
     let tx = c.args.tx in
-    let pending = length p.submissions.items - length p.outcomes.items in
+    let pending = p.gone + length p.waiting.items - length p.outcomes.items in
     let why : refusal_of pending (mark_at c.args.journal.now.marks tx.begun.place) ≡ Some c.in-Some.fault =
     sym (c.refusal.ensures ∙ ap (λ (b : Begun). refusal_of pending (mark_at c.args.journal.now.marks b.place)) c.begun.ensures) ∙ c.in-Some.is in (
       refl,
@@ -37,27 +38,33 @@ pub returns-in-Ok-accept-clause-kept : goal.returns-in-Ok-accept-clause-kept
 returns-in-Ok-accept-clause-kept c =
     let p = c.args.pipeline.now in
     let tx = c.args.tx in
-    let free : refusal_of (length p.submissions.items - length p.outcomes.items) (mark_at c.args.journal.now.marks tx.begun.place) ≡ None =
-    sym (c.refusal.ensures ∙ ap (λ (b : Begun). refusal_of (length p.submissions.items - length p.outcomes.items) (mark_at c.args.journal.now.marks b.place)) c.begun.ensures) ∙ c.in-None.is in
+    let free : refusal_of (p.gone + length p.waiting.items - length p.outcomes.items) (mark_at c.args.journal.now.marks tx.begun.place) ≡ None =
+    sym (c.refusal.ensures ∙ ap (λ (b : Begun). refusal_of (p.gone + length p.waiting.items - length p.outcomes.items) (mark_at c.args.journal.now.marks b.place)) c.begun.ensures) ∙ c.in-None.is in
     let done = c.in-Ok-accept.ensures in
-    accepted_kept c.args.journal.now c.accept.new.journal p c.accept.new.pipeline c.requires.kept c.args.client tx c.requires.token done.right done.log free c.requires.member done.domains done.failures done.outcomes done.submissions done.marks
+    accepted_kept c.args.journal.now c.accept.new.journal p c.accept.new.pipeline c.requires.kept c.args.client tx c.requires.token done.right done.log free c.requires.member done.domains done.failures done.outcomes done.gone done.waiting done.marks
 
 pub returns-in-Ok-accept-clause-answer : goal.returns-in-Ok-accept-clause-answer
 returns-in-Ok-accept-clause-answer c =
     let p = c.args.pipeline.now in
     let tx = c.args.tx in
-    let free : refusal_of (length p.submissions.items - length p.outcomes.items) (mark_at c.args.journal.now.marks tx.begun.place) ≡ None =
-    sym (c.refusal.ensures ∙ ap (λ (b : Begun). refusal_of (length p.submissions.items - length p.outcomes.items) (mark_at c.args.journal.now.marks b.place)) c.begun.ensures) ∙ c.in-None.is in
+    let free : refusal_of (p.gone + length p.waiting.items - length p.outcomes.items) (mark_at c.args.journal.now.marks tx.begun.place) ≡ None =
+    sym (c.refusal.ensures ∙ ap (λ (b : Begun). refusal_of (p.gone + length p.waiting.items - length p.outcomes.items) (mark_at c.args.journal.now.marks b.place)) c.begun.ensures) ∙ c.in-None.is in
     let done = c.in-Ok-accept.ensures in
     subst (λ (r : Given). Made (known_of c.args.journal.now p) (known_of c.accept.new.journal c.accept.new.pipeline) (entry_of (known_of c.args.journal.now p) c.args.client (Submit tx.begun.place tx.changes)) (Receipt r.number)) (sym done.receipt)
-    (accepted_made c.args.journal.now c.accept.new.journal p c.accept.new.pipeline c.requires.kept c.args.client tx c.requires.token done.right done.log free c.requires.member done.domains done.failures done.outcomes done.submissions done.marks c.requires.room)
+    (accepted_made c.args.journal.now c.accept.new.journal p c.accept.new.pipeline c.requires.kept c.args.client tx c.requires.token done.right done.log free c.requires.member done.domains done.failures done.outcomes done.gone done.waiting done.marks c.requires.room)
 
 pub returns-in-Ok-accept-clause-given : goal.returns-in-Ok-accept-clause-given
 returns-in-Ok-accept-clause-given c =
     let p = c.args.pipeline.now in
     let tx = c.args.tx in
-    let free : refusal_of (length p.submissions.items - length p.outcomes.items) (mark_at c.args.journal.now.marks tx.begun.place) ≡ None =
-    sym (c.refusal.ensures ∙ ap (λ (b : Begun). refusal_of (length p.submissions.items - length p.outcomes.items) (mark_at c.args.journal.now.marks b.place)) c.begun.ensures) ∙ c.in-None.is in
+    let free : refusal_of (p.gone + length p.waiting.items - length p.outcomes.items) (mark_at c.args.journal.now.marks tx.begun.place) ≡ None =
+    sym (c.refusal.ensures ∙ ap (λ (b : Begun). refusal_of (p.gone + length p.waiting.items - length p.outcomes.items) (mark_at c.args.journal.now.marks b.place)) c.begun.ensures) ∙ c.in-None.is in
     let done = c.in-Ok-accept.ensures in
     subst (λ (r : Given). IsGiven (known_of c.accept.new.journal c.accept.new.pipeline) r) (sym done.receipt)
-    (accepted_given c.args.journal.now c.accept.new.journal p c.accept.new.pipeline c.requires.kept c.args.client tx c.requires.token done.right done.log free c.requires.member done.domains done.failures done.outcomes done.submissions done.marks)
+    (accepted_given c.args.journal.now c.accept.new.journal p c.accept.new.pipeline c.requires.kept c.args.client tx c.requires.token done.right done.log free c.requires.member done.domains done.failures done.outcomes done.gone done.waiting done.marks)
+
+pub accept-requires-clause-few : goal.accept-requires-clause-few
+accept-requires-clause-few c = few c.args.journal.now c.args.pipeline.now c.requires.kept
+
+pub refusal-requires-clause-within : goal.refusal-requires-clause-within
+refusal-requires-clause-within c = decided_within c.args.journal.now c.args.pipeline.now c.requires.kept

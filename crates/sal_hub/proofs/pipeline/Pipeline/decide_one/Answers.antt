@@ -15,38 +15,38 @@ use Rattle.sal_hub.proofs.pipeline.Pipeline.decide_one.Goals as goal
 pub failure_of-failed-requires : goal.failure_of-failed-requires
 failure_of-failed-requires c =
     subst (λ (fs : List (Option ℕ)). IsWithin (length fs) c.index-submission.result.now.chain) (sym c.deref.ensures.value)
-    (within_here c.args.self.now c.requires.kept c.requires.sound c.args.index c.requires.next c.requires.given c.index-submission.result.now c.index-submission.ensures)
+    (within_here c.args.self.now c.requires.kept c.requires.sound.0 c.requires.sound.1 c.args.index c.requires.next c.requires.given c.index-submission.result.now c.index-submission.ensures)
 
 pub index_mut-domain-requires : goal.index_mut-domain-requires
 index_mut-domain-requires c =
     let within : c.index-submission.result.now.domain < length c.args.self.now.domains.items =
-    domain_within c.args.self.now c.requires.kept c.requires.sound c.args.index c.requires.next c.requires.given c.index-submission.result.now c.index-submission.ensures in
+    domain_within c.args.self.now c.requires.kept c.requires.sound.0 c.requires.sound.1 c.args.index c.requires.next c.requires.given c.index-submission.result.now c.index-submission.ensures in
     grind (arith, common_steps)
 
 pub decide-requires-clause-given : goal.decide-requires-clause-given
 decide-requires-clause-given c =
-    can_now c.args.self.now c.requires.kept c.requires.sound c.args.index c.requires.next c.requires.given c.index-submission.result.now c.index-submission.ensures
+    can_now c.args.self.now c.requires.kept c.requires.sound.0 c.requires.sound.1 c.args.index c.requires.next c.requires.given c.index-submission.result.now c.index-submission.ensures
     c.index_mut-domain.result.now c.index_mut-domain.ensures.value
 
 pub decide-requires-clause-fresh : goal.decide-requires-clause-fresh
 decide-requires-clause-fresh c =
-    stamp_now c.args.self.now c.requires.kept c.requires.sound c.args.index c.requires.next c.requires.given c.index-submission.result.now c.index-submission.ensures
+    stamp_now c.args.self.now c.requires.kept c.requires.sound.0 c.requires.sound.1 c.args.index c.requires.next c.requires.given c.index-submission.result.now c.index-submission.ensures
     c.index_mut-domain.result.now c.index_mut-domain.ensures.value _ refl
 
 pub returns-in_err-reserve-clause-grown : goal.returns-in_err-reserve-clause-grown
 returns-in_err-reserve-clause-grown c =
-    subst (λ (os : List Outcome). HasGrown (line_of c.args.self.now) (record { domains = (line_of c.args.self.now).domains; submissions = c.args.self.now.submissions.items; outcomes = os; failures = c.args.self.now.failures.items }))
-    (sym (c.in_err-reserve.ensures.items)) (grown_none (line_of c.args.self.now) c.requires.sound)
+    subst (λ (os : List Outcome). HasGrown (line_of c.args.self.now) (record { domains = (line_of c.args.self.now).domains; gone = c.args.self.now.gone; waiting = c.args.self.now.waiting.items; outcomes = os; failures = c.args.self.now.failures.items }))
+    (sym (c.in_err-reserve.ensures.items)) (grown_none c.requires.sound.0 (line_of c.args.self.now) c.requires.sound.1)
 
 pub returns-in_err-outcome-clause-grown : goal.returns-in_err-outcome-clause-grown
 returns-in_err-outcome-clause-grown c =
-    grown_nothing c.args.self.now c.requires.kept c.requires.sound c.args.index c.requires.next c.requires.given c.index-submission.result.now c.index-submission.ensures
+    grown_nothing c.args.self.now c.requires.kept c.requires.sound.0 c.requires.sound.1 c.args.index c.requires.next c.requires.given c.index-submission.result.now c.index-submission.ensures
     c.index_mut-domain.result.now c.index_mut-domain.ensures.value c.decide.new.domain c.reserve.new.self.items c.in_err-outcome.ensures.same c.in_err-outcome.ensures.commits c.reserve.ensures.items
 
 pub note_failure-requires : goal.note_failure-requires
 note_failure-requires c =
     subst (λ (fs : List (Option ℕ)). IsWithin (length fs) c.index-submission.result.now.chain) (sym c.deref_mut.ensures.value)
-    (within_here c.args.self.now c.requires.kept c.requires.sound c.args.index c.requires.next c.requires.given c.index-submission.result.now c.index-submission.ensures)
+    (within_here c.args.self.now c.requires.kept c.requires.sound.0 c.requires.sound.1 c.args.index c.requires.next c.requires.given c.index-submission.result.now c.index-submission.ensures)
 
 pub returns-clause-ok : goal.returns-clause-ok
 returns-clause-ok c =
@@ -60,7 +60,8 @@ returns-clause-ok c =
     ap length noted ∙ length-after c.deref_mut.result.now sub.chain (c.args.index + 1) c.is_done-done.result ∙ c.deref_mut.ensures.len in
     let fs : (with_items p.failures c.note_failure.new.failures).items ≡ failures_after p.failures.items sub.chain (length p.outcomes.items + 1) (is_done c.in_ok-outcome.outcome) =
     with_items_is p.failures c.note_failure.new.failures long ∙ noted ∙ (λ i. failures_after (c.deref_mut.ensures.value i) sub.chain (c.requires.next i + 1) (c.is_done-done.ensures i)) in
-    decided_now p c.requires.kept c.requires.sound c.args.index c.requires.next c.requires.given sub c.index-submission.ensures d c.index_mut-domain.ensures.value
+    λ ss sound.
+    decided_now p c.requires.kept ss sound c.args.index c.requires.next c.requires.given sub c.index-submission.ensures d c.index_mut-domain.ensures.value
     c.in_ok-outcome.outcome (c.in_ok-outcome.ensures.outcome ∙ ap (λ (f : Option ℕ). decide f d sub) failed) c.decide.new.domain c.in_ok-outcome.ensures.decided c.push.new.self.items os (with_items p.failures c.note_failure.new.failures).items fs
 
 pub returns-clause-grown : goal.returns-clause-grown
@@ -75,5 +76,5 @@ returns-clause-grown c =
     ap length noted ∙ length-after c.deref_mut.result.now sub.chain (c.args.index + 1) c.is_done-done.result ∙ c.deref_mut.ensures.len in
     let fs : (with_items p.failures c.note_failure.new.failures).items ≡ failures_after p.failures.items sub.chain (length p.outcomes.items + 1) (is_done c.in_ok-outcome.outcome) =
     with_items_is p.failures c.note_failure.new.failures long ∙ noted ∙ (λ i. failures_after (c.deref_mut.ensures.value i) sub.chain (c.requires.next i + 1) (c.is_done-done.ensures i)) in
-    grown_now p c.requires.kept c.requires.sound c.args.index c.requires.next c.requires.given sub c.index-submission.ensures d c.index_mut-domain.ensures.value
+    grown_now p c.requires.kept c.requires.sound.0 c.requires.sound.1 c.args.index c.requires.next c.requires.given sub c.index-submission.ensures d c.index_mut-domain.ensures.value
     c.in_ok-outcome.outcome (c.in_ok-outcome.ensures.outcome ∙ ap (λ (f : Option ℕ). decide f d sub) failed) c.decide.new.domain c.in_ok-outcome.ensures.decided c.push.new.self.items os (with_items p.failures c.note_failure.new.failures).items fs

@@ -1,9 +1,9 @@
 -- One more is decided.
 use Rattle.std.proofs.Common.{◌≡◌, ◌≤◌, ◌+◌, ◌-◌, length, ap, sym, ◌∙◌, subst, arith}
 use Rattle.std.proofs.lemmas.Grind.{common_steps}
-use Rattle.sal_hub.specs.Lines.{AreDecided, line_of}
+use Rattle.sal_hub.specs.Lines.{Decides, line_of}
 use Rattle.sal_hub.proofs.Deciding.{grown_none}
-use Rattle.sal_hub.proofs.Cutting.{AreDecided-none, HasGrown-then, one_more}
+use Rattle.sal_hub.proofs.Cutting.{Decides-none, HasGrown-then, one_more}
 use Rattle.sal_hub.proofs.pipeline.Pipeline.decide_upto.Goals as goal
 
 pub loop-index-init : goal.loop-index-init
@@ -15,9 +15,12 @@ loop-index-init c =
       count = count;
       bound = omega (arith, none);
       kept = c.requires.kept;
-      decided = subst (λ k. AreDecided (line_of c.args.self.now) k (line_of c.args.self.now)) (sym none) (AreDecided-none (line_of c.args.self.now) c.requires.sound);
-      grown = grown_none (line_of c.args.self.now) c.requires.sound;
+      decided = subst (λ k. Decides (line_of c.args.self.now) k (line_of c.args.self.now)) (sym none) (Decides-none (line_of c.args.self.now));
+      grown = grown_none c.requires.sound.0 (line_of c.args.self.now) c.requires.sound.1;
     }
+
+pub decide_one-requires-clause-sound : goal.decide_one-requires-clause-sound
+decide_one-requires-clause-sound c = (c.requires.sound.0, (c.loop-index.invariant.decided c.requires.sound.0 c.requires.sound.1).sound)
 
 pub returns-in_err-decide_one-clause-grown : goal.returns-in_err-decide_one-clause-grown
 returns-in_err-decide_one-clause-grown c =
@@ -39,4 +42,4 @@ pub returns-clause-ok : goal.returns-clause-ok
 returns-clause-ok c =
     let start = length c.args.self.now.outcomes.items in
     let all : c.loop-index.index - start ≡ c.args.upto - start = omega (arith, c.loop-index-test.false, c.loop-index.invariant.bound) in
-    subst (λ k. AreDecided (line_of c.args.self.now) k (line_of c.loop-index.self)) all c.loop-index.invariant.decided
+    subst (λ k. Decides (line_of c.args.self.now) k (line_of c.loop-index.self)) all c.loop-index.invariant.decided

@@ -1,10 +1,11 @@
 -- What was decided before memory was wanting is taken back.
-use Rattle.std.proofs.Common.{◌≡◌, List, length, map, take, ap, ◌∙◌, arith}
+use Rattle.std.proofs.Common.{◌≡◌, ◌-◌, List, drop, length, map, take, ap, sym, ◌∙◌, subst, arith}
 use Rattle.std.proofs.lemmas.Grind.{common_steps}
 use Rattle.sal_commit.specs.declared.domain.Domain.{Domain}
 use Rattle.sal_hub.specs.Failures.{cut_failures}
-use Rattle.sal_hub.specs.Lines.{counts_of, cut_all, shown}
+use Rattle.sal_hub.specs.Lines.{AreDecided, Line, counts_of, cut_all, line_of, shorter, shown}
 use Rattle.sal_hub.proofs.Cutting.{as_many, taken_back}
+use Rattle.sal_hub.proofs.Deciding.{decided-shorter}
 use Rattle.sal_hub.proofs.pipeline.Pipeline.settle.Goals as goal
 
 pub cut_back-requires-clause-long : goal.cut_back-requires-clause-long
@@ -22,4 +23,16 @@ returns-clause-same c =
     let count : c.len-outcomes.result ≡ length old.outcomes.items = grind (arith, common_steps) in
     let taken : c.cut_back.new.self.outcomes.items ≡ take (length old.outcomes.items) new.outcomes.items = c.cut_back.ensures.outcomes ∙ ap (λ n. take n new.outcomes.items) count in
     let forgotten : c.cut_back.new.self.failures.items ≡ cut_failures (length old.outcomes.items) new.failures.items = c.cut_back.ensures.failures ∙ ap (λ n. cut_failures n new.failures.items) count in
-    taken_back old new c.requires.kept c.in-Err.ensures.grown c.in_ok-counts.counts.items counts c.cut_back.new.self.domains.items c.cut_back.new.self.submissions.items c.cut_back.new.self.outcomes.items c.cut_back.new.self.failures.items cut c.cut_back.ensures.submissions taken forgotten
+    taken_back old new c.requires.kept c.in-Err.ensures.grown c.in_ok-counts.counts.items counts c.cut_back.new.self.domains.items c.cut_back.new.self.gone c.cut_back.new.self.waiting.items c.cut_back.new.self.outcomes.items c.cut_back.new.self.failures.items cut c.cut_back.ensures.gone c.cut_back.ensures.waiting taken forgotten
+
+-- what is decided is let go
+pub returns-in-Ok-clause-decided : goal.returns-in-Ok-clause-decided
+returns-in-Ok-clause-decided c = λ ss sound.
+    let old = c.args.self.now in
+    let new = c.settle_some.new.self in
+    let count : c.len.result ≡ length new.outcomes.items = grind (arith, common_steps) in
+    let gone : c.let_go.new.gone ≡ length new.outcomes.items = c.let_go.ensures.gone ∙ count in
+    let waits : c.let_go.new.waiting.items ≡ drop (length new.outcomes.items - new.gone) new.waiting.items = c.let_go.ensures.waiting ∙ ap (λ n. drop (n - new.gone) new.waiting.items) count in
+    subst (AreDecided ss (line_of old) (c.args.receipt - length old.outcomes.items))
+    (λ i. let line : Line = record { domains = map shown new.domains.items; gone = sym gone i; waiting = sym waits i; outcomes = new.outcomes.items; failures = new.failures.items } in line)
+    (decided-shorter ss (line_of old) (c.args.receipt - length old.outcomes.items) (line_of new) (c.in-Ok.ensures.decided ss sound))

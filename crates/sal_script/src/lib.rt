@@ -8,6 +8,7 @@
 //! | `DomainTrees` | the trees of a domain at the end of a run |
 //! | `read_script` | the script that bytes stand for, or the first bad place |
 //! | `ScriptFault` | why bytes are no script |
+//! | `load_script` | the script of a load: four clients that put entries into one list, each its own |
 //!
 //! A client begins transactions into slots, with a mode; puts, merges and deletes at paths of either store; reads, and asks
 //! whether something is there; submits or cancels; and settles receipts. It opens transaction chains into slots of their own,
@@ -45,6 +46,7 @@ pub mod fault;
 pub mod laws;
 pub mod listener_examples;
 mod listener_step;
+mod load;
 pub mod read;
 pub mod reply;
 pub mod script;
@@ -55,6 +57,7 @@ pub mod trees;
 mod values;
 
 pub use fault::ScriptFault;
+pub use load::{LOAD_MODULE, LOAD_CLIENTS, MAX_ROUNDS, MAX_START, load_script};
 pub use read::read_script;
 pub use reply::{StepRefusal, StepReply};
 pub use script::{

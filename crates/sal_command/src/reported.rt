@@ -54,9 +54,9 @@ pub(crate) fn summary_of(
 fn own_trees(alloc: Global, hub: &Hub) -> Result<DomainTrees, NoMemory>
     ensures { IfOk result (λ trees. trees ≡ spec.trees_in hub.now.world hub.now.log 0) }
 {
-    let trees = hub.trees();
-    let config = all_rows(alloc, &trees.config)?;
-    let oper = all_rows(alloc, &trees.oper)?;
+    let newest = hub.trees();
+    let config = all_rows(alloc, &newest.config)?;
+    let oper = all_rows(alloc, &newest.oper)?;
     Ok(DomainTrees {
         domain: 0,
         commits: hub.newest(),

@@ -11,6 +11,7 @@ pub mod Laws
 pub mod Limits
 pub mod ListenerExamples
 pub mod Load
+pub mod LoadExamples
 pub mod LoadOrder
 pub mod MessageData
 pub mod Messages

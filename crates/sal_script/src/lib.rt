@@ -23,8 +23,8 @@
 //!
 //! `specs/Script` says which script bytes stand for, with the steps of `specs/Moves` by their forms in `specs/Steps`; `specs/Play`
 //! what a script does in an order, with the calls on services in `specs/Services`; and `specs/Report` the text of that, with its
-//! words in `specs/Words`, and batches, inputs, outputs and notifications as JSON in `specs/BatchData` and `specs/MessageData`. `examples`, `chain_examples`, `listener_examples`, `service_examples` and
-//! `along_examples` have worked examples, each proved by computing it.
+//! words in `specs/Words`, and batches, inputs, outputs and notifications as JSON in `specs/BatchData` and `specs/MessageData`. `examples`, `chain_examples`, `listener_examples`, `service_examples`,
+//! `along_examples` and `load_examples` have worked examples, each proved by computing it. `specs/Load` has a load's script and its summary.
 //! `laws` says of the values of a script that was read that each name stands once in its object, and that what they say at a
 //! path that was read fits the schema; and of what is played, that its log is in the order that was given and has the shared
 //! calls of each client, each once and in the client's own order (`specs/Orders`); and of what clients leave that run at the same
@@ -47,6 +47,7 @@ pub mod laws;
 pub mod listener_examples;
 mod listener_step;
 mod load;
+pub mod load_examples;
 pub mod read;
 pub mod reply;
 pub mod script;
@@ -57,7 +58,7 @@ pub mod trees;
 mod values;
 
 pub use fault::ScriptFault;
-pub use load::{LOAD_MODULE, LOAD_CLIENTS, MAX_ROUNDS, MAX_START, load_script};
+pub use load::{LOAD_CLIENTS, LOAD_MODULE, MAX_ROUNDS, MAX_START, load_script};
 pub use read::read_script;
 pub use reply::{StepRefusal, StepReply};
 pub use script::{

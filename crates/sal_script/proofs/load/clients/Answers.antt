@@ -1,5 +1,3 @@
-use Rattle.std.proofs.Common.{sym}
-use Rattle.sal_script.specs.JsonMoves.{have_json_moves}
 use Rattle.sal_script.proofs.Loads.{json, within}
 use Rattle.sal_script.proofs.load.clients.Goals as goal
 

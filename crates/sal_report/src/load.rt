@@ -1,5 +1,5 @@
 //! The summary of a load: how many calls, commits and rows it came to, and the sum of its numbers.
-ghost use Rattle.std.specs.Prelude.{◌≡◌, ◌++◌, [], ◌∷◌, IfOk, OnOk, codes, map, string_bytes, sum};
+ghost use Rattle.std.specs.Prelude.{◌≡◌, ◌++◌, [], ◌∷◌, IfOk, OnOk, codes, string_bytes, sum_by};
 ghost use Rattle.sal_script.specs.Load as spec;
 ghost use Rattle.sal_script.specs.Words.{number};
 
@@ -57,7 +57,7 @@ fn push_count(text: &mut String, word: &str, count: u128) -> Result<(), NoMemory
 
 // The sum of the leafs `v`.
 fn sum_of(rows: &[Row]) -> u128
-    ensures { result ≡ sum (map spec.number_of rows.now) }
+    ensures { result ≡ sum_by spec.number_of rows.now }
 {
     let mut total = 0;
     for row in rows {

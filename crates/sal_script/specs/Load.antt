@@ -1,11 +1,11 @@
 -- The script of a load, and its summary. Four clients put entries into one list in rounds, each its own entries.
-use Rattle.std.specs.Prelude.{ℕ, zero, suc, ◌+◌, ◌*◌, List, [], ◌∷◌, ◌++◌, length, map, sum, codes, decimal, if◌then◌else◌, nat_eq}
+use Rattle.std.specs.Prelude.{ℕ, zero, suc, ◌+◌, ◌*◌, List, [], ◌∷◌, ◌++◌, length, sum_by, codes, decimal, if◌then◌else◌, nat_eq}
 use Prim.Native.String.{String}
 use Rattle.std.specs.Option.{option_map_or}
 use Rattle.sal_types.specs.declared.value.Atom.{Atom}
 use Rattle.sal_types.specs.declared.value.Atom.TheVariants.{Unsigned}
 use Rattle.sal_types.specs.declared.value.Cell.{Cell}
-use Rattle.sal_types.specs.declared.value.Cell.TheVariants.{Mark, Leaf}
+use Rattle.sal_types.specs.declared.value.Cell.TheVariants.{Leaf}
 use Rattle.sal_types.specs.declared.value.Store.TheVariants.{Config}
 use Rattle.sal_types.specs.declared.value.Step.{Step}
 use Rattle.sal_types.specs.declared.value.Step.TheVariants.{Node}
@@ -83,7 +83,7 @@ number_of row = option_map_or (number_at row.cell) (last_step row.path) 0
 
 -- those of a log and of what its domain has at the end
 abbrev pub totals_of : List Entry → DomainTrees → Totals
-totals_of log trees = record { calls = length log; commits = trees.commits; rows = length trees.config; values = sum (map number_of trees.config) }
+totals_of log trees = record { calls = length log; commits = trees.commits; rows = length trees.config; values = sum_by number_of trees.config }
 
 -- a word and a number
 abbrev pub count_line : String → ℕ → List ℕ

@@ -1,5 +1,6 @@
 //! The data broker's command: `mdsal run` runs a script's clients on threads over one broker and writes what each saw and
-//! what was committed; `mdsal sim` plays them in the script's order; `mdsal schema` judges a script's modules.
+//! what was committed; `mdsal sim` plays them in the script's order; `mdsal load` runs four clients of its own; `mdsal schema`
+//! judges a script's modules.
 //!
 //! It gives the words of its command line, standard input and standard output to the top call of `sal_command`, and ends
 //! with the status that this answers.
@@ -32,7 +33,7 @@ fn words_of(rt: &HostRuntime) -> Result<Vec<Str>, NoMemory> {
     Ok(words)
 }
 
-// What the top call answers. The runtime is handed down twice: for the streams, and for the threads of a run.
+// What the top call answers. The runtime is handed down twice: for the streams, and for the threads of a run or a load.
 fn answer<R: Threads + Wait + Sync>(rt: &HostRuntime, threads: &R) -> Status {
     match words_of(rt) {
         Ok(words) => {

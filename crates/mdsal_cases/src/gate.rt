@@ -2,6 +2,9 @@
 use sal_io::Gate;
 use std::sync::atomic::{AtomicU64, Ordering};
 
+// How many rounds a load has at most.
+const MAX_ROUNDS: u32 = 10000;
+
 /// How many steps, and the sum of their places, by which one step is told from another.
 #[derive(Clone, Copy, PartialEq, Eq)]
 pub struct Steps {
@@ -62,17 +65,41 @@ impl Gate for CountingGate {
     }
 }
 
-/// The steps that a report answers, or none where the text is no report.
+/// The steps that a report answers, or those of a load that its summary tells; none where the text is neither.
 pub fn answered(text: &str) -> Steps {
-    let mut steps = Steps::none();
     if text.starts_with("order") {
-        for line in text.lines() {
-            if let Some((client, step)) = step_of(line) {
-                steps = steps.with(client, step);
-            }
+        reported(text)
+    } else {
+        loaded(rounds_of(text).unwrap_or(0))
+    }
+}
+
+fn reported(text: &str) -> Steps {
+    let mut steps = Steps::none();
+    for line in text.lines() {
+        if let Some((client, step)) = step_of(line) {
+            steps = steps.with(client, step);
         }
     }
     steps
+}
+
+// Four steps of each of four clients in each round.
+fn loaded(rounds: u32) -> Steps {
+    let mut steps = Steps::none();
+    for step in 0..rounds.min(MAX_ROUNDS) * 4 {
+        for client in 0..4 {
+            steps = steps.with(client, step);
+        }
+    }
+    steps
+}
+
+// The rounds that the first line of a summary tells.
+fn rounds_of(text: &str) -> Option<u32> {
+    let rest = text.strip_prefix("load ")?;
+    let (rounds, _) = rest.split_once(' ')?;
+    rounds.parse::<u32>().ok()
 }
 
 // The client and the number of the step that the line answers; none where it is another line of a report.

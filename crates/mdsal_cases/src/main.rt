@@ -13,8 +13,8 @@
 //! | `NAME.words` | the words of the command line, one a line; else those of the folder's file `words`, else `sim` |
 //! | `NAME.faults` | lines `read N` and `write N` for calls of the source and the sink that fail, counted from 0, and `room N` for a sink that is full after so many bytes |
 //!
-//! A file that belongs to no case is told, and so is a case that lacks its files. Where a report is written, the gate is to have been
-//! passed once before each step of it.
+//! A file that belongs to no case is told, and so is a case that lacks its files. Where a report or a summary is written, the gate is to
+//! have been passed once before each step.
 #![tactic(auto)]
 
 mod case;

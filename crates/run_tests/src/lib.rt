@@ -4,4 +4,6 @@
 #[cfg(test)]
 mod crossing;
 #[cfg(test)]
+mod four;
+#[cfg(test)]
 mod full;

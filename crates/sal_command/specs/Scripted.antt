@@ -123,9 +123,13 @@ pub record Prepared : Type 0 where
 abbrev pub over_world : Parts → List SchemaTable → Result Prepared Status
 over_world parts tables = world_over (domains_of parts) tables >>= (λ world. Ok (record { parts = parts; world = world }))
 
+-- what a script is played over, or the status of the first that is wrong behind its reading
+abbrev pub prepared_of : Parts → Result Prepared Status
+prepared_of parts = reader_tables (domains_of parts) >>= over_world parts
+
 -- What the bytes stand for, or the status of the first that is wrong with them.
 abbrev pub prepared : List ℕ → Result Prepared Status
-prepared bytes = or_script (script_of bytes) >>= (λ parts. reader_tables (domains_of parts) >>= over_world parts)
+prepared bytes = or_script (script_of bytes) >>= prepared_of
 
 -- ---- what a function returned
 

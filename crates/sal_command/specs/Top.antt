@@ -10,13 +10,15 @@ use Rattle.sal_script.specs.Script.{Parts, script_of}
 use Rattle.sal_script.specs.Play.{Played, play}
 use Rattle.sal_script.specs.Report.{report}
 use Rattle.sal_script.specs.SomeOrder.{IsReportInSomeOrder}
+use Rattle.sal_script.specs.Load as load
+use Rattle.sal_script.specs.LoadOrder.{IsSummaryInSomeOrder}
 use Rattle.sal_command.specs.Schemas.{table_of}
-use Rattle.sal_command.specs.Scripted.{Comes, IsStatusOf, Prepared, or_schema, or_script, prepared}
+use Rattle.sal_command.specs.Scripted.{Comes, IsStatusOf, Prepared, or_schema, or_script, prepared, prepared_of}
 use Rattle.sal_command.specs.declared.top.TheConstants.{HELP, VERSION}
 use Rattle.sal_command.specs.declared.status.Status.{Status}
 use Rattle.sal_command.specs.declared.status.Status.TheVariants.{Done, BadWords, ReadFault, WriteFault, TooLong, BadScript, BadSchema, BadOpening, BadOrder, NoMemory}
 use Rattle.sal_command.specs.declared.words.Form.{Form}
-use Rattle.sal_command.specs.declared.words.Form.TheVariants.{Run, Sim, Schema, Help, Version}
+use Rattle.sal_command.specs.declared.words.Form.TheVariants.{Run, Sim, Load, Schema, Help, Version}
 
 -- ---- what a script comes to
 
@@ -38,6 +40,13 @@ abbrev pub RunsTo : List ℕ → Result (List ℕ) Status → Type 0
 RunsTo bytes (Ok text) = (script : Prepared) × (prepared bytes ≡ Ok script) × IsReportInSomeOrder script.world script.parts.clients text
 RunsTo bytes (Err (BadOrder index)) = ⊥
 RunsTo bytes (Err status) = prepared bytes ≡ Err status
+
+-- A load: the summary of its clients run at the same time, played in some order of their shared calls over what its own script is
+-- prepared to.
+abbrev pub LoadsTo : ℕ → ℕ → Result (List ℕ) Status → Type 0
+LoadsTo rounds start (Ok text) = (script : Prepared) × (prepared_of (load.parts_of rounds start) ≡ Ok script) × IsSummaryInSomeOrder script.world rounds start text
+LoadsTo rounds start (Err (BadOrder index)) = ⊥
+LoadsTo rounds start (Err status) = prepared_of (load.parts_of rounds start) ≡ Err status
 
 -- the text of the schema that the modules of the script build
 abbrev pub schema_text : List ℕ → Result (List ℕ) Status
@@ -76,11 +85,22 @@ TextAnswers comes before after told told' ReadFault = told' ≡ told
 TextAnswers comes before after told told' NoMemory = told' ≡ told
 TextAnswers comes before after told told' BadWords = ⊥
 
+-- What a form did that reads no input, and comes to a text or to a status. Where memory ran out nothing was written.
+abbrev pub OwnAnswers : (Result (List ℕ) Status → Type 0) → Option (List ℕ) → Option (List ℕ) → Status → Type 0
+OwnAnswers comes told told' Done = (text : List ℕ) × comes (Ok text) × Written text told told' Done
+OwnAnswers comes told told' WriteFault = (text : List ℕ) × comes (Ok text) × Written text told told' WriteFault
+OwnAnswers comes told told' (BadScript place) = comes (Err (BadScript place)) × (told' ≡ told)
+OwnAnswers comes told told' (BadSchema device text) = comes (Err (BadSchema device text)) × (told' ≡ told)
+OwnAnswers comes told told' (BadOpening text) = comes (Err (BadOpening text)) × (told' ≡ told)
+OwnAnswers comes told told' NoMemory = told' ≡ told
+OwnAnswers comes told told' status = ⊥
+
 -- what the command did, by the form of its words
 abbrev pub Answers : Option Form → Option (List ℕ) → Option (List ℕ) → Option (List ℕ) → Option (List ℕ) → Status → Type 0
 Answers None before after told told' status = (status ≡ BadWords) × (after ≡ before) × (told' ≡ told)
 Answers (Some Run) before after told told' status = TextAnswers RunsTo before after told told' status
 Answers (Some Sim) before after told told' status = TextAnswers (IsMadeBy sim_text) before after told told' status
+Answers (Some (Load rounds start)) before after told told' status = (after ≡ before) × OwnAnswers (LoadsTo rounds start) told told' status
 Answers (Some Schema) before after told told' status = TextAnswers (IsMadeBy schema_text) before after told told' status
 Answers (Some Help) before after told told' status = (after ≡ before) × Written HELP.now told told' status
 Answers (Some Version) before after told told' status = (after ≡ before) × Written VERSION.now told told' status
@@ -97,6 +117,7 @@ abbrev pub IsValid : Option Form → Option (List ℕ) → Type 0
 IsValid None before = ⊥
 IsValid (Some Run) before = IsMade prepared before
 IsValid (Some Sim) before = IsMade sim_text before
+IsValid (Some (Load rounds start)) before = (script : Prepared) × (prepared_of (load.parts_of rounds start) ≡ Ok script)
 IsValid (Some Schema) before = IsMade schema_text before
 IsValid (Some Help) before = ⊤
 IsValid (Some Version) before = ⊤
@@ -135,3 +156,7 @@ IsPlayOr made result = MatchResult result (λ text. made ≡ Ok text) (IsPlayFau
 -- a text that running may come to; nothing is said of want of memory
 abbrev pub IsRunOr : List ℕ → Result (List ℕ) Status → Type 0
 IsRunOr bytes result = MatchResult result (λ text. RunsTo bytes (Ok text)) (IsStatusOf (prepared bytes))
+
+-- a summary that a load may come to; nothing is said of want of memory
+abbrev pub IsLoadOr : ℕ → ℕ → Result (List ℕ) Status → Type 0
+IsLoadOr rounds start result = MatchResult result (λ text. LoadsTo rounds start (Ok text)) (IsStatusOf (prepared_of (load.parts_of rounds start)))

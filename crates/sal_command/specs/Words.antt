@@ -1,8 +1,44 @@
 -- The forms of the command line.
-use Rattle.std.specs.Prelude.{ℕ, List, [], ◌∷◌, Option, None, Some, codes, if◌then◌else◌}
+use Rattle.std.specs.Prelude.{ℕ, ◌+◌, ◌-◌, ◌*◌, ◌^◌, ◌≤◌, ⊤, Bool, true, false, not, ◌&&◌, List, [], ◌∷◌, Option, None, Some, codes, if◌then◌else◌, nat_eq, nat_le, nat_lt, option_and_then, option_map}
+use Rattle.std.specs.Char.{is_ascii_digit}
+use Rattle.std.specs.List.{list_all}
 use Rattle.sal_script.specs.Json.{text_eq}
 use Rattle.sal_command.specs.declared.words.Form.{Form}
-use Rattle.sal_command.specs.declared.words.Form.TheVariants.{Run, Sim, Schema, Help, Version}
+use Rattle.sal_command.specs.declared.words.Form.TheVariants.{Run, Sim, Load, Schema, Help, Version}
+
+-- ---- numbers
+
+-- a digit alone, or one that is no zero before others
+abbrev pub starts_well : List ℕ → Bool
+starts_well [] = false
+starts_well (c ∷ []) = true
+starts_well (c ∷ d ∷ word) = not (nat_eq c 48)
+
+-- decimal digits without a sign, and without a zero before other digits
+abbrev pub is_plain : List ℕ → Bool
+is_plain word = starts_well word && list_all is_ascii_digit word
+
+-- what digits say, behind those before
+abbrev pub read_on : ℕ → List ℕ → ℕ
+read_on n [] = n
+read_on n (c ∷ word) = read_on (10 * n + (c - 48)) word
+
+-- the number of 32 bits that digits say
+abbrev pub value_of : List ℕ → Option ℕ
+value_of word = if nat_lt (read_on 0 word) (2 ^ 32) then Some (read_on 0 word) else None
+
+abbrev pub plain_value : List ℕ → Option ℕ
+plain_value word = if is_plain word then value_of word else None
+
+-- the number, where it is within these limits
+abbrev pub within : ℕ → ℕ → ℕ → Option ℕ
+within least most n = if nat_le least n && nat_le n most then Some n else None
+
+-- the number within these limits that the word is in decimal
+abbrev pub number_of : ℕ → ℕ → List ℕ → Option ℕ
+number_of least most word = option_and_then (within least most) (plain_value word)
+
+-- ---- forms
 
 -- the form of a single word
 abbrev pub form_named : List ℕ → Option Form
@@ -13,6 +49,16 @@ form_named word =
     else (if text_eq word (codes "--help") then Some Help
     else (if text_eq word (codes "--version") then Some Version else None))))
 
+-- a load of 1 to 10,000 rounds, behind a number of at most 65,536
+abbrev pub load_of : List ℕ → List ℕ → Option Form
+load_of rounds start = option_and_then (λ n. option_map (Load n) (number_of 0 65536 start)) (number_of 1 10000 rounds)
+
 abbrev pub form_of : List (List ℕ) → Option Form
 form_of (word ∷ []) = form_named word
+form_of (word ∷ rounds ∷ start ∷ []) = if text_eq word (codes "load") then load_of rounds start else None
 form_of words = None
+
+-- the numbers of a load are within their limits
+abbrev pub IsWithin : Form → Type 0
+IsWithin (Load rounds start) = (rounds ≤ 10000) × (start ≤ 65536)
+IsWithin form = ⊤

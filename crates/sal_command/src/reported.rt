@@ -1,13 +1,14 @@
-//! The report of what a script came to: what was answered, and the trees of each domain that was told.
+//! What a script came to, as text: the report, with what was answered and the trees of each domain that was told; the summary of a load.
 ghost use Rattle.std.specs.Prelude.{◌≡◌, ◌<◌, ◌≤◌, All, IfOk, length, map};
 ghost use Rattle.sal_tree.specs.Rows.{rows_of};
+ghost use Rattle.sal_script.specs.LoadOrder as load;
 ghost use Rattle.sal_script.specs.Play.{tables_of};
 ghost use Rattle.sal_script.specs.Report as spec;
 ghost use Rattle.sal_command.specs.Scripted.{tables_in};
 
 use sal_client::Played;
 use sal_hub::Hub;
-use sal_report::{report, told_domains};
+use sal_report::{report, summary, told_domains};
 use sal_rows::Rows;
 use sal_schema::Schema;
 use sal_script::DomainTrees;
@@ -34,6 +35,34 @@ pub(crate) fn report_of(
         played.replies.items(),
         &trees,
     )
+}
+
+/// The summary of a load of so many rounds behind this number.
+pub(crate) fn summary_of(
+    alloc: Global,
+    rounds: u32,
+    start: u32,
+    played: &Played,
+) -> Result<Str, NoMemory>
+    ensures { IfOk result (λ text. text ≡ load.summary rounds start played.now.hub.world (record { log = played.now.hub.log; replies = played.now.replies })) }
+{
+    let trees = own_trees(alloc, &played.hub)?;
+    summary(alloc, rounds, start, played.hub.log(), &trees)
+}
+
+// The trees at the end of the controller's own domain.
+fn own_trees(alloc: Global, hub: &Hub) -> Result<DomainTrees, NoMemory>
+    ensures { IfOk result (λ trees. trees ≡ spec.trees_in hub.now.world hub.now.log 0) }
+{
+    let newest = hub.trees();
+    let config = all_rows(alloc, &newest.config)?;
+    let oper = all_rows(alloc, &newest.oper)?;
+    Ok(DomainTrees {
+        domain: 0,
+        commits: hub.newest(),
+        config,
+        oper,
+    })
 }
 
 // The trees at the end of each domain that is told, of so many.

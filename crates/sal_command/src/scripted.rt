@@ -41,6 +41,19 @@ pub fn prepare(alloc: Global, bytes: &[u8]) -> Result<Prepared, Status>
     ensures fresh { IfOk result (λ it. it.hub.log ≡ []) }
 {
     let script = script_of(alloc, bytes)?;
+    let prepared = prepare_script(alloc, script)?;
+    Ok(prepared)
+}
+
+/// The same for a script that was made.
+pub fn prepare_script(alloc: Global, script: Script) -> Result<Prepared, Status>
+    ensures prepared { spec.Comes spec.seen (spec.prepared_of (parts script)) result }
+    ensures schemas { IfOk result (λ it. spec.tables_in it.read.schemas.items ≡ tables_of it.hub.world) }
+    ensures few { IfOk result (λ it. length it.read.schemas.items ≤ 64) }
+    ensures readers { IfOk result (λ it. it.read.readers ≡ tables_of it.hub.world) }
+    ensures fresh { IfOk result (λ it. it.hub.log ≡ []) }
+    ensures same { IfOk result (λ it. it.read.script ≡ script) }
+{
     let schemas = schemas_of(alloc, &script)?;
     let readers = readers_of(alloc, &schemas)?;
     let hub = hub_over(alloc, &script, &schemas, &readers)?;

@@ -9,6 +9,7 @@ ghost use Rattle.sal_script.specs.SomeOrder.{IsReportInSomeOrder};
 ghost use Rattle.sal_command.specs.Scripted.{tables_in};
 ghost use Rattle.sal_command.specs.Top as spec;
 
+use crate::loaded::load_text;
 use crate::reported::report_of;
 use crate::scripted::{self, Prepared, ReadScript};
 use crate::status::Status;
@@ -31,6 +32,7 @@ pub const HELP: &str = "mdsal: an SDN controller's data broker, run from a scrip
 \n\
 usage: mdsal run < SCRIPT\n\
        mdsal sim < SCRIPT\n\
+       mdsal load N S\n\
        mdsal schema < SCRIPT\n\
        mdsal --help | --version\n\
 \n\
@@ -39,6 +41,10 @@ writes the report to standard output: the order of their shared calls, a line fo
 end. The script's format is written in docs/FORMATS.md, and examples/ has scripts with their reports.\n\
 \n\
 sim plays the same on one thread, in the order that the script gives, and writes the report of that.\n\
+\n\
+load runs four clients at the same time, each on a thread of its own, and reads no input: in each of N rounds each puts\n\
+an entry with a number into one list, in a transaction of its own. The numbers are S + 1 and on. It writes how many calls,\n\
+commits and rows that made, and the sum of the numbers. N is 1 to 10000, and S 0 to 65536.\n\
 \n\
 schema reads a script too, and writes the table of the schema that its modules build.\n\
 \n\
@@ -58,8 +64,8 @@ exit status, each but 0 with its line on standard error:\n\
 pub const VERSION: &str = "mdsal 0.1.0\n";
 
 /// Runs the command: the words of its command line, its input, its output, and the gate that a client passes before
-/// each of its steps. With `run` it starts a thread for each client and waits for them. What a report of a played script
-/// says of its order is the law `plays_follow_their_order` of `sal_script`; that its first line tells one order and no
+/// each of its steps. With `run` and `load` it starts a thread for each client and waits for them. What a report of a played
+/// script says of its order is the law `plays_follow_their_order` of `sal_script`; that its first line tells one order and no
 /// other is `first_lines_tell_one_order`.
 pub fn mdsal<R: Threads + Wait + Sync, S: Source, K: Sink, G: Gate>(
     rt: &R,
@@ -79,6 +85,7 @@ pub fn mdsal<R: Threads + Wait + Sync, S: Source, K: Sink, G: Gate>(
         None => Status::BadWords,
         Some(Form::Run) => run_clients(rt, alloc, source, sink, gate),
         Some(Form::Sim) => simulate(alloc, source, sink, gate),
+        Some(Form::Load { rounds, start }) => load(rt, alloc, rounds, start, sink, gate),
         Some(Form::Schema) => describe(alloc, source, sink),
         Some(Form::Help) => write_text(sink, HELP),
         Some(Form::Version) => write_text(sink, VERSION),
@@ -102,6 +109,26 @@ fn run_clients<R: Threads + Wait + Sync, S: Source, K: Sink, G: Gate>(
             Ok(text) => write_text(sink, text.as_str()),
             Err(status) => status,
         },
+        Err(status) => status,
+    }
+}
+
+// Runs the clients of a load, and writes the summary.
+fn load<R: Threads + Wait + Sync, K: Sink, G: Gate>(
+    rt: &R,
+    alloc: Global,
+    rounds: u32,
+    start: u32,
+    sink: &mut K,
+    gate: &G,
+) -> Status
+    requires rounds { rounds ≤ 10000 }
+    requires start { start ≤ 65536 }
+    ensures write_fault { result ≡ Status.WriteFault → Rose (K.faults sink.old) (K.faults sink.new) }
+    ensures answer { spec.OwnAnswers (spec.LoadsTo rounds start) (K.taken sink.old) (K.taken sink.new) result }
+{
+    match load_text(rt, alloc, rounds, start, gate) {
+        Ok(text) => write_text(sink, text.as_str()),
         Err(status) => status,
     }
 }

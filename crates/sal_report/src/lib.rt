@@ -6,6 +6,7 @@
 //! | `told_domains` | the domains of which it tells the trees: the controller's own, and each device that was ever mounted |
 //! | `path_fault_text`, `data_fault_text` | why a text is no path, why a value is no data of the schema, in words |
 //! | `tx_fault_text` | why a transaction refused a write, or a read, in words |
+//! | `summary` | the summary of a load: how many calls, commits and rows, and the sum of the numbers |
 //! | `breach_text`, `path_words` | where a structural rule is broken and which; a path |
 //!
 //! What the texts are, to the byte, stands in `sal_script` (`specs/Report`, with its words in `specs/Words`): for all schemas, logs,
@@ -34,6 +35,7 @@ mod breaches;
 mod faults;
 mod lines;
 mod listeners;
+mod load;
 mod mounted;
 mod pieces;
 mod replies;
@@ -44,4 +46,5 @@ mod words;
 pub use breaches::{breach_text, path_words};
 pub use faults::{data_fault_text, path_fault_text, tx_fault_text};
 pub use lines::report;
+pub use load::summary;
 pub use mounted::told_domains;

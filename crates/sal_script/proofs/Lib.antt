@@ -16,9 +16,11 @@ pub mod Left
 pub mod Limits
 pub mod Listed
 pub mod Listening
+pub mod Loads
 pub mod Members
 pub mod Orders
 pub mod Played
 pub mod Readers
 pub mod Reported
+pub mod Summed
 pub mod Tables

@@ -80,7 +80,7 @@ as_many_clients c (p ∷ ps) clients h =
     rw (← all) (ap suc more.0, rw (one, more.1) refl)
 
 -- as many steps of as many clients, as the definitions have them
-same_limits : (clients : List (List ScriptStep)) → (length (clients_of clients) ≡ length clients) × (short (clients_of clients) ≡ short clients)
+pub same_limits : (clients : List (List ScriptStep)) → (length (clients_of clients) ≡ length clients) × (short (clients_of clients) ≡ short clients)
 same_limits [] = (refl, refl)
 same_limits (steps ∷ clients) =
     let more = same_limits clients in

@@ -10,6 +10,9 @@ pub mod JsonScripts
 pub mod Laws
 pub mod Limits
 pub mod ListenerExamples
+pub mod Load
+pub mod LoadExamples
+pub mod LoadOrder
 pub mod MessageData
 pub mod Messages
 pub mod Moves

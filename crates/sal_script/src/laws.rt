@@ -1,6 +1,7 @@
 //! Laws of the definitions. A call does nothing: its clauses are the laws.
 ghost use Rattle.sal_script.specs.Followed.{ListenersFollowTheCommits};
 ghost use Rattle.sal_script.specs.Laws.{OpeningsAreWhole, ScriptsAreJson, WritesAreForSchema};
+ghost use Rattle.sal_script.specs.LoadOrder.{LeftIsSummed};
 ghost use Rattle.sal_script.specs.OneOrder.{LeftIsOneOrder, LeftIsShort, PlayedCanBeLeft};
 ghost use Rattle.sal_script.specs.Orders.{OrdersEndOrFail, PlaysFollow};
 ghost use Rattle.sal_script.specs.SomeOrder.{FirstLinesTellOneOrder, LeftIsReported};
@@ -46,6 +47,11 @@ pub fn what_is_played_can_be_left()
 /// The report of what clients left is that of the script played in the order on its own first line.
 pub fn what_is_left_is_reported()
     ensures { LeftIsReported }
+{}
+
+/// The summary of what a load's clients left is that of the load played in one order.
+pub fn what_a_load_left_is_summed()
+    ensures { LeftIsSummed }
 {}
 
 /// The first line of a text tells one order, and no other.

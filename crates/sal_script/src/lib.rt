@@ -8,6 +8,7 @@
 //! | `DomainTrees` | the trees of a domain at the end of a run |
 //! | `read_script` | the script that bytes stand for, or the first bad place |
 //! | `ScriptFault` | why bytes are no script |
+//! | `load_script` | the script of a load: four clients that put entries into one list, each its own |
 //!
 //! A client begins transactions into slots, with a mode; puts, merges and deletes at paths of either store; reads, and asks
 //! whether something is there; submits or cancels; and settles receipts. It opens transaction chains into slots of their own,
@@ -22,8 +23,8 @@
 //!
 //! `specs/Script` says which script bytes stand for, with the steps of `specs/Moves` by their forms in `specs/Steps`; `specs/Play`
 //! what a script does in an order, with the calls on services in `specs/Services`; and `specs/Report` the text of that, with its
-//! words in `specs/Words`, and batches, inputs, outputs and notifications as JSON in `specs/BatchData` and `specs/MessageData`. `examples`, `chain_examples`, `listener_examples`, `service_examples` and
-//! `along_examples` have worked examples, each proved by computing it.
+//! words in `specs/Words`, and batches, inputs, outputs and notifications as JSON in `specs/BatchData` and `specs/MessageData`. `examples`, `chain_examples`, `listener_examples`, `service_examples`,
+//! `along_examples` and `load_examples` have worked examples, each proved by computing it. `specs/Load` has a load's script and its summary.
 //! `laws` says of the values of a script that was read that each name stands once in its object, and that what they say at a
 //! path that was read fits the schema; and of what is played, that its log is in the order that was given and has the shared
 //! calls of each client, each once and in the client's own order (`specs/Orders`); and of what clients leave that run at the same
@@ -45,6 +46,8 @@ pub mod fault;
 pub mod laws;
 pub mod listener_examples;
 mod listener_step;
+mod load;
+pub mod load_examples;
 pub mod read;
 pub mod reply;
 pub mod script;
@@ -55,6 +58,7 @@ pub mod trees;
 mod values;
 
 pub use fault::ScriptFault;
+pub use load::{LOAD_CLIENTS, LOAD_MODULE, MAX_ROUNDS, MAX_START, load_script};
 pub use read::read_script;
 pub use reply::{StepRefusal, StepReply};
 pub use script::{

@@ -1,0 +1,73 @@
+//! A load: from its two numbers to its summary.
+ghost use Rattle.std.specs.Prelude.{◌≡◌, ◌≤◌, [], IfOk};
+ghost use Rattle.sal_script.specs.Load as load;
+ghost use Rattle.sal_script.specs.LoadOrder.{IsSummaryInSomeOrder};
+ghost use Rattle.sal_script.specs.Moves.{clients_of};
+ghost use Rattle.sal_script.specs.Play.{tables_of};
+ghost use Rattle.sal_command.specs.Scripted as scripts;
+ghost use Rattle.sal_command.specs.Top as spec;
+
+use crate::reported::summary_of;
+use crate::scripted::{Prepared, prepare_script};
+use crate::status::Status;
+use sal_io::Gate;
+use sal_run::run;
+use sal_script::{laws, load_script};
+use sal_types::{NoMemory, Str};
+use std::alloc::Global;
+use std::sync::Wait;
+use std::thread::Threads;
+
+/// The summary of a load of so many rounds behind this number, its clients run at the same time.
+pub(crate) fn load_text<R: Threads + Wait + Sync, G: Gate>(
+    rt: &R,
+    alloc: Global,
+    rounds: u32,
+    start: u32,
+    gate: &G,
+) -> Result<Str, Status>
+    requires rounds { rounds ≤ 10000 }
+    requires start { start ≤ 65536 }
+    ensures { spec.IsLoadOr rounds start result }
+{
+    let prepared = prepare_load(alloc, rounds, start)?;
+    match run_load(rt, alloc, rounds, start, prepared, gate) {
+        Ok(text) => Ok(text),
+        Err(NoMemory) => Err(Status::NoMemory),
+    }
+}
+
+// The script of a load, with the hub over its domain.
+fn prepare_load(alloc: Global, rounds: u32, start: u32) -> Result<Prepared, Status>
+    requires rounds { rounds ≤ 10000 }
+    requires start { start ≤ 65536 }
+    ensures prepared { scripts.Comes scripts.seen (scripts.prepared_of (load.parts_of rounds start)) result }
+    ensures readers { IfOk result (λ it. it.read.readers ≡ tables_of it.hub.world) }
+    ensures fresh { IfOk result (λ it. it.hub.log ≡ []) }
+    ensures clients { IfOk result (λ it. clients_of it.read.script.clients ≡ load.clients_of rounds start) }
+{
+    let script = load_script(alloc, rounds, start)?;
+    let prepared = prepare_script(alloc, script)?;
+    Ok(prepared)
+}
+
+// Runs the clients of a load over a hub without calls.
+fn run_load<R: Threads + Wait + Sync, G: Gate>(
+    rt: &R,
+    alloc: Global,
+    rounds: u32,
+    start: u32,
+    prepared: Prepared,
+    gate: &G,
+) -> Result<Str, NoMemory>
+    requires readers { prepared.read.readers ≡ tables_of prepared.hub.world }
+    requires fresh { prepared.hub.log ≡ [] }
+    requires clients { clients_of prepared.read.script.clients ≡ load.clients_of rounds start }
+    ensures { IfOk result (IsSummaryInSomeOrder prepared.hub.world rounds start) }
+{
+    laws::what_a_load_left_is_summed();
+    let Prepared { read, hub } = prepared;
+    let left = run(rt, alloc, &read.readers, &read.script, hub, gate)?;
+    let text = summary_of(alloc, rounds, start, &left)?;
+    Ok(text)
+}

@@ -1,0 +1,96 @@
+//! The summary of a load: how many calls, commits and rows it came to, and the sum of its numbers.
+ghost use Rattle.std.specs.Prelude.{◌≡◌, ◌++◌, [], ◌∷◌, IfOk, OnOk, codes, string_bytes, sum_by};
+ghost use Rattle.sal_script.specs.Load as spec;
+ghost use Rattle.sal_script.specs.Words.{number};
+
+use sal_history::Entry;
+use sal_script::DomainTrees;
+use sal_types::{Atom, Cell, NoMemory, Row, Step, Str};
+use std::alloc::Global;
+
+// The leaf of an entry that has its number.
+const NUMBER: u32 = 2;
+
+/// The summary of a load of so many rounds behind this number: its words, the entries of the log, the commits, the rows of the
+/// configuration at the end, and the sum of the leafs `v` there. It fails only where memory runs out.
+pub fn summary(
+    alloc: Global,
+    rounds: u32,
+    start: u32,
+    log: &[Entry],
+    trees: &DomainTrees,
+) -> Result<Str, NoMemory>
+    ensures { IfOk result (λ text. text ≡ spec.summary_of rounds start (spec.totals_of log.now trees.now)) }
+{
+    let mut text = String::new(alloc);
+    push_load(&mut text, rounds, start)?;
+    push_totals(&mut text, log, trees)?;
+    Ok(Str::from_string(text))
+}
+
+// The line of the words.
+fn push_load(text: &mut String, rounds: u32, start: u32) -> Result<(), NoMemory>
+    ensures { OnOk result (string_bytes text.new ≡ string_bytes text.old ++ (codes "load" ++ (number rounds ++ (number start ++ (10 ∷ []))))) }
+{
+    write!(text, "load {rounds} {start}\n")?;
+    Ok(())
+}
+
+// The lines of what is counted.
+fn push_totals(text: &mut String, log: &[Entry], trees: &DomainTrees) -> Result<(), NoMemory>
+    ensures { OnOk result (string_bytes text.new ≡ string_bytes text.old ++ spec.totals_text (spec.totals_of log.now trees.now)) }
+{
+    let rows = trees.config.items();
+    push_count(text, "calls", log.len() as u128)?;
+    push_count(text, "commits", u128::from(trees.commits))?;
+    push_count(text, "rows", rows.len() as u128)?;
+    push_count(text, "sum", sum_of(rows))
+}
+
+// A word and a number.
+fn push_count(text: &mut String, word: &str, count: u128) -> Result<(), NoMemory>
+    ensures { OnOk result (string_bytes text.new ≡ string_bytes text.old ++ (word.now ++ (number count ++ (10 ∷ [])))) }
+{
+    write!(text, "{word} {count}\n")?;
+    Ok(())
+}
+
+// The sum of the leafs `v`.
+fn sum_of(rows: &[Row]) -> u128
+    ensures { result ≡ sum_by spec.number_of rows.now }
+{
+    let mut total = 0;
+    for row in rows {
+        total += u128::from(number_of(row));
+    }
+    total
+}
+
+// The number of a leaf `v`; of each other row 0.
+fn number_of(row: &Row) -> u64
+    ensures { result ≡ spec.number_of row.now }
+{
+    match row.path.steps().last() {
+        Some(step) => number_at(&row.cell, step),
+        None => 0,
+    }
+}
+
+// The number in the cell behind this step.
+fn number_at(cell: &Cell, step: &Step) -> u64
+    ensures { result ≡ spec.number_at cell.now step.now }
+{
+    match (cell, step) {
+        (Cell::Leaf(value), Step::Node(NUMBER)) => unsigned_of(&value.atom),
+        _ => 0,
+    }
+}
+
+fn unsigned_of(atom: &Atom) -> u64
+    ensures { result ≡ spec.unsigned_of atom.now }
+{
+    match atom {
+        Atom::Unsigned(number) => *number,
+        _ => 0,
+    }
+}

@@ -1,12 +1,12 @@
 -- Blocks that are gone through, from one statement to the next.
-use Rattle.std.proofs.Common.{◌≡◌, ℕ, zero, suc, ◌+◌, ◌-◌, ◌<◌, List, [], ◌∷◌, ◌++◌, drop, Bool, true, false, not, ◌&&◌, get_or, Option, Some, None, unwrap_or, refl, sym, ap, ◌∙◌, arith, append_assoc, append-nil}
+use Rattle.std.proofs.Common.{◌≡◌, ℕ, zero, suc, ◌+◌, ◌-◌, ◌<◌, ◌≤◌, List, [], ◌∷◌, ◌++◌, drop, Bool, true, false, not, ◌&&◌, get_or, Option, Some, None, unwrap_or, refl, sym, ap, ◌∙◌, arith, append_assoc, append-nil}
 use Rattle.std.specs.List.{flat_map, list_all, slice_get}
 use Rattle.sal_grouping.specs.declared.rows.Row.{Row}
 use Rattle.sal_grouping.specs.declared.nodes.Visit.{Visit}
 use Rattle.sal_grouping.specs.Rows.{inside, keyword_at}
 use Rattle.sal_grouping.specs.Growth.{is_node, used_by, nodes_at, nodes_within}
 use Rattle.sal_grouping.specs.Plan.{is_bare, AreBare}
-use Rattle.sal_grouping.specs.Visits.{left_of, all_left}
+use Rattle.sal_grouping.specs.Visits.{left_of, all_left, steps_at, steps_within, steps_of, all_steps}
 use Rattle.sal_grouping.proofs.IndexLists.{not-true}
 
 -- ---- lists
@@ -114,3 +114,38 @@ module _ (rows : List Row) (named : List (Option ℕ)) (v : Visit) (k : ℕ) (vi
       ap (λ l. l ++ all_left rows named pushed) put ∙ ap (λ l. (out ++ k ∷ []) ++ l) left-pushed ∙ found-now out (k ∷ []) (left_of rows named after) (all_left rows named visits)
       ∙ ap (λ l. out ++ ((l ++ left_of rows named after) ++ all_left rows named visits)) (sym (at-node (nodes_within v.levels rows named) rows named k node))
       ∙ ap (λ l. out ++ (l ++ all_left rows named visits)) (sym (visit-some rows named v k at))
+
+-- ---- how many steps are left
+
+pub steps-none : (rows : List Row) (named : List (Option ℕ)) (b : ℕ) → steps_within 0 rows named b ≡ 0
+unfolding steps_within
+steps-none rows named b = refl
+
+steps-suc : (n : ℕ) (rows : List Row) (named : List (Option ℕ)) (b : ℕ) → steps_of rows named (record { block = b; next = 0; levels = n }) ≡ steps_within (suc n) rows named b
+unfolding steps_within
+steps-suc n rows named b = refl
+
+pub steps-visit : (n : ℕ) (rows : List Row) (named : List (Option ℕ)) (b : ℕ) → 0 < n → steps_of rows named (record { block = b; next = 0; levels = n - 1 }) ≡ steps_within n rows named b
+steps-visit zero rows named b h = absurd (omega arith)
+steps-visit (suc n) rows named b h = let less : suc n - 1 ≡ n = omega arith in rw less (steps-suc n rows named b)
+
+pub all_steps-last : (rows : List Row) (named : List (Option ℕ)) (visits : List Visit) (v : Visit) → all_steps rows named (visits ++ v ∷ []) ≡ steps_of rows named v + all_steps rows named visits
+all_steps-last rows named [] v = refl
+all_steps-last rows named (u ∷ visits) v = omega (arith, all_steps-last rows named visits v)
+
+steps-some : (rows : List Row) (named : List (Option ℕ)) (v : Visit) (k : ℕ) → slice_get (inside rows v.block) v.next ≡ Some k
+    → steps_of rows named v ≡ suc (steps_at (steps_within v.levels rows named) named k + steps_of rows named (record { block = v.block; next = v.next + 1; levels = v.levels }))
+steps-some rows named v k e = rw (drop-some (inside rows v.block) v.next k e) (omega arith)
+
+module _ (rows : List Row) (named : List (Option ℕ)) (v : Visit) (k : ℕ) (visits pushed : List Visit) (at : slice_get (inside rows v.block) v.next ≡ Some k)
+    (push : pushed ≡ visits ++ record { block = v.block; next = v.next + 1; levels = v.levels } ∷ []) where
+  -- one statement less, and nothing in its place
+  pub steps-less : all_steps rows named pushed < steps_of rows named v + all_steps rows named visits
+  steps-less = omega (arith, ap (all_steps rows named) push, all_steps-last rows named visits (record { block = v.block; next = v.next + 1; levels = v.levels }), steps-some rows named v k at)
+
+  -- one statement less, and the grouping that it names
+  pub steps-used : (g : ℕ) → Some g ≡ unwrap_or (slice_get named k) None → (later : List Visit) → all_steps rows named later ≡ steps_within v.levels rows named g + all_steps rows named pushed
+      → all_steps rows named later < steps_of rows named v + all_steps rows named visits
+  steps-used g is later more =
+      let one : steps_at (steps_within v.levels rows named) named k ≡ suc (steps_within v.levels rows named g + 0) = rw (← is) refl in
+      omega (arith, more, one, ap (all_steps rows named) push, all_steps-last rows named visits (record { block = v.block; next = v.next + 1; levels = v.levels }), steps-some rows named v k at)

@@ -1,5 +1,5 @@
 //! The tree of nodes, numbered depth first, as it grows.
-ghost use Rattle.std.specs.Prelude.{◌≡◌, ◌<◌, ◌≤◌, ◌++◌, ◌*◌, ℕ, List, Option, Some, find, map, length, IfOk, true, false, MatchBool, MatchOption};
+ghost use Rattle.std.specs.Prelude.{◌≡◌, ◌<◌, ◌≤◌, ◌+◌, ◌++◌, ◌*◌, ℕ, List, Option, Some, find, map, length, IfOk, true, false, MatchBool, MatchOption};
 ghost use Rattle.sal_grouping.specs.declared.node.Node.{Node as Knot};
 ghost use Rattle.sal_grouping.specs.Rows as rows_spec;
 ghost use Rattle.sal_grouping.specs.Growth as growth;
@@ -198,6 +198,7 @@ fn push_below(
         ≡ spec.with_frames plan.now.rows.items plan.now.named.items owner frames.old.items
         (growth.grow levels plan.now.rows.items plan.now.named.items owner parent forest (growth.below plan.now.rows.items plan.now.named.items seed))) }
     ensures many { IfOk result (λ all. all ≡ false → (0 < levels) × (65536 < length (growth.below plan.now.rows.items plan.now.named.items seed))) }
+    ensures one { IfOk result (λ _. length frames.new.items ≤ length frames.old.items + 1) }
 {
     if levels == 0 {
         return Ok(true);
@@ -216,7 +217,8 @@ fn push_below(
     }
 }
 
-/// The next node of a frame, if there is one, is added, and its children come next; or they are more than are taken.
+/// The next node of a frame, if there is one, is added, and its children come next; or they are more than are taken. Each node
+/// that is added leaves at most two frames more than there were without this one.
 fn grow_one(
     alloc: Global,
     plan: &Plan,
@@ -232,6 +234,7 @@ fn grow_one(
         ≡ spec.with_frames plan.now.rows.items plan.now.named.items owner frames.old.items (spec.with_frame plan.now.rows.items plan.now.named.items owner frame nodes.old.items)) }
     ensures many { IfOk result (λ all. all ≡ false →
         65536 < length (spec.with_frames plan.now.rows.items plan.now.named.items owner frames.old.items (spec.with_frame plan.now.rows.items plan.now.named.items owner frame nodes.old.items))) }
+    ensures paid { IfOk result (λ _. length frames.new.items + 2 * length nodes.old.items ≤ length frames.old.items + 2 * length nodes.new.items) }
 {
     if frame.next >= frame.seeds.len() {
         return Ok(true);
@@ -277,19 +280,14 @@ pub(crate) fn grow(
         next: 0,
         levels: levels - 1,
     })?;
-    for _i in 0..u64::MAX {
-        match frames.pop() {
-            None => return Ok(true),
-            Some(frame) => {
-                let all = grow_one(alloc, plan, owner, &mut frames, nodes, frame)?;
-                if !all {
-                    return Ok(false);
-                }
-            }
+    'frames: while let Some(frame) = frames.pop() {
+        let all = grow_one(alloc, plan, owner, &mut frames, nodes, frame)?;
+        if !all {
+            return Ok(false);
         }
         if nodes.len() > MAX_NODES {
             return Ok(false);
         }
     }
-    Err(NoMemory)
+    Ok(true)
 }

@@ -1,5 +1,5 @@
 //! The nodes of a block, with `uses` carried out.
-ghost use Rattle.std.specs.Prelude.{◌≡◌, ◌<◌, ◌≤◌, ◌++◌, ◌^◌, ℕ, List, Option, IfOk, IfSome, MatchOption, length};
+ghost use Rattle.std.specs.Prelude.{◌≡◌, ◌<◌, ◌≤◌, ◌+◌, ◌++◌, ◌^◌, ℕ, List, Option, IfOk, IfSome, MatchOption, length};
 ghost use Rattle.std.specs.List.{slice_get};
 ghost use Rattle.sal_grouping.specs.declared.rows.Row.{Row as Statement};
 ghost use Rattle.sal_grouping.specs.Rows as rows_spec;
@@ -36,8 +36,10 @@ fn statement_at(plan: &Plan, block: usize, place: usize) -> Option<usize>
 
 /// A block is gone through next, if `uses` may still be carried out.
 fn push_block(visits: &mut Vec<Visit>, block: usize, levels: usize) -> Result<(), NoMemory>
-    ensures { IfOk result (λ _. (rows : List Statement) (named : List (Option ℕ)) →
+    ensures left { IfOk result (λ _. (rows : List Statement) (named : List (Option ℕ)) →
         spec.all_left rows named visits.new.items ≡ growth.nodes_within levels rows named block ++ spec.all_left rows named visits.old.items) }
+    ensures steps { IfOk result (λ _. (rows : List Statement) (named : List (Option ℕ)) →
+        spec.all_steps rows named visits.new.items ≡ spec.steps_within levels rows named block + spec.all_steps rows named visits.old.items) }
 {
     if levels > 0 {
         visits.push(Visit {
@@ -57,8 +59,10 @@ fn visit_one(
     visit: Visit,
 ) -> Result<(), NoMemory>
     requires { IsPlan plan.now.rows.items plan.now.named.items plan.now }
-    ensures { IfOk result (λ _. out.new.items ++ spec.all_left plan.now.rows.items plan.now.named.items visits.new.items
+    ensures left { IfOk result (λ _. out.new.items ++ spec.all_left plan.now.rows.items plan.now.named.items visits.new.items
         ≡ out.old.items ++ (spec.left_of plan.now.rows.items plan.now.named.items visit ++ spec.all_left plan.now.rows.items plan.now.named.items visits.old.items)) }
+    ensures fewer { IfOk result (λ _. spec.all_steps plan.now.rows.items plan.now.named.items visits.new.items
+        < spec.steps_of plan.now.rows.items plan.now.named.items visit + spec.all_steps plan.now.rows.items plan.now.named.items visits.old.items) }
 {
     let k = match statement_at(plan, visit.block, visit.next) {
         None => return Ok(()),
@@ -100,14 +104,11 @@ pub(crate) fn nodes_in(
     let mut out = Vec::new(alloc);
     let mut visits = Vec::new(alloc);
     push_block(&mut visits, block, plan.rows.len())?;
-    for _i in 0..u64::MAX {
-        match visits.pop() {
-            None => return Ok(Some(out)),
-            Some(visit) => visit_one(plan, &mut visits, &mut out, visit)?,
-        }
+    'visits: while let Some(visit) = visits.pop() {
+        visit_one(plan, &mut visits, &mut out, visit)?;
         if out.len() > MAX_NODES {
             return Ok(None);
         }
     }
-    Err(NoMemory)
+    Ok(Some(out))
 }

@@ -94,3 +94,11 @@ top-judged steps modules site rest d old pop are =
     let P : List Judgement → Type 0 = λ ds. AreJudged ds (run modules (nodes steps modules site)) in
     let Q : List Judged → Type 0 = λ js. AreJudged (d ∷ reverse rest) js in
     (subst Q way (subst P back are)).0
+
+-- the statement itself is judged
+pub top-there : (steps : ℕ) (modules : List Stmt) (site : Site) (old : List Judgement) → old ≡ [] → AreJudged (reverse old) (run modules (nodes steps modules site)) → ⊥
+top-there steps modules site old none are =
+    let way : run modules (nodes steps modules site) ≡ judge steps modules site ∷ run modules [] = ap (run modules) (sym (append-nil (nodes steps modules site))) ∙ run-way steps modules site [] in
+    let P : List Judgement → Type 0 = λ ds. AreJudged (reverse ds) (run modules (nodes steps modules site)) in
+    let Q : List Judged → Type 0 = λ js. AreJudged [] js in
+    subst Q way (subst P none are)

@@ -1,5 +1,5 @@
 //! Typedefs that rest on themselves.
-ghost use Rattle.std.specs.Prelude.{◌≡◌, ◌||◌, [], false, IfOk, MatchOption, find, reverse};
+ghost use Rattle.std.specs.Prelude.{◌≡◌, ◌<◌, ◌||◌, [], false, ⊤, IfOk, MatchOption, find, length, reverse};
 ghost use Rattle.std.specs.List.{list_any};
 ghost use Rattle.std.specs.Option.{option_copied, option_to_list};
 ghost use Rattle.sal_module.specs.declared.keyword.Keyword.TheVariants as word;
@@ -80,9 +80,10 @@ fn next_is_of<'x, 'a>(
     number: u32,
     typedef: &Stmt,
 ) -> Result<Option<bool>, NoMemory>
-    ensures { IfOk result (λ is. MatchOption is (walks.left_names typedefs.now (record { «module» = number; stmt = typedef.now; around = [] }) ways.old.items ≡ false)
+    ensures names { IfOk result (λ is. MatchOption is (walks.left_names typedefs.now (record { «module» = number; stmt = typedef.now; around = [] }) ways.old.items ≡ false)
         (λ is. walks.left_names typedefs.now (record { «module» = number; stmt = typedef.now; around = [] }) ways.old.items
         ≡ (is || walks.left_names typedefs.now (record { «module» = number; stmt = typedef.now; around = [] }) ways.new.items))) }
+    ensures fewer { IfOk result (λ is. MatchOption is ⊤ (λ _. length (walks.left typedefs.now ways.new.items) < length (walks.left typedefs.now ways.old.items))) }
 {
     match next(ways, alloc, typedefs)? {
         None => Ok(None),
@@ -100,14 +101,12 @@ fn one_is_of<'x, 'a>(
 ) -> Result<bool, NoMemory>
     ensures { IfOk result (λ is. is ≡ walks.left_names typedefs.now (record { «module» = number; stmt = typedef.now; around = [] }) ways.old.items) }
 {
-    for _i in 0..u64::MAX {
-        match next_is_of(ways, alloc, typedefs, number, typedef)? {
-            None => return Ok(false),
-            Some(true) => return Ok(true),
-            Some(false) => {}
+    'ways: while let Some(is) = next_is_of(ways, alloc, typedefs, number, typedef)? {
+        if is {
+            return Ok(true);
         }
     }
-    Err(NoMemory)
+    Ok(false)
 }
 
 /// Whether a type statement, or one that it rests on, names this typedef of its module.

@@ -1,5 +1,5 @@
 //! A type statement and all that it rests on, judged without a recursion.
-ghost use Rattle.std.specs.Prelude.{◌≡◌, ◌++◌, true, false, List, take, drop, map, reverse, None, IfOk};
+ghost use Rattle.std.specs.Prelude.{◌≡◌, ◌<◌, ◌++◌, true, false, List, length, take, drop, map, reverse, None, IfOk};
 ghost use Rattle.sal_module.specs.Faults.{least};
 ghost use Rattle.sal_typedefs.specs.Names.{steps_of};
 ghost use Rattle.sal_typedefs.specs.Spots.{site_of, site_in};
@@ -66,6 +66,7 @@ fn push_next<'x, 'a>(
     ensures next { IfOk result (λ more. more ≡ true → map walks.node_of all.new.items ++ walks.left typedefs.now ways.new.items
         ≡ map walks.node_of all.old.items ++ walks.left typedefs.now ways.old.items) }
     ensures last { IfOk result (λ more. more ≡ false → map walks.node_of all.new.items ≡ map walks.node_of all.old.items ++ walks.left typedefs.now ways.old.items) }
+    ensures fewer { IfOk result (λ more. more ≡ true → length (walks.left typedefs.now ways.new.items) < length (walks.left typedefs.now ways.old.items)) }
 {
     match next(ways, alloc, typedefs)? {
         None => Ok(false),
@@ -85,12 +86,8 @@ fn all_left<'x, 'a>(
     ensures { IfOk result (λ all. map walks.node_of all.items ≡ walks.left typedefs.now ways.old.items) }
 {
     let mut all = Vec::new(alloc);
-    for _i in 0..u64::MAX {
-        if !push_next(&mut all, ways, alloc, typedefs)? {
-            return Ok(all);
-        }
-    }
-    Err(NoMemory)
+    'ways: while push_next(&mut all, ways, alloc, typedefs)? {}
+    Ok(all)
 }
 
 /// A statement before those that it rests on.
@@ -123,7 +120,7 @@ pub fn judge_at<'x, 'a>(
     let nodes = gone(alloc, typedefs, spot)?;
     let mut done = judge_all(alloc, typedefs, nodes.as_slice())?;
     match done.pop() {
-        None => Err(NoMemory),
+        None => unreachable!(),
         Some(judgement) => Ok((judgement.fault, judgement.ty)),
     }
 }

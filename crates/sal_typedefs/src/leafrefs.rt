@@ -56,11 +56,8 @@ pub fn leafrefs_at<'x, 'a>(
     let spot = Spot::new(alloc, number, around, stmt);
     let mut all = Vec::new(alloc);
     let mut ways = start(alloc, typedefs, spot)?;
-    for _i in 0..u64::MAX {
-        match next(&mut ways, alloc, typedefs)? {
-            None => return Ok(all),
-            Some(gone) => push_leafref(&mut all, &gone.spot)?,
-        }
+    'ways: while let Some(gone) = next(&mut ways, alloc, typedefs)? {
+        push_leafref(&mut all, &gone.spot)?;
     }
-    Err(NoMemory)
+    Ok(all)
 }

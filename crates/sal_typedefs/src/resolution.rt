@@ -33,13 +33,10 @@ fn all_names<'x, 'a>(
 {
     let mut best = None;
     let mut ways = start(alloc, typedefs, spot)?;
-    for _i in 0..u64::MAX {
-        match next(&mut ways, alloc, typedefs)? {
-            None => return Ok(best),
-            Some(gone) => best = with_names(best, alloc, typedefs, &gone.spot)?,
-        }
+    'ways: while let Some(gone) = next(&mut ways, alloc, typedefs)? {
+        best = with_names(best, alloc, typedefs, &gone.spot)?;
     }
-    Err(NoMemory)
+    Ok(best)
 }
 
 /// The fault as callers get it, or `NoMemory`.

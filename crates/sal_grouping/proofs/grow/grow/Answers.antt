@@ -1,4 +1,4 @@
-use Rattle.std.proofs.Common.{◌≡◌, ◌∙◌, ◌<◌, ◌*◌, List, length, sym, ap, subst, arith}
+use Rattle.std.proofs.Common.{◌≡◌, ◌∙◌, ◌<◌, ◌≤◌, ◌*◌, ◌∷◌, [], List, length, sym, ap, subst, arith, length-append}
 use Rattle.std.proofs.lemmas.Grind.{common_steps}
 use Rattle.std.proofs.lemmas.Bool.Decides.{nat_tests}
 use Rattle.sal_grouping.specs.declared.node.Node.{Node}
@@ -15,8 +15,8 @@ returns-then-levels-eq0-clause-few c t =
     let none : 2 * length rows ≡ 0 = grind (arith, common_steps) in
     sym (ap (λ n. grow n rows named a.owner a.parent a.nodes.now.items a.seeds.items) none ∙ grow-none rows named a.owner a.parent a.nodes.now.items a.seeds.items)
 
-pub loop-i-init : goal.loop-i-init
-loop-i-init c =
+pub frames-init : goal.frames-init
+frames-init c =
     let a = c.args in
     let rows = a.plan.now.rows.items in
     let named = a.plan.now.named.items in
@@ -35,31 +35,36 @@ returns-then-not-all-clause-many c t =
     let a = c.args in
     let rows = a.plan.now.rows.items in
     let named = a.plan.now.named.items in
-    let popped = ap (λ fs. with_frames rows named a.owner fs c.loop-i.nodes.items) c.in-Some.ensures.items
-    ∙ frames-last rows named a.owner c.pop.new.self.items c.in-Some.frame c.loop-i.nodes.items in
+    let popped = ap (λ fs. with_frames rows named a.owner fs c.frames.nodes.items) c.in-Some.ensures.items
+    ∙ frames-last rows named a.owner c.pop.new.self.items c.in-Some.frame c.frames.nodes.items in
     let P : List Node → Type 0 = λ f. 65536 < length f in
-    subst P (sym popped ∙ c.loop-i.invariant.left) (c.in_ok-all-in-Some.ensures.many (grind (arith, nat_tests, common_steps)))
+    subst P (sym popped ∙ c.frames.invariant.left) (c.in_ok-all.ensures.many (grind (arith, nat_tests, common_steps)))
 
 pub returns-then-len-gt-MAX_NODES-clause-many : goal.returns-then-len-gt-MAX_NODES-clause-many
 returns-then-len-gt-MAX_NODES-clause-many c t =
     let a = c.args in
     let rows = a.plan.now.rows.items in
     let named = a.plan.now.named.items in
-    let popped = ap (λ fs. with_frames rows named a.owner fs c.loop-i.nodes.items) c.in-Some.ensures.items
-    ∙ frames-last rows named a.owner c.pop.new.self.items c.in-Some.frame c.loop-i.nodes.items in
-    let all = c.in_ok-all-in-Some.ensures.few (grind (arith, nat_tests, common_steps)) ∙ sym popped ∙ c.loop-i.invariant.left in
+    let popped = ap (λ fs. with_frames rows named a.owner fs c.frames.nodes.items) c.in-Some.ensures.items
+    ∙ frames-last rows named a.owner c.pop.new.self.items c.in-Some.frame c.frames.nodes.items in
+    let all = c.in_ok-all.ensures.few (grind (arith, nat_tests, common_steps)) ∙ sym popped ∙ c.frames.invariant.left in
     let past : 65536 < length c.grow_one.new.nodes.items = grind (arith, common_steps) in
     let count = frames-length rows named a.owner c.grow_one.new.frames.items c.grow_one.new.nodes.items in
     omega (arith, ap length all, past, count)
 
-pub loop-i-preserved : goal.loop-i-preserved
-loop-i-preserved c =
+pub frames-preserved : goal.frames-preserved
+frames-preserved c =
     let a = c.args in
     let rows = a.plan.now.rows.items in
     let named = a.plan.now.named.items in
-    let popped = ap (λ fs. with_frames rows named a.owner fs c.loop-i.nodes.items) c.in-Some.ensures.items
-    ∙ frames-last rows named a.owner c.pop.new.self.items c.in-Some.frame c.loop-i.nodes.items in
+    let popped = ap (λ fs. with_frames rows named a.owner fs c.frames.nodes.items) c.in-Some.ensures.items
+    ∙ frames-last rows named a.owner c.pop.new.self.items c.in-Some.frame c.frames.nodes.items in
     record {
       small = grind (arith, common_steps);
-      left = c.in_ok-all-in-Some.ensures.few (grind (arith, nat_tests, common_steps)) ∙ sym popped ∙ c.loop-i.invariant.left;
+      left = c.in_ok-all.ensures.few (grind (arith, nat_tests, common_steps)) ∙ sym popped ∙ c.frames.invariant.left;
     }
+
+pub frames-smaller : goal.frames-smaller
+frames-smaller c =
+    let small : length c.grow_one.new.nodes.items ≤ 65536 = grind (arith, common_steps) in
+    omega (arith, ap length c.in-Some.ensures.items, length-append c.pop.new.self.items (c.in-Some.frame ∷ []), c.in_ok-all.ensures.paid, small)

@@ -1,4 +1,4 @@
-use Rattle.std.proofs.Common.{◌≡◌, ◌∙◌, ◌∷◌, ◌++◌, [], List, map, filter, sym, ap, append-nil}
+use Rattle.std.proofs.Common.{◌≡◌, ◌∙◌, ◌∷◌, ◌++◌, [], List, map, filter, length, sym, ap, arith, append-nil}
 use Rattle.sal_stmt.specs.declared.stmt.Stmt.{Stmt}
 use Rattle.sal_typedefs.specs.declared.walk.Way.{Way}
 use Rattle.sal_typedefs.specs.Scopes.{Site}
@@ -9,8 +9,8 @@ use Rattle.sal_typedefs.specs.Leafrefs.{leafref_seen, stmt_in}
 use Rattle.sal_typedefs.proofs.WalkLists.{sites-under, passing-more}
 use Rattle.sal_typedefs.proofs.leafrefs.leafrefs_at.Goals as goal
 
-pub loop-i-init : goal.loop-i-init
-loop-i-init c =
+pub ways-init : goal.ways-init
+ways-init c =
     let a = c.args in
     let modules = a.typedefs.now in
     let steps = steps_of modules in
@@ -24,17 +24,23 @@ loop-i-init c =
 abbrev sites : List Stmt → List Way → List Site
 sites modules ways = map (λ (n : Node). n.site) (left modules ways)
 
-pub returns-in-None : goal.returns-in-None
-returns-in-None c =
-    let done = map leafref_seen c.loop-i.all.items in
-    let none : left c.args.typedefs.now c.loop-i.ways.items ≡ [] = rw c.in-None.is at c.in_ok-next.ensures in
-    sym (append-nil done) ∙ ap (λ ns. done ++ map stmt_in (filter is_leafref (map (λ (n : Node). n.site) ns))) (sym none) ∙ c.loop-i.invariant
+pub returns : goal.returns
+returns c =
+    let done = map leafref_seen c.ways.all.items in
+    let none : left c.args.typedefs.now c.ways.ways.items ≡ [] = rw c.in_default.is at c.in_ok-gone.ensures in
+    sym (append-nil done) ∙ ap (λ ns. done ++ map stmt_in (filter is_leafref (map (λ (n : Node). n.site) ns))) (sym none) ∙ c.ways.invariant
 
-pub loop-i-preserved : goal.loop-i-preserved
-loop-i-preserved c =
+pub ways-preserved : goal.ways-preserved
+ways-preserved c =
     let modules = c.args.typedefs.now in
     let gone = c.in-Some.gone in
     let rest = sites modules c.next.new.ways.items in
-    let one : left modules c.loop-i.ways.items ≡ node_of gone ∷ left modules c.next.new.ways.items = rw c.in-Some.is at c.in_ok-next.ensures in
-    sym (passing-more stmt_in is_leafref (map leafref_seen c.loop-i.all.items) (map leafref_seen c.push_leafref.new.all.items) (site_of gone.spot) rest c.in_ok-push_leafref-in-Some.ensures)
-    ∙ ap (λ ns. map leafref_seen c.loop-i.all.items ++ map stmt_in (filter is_leafref (map (λ (n : Node). n.site) ns))) (sym one) ∙ c.loop-i.invariant
+    let one : left modules c.ways.ways.items ≡ node_of gone ∷ left modules c.next.new.ways.items = rw c.in-Some.is at c.in_ok-gone.ensures in
+    sym (passing-more stmt_in is_leafref (map leafref_seen c.ways.all.items) (map leafref_seen c.push_leafref.new.all.items) (site_of gone.spot) rest c.in_ok-push_leafref.ensures)
+    ∙ ap (λ ns. map leafref_seen c.ways.all.items ++ map stmt_in (filter is_leafref (map (λ (n : Node). n.site) ns))) (sym one) ∙ c.ways.invariant
+
+pub ways-smaller : goal.ways-smaller
+ways-smaller c =
+    let modules = c.args.typedefs.now in
+    let one : left modules c.ways.ways.items ≡ node_of c.in-Some.gone ∷ left modules c.next.new.ways.items = rw c.in-Some.is at c.in_ok-gone.ensures in
+    rw (ap length one) (omega arith)

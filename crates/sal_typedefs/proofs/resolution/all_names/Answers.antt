@@ -1,4 +1,4 @@
-use Rattle.std.proofs.Common.{◌≡◌, ◌∙◌, ◌∷◌, None, map, sym, ap}
+use Rattle.std.proofs.Common.{◌≡◌, ◌∙◌, ◌∷◌, None, map, length, sym, ap, arith}
 use Rattle.std.specs.List.{flat_map}
 use Rattle.sal_module.specs.Faults.{least}
 use Rattle.sal_typedefs.specs.Names.{name_faults, steps_of}
@@ -8,20 +8,26 @@ use Rattle.sal_typedefs.proofs.EntryLists.{least-two}
 use Rattle.sal_typedefs.proofs.WalkLists.{sites-under}
 use Rattle.sal_typedefs.proofs.resolution.all_names.Goals as goal
 
-pub loop-i-init : goal.loop-i-init
-loop-i-init c =
+pub ways-init : goal.ways-init
+ways-init c =
     let a = c.args in
     let modules = a.typedefs.now in
     let steps = steps_of modules in
     let sites = ap (map (λ (n : Node). n.site)) c.in_ok-ways.ensures ∙ sites-under steps modules (site_of a.spot) in
     ap (λ sites. least None (flat_map (name_faults steps modules) sites)) sites
 
-pub loop-i-preserved : goal.loop-i-preserved
-loop-i-preserved c =
+pub ways-preserved : goal.ways-preserved
+ways-preserved c =
     let modules = c.args.typedefs.now in
     let f = name_faults (steps_of modules) modules in
     let gone = c.in-Some.gone in
     let rest = flat_map f (map (λ (n : Node). n.site) (left modules c.next.new.ways.items)) in
-    let one : left modules c.loop-i.ways.items ≡ node_of gone ∷ left modules c.next.new.ways.items = rw c.in-Some.is at c.in_ok-next.ensures in
-    ap (λ best. least best rest) c.in_ok-best-in-Some.ensures ∙ least-two c.loop-i.best (f (site_of gone.spot)) rest
-    ∙ ap (λ ns. least c.loop-i.best (flat_map f (map (λ (n : Node). n.site) ns))) (sym one) ∙ c.loop-i.invariant
+    let one : left modules c.ways.ways.items ≡ node_of gone ∷ left modules c.next.new.ways.items = rw c.in-Some.is at c.in_ok-gone.ensures in
+    ap (λ best. least best rest) c.in_ok-best.ensures ∙ least-two c.ways.best (f (site_of gone.spot)) rest
+    ∙ ap (λ ns. least c.ways.best (flat_map f (map (λ (n : Node). n.site) ns))) (sym one) ∙ c.ways.invariant
+
+pub ways-smaller : goal.ways-smaller
+ways-smaller c =
+    let modules = c.args.typedefs.now in
+    let one : left modules c.ways.ways.items ≡ node_of c.in-Some.gone ∷ left modules c.next.new.ways.items = rw c.in-Some.is at c.in_ok-gone.ensures in
+    rw (ap length one) (omega arith)

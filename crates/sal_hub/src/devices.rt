@@ -1,5 +1,5 @@
 //! The domains that devices open.
-ghost use Rattle.std.specs.Prelude.{◌≡◌, ◌⊎◌, ◌≤◌, None, Some, IfOk, MatchResult, find, length, map};
+ghost use Rattle.std.specs.Prelude.{◌≡◌, ◌⊎◌, ◌≤◌, ◌∷◌, ◌++◌, [], None, Some, IfOk, OnOk, MatchResult, find, length, map};
 ghost use Rattle.std.specs.Option.{option_copied, option_map};
 ghost use Rattle.sal_schema.specs.Fitting.{is_of_state};
 ghost use Rattle.sal_graft.specs.Kept.{AreKept};
@@ -12,7 +12,7 @@ use crate::opening::OpenFault;
 use sal_commit::{Domain, DomainFault};
 use sal_history::Device;
 use sal_schema::Schema;
-use sal_types::{Duplicate, Row};
+use sal_types::{Duplicate, NoMemory, Row};
 use std::alloc::Global;
 
 /// The domains that the devices open, unless their openings are refused.
@@ -24,12 +24,32 @@ pub(crate) fn open_all(alloc: Global, devices: &[Device]) -> Result<Vec<Domain>,
 {
     let mut domains = Vec::new(alloc);
     for i in 0..devices.len() {
-        let domain = open_one(alloc, i as u32, &devices[i])?;
-        if domains.push(domain).is_err() {
-            return Err(OpenFault::NoMemory);
-        }
+        open_next(alloc, &mut domains, i as u32, &devices[i])?;
     }
     Ok(domains)
+}
+
+// Opens one more domain, behind those that are open.
+fn open_next(
+    alloc: Global,
+    domains: &mut Vec<Domain>,
+    number: u32,
+    device: &Device,
+) -> Result<(), OpenFault>
+    ensures fault { MatchResult result (λ _. opening_fault number (domain_of device.now) ≡ None) (λ e. (e ≡ Refused) ⊎ (opening_fault number (domain_of device.now) ≡ Some e)) }
+    ensures kept { OnOk result (AllKept domains.old.items → AllKept domains.new.items) }
+    ensures shown { OnOk result (map shown domains.new.items ≡ map shown domains.old.items ++ shown_of number device.now ∷ []) }
+{
+    let domain = open_one(alloc, number, device)?;
+    add(domains, domain)?;
+    Ok(())
+}
+
+fn add(domains: &mut Vec<Domain>, domain: Domain) -> Result<(), NoMemory>
+    ensures { OnOk result (domains.new.items ≡ domains.old.items ++ domain ∷ []) }
+{
+    domains.push(domain)?;
+    Ok(())
 }
 
 // The domain of this number that the device opens.

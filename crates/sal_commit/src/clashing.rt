@@ -1,5 +1,5 @@
 //! The conflict of a submission with the foreign commits after its base, as an outcome.
-ghost use Rattle.std.specs.Prelude.{◌≡◌, ◌≤◌, IfOk, length, take};
+ghost use Rattle.std.specs.Prelude.{◌≡◌, ◌≤◌, ◌<◌, ◌++◌, [], ◌∷◌, IfOk, OnOk, length, take};
 ghost use Rattle.sal_history.specs.Outcome as outcome;
 ghost use Rattle.sal_rows.specs.Clash.{clash};
 ghost use Rattle.sal_graft.specs.Kept.{opening_in, ops_of, rows_in};
@@ -9,7 +9,7 @@ use crate::domain::Domain;
 use sal_graft::{conflict, foreign_spans};
 use sal_rows::{Clash, Op, Outcome};
 use sal_tx::Submission;
-use sal_types::{Duplicate, NoMemory, Path};
+use sal_types::{Duplicate, NoMemory, Path, PathFault, Step};
 use std::alloc::Global;
 
 /// The outcome that names the first conflict of the submission, where it has one. Only the path is copied.
@@ -64,9 +64,19 @@ fn front(alloc: Global, path: &Path, depth: usize) -> Result<Path, NoMemory>
     }
     let mut front = Path::root(alloc);
     for step in &path.steps()[..depth] {
-        if front.push(step.copy()?).is_err() {
-            return Err(NoMemory);
-        }
+        add(&mut front, step)?;
     }
     Ok(front)
+}
+
+// One step further down.
+fn add(path: &mut Path, step: &Step) -> Result<(), NoMemory>
+    requires { length path.old < 32 }
+    ensures { OnOk result (path.new ≡ path.old ++ step.now ∷ []) }
+{
+    match path.push(step.copy()?) {
+        Ok(()) => Ok(()),
+        Err(PathFault::NoMemory) => Err(NoMemory),
+        Err(PathFault::TooDeep) => unreachable!(),
+    }
 }

@@ -1,5 +1,5 @@
 //! Why a write is refused.
-ghost use Rattle.std.specs.Prelude.{◌≡◌, ◌⊎◌, ◌≤◌, ◌<◌, None, Some, IfOk, IfSome, MatchResult, option_map, find, take, length, not, map, IsTrue};
+ghost use Rattle.std.specs.Prelude.{◌≡◌, ◌⊎◌, ◌≤◌, ◌<◌, ◌++◌, [], ◌∷◌, None, Some, IfOk, IfSome, OnOk, MatchResult, option_map, find, take, length, not, map, IsTrue};
 ghost use Rattle.std.specs.Option.{option_copied};
 ghost use Rattle.sal_types.specs.Tree.{has};
 ghost use Rattle.sal_rows.specs.Apply.{rows_of_act};
@@ -15,7 +15,7 @@ use sal_rows::{Act, Op};
 use sal_rules::TxFault;
 use sal_schema::Schema;
 use sal_tree::Root;
-use sal_types::{Duplicate, NoMemory, Path, Row, Step, Store};
+use sal_types::{Duplicate, NoMemory, Path, PathFault, Row, Step, Store};
 use std::alloc::Global;
 use std::sync::Arc;
 
@@ -159,9 +159,19 @@ fn front(alloc: Global, path: &Path, depth: usize) -> Result<Path, NoMemory>
 {
     let mut front = Path::root(alloc);
     for step in &path.steps()[..depth] {
-        if front.push(step.copy()?).is_err() {
-            return Err(NoMemory);
-        }
+        add(&mut front, step)?;
     }
     Ok(front)
+}
+
+// One step further down.
+fn add(path: &mut Path, step: &Step) -> Result<(), NoMemory>
+    requires { length path.old < 32 }
+    ensures { OnOk result (path.new ≡ path.old ++ step.now ∷ []) }
+{
+    match path.push(step.copy()?) {
+        Ok(()) => Ok(()),
+        Err(PathFault::NoMemory) => Err(NoMemory),
+        Err(PathFault::TooDeep) => unreachable!(),
+    }
 }

@@ -20,7 +20,7 @@ use Rattle.sal_history.specs.History.{decide_front, decide_next}
 use Rattle.sal_history.specs.Submissions.{Sent}
 use Rattle.sal_hub.specs.declared.pipeline.Pipeline.{Pipeline}
 use Rattle.sal_hub.specs.Failures.{cut_failures}
-use Rattle.sal_hub.specs.Lines.{AllKept, AreDecided, Decides, HasGrown, HaveGrown, IsSound, Line, Shown, counts_of, cut_all, is_live_in, line_of, shown, world_in}
+use Rattle.sal_hub.specs.Lines.{AllKept, AreDecided, Decides, HasGrown, HaveGrown, Line, Shown, counts_of, cut_all, is_live_in, line_of, shown, world_in}
 use Rattle.sal_hub.proofs.Listed.{Grows-then, length-Grows, slice_get_at, take-Grows}
 use Rattle.sal_hub.proofs.Noted.{cut_twice}
 

@@ -1,8 +1,8 @@
 -- Settles, pumps and cancels: what is kept stays the log's, and the answer is the log's.
-use Rattle.std.proofs.Common.{◌≡◌, ℕ, ◌+◌, ◌-◌, ◌<◌, ◌≤◌, Bool, false, List, [], ◌∷◌, ◌++◌, length, map, Option, None, Some, refl, ap, sym, ◌∙◌, subst, arith, append-nil, nat_eq}
+use Rattle.std.proofs.Common.{◌≡◌, ℕ, ◌+◌, ◌-◌, ◌<◌, ◌≤◌, Bool, false, List, [], ◌∷◌, ◌++◌, length, Option, None, Some, refl, ap, sym, ◌∙◌, subst, arith, append-nil, nat_eq}
 use Rattle.std.specs.Prelude.{slice_get, ◌||◌}
 use Rattle.std.specs.Option.{option_map, option_to_list}
-use Rattle.std.proofs.lemmas.Option.{same_Some, slice_get-map, slice_get_within}
+use Rattle.std.proofs.lemmas.Option.{same_Some, slice_get_within}
 use Rattle.sal_rows.specs.declared.outcome.Outcome.{Outcome}
 use Rattle.sal_tx.specs.declared.tx.Submission.{Submission}
 use Rattle.sal_history.specs.declared.call.Call.{Call}
@@ -27,7 +27,7 @@ use Rattle.sal_hub.proofs.Deciding.{sent_at}
 use Rattle.sal_hub.proofs.Histories.{sents-few, sents-push}
 use Rattle.sal_hub.proofs.Keeping.{length-submissions, none_more, or_false, pushed, still_live, unsent}
 use Rattle.sal_hub.proofs.Listed.{slice_get_more, slice_get_none, slice_get_seam, slice_get_some}
-use Rattle.sal_hub.proofs.Submitting.{given_domain, swapped}
+use Rattle.sal_hub.proofs.Submitting.{swapped}
 
 -- ---- cancel
 

@@ -3,7 +3,7 @@ use Rattle.std.proofs.Common.{◌≡◌, ◌-◌, List, drop, length, map, take,
 use Rattle.std.proofs.lemmas.Grind.{common_steps}
 use Rattle.sal_commit.specs.declared.domain.Domain.{Domain}
 use Rattle.sal_hub.specs.Failures.{cut_failures}
-use Rattle.sal_hub.specs.Lines.{AreDecided, Line, counts_of, cut_all, line_of, shorter, shown}
+use Rattle.sal_hub.specs.Lines.{AreDecided, Line, counts_of, cut_all, line_of, shown}
 use Rattle.sal_hub.proofs.Cutting.{as_many, taken_back}
 use Rattle.sal_hub.proofs.Deciding.{decided-shorter}
 use Rattle.sal_hub.proofs.pipeline.Pipeline.settle.Goals as goal

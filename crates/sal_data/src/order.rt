@@ -1,14 +1,45 @@
 //! Rows put into the order of their paths.
-ghost use Rattle.std.specs.Prelude.{◌≡◌, IfOk, OnOk};
+ghost use Rattle.std.specs.Prelude.{◌≡◌, IfOk, OnOk, IsTrue};
 ghost use Rattle.std.specs.BTreeMap.{insert_entry};
 ghost use Rattle.sal_types.specs.Order.{path_cmp};
-ghost use Rattle.sal_types.specs.Tree.{entries};
+ghost use Rattle.sal_types.specs.Tree.{IsAscending, entries};
 ghost use Rattle.sal_data.specs.Read as spec;
 
 use sal_rows::Rows;
 use sal_types::{Cell, NoMemory, Path, Row};
 use std::alloc::Global;
 use std::collections::BTreeMap;
+
+/// Whether the paths of the rows rise.
+fn rises(rows: &[Row]) -> bool
+    ensures { IsTrue result → IsAscending rows.now }
+{
+    for i in 1..rows.len() {
+        if rows[i].path <= rows[i - 1].path {
+            return false;
+        }
+    }
+    true
+}
+
+/// The same rows as a tree.
+fn tree_of(rows: Vec<Row>) -> Rows
+    requires { IsAscending rows.items }
+    ensures { result ≡ rows.items }
+{
+    match Rows::from_list(rows) {
+        Ok(tree) => tree,
+        Err(_) => unreachable!(),
+    }
+}
+
+/// The rows by their paths, where those of one path keep their order.
+fn sorted(mut rows: Vec<Row>) -> Result<Vec<Row>, NoMemory>
+    ensures { IfOk result (λ list. spec.in_order list.items ≡ spec.in_order rows.items) }
+{
+    rows.sort_by(|row, other| row.path.cmp(&other.path))?;
+    Ok(rows)
+}
 
 /// Puts the row in its place, over one with its path.
 fn put(map: &mut BTreeMap<Path, Cell>, row: Row) -> Result<(), NoMemory>
@@ -40,9 +71,8 @@ fn listed(alloc: Global, map: BTreeMap<Path, Cell>) -> Result<Vec<Row>, NoMemory
     Ok(list)
 }
 
-/// The rows in the order of their paths, where of rows with one path the last counts. It takes n log n comparisons of paths for
-/// n rows.
-pub(crate) fn in_order(alloc: Global, rows: Vec<Row>) -> Result<Rows, NoMemory>
+/// The tree that rows make of which some may have one path: there the last counts.
+fn joined(alloc: Global, rows: Vec<Row>) -> Result<Rows, NoMemory>
     ensures { IfOk result (λ ordered. ordered ≡ spec.in_order rows.items) }
 {
     let map = by_path(alloc, rows)?;
@@ -51,4 +81,26 @@ pub(crate) fn in_order(alloc: Global, rows: Vec<Row>) -> Result<Rows, NoMemory>
         Ok(ordered) => Ok(ordered),
         Err(_) => unreachable!(),
     }
+}
+
+/// The tree of rows that do not rise: sorted they mostly do.
+fn in_order_sorted(alloc: Global, rows: Vec<Row>) -> Result<Rows, NoMemory>
+    ensures { IfOk result (λ ordered. ordered ≡ spec.in_order rows.items) }
+{
+    let rows = sorted(rows)?;
+    if rises(&rows) {
+        return Ok(tree_of(rows));
+    }
+    joined(alloc, rows)
+}
+
+/// The rows in the order of their paths, where of rows with one path the last counts. Rows that rise stay as they are, and others
+/// are sorted: runs of them that rise or fall are merged.
+pub(crate) fn in_order(alloc: Global, rows: Vec<Row>) -> Result<Rows, NoMemory>
+    ensures { IfOk result (λ ordered. ordered ≡ spec.in_order rows.items) }
+{
+    if rises(&rows) {
+        return Ok(tree_of(rows));
+    }
+    in_order_sorted(alloc, rows)
 }

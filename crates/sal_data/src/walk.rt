@@ -150,7 +150,7 @@ impl<'a> Reader<'a> {
         ensures { GivesUnless DataFault.NoMemory (λ _. out.new.items) result (spec.followed out.old.items (walked.member_rows self.now.schema.now parent path.now name.now (view json.now))) }
     {
         let node = member_node(self.alloc, self.schema, parent, path, name)?;
-        let below = longer(path, Step::Node(node))?;
+        let below = longer(self.alloc, path, Step::Node(node))?;
         self.node_rows(node, below, json, out)
     }
 
@@ -168,7 +168,7 @@ impl<'a> Reader<'a> {
     {
         for item in items {
             let step = self.key_step(node, path, item)?;
-            let below = entered(path, step, seen)?;
+            let below = entered(self.alloc, path, step, seen)?;
             mark(&below, out)?;
             self.object_rows(Some(node), &below, item, out)?;
         }

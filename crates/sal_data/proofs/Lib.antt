@@ -26,7 +26,6 @@ pub mod ReadWhole
 pub mod ReadsAgain
 pub mod RowsRead
 pub mod RunsApart
-pub mod SortedRows
 pub mod Steps
 pub mod TreeParts
 pub mod Walking

@@ -33,14 +33,6 @@ fn tree_of(rows: Vec<Row>) -> Rows
     }
 }
 
-/// The rows by their paths, where those of one path keep their order.
-fn sorted(mut rows: Vec<Row>) -> Result<Vec<Row>, NoMemory>
-    ensures { IfOk result (λ list. spec.in_order list.items ≡ spec.in_order rows.items) }
-{
-    rows.sort_by(|row, other| row.path.cmp(&other.path))?;
-    Ok(rows)
-}
-
 /// Puts the row in its place, over one with its path.
 fn put(map: &mut BTreeMap<Path, Cell>, row: Row) -> Result<(), NoMemory>
     ensures { OnOk result (map.new.entries ≡ insert_entry path_cmp map.old.entries row.path row.cell) }
@@ -71,7 +63,7 @@ fn listed(alloc: Global, map: BTreeMap<Path, Cell>) -> Result<Vec<Row>, NoMemory
     Ok(list)
 }
 
-/// The tree that rows make of which some may have one path: there the last counts.
+/// The tree that rows in any order make.
 fn joined(alloc: Global, rows: Vec<Row>) -> Result<Rows, NoMemory>
     ensures { IfOk result (λ ordered. ordered ≡ spec.in_order rows.items) }
 {
@@ -83,24 +75,13 @@ fn joined(alloc: Global, rows: Vec<Row>) -> Result<Rows, NoMemory>
     }
 }
 
-/// The tree of rows that do not rise: sorted they mostly do.
-fn in_order_sorted(alloc: Global, rows: Vec<Row>) -> Result<Rows, NoMemory>
-    ensures { IfOk result (λ ordered. ordered ≡ spec.in_order rows.items) }
-{
-    let rows = sorted(rows)?;
-    if rises(&rows) {
-        return Ok(tree_of(rows));
-    }
-    joined(alloc, rows)
-}
-
-/// The rows in the order of their paths, where of rows with one path the last counts. Rows that rise stay as they are, and others
-/// are sorted: runs of them that rise or fall are merged.
+/// The rows in the order of their paths, where of rows with one path the last counts. Rows that rise stay as they are; for others
+/// it takes n log n comparisons of paths.
 pub(crate) fn in_order(alloc: Global, rows: Vec<Row>) -> Result<Rows, NoMemory>
     ensures { IfOk result (λ ordered. ordered ≡ spec.in_order rows.items) }
 {
     if rises(&rows) {
         return Ok(tree_of(rows));
     }
-    in_order_sorted(alloc, rows)
+    joined(alloc, rows)
 }

@@ -1,6 +1,6 @@
 use Rattle.std.proofs.Common.{rules, ◌∙◌, sym}
 use Rattle.sal_types.specs.Tree.{IsAscending}
-use Rattle.sal_data.proofs.SortedRows.{in_order-rising}
+use Rattle.sal_data.proofs.PutInOrder.{in_order-rising}
 use Rattle.sal_data.proofs.order.in_order.Goals as goal
 
 pub returns-then-rises : goal.returns-then-rises

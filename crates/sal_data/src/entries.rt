@@ -11,10 +11,10 @@ use crate::fault::DataFault;
 use crate::lookups::keys_at;
 use crate::members::member_for;
 use crate::reader::Reader;
+use crate::seen::Seen;
 use sal_types::{Cell, Duplicate, NoMemory, Path, PathFault, Row, Seq, Step, Value};
 use serde_json::{Map, Value as Json};
 use std::alloc::Global;
-use std::collections::BTreeSet;
 
 /// The path with these steps, without room for more than its steps and few others.
 pub(crate) fn path_of(alloc: Global, steps: &[Step]) -> Result<Path, NoMemory>
@@ -66,13 +66,13 @@ pub(crate) fn entered(
     alloc: Global,
     path: &Path,
     step: Step,
-    seen: &mut BTreeSet<Step>,
+    seen: &mut Seen,
 ) -> Result<Path, DataFault>
-    ensures value { GivesUnless DataFault.NoMemory (λ below. below) result (new_entry seen.old.keys path.now step) }
-    ensures one_more { OnOk result (HaveSame seen.new.keys (step ∷ seen.old.keys)) }
+    ensures value { GivesUnless DataFault.NoMemory (λ below. below) result (new_entry seen.old path.now step) }
+    ensures one_more { OnOk result (HaveSame seen.new (step ∷ seen.old)) }
 {
     let below = longer_by(alloc, path, &step)?;
-    if seen.insert(step)? {
+    if seen.add(alloc, step)? {
         Ok(below)
     } else {
         Err(DataFault::DoubleEntry { path: below })
@@ -139,10 +139,10 @@ impl<'a> Reader<'a> {
         node: u32,
         path: &Path,
         items: &Vec<Json>,
-        seen: &mut BTreeSet<Step>,
+        seen: &mut Seen,
         out: &mut Vec<Row>,
     ) -> Result<(), DataFault>
-        ensures { GivesUnless DataFault.NoMemory (λ _. out.new.items) result (spec.followed out.old.items (spec.items_rows self.now.schema.now node path.now seen.old.keys (items_view items.now.items))) }
+        ensures { GivesUnless DataFault.NoMemory (λ _. out.new.items) result (spec.followed out.old.items (spec.items_rows self.now.schema.now node path.now seen.old (items_view items.now.items))) }
     {
         for item in items {
             let step = self.item_step(node, path, item)?;

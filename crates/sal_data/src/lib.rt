@@ -55,6 +55,7 @@ mod order;
 mod read;
 mod reader;
 mod runs;
+mod seen;
 mod walk;
 mod write;
 mod written_names;

@@ -1,5 +1,5 @@
 -- Steps that rise, and one more behind them.
-use Rattle.std.proofs.Common.{◌≡◌, ℕ, suc, ◌-◌, Bool, true, false, List, [], ◌∷◌, ◌++◌, length, refl, sym, ap, ◌∙◌, arith}
+use Rattle.std.proofs.Common.{◌≡◌, suc, ◌-◌, Bool, true, false, List, [], ◌∷◌, ◌++◌, length, refl, sym, ap, ◌∙◌, arith}
 use Rattle.std.specs.Prelude.{◌||◌, not}
 use Rattle.std.specs.List.{list_any, slice_get}
 use Rattle.std.specs.Option.{option_map_or}
@@ -10,9 +10,7 @@ use Rattle.sal_types.specs.declared.value.Step.{Step}
 use Rattle.sal_types.specs.Order.{step_cmp, step_cmp-IsTotalOrder}
 use Rattle.sal_data.specs.Read.{same_step}
 use Rattle.sal_data.specs.Rising.{is_past, is_behind, is_rising}
-use Rattle.sal_data.specs.Walked.{HaveSame}
 use Rattle.sal_data.proofs.Fronts.{less}
-use Rattle.sal_data.proofs.Following.{have_same_more}
 
 -- ---- the last step
 
@@ -62,25 +60,6 @@ any-append p (x ∷ xs) ys = ap (λ b. p x || b) (any-append p xs ys) ∙ groupe
     grouped true b c = refl
     grouped false b c = refl
 
-turned : (a b c : Bool) → ((a || (b || false)) || c) ≡ (b || (a || c))
-turned true true c = refl
-turned true false c = refl
-turned false true c = refl
-turned false false c = refl
-
--- a step at the end of the first list, or before both
-pub same-moved : (steps others : List Step) (step : Step) → HaveSame ((steps ++ step ∷ []) ++ others) (step ∷ (steps ++ others))
-same-moved steps others step q =
-    let p = same_step q in
-    any-append p (steps ++ step ∷ []) others ∙ ap (λ b. b || list_any p others) (any-append p steps (step ∷ []))
-    ∙ turned (list_any p steps) (p step) (list_any p others) ∙ ap (λ b. p step || b) (sym (any-append p steps others))
-
-pub same-then : (xs ys zs : List Step) → HaveSame xs ys → HaveSame ys zs → HaveSame xs zs
-same-then xs ys zs first second q = first q ∙ second q
-
-pub same-back : (xs ys : List Step) → HaveSame xs ys → HaveSame ys xs
-same-back xs ys same q = sym (same q)
-
 or_none : (b : Bool) → (b || false) ≡ b
 or_none true = refl
 or_none false = refl
@@ -95,8 +74,3 @@ is_new-past steps others step rises past none =
     let p = same_step step in
     sym (ap not (any-append p steps others ∙ ap (λ l. list_any p steps || list_any p l) (no_steps others none) ∙ or_none (list_any p steps)
     ∙ none_of steps step rises (sym (past-behind steps step) ∙ past)))
-
--- one more, behind steps that were put into a set
-pub same-put : (steps old put new : List Step) (step : Step) → HaveSame put (steps ++ old) → HaveSame new (step ∷ put) → HaveSame new ((steps ++ step ∷ []) ++ old)
-same-put steps old put new step same added q =
-    have_same_more put (steps ++ old) new step same added q ∙ sym (same-moved steps old step q)

@@ -24,6 +24,7 @@ pub mod ReadParts
 pub mod ReadTrees
 pub mod ReadWhole
 pub mod ReadsAgain
+pub mod RisingSteps
 pub mod RowsRead
 pub mod RunsApart
 pub mod Steps

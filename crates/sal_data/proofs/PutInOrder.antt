@@ -10,6 +10,7 @@ use Rattle.sal_types.proofs.Trees.{same_tree}
 use Rattle.sal_rows.specs.Edits.{set_row}
 use Rattle.sal_rows.proofs.Cells.{same_path, path_eq-itself, cell-set_row, IsAscending-set_row}
 use Rattle.sal_data.specs.Read.{in_order}
+use Rattle.sal_data.proofs.Fronts.{rises, In-cell, cell-In}
 use Rattle.sal_data.proofs.Listed.{In}
 
 abbrev onto : List Row → List Row → List Row
@@ -99,3 +100,7 @@ pub in_order-at : (read : List Row) (row : Row) → ((a b : Row) → In a read �
 in_order-at read row alike there =
     let (d, at) = stands-read [] read [] row there in
     at ∙ ap Some (alike (record { path = row.path; cell = d }) row (in_order-from read row.path d at) there refl)
+
+-- rows that rise are in order as they are
+pub in_order-rising : (rows : List Row) → IsAscending rows → in_order rows ≡ rows
+in_order-rising rows h = in_order-is rows rows h (λ row there. cell-In rows row (rises rows h) there) (In-cell rows)

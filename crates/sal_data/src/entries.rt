@@ -1,5 +1,5 @@
 //! Entries of lists and leaf-lists: the steps to them.
-ghost use Rattle.std.specs.Prelude.{◌≡◌, ◌∷◌, ◌++◌, [], OnOk};
+ghost use Rattle.std.specs.Prelude.{◌≡◌, ◌≤◌, ◌∷◌, ◌++◌, [], IfOk, OnOk, length};
 ghost use Rattle.serde_json.specs.View.{view, items_view, members_view};
 ghost use Rattle.sal_types.specs.declared.value.Cell.TheVariants.{Mark};
 ghost use Rattle.sal_types.specs.Reading.{GivesUnless};
@@ -11,16 +11,32 @@ use crate::fault::DataFault;
 use crate::lookups::keys_at;
 use crate::members::member_for;
 use crate::reader::Reader;
+use crate::seen::Seen;
 use sal_types::{Cell, Duplicate, NoMemory, Path, PathFault, Row, Seq, Step, Value};
 use serde_json::{Map, Value as Json};
 use std::alloc::Global;
-use std::collections::BTreeSet;
 
-/// The path one step further down.
-pub(crate) fn longer(path: &Path, step: Step) -> Result<Path, DataFault>
+/// The path with these steps, without room for more than its steps and few others.
+pub(crate) fn path_of(alloc: Global, steps: &[Step]) -> Result<Path, NoMemory>
+    requires { length steps.now ≤ 32 }
+    ensures { IfOk result (λ path. path ≡ steps.now) }
+{
+    let mut path = Path::root(alloc);
+    for step in steps {
+        match path.push(step.copy()?) {
+            Ok(()) => (),
+            Err(PathFault::NoMemory) => return Err(NoMemory),
+            Err(PathFault::TooDeep) => unreachable!(),
+        }
+    }
+    Ok(path)
+}
+
+/// The path one step further down. A copy with one more pushed would have twice the room that it needs.
+pub(crate) fn longer(alloc: Global, path: &Path, step: Step) -> Result<Path, DataFault>
     ensures { GivesUnless DataFault.NoMemory (λ below. below) result (spec.longer path.now step) }
 {
-    let mut below = path.copy()?;
+    let mut below = path_of(alloc, path.steps())?;
     match below.push(step) {
         Ok(()) => Ok(below),
         Err(PathFault::TooDeep) => Err(DataFault::TooDeep { path: below }),
@@ -39,19 +55,24 @@ pub(crate) fn mark(path: &Path, out: &mut Vec<Row>) -> Result<(), NoMemory>
     Ok(())
 }
 
-fn longer_by(path: &Path, step: &Step) -> Result<Path, DataFault>
+fn longer_by(alloc: Global, path: &Path, step: &Step) -> Result<Path, DataFault>
     ensures { GivesUnless DataFault.NoMemory (λ below. below) result (spec.longer path.now step.now) }
 {
-    longer(path, step.copy()?)
+    longer(alloc, path, step.copy()?)
 }
 
 /// The path of the entry, which is none of those that were seen, and is one of them from now on.
-pub(crate) fn entered(path: &Path, step: Step, seen: &mut BTreeSet<Step>) -> Result<Path, DataFault>
-    ensures value { GivesUnless DataFault.NoMemory (λ below. below) result (new_entry seen.old.keys path.now step) }
-    ensures one_more { OnOk result (HaveSame seen.new.keys (step ∷ seen.old.keys)) }
+pub(crate) fn entered(
+    alloc: Global,
+    path: &Path,
+    step: Step,
+    seen: &mut Seen,
+) -> Result<Path, DataFault>
+    ensures value { GivesUnless DataFault.NoMemory (λ below. below) result (new_entry seen.old path.now step) }
+    ensures one_more { OnOk result (HaveSame seen.new (step ∷ seen.old)) }
 {
-    let below = longer_by(path, &step)?;
-    if seen.insert(step)? {
+    let below = longer_by(alloc, path, &step)?;
+    if seen.add(alloc, step)? {
         Ok(below)
     } else {
         Err(DataFault::DoubleEntry { path: below })
@@ -118,14 +139,14 @@ impl<'a> Reader<'a> {
         node: u32,
         path: &Path,
         items: &Vec<Json>,
-        seen: &mut BTreeSet<Step>,
+        seen: &mut Seen,
         out: &mut Vec<Row>,
     ) -> Result<(), DataFault>
-        ensures { GivesUnless DataFault.NoMemory (λ _. out.new.items) result (spec.followed out.old.items (spec.items_rows self.now.schema.now node path.now seen.old.keys (items_view items.now.items))) }
+        ensures { GivesUnless DataFault.NoMemory (λ _. out.new.items) result (spec.followed out.old.items (spec.items_rows self.now.schema.now node path.now seen.old (items_view items.now.items))) }
     {
         for item in items {
             let step = self.item_step(node, path, item)?;
-            let below = entered(path, step, seen)?;
+            let below = entered(self.alloc, path, step, seen)?;
             mark(&below, out)?;
         }
         Ok(())

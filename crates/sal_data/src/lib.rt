@@ -27,9 +27,10 @@
 //! ```
 //!
 //! Costs: `lookups` and `members` find nodes by their names, `entries` the steps to entries, `walk` goes once through the value
-//! and appends rows in the order of the text, and `order` puts them into the order of their paths. Reading n rows takes n log n
-//! comparisons of paths, and beside them a search by halves for each name, another among the entries of a list for each entry,
-//! and for each value what `read_scalar` takes. Each node's path is a copy of that of the node above with a step more, and each
+//! and appends rows in the order of the text, and `order` puts them into the order of their paths. Rows that came
+//! in the order of their paths are a tree as they are, after two comparisons for each; n others take n log n. Beside them reading
+//! takes a search by halves for each name, and for each value what `read_scalar` takes. Entries that come in their order are told
+//! apart by one comparison for each, others by a search in a set (`seen`). Each node's path is a copy of that of the node above with a step more, and each
 //! entry's step is copied once more while its list is read. A call nests no deeper than the value, and no deeper than a path
 //! has steps. That a name is one of another module is asked only where it is a fault.
 //!
@@ -54,6 +55,7 @@ mod order;
 mod read;
 mod reader;
 mod runs;
+mod seen;
 mod walk;
 mod write;
 mod written_names;

@@ -1,14 +1,37 @@
 //! Rows put into the order of their paths.
-ghost use Rattle.std.specs.Prelude.{◌≡◌, IfOk, OnOk};
+ghost use Rattle.std.specs.Prelude.{◌≡◌, IfOk, OnOk, IsTrue};
 ghost use Rattle.std.specs.BTreeMap.{insert_entry};
 ghost use Rattle.sal_types.specs.Order.{path_cmp};
-ghost use Rattle.sal_types.specs.Tree.{entries};
+ghost use Rattle.sal_types.specs.Tree.{IsAscending, entries};
 ghost use Rattle.sal_data.specs.Read as spec;
 
 use sal_rows::Rows;
 use sal_types::{Cell, NoMemory, Path, Row};
 use std::alloc::Global;
 use std::collections::BTreeMap;
+
+/// Whether the paths of the rows rise.
+fn rises(rows: &[Row]) -> bool
+    ensures { IsTrue result → IsAscending rows.now }
+{
+    for i in 1..rows.len() {
+        if rows[i].path <= rows[i - 1].path {
+            return false;
+        }
+    }
+    true
+}
+
+/// The same rows as a tree.
+fn tree_of(rows: Vec<Row>) -> Rows
+    requires { IsAscending rows.items }
+    ensures { result ≡ rows.items }
+{
+    match Rows::from_list(rows) {
+        Ok(tree) => tree,
+        Err(_) => unreachable!(),
+    }
+}
 
 /// Puts the row in its place, over one with its path.
 fn put(map: &mut BTreeMap<Path, Cell>, row: Row) -> Result<(), NoMemory>
@@ -40,9 +63,8 @@ fn listed(alloc: Global, map: BTreeMap<Path, Cell>) -> Result<Vec<Row>, NoMemory
     Ok(list)
 }
 
-/// The rows in the order of their paths, where of rows with one path the last counts. It takes n log n comparisons of paths for
-/// n rows.
-pub(crate) fn in_order(alloc: Global, rows: Vec<Row>) -> Result<Rows, NoMemory>
+/// The tree that rows in any order make.
+fn joined(alloc: Global, rows: Vec<Row>) -> Result<Rows, NoMemory>
     ensures { IfOk result (λ ordered. ordered ≡ spec.in_order rows.items) }
 {
     let map = by_path(alloc, rows)?;
@@ -51,4 +73,15 @@ pub(crate) fn in_order(alloc: Global, rows: Vec<Row>) -> Result<Rows, NoMemory>
         Ok(ordered) => Ok(ordered),
         Err(_) => unreachable!(),
     }
+}
+
+/// The rows in the order of their paths, where of rows with one path the last counts. Rows that rise stay as they are; for others
+/// it takes n log n comparisons of paths.
+pub(crate) fn in_order(alloc: Global, rows: Vec<Row>) -> Result<Rows, NoMemory>
+    ensures { IfOk result (λ ordered. ordered ≡ spec.in_order rows.items) }
+{
+    if rises(&rows) {
+        return Ok(tree_of(rows));
+    }
+    joined(alloc, rows)
 }

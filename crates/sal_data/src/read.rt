@@ -1,5 +1,5 @@
 //! Rows from JSON values.
-ghost use Rattle.std.specs.Prelude.{◌≡◌, ◌≤◌, length, IfOk};
+ghost use Rattle.std.specs.Prelude.{◌≡◌, IfOk};
 ghost use Rattle.serde_json.specs.View.{view};
 ghost use Rattle.sal_types.specs.Reading.{GivesUnless};
 ghost use Rattle.sal_schema.specs.Paths.{last_step};
@@ -7,32 +7,16 @@ ghost use Rattle.sal_json.specs.Patterns.{patterns_of};
 ghost use Rattle.sal_data.specs.Read as spec;
 
 use crate::ends::node_at_end;
-use crate::entries::mark;
+use crate::entries::{mark, path_of};
 use crate::fault::DataFault;
 use crate::order::in_order;
 use crate::reader::Reader;
 use sal_json::Patterns;
 use sal_rows::Rows;
 use sal_schema::Schema;
-use sal_types::{Duplicate, NoMemory, Path, PathFault, Row, Step};
+use sal_types::{Duplicate, NoMemory, Path, Row, Step};
 use serde_json::Value as Json;
 use std::alloc::Global;
-
-/// The path with these steps.
-fn path_of(alloc: Global, steps: &[Step]) -> Result<Path, NoMemory>
-    requires { length steps.now ≤ 32 }
-    ensures { IfOk result (λ path. path ≡ steps.now) }
-{
-    let mut path = Path::root(alloc);
-    for step in steps {
-        match path.push(step.copy()?) {
-            Ok(()) => (),
-            Err(PathFault::NoMemory) => return Err(NoMemory),
-            Err(PathFault::TooDeep) => unreachable!(),
-        }
-    }
-    Ok(path)
-}
 
 fn before_last(alloc: Global, path: &Path) -> Result<Path, NoMemory>
     ensures { IfOk result (λ front. front ≡ spec.before_last path.now) }

@@ -12,9 +12,9 @@ use crate::fault::DataFault;
 use crate::lookups::{has_entries, is_leaf, is_leaf_list, is_list, is_presence};
 use crate::members::member_node;
 use crate::reader::Reader;
+use crate::seen::Seen;
 use sal_types::{Cell, Duplicate, Path, Row, Step};
 use serde_json::{Map, Value as Json};
-use std::collections::BTreeSet;
 
 impl<'a> Reader<'a> {
     /// Appends the row of the leaf at the path.
@@ -71,10 +71,10 @@ impl<'a> Reader<'a> {
             else Err (DataFault.WrongShape path))) }
     {
         if is_list(self.schema, node) {
-            let mut seen = BTreeSet::new(self.alloc);
+            let mut seen = Seen::new(self.alloc);
             self.entries_rows(node, &path, items, &mut seen, out)
         } else if is_leaf_list(self.schema, node) {
-            let mut seen = BTreeSet::new(self.alloc);
+            let mut seen = Seen::new(self.alloc);
             self.items_rows(node, &path, items, &mut seen, out)
         } else {
             Err(DataFault::WrongShape { path })
@@ -150,7 +150,7 @@ impl<'a> Reader<'a> {
         ensures { GivesUnless DataFault.NoMemory (λ _. out.new.items) result (spec.followed out.old.items (walked.member_rows self.now.schema.now parent path.now name.now (view json.now))) }
     {
         let node = member_node(self.alloc, self.schema, parent, path, name)?;
-        let below = longer(path, Step::Node(node))?;
+        let below = longer(self.alloc, path, Step::Node(node))?;
         self.node_rows(node, below, json, out)
     }
 
@@ -161,14 +161,14 @@ impl<'a> Reader<'a> {
         node: u32,
         path: &Path,
         items: &Vec<Json>,
-        seen: &mut BTreeSet<Step>,
+        seen: &mut Seen,
         out: &mut Vec<Row>,
     ) -> Result<(), DataFault>
-        ensures { GivesUnless DataFault.NoMemory (λ _. out.new.items) result (spec.followed out.old.items (spec.entries_rows self.now.schema.now node path.now seen.old.keys (items_view items.now.items))) }
+        ensures { GivesUnless DataFault.NoMemory (λ _. out.new.items) result (spec.followed out.old.items (spec.entries_rows self.now.schema.now node path.now seen.old (items_view items.now.items))) }
     {
         for item in items {
             let step = self.key_step(node, path, item)?;
-            let below = entered(path, step, seen)?;
+            let below = entered(self.alloc, path, step, seen)?;
             mark(&below, out)?;
             self.object_rows(Some(node), &below, item, out)?;
         }

@@ -9,7 +9,7 @@ use Rattle.sal_data.proofs.Walking.{mark_at, go_on, members-one, entries-no_entr
 use Rattle.sal_data.proofs.reader.Reader.+walk.Goals as goal
 
 pub entries_rows-loop-item-init : goal.entries_rows-loop-item-init
-entries_rows-loop-item-init t c = (c.args.seen.now.keys, (λ q. refl), refl)
+entries_rows-loop-item-init t c = (c.args.seen.now, (λ q. refl), refl)
 
 pub entries_rows-returns-in_err-below : goal.entries_rows-returns-in_err-below
 entries_rows-returns-in_err-below t c =
@@ -25,9 +25,9 @@ entries_rows-returns-in_err-below t c =
     let step = c.in_ok-step.step in
     let e = c.in_err-below.field-0.0 in
     gives_err _ _ _ e _ c.from_residual-in_err-below.ensures.1 (λ known.
-    ap (λ ys. followed c.args.out.now.items (entries_rows table n path c.args.seen.now.keys (items_view ys))) (sym c.deref-item-items.ensures.value) ∙ l.invariant.2
+    ap (λ ys. followed c.args.out.now.items (entries_rows table n path c.args.seen.now (items_view ys))) (sym c.deref-item-items.ensures.value) ∙ l.invariant.2
     ∙ ap (λ ys. followed l.out.items (entries_rows table n path seen (items_view ys))) here
-    ∙ entries-no_entry table n path seen (view x) (items_view rest) l.out.items l.seen.keys l.invariant.1 step e c.in_ok-step.ensures (c.in_err-below.ensures.value known))
+    ∙ entries-no_entry table n path seen (view x) (items_view rest) l.out.items l.seen l.invariant.1 step e c.in_ok-step.ensures (c.in_err-below.ensures.value known))
 
 pub entries_rows-returns-in_err-object_rows : goal.entries_rows-returns-in_err-object_rows
 entries_rows-returns-in_err-object_rows t c =
@@ -45,9 +45,9 @@ entries_rows-returns-in_err-object_rows t c =
     let marked : c.mark.new.out.items ≡ l.out.items ++ mark_at below ∷ [] = c.in_ok-mark.ensures in
     let e = c.in_err-object_rows.field-0.0 in
     gives_err _ _ _ e _ c.from_residual-in_err-object_rows.ensures.1 (λ known.
-    ap (λ ys. followed c.args.out.now.items (entries_rows table n path c.args.seen.now.keys (items_view ys))) (sym c.deref-item-items.ensures.value) ∙ l.invariant.2
+    ap (λ ys. followed c.args.out.now.items (entries_rows table n path c.args.seen.now (items_view ys))) (sym c.deref-item-items.ensures.value) ∙ l.invariant.2
     ∙ ap (λ ys. followed l.out.items (entries_rows table n path seen (items_view ys))) here
-    ∙ entries-one table n path seen (view x) (items_view rest) l.out.items l.seen.keys l.invariant.1 step below c.in_ok-step.ensures c.in_ok-below.ensures.value
+    ∙ entries-one table n path seen (view x) (items_view rest) l.out.items l.seen l.invariant.1 step below c.in_ok-step.ensures c.in_ok-below.ensures.value
     ∙ ap (λ now. go_on now (entries_rows table n path (step ∷ seen) (items_view rest)))
     (ap (λ rows. followed rows (object_rows table (Some n) below (view x))) (sym marked) ∙ c.in_err-object_rows.ensures known))
 
@@ -68,9 +68,9 @@ entries_rows-loop-item-preserved t c =
     let read : followed (l.out.items ++ mark_at below ∷ []) (object_rows table (Some n) below (view x)) ≡ Ok c.object_rows.new.out.items =
     ap (λ rows. followed rows (object_rows table (Some n) below (view x))) (sym marked) ∙ c.in_ok-object_rows.ensures in (
       step ∷ seen,
-      have_same_more l.seen.keys seen c.entered.new.seen.keys step l.invariant.1 c.in_ok-below.ensures.one_more,
+      have_same_more l.seen seen c.entered.new.seen step l.invariant.1 c.in_ok-below.ensures.one_more,
       l.invariant.2 ∙ ap (λ ys. followed l.out.items (entries_rows table n path seen (items_view ys))) here
-          ∙ entries-one table n path seen (view x) (items_view rest) l.out.items l.seen.keys l.invariant.1 step below c.in_ok-step.ensures c.in_ok-below.ensures.value
+          ∙ entries-one table n path seen (view x) (items_view rest) l.out.items l.seen l.invariant.1 step below c.in_ok-step.ensures c.in_ok-below.ensures.value
           ∙ ap (λ now. go_on now (entries_rows table n path (step ∷ seen) (items_view rest))) read,
     )
 

@@ -12,5 +12,5 @@ invariant-members_rows-loop-name l =
 
 abbrev pub invariant-entries_rows-loop-item : goal.invariant-entries_rows-loop-item
 invariant-entries_rows-loop-item l =
-    (seen : List Step) × HaveSame l.seen.keys seen
-    × (followed l.initial.out.items (entries_rows l.self.schema.now l.node l.path l.initial.seen.keys (items_view l.item-items)) ≡ followed l.out.items (entries_rows l.self.schema.now l.node l.path seen (items_view (drop l.item-index l.item-items))))
+    (seen : List Step) × HaveSame l.seen seen
+    × (followed l.initial.out.items (entries_rows l.self.schema.now l.node l.path l.initial.seen (items_view l.item-items)) ≡ followed l.out.items (entries_rows l.self.schema.now l.node l.path seen (items_view (drop l.item-index l.item-items))))

@@ -8,5 +8,5 @@ use Rattle.sal_data.proofs.reader.Reader.items_rows.Given as goal
 
 abbrev pub invariant-loop-item : goal.invariant-loop-item
 invariant-loop-item l =
-    (seen : List Step) × HaveSame l.seen.keys seen
-    × (followed l.initial.out.items (items_rows l.self.schema.now l.node l.path l.initial.seen.keys (items_view l.item-items)) ≡ followed l.out.items (items_rows l.self.schema.now l.node l.path seen (items_view (drop l.item-index l.item-items))))
+    (seen : List Step) × HaveSame l.seen seen
+    × (followed l.initial.out.items (items_rows l.self.schema.now l.node l.path l.initial.seen (items_view l.item-items)) ≡ followed l.out.items (items_rows l.self.schema.now l.node l.path seen (items_view (drop l.item-index l.item-items))))

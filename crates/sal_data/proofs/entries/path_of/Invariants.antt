@@ -1,5 +1,5 @@
 use Rattle.std.proofs.Common.{◌≡◌, take}
-use Rattle.sal_data.proofs.read.path_of.Given as goal
+use Rattle.sal_data.proofs.entries.path_of.Given as goal
 
 abbrev pub invariant-loop-step : goal.invariant-loop-step
 invariant-loop-step l = l.path ≡ take l.step-index l.steps

@@ -50,7 +50,11 @@ fn config_of(modules: &Modules, branch: &Branch, over: Option<bool>) -> Option<b
     ensures { result ≡ spec.config_in (nodes.kind_of modules.now branch.now) (nodes.own_stmt modules.now branch.now) over }
 {
     let stmt = stmt_of(modules, branch);
-    config_in(kind_in(stmt, branch.implied), own_in(stmt, branch.implied), over)
+    config_in(
+        kind_in(stmt, branch.implied),
+        own_in(stmt, branch.implied),
+        over,
+    )
 }
 
 /// Whether each node is configuration; none in operations.

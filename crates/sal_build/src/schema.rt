@@ -268,9 +268,7 @@ fn judged_lists(
     if let Some(found) = lists_fault(alloc, modules, forest, tables)? {
         return Err(fault_in(alloc, found));
     }
-    Ok(table_of(
-        alloc, modules, forest, typedefs, typed, edges, tables,
-    )?)
+    Ok(table_of(alloc, modules, forest, typedefs, typed, edges, tables)?)
 }
 
 /// The table of a forest whose names are good, or the first other fault of types, then of lists.

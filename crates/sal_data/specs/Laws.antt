@@ -1,7 +1,8 @@
 -- What is written reads as what it was.
-use Rattle.std.specs.Prelude.{◌≡◌, ℕ, ◌≤◌, not, ◌||◌, List, [], ◌∷◌, ◌++◌, length, Option, Some, Ok, is_some, IsTrue}
+use Rattle.std.specs.Prelude.{◌≡◌, ℕ, ◌≤◌, ⊤, not, ◌||◌, List, [], ◌∷◌, ◌++◌, length, Option, Some, None, Ok, is_some, IsTrue}
 use Rattle.std.specs.List.{All}
-use Rattle.serde_json.specs.Data.{Data}
+use Rattle.serde_json.specs.Data.{Data, null, boolean, number, string, array, object, Items, no_items, item, Members, no_members, member}
+use Rattle.serde_json.specs.Find.{get_member}
 use Rattle.sal_types.specs.declared.value.Value.{Value}
 use Rattle.sal_types.specs.declared.value.Cell.{Cell}
 use Rattle.sal_types.specs.declared.value.Cell.TheVariants.{Mark, Leaf}

@@ -1,14 +1,11 @@
 -- First places, found from the last element to the first.
-use Rattle.std.proofs.Common.{◌≡◌, ℕ, ◌+◌, ◌-◌, ◌≤◌, ◌<◌, List, length, drop, get_or, Bool, Option, Some, None, if◌then◌else◌, refl, ◌∙◌, sym, ap, arith}
+use Rattle.std.proofs.Common.{◌≡◌, ℕ, ◌+◌, ◌-◌, ◌≤◌, ◌<◌, List, length, drop, get_or, Bool, Option, Some, if◌then◌else◌, refl, ◌∙◌, sym, ap, arith}
 use Rattle.std.specs.List.{position_from}
-use Rattle.std.proofs.lemmas.List.{drop_more, drop_all}
+use Rattle.std.proofs.lemmas.List.{drop_more}
 
 -- the first of the last so many
 abbrev pub first_of_last : {X : Type 0} → (X → Bool) → List X → ℕ → Option ℕ
 first_of_last p xs done = position_from p (length xs - done) (drop (length xs - done) xs)
-
-pub none-yet : {X : Type 0} (p : X → Bool) (xs : List X) → None ≡ first_of_last p xs 0
-none-yet p xs = sym (ap (position_from p (length xs)) (drop_all (length xs) xs (omega arith)))
 
 pub one-before : {X : Type 0} (p : X → Bool) (xs : List X) (done : ℕ) (x : X) → done < length xs → x ≡ get_or xs (length xs - 1 - done) x
     → (if p x then Some (length xs - 1 - done) else first_of_last p xs done) ≡ first_of_last p xs (done + 1)

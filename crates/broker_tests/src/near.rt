@@ -14,6 +14,12 @@ use std::alloc::Global;
 use std::sync::Arc;
 use std::test::Fail;
 
+// How many entries the opening has, and how many times a decision and a conflict are asked for. Where a decision looked at all rows, or a conflict
+// at all commits, neither would end in the time of a test.
+const CELLS: u64 = 200_000;
+
+const TIMES: u64 = 100_000;
+
 // The container 0 with the leafs 1 and 2, and the list 3 with its key 4 and the mandatory leaf 5.
 const MODULE: &str = "module near {
   namespace 'urn:near';
@@ -132,18 +138,18 @@ fn named(alloc: Global, domain: &Domain) -> Result<u64, Fail>
 fn decided_and_asked(domain: &mut Domain, alloc: Global) -> Result<(bool, bool, u64), Fail>
     requires { AreKept domain.old.commits.items }
 {
-    let done = all_are_next(domain, alloc, 1_000)?;
-    let free = is_free(alloc, domain, 1_000)?;
+    let done = all_are_next(domain, alloc, TIMES)?;
+    let free = is_free(alloc, domain, TIMES)?;
     Ok((done, free, named(alloc, domain)?))
 }
 
 #[test]
 fn near_and_stamps(rt: HostRuntime) -> Result<(), Fail> {
-    let device = device(rt.alloc(), 2_000)?;
+    let device = device(rt.alloc(), CELLS)?;
     let mut domain = Domain::open(rt.alloc(), 0, &device, true)?;
     assert_eq!(rt;
         decided_and_asked(&mut domain, rt.alloc())?,
-        (true, true, 1_000)
+        (true, true, TIMES)
     );
     Ok(())
 }

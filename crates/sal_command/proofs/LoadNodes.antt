@@ -1,27 +1,21 @@
 -- The nodes of the load's module, and their faults.
-use Prim.Native.String.{String}
-use Rattle.std.proofs.Common.{◌≡◌, ◌+◌, ◌∙◌, ℕ, zero, suc, Bool, true, false, List, [], ◌∷◌, ◌++◌, Option, None, Some, codes, if◌then◌else◌, refl}
-use Rattle.std.specs.List.{flat_map}
-use Rattle.sal_stmt.specs.declared.stmt.Stmt.{Stmt}
+use Rattle.std.proofs.Common.{◌≡◌, List, [], ◌∷◌, None, Some, codes, refl}
 use Rattle.sal_stmt.specs.declared.stmt.Stmt.TheViews.{out-roll-Stmt}
-use Rattle.sal_restrict.specs.declared.yang_type.YangType.TheViews.{out-roll-YangType}
-use Rattle.sal_module.specs.declared.keyword.Keyword.TheVariants as word
-use Rattle.sal_module.specs.Keywords.{same, words, keyword_of, word_of}
+use Rattle.sal_module.specs.Keywords.{words, keyword_of, word_of}
 use Rattle.sal_module.specs.Statements.{subs_of, is_named, argument_of, all_named, value_of}
 use Rattle.sal_module.specs.Profile.{at_stmt}
-use Rattle.sal_schema.specs.Examples.{leaf, list, whole}
+use Rattle.sal_schema.specs.Examples.{leaf, list}
 use Rattle.sal_schema.specs.declared.kind.Kind.TheVariants as kind
-use Rattle.sal_typedefs.specs.Types.{judge}
-use Rattle.sal_typedefs.specs.Names.{under, steps_of, name_of as leafref_name}
+use Rattle.sal_typedefs.specs.Names.{steps_of, name_of as leafref_name}
 use Rattle.sal_build.specs.Nodes.{stmt_of, own_stmt, has, keyword_in, kind_in, kind_of, argument_in, name_of, stated, own_config}
 use Rattle.sal_build.specs.Inherited.{inherited}
 use Rattle.sal_build.specs.Lists.{block_of, sub_faults, config_fault, node_faults}
 use Rattle.sal_build.specs.Identities.{identities_of, identity_here, identities_in}
-use Rattle.sal_build.specs.Leafrefs.{type_in, type_of, references_at, stated_leafrefs}
+use Rattle.sal_build.specs.Leafrefs.{type_in, type_of, references_at}
 use Rattle.sal_build.specs.Table.{info_of}
-use Rattle.sal_command.proofs.LoadText.{stmt, leaf_at, cell_list, module_stmt, its_stmts}
+use Rattle.sal_command.proofs.LoadText.{leaf_at, its_stmts}
 use Rattle.sal_command.proofs.LoadForest.{branch, its_forest}
-use Rattle.sal_command.proofs.LoadTypes.{type_stmt, site, judges, just}
+use Rattle.sal_command.proofs.LoadTypes.{just}
 use Rattle.sal_command.proofs.LoadSites.{at_list, at_k, at_v, way_to_k, way_to_v, site_k, site_v, in_list}
 
 pub kind_list : kind_of its_stmts (branch None 46) ≡ kind.List

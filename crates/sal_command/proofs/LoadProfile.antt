@@ -1,6 +1,6 @@
 -- The profile finds no fault in the load's module, and its imports none.
 use Prim.Native.String.{String}
-use Rattle.std.proofs.Common.{◌≡◌, ◌+◌, ℕ, suc, Bool, true, false, List, [], ◌∷◌, ◌++◌, Ok, if◌then◌else◌, refl}
+use Rattle.std.proofs.Common.{◌≡◌, ◌+◌, ℕ, suc, Bool, true, false, List, [], ◌∷◌, Ok, if◌then◌else◌, refl}
 use Rattle.std.specs.Prelude.{⊤}
 use Rattle.std.specs.List.{flat_map}
 use Rattle.sal_stmt.specs.Words.{is_keyword}

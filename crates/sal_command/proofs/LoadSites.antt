@@ -1,6 +1,6 @@
 -- The type statements of the load's module, and the statements of its nodes.
 use Prim.Native.String.{String}
-use Rattle.std.proofs.Common.{◌≡◌, ◌+◌, ◌∙◌, ℕ, zero, suc, Bool, true, false, List, [], ◌∷◌, ◌++◌, Option, None, Some, codes, is_some, if◌then◌else◌, refl}
+use Rattle.std.proofs.Common.{◌≡◌, ◌+◌, ◌∙◌, ℕ, suc, true, false, List, [], ◌∷◌, Some, codes, is_some, refl}
 use Rattle.std.specs.List.{flat_map}
 use Rattle.sal_stmt.specs.declared.stmt.Stmt.{Stmt}
 use Rattle.sal_stmt.specs.declared.stmt.Stmt.TheViews.{out-roll-Stmt}

@@ -1,12 +1,11 @@
 -- The table of the load's module.
-use Rattle.std.proofs.Common.{◌≡◌, ◌+◌, ◌∙◌, ap, ℕ, zero, suc, Bool, true, false, List, [], ◌∷◌, ◌++◌, Option, None, Some, Result, Ok, codes, if◌then◌else◌, refl}
+use Rattle.std.proofs.Common.{◌≡◌, ◌∙◌, ap, ℕ, List, [], ◌∷◌, Ok, codes, refl}
 use Rattle.sal_stmt.specs.declared.stmt.Stmt.{Stmt}
 use Rattle.sal_stmt.specs.declared.stmt.Stmt.TheViews.{out-roll-Stmt}
 use Rattle.sal_restrict.specs.declared.yang_type.YangType.{YangType}
 use Rattle.sal_restrict.specs.declared.yang_type.YangType.TheViews.{out-roll-YangType}
 use Rattle.sal_module.specs.Statements.{argument_of}
-use Rattle.sal_schema.specs.Examples.{leaf, list, whole}
-use Rattle.sal_schema.specs.declared.table.SchemaTable.{SchemaTable}
+use Rattle.sal_schema.specs.Examples.{whole}
 use Rattle.sal_module.specs.declared.fault.Found.{Found}
 use Rattle.std.specs.List.{flat_map}
 use Rattle.sal_typedefs.specs.Scopes.{Site}
@@ -20,10 +19,10 @@ use Rattle.sal_build.specs.Lists as lists
 use Rattle.sal_build.specs.Table.{infos_of}
 use Rattle.sal_build.specs.Types as types
 use Rattle.sal_script.specs.LoadExamples.{table}
-use Rattle.sal_command.proofs.LoadText.{stmt, leaf_at, cell_list, module_stmt, its_stmts}
-use Rattle.sal_command.proofs.LoadForest.{branch, its_forest, expanded}
+use Rattle.sal_command.proofs.LoadText.{leaf_at, module_stmt, its_stmts}
+use Rattle.sal_command.proofs.LoadForest.{its_forest, expanded}
 use Rattle.sal_command.proofs.LoadProfile.{checked}
-use Rattle.sal_command.proofs.LoadTypes.{type_stmt, site, no_name_faults, judges}
+use Rattle.sal_command.proofs.LoadTypes.{site, no_name_faults, judges}
 use Rattle.sal_command.proofs.LoadSites.{its_types, site_k, site_v, in_list}
 use Rattle.sal_command.proofs.LoadNodes.{kind_list, kind_k, kind_v, type_k, type_v, info_list, info_k, info_v, no_faults_list, no_faults_k, no_faults_v, no_references_list, no_references_k, no_references_v, no_identities}
 

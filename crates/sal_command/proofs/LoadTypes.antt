@@ -1,23 +1,17 @@
 -- The types of the load's module: each is the built-in one, without a fault.
-use Prim.Native.String.{String}
-use Rattle.std.proofs.Common.{◌≡◌, ◌+◌, ℕ, zero, suc, Bool, true, false, List, [], ◌∷◌, ◌++◌, Option, None, Some, if◌then◌else◌, refl}
-use Rattle.std.specs.List.{flat_map}
+use Rattle.std.proofs.Common.{◌≡◌, ℕ, zero, suc, List, [], ◌∷◌, refl}
 use Rattle.sal_stmt.specs.declared.stmt.Stmt.{Stmt}
 use Rattle.sal_stmt.specs.declared.stmt.Stmt.TheViews.{out-roll-Stmt}
 use Rattle.sal_restrict.specs.declared.yang_type.YangType.TheViews.{out-roll-YangType}
-use Rattle.sal_module.specs.declared.keyword.Keyword.TheVariants as word
-use Rattle.sal_module.specs.declared.fault.Found.{Found}
-use Rattle.sal_module.specs.Keywords.{words, keyword_of, word_of}
-use Rattle.sal_module.specs.Statements.{all_named, subs_of, is_named, argument_of, value_of}
+use Rattle.sal_module.specs.Keywords.{words, word_of}
+use Rattle.sal_module.specs.Statements.{all_named, subs_of, is_named, argument_of}
 use Rattle.sal_schema.specs.Examples.{whole}
-use Rattle.sal_typedefs.specs.Scopes.{Site, within, top, way_to, place_of}
+use Rattle.sal_typedefs.specs.Scopes.{Site}
 use Rattle.sal_typedefs.specs.Builtins.{names, builtin_of}
-use Rattle.sal_typedefs.specs.Names.{name_of, name_faults, rests_on, under, leafrefs_of}
+use Rattle.sal_typedefs.specs.Names.{name_of, name_faults, rests_on, under}
 use Rattle.sal_typedefs.specs.Restrictions.{is_needed, is_misplaced, layer_of}
-use Rattle.sal_typedefs.specs.Types.{Judged, judge, judge_last, restricted, judged, base_of, members_of}
-use Rattle.sal_build.specs.Types as types
-use Rattle.sal_build.specs.Types.{is_read, types_in}
-use Rattle.sal_command.proofs.LoadText.{stmt, leaf_at, cell_list, module_stmt, its_stmts}
+use Rattle.sal_typedefs.specs.Types.{Judged, judge, judge_last, restricted, judged, base_of}
+use Rattle.sal_command.proofs.LoadText.{stmt}
 
 abbrev pub type_stmt : ℕ → Stmt
 type_stmt at = stmt "type" "uint32" at []

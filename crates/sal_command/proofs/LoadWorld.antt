@@ -1,9 +1,7 @@
 -- The script of a load is prepared to its world.
-use Rattle.std.proofs.Common.{◌≡◌, ◌∙◌, ap, ℕ, Bool, true, false, List, [], ◌∷◌, None, Ok, refl}
+use Rattle.std.proofs.Common.{◌≡◌, ℕ, false, [], ◌∷◌, None, Ok, refl}
 use Rattle.std.specs.List.{list_any}
-use Rattle.serde_json.specs.Data.{object, no_members}
 use Rattle.sal_restrict.specs.declared.yang_type.YangType.TheViews.{out-roll-YangType}
-use Rattle.sal_schema.specs.declared.table.SchemaTable.{SchemaTable}
 use Rattle.sal_schema.specs.Table.{closest}
 use Rattle.sal_json.specs.Patterns.{has_malformed}
 use Rattle.sal_rules.specs.Breaches.{first}
@@ -13,9 +11,9 @@ use Rattle.sal_hub.specs.Openings.{fault_of}
 use Rattle.sal_script.specs.declared.load.TheConstants.{LOAD_MODULE}
 use Rattle.sal_script.specs.Load.{parts_of}
 use Rattle.sal_script.specs.LoadExamples.{table}
-use Rattle.sal_command.specs.Loads.{LoadsArePrepared, load_prepared, load_world}
+use Rattle.sal_command.specs.Loads.{LoadsArePrepared, load_world}
 use Rattle.sal_command.specs.Schemas.{table_of}
-use Rattle.sal_command.specs.Scripted.{domains_of, reader_tables, over_world, world_over, prepared_of}
+use Rattle.sal_command.specs.Scripted.{domains_of, reader_tables, world_over}
 use Rattle.sal_command.proofs.LoadText.{its_text}
 use Rattle.sal_command.proofs.LoadTable.{its_build}
 

@@ -58,7 +58,7 @@ its_types =
       passes 63 "module" "load" 0 (stmt "namespace" "urn:load" 14 [] ∷ stmt "prefix" "l" 36 [] ∷ cell_list ∷ []) [] refl refl refl,
       no_types 62 "namespace" "urn:load" 14 (module_stmt ∷ []) refl refl refl,
       no_types 62 "prefix" "l" 36 (module_stmt ∷ []) refl refl refl,
-      types_in_list
+      types_in_list,
     ) refl
 
 -- ---- the statements of the nodes

@@ -1,5 +1,5 @@
 -- The status of what fails is that of all that stands on it.
-use Rattle.std.proofs.Common.{◌≡◌, Result, Ok, Err, ap, refl, sym, ◌∙◌}
+use Rattle.std.proofs.Common.{◌≡◌, Result, Ok, Err, ap, sym, ◌∙◌}
 use Rattle.sal_command.specs.declared.status.Status.{Status}
 use Rattle.sal_command.specs.declared.status.Status.TheVariants.{Done, BadWords, ReadFault, WriteFault, TooLong, BadScript, BadSchema, BadOpening, BadOrder, NoMemory}
 use Rattle.sal_command.specs.Scripted.{IsStatusOf}
@@ -20,19 +20,6 @@ fails_as A made e ReadFault is fault = absurd fault
 fails_as A made e WriteFault is fault = absurd fault
 fails_as A made e TooLong is fault = absurd fault
 fails_as A made e (BadOrder index) is fault = absurd fault
-
--- where something is made, nothing but memory can be wanting
-pub only_memory : {A : Type 0} (made : Result A Status) (x : A) (status : Status) → made ≡ Ok x → IsStatusOf made status → status ≡ NoMemory
-only_memory made x NoMemory is fault = refl
-only_memory made x (BadScript place) is fault = cc
-only_memory made x (BadSchema n text) is fault = cc
-only_memory made x (BadOpening text) is fault = cc
-only_memory made x Done is fault = absurd fault
-only_memory made x BadWords is fault = absurd fault
-only_memory made x ReadFault is fault = absurd fault
-only_memory made x WriteFault is fault = absurd fault
-only_memory made x TooLong is fault = absurd fault
-only_memory made x (BadOrder index) is fault = absurd fault
 
 -- what is made is one value
 pub same_made : {A : Type 0} (made : Result A Status) (x y : A) → made ≡ Ok x → made ≡ Ok y → x ≡ y

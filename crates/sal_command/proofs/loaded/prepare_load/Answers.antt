@@ -6,7 +6,7 @@ use Rattle.sal_script.specs.Script.{Parts}
 use Rattle.sal_script.specs.declared.script.Script.{Script}
 use Rattle.sal_command.specs.Loads.{load_prepared}
 use Rattle.sal_command.specs.Scripted.{Prepared, prepared_of, seen}
-use Rattle.sal_command.proofs.Statuses.{only_memory, same_made}
+use Rattle.sal_command.proofs.Statuses.{same_made}
 use Rattle.sal_command.proofs.loaded.prepare_load.Goals as goal
 
 pub returns-clause-clients : goal.returns-clause-clients

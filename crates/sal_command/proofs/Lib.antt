@@ -1,5 +1,13 @@
 pub mod Each
 pub mod Formed
+pub mod LoadForest
+pub mod LoadNodes
+pub mod LoadProfile
+pub mod LoadSites
+pub mod LoadTable
+pub mod LoadText
+pub mod LoadTypes
+pub mod LoadWorld
 pub mod Numbered
 pub mod Numerals
 pub mod Roots

@@ -20,3 +20,7 @@ fails_as A made e ReadFault is fault = absurd fault
 fails_as A made e WriteFault is fault = absurd fault
 fails_as A made e TooLong is fault = absurd fault
 fails_as A made e (BadOrder index) is fault = absurd fault
+
+-- what is made is one value
+pub same_made : {A : Type 0} (made : Result A Status) (x y : A) → made ≡ Ok x → made ≡ Ok y → x ≡ y
+same_made made x y one other = cc

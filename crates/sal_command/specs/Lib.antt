@@ -1,4 +1,5 @@
 pub mod Each
+pub mod Loads
 pub mod Schemas
 pub mod Scripted
 pub mod Statuses

@@ -10,10 +10,10 @@ use Rattle.sal_script.specs.Script.{Parts, script_of}
 use Rattle.sal_script.specs.Play.{Played, play}
 use Rattle.sal_script.specs.Report.{report}
 use Rattle.sal_script.specs.SomeOrder.{IsReportInSomeOrder}
-use Rattle.sal_script.specs.Load as load
 use Rattle.sal_script.specs.LoadOrder.{IsSummaryInSomeOrder}
+use Rattle.sal_command.specs.Loads.{load_world}
 use Rattle.sal_command.specs.Schemas.{table_of}
-use Rattle.sal_command.specs.Scripted.{Comes, IsStatusOf, Prepared, or_schema, or_script, prepared, prepared_of}
+use Rattle.sal_command.specs.Scripted.{Comes, IsStatusOf, Prepared, or_schema, or_script, prepared}
 use Rattle.sal_command.specs.declared.top.TheConstants.{HELP, VERSION}
 use Rattle.sal_command.specs.declared.status.Status.{Status}
 use Rattle.sal_command.specs.declared.status.Status.TheVariants.{Done, BadWords, ReadFault, WriteFault, TooLong, BadScript, BadSchema, BadOpening, BadOrder, NoMemory}
@@ -41,12 +41,10 @@ RunsTo bytes (Ok text) = (script : Prepared) × (prepared bytes ≡ Ok script) �
 RunsTo bytes (Err (BadOrder index)) = ⊥
 RunsTo bytes (Err status) = prepared bytes ≡ Err status
 
--- A load: the summary of its clients run at the same time, played in some order of their shared calls over what its own script is
--- prepared to.
-abbrev pub LoadsTo : ℕ → ℕ → Result (List ℕ) Status → Type 0
-LoadsTo rounds start (Ok text) = (script : Prepared) × (prepared_of (load.parts_of rounds start) ≡ Ok script) × IsSummaryInSomeOrder script.world rounds start text
-LoadsTo rounds start (Err (BadOrder index)) = ⊥
-LoadsTo rounds start (Err status) = prepared_of (load.parts_of rounds start) ≡ Err status
+-- A load: the summary of its clients run at the same time, played in some order of their shared calls over the world of its own
+-- module. Its own script is always a script, so it comes to nothing else.
+abbrev pub LoadsTo : ℕ → ℕ → List ℕ → Type 0
+LoadsTo = IsSummaryInSomeOrder load_world
 
 -- the text of the schema that the modules of the script build
 abbrev pub schema_text : List ℕ → Result (List ℕ) Status
@@ -85,13 +83,10 @@ TextAnswers comes before after told told' ReadFault = told' ≡ told
 TextAnswers comes before after told told' NoMemory = told' ≡ told
 TextAnswers comes before after told told' BadWords = ⊥
 
--- What a form did that reads no input, and comes to a text or to a status. Where memory ran out nothing was written.
-abbrev pub OwnAnswers : (Result (List ℕ) Status → Type 0) → Option (List ℕ) → Option (List ℕ) → Status → Type 0
-OwnAnswers comes told told' Done = (text : List ℕ) × comes (Ok text) × Written text told told' Done
-OwnAnswers comes told told' WriteFault = (text : List ℕ) × comes (Ok text) × Written text told told' WriteFault
-OwnAnswers comes told told' (BadScript place) = comes (Err (BadScript place)) × (told' ≡ told)
-OwnAnswers comes told told' (BadSchema device text) = comes (Err (BadSchema device text)) × (told' ≡ told)
-OwnAnswers comes told told' (BadOpening text) = comes (Err (BadOpening text)) × (told' ≡ told)
+-- What a form did that reads no input, and comes to a text whatever its words say. Where memory ran out nothing was written.
+abbrev pub OwnAnswers : (List ℕ → Type 0) → Option (List ℕ) → Option (List ℕ) → Status → Type 0
+OwnAnswers comes told told' Done = (text : List ℕ) × comes text × Written text told told' Done
+OwnAnswers comes told told' WriteFault = (text : List ℕ) × comes text × Written text told told' WriteFault
 OwnAnswers comes told told' NoMemory = told' ≡ told
 OwnAnswers comes told told' status = ⊥
 
@@ -112,12 +107,12 @@ abbrev pub IsMade : {A : Type 0} → (List ℕ → Result A Status) → Option (
 IsMade {A} make (Some bytes) = (length bytes ≤ 16777216) × ((made : A) × (make bytes ≡ Ok made))
 IsMade {A} make None = ⊥
 
--- Words that are known, with an input that is valid for them. A run asks nothing of the order of the script.
+-- Words that are known, with an input that is valid for them. A run asks nothing of the order of the script, and a load nothing at all.
 abbrev pub IsValid : Option Form → Option (List ℕ) → Type 0
 IsValid None before = ⊥
 IsValid (Some Run) before = IsMade prepared before
 IsValid (Some Sim) before = IsMade sim_text before
-IsValid (Some (Load rounds start)) before = (script : Prepared) × (prepared_of (load.parts_of rounds start) ≡ Ok script)
+IsValid (Some (Load rounds start)) before = ⊤
 IsValid (Some Schema) before = IsMade schema_text before
 IsValid (Some Help) before = ⊤
 IsValid (Some Version) before = ⊤
@@ -157,6 +152,6 @@ IsPlayOr made result = MatchResult result (λ text. made ≡ Ok text) (IsPlayFau
 abbrev pub IsRunOr : List ℕ → Result (List ℕ) Status → Type 0
 IsRunOr bytes result = MatchResult result (λ text. RunsTo bytes (Ok text)) (IsStatusOf (prepared bytes))
 
--- a summary that a load may come to; nothing is said of want of memory
+-- a summary that a load may come to, unless memory ran out
 abbrev pub IsLoadOr : ℕ → ℕ → Result (List ℕ) Status → Type 0
-IsLoadOr rounds start result = MatchResult result (λ text. LoadsTo rounds start (Ok text)) (IsStatusOf (prepared_of (load.parts_of rounds start)))
+IsLoadOr rounds start result = MatchResult result (LoadsTo rounds start) (λ status. status ≡ NoMemory)

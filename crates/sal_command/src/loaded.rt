@@ -1,12 +1,13 @@
 //! A load: from its two numbers to its summary.
-ghost use Rattle.std.specs.Prelude.{◌≡◌, ◌≤◌, [], IfOk};
+ghost use Rattle.std.specs.Prelude.{◌≡◌, ◌≤◌, [], IfErr, IfOk};
 ghost use Rattle.sal_script.specs.Load as load;
 ghost use Rattle.sal_script.specs.LoadOrder.{IsSummaryInSomeOrder};
 ghost use Rattle.sal_script.specs.Moves.{clients_of};
 ghost use Rattle.sal_script.specs.Play.{tables_of};
-ghost use Rattle.sal_command.specs.Scripted as scripts;
+ghost use Rattle.sal_command.specs.Loads.{load_world};
 ghost use Rattle.sal_command.specs.Top as spec;
 
+use crate::laws as own_laws;
 use crate::reported::summary_of;
 use crate::scripted::{Prepared, prepare_script};
 use crate::status::Status;
@@ -37,15 +38,17 @@ pub(crate) fn load_text<R: Threads + Wait + Sync, G: Gate>(
     }
 }
 
-// The script of a load, with the hub over its domain.
+// The script of a load, with the hub over its domain. It is always a script, so nothing but memory can be wanting.
 fn prepare_load(alloc: Global, rounds: u32, start: u32) -> Result<Prepared, Status>
     requires rounds { rounds ≤ 10000 }
     requires start { start ≤ 65536 }
-    ensures prepared { scripts.Comes scripts.seen (scripts.prepared_of (load.parts_of rounds start)) result }
+    ensures world { IfOk result (λ it. it.hub.world ≡ load_world) }
+    ensures memory { IfErr result (λ status. status ≡ Status.NoMemory) }
     ensures readers { IfOk result (λ it. it.read.readers ≡ tables_of it.hub.world) }
     ensures fresh { IfOk result (λ it. it.hub.log ≡ []) }
     ensures clients { IfOk result (λ it. clients_of it.read.script.clients ≡ load.clients_of rounds start) }
 {
+    own_laws::loads_are_prepared();
     let script = load_script(alloc, rounds, start)?;
     let prepared = prepare_script(alloc, script)?;
     Ok(prepared)

@@ -99,11 +99,11 @@ fn submission(place: &Place, base: Pair, view: Pair, changes: Mod) -> Submission
 // The receipt behind that of the newest commit.
 fn next_receipt(domain: &Domain) -> Result<u64, Fail>
     requires { AreKept domain.now.commits.items }
-    ensures small { IfOk result (λ receipt. receipt ≤ 1000) }
+    ensures small { IfOk result (λ receipt. receipt ≤ 1000000) }
     ensures fresh { IfOk result (λ receipt. IsNewStamp domain.now.commits.items receipt (receipt * 2 + 1)) }
 {
     let last = &domain.commits[domain.commits.len() - 1];
-    if last.receipt >= 1000 {
+    if last.receipt >= 1_000_000 {
         return Err("too many receipts".into());
     }
     Ok(last.receipt + 1)

@@ -1,4 +1,5 @@
 //! Laws of the rounds of a load. A call does nothing: its clauses are the laws.
+ghost use Rattle.sal_loads.specs.Numbers as numbers;
 ghost use Rattle.sal_loads.specs.Rounds as rounds;
 
 /// Nothing stands at or below an entry that no round put, nor at the list itself.
@@ -40,3 +41,16 @@ pub fn rounds_add_up()
     ensures grows { rounds.SumGrows }
     ensures all { rounds.SumsAreAll }
 {}
+
+/// In each order of its clients' calls a load comes to the same numbers, and so its summary is one text.
+pub fn loads_come_to_one()
+    ensures numbers { numbers.LoadsComeToOne }
+    ensures text { numbers.SummariesAreOne }
+{
+    rounds_are_done();
+    puts_are_taken();
+    rounds_are_read();
+    rounds_have_keys();
+    rounds_add_up();
+    rounds_are_counted();
+}

@@ -89,7 +89,7 @@ new_key (x ∷ rounds) rest round distinct =
     let here : nat_eq x.key round.key ≡ false = eq_other round.key x.key (other_key rounds rest round x.key (not_true (has_key (rounds ++ round ∷ rest) x.key) parts.0)) in
     ap (λ (b : Bool). b || has_key rounds round.key) here ∙ new_key rounds rest round parts.1
 
-rounds-append : (subs more : List Sub) → rounds_of (subs ++ more) ≡ rounds_of subs ++ rounds_of more
+pub rounds-append : (subs more : List Sub) → rounds_of (subs ++ more) ≡ rounds_of subs ++ rounds_of more
 rounds-append subs more = map-append (λ (sub : Sub). sub.round) subs more
 
 -- ---- outcomes

@@ -94,7 +94,7 @@ up_to-in b n h = ap (λ (t : Bool). if t then 1 else 0) (le-leb n b h)
 up_to-out : (b n : ℕ) → b < n → up_to b (Some n) ≡ 0
 up_to-out b n h = by (nat_le n b) refl
   where
-    by : (t : Bool) → nat_le n b ≡ t → (if t then 1 else 0) ≡ 0
+    by : (t : Bool) → nat_le n b ≡ t → ◌≡◌ {A = ℕ} (if t then 1 else 0) 0
     by true is = let le : n ≤ b = leb-true n b is in absurd (omega (arith, le, h))
     by false is = refl
 

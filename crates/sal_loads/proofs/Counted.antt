@@ -1,5 +1,5 @@
 -- Rounds that put different entries leave three rows each, and their numbers.
-use Rattle.std.proofs.Common.{◌≡◌, ℕ, ◌+◌, ◌*◌, Bool, true, false, List, [], ◌∷◌, ◌++◌, length, Option, Some, None, refl, ap, sym, ◌∙◌, arith, if◌then◌else◌}
+use Rattle.std.proofs.Common.{◌≡◌, ℕ, ◌+◌, ◌*◌, Bool, true, false, List, [], ◌∷◌, ◌++◌, length, drop, Option, Some, None, refl, ap, sym, ◌∙◌, arith, if◌then◌else◌}
 use Rattle.std.specs.Prelude.{not, ◌&&◌, nat_eq, sum_by}
 use Rattle.std.specs.List.{list_any}
 use Rattle.std.specs.Option.{option_or}
@@ -44,14 +44,14 @@ put-rows tree key value rising new =
 
 -- the three rows are at places of their own
 are_new : (tree : List Row) (key value : ℕ) → has tree (entry key) ≡ false → AreNew tree (rows key value)
-are_new tree key value new = (
-    rw (differ (entry key) (entry key ++ Node 1 ∷ []) (λ h. omega arith), differ (entry key) (entry key ++ Node 2 ∷ []) (λ h. omega arith)) (none (entry key) (is_prefix-append (entry key) [])),
-    rw (differ (entry key ++ Node 1 ∷ []) (entry key ++ Node 2 ∷ []) (λ h. omega arith)) (none (entry key ++ Node 1 ∷ []) (is_prefix-append (entry key) (Node 1 ∷ []))),
-    none (entry key ++ Node 2 ∷ []) (is_prefix-append (entry key) (Node 2 ∷ [])),
-    tt)
+are_new tree key value new = (first, (second, (none (entry key ++ Node 2 ∷ []) (is_prefix-append (entry key) (Node 2 ∷ [])), tt)))
   where
     none : (r : List Step) → is_prefix (entry key) r ≡ true → cell tree r ≡ None
     none r e = no_cell (is_prefix (entry key)) tree r new e
+    first : option_or (cell (drop 1 (rows key value)) (entry key)) (cell tree (entry key)) ≡ None
+    first = rw (differ (entry key) (entry key ++ Node 1 ∷ []) (λ h. omega arith), differ (entry key) (entry key ++ Node 2 ∷ []) (λ h. omega arith)) (none (entry key) (is_prefix-append (entry key) []))
+    second : option_or (cell (drop 2 (rows key value)) (entry key ++ Node 1 ∷ [])) (cell tree (entry key ++ Node 1 ∷ [])) ≡ None
+    second = rw (differ (entry key ++ Node 1 ∷ []) (entry key ++ Node 2 ∷ []) (λ h. omega arith)) (none (entry key ++ Node 1 ∷ []) (is_prefix-append (entry key) (Node 1 ∷ [])))
 
 -- ---- rounds behind a tree
 

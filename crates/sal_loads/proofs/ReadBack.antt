@@ -21,6 +21,7 @@ use Rattle.sal_restrict.specs.Ranges.{holds}
 use Rattle.sal_restrict.specs.declared.yang_type.YangType.TheViews.{out-roll-YangType}
 use Rattle.sal_schema.specs.Examples.{part}
 use Rattle.sal_schema.specs.Paths.{fits_path}
+use Rattle.sal_schema.specs.Table.{closest}
 use Rattle.sal_schema.specs.Valid.{IsTable}
 use Rattle.sal_schema.specs.Values.{is_of_type}
 use Rattle.sal_json.specs.Read.{type_scalar, type_text_scalar}
@@ -39,6 +40,7 @@ use Rattle.sal_script.specs.LoadExamples.{entry, number, rows, table}
 use Rattle.sal_loads.specs.Rounds.{DataIsRead, PathIsRead}
 
 table_is : IsTable table
+unfolding closest
 table_is = record {
   small = record { nodes = omega arith; types = omega arith; modules = omega arith; identities = omega arith; };
   numbers = refl;
@@ -49,7 +51,7 @@ table_is = record {
   uniques = refl;
   module_names = refl;
   identities = refl;
-  types = simp out-roll-YangType refl;
+  types = simp out-roll-YangType;
   distinct = record { modules = refl; identities = refl; rpcs = refl; notifications = refl; data_nodes = refl; };
 }
 
@@ -100,7 +102,7 @@ written-is : (n : ℕ) → n ≤ 4294967295 → written table (entry n) ≡ entr
 written-is n small = rw (key_text-is n, quoted n small, append-nil, append_assoc) refl
 
 pub path_is_read : PathIsRead
-path_is_read n small = ap (read_path table) (sym (written-is n small)) ∙ written-reads table table_is (entry n) (is_data n small) (tt, (key_readable n small, tt), tt)
+path_is_read n small = ap (read_path table) (sym (written-is n small)) ∙ written-reads table table_is (entry n) (is_data n small) (tt, ((key_readable n small, tt), tt))
 
 -- ---- the value
 

@@ -4,6 +4,7 @@ use Rattle.std.specs.Prelude.{not, ◌&&◌, nat_eq, sum_by}
 use Rattle.std.specs.List.{list_any}
 use Rattle.std.specs.Option.{option_or}
 use Rattle.std.proofs.lemmas.Bool.{and_parts, both_ways, eq-eqb, eqb-true, false_from_ne_true, not-true, or_from, or_left, or_right}
+use Rattle.std.proofs.lemmas.List.Sums.{sum_by-cons}
 use Rattle.sal_types.specs.declared.value.Cell.{Cell}
 use Rattle.sal_types.specs.declared.value.Store.TheVariants.{Config, Oper}
 use Rattle.sal_types.specs.declared.value.Step.{Step}
@@ -49,7 +50,7 @@ are_new tree key value new = (first, (second, (none (entry key ++ Node 2 ∷ [])
     none : (r : List Step) → is_prefix (entry key) r ≡ true → cell tree r ≡ None
     none r e = no_cell (is_prefix (entry key)) tree r new e
     first : option_or (cell (drop 1 (rows key value)) (entry key)) (cell tree (entry key)) ≡ None
-    first = rw (differ (entry key) (entry key ++ Node 1 ∷ []) (λ h. omega arith), differ (entry key) (entry key ++ Node 2 ∷ []) (λ h. omega arith)) (none (entry key) (is_prefix-append (entry key) []))
+    first = rw (differ (entry key) (entry key ++ Node 1 ∷ []) (λ h. omega arith)) (none (entry key) (is_prefix-append (entry key) []))
     second : option_or (cell (drop 2 (rows key value)) (entry key ++ Node 1 ∷ [])) (cell tree (entry key ++ Node 1 ∷ [])) ≡ None
     second = rw (differ (entry key ++ Node 1 ∷ []) (entry key ++ Node 2 ∷ []) (λ h. omega arith)) (none (entry key ++ Node 1 ∷ []) (is_prefix-append (entry key) (Node 1 ∷ [])))
 
@@ -64,7 +65,7 @@ record Counts (tree after : List Row) (rounds : List Round) : Type 0 where
   rows : length after ≡ 3 * length rounds + length tree
   numbers : sum_by number_of after ≡ sum_of rounds + sum_by number_of tree
 
-after : List Row → Round → List Row
+abbrev after : List Row → Round → List Row
 after tree round = apply_ops tree Config (commit_of round)
 
 fresh-after : (tree : List Row) (round : Round) (rounds : List Round) → not (has_key rounds round.key) ≡ true → AreFresh tree (round ∷ rounds) → AreFresh (after tree round) rounds
@@ -78,7 +79,7 @@ counts-one : (tree : List Row) (round : Round) → IsAscending tree → has tree
 counts-one tree round rising new =
     let same : with_rows tree (rows round.key round.value) ≡ after tree round = put-rows tree round.key round.value rising new in
     let places : AreNew tree (rows round.key round.value) = are_new tree round.key round.value new in
-    let sum : sum_by number_of (with_rows tree (rows round.key round.value)) ≡ (0 + (0 + (round.value + 0))) + sum_by number_of tree = sum-with_rows number_of tree (rows round.key round.value) places in
+    let sum : sum_by number_of (with_rows tree (rows round.key round.value)) ≡ (((0 + 0) + 0) + round.value) + sum_by number_of tree = sum-with_rows number_of tree (rows round.key round.value) places in
     (ap length (sym same) ∙ length-with_rows tree (rows round.key round.value) places, ap (sum_by number_of) (sym same) ∙ sum ∙ omega arith)
 
 counts : (tree : List Row) (rounds : List Round) → IsAscending tree → are_distinct rounds ≡ true → AreFresh tree rounds → Counts tree (tree_after Config tree (commits_of rounds)) rounds
@@ -91,6 +92,7 @@ counts tree (round ∷ rounds) rising distinct fresh =
     let sum = one.1 in
     let rows_more = rest.rows in
     let sum_more = rest.numbers in
+    let all = sum_by-cons (λ one. one.value) round rounds in
     record { rows = omega arith; numbers = omega arith; }
 
 no_oper : (rounds : List Round) → tree_after Oper [] (commits_of rounds) ≡ []

@@ -17,10 +17,11 @@ use Rattle.sal_rows.specs.declared.outcome.Outcome.TheVariants.{Done}
 use Rattle.sal_rows.specs.Clash.{clash, is_lost, lost_parent, parent_clash, path_clash}
 use Rattle.sal_rows.specs.PathClash.{difference}
 use Rattle.sal_rows.specs.Commits.{is_unchanged, tree_after, tree_at}
-use Rattle.sal_rules.specs.Breaches.{breach, breach_of, breaches_at, breaches_from, breaches, keep, numbers, rules_of}
+use Rattle.sal_rules.specs.Breaches.{breach, breach_of, breaches_at, breaches_from, breaches, first, keep, numbers, rules_of}
 use Rattle.sal_rules.specs.Places.{places, spot_of}
 use Rattle.sal_rules.specs.Seen.{Seen, seen_from}
 use Rattle.sal_rules.specs.declared.spot.Spot.{Spot}
+use Rattle.sal_schema.specs.Table.{closest}
 use Rattle.sal_history.specs.Outcome.{conflict, decide, invalid}
 use Rattle.sal_script.specs.LoadExamples.{entry, rows, table}
 use Rattle.sal_loads.specs.Rounds.{IsAccepted, IsDecided, Round, commits_of, has_key, nothing, put_of, trees_behind}
@@ -59,8 +60,11 @@ flat_map-none f [] none = refl
 flat_map-none f (x ∷ xs) none = rw (none x) (flat_map-none f xs none)
 
 none-at : (store : Store) (place : List Step) (see : Seen) (m : Option ℕ) → breaches_at table store place see m (numbers table) ≡ []
-none-at Config place see m = refl
-none-at Oper place see m = refl
+unfolding first closest
+none-at Config place see None = refl
+none-at Config place see (Some n) = refl
+none-at Oper place see None = refl
+none-at Oper place see (Some n) = refl
 
 none-from : (store : Store) (tree : List Row) (place : List Step) → breaches_from table store place (seen_from tree place) (spot_of table place) (numbers table) ≡ []
 none-from store tree place =

@@ -39,18 +39,18 @@ sum_grows rounds round = sum_by_push (λ one. one.value) rounds round
 sum_after-suc : (start count : ℕ) → sum_after start (suc count) ≡ sum_after start count + (start + suc count)
 sum_after-suc start count = ap (sum_by (λ n. n)) (numbers_after-suc start count) ∙ sum_by_push (λ n. n) (numbers_after start count) (start + suc count)
 
-four_more : (start count : ℕ) → sum_after start (4 + count) ≡ sum_after start count + (4 * start + (4 * count + 10))
+four_more : (start count : ℕ) → sum_after start (suc (suc (suc (suc count)))) ≡ sum_after start count + (4 * start + (4 * count + 10))
 four_more start count =
     let one = sum_after-suc start count in
-    let two = sum_after-suc start (1 + count) in
-    let three = sum_after-suc start (2 + count) in
-    let four = sum_after-suc start (3 + count) in
+    let two = sum_after-suc start (suc count) in
+    let three = sum_after-suc start (suc (suc count)) in
+    let four = sum_after-suc start (suc (suc (suc count))) in
     omega arith
 
 pub all_sums : SumsAreAll
 all_sums start zero = refl
 all_sums start (suc rounds) =
     let before = all_sums start rounds in
-    let next : 4 * suc rounds ≡ 4 + 4 * rounds = omega arith in
+    let next : 4 * suc rounds ≡ suc (suc (suc (suc (4 * rounds)))) = omega arith in
     let more : sum_after start (4 * suc rounds) ≡ sum_after start (4 * rounds) + (4 * start + (4 * (4 * rounds) + 10)) = ap (sum_after start) next ∙ four_more start (4 * rounds) in
     omega arith

@@ -1,8 +1,15 @@
 pub mod Answering
+pub mod Behind
+pub mod Counted
+pub mod Decided
 pub mod Deciding
 pub mod Ending
+pub mod Entries
 pub mod Loaded
 pub mod Phases
+pub mod Placing
 pub mod Program
+pub mod ReadBack
 pub mod Standing
+pub mod Summed
 pub mod Turning

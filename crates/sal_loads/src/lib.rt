@@ -5,4 +5,5 @@
 //! of three rows with its number. `laws` has these facts as laws of the definitions. There is no code that runs.
 #![tactic(auto)]
 
+pub mod examples;
 pub mod laws;

@@ -25,16 +25,16 @@ use Rattle.sal_loads.proofs.Placing.{none-tree_of}
 
 -- where a test passes no row of the tree and none of the put's, it passes none behind the put
 one-none : (q : List Step → Bool) (tree : List Row) (key value : ℕ)
-           → list_any (λ row. q row.path) tree ≡ false → list_any (λ row. q row.path) (rows key value) ≡ false
-           → list_any (λ row. q row.path) (apply_ops tree Config (put_of key value ∷ [])) ≡ false
+    → list_any (λ row. q row.path) tree ≡ false → list_any (λ row. q row.path) (rows key value) ≡ false
+    → list_any (λ row. q row.path) (apply_ops tree Config (put_of key value ∷ [])) ≡ false
 one-none q tree key value before put =
     none-tree_of q (cell_after tree Config (put_of key value ∷ [])) (tree ++ rows key value)
     (list_any-append (λ row. q row.path) tree (rows key value) ∙ or_from _ _ before put)
 
 -- nor behind rounds whose puts it passes none of
 none-behind : (q : List Step → Bool) (t : Round → Bool) → ((round : Round) → t round ≡ false → list_any (λ row. q row.path) (rows round.key round.value) ≡ false)
-              → (tree : List Row) (rounds : List Round) → list_any (λ row. q row.path) tree ≡ false → list_any t rounds ≡ false
-              → list_any (λ row. q row.path) (tree_after Config tree (commits_of rounds)) ≡ false
+    → (tree : List Row) (rounds : List Round) → list_any (λ row. q row.path) tree ≡ false → list_any t rounds ≡ false
+    → list_any (λ row. q row.path) (tree_after Config tree (commits_of rounds)) ≡ false
 none-behind q t puts tree [] before none = before
 none-behind q t puts tree (round ∷ rounds) before none =
     none-behind q t puts (apply_ops tree Config (commit_of round)) rounds

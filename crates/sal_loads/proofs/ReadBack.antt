@@ -42,7 +42,7 @@ use Rattle.sal_loads.specs.Rounds.{DataIsRead, PathIsRead}
 table_is : IsTable table
 unfolding closest
 table_is = record {
-  small = record { nodes = omega arith; types = omega arith; modules = omega arith; identities = omega arith; };
+  small = record { nodes = omega arith; types = omega arith; modules = omega arith; identities = omega arith };
   numbers = refl;
   places = refl;
   names = refl;
@@ -52,7 +52,7 @@ table_is = record {
   module_names = refl;
   identities = refl;
   types = simp out-roll-YangType;
-  distinct = record { modules = refl; identities = refl; rpcs = refl; notifications = refl; data_nodes = refl; };
+  distinct = record { modules = refl; identities = refl; rpcs = refl; notifications = refl; data_nodes = refl };
 }
 
 -- ---- numbers of 32 bits
@@ -84,7 +84,7 @@ key_fits : (n : ℕ) → n ≤ 4294967295 → fits_path table (entry n) ≡ true
 key_fits n small = simp (out-roll-YangType, in_range n small) refl
 
 is_data : (n : ℕ) → n ≤ 4294967295 → IsDataPath table (entry n)
-is_data n small = record { fits = key_fits n small; of_data = refl; short = omega arith; }
+is_data n small = record { fits = key_fits n small; of_data = refl; short = omega arith }
 
 no_quote : (t : List ℕ) → list_all is_ascii_digit t ≡ true → list_any is_quote t ≡ false
 no_quote [] digits = refl

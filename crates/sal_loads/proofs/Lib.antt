@@ -3,5 +3,7 @@ pub mod Counted
 pub mod Decided
 pub mod Entries
 pub mod Placing
-pub mod ReadBack
+pub mod ReadNumbers
+pub mod ReadPath
+pub mod ReadValue
 pub mod Summed

@@ -1,7 +1,6 @@
 -- Rounds that put different entries leave three rows each, and their numbers.
-use Rattle.std.proofs.Common.{◌≡◌, ℕ, ◌+◌, ◌*◌, Bool, true, false, List, [], ◌∷◌, ◌++◌, length, drop, Option, Some, None, refl, ap, sym, ◌∙◌, arith, if◌then◌else◌}
-use Rattle.std.specs.Prelude.{not, ◌&&◌, nat_eq, sum_by}
-use Rattle.std.specs.List.{list_any}
+use Rattle.std.proofs.Common.{◌≡◌, ℕ, ◌+◌, ◌*◌, true, false, List, [], ◌∷◌, ◌++◌, length, drop, Option, Some, None, refl, ap, sym, ◌∙◌, arith, if◌then◌else◌}
+use Rattle.std.specs.Prelude.{not, nat_eq, sum_by}
 use Rattle.std.specs.Option.{option_or}
 use Rattle.std.proofs.lemmas.Bool.{and_parts, both_ways, eq-eqb, eqb-true, false_from_ne_true, not-true, or_from, or_left, or_right}
 use Rattle.std.proofs.lemmas.List.Sums.{sum_by-cons}
@@ -19,7 +18,7 @@ use Rattle.sal_rows.proofs.Applied.{IsAscending-apply_ops, apply_ops-unique}
 use Rattle.sal_rows.proofs.Untouched.{no_cell}
 use Rattle.sal_script.specs.Load.{number_of}
 use Rattle.sal_script.specs.LoadExamples.{entry, rows}
-use Rattle.sal_loads.specs.Rounds.{AreCounted, Round, RoundsAreCounted, are_distinct, commit_of, commits_of, has_key, put_of, sum_of}
+use Rattle.sal_loads.specs.Rounds.{Round, RoundsAreCounted, are_distinct, commit_of, commits_of, has_key, put_of, sum_of}
 use Rattle.sal_loads.proofs.Behind.{absent-behind}
 use Rattle.sal_loads.proofs.Entries.{at_entry, differ}
 use Rattle.sal_loads.proofs.Placing.{AreNew, IsAscending-with_rows, cell-with_rows, length-with_rows, sum-with_rows, with_rows}

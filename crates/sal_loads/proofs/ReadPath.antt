@@ -1,5 +1,5 @@
 -- The path of a round, of which a script has the text, is read as that of its put.
-use Rattle.std.proofs.Common.{◌≡◌, ℕ, ◌+◌, ◌≤◌, ◌==◌, true, false, not, List, [], ◌∷◌, ◌++◌, append_assoc, append-nil, length, refl, ap, sym, ◌∙◌, arith, decimal}
+use Rattle.std.proofs.Common.{◌≡◌, ℕ, ◌≤◌, ◌==◌, true, false, not, List, [], ◌∷◌, ◌++◌, append_assoc, append-nil, length, refl, ap, sym, ◌∙◌, arith, codes, decimal}
 use Rattle.std.specs.Char.{is_ascii_digit}
 use Rattle.std.specs.List.{list_all, list_any}
 use Rattle.std.proofs.lemmas.Bool.{and_parts}
@@ -43,6 +43,7 @@ key_readable : (n : ℕ) → n ≤ 4294967295 → IsReadable table 1 (number n)
 key_readable n small = ap (value_of table 1) (key_text-is n) ∙ simp (type_text_scalar, out-roll-YangType, as_text n small) refl
 
 key_fits : (n : ℕ) → n ≤ 4294967295 → fits_path table (entry n) ≡ true
+unfolding closest
 key_fits n small = simp (out-roll-YangType, in_range n small) refl
 
 is_data : (n : ℕ) → n ≤ 4294967295 → IsDataPath table (entry n)
@@ -60,8 +61,12 @@ quoted : (n : ℕ) → n ≤ 4294967295 → in_quotes (decimal n) ≡ 39 ∷ dec
 quoted n small =
     rw (no_quote (decimal n) (and_parts (not (length (decimal n) == 0)) (list_all is_ascii_digit (decimal n)) (digits_of-digits n (below_64 n small))).1) refl
 
+-- the quotes and the bracket behind a key
+ended : (t : List ℕ) → (((39 ∷ t ++ 39 ∷ []) ++ 93 ∷ []) ++ []) ++ [] ≡ 39 ∷ (t ++ 39 ∷ 93 ∷ [])
+ended t = append-nil _ ∙ append-nil _ ∙ append_assoc (39 ∷ t) (39 ∷ []) (93 ∷ [])
+
 written-is : (n : ℕ) → n ≤ 4294967295 → written table (entry n) ≡ entry_path n
-written-is n small = rw (key_text-is n, quoted n small, append-nil, append_assoc) refl
+written-is n small = rw (key_text-is n, quoted n small) (ap (λ t. codes "/load:cell[k=" ++ t) (ended (decimal n)))
 
 pub path_is_read : PathIsRead
 path_is_read n small = ap (read_path table) (sym (written-is n small)) ∙ written-reads table table_is (entry n) (is_data n small) (tt, ((key_readable n small, tt), tt))

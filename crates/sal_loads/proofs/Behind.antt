@@ -1,23 +1,20 @@
 -- What stands behind rounds: the entries that they put, and nothing else.
-use Rattle.std.proofs.Common.{◌≡◌, ℕ, suc, zero, ◌+◌, ◌*◌, Bool, true, false, List, [], ◌∷◌, ◌++◌, length, map, take, Option, Some, None, refl, ap, sym, ◌∙◌, arith, if◌then◌else◌}
-use Rattle.std.specs.Prelude.{not, ◌&&◌, nat_eq, sum_by, unwrap_or}
+use Rattle.std.proofs.Common.{◌≡◌, ℕ, suc, zero, Bool, false, List, [], ◌∷◌, ◌++◌, length, take, refl, ap, ◌∙◌}
+use Rattle.std.specs.Prelude.{nat_eq}
 use Rattle.std.specs.List.{list_any}
-use Rattle.std.specs.Option.{option_or}
 use Rattle.std.proofs.lemmas.List.Folds.{list_any-append}
 use Rattle.std.proofs.lemmas.Bool.{or_from}
-use Rattle.sal_types.specs.declared.value.Cell.{Cell}
-use Rattle.sal_types.specs.declared.value.Store.TheVariants.{Config, Oper}
+use Rattle.sal_types.specs.declared.value.Store.TheVariants.{Config}
 use Rattle.sal_types.specs.declared.value.Step.{Step}
 use Rattle.sal_types.specs.declared.value.Step.TheVariants.{Node}
 use Rattle.sal_types.specs.declared.row.Row.{Row}
 use Rattle.sal_types.specs.Order.{path_eq}
 use Rattle.sal_types.specs.Prefix.{is_prefix}
-use Rattle.sal_types.specs.Tree.{cell, has, IsAscending}
-use Rattle.sal_rows.specs.declared.op.Op.{Op}
-use Rattle.sal_rows.specs.Apply.{apply_ops, cell_after, cell_by}
+use Rattle.sal_types.specs.Tree.{has}
+use Rattle.sal_rows.specs.Apply.{apply_ops, cell_after}
 use Rattle.sal_rows.specs.Commits.{tree_after}
 use Rattle.sal_rows.proofs.Applied.{cell-none}
-use Rattle.sal_rows.proofs.Untouched.{or_first, or_second, no_cell}
+use Rattle.sal_rows.proofs.Untouched.{or_first, or_second}
 use Rattle.sal_script.specs.LoadExamples.{entry, rows}
 use Rattle.sal_loads.specs.Rounds.{HasNoList, IsAbsent, Round, commit_of, commits_of, has_key, put_of}
 use Rattle.sal_loads.proofs.Entries.{apart, not_list}
@@ -25,16 +22,16 @@ use Rattle.sal_loads.proofs.Placing.{none-tree_of}
 
 -- where a test passes no row of the tree and none of the put's, it passes none behind the put
 one-none : (q : List Step → Bool) (tree : List Row) (key value : ℕ)
-           → list_any (λ row. q row.path) tree ≡ false → list_any (λ row. q row.path) (rows key value) ≡ false
-           → list_any (λ row. q row.path) (apply_ops tree Config (put_of key value ∷ [])) ≡ false
+    → list_any (λ row. q row.path) tree ≡ false → list_any (λ row. q row.path) (rows key value) ≡ false
+    → list_any (λ row. q row.path) (apply_ops tree Config (put_of key value ∷ [])) ≡ false
 one-none q tree key value before put =
     none-tree_of q (cell_after tree Config (put_of key value ∷ [])) (tree ++ rows key value)
     (list_any-append (λ row. q row.path) tree (rows key value) ∙ or_from _ _ before put)
 
 -- nor behind rounds whose puts it passes none of
 none-behind : (q : List Step → Bool) (t : Round → Bool) → ((round : Round) → t round ≡ false → list_any (λ row. q row.path) (rows round.key round.value) ≡ false)
-              → (tree : List Row) (rounds : List Round) → list_any (λ row. q row.path) tree ≡ false → list_any t rounds ≡ false
-              → list_any (λ row. q row.path) (tree_after Config tree (commits_of rounds)) ≡ false
+    → (tree : List Row) (rounds : List Round) → list_any (λ row. q row.path) tree ≡ false → list_any t rounds ≡ false
+    → list_any (λ row. q row.path) (tree_after Config tree (commits_of rounds)) ≡ false
 none-behind q t puts tree [] before none = before
 none-behind q t puts tree (round ∷ rounds) before none =
     none-behind q t puts (apply_ops tree Config (commit_of round)) rounds

@@ -1,7 +1,6 @@
 -- Rounds that put different entries leave three rows each, and their numbers.
-use Rattle.std.proofs.Common.{◌≡◌, ℕ, ◌+◌, ◌*◌, Bool, true, false, List, [], ◌∷◌, ◌++◌, length, drop, Option, Some, None, refl, ap, sym, ◌∙◌, arith, if◌then◌else◌}
-use Rattle.std.specs.Prelude.{not, ◌&&◌, nat_eq, sum_by}
-use Rattle.std.specs.List.{list_any}
+use Rattle.std.proofs.Common.{◌≡◌, ℕ, ◌+◌, ◌*◌, true, false, List, [], ◌∷◌, ◌++◌, length, drop, Option, Some, None, refl, ap, sym, ◌∙◌, arith, if◌then◌else◌}
+use Rattle.std.specs.Prelude.{not, nat_eq, sum_by}
 use Rattle.std.specs.Option.{option_or}
 use Rattle.std.proofs.lemmas.Bool.{and_parts, both_ways, eq-eqb, eqb-true, false_from_ne_true, not-true, or_from, or_left, or_right}
 use Rattle.std.proofs.lemmas.List.Sums.{sum_by-cons}
@@ -19,7 +18,7 @@ use Rattle.sal_rows.proofs.Applied.{IsAscending-apply_ops, apply_ops-unique}
 use Rattle.sal_rows.proofs.Untouched.{no_cell}
 use Rattle.sal_script.specs.Load.{number_of}
 use Rattle.sal_script.specs.LoadExamples.{entry, rows}
-use Rattle.sal_loads.specs.Rounds.{AreCounted, Round, RoundsAreCounted, are_distinct, commit_of, commits_of, has_key, put_of, sum_of}
+use Rattle.sal_loads.specs.Rounds.{Round, RoundsAreCounted, are_distinct, commit_of, commits_of, has_key, put_of, sum_of}
 use Rattle.sal_loads.proofs.Behind.{absent-behind}
 use Rattle.sal_loads.proofs.Entries.{at_entry, differ}
 use Rattle.sal_loads.proofs.Placing.{AreNew, IsAscending-with_rows, cell-with_rows, length-with_rows, sum-with_rows, with_rows}
@@ -49,8 +48,10 @@ are_new tree key value new = (first, (second, (none (entry key ++ Node 2 ∷ [])
   where
     none : (r : List Step) → is_prefix (entry key) r ≡ true → cell tree r ≡ None
     none r e = no_cell (is_prefix (entry key)) tree r new e
+
     first : option_or (cell (drop 1 (rows key value)) (entry key)) (cell tree (entry key)) ≡ None
     first = rw (differ (entry key) (entry key ++ Node 1 ∷ []) (λ h. omega arith)) (none (entry key) (is_prefix-append (entry key) []))
+
     second : option_or (cell (drop 2 (rows key value)) (entry key ++ Node 1 ∷ [])) (cell tree (entry key ++ Node 1 ∷ [])) ≡ None
     second = rw (differ (entry key ++ Node 1 ∷ []) (entry key ++ Node 2 ∷ []) (λ h. omega arith)) (none (entry key ++ Node 1 ∷ []) (is_prefix-append (entry key) (Node 1 ∷ [])))
 
@@ -83,7 +84,7 @@ counts-one tree round rising new =
     (ap length (sym same) ∙ length-with_rows tree (rows round.key round.value) places, ap (sum_by number_of) (sym same) ∙ sum ∙ omega arith)
 
 counts : (tree : List Row) (rounds : List Round) → IsAscending tree → are_distinct rounds ≡ true → AreFresh tree rounds → Counts tree (tree_after Config tree (commits_of rounds)) rounds
-counts tree [] rising distinct fresh = record { rows = omega arith; numbers = omega arith; }
+counts tree [] rising distinct fresh = record { rows = omega arith; numbers = omega arith }
 counts tree (round ∷ rounds) rising distinct fresh =
     let parts = and_parts (not (has_key rounds round.key)) (are_distinct rounds) distinct in
     let one = counts-one tree round rising (fresh round.key (or_left (nat_eq round.key round.key) (has_key rounds round.key) (eq-eqb round.key round.key refl))) in
@@ -93,7 +94,7 @@ counts tree (round ∷ rounds) rising distinct fresh =
     let rows_more = rest.rows in
     let sum_more = rest.numbers in
     let all = sum_by-cons (λ one. one.value) round rounds in
-    record { rows = omega arith; numbers = omega arith; }
+    record { rows = omega arith; numbers = omega arith }
 
 no_oper : (rounds : List Round) → tree_after Oper [] (commits_of rounds) ≡ []
 no_oper [] = refl
@@ -104,4 +105,4 @@ counted rounds distinct =
     let all : Counts [] (tree_after Config [] (commits_of rounds)) rounds = counts [] rounds refl distinct (λ key has_it. refl) in
     let rows_are = all.rows in
     let numbers_are = all.numbers in
-    record { rows = rows_are ∙ omega arith; numbers = numbers_are ∙ omega arith; operational = no_oper rounds; }
+    record { rows = rows_are ∙ omega arith; numbers = numbers_are ∙ omega arith; operational = no_oper rounds }

@@ -1,29 +1,23 @@
 -- Each round is decided as the next commit: it clashes with none, and the schema of a load has no rule that could be broken.
-use Rattle.std.proofs.Common.{◌≡◌, ℕ, ◌+◌, Bool, true, false, List, [], ◌∷◌, length, map, take, find, Option, Some, None, refl, ap, sym, ◌∙◌, if◌then◌else◌}
-use Rattle.std.specs.Prelude.{not, ◌&&◌, is_some}
-use Rattle.std.specs.List.{flat_map, fold, list_any}
-use Rattle.std.specs.Option.{option_or, option_map}
+use Rattle.std.proofs.Common.{◌≡◌, ℕ, Bool, true, false, List, [], ◌∷◌, take, find, Option, Some, None, refl, ap, ◌∙◌, if◌then◌else◌}
+use Rattle.std.specs.Prelude.{not}
+use Rattle.std.specs.List.{flat_map, fold}
+use Rattle.std.specs.Option.{option_map}
 use Rattle.sal_types.specs.declared.value.Store.{Store}
 use Rattle.sal_types.specs.declared.value.Store.TheVariants.{Config, Oper}
 use Rattle.sal_types.specs.declared.value.Step.{Step}
 use Rattle.sal_types.specs.declared.value.Step.TheVariants.{Node}
 use Rattle.sal_types.specs.declared.row.Row.{Row}
-use Rattle.sal_types.specs.Tree.{cell, has}
-use Rattle.sal_rows.specs.declared.clash.Clash.{Clash}
+use Rattle.sal_types.specs.Tree.{has}
 use Rattle.sal_rows.specs.declared.clash.Span.{Span}
-use Rattle.sal_rows.specs.declared.outcome.Breach.{Breach}
-use Rattle.sal_rows.specs.declared.outcome.Rule.{Rule}
-use Rattle.sal_rows.specs.declared.outcome.Outcome.TheVariants.{Done}
-use Rattle.sal_rows.specs.Clash.{clash, is_lost, lost_parent, parent_clash, path_clash}
+use Rattle.sal_rows.specs.Clash.{clash, is_lost, lost_parent}
 use Rattle.sal_rows.specs.PathClash.{difference}
 use Rattle.sal_rows.specs.Commits.{is_unchanged, tree_after, tree_at}
-use Rattle.sal_rules.specs.Breaches.{breach, breach_of, breaches_at, breaches_from, breaches, first, keep, numbers, rules_of}
+use Rattle.sal_rules.specs.Breaches.{breach, breaches_at, breaches_from, first, keep, numbers}
 use Rattle.sal_rules.specs.Places.{places, spot_of}
 use Rattle.sal_rules.specs.Seen.{Seen, seen_from}
-use Rattle.sal_rules.specs.declared.spot.Spot.{Spot}
 use Rattle.sal_schema.specs.Table.{closest}
-use Rattle.sal_history.specs.Outcome.{conflict, decide, invalid}
-use Rattle.sal_script.specs.LoadExamples.{entry, rows, table}
+use Rattle.sal_script.specs.LoadExamples.{entry, table}
 use Rattle.sal_loads.specs.Rounds.{IsAccepted, IsDecided, Round, commits_of, has_key, nothing, put_of, trees_behind}
 use Rattle.sal_loads.proofs.Behind.{absent, has_key-take, length-commits, no_list, take-commits}
 

@@ -1,18 +1,16 @@
 -- The rows of an entry lie at it and below it, each at a place of its own, and so apart from those of other entries.
-use Rattle.std.proofs.Common.{◌≡◌, ℕ, Bool, true, false, List, [], ◌∷◌, ◌++◌, Some, None, refl, ap, if◌then◌else◌}
+use Rattle.std.proofs.Common.{◌≡◌, ℕ, false, List, [], ◌∷◌, ◌++◌, refl, ap}
 use Rattle.std.specs.Prelude.{not, nat_eq}
 use Rattle.std.specs.List.{list_any}
 use Rattle.std.proofs.lemmas.Bool.{eqb-false, false_from_ne_true}
 use Rattle.sal_types.specs.declared.value.Step.{Step}
 use Rattle.sal_types.specs.declared.value.Step.TheVariants.{Node, Key}
 use Rattle.sal_types.specs.declared.value.Value.{Value}
-use Rattle.sal_types.specs.declared.row.Row.{Row}
 use Rattle.sal_types.specs.Order.{path_eq}
 use Rattle.sal_types.specs.Prefix.{is_prefix}
-use Rattle.sal_types.specs.Tree.{cell, has}
+use Rattle.sal_types.specs.Tree.{has}
 use Rattle.sal_types.proofs.Prefixes.{IsPrefix-from_test, is_prefix-append}
 use Rattle.sal_rows.proofs.Cells.{same_path}
-use Rattle.sal_rows.proofs.Untouched.{no_cell}
 use Rattle.sal_script.specs.Load.{unsigned_of}
 use Rattle.sal_script.specs.LoadExamples.{entry, rows}
 

@@ -9,7 +9,9 @@ pub mod Loaded
 pub mod Phases
 pub mod Placing
 pub mod Program
-pub mod ReadBack
+pub mod ReadNumbers
+pub mod ReadPath
+pub mod ReadValue
 pub mod Standing
 pub mod Summed
 pub mod Turning

@@ -1,14 +1,13 @@
 -- Keys and numbers of rounds, and their sums.
-use Rattle.std.proofs.Common.{◌≡◌, ℕ, zero, suc, ◌+◌, ◌*◌, Bool, true, false, List, [], ◌∷◌, ◌++◌, refl, ap, sym, ◌∙◌, arith}
-use Rattle.std.specs.Prelude.{not, ◌&&◌, nat_eq, sum_by}
-use Rattle.std.specs.List.{list_any}
+use Rattle.std.proofs.Common.{◌≡◌, ℕ, zero, suc, ◌+◌, ◌*◌, false, List, [], ◌∷◌, ◌++◌, refl, ap, sym, ◌∙◌, arith}
+use Rattle.std.specs.Prelude.{not, nat_eq, sum_by}
 use Rattle.std.proofs.lemmas.Bool.{and_from, and_parts, eqb-false, ne_eqb, not_from_false, not-true, or_from}
 use Rattle.std.proofs.lemmas.List.Folds.{list_any-append}
 use Rattle.std.proofs.lemmas.List.Sums.{sum_by_push}
 use Rattle.sal_rows.specs.Commits.{numbers_after}
 use Rattle.sal_rows.proofs.Numbers.{numbers_after-suc}
 use Rattle.sal_rows.proofs.Untouched.{or_first, or_second}
-use Rattle.sal_loads.specs.Rounds.{AreShort, KeysDiffer, Round, StayDistinct, SumGrows, SumsAreAll, are_distinct, has_key, sum_after, sum_of, sum_to}
+use Rattle.sal_loads.specs.Rounds.{AreShort, KeysDiffer, Round, StayDistinct, SumGrows, SumsAreAll, are_distinct, has_key, sum_after}
 
 pub keys_differ : KeysDiffer
 keys_differ client round other next small short same = (omega arith, omega arith)

@@ -1,4 +1,5 @@
-use Rattle.sal_loads.proofs.ReadBack.{data_is_read, path_is_read}
+use Rattle.sal_loads.proofs.ReadPath.{path_is_read}
+use Rattle.sal_loads.proofs.ReadValue.{data_is_read}
 use Rattle.sal_loads.proofs.laws.rounds_are_read.Goals as goal
 
 pub returns-clause-path : goal.returns-clause-path

@@ -1,5 +1,5 @@
 -- Submissions of a load: each is decided as the next commit.
-use Rattle.std.proofs.Common.{◌≡◌, ℕ, zero, suc, ◌+◌, ◌<◌, ◌≤◌, Bool, true, false, not, ◌&&◌, ◌||◌, List, [], ◌∷◌, ◌++◌, length, map, Option, None, Some, refl, ap, sym, ◌∙◌, subst, arith, append_assoc, append-nil, eq-eqb, ne_eqb, true≢false, length-append}
+use Rattle.std.proofs.Common.{◌≡◌, ℕ, zero, suc, ◌+◌, ◌≤◌, Bool, true, false, not, ◌||◌, List, [], ◌∷◌, ◌++◌, length, map, Option, None, Some, refl, ap, sym, ◌∙◌, subst, arith, append_assoc, append-nil, eq-eqb, ne_eqb, true≢false, length-append}
 use Rattle.std.specs.Prelude.{nat_eq, slice_get, unwrap_or}
 use Rattle.std.specs.Option.{option_map, option_or}
 use Rattle.std.proofs.lemmas.Bool.{and_parts, or_parts}
@@ -9,7 +9,7 @@ use Rattle.sal_rows.specs.declared.outcome.Outcome.{Outcome}
 use Rattle.sal_rows.specs.declared.outcome.Outcome.TheVariants.{Done, ChainFailed}
 use Rattle.sal_rows.specs.Spans.{spans}
 use Rattle.sal_history.specs.Outcome.{decide}
-use Rattle.sal_history.specs.Submissions.{Base, Sent, done, done_chains, done_ops, failing_from}
+use Rattle.sal_history.specs.Submissions.{Base, Sent, done_chains, done_ops, failing_from}
 use Rattle.sal_history.specs.History.{Answered, decide_front, decide_next, is_live, outcome, unmounted_of}
 use Rattle.sal_script.specs.LoadExamples.{table}
 use Rattle.sal_loads.specs.Rounds.{IsDecided, Round, are_distinct, commit_of, commits_of, has_key, load_world, nothing, trees_behind}

@@ -1,5 +1,5 @@
 -- The log of a load: which rounds were submitted, which of them are decided, and who holds the receipts of the others.
-use Rattle.std.proofs.Common.{◌≡◌, ℕ, zero, suc, ◌+◌, ◌-◌, ◌<◌, ◌≤◌, Bool, true, false, List, [], ◌∷◌, ◌++◌, length, map, Option, None, Some, if◌then◌else◌, refl, ap, sym, ◌∙◌, subst, arith, append_assoc, append-nil, ne_eqb, nat_le, leb-true, leb-false, lt-ltb, inl, inr, ◌⊎◌, length-append}
+use Rattle.std.proofs.Common.{◌≡◌, ℕ, zero, suc, ◌+◌, ◌-◌, ◌<◌, ◌≤◌, Bool, true, false, List, [], ◌∷◌, ◌++◌, length, Option, None, Some, if◌then◌else◌, refl, ap, sym, ◌∙◌, subst, arith, append_assoc, append-nil, ne_eqb, nat_le, leb-true, leb-false, lt-ltb, inl, inr, ◌⊎◌, length-append}
 use Rattle.std.specs.Prelude.{◌||◌, slice_get, unwrap_or, option_and_then}
 use Rattle.std.specs.Option.{option_to_list}
 use Rattle.std.proofs.lemmas.List.{length-map, map-append}
@@ -49,9 +49,9 @@ not_put differ phases c round [] next small known = refl
 not_put differ phases c round (x ∷ rounds) next small known =
     let first = known zero x refl in
     let other : x.key ≡ key_of c round → ⊥ = λ same.
-        let both = differ first.0 first.1 c round first.3 small (sym first.5 ∙ same) in
-        let before : first.1 < put_by (phases c) = subst (λ k. first.1 < put_by (phases k)) both.0 first.4 in
-        absurd (omega (arith, before, both.1, next)) in
+    let both = differ first.0 first.1 c round first.3 small (sym first.5 ∙ same) in
+    let before : first.1 < put_by (phases c) = subst (λ k. first.1 < put_by (phases k)) both.0 first.4 in
+    absurd (omega (arith, before, both.1, next)) in
     ap (λ (b : Bool). b || has_key rounds (key_of c round)) (ne_eqb x.key (key_of c round) other)
     ∙ not_put differ phases c round rounds next small (λ i y at. known (suc i) y at)
 
@@ -192,8 +192,8 @@ module _ (start : ℕ) (answered : List Answered) (phases : Phases) (was : IsLoa
     pub spends_own : (ops : List Op) (r : Reply) (later : ℕ) (a : Answered) → slice_get answered later ≡ Some a → (a.entry.client ≡ c → ⊥) → spends (Submit place ops) r later ≡ false
     spends_own ops r later a there other =
         spends_not ops r later (λ same.
-            let one : begun.beginning ≡ a = same_Some begun.beginning a (sym begun.stands ∙ ap (slice_get answered) same ∙ there) in
-            other (ap (λ (x : Answered). x.entry.client) (sym one) ∙ begun.by))
+        let one : begun.beginning ≡ a = same_Some begun.beginning a (sym begun.stands ∙ ap (slice_get answered) same ∙ there) in
+        other (ap (λ (x : Answered). x.entry.client) (sym one) ∙ begun.by))
 
     pub sents_longer : (round : Round) → length (sents (more_of answered (entry (Submit place (commit_of round))))) ≡ length (sents answered) + 1
     sents_longer round =

@@ -1,7 +1,6 @@
 -- Where each of the four clients of a load stands between two turns, by numbers, and sums over the four.
-use Rattle.std.proofs.Common.{◌≡◌, ℕ, zero, suc, ◌+◌, ◌-◌, ◌*◌, ◌<◌, ◌≤◌, Bool, true, false, Option, None, Some, if◌then◌else◌, nat_le, refl, ap, sym, ◌∙◌, subst, arith, eqb-true, eq-eqb, le-leb, leb-true, true≢false}
+use Rattle.std.proofs.Common.{◌≡◌, ℕ, zero, suc, ◌+◌, ◌-◌, ◌*◌, ◌<◌, ◌≤◌, Bool, true, false, Option, None, Some, if◌then◌else◌, nat_le, refl, ap, sym, ◌∙◌, subst, arith, eqb-true, eq-eqb, le-leb, leb-true}
 use Rattle.std.specs.Prelude.{nat_eq}
-use Rattle.std.proofs.lemmas.Option.{none-some, same_Some}
 
 -- A client with so many rounds behind it and so many to come: ready for the next one; in a round whose transaction began at the
 -- place; in one whose transaction was submitted with the receipt.

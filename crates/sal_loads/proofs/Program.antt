@@ -1,5 +1,5 @@
 -- The program of a load's client from the front, and how its steps go.
-use Rattle.std.proofs.Common.{◌≡◌, ℕ, zero, suc, ◌+◌, ◌≤◌, List, [], ◌∷◌, ◌++◌, Option, None, Some, Result, Ok, refl, ap, sym, ◌∙◌, subst, arith, append_assoc, append-nil}
+use Rattle.std.proofs.Common.{◌≡◌, ℕ, zero, suc, ◌+◌, ◌≤◌, List, [], ◌∷◌, ◌++◌, Option, Some, Result, Ok, ap, sym, ◌∙◌, arith, append_assoc, append-nil}
 use Rattle.sal_types.specs.declared.value.Step.{Step}
 use Rattle.sal_types.specs.declared.value.Store.TheVariants.{Config}
 use Rattle.sal_types.specs.declared.row.Row.{Row}
@@ -14,8 +14,8 @@ use Rattle.sal_history.specs.declared.call.Entry.{Entry}
 use Rattle.sal_script.specs.declared.reply.StepReply.TheVariants.{Accepted}
 use Rattle.sal_script.specs.Load.{entry_data, entry_path, key_of, program_of, round_of, value_in}
 use Rattle.sal_script.specs.LoadExamples.{entry, table}
-use Rattle.sal_script.specs.Moves.{Move, Begin, Put, Submit, Settle}
-use Rattle.sal_script.specs.Play.{Arrival, Client, Meeting, Open, accept_unless, arrive, arrive_by, calls, local, meet, putting, replied, seen_by, set_slot, settle, write_act, write_at, write_with}
+use Rattle.sal_script.specs.Moves.{Move, Put, Submit, Settle}
+use Rattle.sal_script.specs.Play.{Client, Open, accept_unless, arrive, arrive_by, calls, local, meet, putting, replied, seen_by, set_slot, settle, write_act, write_at, write_with}
 use Rattle.sal_loads.specs.Rounds.{DataIsRead, IsAccepted, PathIsRead, load_world, put_of}
 
 -- so many rounds of a client, from this one on

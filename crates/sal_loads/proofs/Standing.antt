@@ -1,5 +1,5 @@
 -- Where a load stands between two turns, and what one more call of a client does to it.
-use Rattle.std.proofs.Common.{◌≡◌, ℕ, suc, ◌+◌, ◌<◌, ◌≤◌, false, List, [], ◌∷◌, ◌++◌, length, set, Some, refl, ap, sym, ◌∙◌, subst, arith, inl, inr, length-append}
+use Rattle.std.proofs.Common.{◌≡◌, ℕ, suc, ◌+◌, ◌<◌, ◌≤◌, false, List, [], ◌∷◌, ◌++◌, length, set, Some, sym, ◌∙◌, subst, arith, inl, inr, length-append}
 use Rattle.std.specs.Prelude.{slice_get}
 use Rattle.std.proofs.lemmas.List.{length-set}
 use Rattle.std.proofs.lemmas.Option.{slice_get_within}
@@ -72,14 +72,14 @@ module _ (rounds start : ℕ) (stand : Stand) (was : Keeps rounds start stand) (
         phases = set_phase c phase was.phases;
         size = length-set stand.runs c next ∙ was.size;
         each = λ d r there. subst (λ (h : List Answered). IsAt rounds start h d (set_phase c phase was.phases d) r) (sym grown)
-        (elim (get-set stand.runs c next d r there) [
-          | inl w ↦
-              subst (λ (p : Phase). IsAt rounds start (more_of before e) d p r) (sym (set_own c d phase was.phases w.0))
-              (subst (λ (k : ℕ). IsAt rounds start (more_of before e) k phase r) (sym w.0) (subst (IsAt rounds start (more_of before e) c phase) w.1 now))
-          | inr w ↦
-              subst (λ (p : Phase). IsAt rounds start (more_of before e) d p r) (sym (set_other c d phase was.phases w.0))
-              (stays rounds start before e d (was.phases d) r (λ same. w.0 (same ∙ by)) own more (was.each d r w.1))
-        ]);
+            (elim (get-set stand.runs c next d r there) [
+              | inl w ↦
+                  subst (λ (p : Phase). IsAt rounds start (more_of before e) d p r) (sym (set_own c d phase was.phases w.0))
+                  (subst (λ (k : ℕ). IsAt rounds start (more_of before e) k phase r) (sym w.0) (subst (IsAt rounds start (more_of before e) c phase) w.1 now))
+              | inr w ↦
+                  subst (λ (p : Phase). IsAt rounds start (more_of before e) d p r) (sym (set_other c d phase was.phases w.0))
+                  (stays rounds start before e d (was.phases d) r (λ same. w.0 (same ∙ by)) own more (was.each d r w.1))
+            ]);
         calls = let set = four_set (λ d. calls_by) was.phases c phase within in omega (arith, was.calls, set, counts, length-append stand.log (e ∷ []));
         loaded = subst (λ (h : List Answered). IsLoaded start h (set_phase c phase was.phases)) (sym grown) loaded;
       }

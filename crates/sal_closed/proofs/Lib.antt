@@ -1,0 +1,5 @@
+pub mod Fronts
+pub mod Standing
+pub mod Wholes
+pub mod Acts
+pub mod Closing

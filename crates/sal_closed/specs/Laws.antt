@@ -1,0 +1,26 @@
+-- Laws of closed trees.
+use Rattle.std.specs.Prelude.{◌≡◌, List, [], None}
+use Rattle.sal_types.specs.declared.value.Store.{Store}
+use Rattle.sal_types.specs.declared.row.Row.{Row}
+use Rattle.sal_rows.specs.declared.clash.Span.{Span}
+use Rattle.sal_rows.specs.declared.op.Op.{Op}
+use Rattle.sal_rows.specs.Apply.{apply_ops}
+use Rattle.sal_rows.specs.Clash.{clash, tip}
+use Rattle.sal_schema.specs.declared.table.SchemaTable.{SchemaTable}
+use Rattle.sal_schema.specs.Valid.{IsTable}
+use Rattle.sal_closed.specs.Lawful.{AreClosed, AreLawful}
+
+-- Operations that are lawful over closed trees make closed trees of them.
+abbrev pub LawfulKeepsClosed : Type 0
+LawfulKeepsClosed =
+    (table : SchemaTable) (base : Store → List Row) (ops : List Op) → IsTable table → AreClosed table base → AreLawful table base [] ops
+    → AreClosed table (λ s. apply_ops (base s) s ops)
+
+-- And so they do of the newest trees, where they have no conflict with the commits in the spans: whatever the spans are, and
+-- wherever the base comes from.
+abbrev pub WithoutConflictStaysClosed : Type 0
+WithoutConflictStaysClosed =
+    (table : SchemaTable) (opening : Store → List Row) (commits : List (List Op)) (base : Store → List Row) (spans : List Span) (ops : List Op)
+    → IsTable table → AreClosed table base → AreClosed table (tip opening commits) → AreLawful table base [] ops
+    → clash opening commits base spans ops ≡ None
+    → AreClosed table (λ s. apply_ops (tip opening commits s) s ops)

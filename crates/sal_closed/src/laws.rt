@@ -1,0 +1,13 @@
+//! Laws of closed trees. Each function does nothing; its contract is the law.
+ghost use Rattle.sal_closed.specs.Laws.{LawfulKeepsClosed, WithoutConflictStaysClosed};
+
+/// Operations that are lawful over closed trees make closed trees of them.
+pub fn lawful_operations_keep_trees_closed()
+    ensures { LawfulKeepsClosed }
+{}
+
+/// Operations that are lawful over a closed base, and have no conflict with the commits behind it, make closed trees of the
+/// newest ones, where those are closed.
+pub fn without_conflict_a_newer_tree_stays_closed()
+    ensures { WithoutConflictStaysClosed }
+{}

@@ -1,7 +1,6 @@
 -- One operation on a closed tree.
-use Rattle.std.proofs.Common.{◌≡◌, ℕ, Bool, true, false, ◌&&◌, not, List, [], ◌∷◌, ◌++◌, Option, Some, None, refl, sym, ap, subst, ◌∙◌, IsTrue, if◌then◌else◌}
-use Rattle.std.specs.Prelude.{◌||◌, option_map}
-use Rattle.std.specs.Option.{option_map_or}
+use Rattle.std.proofs.Common.{◌≡◌, ℕ, true, false, not, List, [], ◌∷◌, ◌++◌, Option, Some, None, refl, sym, ap, ◌∙◌, if◌then◌else◌}
+use Rattle.std.specs.Prelude.{option_map}
 use Rattle.std.specs.Ordering.{eq_by_cmp}
 use Rattle.std.proofs.lemmas.Bool.{and_parts, true≢false}
 use Rattle.sal_types.specs.declared.value.Cell.{Cell}
@@ -17,7 +16,7 @@ use Rattle.sal_rows.specs.declared.op.Act.TheVariants.{Put, Merge, Delete}
 use Rattle.sal_rows.specs.Apply.{act_setting, cell_by, rows_of_act}
 use Rattle.sal_rows.proofs.Untouched.{no_cell}
 use Rattle.sal_schema.specs.declared.table.SchemaTable.{SchemaTable}
-use Rattle.sal_schema.specs.Fitting.{has_mark, is_whole_at, is_in_message, is_root, is_key, is_at_key, is_key_leaf}
+use Rattle.sal_schema.specs.Fitting.{has_mark, is_whole_at, is_in_message, is_root, is_at_key, is_key_leaf}
 use Rattle.sal_schema.specs.Paths.{last_step}
 use Rattle.sal_schema.specs.Table.{is_among}
 use Rattle.sal_schema.specs.Valid.{IsTable}

@@ -1,13 +1,11 @@
 -- Operations one after another, over the base and over newer trees.
-use Rattle.std.proofs.Common.{◌≡◌, ℕ, Bool, true, false, ◌&&◌, not, List, [], ◌∷◌, ◌++◌, take, Option, Some, None, refl, sym, ap, subst, ◌∙◌, IsTrue, append_assoc, append-nil, if◌then◌else◌}
-use Rattle.std.specs.Prelude.{is_some, find, length, option_map, unwrap_or}
+use Rattle.std.proofs.Common.{◌≡◌, ℕ, Bool, true, false, ◌&&◌, not, List, [], ◌∷◌, ◌++◌, take, Option, Some, None, refl, sym, ap, subst, ◌∙◌, append_assoc, append-nil, if◌then◌else◌}
+use Rattle.std.specs.Prelude.{is_some, length, option_map, unwrap_or}
 use Rattle.std.specs.Option.{option_or}
-use Rattle.std.proofs.lemmas.Bool.{and_parts, and_from, true≢false, not_from_false}
 use Rattle.sal_types.specs.declared.value.Store.{Store}
 use Rattle.sal_types.specs.declared.value.Step.{Step}
 use Rattle.sal_types.specs.declared.value.Cell.{Cell}
 use Rattle.sal_types.specs.declared.row.Row.{Row}
-use Rattle.sal_types.specs.Prefix.{is_prefix}
 use Rattle.sal_types.specs.Tree.{cell, has}
 use Rattle.sal_rows.specs.declared.clash.Clash.{Clash}
 use Rattle.sal_rows.specs.declared.clash.Span.{Span}
@@ -15,23 +13,23 @@ use Rattle.sal_rows.specs.declared.op.Act.{Act}
 use Rattle.sal_rows.specs.declared.op.Act.TheVariants.{Put, Merge, Delete}
 use Rattle.sal_rows.specs.declared.op.Op.{Op}
 use Rattle.sal_rows.specs.declared.outcome.ClashKind.TheVariants.{Deleted}
-use Rattle.sal_rows.specs.Apply.{same_store, last_setting, cell_by, cell_after, apply_ops, rows_of_act}
-use Rattle.sal_rows.specs.Clash.{clash, clash_from, op_clash, parent_clash, path_clash, lost_parent, is_lost, tip, depths_above, last_touch_over}
+use Rattle.sal_rows.specs.Apply.{same_store, last_setting, cell_by, apply_ops, rows_of_act}
+use Rattle.sal_rows.specs.Clash.{clash_from, op_clash, parent_clash, path_clash, lost_parent, is_lost, tip, last_touch_over}
 use Rattle.sal_rows.specs.Clash.{needs_parents as clash_needs}
-use Rattle.sal_rows.proofs.Applied.{cell-apply_ops, apply_ops-unique, IsAscending-apply_ops}
+use Rattle.sal_rows.proofs.Applied.{cell-apply_ops, IsAscending-apply_ops}
 use Rattle.sal_schema.specs.declared.table.SchemaTable.{SchemaTable}
-use Rattle.sal_schema.specs.Fitting.{has_mark, fits, is_closed, is_in_message, is_key_leaf, is_root}
+use Rattle.sal_schema.specs.Fitting.{has_mark, fits, is_key_leaf, is_root}
 use Rattle.sal_schema.specs.Paths.{last_step}
 use Rattle.sal_schema.specs.Valid.{IsTable}
 use Rattle.sal_rules.specs.declared.fault.TxFault.{TxFault}
 use Rattle.sal_rules.specs.declared.fault.TxFault.TheVariants.{RootPath, KeyLeaf, NotConfig, ParentMissing}
-use Rattle.sal_rules.specs.Refusals.{above, missing_parent, missing_of, needs_parents, not_config, or_else, when, refusal}
+use Rattle.sal_rules.specs.Refusals.{missing_parent, missing_of, needs_parents, not_config, or_else, when, refusal}
 use Rattle.sal_rules.specs.Writes.{IsForSchema}
 use Rattle.sal_closed.specs.Laws.{LawfulKeepsClosed, WithoutConflictStaysClosed}
-use Rattle.sal_closed.specs.Lawful.{AreClosed, AreLawful}
+use Rattle.sal_closed.specs.Lawful.{AreLawful}
 use Rattle.sal_closed.proofs.Acts.{HasParents, IsAllowed, act_fits}
 use Rattle.sal_closed.proofs.Fronts.{none_above, none_by_depth, front_itself}
-use Rattle.sal_closed.proofs.Standing.{nothing, some_there, stands_below, has_where, same_stores, cell-mine, apply-other}
+use Rattle.sal_closed.proofs.Standing.{some_there, stands_below, has_where, same_stores, cell-mine, apply-other}
 use Rattle.sal_closed.proofs.Wholes.{AllFit, fits-AllFit, AllFit-fits, AllFit-same, whole-row}
 
 -- ---- what is not refused
@@ -130,7 +128,7 @@ own_row table tree q closed marked there =
     some_there (cell tree q) (whole-row table tree q marked ((closed r c e).whole q below refl))
 
 -- the conflict that a lost parent is
-abbrev lost_clash : (Store → List Row) → List (List Op) → List Span → List Op → Op → ℕ → Clash
+abbrev pub lost_clash : (Store → List Row) → List (List Op) → List Span → List Op → Op → ℕ → Clash
 lost_clash opening commits spans earlier op d = record { op = length earlier; depth = d; kind = Deleted; commit = unwrap_or (last_touch_over opening commits spans op.store (take d op.path)) 0 }
 
 module _ (table : SchemaTable) (good : IsTable table) (opening : Store → List Row) (commits : List (List Op)) (base : Store → List Row) (s : Store) (newest : AllFit table [] (tip opening commits s)) where

@@ -3,3 +3,4 @@ pub mod Standing
 pub mod Wholes
 pub mod Acts
 pub mod Closing
+pub mod Commits

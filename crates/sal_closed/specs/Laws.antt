@@ -8,7 +8,11 @@ use Rattle.sal_rows.specs.Apply.{apply_ops}
 use Rattle.sal_rows.specs.Clash.{clash, tip}
 use Rattle.sal_schema.specs.declared.table.SchemaTable.{SchemaTable}
 use Rattle.sal_schema.specs.Valid.{IsTable}
+use Rattle.sal_history.specs.History.{history}
+use Rattle.sal_history.specs.World.{Domain}
+use Rattle.sal_history.specs.declared.call.Entry.{Entry}
 use Rattle.sal_closed.specs.Lawful.{AreClosed, AreLawful}
+use Rattle.sal_closed.specs.Logs.{AreSentLawful, AreSound, IsClosedLog}
 
 -- Operations that are lawful over closed trees make closed trees of them.
 abbrev pub LawfulKeepsClosed : Type 0
@@ -24,3 +28,7 @@ WithoutConflictStaysClosed =
     → IsTable table → AreClosed table base → AreClosed table (tip opening commits) → AreLawful table base [] ops
     → clash opening commits base spans ops ≡ None
     → AreClosed table (λ s. apply_ops (tip opening commits s) s ops)
+
+-- So each log whose submissions are lawful has closed trees alone, where it begins with such.
+abbrev pub LogsStayClosed : Type 0
+LogsStayClosed = (world : List Domain) (log : List Entry) → AreSound world → AreSentLawful world (history world log) → IsClosedLog world (history world log)

@@ -1,5 +1,5 @@
 //! Laws of closed trees. Each function does nothing; its contract is the law.
-ghost use Rattle.sal_closed.specs.Laws.{LawfulKeepsClosed, WithoutConflictStaysClosed};
+ghost use Rattle.sal_closed.specs.Laws.{LawfulKeepsClosed, LogsStayClosed, WithoutConflictStaysClosed};
 
 /// Operations that are lawful over closed trees make closed trees of them.
 pub fn lawful_operations_keep_trees_closed()
@@ -10,4 +10,10 @@ pub fn lawful_operations_keep_trees_closed()
 /// newest ones, where those are closed.
 pub fn without_conflict_a_newer_tree_stays_closed()
     ensures { WithoutConflictStaysClosed }
+{}
+
+/// In each log whose submissions are lawful over what their transactions stand on, from closed openings: the trees of each
+/// domain at each commit are closed, and so are those that a transaction stands on, in a chain or in none.
+pub fn committed_trees_are_closed()
+    ensures { LogsStayClosed }
 {}

@@ -17,9 +17,13 @@ pub record IsSound (domain : Domain) : Type 0 where
 abbrev pub AreSound : List Domain → Type 0
 AreSound world = (number : ℕ) (domain : Domain) → slice_get world number ≡ Some domain → IsSound domain
 
--- the operations of each submission are lawful over the trees that its transaction stands on
+-- a submission's operations are lawful over the trees that its transaction stands on
+abbrev pub IsSentLawful : List Domain → Sent → Type 0
+IsSentLawful world s = AreLawful (table_of world s.base.domain) s.base.trees [] s.ops
+
+-- and so are those of each
 abbrev pub AreSentLawful : List Domain → List Answered → Type 0
-AreSentLawful world answered = (i : ℕ) (s : Sent) → slice_get (sents answered) i ≡ Some s → AreLawful (table_of world s.base.domain) s.base.trees [] s.ops
+AreSentLawful world answered = (i : ℕ) (s : Sent) → slice_get (sents answered) i ≡ Some s → IsSentLawful world s
 
 -- The trees of each domain at each of its commits are closed by its table, the opening and the newest ones among them; so are
 -- those that a transaction stands on.

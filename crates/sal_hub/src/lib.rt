@@ -72,6 +72,7 @@ mod call_id;
 mod chain;
 mod chain_calls;
 mod chains;
+mod closed;
 mod counts;
 mod devices;
 mod failures;

@@ -4,7 +4,7 @@ use Rattle.sal_history.specs.History.{history}
 use Rattle.sal_closed.specs.Logs.{AreSound, IsClosedLog}
 use Rattle.sal_hub.specs.Known.{Known}
 use Rattle.sal_hub.specs.Lines.{line_of, world_in}
-use Rattle.sal_hub.proofs.closed.Hub.stays_closed.Goals as goal
+use Rattle.sal_hub.proofs.hub.Hub.stays_closed.Goals as goal
 
 pub returns : goal.returns
 returns c =

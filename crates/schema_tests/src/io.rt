@@ -1,3 +1,4 @@
+use crate::lines::{Subject, wrong};
 use sal_io::{
     Failed, Gate, MemSink, MemSource, OpenGate, ReadFail, Source, StdSink, StdSource, read_all,
     write_all,
@@ -6,6 +7,85 @@ use std::alloc::Global;
 use std::io;
 use std::io::{Read, Write};
 use std::test::Fail;
+
+/// How many sevens are read, or why none are.
+fn sevens_in(alloc: Global, source: &mut MemSource, limit: usize) -> Result<usize, ReadFail> {
+    let bytes = read_all(alloc, source, limit)?;
+    Ok(bytes.iter().filter(|byte| **byte == 7).count())
+}
+
+/// A source of so many sevens, of which one call fails; a call that is never made comes before it.
+fn sevens(alloc: Global, size: usize, fails: u64) -> Result<MemSource, Fail> {
+    let bytes = vec![in alloc; 7u8; size]?;
+    Ok(MemSource::new(bytes, vec![in alloc; 77, fails]?))
+}
+
+fn sevens_read(alloc: Global, size: usize, limit: usize, fails: u64) -> Result<String, Fail> {
+    let mut source = sevens(alloc, size, fails)?;
+    let told = sevens_in(alloc, &mut source, limit);
+    Ok(format!(in alloc; "{told:?}")?)
+}
+
+/// What is read by a size, a limit, and a call that fails.
+pub(crate) fn reading_told(alloc: Global, input: &str) -> Result<String, Fail> {
+    let (size, rest) = input.split_once(' ').ok_or("no limit")?;
+    let (limit, fails) = rest.split_once(' ').ok_or("no call")?;
+    sevens_read(
+        alloc,
+        size.parse::<usize>()?,
+        limit.parse::<usize>()?,
+        fails.parse::<u64>()?,
+    )
+}
+
+// 200,000 bytes come in four pieces, and a fifth read finds the end.
+const READS: &str = "0 0 9 => Ok(0)|
+1 0 9 => Err(TooLong)|
+5 5 9 => Ok(5)|
+6 5 9 => Err(TooLong)|
+65536 65536 9 => Ok(65536)|
+65537 65536 9 => Err(TooLong)|
+200000 18446744073709551615 9 => Ok(200000)|
+200000 300000 0 => Err(ReadFault)|
+200000 300000 1 => Err(ReadFault)|
+200000 300000 3 => Err(ReadFault)|
+200000 300000 4 => Err(ReadFault)|
+200000 300000 5 => Ok(200000)|
+200000 199999 3 => Err(ReadFault)|
+200000 199999 4 => Err(TooLong)";
+
+#[test]
+fn a_source_is_read_whole_or_refused(rt: HostRuntime) -> Result<(), Fail> {
+    assert_eq!(rt; wrong(rt.alloc(), Subject::Reading, READS)?, "");
+    Ok(())
+}
+
+fn text_written(alloc: Global, sink: &mut MemSink) -> Result<String, Fail> {
+    let told = write_all(sink, b"text");
+    let taken = std::str::from_utf8(sink.bytes())?;
+    Ok(format!(in alloc; "{told:?} {taken}")?)
+}
+
+/// What is told and taken of a text by the room of a sink, and a call that fails.
+pub(crate) fn writing_told(alloc: Global, input: &str) -> Result<String, Fail> {
+    let (room, fails) = input.split_once(' ').ok_or("no call")?;
+    let fails = vec![in alloc; fails.parse::<u64>()?]?;
+    let mut sink = MemSink::new(alloc, room.parse::<usize>()?, fails)?;
+    text_written(alloc, &mut sink)
+}
+
+const WRITES: &str = "0 9 => Err(Failed) |
+3 9 => Err(Failed) tex|
+3 1 => Err(Failed) tex|
+4 9 => Ok(()) text|
+8 9 => Ok(()) text|
+8 0 => Err(Failed) ";
+
+#[test]
+fn a_text_is_written_whole_or_cut(rt: HostRuntime) -> Result<(), Fail> {
+    assert_eq!(rt; wrong(rt.alloc(), Subject::Writing, WRITES)?, "");
+    Ok(())
+}
 
 // A reader that fails at once, and a writer that takes some bytes a call and fails after so many flushes.
 #[derive(Drop)]
@@ -37,94 +117,6 @@ impl Write for Slow {
     }
 }
 
-/// How many sevens are read, or why none are.
-fn sevens_in(alloc: Global, source: &mut MemSource, limit: usize) -> Result<usize, ReadFail> {
-    let bytes = read_all(alloc, source, limit)?;
-    Ok(bytes.iter().filter(|byte| **byte == 7).count())
-}
-
-/// A source of so many sevens, of which one call fails; a call that is never made comes before it.
-fn sevens(alloc: Global, size: usize, fails: u64) -> Result<MemSource, Fail> {
-    let bytes = vec![in alloc; 7u8; size]?;
-    Ok(MemSource::new(bytes, vec![in alloc; 77, fails]?))
-}
-
-fn read_some(
-    alloc: Global,
-    size: usize,
-    limit: usize,
-    fails: u64,
-) -> Result<Result<usize, ReadFail>, Fail> {
-    let mut source = sevens(alloc, size, fails)?;
-    Ok(sevens_in(alloc, &mut source, limit))
-}
-
-/// Sizes, limits, calls that fail, and what is read: 200,000 bytes come in four pieces, and a fifth read finds the end.
-const READS: &[(usize, usize, u64, Result<usize, ReadFail>)] = &[
-    (0, 0, 9, Ok(0)),
-    (1, 0, 9, Err(ReadFail::TooLong)),
-    (5, 5, 9, Ok(5)),
-    (6, 5, 9, Err(ReadFail::TooLong)),
-    (65_536, 65_536, 9, Ok(65_536)),
-    (65_537, 65_536, 9, Err(ReadFail::TooLong)),
-    (200_000, usize::MAX, 9, Ok(200_000)),
-    (200_000, 300_000, 0, Err(ReadFail::ReadFault)),
-    (200_000, 300_000, 1, Err(ReadFail::ReadFault)),
-    (200_000, 300_000, 3, Err(ReadFail::ReadFault)),
-    (200_000, 300_000, 4, Err(ReadFail::ReadFault)),
-    (200_000, 300_000, 5, Ok(200_000)),
-    (200_000, 199_999, 3, Err(ReadFail::ReadFault)),
-    (200_000, 199_999, 4, Err(ReadFail::TooLong)),
-];
-
-#[test]
-fn a_source_is_read_whole_or_refused(rt: HostRuntime) -> Result<(), Fail> {
-    for (size, limit, fails, want) in READS {
-        assert_eq!(rt;
-            read_some(rt.alloc(), *size, *limit, *fails)?,
-            *want,
-            "{size} bytes, limit {limit}, call {fails} fails"
-        );
-    }
-    Ok(())
-}
-
-/// The room of a sink, the call that fails, and what is told and taken of a text.
-const WRITES: &[(usize, u64, Result<(), Failed>, &str)] = &[
-    (0, 9, Err(Failed), ""),
-    (3, 9, Err(Failed), "tex"),
-    (3, 1, Err(Failed), "tex"),
-    (4, 9, Ok(()), "text"),
-    (8, 9, Ok(()), "text"),
-    (8, 0, Err(Failed), ""),
-];
-
-fn is_written(sink: &mut MemSink, want: Result<(), Failed>, taken: &str) -> bool {
-    let told = write_all(sink, b"text");
-    told == want && sink.bytes() == taken.as_bytes()
-}
-
-fn is_text_written(
-    alloc: Global,
-    line: &(usize, u64, Result<(), Failed>, &str),
-) -> Result<bool, Fail> {
-    let mut sink = MemSink::new(alloc, line.0, vec![in alloc; line.1]?)?;
-    Ok(is_written(&mut sink, line.2, line.3))
-}
-
-#[test]
-fn a_text_is_written_whole_or_cut(rt: HostRuntime) -> Result<(), Fail> {
-    for line in WRITES {
-        assert!(rt;
-            is_text_written(rt.alloc(), line)?,
-            "room {}, call {} fails",
-            line.0,
-            line.1
-        );
-    }
-    Ok(())
-}
-
 fn is_text_read(alloc: Global) -> Result<bool, Fail> {
     let bytes = read_all(alloc, &mut StdSource::new("text".as_bytes()), 4)?;
     Ok(bytes.as_slice() == "text".as_bytes())
@@ -145,26 +137,26 @@ fn slowly_written(takes: usize, flushes: u32) -> Result<(), Failed> {
     write_all(&mut StdSink::new(Slow { takes, flushes }), b"text")
 }
 
-/// How many bytes a writer takes a call, how many flushes succeed, and what is told of a text.
-const SLOW: &[(usize, u32, Result<(), Failed>)] = &[
-    (1, 4, Ok(())),
-    (9, 1, Ok(())),
-    (1, 3, Err(Failed)),
-    (0, 9, Err(Failed)),
-];
+/// What is told of a text by how many bytes a writer takes a call, and how many flushes succeed.
+pub(crate) fn flushing_told(alloc: Global, input: &str) -> Result<String, Fail> {
+    let (takes, flushes) = input.split_once(' ').ok_or("no flushes")?;
+    let told = slowly_written(takes.parse::<usize>()?, flushes.parse::<u32>()?);
+    Ok(format!(in alloc; "{told:?}")?)
+}
+
+const SLOW: &str = "1 4 => Ok(())|
+9 1 => Ok(())|
+1 3 => Err(Failed)|
+0 9 => Err(Failed)";
+
+fn are_std_streams_served(alloc: Global) -> Result<bool, Fail> {
+    Ok(is_text_read(alloc)? && is_fault_told(alloc) && is_vector_written(alloc)?)
+}
 
 #[test]
 fn std_readers_and_writers_fail_as_told(rt: HostRuntime) -> Result<(), Fail> {
-    assert!(rt; is_text_read(rt.alloc())?);
-    assert!(rt; is_fault_told(rt.alloc()));
-    assert!(rt; is_vector_written(rt.alloc())?);
-    for (takes, flushes, want) in SLOW {
-        assert_eq!(rt;
-            slowly_written(*takes, *flushes),
-            *want,
-            "{takes} a write, {flushes} flushes"
-        );
-    }
+    assert!(rt; are_std_streams_served(rt.alloc())?);
+    assert_eq!(rt; wrong(rt.alloc(), Subject::Flushing, SLOW)?, "");
     Ok(())
 }
 

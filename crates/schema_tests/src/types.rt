@@ -63,33 +63,32 @@ fn a_copied_row_is_the_same_row(rt: HostRuntime) -> Result<(), Fail> {
     Ok(())
 }
 
-/// How two paths are ordered, and whether either is a prefix of the other.
-fn compared(first: Path, second: Path) -> (Ordering, bool, bool) {
-    (
-        first.cmp(&second),
-        first.is_prefix_of(&second),
-        second.is_prefix_of(&first),
-    )
+/// Whether a path goes ahead of another one, and whether it is a prefix of it; the other one is no prefix of the first.
+fn goes_ahead(first: &Path, second: &Path, is_prefix: bool) -> bool {
+    matches!(first.cmp(second), Ordering::Less)
+        && first.is_prefix_of(second) == is_prefix
+        && !second.is_prefix_of(first)
 }
 
-fn above_and_entry(alloc: Global) -> Result<(Ordering, bool, bool), Fail> {
+fn is_behind_its_list(alloc: Global, entry: &Path) -> Result<bool, Fail> {
     let above = node(alloc, 2)?;
-    Ok(compared(above, entry(alloc)?))
+    Ok(goes_ahead(&above, entry, true))
 }
 
-fn entry_and_later(alloc: Global) -> Result<(Ordering, bool, bool), Fail> {
+fn is_ahead_of_a_later_node(alloc: Global, entry: &Path) -> Result<bool, Fail> {
     let later = node(alloc, 10)?;
-    Ok(compared(entry(alloc)?, later))
+    Ok(goes_ahead(entry, &later, false))
+}
+
+fn is_entry_in_order(alloc: Global) -> Result<bool, Fail> {
+    let entry = entry(alloc)?;
+    Ok(is_behind_its_list(alloc, &entry)? && is_ahead_of_a_later_node(alloc, &entry)?)
 }
 
 // By step; nodes by number, entries by their keys; a path before the paths that it is a prefix of.
 #[test]
 fn paths_go_step_by_step(rt: HostRuntime) -> Result<(), Fail> {
-    assert_eq!(rt; above_and_entry(rt.alloc())?, (Ordering::Less, true, false));
-    assert_eq!(rt;
-        entry_and_later(rt.alloc())?,
-        (Ordering::Less, false, false)
-    );
+    assert!(rt; is_entry_in_order(rt.alloc())?);
     Ok(())
 }
 

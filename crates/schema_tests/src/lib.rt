@@ -16,6 +16,4 @@ mod table;
 #[cfg(test)]
 mod texts;
 #[cfg(test)]
-mod typedefs;
-#[cfg(test)]
 mod types;

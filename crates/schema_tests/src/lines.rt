@@ -1,5 +1,5 @@
 // A table of a test is a text: cases with a bar and a line end between them, each an input and, behind an arrow, what is told of it.
-use crate::{io, module, restrict, stmt, table, typedefs};
+use crate::{io, module, restrict, stmt, table};
 use std::alloc::Global;
 use std::test::Fail;
 
@@ -9,10 +9,6 @@ pub(crate) enum Subject {
     Statement,
     Places,
     Range,
-    Meaning,
-    Counts,
-    TargetPath,
-    Pattern,
     Table,
     Reading,
     Writing,
@@ -24,10 +20,6 @@ fn answer(alloc: Global, subject: Subject, input: &str) -> Result<String, Fail> 
         Subject::Statement => stmt::told(alloc, input),
         Subject::Places => module::told(alloc, input),
         Subject::Range => restrict::told(alloc, input),
-        Subject::Meaning => typedefs::meaning_told(alloc, input),
-        Subject::Counts => typedefs::counts_told(alloc, input),
-        Subject::TargetPath => typedefs::path_told(alloc, input),
-        Subject::Pattern => typedefs::pattern_told(alloc, input),
         Subject::Table => table::told(alloc, input),
         Subject::Reading => io::reading_told(alloc, input),
         Subject::Writing => io::writing_told(alloc, input),
@@ -41,16 +33,17 @@ fn is_told(alloc: Global, subject: Subject, case: &str) -> Result<bool, Fail> {
     Ok(told.as_str() == wanted)
 }
 
-/// The first case of the table that is answered otherwise; an empty text where there is none.
-pub(crate) fn wrong(
-    alloc: Global,
-    subject: Subject,
-    table: &'static str,
-) -> Result<&'static str, Fail> {
+/// Fails with the first case of the table that is answered otherwise.
+pub(crate) fn all_told(alloc: Global, subject: Subject, table: &'static str) -> Result<(), Fail> {
     for case in table.split("|\n") {
         if !is_told(alloc, subject, case)? {
-            return Ok(case);
+            return Err(case.into());
         }
     }
-    Ok("")
+    Ok(())
+}
+
+/// The number that a word is, if it is one.
+pub(crate) fn number_in(word: &str) -> Option<u64> {
+    word.parse::<u64>().ok()
 }

@@ -1,6 +1,6 @@
-use crate::lines::{Subject, wrong};
-use crate::texts::{checked, read};
-use sal_module::{Modules, check};
+use crate::lines::{Subject, all_told};
+use crate::texts::{modules_in, modules_of, stmt_in};
+use sal_module::Modules;
 use sal_stmt::Stmt;
 use sal_types::Seq;
 use std::alloc::Global;
@@ -52,15 +52,15 @@ fn in_order(order: &str, stmt: Stmt) -> Stmt {
     }
 }
 
-fn modules_of(alloc: Global, stmt: Stmt) -> Result<Modules, Fail> {
+fn module_of(alloc: Global, stmt: Stmt) -> Result<Modules, Fail> {
     let stmts = vec![in alloc; stmt]?;
-    Ok(check(alloc, stmts.as_slice())?)
+    modules_of(alloc, stmts.as_slice())
 }
 
 /// What stands where in the module whose text is behind a word, `written` or `turned`.
 pub(crate) fn told(alloc: Global, input: &str) -> Result<String, Fail> {
     let (order, text) = input.split_once(' ').ok_or("no text")?;
-    let modules = modules_of(alloc, in_order(order, read(alloc, text)?))?;
+    let modules = module_of(alloc, in_order(order, stmt_in(alloc, text)?))?;
     places(alloc, &modules)
 }
 
@@ -74,20 +74,21 @@ const B: &str = "module b { namespace u; prefix b; }";
 
 const C: &str = "module c { namespace u; prefix c; }";
 
-/// What the prefixes b, a and c name in the second of three modules, and c in a fourth.
-fn imports(alloc: Global) -> Result<[Option<u32>; 4], Fail> {
-    let modules = checked(alloc, &[C, A, B])?;
-    Ok([
-        modules.imported(1, "b"),
-        modules.imported(1, "a"),
-        modules.imported(1, "c"),
-        modules.imported(3, "c"),
-    ])
+/// Whether the prefixes b, a and c name what they should in the second of three modules, and c in a fourth.
+fn are_found(modules: &Modules) -> bool {
+    modules.imported(1, "b") == Some(2)
+        && modules.imported(1, "a") == Some(1)
+        && modules.imported(1, "c").is_none()
+        && modules.imported(3, "c").is_none()
+}
+
+fn are_imports_found(alloc: Global) -> Result<bool, Fail> {
+    let modules = modules_in(alloc, &[C, A, B])?;
+    Ok(are_found(&modules))
 }
 
 #[test]
 fn look_ups(rt: HostRuntime) -> Result<(), Fail> {
-    assert_eq!(rt; wrong(rt.alloc(), Subject::Places, PLACES)?, "");
-    assert_eq!(rt; imports(rt.alloc())?, [Some(2), Some(1), None, None]);
-    Ok(())
+    assert!(rt; are_imports_found(rt.alloc())?);
+    all_told(rt.alloc(), Subject::Places, PLACES)
 }

@@ -1,13 +1,13 @@
 ghost use Rattle.std.specs.Prelude.{◌<◌, ◌≤◌, length};
 
-use crate::lines::{Subject, wrong};
+use crate::lines::{Subject, all_told, number_in};
 use sal_restrict::{Part, Ranges, read_ranges};
 use sal_types::{Duplicate, NoMemory};
 use std::alloc::Global;
 use std::fmt::Write;
 use std::test::Fail;
 
-pub(crate) fn push_parts(text: &mut String, parts: &[Part]) -> Result<(), Fail> {
+fn push_parts(text: &mut String, parts: &[Part]) -> Result<(), Fail> {
     for part in parts {
         write!(text, " {}..{}", part.low, part.high)?;
     }
@@ -46,9 +46,12 @@ fn told_within(alloc: Global, within: &Ranges, text: &str, digits: u8) -> Result
 /// What a range gives within those numbers, or why it is none; its fraction digits stand ahead of it.
 pub(crate) fn told(alloc: Global, input: &str) -> Result<String, Fail> {
     let (digits, text) = input.split_once(' ').ok_or("no digits")?;
-    let digits = digits.parse::<u8>()?;
+    let digits = number_in(digits).ok_or("no number")?;
+    if digits > 18 {
+        return Err("too many digits".into());
+    }
     let within = numbers(alloc)?;
-    told_within(alloc, &within, text, digits)
+    told_within(alloc, &within, text, digits as u8)
 }
 
 const RANGES: &str = "0 5 => taken 5..5|
@@ -99,8 +102,7 @@ const RANGES: &str = "0 5 => taken 5..5|
 
 #[test]
 fn texts_give_ranges(rt: HostRuntime) -> Result<(), Fail> {
-    assert_eq!(rt; wrong(rt.alloc(), Subject::Range, RANGES)?, "");
-    Ok(())
+    all_told(rt.alloc(), Subject::Range, RANGES)
 }
 
 /// Whether ranges hold and leave out what they should, and are copied.

@@ -1,4 +1,4 @@
-use crate::lines::{Subject, wrong};
+use crate::lines::{Subject, all_told};
 use crate::texts::read;
 use sal_stmt::Stmt;
 use std::alloc::Global;
@@ -88,8 +88,7 @@ x \"a\" +\n \"b\n  c\"; => x@0=\"ab\\nc\"";
 
 #[test]
 fn trees(rt: HostRuntime) -> Result<(), Fail> {
-    assert_eq!(rt; wrong(rt.alloc(), Subject::Statement, TREES)?, "");
-    Ok(())
+    all_told(rt.alloc(), Subject::Statement, TREES)
 }
 
 const FAULTS: &str = " => BadToken { at: 0 }|
@@ -153,8 +152,7 @@ a;/b => TextAfter { at: 2 }";
 
 #[test]
 fn faults(rt: HostRuntime) -> Result<(), Fail> {
-    assert_eq!(rt; wrong(rt.alloc(), Subject::Statement, FAULTS)?, "");
-    Ok(())
+    all_told(rt.alloc(), Subject::Statement, FAULTS)
 }
 
 // 64 blocks that are open at once, and one more.
@@ -164,8 +162,7 @@ a{a{a{a{a{a{a{a{a{a{a{a{a{a{a{a{a{a{a{a{a{a{a{a{a{a{a{a{a{a{a{a{a{a{a{a{a{a{a{a{
 
 #[test]
 fn blocks_are_64_deep(rt: HostRuntime) -> Result<(), Fail> {
-    assert_eq!(rt; wrong(rt.alloc(), Subject::Statement, BLOCKS)?, "");
-    Ok(())
+    all_told(rt.alloc(), Subject::Statement, BLOCKS)
 }
 
 // Each proper prefix of a module is unclosed, where its innermost open part begins.
@@ -193,6 +190,5 @@ module m { prefix p;  => Unclosed { at: 9 }";
 
 #[test]
 fn prefixes_are_unclosed(rt: HostRuntime) -> Result<(), Fail> {
-    assert_eq!(rt; wrong(rt.alloc(), Subject::Statement, PREFIXES)?, "");
-    Ok(())
+    all_told(rt.alloc(), Subject::Statement, PREFIXES)
 }

@@ -1,4 +1,4 @@
-use crate::lines::{Subject, wrong};
+use crate::lines::{Subject, all_told, number_in};
 use sal_restrict::{Part, Ranges, YangType};
 use sal_schema::{IdentityInfo, Kind, Leafs, NodeInfo, Schema, SchemaTable};
 use sal_table::{TableFault, is_table, schema_of};
@@ -11,7 +11,10 @@ use std::test::Fail;
 // them, and each has its parent, kind, name, type, keys and the leafs of its `unique` statement. `-` stands where there is none.
 
 fn number_of(word: &str) -> Option<u32> {
-    word.parse::<u32>().ok()
+    match number_in(word) {
+        Some(number) if number < 100 => Some(number as u32),
+        _ => None,
+    }
 }
 
 /// Numbers with commas between them.
@@ -140,8 +143,10 @@ fn nodes(alloc: Global, text: &str) -> Result<Seq<NodeInfo>, Fail> {
 
 // ---- types and identities
 
-fn whole(alloc: Global, signed: bool, high: u8) -> Result<YangType, Fail> {
-    let high = i128::from(high);
+fn whole(alloc: Global, signed: bool, high: i128) -> Result<YangType, Fail> {
+    if high < 0 {
+        return Err("below 0".into());
+    }
     let range = Ranges::from_items(vec![in alloc; Part { low: 0, high }]?);
     Ok(YangType::Int {
         bits: 8,
@@ -155,7 +160,7 @@ fn union_of(alloc: Global, member: YangType) -> Result<YangType, Fail> {
     Ok(YangType::Union { members })
 }
 
-fn in_unions(alloc: Global, unions: u8, member: YangType) -> Result<YangType, Fail> {
+fn in_unions(alloc: Global, unions: u64, member: YangType) -> Result<YangType, Fail> {
     let mut ty = member;
     for _i in 0..unions {
         ty = union_of(alloc, ty)?;
@@ -168,8 +173,13 @@ fn type_of(alloc: Global, word: &str) -> Result<YangType, Fail> {
         return Ok(YangType::Empty);
     };
     let (high, unions) = rest.split_once(':').ok_or("no unions")?;
-    let member = whole(alloc, name == "int8", high.parse::<u8>()?)?;
-    in_unions(alloc, unions.parse::<u8>()?, member)
+    let high = number_in(high).ok_or("no number")?;
+    let unions = number_in(unions).ok_or("no number of unions")?;
+    in_unions(
+        alloc,
+        unions,
+        whole(alloc, name == "int8", i128::from(high))?,
+    )
 }
 
 fn add_type(alloc: Global, types: &mut Vec<YangType>, word: &str) -> Result<(), Fail> {
@@ -241,10 +251,6 @@ fn is_one(alloc: Global, text: &str) -> Result<bool, Fail> {
     Ok(is_table(alloc, &table)?)
 }
 
-fn schema(alloc: Global, text: &str) -> Result<Schema, Fail> {
-    Ok(schema_of(alloc, table(alloc, text)?)?)
-}
-
 fn size_of(alloc: Global, table: SchemaTable) -> Result<Option<u32>, Fail> {
     match schema_of(alloc, table) {
         Ok(schema) => Ok(Some(schema.len())),
@@ -287,8 +293,7 @@ int8:127:0 / base:1 / - list host - 1 2; 0 leaf n 0 - -; 0 leaf m 0 - -; 0 choic
 
 #[test]
 fn tables_are_tested(rt: HostRuntime) -> Result<(), Fail> {
-    assert_eq!(rt; wrong(rt.alloc(), Subject::Table, TABLES)?, "");
-    Ok(())
+    all_told(rt.alloc(), Subject::Table, TABLES)
 }
 
 // A list with a choice, and a container, an RPC and a notification of one name.
@@ -311,8 +316,10 @@ fn is_mixed(alloc: Global, schema: &Schema) -> Result<bool, Fail> {
 }
 
 fn is_mixed_told(alloc: Global) -> Result<bool, Fail> {
-    let schema = schema(alloc, MIXED)?;
-    is_mixed(alloc, &schema)
+    match schema_of(alloc, table(alloc, MIXED)?) {
+        Ok(schema) => is_mixed(alloc, &schema),
+        Err(_) => Ok(false),
+    }
 }
 
 #[test]

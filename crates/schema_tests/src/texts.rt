@@ -16,12 +16,19 @@ pub(crate) fn read(alloc: Global, text: &str) -> Result<Stmt, StmtFault> {
     read_module(alloc, text)
 }
 
+pub(crate) fn stmt_in(alloc: Global, text: &str) -> Result<Stmt, Fail> {
+    match read(alloc, text) {
+        Ok(stmt) => Ok(stmt),
+        Err(_) => Err("no statement".into()),
+    }
+}
+
 fn add(alloc: Global, stmts: &mut Vec<Stmt>, text: &str) -> Result<(), Fail> {
-    stmts.push(read(alloc, text)?)?;
+    stmts.push(stmt_in(alloc, text)?)?;
     Ok(())
 }
 
-fn read_all(alloc: Global, texts: &[&str]) -> Result<Vec<Stmt>, Fail> {
+fn stmts_in(alloc: Global, texts: &[&str]) -> Result<Vec<Stmt>, Fail> {
     let mut stmts = Vec::new(alloc);
     for text in texts {
         add(alloc, &mut stmts, text)?;
@@ -29,7 +36,14 @@ fn read_all(alloc: Global, texts: &[&str]) -> Result<Vec<Stmt>, Fail> {
     Ok(stmts)
 }
 
-pub(crate) fn checked(alloc: Global, texts: &[&str]) -> Result<Modules, Fail> {
-    let stmts = read_all(alloc, texts)?;
-    Ok(check(alloc, stmts.as_slice())?)
+pub(crate) fn modules_of(alloc: Global, stmts: &[Stmt]) -> Result<Modules, Fail> {
+    match check(alloc, stmts) {
+        Ok(modules) => Ok(modules),
+        Err(_) => Err("no modules".into()),
+    }
+}
+
+pub(crate) fn modules_in(alloc: Global, texts: &[&str]) -> Result<Modules, Fail> {
+    let stmts = stmts_in(alloc, texts)?;
+    modules_of(alloc, stmts.as_slice())
 }

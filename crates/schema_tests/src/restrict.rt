@@ -1,7 +1,7 @@
 ghost use Rattle.std.specs.Prelude.{◌<◌, ◌≤◌, length};
 
 use crate::lines::{Subject, all_told, number_in};
-use sal_restrict::{Part, Ranges, read_ranges};
+use sal_restrict::{Part, RangeFault, Ranges, read_ranges};
 use sal_types::{Duplicate, NoMemory};
 use std::alloc::Global;
 use std::fmt::Write;
@@ -33,14 +33,15 @@ fn numbers(alloc: Global) -> Result<Ranges, NoMemory> {
     Ok(Ranges::from_items(vec![in alloc; low, high]?))
 }
 
-fn told_within(alloc: Global, within: &Ranges, text: &str, digits: u8) -> Result<String, Fail> {
+/// The range of a text within those numbers, whose fraction has so many digits.
+pub(crate) fn range_in(alloc: Global, text: &str, digits: u8) -> Result<Ranges, RangeFault> {
+    let Ok(within) = numbers(alloc) else {
+        return Err(RangeFault::NoMemory);
+    };
     if within.items().is_empty() || digits > 18 {
-        return Err("nothing to be within".into());
+        return Err(RangeFault::NoMemory);
     }
-    match read_ranges(alloc, text, within, digits) {
-        Ok(ranges) => taken(alloc, &ranges),
-        Err(fault) => Ok(format!(in alloc; "{fault:?}")?),
-    }
+    read_ranges(alloc, text, &within, digits)
 }
 
 /// What a range gives within those numbers, or why it is none; its fraction digits stand ahead of it.
@@ -50,8 +51,10 @@ pub(crate) fn told(alloc: Global, input: &str) -> Result<String, Fail> {
     if digits > 18 {
         return Err("too many digits".into());
     }
-    let within = numbers(alloc)?;
-    told_within(alloc, &within, text, digits as u8)
+    match range_in(alloc, text, digits as u8) {
+        Ok(ranges) => taken(alloc, &ranges),
+        Err(fault) => Ok(format!(in alloc; "{fault:?}")?),
+    }
 }
 
 const RANGES: &str = "0 5 => taken 5..5|

@@ -1,20 +1,22 @@
 use crate::lines::{Subject, all_told, number_in};
-use sal_restrict::{Part, Ranges, YangType};
+use crate::restrict::range_in;
+use sal_restrict::YangType;
 use sal_schema::{IdentityInfo, Kind, Leafs, NodeInfo, Schema, SchemaTable};
 use sal_table::{TableFault, is_table, schema_of};
 use sal_types::{NoMemory, Seq, Str};
 use std::alloc::Global;
 use std::test::Fail;
 
-// A table is a text of three parts with ` / ` between them. Its types are words `NAME:HIGH:UNIONS`, as whole numbers of 8 bits from
-// 0 to the highest inside so many unions, or `empty` without numbers. Its identities are words `NAME:ABOVE`. Its nodes have `; ` between
+// A table is a text of three parts with ` / ` between them. Its types are words `NAME:RANGE:UNIONS`, whole numbers of 8 bits in
+// this range inside so many unions, or `empty`. Its identities are words `NAME:ABOVE`. Its nodes have `; ` between
 // them, and each has its parent, kind, name, type, keys and the leafs of its `unique` statement. `-` stands where there is none.
 
 fn number_of(word: &str) -> Option<u32> {
-    match number_in(word) {
-        Some(number) if number < 100 => Some(number as u32),
-        _ => None,
+    let number = number_in(word)?;
+    if number > 99 {
+        return None;
     }
+    Some(number as u32)
 }
 
 /// Numbers with commas between them.
@@ -143,16 +145,15 @@ fn nodes(alloc: Global, text: &str) -> Result<Seq<NodeInfo>, Fail> {
 
 // ---- types and identities
 
-fn whole(alloc: Global, signed: bool, high: i128) -> Result<YangType, Fail> {
-    if high < 0 {
-        return Err("below 0".into());
+fn whole(alloc: Global, signed: bool, range: &str) -> Result<YangType, Fail> {
+    match range_in(alloc, range, 0) {
+        Ok(range) => Ok(YangType::Int {
+            bits: 8,
+            signed,
+            range,
+        }),
+        Err(_) => Err("no range".into()),
     }
-    let range = Ranges::from_items(vec![in alloc; Part { low: 0, high }]?);
-    Ok(YangType::Int {
-        bits: 8,
-        signed,
-        range,
-    })
 }
 
 fn union_of(alloc: Global, member: YangType) -> Result<YangType, Fail> {
@@ -172,14 +173,9 @@ fn type_of(alloc: Global, word: &str) -> Result<YangType, Fail> {
     let Some((name, rest)) = word.split_once(':') else {
         return Ok(YangType::Empty);
     };
-    let (high, unions) = rest.split_once(':').ok_or("no unions")?;
-    let high = number_in(high).ok_or("no number")?;
-    let unions = number_in(unions).ok_or("no number of unions")?;
-    in_unions(
-        alloc,
-        unions,
-        whole(alloc, name == "int8", i128::from(high))?,
-    )
+    let (range, unions) = rest.split_once(':').ok_or("no unions")?;
+    let unions = number_in(unions).ok_or("no number")?;
+    in_unions(alloc, unions, whole(alloc, name == "int8", range)?)
 }
 
 fn add_type(alloc: Global, types: &mut Vec<YangType>, word: &str) -> Result<(), Fail> {
@@ -271,25 +267,25 @@ pub(crate) fn told(alloc: Global, text: &str) -> Result<String, Fail> {
 // two cases, and a name that is none. Then the good nodes with other types and identities: a union in a union, a number that the type
 // does not have, and an identity that is derived from itself, and from none that is there.
 const TABLES: &str =
-    "int8:127:0 / base:- / - list host - 1 2; 0 leaf n 0 - -; 0 leaf m 0 - -; 0 choice way - - -; 3 case way - - -; 4 leaf way 0 - -; - rpc host - - -; 6 input input - - -; 7 leaf n 0 - -; - notification host - - - => true Some(10)|
-int8:127:0 / base:- /  => true Some(0)|
-int8:127:0 / base:- / 1 leaf n 0 - -; - container c - - - => false None|
-int8:127:0 / base:- / - leaf n - - - => false None|
-int8:127:0 / base:- / - leaf n 0 - -; 0 container c - - - => false None|
-int8:127:0 / base:- / - case c - - - => false None|
-int8:127:0 / base:- / - container c - - -; 0 rpc r - - - => false None|
-int8:127:0 / base:- / - list host - - - => false None|
-int8:127:0 / base:- / - list host - 1,1 -; 0 leaf n 0 - - => false None|
-int8:127:0 / base:- / - list host - 1 -; - leaf n 0 - - => false None|
-int8:127:0 / base:- / - list host - 1 3; 0 leaf n 0 - -; 0 list port - 3 -; 2 leaf n 0 - - => false None|
-int8:127:0 / base:- / - choice c - - -; 0 case d - - -; 1 leaf n 0 - -; 0 case e - - -; 3 leaf n 0 - - => false None|
-int8:127:0 / base:- / - container 1c - - - => false None|
-int8:127:0 / base:- / - list host - 1 2; 0 leaf n 0 - -; 0 leaf m 0 - -; 0 choice way - - -; 3 case way - - -; 4 leaf way 0 - -; - rpc host - - -; 6 input input - - -; 7 leaf n 0 - -; - notification host - - - => true Some(10)|
-int8:127:1 / base:- / - list host - 1 2; 0 leaf n 0 - -; 0 leaf m 0 - -; 0 choice way - - -; 3 case way - - -; 4 leaf way 0 - -; - rpc host - - -; 6 input input - - -; 7 leaf n 0 - -; - notification host - - - => true Some(10)|
-int8:127:2 / base:- / - list host - 1 2; 0 leaf n 0 - -; 0 leaf m 0 - -; 0 choice way - - -; 3 case way - - -; 4 leaf way 0 - -; - rpc host - - -; 6 input input - - -; 7 leaf n 0 - -; - notification host - - - => false None|
-int8:128:0 / base:- / - list host - 1 2; 0 leaf n 0 - -; 0 leaf m 0 - -; 0 choice way - - -; 3 case way - - -; 4 leaf way 0 - -; - rpc host - - -; 6 input input - - -; 7 leaf n 0 - -; - notification host - - - => false None|
-int8:127:0 / base:0 / - list host - 1 2; 0 leaf n 0 - -; 0 leaf m 0 - -; 0 choice way - - -; 3 case way - - -; 4 leaf way 0 - -; - rpc host - - -; 6 input input - - -; 7 leaf n 0 - -; - notification host - - - => false None|
-int8:127:0 / base:1 / - list host - 1 2; 0 leaf n 0 - -; 0 leaf m 0 - -; 0 choice way - - -; 3 case way - - -; 4 leaf way 0 - -; - rpc host - - -; 6 input input - - -; 7 leaf n 0 - -; - notification host - - - => false None";
+    "int8:0..127:0 / base:- / - list host - 1 2; 0 leaf n 0 - -; 0 leaf m 0 - -; 0 choice way - - -; 3 case way - - -; 4 leaf way 0 - -; - rpc host - - -; 6 input input - - -; 7 leaf n 0 - -; - notification host - - - => true Some(10)|
+int8:0..127:0 / base:- /  => true Some(0)|
+int8:0..127:0 / base:- / 1 leaf n 0 - -; - container c - - - => false None|
+int8:0..127:0 / base:- / - leaf n - - - => false None|
+int8:0..127:0 / base:- / - leaf n 0 - -; 0 container c - - - => false None|
+int8:0..127:0 / base:- / - case c - - - => false None|
+int8:0..127:0 / base:- / - container c - - -; 0 rpc r - - - => false None|
+int8:0..127:0 / base:- / - list host - - - => false None|
+int8:0..127:0 / base:- / - list host - 1,1 -; 0 leaf n 0 - - => false None|
+int8:0..127:0 / base:- / - list host - 1 -; - leaf n 0 - - => false None|
+int8:0..127:0 / base:- / - list host - 1 3; 0 leaf n 0 - -; 0 list port - 3 -; 2 leaf n 0 - - => false None|
+int8:0..127:0 / base:- / - choice c - - -; 0 case d - - -; 1 leaf n 0 - -; 0 case e - - -; 3 leaf n 0 - - => false None|
+int8:0..127:0 / base:- / - container 1c - - - => false None|
+int8:0..127:0 / base:- / - list host - 1 2; 0 leaf n 0 - -; 0 leaf m 0 - -; 0 choice way - - -; 3 case way - - -; 4 leaf way 0 - -; - rpc host - - -; 6 input input - - -; 7 leaf n 0 - -; - notification host - - - => true Some(10)|
+int8:0..127:1 / base:- / - list host - 1 2; 0 leaf n 0 - -; 0 leaf m 0 - -; 0 choice way - - -; 3 case way - - -; 4 leaf way 0 - -; - rpc host - - -; 6 input input - - -; 7 leaf n 0 - -; - notification host - - - => true Some(10)|
+int8:0..127:2 / base:- / - list host - 1 2; 0 leaf n 0 - -; 0 leaf m 0 - -; 0 choice way - - -; 3 case way - - -; 4 leaf way 0 - -; - rpc host - - -; 6 input input - - -; 7 leaf n 0 - -; - notification host - - - => false None|
+int8:0..128:0 / base:- / - list host - 1 2; 0 leaf n 0 - -; 0 leaf m 0 - -; 0 choice way - - -; 3 case way - - -; 4 leaf way 0 - -; - rpc host - - -; 6 input input - - -; 7 leaf n 0 - -; - notification host - - - => false None|
+int8:0..127:0 / base:0 / - list host - 1 2; 0 leaf n 0 - -; 0 leaf m 0 - -; 0 choice way - - -; 3 case way - - -; 4 leaf way 0 - -; - rpc host - - -; 6 input input - - -; 7 leaf n 0 - -; - notification host - - - => false None|
+int8:0..127:0 / base:1 / - list host - 1 2; 0 leaf n 0 - -; 0 leaf m 0 - -; 0 choice way - - -; 3 case way - - -; 4 leaf way 0 - -; - rpc host - - -; 6 input input - - -; 7 leaf n 0 - -; - notification host - - - => false None";
 
 #[test]
 fn tables_are_tested(rt: HostRuntime) -> Result<(), Fail> {
@@ -298,7 +294,7 @@ fn tables_are_tested(rt: HostRuntime) -> Result<(), Fail> {
 
 // A list with a choice, and a container, an RPC and a notification of one name.
 const MIXED: &str =
-    "uint8:255:0 empty / base:- derived:0 / - list host - 1 -; 0 leaf n 0 - -; 0 choice way - - -; 2 case slow - - -; 3 leaf slow 1 - -; - presence ping - - -; - rpc ping - - -; - notification ping - - -";
+    "uint8:0..255:0 empty / base:- derived:0 / - list host - 1 -; 0 leaf n 0 - -; 0 choice way - - -; 2 case slow - - -; 3 leaf slow 1 - -; - presence ping - - -; - rpc ping - - -; - notification ping - - -";
 
 const MIXED_TEXT: &str = "0 - list rule:host config key n
 1 0 leaf rule:n config uint8

@@ -1,10 +1,9 @@
 ghost use Rattle.std.specs.Prelude.{◌≡◌, ◌-◌, ◌<◌, ◌^◌, IfOk};
 ghost use Rattle.sal_hub.specs.Tokens.{IsBegun};
 
-use crate::schemas::schema_of;
-use sal_history::{Device, Opening};
+use crate::schemas::device;
 use sal_hub::{Hub, MAX_ENTRIES, laws};
-use sal_rows::{CallFault, Mode, Outcome, Rows};
+use sal_rows::{CallFault, Mode, Rows};
 use sal_tree::Pair;
 use sal_tx::{Begun, Tx, WriteTx};
 use sal_types::{Duplicate, NoMemory};
@@ -14,52 +13,10 @@ use std::test::Fail;
 
 const NO_NODES: &str = "module nothing { namespace 'urn:nothing'; prefix n; }";
 
-fn device(alloc: Global) -> Result<Device, Fail> {
-    let schema = Arc::new(alloc, schema_of(alloc, NO_NODES)?)?;
-    let opening = Opening {
-        config: Rows::new(alloc),
-        oper: Rows::new(alloc),
-    };
-    Ok(Device { schema, opening })
-}
-
 // A hub over one empty domain.
 fn hub(alloc: Global) -> Result<Hub, Fail> {
-    let devices = vec![in alloc; device(alloc)?]?;
+    let devices = vec![in alloc; device(alloc, NO_NODES, Rows::new(alloc))?]?;
     Ok(Hub::open(alloc, devices)?)
-}
-
-// ---- transactions to their end
-
-// Begins a transaction, and cancels it where it only reads.
-fn is_cancelled(hub: &mut Hub, alloc: Global) -> Result<bool, Fail> {
-    let tx = hub.begin(alloc, 7, 0, Mode::Ro)?;
-    let is_read = match &tx {
-        Tx::Read(_) => true,
-        Tx::Write(_) => false,
-    };
-    Ok(is_read && hub.cancel(alloc, 7, tx).is_ok())
-}
-
-// Begins a transaction, submits and settles it.
-fn is_done(hub: &mut Hub, alloc: Global) -> Result<bool, Fail> {
-    let Tx::Write(tx) = hub.begin(alloc, 7, 0, Mode::Rw)? else {
-        return Ok(false);
-    };
-    match hub.submit(alloc, 7, tx) {
-        Ok(receipt) => Ok(hub.settle(alloc, 7, receipt)? == Outcome::Done { commit: 1 }),
-        Err((_, fault)) => Err(Fail::from(fault)),
-    }
-}
-
-#[test]
-fn transactions_are_submitted_settled_and_cancelled(rt: HostRuntime) -> Result<(), Fail> {
-    let mut hub = hub(rt.alloc())?;
-    assert!(rt; is_done(&mut hub, rt.alloc())?);
-    assert!(rt; is_cancelled(&mut hub, rt.alloc())?);
-    assert!(rt; hub.begin(rt.alloc(), 7, 1, Mode::Rw).is_err());
-    assert!(rt; hub.newest() == 1 && hub.log().len() == 6);
-    Ok(())
 }
 
 // ---- a transaction on the fields of a submitted one

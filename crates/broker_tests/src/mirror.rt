@@ -5,33 +5,19 @@ use sal_types::Seq;
 use std::alloc::Global;
 use std::test::Fail;
 
-// A mirror at commit 2.
-fn at_two(alloc: Global) -> Result<Mirror, Fail> {
+// What a mirror at commit 2 answers to a batch without parts, and its version behind that.
+fn answered(alloc: Global, from: u64, to: u64) -> Result<(Option<MirrorFault>, u64), Fail> {
     let rows = rows_of(alloc, "0/1='x")?;
-    Ok(Mirror::open(&Opened { version: 2, rows })?)
-}
-
-// A batch without parts.
-fn between(alloc: Global, from: u64, to: u64) -> Batch {
+    let mut mirror = Mirror::open(&Opened { version: 2, rows })?;
     let lists = Seq::new(alloc);
-    Batch { from, to, lists }
-}
-
-// What the mirror answers to a batch, and its version behind that.
-fn answered(alloc: Global, batch: &Batch) -> Result<(Option<MirrorFault>, u64), Fail> {
-    let mut mirror = at_two(alloc)?;
-    let fault = mirror.take(alloc, batch).err();
+    let fault = mirror.take(alloc, &Batch { from, to, lists }).err();
     Ok((fault, mirror.version()))
 }
 
 #[test]
 fn a_mirror_refuses_a_gap(rt: HostRuntime) -> Result<(), Fail> {
-    let behind = between(rt.alloc(), 3, 5);
-    assert_eq!(rt;
-        answered(rt.alloc(), &behind)?,
-        (Some(MirrorFault::Gap { have: 2, from: 3 }), 2)
-    );
-    let next = between(rt.alloc(), 2, 5);
-    assert_eq!(rt; answered(rt.alloc(), &next)?, (None, 5));
+    let gap = MirrorFault::Gap { have: 2, from: 3 };
+    assert_eq!(rt; answered(rt.alloc(), 3, 5)?, (Some(gap), 2));
+    assert_eq!(rt; answered(rt.alloc(), 2, 5)?, (None, 5));
     Ok(())
 }

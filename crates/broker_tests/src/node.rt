@@ -4,30 +4,19 @@ use std::alloc::Global;
 use std::sync::Arc;
 use std::test::Fail;
 
-fn mark(alloc: Global) -> Result<Arc<Node>, Fail> {
-    Ok(Arc::new(alloc, Node::new(alloc, Some(Cell::Mark), 7))?)
-}
-
 // A node with a child, and then with a cell too.
-fn with_child(alloc: Global, child: Arc<Node>) -> Result<Node, Fail> {
-    Ok(Node::new(alloc, None, 7).with_child(alloc, &Step::Node(3), Some(child), 8)?)
-}
-
-fn with_cell(alloc: Global, node: &Node) -> Result<Node, Fail> {
+fn edited(alloc: Global, child: Arc<Node>) -> Result<Node, Fail> {
+    let node = Node::new(alloc, None, 7).with_child(alloc, &Step::Node(3), Some(child), 8)?;
     let cell = copy_cell(&Some(Cell::Mark))?;
     Ok(node.with_cell(alloc, cell, 9)?)
 }
 
 // Its stamp, how many children it has, and how many with the stamp of the child.
-fn seen(alloc: Global, node: &Node) -> Result<[u64; 3], Fail> {
+fn seen(alloc: Global, child: Arc<Node>) -> Result<[u64; 3], Fail> {
+    let node = edited(alloc, child)?;
     let all = node.children(alloc)?.len() as u64;
     let changed = node.children_with(alloc, &[7])?.len() as u64;
     Ok([node.stamp(), all, changed])
-}
-
-fn edited(alloc: Global, child: Arc<Node>) -> Result<[u64; 3], Fail> {
-    let node = with_child(alloc, child)?;
-    seen(alloc, &with_cell(alloc, &node)?)
 }
 
 fn is_filled(alloc: Global, child: &Arc<Node>) -> Result<bool, Fail> {
@@ -36,14 +25,14 @@ fn is_filled(alloc: Global, child: &Arc<Node>) -> Result<bool, Fail> {
     Ok(builder.finish(alloc, None, 7)?.is_filled())
 }
 
-fn filled_and_edited(alloc: Global) -> Result<(bool, [u64; 3]), Fail> {
-    let child = mark(alloc)?;
+fn filled_and_seen(alloc: Global) -> Result<(bool, [u64; 3]), Fail> {
+    let child = Arc::new(alloc, Node::new(alloc, Some(Cell::Mark), 7))?;
     let is_filled = is_filled(alloc, &child)?;
-    Ok((is_filled, edited(alloc, child)?))
+    Ok((is_filled, seen(alloc, child)?))
 }
 
 #[test]
 fn a_node_has_its_children(rt: HostRuntime) -> Result<(), Fail> {
-    assert_eq!(rt; filled_and_edited(rt.alloc())?, (true, [9, 1, 1]));
+    assert_eq!(rt; filled_and_seen(rt.alloc())?, (true, [9, 1, 1]));
     Ok(())
 }

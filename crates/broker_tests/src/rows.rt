@@ -1,4 +1,4 @@
-use crate::texts::{list_of, path_of, rows_of};
+use crate::texts::{list_of, op_of, path_of, rows_of};
 use sal_rows::{Act, ClashKind, Op, Outcome, Rows, apply};
 use sal_types::{Duplicate, NoMemory, Store};
 use std::alloc::Global;
@@ -14,52 +14,34 @@ fn fault_in(alloc: Global, text: &str) -> Result<usize, Fail> {
     }
 }
 
-// Of two rows with one path, and of two in order.
-fn faults(alloc: Global) -> Result<(usize, usize), Fail> {
-    let equal = fault_in(alloc, "0/1='x 0/1='y")?;
-    Ok((equal, fault_in(alloc, "0/1='x 0/2='y")?))
-}
-
-#[test]
-fn equal_rows_are_out_of_order(rt: HostRuntime) -> Result<(), Fail> {
-    assert_eq!(rt; faults(rt.alloc())?, (1, 99));
-    Ok(())
-}
-
 // ---- operations
 
-fn put(alloc: Global) -> Result<Op, Fail> {
-    let act = Act::Put(rows_of(alloc, "0/1='x")?);
-    let path = path_of(alloc, "0/1")?;
-    let store = Store::Config;
-    Ok(Op { store, path, act })
-}
-
 // A put, and a copy of it.
-fn twice(alloc: Global, op: Op) -> Result<Vec<Op>, Fail> {
+fn twice(alloc: Global) -> Result<Vec<Op>, Fail> {
+    let op = op_of(alloc, ("put", "0/1", "0/1='x"))?;
     let mut ops = vec![in alloc; op.copy()?]?;
     ops.push(op)?;
     Ok(ops)
 }
 
-fn rows_after(alloc: Global, ops: &[Op], store: Store) -> Result<usize, Fail> {
+fn count_after(alloc: Global, store: Store) -> Result<usize, Fail> {
+    let ops = twice(alloc)?;
     let start = Rows::new(alloc);
-    Ok(apply(alloc, &start, store, ops)?.items().len())
+    Ok(apply(alloc, &start, store, ops.as_slice())?.items().len())
 }
 
-fn counts(alloc: Global, ops: &[Op]) -> Result<(usize, usize), Fail> {
-    let config = rows_after(alloc, ops, Store::Config)?;
-    Ok((config, rows_after(alloc, ops, Store::Oper)?))
-}
-
-fn put_counts(alloc: Global) -> Result<(usize, usize), Fail> {
-    let ops = twice(alloc, put(alloc)?)?;
-    counts(alloc, ops.as_slice())
+// Where two rows have one path, and where they are in order; how many rows a put leaves in its store, and in the other one.
+fn counts(alloc: Global) -> Result<[usize; 4], Fail> {
+    let equal = fault_in(alloc, "0/1='x 0/1='y")?;
+    let none = fault_in(alloc, "0/1='x 0/2='y")?;
+    let config = count_after(alloc, Store::Config)?;
+    let oper = count_after(alloc, Store::Oper)?;
+    Ok([equal, none, config, oper])
 }
 
 #[test]
-fn a_put_is_seen_in_its_store(rt: HostRuntime) -> Result<(), Fail> {
-    assert_eq!(rt; put_counts(rt.alloc())?, (1, 0));
+fn rows_are_in_order_and_a_put_is_seen_in_its_store(rt: HostRuntime) -> Result<(), Fail> {
+    assert_eq!(rt; counts(rt.alloc())?, [1, 99, 1, 0]);
     Ok(())
 }
 
@@ -70,16 +52,13 @@ fn below(tree: &Rows, alloc: Global, path: &str) -> Result<usize, Fail> {
     Ok(tree.under(&path)?.items().len())
 }
 
-// How many rows a copy has, and how many lie below a leaf and beside it.
-fn parts(alloc: Global, tree: &Rows) -> Result<(usize, usize, usize), Fail> {
-    let all = tree.copy()?.items().len();
-    let own = below(tree, alloc, "0/1")?;
-    Ok((all, own, below(tree, alloc, "0/2")?))
-}
-
-fn tree_parts(alloc: Global) -> Result<(usize, usize, usize), Fail> {
+// How many rows a copy has, and how many lie at a leaf and beside it.
+fn parts(alloc: Global) -> Result<[usize; 3], Fail> {
     let tree = rows_of(alloc, "0/1='x")?;
-    parts(alloc, &tree)
+    let all = tree.copy()?.items().len();
+    let own = below(&tree, alloc, "0/1")?;
+    let beside = below(&tree, alloc, "0/2")?;
+    Ok([all, own, beside])
 }
 
 fn merged(alloc: Global) -> Result<usize, Fail> {
@@ -103,7 +82,7 @@ fn is_conflict_copied(alloc: Global) -> Result<bool, Fail> {
 
 #[test]
 fn parts_and_copies_are_made(rt: HostRuntime) -> Result<(), Fail> {
-    assert_eq!(rt; tree_parts(rt.alloc())?, (1, 1, 0));
+    assert_eq!(rt; parts(rt.alloc())?, [1, 1, 0]);
     assert_eq!(rt; merged(rt.alloc())?, 1);
     assert!(rt; is_copied(&Outcome::Done { commit: 3 })?);
     assert!(rt; is_conflict_copied(rt.alloc())?);

@@ -1,7 +1,8 @@
-use crate::texts::{path_of, rows_of};
+use crate::texts::{lies_below, op_of, path_of};
 use sal_node::Paging;
-use sal_rows::{Act, Op, Rows, apply};
-use sal_tree::{Pair, Root, is_alike, lie_under};
+use sal_rows::{Op, Rows, apply};
+use sal_tree::{Pair, Root, is_alike};
+use sal_tx::edited;
 use sal_types::{Duplicate, Path, Store};
 use std::alloc::Global;
 use std::sync::Arc;
@@ -9,51 +10,25 @@ use std::test::Fail;
 
 // ---- a list, node 0, whose entries have a key, node 1, and a value, node 2
 
-#[derive(Clone, Copy)]
-enum Kind {
-    Put,
-    Merge,
-    Delete,
-}
-
-fn entry_rows(alloc: Global, key: u64) -> Result<Rows, Fail> {
-    let text = format!(in alloc; "0/#{key} 0/#{key}/1={key} 0/#{key}/2=0")?;
-    rows_of(alloc, text.as_str())
-}
-
-fn value_rows(alloc: Global, key: u64) -> Result<Rows, Fail> {
-    let text = format!(in alloc; "0/#{key}/2=1")?;
-    rows_of(alloc, text.as_str())
-}
-
-fn entry(alloc: Global, key: u64) -> Result<Path, Fail> {
-    let text = format!(in alloc; "0/#{key}")?;
-    path_of(alloc, text.as_str())
-}
-
-fn act_of(alloc: Global, kind: Kind, key: u64) -> Result<Act, Fail> {
-    match kind {
-        Kind::Put => Ok(Act::Put(entry_rows(alloc, key)?)),
-        Kind::Merge => Ok(Act::Merge(value_rows(alloc, key)?)),
-        Kind::Delete => Ok(Act::Delete),
+// The rows of an operation on the entry with this key.
+fn rows_text(alloc: Global, kind: &str, key: u64) -> Result<String, Fail> {
+    if kind == "merge" {
+        return Ok(format!(in alloc; "0/#{key}/2=1")?);
     }
+    Ok(format!(in alloc; "0/#{key} 0/#{key}/1={key} 0/#{key}/2=0")?)
 }
 
-fn op_of(alloc: Global, kind: Kind, key: u64) -> Result<Op, Fail> {
-    let act = act_of(alloc, kind, key)?;
-    let path = entry(alloc, key)?;
-    let store = Store::Config;
-    Ok(Op { store, path, act })
+fn op_on(alloc: Global, kind: &str, key: u64) -> Result<Op, Fail> {
+    let rows = rows_text(alloc, kind, key)?;
+    let path = format!(in alloc; "0/#{key}")?;
+    op_of(alloc, (kind, path.as_str(), rows.as_str()))
 }
 
-// The tree after the operation, whose rows have to lie at and below its path.
 fn after(alloc: Global, root: &Root, op: &Op) -> Result<Root, Fail> {
-    match &op.act {
-        Act::Put(rows) if lie_under(rows, &op.path) => Ok(root.put(alloc, &op.path, rows, 9)?),
-        Act::Merge(rows) if lie_under(rows, &op.path) => Ok(root.merge(alloc, &op.path, rows, 9)?),
-        Act::Delete => Ok(root.delete(alloc, &op.path, 9)?),
-        _ => Err("rows beside the path".into()),
+    if !lies_below(op) {
+        return Err("rows beside the path".into());
     }
+    Ok(edited(alloc, root, op, 9)?)
 }
 
 fn rows_after(alloc: Global, rows: &Rows, op: Op) -> Result<Rows, Fail> {
@@ -73,12 +48,6 @@ struct Both {
     rows: Rows,
 }
 
-fn nothing(alloc: Global) -> Result<Both, Fail> {
-    let root = Root::empty(alloc)?;
-    let rows = Rows::new(alloc);
-    Ok(Both { root, rows })
-}
-
 // Does the operation on both: whether they agree still.
 fn agree(both: &mut Both, alloc: Global, op: Op) -> Result<bool, Fail> {
     both.root = after(alloc, &both.root, &op)?;
@@ -87,11 +56,11 @@ fn agree(both: &mut Both, alloc: Global, op: Op) -> Result<bool, Fail> {
 }
 
 // The operation of each number: 300 entries are put in descending order, 100 leafs merged, and 100 entries deleted.
-fn numbered(number: u64) -> (Kind, u64) {
+fn numbered(number: u64) -> (&'static str, u64) {
     match number {
-        0..300 => (Kind::Put, 299 - number),
-        300..400 => (Kind::Merge, number - 300),
-        _ => (Kind::Delete, number % 100),
+        0..300 => ("put", 299 - number),
+        300..400 => ("merge", number - 300),
+        _ => ("delete", number % 100),
     }
 }
 
@@ -99,7 +68,7 @@ fn numbered(number: u64) -> (Kind, u64) {
 fn all_agree(both: &mut Both, alloc: Global) -> Result<bool, Fail> {
     for number in 0..500u64 {
         let (kind, key) = numbered(number);
-        if !agree(both, alloc, op_of(alloc, kind, key)?)? {
+        if !agree(both, alloc, op_on(alloc, kind, key)?)? {
             return Ok(false);
         }
     }
@@ -108,7 +77,9 @@ fn all_agree(both: &mut Both, alloc: Global) -> Result<bool, Fail> {
 
 // Whether they agree all along, and how many rows are left.
 fn five_hundred(alloc: Global) -> Result<(bool, usize), Fail> {
-    let mut both = nothing(alloc)?;
+    let root = Root::empty(alloc)?;
+    let rows = Rows::new(alloc);
+    let mut both = Both { root, rows };
     let all_agree = all_agree(&mut both, alloc)?;
     Ok((all_agree, both.rows.items().len()))
 }
@@ -124,7 +95,7 @@ fn five_hundred_operations(rt: HostRuntime) -> Result<(), Fail> {
 fn put_in_order(alloc: Global) -> Result<Root, Fail> {
     let mut root = Root::empty(alloc)?;
     for key in 0..200u64 {
-        root = after(alloc, &root, &op_of(alloc, Kind::Put, key)?)?;
+        root = after(alloc, &root, &op_on(alloc, "put", key)?)?;
     }
     Ok(root)
 }
@@ -140,47 +111,35 @@ fn pages(root: &Root, list: &Path) -> usize {
     }
 }
 
-fn pair(alloc: Global, root: &Root) -> Result<Pair, Fail> {
+// Whether a copy of a pair shares the list of the tree in it.
+fn is_shared(alloc: Global, root: &Root, list: &Path) -> Result<bool, Fail> {
     let config = root.copy()?;
     let oper = Root::empty(alloc)?;
-    Ok(Pair { config, oper })
-}
-
-// Whether a copy of a copy shares the list.
-fn is_shared(alloc: Global, root: &Root, list: &Path) -> Result<bool, Fail> {
-    let copy = pair(alloc, root)?.copy()?;
+    let copy = Pair { config, oper }.copy()?;
     Ok(is_alike(root, &copy.config, list))
-}
-
-fn again(alloc: Global, rows: &Rows) -> Result<Root, Fail> {
-    let root = Root::from_rows(alloc, rows, 0)?;
-    Ok(Root::from_node(Arc::try_clone(root.node())?))
 }
 
 // Whether the tree made of the list's rows shares the list, and whether it has its rows.
 fn made_again(alloc: Global, root: &Root, list: &Path) -> Result<(bool, bool), Fail> {
     let rows = root.rows(alloc, list)?;
-    let again = again(alloc, &rows)?;
+    let made = Root::from_rows(alloc, &rows, 0)?;
+    let again = Root::from_node(Arc::try_clone(made.node())?);
     Ok((
         is_alike(root, &again, list),
-        again.rows(alloc, list)?.items() == rows.items(),
+        is_same(alloc, &again, &rows)?,
     ))
 }
 
 // Its pages, whether a copy shares the list, and whether the tree made again does, and has its rows.
-fn seen(alloc: Global, root: &Root, list: &Path) -> Result<(usize, bool, (bool, bool)), Fail> {
-    let is_shared = is_shared(alloc, root, list)?;
-    Ok((pages(root, list), is_shared, made_again(alloc, root, list)?))
-}
-
-fn seen_at(alloc: Global, root: &Root, list: &str) -> Result<(usize, bool, (bool, bool)), Fail> {
-    let list = path_of(alloc, list)?;
-    seen(alloc, root, &list)
+fn seen(alloc: Global, root: &Root) -> Result<(usize, bool, (bool, bool)), Fail> {
+    let list = path_of(alloc, "0")?;
+    let is_shared = is_shared(alloc, root, &list)?;
+    Ok((pages(root, &list), is_shared, made_again(alloc, root, &list)?))
 }
 
 fn seen_in_order(alloc: Global) -> Result<(usize, bool, (bool, bool)), Fail> {
     let root = put_in_order(alloc)?;
-    seen_at(alloc, &root, "0")
+    seen(alloc, &root)
 }
 
 // Entries put in ascending order leave full pages.

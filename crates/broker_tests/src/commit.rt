@@ -1,4 +1,4 @@
-ghost use Rattle.std.specs.Prelude.{◌≡◌, ◌+◌, ◌*◌, ◌≤◌, IfOk};
+ghost use Rattle.std.specs.Prelude.{◌≡◌, ◌+◌, ◌*◌, ◌≤◌, ◌∷◌, [], IfOk};
 ghost use Rattle.sal_graft.specs.Kept.{AreKept};
 ghost use Rattle.sal_commit.specs.Deciding.{IsFor, LieBelow};
 ghost use Rattle.sal_commit.specs.Stamps.{IsNewStamp};
@@ -8,11 +8,12 @@ use crate::schemas::device;
 use crate::texts::{add_all, lies_below, op_of};
 use sal_commit::{Domain, Prepared, can, decide, pre};
 use sal_mod::Mod;
-use sal_rows::{Outcome, Rows};
+use sal_rows::{Op, Ops, Outcome, Rows};
 use sal_tree::Pair;
-use sal_tx::Submission;
-use sal_types::{Duplicate, NoMemory, Row};
+use sal_tx::{Changes, Submission};
+use sal_types::{Duplicate, NoMemory, Row, Seq};
 use std::alloc::Global;
+use std::sync::Arc;
 use std::test::Fail;
 
 // ---- openings with many entries of the list 0, each with its key 1 and a leaf 2
@@ -41,17 +42,33 @@ pub(crate) fn opened(alloc: Global, module: &str, rows: Vec<Row>) -> Result<Doma
 
 // ---- submissions of one operation
 
+// The list of the one operation.
+fn listed(alloc: Global, op: &Op) -> Result<Arc<Ops>, NoMemory>
+    ensures { IfOk result (λ list. list.value ≡ op.now ∷ []) }
+{
+    let list = vec![in alloc; op.copy()?]?;
+    let shared = Arc::new(alloc, Seq::from_items(list))?;
+    Ok(shared)
+}
+
+fn looked_up(alloc: Global, op: Op) -> Result<Mod, NoMemory>
+    ensures { IfOk result (λ changes. changes ≡ op ∷ []) }
+{
+    let mut changes = Mod::new(alloc);
+    added(&mut changes, alloc, op)?;
+    Ok(changes)
+}
+
 /// A transaction of one operation: its kind, its path and its rows.
-pub(crate) fn changed(alloc: Global, words: (&str, &str, &str)) -> Result<Mod, Fail>
+pub(crate) fn changed(alloc: Global, words: (&str, &str, &str)) -> Result<Changes, Fail>
     ensures { IfOk result (λ changes. LieBelow changes) }
 {
     let op = op_of(alloc, words)?;
     if !lies_below(&op) {
         return Err("rows beside the path".into());
     }
-    let mut changes = Mod::new(alloc);
-    added(&mut changes, alloc, op)?;
-    Ok(changes)
+    let list = listed(alloc, &op)?;
+    Ok(Changes::of(looked_up(alloc, op)?, list))
 }
 
 fn copies(trees: &Pair) -> Result<(Pair, Pair), NoMemory> {

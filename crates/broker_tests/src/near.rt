@@ -5,8 +5,8 @@ use crate::commit::{cells, changed, decided, opened};
 use crate::texts::add_all;
 use sal_commit::Domain;
 use sal_graft::{conflict, foreign_spans};
-use sal_mod::Mod;
 use sal_rows::{Clash, Outcome};
+use sal_tx::Changes;
 use std::alloc::Global;
 use std::test::Fail;
 
@@ -57,11 +57,12 @@ fn all_are_next(domain: &mut Domain, alloc: Global, count: u64) -> Result<bool, 
 
 // ---- conflicts over all of them
 
-fn clash(alloc: Global, domain: &Domain, changes: &Mod) -> Result<Option<Clash>, Fail>
+fn clash(alloc: Global, domain: &Domain, changes: &Changes) -> Result<Option<Clash>, Fail>
     requires { AreKept domain.now.commits.items }
 {
     let spans = foreign_spans(alloc, 0, None, &domain.commits)?;
-    let found = conflict(changes, &domain.commits[0].trees, &spans, &domain.commits);
+    let base = &domain.commits[0].trees;
+    let found = conflict(changes.lookups(), base, &spans, &domain.commits);
     Ok(found)
 }
 

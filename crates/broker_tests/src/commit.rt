@@ -5,7 +5,7 @@ ghost use Rattle.sal_commit.specs.Stamps.{IsNewStamp};
 
 use crate::operations::added;
 use crate::schemas::device;
-use crate::texts::{add_all, lies_below, op_of};
+use crate::texts::{Words, add_all, lies_below, op_of};
 use sal_commit::{Domain, Prepared, can, decide, pre};
 use sal_mod::Mod;
 use sal_rows::{Op, Ops, Outcome, Rows};
@@ -60,7 +60,7 @@ fn looked_up(alloc: Global, op: Op) -> Result<Mod, NoMemory>
 }
 
 /// A transaction of one operation: its kind, its path and its rows.
-pub(crate) fn changed(alloc: Global, words: (&str, &str, &str)) -> Result<Changes, Fail>
+pub(crate) fn changed(alloc: Global, words: Words<'_>) -> Result<Changes, Fail>
     ensures { IfOk result (λ changes. LieBelow changes) }
 {
     let op = op_of(alloc, words)?;
@@ -94,7 +94,7 @@ fn next_receipt(domain: &Domain) -> Result<u64, Fail>
 pub(crate) fn submission(
     alloc: Global,
     domain: &Domain,
-    words: (&str, &str, &str),
+    words: Words<'_>,
 ) -> Result<Submission, Fail>
     requires { AreKept domain.now.commits.items }
     ensures given { IfOk result (IsFor domain.now) }
@@ -120,7 +120,7 @@ pub(crate) fn submission(
 pub(crate) fn decided(
     domain: &mut Domain,
     alloc: Global,
-    words: (&str, &str, &str),
+    words: Words<'_>,
 ) -> Result<Outcome, Fail>
     requires { AreKept domain.old.commits.items }
     ensures { IfOk result (λ o. AreKept domain.new.commits.items) }

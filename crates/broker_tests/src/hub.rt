@@ -79,27 +79,17 @@ fn marks_left(hub: &mut Hub, alloc: Global) -> Result<usize, Fail> {
 }
 
 // Whether a call behind the last entry is refused, and marks are found or not.
-fn is_full(hub: &mut Hub, alloc: Global) -> [bool; 4] {
-    let is_refused = match hub.mark(alloc, 7, 3) {
-        Err(CallFault::HistoryFull) => true,
-        _ => false,
-    };
-    let is_late = match hub.after(alloc, 7, 3) {
-        Err(CallFault::HistoryFull) => true,
-        _ => false,
-    };
-    [
-        is_refused,
-        is_late,
-        hub.has_mark(999999),
-        !hub.has_mark(1000000),
-    ]
+fn is_full(hub: &mut Hub, alloc: Global) -> bool {
+    matches!(hub.mark(alloc, 7, 3), Err(CallFault::HistoryFull))
+        && matches!(hub.after(alloc, 7, 3), Err(CallFault::HistoryFull))
+        && hub.has_mark(999999)
+        && !hub.has_mark(1000000)
 }
 
 #[test]
 fn a_million_marks_fill_the_history(rt: HostRuntime) -> Result<(), Fail> {
     let mut hub = hub(rt.alloc())?;
-    assert_eq!(rt; marks_left(&mut hub, rt.alloc())?, 1000000);
-    assert_eq!(rt; is_full(&mut hub, rt.alloc()), [true; 4]);
+    let count = marks_left(&mut hub, rt.alloc())?;
+    assert_eq!(rt; (count, is_full(&mut hub, rt.alloc())), (1000000, true));
     Ok(())
 }

@@ -1,23 +1,29 @@
-use crate::texts::rows_of;
 use sal_listen::{Mirror, MirrorFault};
-use sal_rows::{Batch, Opened};
-use sal_types::Seq;
+use sal_rows::{Batch, Opened, Rows};
+use sal_types::{NoMemory, Seq};
 use std::alloc::Global;
 use std::test::Fail;
 
-// What a mirror at commit 2 answers to a batch without parts, and its version behind that.
-fn answered(alloc: Global, from: u64, to: u64) -> Result<(Option<MirrorFault>, u64), Fail> {
-    let rows = rows_of(alloc, "0/1='x")?;
-    let mut mirror = Mirror::open(&Opened { version: 2, rows })?;
+fn at_two(alloc: Global) -> Result<Mirror, NoMemory> {
+    let rows = Rows::new(alloc);
+    Mirror::open(&Opened { version: 2, rows })
+}
+
+// The two commits of the gap that a mirror at commit 2 tells of a batch without parts, or zeros, and its version behind that.
+fn answered(alloc: Global, from: u64, to: u64) -> Result<[u64; 3], NoMemory> {
+    let mut mirror = at_two(alloc)?;
     let lists = Seq::new(alloc);
-    let fault = mirror.take(alloc, &Batch { from, to, lists }).err();
-    Ok((fault, mirror.version()))
+    match mirror.take(alloc, &Batch { from, to, lists }) {
+        Err(MirrorFault::Gap { have, from }) => Ok([have, from, mirror.version()]),
+        Err(MirrorFault::NoMemory) => Err(NoMemory),
+        Ok(()) => Ok([0, 0, mirror.version()]),
+    }
 }
 
 #[test]
 fn a_mirror_refuses_a_gap(rt: HostRuntime) -> Result<(), Fail> {
-    let gap = MirrorFault::Gap { have: 2, from: 3 };
-    assert_eq!(rt; answered(rt.alloc(), 3, 5)?, (Some(gap), 2));
-    assert_eq!(rt; answered(rt.alloc(), 2, 5)?, (None, 5));
+    let behind = answered(rt.alloc(), 3, 5)?;
+    let next = answered(rt.alloc(), 2, 5)?;
+    assert_eq!(rt; (behind, next), ([2, 3, 2], [0, 0, 5]));
     Ok(())
 }

@@ -1,6 +1,6 @@
 ghost use Rattle.std.specs.Prelude.{◌≡◌, ◌∷◌, ◌++◌, [], OnOk};
 
-use crate::texts::{op_of, path_of};
+use crate::texts::{Words, op_of, path_of};
 use sal_mod::Mod;
 use sal_rows::Op;
 use sal_types::{Cell, NoMemory, Store};
@@ -18,11 +18,17 @@ pub(crate) fn added(changes: &mut Mod, alloc: Global, op: Op) -> Result<(), NoMe
 }
 
 // A delete, the merge of a mark, and a put of nothing.
+const OPERATIONS: &[Words<'static>] = &[
+    ("delete", "1", ""),
+    ("merge", "2/5", "2/5"),
+    ("put", "2/6", ""),
+];
+
 fn changes(alloc: Global) -> Result<Mod, Fail> {
     let mut changes = Mod::new(alloc);
-    added(&mut changes, alloc, op_of(alloc, ("delete", "1", ""))?)?;
-    added(&mut changes, alloc, op_of(alloc, ("merge", "2/5", "2/5"))?)?;
-    added(&mut changes, alloc, op_of(alloc, ("put", "2/6", ""))?)?;
+    for words in OPERATIONS {
+        added(&mut changes, alloc, op_of(alloc, *words)?)?;
+    }
     Ok(changes)
 }
 

@@ -4,8 +4,6 @@ use sal_types::{Duplicate, NoMemory, Store};
 use std::alloc::Global;
 use std::test::Fail;
 
-// ---- rows out of order
-
 // The place of the first row that is out of order, or 99.
 fn fault_in(alloc: Global, text: &str) -> Result<usize, Fail> {
     match Rows::from_list(list_of(alloc, text)?) {
@@ -14,77 +12,71 @@ fn fault_in(alloc: Global, text: &str) -> Result<usize, Fail> {
     }
 }
 
-// ---- operations
-
 // A put, and a copy of it.
-fn twice(alloc: Global) -> Result<Vec<Op>, Fail> {
+fn twice(alloc: Global) -> Result<[Op; 2], Fail> {
     let op = op_of(alloc, ("put", "0/1", "0/1='x"))?;
-    let mut ops = vec![in alloc; op.copy()?]?;
-    ops.push(op)?;
-    Ok(ops)
+    let copy = op.copy()?;
+    Ok([copy, op])
 }
 
-fn count_after(alloc: Global, store: Store) -> Result<usize, Fail> {
-    let ops = twice(alloc)?;
+fn count_after(alloc: Global, ops: &[Op], store: Store) -> Result<usize, NoMemory> {
     let start = Rows::new(alloc);
-    Ok(apply(alloc, &start, store, ops.as_slice())?.items().len())
+    Ok(apply(alloc, &start, store, ops)?.items().len())
 }
 
-// Where two rows have one path, and where they are in order; how many rows a put leaves in its store, and in the other one.
-fn counts(alloc: Global) -> Result<[usize; 4], Fail> {
-    let equal = fault_in(alloc, "0/1='x 0/1='y")?;
-    let none = fault_in(alloc, "0/1='x 0/2='y")?;
-    let config = count_after(alloc, Store::Config)?;
-    let oper = count_after(alloc, Store::Oper)?;
-    Ok([equal, none, config, oper])
+// How many rows the puts leave in their store, and in the other one.
+fn puts(alloc: Global) -> Result<[usize; 2], Fail> {
+    let ops = twice(alloc)?;
+    let config = count_after(alloc, &ops, Store::Config)?;
+    Ok([config, count_after(alloc, &ops, Store::Oper)?])
 }
 
-#[test]
-fn rows_are_in_order_and_a_put_is_seen_in_its_store(rt: HostRuntime) -> Result<(), Fail> {
-    assert_eq!(rt; counts(rt.alloc())?, [1, 99, 1, 0]);
-    Ok(())
-}
-
-// ---- parts and copies
-
-fn below(tree: &Rows, alloc: Global, path: &str) -> Result<usize, Fail> {
+fn below(alloc: Global, tree: &Rows, path: &str) -> Result<usize, Fail> {
     let path = path_of(alloc, path)?;
     Ok(tree.under(&path)?.items().len())
+}
+
+// How many rows the copy of a merge has, whose rows are a copy.
+fn copied(tree: &Rows) -> Result<usize, NoMemory> {
+    let merge = Act::Merge(tree.copy()?);
+    Ok(merge.copy()?.rows().len())
 }
 
 // How many rows a copy has, and how many lie at a leaf and beside it.
 fn parts(alloc: Global) -> Result<[usize; 3], Fail> {
     let tree = rows_of(alloc, "0/1='x")?;
-    let all = tree.copy()?.items().len();
-    let own = below(&tree, alloc, "0/1")?;
-    let beside = below(&tree, alloc, "0/2")?;
-    Ok([all, own, beside])
-}
-
-fn merged(alloc: Global) -> Result<usize, Fail> {
-    let merge = Act::Merge(rows_of(alloc, "0/1='x")?);
-    Ok(merge.copy()?.rows().len())
+    let all = copied(&tree)?;
+    let own = below(alloc, &tree, "0/1")?;
+    Ok([all, own, below(alloc, &tree, "0/2")?])
 }
 
 fn is_copied(outcome: &Outcome) -> Result<bool, NoMemory> {
     Ok(outcome.copy()? == *outcome)
 }
 
-fn is_conflict_copied(alloc: Global) -> Result<bool, Fail> {
-    let path = path_of(alloc, "0/1")?;
-    Ok(is_copied(&Outcome::Conflict {
+// Whether a conflict and a commit are copied.
+fn are_copied(alloc: Global) -> Result<bool, Fail> {
+    let conflict = Outcome::Conflict {
         store: Store::Oper,
-        path,
+        path: path_of(alloc, "0/1")?,
         kind: ClashKind::Deleted,
         commit: 3,
-    })?)
+    };
+    Ok(is_copied(&conflict)? && is_copied(&Outcome::Done { commit: 3 })?)
+}
+
+// Where two rows have one path, and where they are in order; then puts, parts and copies.
+fn numbers(alloc: Global) -> Result<[usize; 8], Fail> {
+    let equal = fault_in(alloc, "0/1='x 0/1='y")?;
+    let none = fault_in(alloc, "0/1='x 0/2='y")?;
+    let [config, oper] = puts(alloc)?;
+    let [all, own, beside] = parts(alloc)?;
+    let are_copied = are_copied(alloc)? as usize;
+    Ok([equal, none, config, oper, all, own, beside, are_copied])
 }
 
 #[test]
-fn parts_and_copies_are_made(rt: HostRuntime) -> Result<(), Fail> {
-    assert_eq!(rt; parts(rt.alloc())?, [1, 1, 0]);
-    assert_eq!(rt; merged(rt.alloc())?, 1);
-    assert!(rt; is_copied(&Outcome::Done { commit: 3 })?);
-    assert!(rt; is_conflict_copied(rt.alloc())?);
+fn rows_are_in_order_put_parted_and_copied(rt: HostRuntime) -> Result<(), Fail> {
+    assert_eq!(rt; numbers(rt.alloc())?, [1, 99, 1, 0, 1, 1, 0, 1]);
     Ok(())
 }

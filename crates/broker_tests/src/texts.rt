@@ -91,8 +91,11 @@ fn act_of(alloc: Global, kind: &str, rows: &str) -> Result<Act, Fail> {
     })
 }
 
-/// An operation on the configuration: `put`, `merge` or `delete`, its path, and its rows.
-pub(crate) fn op_of(alloc: Global, words: (&str, &str, &str)) -> Result<Op, Fail> {
+/// The kind of an operation on the configuration, `put`, `merge` or `delete`, its path, and its rows.
+pub(crate) type Words<'a> = (&'a str, &'a str, &'a str);
+
+/// The operation of these words.
+pub(crate) fn op_of(alloc: Global, words: Words<'_>) -> Result<Op, Fail> {
     let (kind, path, rows) = words;
     let act = act_of(alloc, kind, rows)?;
     let path = path_of(alloc, path)?;

@@ -1,27 +1,26 @@
-use crate::texts::{lies_below, op_of, path_of};
+use crate::texts::{Words, lies_below, op_of, path_of};
 use sal_node::Paging;
 use sal_rows::{Op, Rows, apply};
-use sal_tree::{Pair, Root, is_alike};
+use sal_tree::{Root, is_alike};
 use sal_tx::edited;
-use sal_types::{Duplicate, Path, Store};
+use sal_types::{Duplicate, NoMemory, Path, Store};
 use std::alloc::Global;
+use std::slice;
 use std::sync::Arc;
 use std::test::Fail;
 
 // ---- a list, node 0, whose entries have a key, node 1, and a value, node 2
 
-// The rows of an operation on the entry with this key.
-fn rows_text(alloc: Global, kind: &str, key: u64) -> Result<String, Fail> {
-    if kind == "merge" {
-        return Ok(format!(in alloc; "0/#{key}/2=1")?);
-    }
-    Ok(format!(in alloc; "0/#{key} 0/#{key}/1={key} 0/#{key}/2=0")?)
+// The words of an operation of this kind, in a text with a path, the rows of a put there, and those of a merge.
+fn words_in<'a>(kind: &'a str, text: &'a str) -> Words<'a> {
+    let (path, rest) = text.split_once(" + ").unwrap_or(("", ""));
+    let (put, merged) = rest.split_once(" + ").unwrap_or(("", ""));
+    (kind, path, if kind == "merge" { merged } else { put })
 }
 
 fn op_on(alloc: Global, kind: &str, key: u64) -> Result<Op, Fail> {
-    let rows = rows_text(alloc, kind, key)?;
-    let path = format!(in alloc; "0/#{key}")?;
-    op_of(alloc, (kind, path.as_str(), rows.as_str()))
+    let text = format!(in alloc; "0/#{key} + 0/#{key} 0/#{key}/1={key} 0/#{key}/2=0 + 0/#{key}/2=1")?;
+    op_of(alloc, words_in(kind, text.as_str()))
 }
 
 fn after(alloc: Global, root: &Root, op: &Op) -> Result<Root, Fail> {
@@ -31,12 +30,7 @@ fn after(alloc: Global, root: &Root, op: &Op) -> Result<Root, Fail> {
     Ok(edited(alloc, root, op, 9)?)
 }
 
-fn rows_after(alloc: Global, rows: &Rows, op: Op) -> Result<Rows, Fail> {
-    let ops = vec![in alloc; op]?;
-    Ok(apply(alloc, rows, Store::Config, ops.as_slice())?)
-}
-
-fn is_same(alloc: Global, root: &Root, rows: &Rows) -> Result<bool, Fail> {
+fn is_same(alloc: Global, root: &Root, rows: &Rows) -> Result<bool, NoMemory> {
     let path = Path::root(alloc);
     Ok(root.rows(alloc, &path)?.items() == rows.items())
 }
@@ -49,10 +43,10 @@ struct Both {
 }
 
 // Does the operation on both: whether they agree still.
-fn agree(both: &mut Both, alloc: Global, op: Op) -> Result<bool, Fail> {
-    both.root = after(alloc, &both.root, &op)?;
-    both.rows = rows_after(alloc, &both.rows, op)?;
-    is_same(alloc, &both.root, &both.rows)
+fn agree(both: &mut Both, alloc: Global, op: &Op) -> Result<bool, Fail> {
+    both.root = after(alloc, &both.root, op)?;
+    both.rows = apply(alloc, &both.rows, Store::Config, slice::from_ref(op))?;
+    Ok(is_same(alloc, &both.root, &both.rows)?)
 }
 
 // The operation of each number: 300 entries are put in descending order, 100 leafs merged, and 100 entries deleted.
@@ -68,7 +62,7 @@ fn numbered(number: u64) -> (&'static str, u64) {
 fn all_agree(both: &mut Both, alloc: Global) -> Result<bool, Fail> {
     for number in 0..500u64 {
         let (kind, key) = numbered(number);
-        if !agree(both, alloc, op_on(alloc, kind, key)?)? {
+        if !agree(both, alloc, &op_on(alloc, kind, key)?)? {
             return Ok(false);
         }
     }
@@ -111,33 +105,24 @@ fn pages(root: &Root, list: &Path) -> usize {
     }
 }
 
-// Whether a copy of a pair shares the list of the tree in it.
-fn is_shared(alloc: Global, root: &Root, list: &Path) -> Result<bool, Fail> {
-    let config = root.copy()?;
-    let oper = Root::empty(alloc)?;
-    let copy = Pair { config, oper }.copy()?;
-    Ok(is_alike(root, &copy.config, list))
-}
-
-// Whether the tree made of the list's rows shares the list, and whether it has its rows.
-fn made_again(alloc: Global, root: &Root, list: &Path) -> Result<(bool, bool), Fail> {
+// Whether the tree made of a tree's rows shares the list, and whether it has its rows.
+fn made_again(alloc: Global, root: &Root, list: &Path) -> Result<[usize; 2], NoMemory> {
     let rows = root.rows(alloc, list)?;
-    let made = Root::from_rows(alloc, &rows, 0)?;
-    let again = Root::from_node(Arc::try_clone(made.node())?);
-    Ok((
-        is_alike(root, &again, list),
-        is_same(alloc, &again, &rows)?,
-    ))
+    let again = Root::from_rows(alloc, &rows, 0)?;
+    let is_shared = is_alike(root, &again, list);
+    Ok([is_shared as usize, is_same(alloc, &again, &rows)? as usize])
 }
 
-// Its pages, whether a copy shares the list, and whether the tree made again does, and has its rows.
-fn seen(alloc: Global, root: &Root) -> Result<(usize, bool, (bool, bool)), Fail> {
+// How many pages the list has; whether a copy shares it; whether the tree made again does, and has its rows.
+fn seen(alloc: Global, root: &Root) -> Result<[usize; 4], Fail> {
     let list = path_of(alloc, "0")?;
-    let is_shared = is_shared(alloc, root, &list)?;
-    Ok((pages(root, &list), is_shared, made_again(alloc, root, &list)?))
+    let copy = Root::from_node(Arc::try_clone(root.copy()?.node())?);
+    let is_shared = is_alike(root, &copy, &list);
+    let [again, same] = made_again(alloc, root, &list)?;
+    Ok([pages(root, &list), is_shared as usize, again, same])
 }
 
-fn seen_in_order(alloc: Global) -> Result<(usize, bool, (bool, bool)), Fail> {
+fn seen_in_order(alloc: Global) -> Result<[usize; 4], Fail> {
     let root = put_in_order(alloc)?;
     seen(alloc, &root)
 }
@@ -145,6 +130,6 @@ fn seen_in_order(alloc: Global) -> Result<(usize, bool, (bool, bool)), Fail> {
 // Entries put in ascending order leave full pages.
 #[test]
 fn trees_are_made_again_of_their_rows(rt: HostRuntime) -> Result<(), Fail> {
-    assert_eq!(rt; seen_in_order(rt.alloc())?, (4, true, (false, true)));
+    assert_eq!(rt; seen_in_order(rt.alloc())?, [4, 1, 0, 1]);
     Ok(())
 }

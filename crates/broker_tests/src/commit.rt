@@ -23,13 +23,12 @@ fn add_cell(list: &mut Vec<Row>, alloc: Global, key: u64) -> Result<(), Fail> {
     add_all(list, alloc, text.as_str())
 }
 
-/// The entries with the keys below a number.
-pub(crate) fn cells(alloc: Global, count: u64) -> Result<Vec<Row>, Fail> {
-    let mut list = Vec::new(alloc);
+/// Adds the entries with the keys below a number.
+pub(crate) fn add_cells(list: &mut Vec<Row>, alloc: Global, count: u64) -> Result<(), Fail> {
     for key in 0..count {
-        add_cell(&mut list, alloc, key)?;
+        add_cell(list, alloc, key)?;
     }
-    Ok(list)
+    Ok(())
 }
 
 /// The domain of a module, with these rows as its opening.

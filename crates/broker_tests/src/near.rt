@@ -1,7 +1,7 @@
 ghost use Rattle.std.specs.Prelude.{IfOk};
 ghost use Rattle.sal_graft.specs.Kept.{AreKept};
 
-use crate::commit::{cells, changed, decided, opened};
+use crate::commit::{add_cells, changed, decided, opened};
 use crate::texts::add_all;
 use sal_commit::Domain;
 use sal_graft::{conflict, foreign_spans};
@@ -36,7 +36,8 @@ const MODULE: &str = "module near {
 fn many(alloc: Global) -> Result<Domain, Fail>
     ensures { IfOk result (λ d. AreKept d.commits.items) }
 {
-    let mut rows = cells(alloc, CELLS)?;
+    let mut rows = Vec::new(alloc);
+    add_cells(&mut rows, alloc, CELLS)?;
     add_all(&mut rows, alloc, "3/5='o")?;
     opened(alloc, MODULE, rows)
 }

@@ -24,12 +24,11 @@ const OPERATIONS: &[Words<'static>] = &[
     ("put", "2/6", ""),
 ];
 
-fn changes(alloc: Global) -> Result<Mod, Fail> {
-    let mut changes = Mod::new(alloc);
+fn add_all(changes: &mut Mod, alloc: Global) -> Result<(), Fail> {
     for words in OPERATIONS {
-        added(&mut changes, alloc, op_of(alloc, *words)?)?;
+        added(changes, alloc, op_of(alloc, *words)?)?;
     }
-    Ok(changes)
+    Ok(())
 }
 
 // A store, a path and a place among the operations: whether an operation before that place puts or deletes at the path or
@@ -69,14 +68,19 @@ fn is_told(alloc: Global, changes: &Mod, line: &str) -> Result<bool, Fail> {
 }
 
 // The first line that is not answered so, or an empty text.
-fn wrong(alloc: Global) -> Result<&'static str, Fail> {
-    let changes = changes(alloc)?;
+fn wrong_in(alloc: Global, changes: &Mod) -> Result<&'static str, Fail> {
     for line in ANSWERS.lines() {
-        if !is_told(alloc, &changes, line)? {
+        if !is_told(alloc, changes, line)? {
             return Ok(line);
         }
     }
     Ok("")
+}
+
+fn wrong(alloc: Global) -> Result<&'static str, Fail> {
+    let mut changes = Mod::new(alloc);
+    add_all(&mut changes, alloc)?;
+    wrong_in(alloc, &changes)
 }
 
 #[test]

@@ -11,7 +11,7 @@ use crate::reader::Reader;
 use sal_rows::Rows;
 use sal_schema::Schema;
 use sal_script::StepRefusal;
-use sal_types::{NoMemory, Path, Step, Str};
+use sal_types::{NoMemory, Path, PathFault, Step, Str};
 use serde_json::Value;
 use std::alloc::Global;
 use std::snapshot::Snapshot;
@@ -96,7 +96,8 @@ fn message_at(alloc: Global, node: u32) -> Result<Path, NoMemory>
     let mut path = Path::root(alloc);
     match path.push(Step::Node(node)) {
         Ok(()) => Ok(path),
-        Err(_) => Err(NoMemory),
+        Err(PathFault::NoMemory) => Err(NoMemory),
+        Err(PathFault::TooDeep) => unreachable!(),
     }
 }
 

@@ -1,5 +1,5 @@
 //! Paths from texts.
-ghost use Rattle.std.specs.Prelude.{◌≡◌, [], ◌∷◌, ◌++◌, Err, IfOk, IsTrue, OnOk, OnErr};
+ghost use Rattle.std.specs.Prelude.{◌≡◌, ◌<◌, [], ◌∷◌, ◌++◌, length, Err, IfOk, IsTrue, OnOk, OnErr};
 ghost use Rattle.sal_schema.specs.Paths.{fits_path};
 ghost use Rattle.sal_json.specs.Patterns.{patterns_of};
 ghost use Rattle.sal_pathtext.specs.Read as spec;
@@ -11,16 +11,19 @@ use crate::reader::Reader;
 use crate::words::first;
 use sal_json::Patterns;
 use sal_schema::Schema;
-use sal_types::{MAX_STEPS, Path, Step};
+use sal_types::{MAX_STEPS, Path, PathFault, Step};
 use std::alloc::Global;
 
+// Goes one step down, where a path has room for one.
 fn add(path: &mut Path, step: Step) -> Result<(), PathTextFault>
+    requires room { length path.old < 32 }
     ensures ok { OnOk result (path.new ≡ path.old ++ step ∷ []) }
     ensures err { OnErr result (result ≡ Err PathTextFault.NoMemory) }
 {
     match path.push(step) {
         Ok(()) => Ok(()),
-        Err(_) => Err(PathTextFault::NoMemory),
+        Err(PathFault::NoMemory) => Err(PathTextFault::NoMemory),
+        Err(PathFault::TooDeep) => unreachable!(),
     }
 }
 

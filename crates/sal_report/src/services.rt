@@ -17,7 +17,7 @@ use sal_note::Note;
 use sal_rows::Rows;
 use sal_rpc::Request;
 use sal_schema::Schema;
-use sal_types::{NoMemory, Path, Step};
+use sal_types::{NoMemory, Path, PathFault, Step};
 use std::alloc::Global;
 
 // The domain that is mounted at a path, if one is.
@@ -131,7 +131,8 @@ fn top_path(alloc: Global, node: u32) -> Result<Path, NoMemory>
     let mut path = Path::root(alloc);
     match path.push(Step::Node(node)) {
         Ok(()) => Ok(path),
-        Err(_) => Err(NoMemory),
+        Err(PathFault::NoMemory) => Err(NoMemory),
+        Err(PathFault::TooDeep) => unreachable!(),
     }
 }
 

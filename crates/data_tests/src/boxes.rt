@@ -15,6 +15,7 @@ use std::test::Fail;
 // A box with a leaf of each type and nodes of each kind.
 const MODULE: &str = "module inv { yang-version 1.1; namespace 'urn:inv'; prefix i;
  typedef short { type string { length '0..8'; } }
+ typedef states { type enumeration { enum up; enum dim; enum low; enum mid; enum high; enum down; } }
  identity medium; identity fibre { base medium; }
  container box {
   leaf i8 { type int8; } leaf i16 { type int16; } leaf i32 { type int32; } leaf i64 { type int64; }
@@ -22,7 +23,7 @@ const MODULE: &str = "module inv { yang-version 1.1; namespace 'urn:inv'; prefix
   leaf dec { type decimal64 { fraction-digits 18; } }
   leaf text { type short; }
   leaf flag { type boolean; }
-  leaf state { type enumeration { enum up; enum down { value 5; } } }
+  leaf state { type states { enum up; enum down; } }
   leaf mask { type bits { bit a { position 0; } bit b { position 3; } bit c { position 63; } } }
   leaf bytes { type binary { length '0..4'; } }
   leaf kind { type identityref { base medium; } }

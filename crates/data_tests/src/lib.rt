@@ -9,3 +9,5 @@ mod replies;
 mod rows;
 #[cfg(test)]
 mod script;
+#[cfg(test)]
+mod tables;

@@ -1,4 +1,4 @@
-use crate::boxes::schema;
+use crate::tables::schema;
 use sal_data::DataFault;
 use sal_history::Reply;
 use sal_json::ScalarFault;

@@ -9,10 +9,10 @@ use crate::texts::{path_of, rows_of};
 use sal_commit::{Domain, decide};
 use sal_history::{Device, Opening};
 use sal_mod::Mod;
-use sal_rows::{Act, ClashKind, Op, Outcome, Rows, Rule};
+use sal_rows::{Act, ClashKind, Op, Ops, Outcome, Rows, Rule};
 use sal_tree::{Pair, lie_under};
-use sal_tx::Submission;
-use sal_types::{Duplicate, NoMemory, Path, Store};
+use sal_tx::{Changes, Submission};
+use sal_types::{Duplicate, NoMemory, Path, Seq, Store};
 use std::alloc::Global;
 use std::sync::Arc;
 use std::test::Fail;
@@ -80,7 +80,16 @@ struct Place {
     base_commit: u64,
 }
 
-fn submission(place: &Place, base: Pair, view: Pair, changes: Mod) -> Submission
+// The list of the one operation.
+fn listed(alloc: Global, op: &Op) -> Result<Arc<Ops>, NoMemory>
+    ensures { IfOk result (λ list. list.value ≡ op.now ∷ []) }
+{
+    let list = vec![in alloc; op.copy()?]?;
+    let shared = Arc::new(alloc, Seq::from_items(list))?;
+    Ok(shared)
+}
+
+fn submission(place: &Place, base: Pair, view: Pair, changes: Changes) -> Submission
     ensures receipt { result.receipt ≡ place.now.receipt }
     ensures commit { result.base_commit ≡ place.now.base_commit }
     ensures changes { result.changes ≡ changes }
@@ -127,7 +136,8 @@ pub(crate) fn decided(
         receipt,
         base_commit,
     };
-    let changes = changed(alloc, op)?;
+    let list = listed(alloc, &op)?;
+    let changes = Changes::of(changed(alloc, op)?, list);
     let (base, view) = copies(&domain.commits[base_commit as usize].trees)?;
     let submission = submission(&place, base, view, changes);
     Ok(decide(alloc, &submission, domain, None, receipt * 2 + 1)?)

@@ -1,98 +1,64 @@
-//! Two clients of a script that wait for each other on their way.
+//! Clients that wait for each other on their way: the two of a script, and the four of a load.
+use crate::command::{Missed, Texts, ended};
 use sal_command::status::Status;
-use sal_command::top::mdsal;
-use sal_io::{Gate, MemSink, MemSource};
-use sal_types::Str;
-use std::alloc::Global;
-use std::sync::Wait;
+use sal_io::Gate;
 use std::sync::atomic::{AtomicU64, Ordering};
 use std::test::Fail;
-use std::thread::{Threads, yield_now};
 
-// How often a client looks for the other one.
-const LOOKS: u64 = 10_000_000;
-
-const SCRIPT: &str = r#"{ "clients": [
+// What is written depends on the order of the calls.
+const SCRIPT: Texts = Texts {
+    words: &["run"],
+    input: r#"{ "clients": [
     {"steps": [["begin", 0, 0, "rw"], ["put", 0, "config", "/plain:box/a", "x"], ["submit", 0], ["settle", 0]]},
-    {"steps": [["begin", 0, 0, "rw"], ["put", 0, "config", "/plain:box/b", "y"], ["submit", 0], ["settle", 0]]} ] }"#;
+    {"steps": [["begin", 0, 0, "rw"], ["put", 0, "config", "/plain:box/b", "y"], ["submit", 0], ["settle", 0]]} ] }"#,
+    output: "",
+};
 
-// A gate at which two clients meet: each waits before its second step until the other one has come to its own second step.
+const LOAD: Texts = Texts {
+    words: &["load", "2", "1"],
+    input: "",
+    output: "load 2 1\ncalls 24\ncommits 8\nrows 24\nsum 44\n",
+};
+
+// A gate at which clients meet: each waits before its second step until all others have come to theirs.
 #[derive(Drop)]
 struct Meeting {
-    first: AtomicU64,
-    second: AtomicU64,
-    missed: AtomicU64,
+    clients: u64,
+    come: AtomicU64,
+    missed: Missed,
 }
 
 impl Meeting {
-    fn new() -> Self {
+    fn of(clients: u64) -> Self {
         Meeting {
-            first: AtomicU64::new(0),
-            second: AtomicU64::new(0),
-            missed: AtomicU64::new(0),
+            clients,
+            come: AtomicU64::new(0),
+            missed: Missed::none(),
         }
     }
-
-    // How many clients waited in vain.
-    fn missed(&self) -> u64 {
-        self.missed.load(Ordering::SeqCst)
-    }
-
-    // Says that a client has come, and waits for the other one.
-    fn meet(&self, own: &AtomicU64, other: &AtomicU64) {
-        own.store(1, Ordering::SeqCst);
-        if !comes(other) {
-            self.missed.fetch_add(1, Ordering::SeqCst);
-        }
-    }
-}
-
-// Whether the client comes while it is looked for.
-fn comes(client: &AtomicU64) -> bool {
-    for _ in 0..LOOKS {
-        if client.load(Ordering::SeqCst) == 1 {
-            return true;
-        }
-        yield_now();
-    }
-    false
 }
 
 impl Gate for Meeting {
-    fn pass(&self, client: u32, step: u32) {
+    fn pass(&self, _client: u32, step: u32) {
         if step == 1 {
-            if client == 0 {
-                self.meet(&self.first, &self.second);
-            } else {
-                self.meet(&self.second, &self.first);
-            }
+            self.come.fetch_add(1, Ordering::SeqCst);
+            self.missed.wait_for(&self.come, self.clients);
         }
     }
-}
-
-fn source(alloc: Global) -> Result<MemSource, Fail> {
-    let mut bytes = Vec::new(alloc);
-    bytes.extend_from_slice(SCRIPT.as_bytes())?;
-    Ok(MemSource::new(bytes, Vec::new(alloc)))
-}
-
-fn run_word(alloc: Global) -> Result<Vec<Str>, Fail> {
-    let word = Str::new(alloc, "run")?;
-    Ok(vec![in alloc; word]?)
-}
-
-// How the command ends, and how many clients waited in vain.
-fn crossed<R: Threads + Wait + Sync>(rt: &R, alloc: Global) -> Result<(Status, u64), Fail> {
-    let words = run_word(alloc)?;
-    let mut source = source(alloc)?;
-    let mut sink = MemSink::new(alloc, 4096, Vec::new(alloc))?;
-    let gate = Meeting::new();
-    let status = mdsal(rt, alloc, &words, &mut source, &mut sink, &gate);
-    Ok((status, gate.missed()))
 }
 
 #[test]
 fn two_clients_cross(rt: HostRuntime) -> Result<(), Fail> {
-    assert_eq!(rt; crossed(&rt, rt.alloc())?, (Status::Done, 0));
+    let gate = Meeting::of(2);
+    let (status, _wrote) = ended(&rt, rt.alloc(), &SCRIPT, &gate)?;
+    assert_eq!(rt; (status, gate.missed.count()), (Status::Done, 0));
+    Ok(())
+}
+
+#[test]
+fn four_clients_cross(rt: HostRuntime) -> Result<(), Fail> {
+    let gate = Meeting::of(4);
+    let end = ended(&rt, rt.alloc(), &LOAD, &gate)?;
+    assert_eq!(rt; (end, gate.missed.count()), ((Status::Done, true), 0));
     Ok(())
 }

@@ -4,8 +4,8 @@
 #[cfg(test)]
 mod before;
 #[cfg(test)]
-mod crossing;
+mod command;
 #[cfg(test)]
-mod four;
+mod crossing;
 #[cfg(test)]
 mod full;

@@ -1,9 +1,11 @@
 //! The top call: all that the command does.
-ghost use Rattle.std.specs.Prelude.{◌≡◌, ◌↔◌, ◌≤◌, [], None, IfOk, IfErr, length};
+ghost use Rattle.std.specs.Prelude.{◌≡◌, ◌↔◌, ◌≤◌, [], None, Ok, Err, IfOk, IfErr, MatchResult, length};
 ghost use Rattle.sal_io.specs.Causes.{Rose};
 ghost use Rattle.sal_command.specs.Words.{form_of};
 ghost use Rattle.sal_script.specs.Moves.{clients_of};
-ghost use Rattle.sal_script.specs.Play.{tables_of};
+ghost use Rattle.sal_client.specs.Runs.{PlaysAs};
+ghost use Rattle.sal_script.specs.Along.{AreLeft};
+ghost use Rattle.sal_script.specs.Play.{play as play_spec, tables_of};
 ghost use Rattle.sal_script.specs.Reading.{parts};
 ghost use Rattle.sal_script.specs.SomeOrder.{IsReportInSomeOrder};
 ghost use Rattle.sal_command.specs.Scripted.{tables_in};
@@ -14,14 +16,15 @@ use crate::reported::report_of;
 use crate::scripted::{self, Prepared, ReadScript};
 use crate::status::Status;
 use crate::words::{Form, form_of};
-use sal_client::{PlayFault, play};
+use sal_client::{PlayFault, Played, play};
 use sal_hub::Hub;
 use sal_io::{Gate, ReadFail, Sink, Source, read_all, write_all};
 use sal_run::run;
+use sal_schema::Schema;
 use sal_script::laws;
 use sal_types::{NoMemory, Str};
 use std::alloc::Global;
-use std::sync::Wait;
+use std::sync::{Arc, Wait};
 use std::thread::Threads;
 
 /// How many bytes a script has at most.
@@ -204,30 +207,53 @@ fn run_text<R: Threads + Wait + Sync, G: Gate>(
 {
     let prepared = scripted::prepare(alloc, bytes)?;
     let Prepared { read, hub } = prepared;
-    match run_over(rt, alloc, &read, hub, gate) {
+    match run_over(rt, alloc, read, hub, gate) {
         Ok(text) => Ok(text),
         Err(NoMemory) => Err(Status::NoMemory),
     }
 }
 
-// The same over a hub without calls.
+// The same over a hub without calls. The script is let go before its report is made.
 fn run_over<R: Threads + Wait + Sync, G: Gate>(
     rt: &R,
     alloc: Global,
-    read: &ReadScript,
+    read: ReadScript,
     hub: Hub,
     gate: &G,
 ) -> Result<Str, NoMemory>
-    requires schemas { tables_in read.now.schemas.items ≡ tables_of hub.world }
-    requires few { length read.now.schemas.items ≤ 64 }
-    requires readers { read.now.readers ≡ tables_of hub.world }
+    requires schemas { tables_in read.schemas.items ≡ tables_of hub.world }
+    requires few { length read.schemas.items ≤ 64 }
+    requires readers { read.readers ≡ tables_of hub.world }
     requires fresh { hub.log ≡ [] }
-    ensures { IfOk result (IsReportInSomeOrder hub.world (clients_of read.now.script.clients)) }
+    ensures { IfOk result (IsReportInSomeOrder hub.world (clients_of read.script.clients)) }
 {
     laws::what_is_left_is_reported();
-    let left = run(rt, alloc, &read.readers, &read.script, hub, gate)?;
-    let text = report_of(alloc, &read.schemas, &left)?;
+    let (left, schemas) = left_over(rt, alloc, read, hub, gate)?;
+    let text = report_of(alloc, &schemas, &left)?;
     Ok(text)
+}
+
+// What the clients left, with the schemas of its domains.
+fn left_over<R: Threads + Wait + Sync, G: Gate>(
+    rt: &R,
+    alloc: Global,
+    read: ReadScript,
+    hub: Hub,
+    gate: &G,
+) -> Result<(Played, Vec<Arc<Schema>>), NoMemory>
+    requires readers { read.readers ≡ tables_of hub.world }
+    requires fresh { hub.log ≡ [] }
+    ensures left { IfOk result (λ it. AreLeft hub.world (clients_of read.script.clients) it.0.hub.log it.0.replies) }
+    ensures world { IfOk result (λ it. it.0.hub.world ≡ hub.world) }
+    ensures schemas { IfOk result (λ it. it.1 ≡ read.schemas) }
+{
+    let ReadScript {
+        script,
+        schemas,
+        readers,
+    } = read;
+    let left = run(rt, alloc, &readers, &script, hub, gate)?;
+    Ok((left, schemas))
 }
 
 // The report of the script that the bytes stand for, played in its order.
@@ -236,24 +262,47 @@ fn sim_text<G: Gate>(alloc: Global, bytes: &[u8], gate: &G) -> Result<Str, Statu
 {
     let prepared = scripted::prepare(alloc, bytes)?;
     let Prepared { read, hub } = prepared;
-    play_over(alloc, &read, hub, gate)
+    play_over(alloc, read, hub, gate)
 }
 
-// The same over a hub without calls.
-fn play_over<G: Gate>(alloc: Global, read: &ReadScript, hub: Hub, gate: &G) -> Result<Str, Status>
-    requires schemas { tables_in read.now.schemas.items ≡ tables_of hub.world }
-    requires few { length read.now.schemas.items ≤ 64 }
-    requires readers { read.now.readers ≡ tables_of hub.world }
+// The same over a hub without calls. The script is let go before its report is made.
+fn play_over<G: Gate>(alloc: Global, read: ReadScript, hub: Hub, gate: &G) -> Result<Str, Status>
+    requires schemas { tables_in read.schemas.items ≡ tables_of hub.world }
+    requires few { length read.schemas.items ≤ 64 }
+    requires readers { read.readers ≡ tables_of hub.world }
     requires fresh { hub.log ≡ [] }
-    ensures { spec.IsPlayOr (spec.play_over (parts read.now.script) hub.world) result }
+    ensures { spec.IsPlayOr (spec.play_over (parts read.script) hub.world) result }
 {
-    match play(alloc, &read.readers, &read.script, hub, gate) {
-        Ok(played) => match report_of(alloc, &read.schemas, &played) {
+    match played_over(alloc, read, hub, gate) {
+        Ok((played, schemas)) => match report_of(alloc, &schemas, &played) {
             Ok(text) => Ok(text),
             Err(NoMemory) => Err(Status::NoMemory),
         },
         Err(PlayFault::BadOrder { index }) => Err(Status::BadOrder { index }),
         Err(PlayFault::NoMemory) => Err(Status::NoMemory),
+    }
+}
+
+// What was played, with the schemas of its domains.
+fn played_over<G: Gate>(
+    alloc: Global,
+    read: ReadScript,
+    hub: Hub,
+    gate: &G,
+) -> Result<(Played, Vec<Arc<Schema>>), PlayFault>
+    requires readers { read.readers ≡ tables_of hub.world }
+    requires fresh { hub.log ≡ [] }
+    ensures played { MatchResult result (λ it. PlaysAs hub.world (Ok it.0) (play_spec hub.world (clients_of read.script.clients) read.script.order)) (λ fault. PlaysAs hub.world (Err fault) (play_spec hub.world (clients_of read.script.clients) read.script.order)) }
+    ensures schemas { IfOk result (λ it. it.1 ≡ read.schemas) }
+{
+    let ReadScript {
+        script,
+        schemas,
+        readers,
+    } = read;
+    match play(alloc, &readers, &script, hub, gate) {
+        Ok(played) => Ok((played, schemas)),
+        Err(fault) => Err(fault),
     }
 }
 

@@ -1,5 +1,5 @@
 //! The conflict of a submission with the foreign commits after its base, as an outcome.
-ghost use Rattle.std.specs.Prelude.{◌≡◌, ◌≤◌, ◌<◌, ◌++◌, [], ◌∷◌, IfOk, OnOk, length, take};
+ghost use Rattle.std.specs.Prelude.{◌≡◌, IfOk};
 ghost use Rattle.sal_history.specs.Outcome as outcome;
 ghost use Rattle.sal_rows.specs.Clash.{clash};
 ghost use Rattle.sal_graft.specs.Kept.{opening_in, ops_of, rows_in};
@@ -8,8 +8,8 @@ ghost use Rattle.sal_commit.specs.Deciding as spec;
 use crate::domain::Domain;
 use sal_graft::{conflict, foreign_spans};
 use sal_rows::{Clash, Op, Outcome};
-use sal_tx::Submission;
-use sal_types::{Duplicate, NoMemory, Path, PathFault, Step};
+use sal_tx::{Submission, first_steps};
+use sal_types::NoMemory;
 use std::alloc::Global;
 
 /// The outcome that names the first conflict of the submission, where it has one. Only the path is copied.
@@ -37,7 +37,12 @@ fn clash_in(alloc: Global, sub: &Submission, domain: &Domain) -> Result<Option<C
     ensures { IfOk result (λ o. o ≡ clash (opening_in domain.now.commits.items) (ops_of domain.now.commits.items) (rows_in sub.now.base) (spec.spans_of domain.now sub.now) sub.now.changes) }
 {
     let spans = foreign_spans(alloc, sub.base_commit, sub.chain, &domain.commits)?;
-    let found = conflict(&sub.changes, &sub.base, &spans, &domain.commits);
+    let found = conflict(
+        sub.changes.lookups(),
+        &sub.base,
+        &spans,
+        &domain.commits,
+    );
     Ok(found)
 }
 
@@ -45,38 +50,11 @@ fn clash_in(alloc: Global, sub: &Submission, domain: &Domain) -> Result<Option<C
 fn conflict_of(alloc: Global, found: Clash, op: &Op) -> Result<Outcome, NoMemory>
     ensures { IfOk result (λ o. o ≡ outcome.conflict_of found op.now) }
 {
-    let path = front(alloc, &op.path, found.depth)?;
+    let path = first_steps(alloc, &op.path, found.depth)?;
     Ok(Outcome::Conflict {
         store: op.store,
         path,
         kind: found.kind,
         commit: found.commit,
     })
-}
-
-// The path's first steps, or all of them where it has fewer.
-fn front(alloc: Global, path: &Path, depth: usize) -> Result<Path, NoMemory>
-    ensures { IfOk result (λ front. front ≡ take depth path.now) }
-{
-    if depth >= path.steps().len() {
-        let whole = path.copy()?;
-        return Ok(whole);
-    }
-    let mut front = Path::root(alloc);
-    for step in &path.steps()[..depth] {
-        add(&mut front, step)?;
-    }
-    Ok(front)
-}
-
-// One step further down.
-fn add(path: &mut Path, step: &Step) -> Result<(), NoMemory>
-    requires { length path.old < 32 }
-    ensures { OnOk result (path.new ≡ path.old ++ step.now ∷ []) }
-{
-    match path.push(step.copy()?) {
-        Ok(()) => Ok(()),
-        Err(PathFault::NoMemory) => Err(NoMemory),
-        Err(PathFault::TooDeep) => unreachable!(),
-    }
 }

@@ -4,7 +4,6 @@ ghost use Rattle.std.specs.Coded.{codes};
 ghost use Rattle.sal_node.specs.Code.{tree_code};
 ghost use Rattle.sal_graft.specs.Following.{AreFollowing};
 ghost use Rattle.sal_graft.specs.Kept.{AreKept, chains_of, opening_in, ops_of};
-ghost use Rattle.sal_delta.specs.Agreed.{AreAgreed};
 ghost use Rattle.sal_commit.specs.Opening.{fault_of, IsFaultOf, opening_of_device};
 ghost use Rattle.sal_commit.specs.Sound.{AreSound};
 ghost use Rattle.sal_commit.specs.Stamps.{receipts_of};
@@ -32,7 +31,6 @@ pub struct Domain {
     pub(crate) plan: Plan,
     pub ghost planned: { plan.schema.value ≡ schema.value },
     pub ghost sound: { AreSound schema.value commits.items },
-    pub ghost agreed: { AreAgreed commits.items } by { Prim.hlevel (codes, tree_code) },
     pub ghost following: { AreFollowing commits.items } by { Prim.hlevel (codes, tree_code) },
 }
 

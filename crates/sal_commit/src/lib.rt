@@ -31,7 +31,7 @@
 //! | `Domain::reserve` | the list of commits, as it grows, without what they hold | all of them | |
 //! | `Domain::cut_to` | | | the commits that it drops |
 //! | `can` | the spans between the commits of the chain, and the path that a conflict names | | of a chained submission the chains of the commits after its base; for each operation its path at both ends of each span; for a conflict whose path is absent at the end of its span that span's commits with their operations and rows; nothing where the chain has failed or the domain is not live |
-//! | `pre` | the operations with their rows, and for each of them the nodes on the way to what it sets | all other nodes of both trees | of both new trees the nodes that are not shared, and the lists in which something changed, where they state a count, or a `unique` of which a leaf changed |
+//! | `pre` | for each operation the nodes on the way to what it sets | the list of the operations, and all other nodes of both trees | of both new trees the nodes that are not shared, and the lists in which something changed, where they state a count, or a `unique` of which a leaf changed |
 //! | `publish` | | the commit, which is moved | |
 //! | `decide` | what `can`, `pre` and `reserve` copy | as these | as these |
 //!

@@ -11,12 +11,11 @@ ghost use Rattle.sal_commit.specs.Stamps.{CanFollow, IsNewStamp};
 use crate::clashing::conflict_in;
 use crate::domain::Domain;
 use crate::trees::{breached, next_trees};
-use sal_rows::{Op, Ops, Outcome};
+use sal_rows::Outcome;
 use sal_tree::{Commit, Pair};
 use sal_tx::Submission;
-use sal_types::{Duplicate, NoMemory, Seq};
+use sal_types::NoMemory;
 use std::alloc::Global;
-use std::sync::Arc;
 use thiserror::Error;
 
 /// A submission without a conflict, at the newest commit of its domain.
@@ -117,25 +116,20 @@ pub fn pre(alloc: Global, ready: Ready, fresh: u64) -> Result<Prepared, PreFault
     if let Some(outcome) = breached(alloc, ready.domain, &trees, fresh)? {
         return Err(PreFault::Invalid { outcome });
     }
-    let commit = next_commit(alloc, ready.sub, ready.domain, trees)?;
+    let commit = next_commit(ready.sub, ready.domain, trees)?;
     Ok(Prepared { commit })
 }
 
-// The commit of the submission, with the next number of the domain and with these trees.
-fn next_commit(
-    alloc: Global,
-    sub: &Submission,
-    domain: &Domain,
-    trees: Pair,
-) -> Result<Commit, NoMemory>
+// The commit of the submission, with the next number of the domain and with these trees. Its operations are the submission's own
+// list, and no copy of it.
+fn next_commit(sub: &Submission, domain: &Domain, trees: Pair) -> Result<Commit, NoMemory>
     ensures number { IfOk result (λ c. c.number ≡ length domain.now.commits.items) }
     ensures receipt { IfOk result (λ c. c.receipt ≡ sub.now.receipt) }
     ensures chain { IfOk result (λ c. c.chain ≡ sub.now.chain) }
     ensures ops { IfOk result (λ c. c.ops.value ≡ sub.now.changes) }
     ensures trees { IfOk result (λ c. c.trees ≡ trees) }
 {
-    let ops = copied(alloc, sub.changes.ops())?;
-    let ops = Arc::new(alloc, ops)?;
+    let ops = sub.changes.shared()?;
     Ok(Commit {
         number: domain.commits.len() as u64,
         receipt: sub.receipt,
@@ -143,16 +137,6 @@ fn next_commit(
         ops,
         trees,
     })
-}
-
-fn copied(alloc: Global, ops: &[Op]) -> Result<Ops, NoMemory>
-    ensures { IfOk result (λ it. it ≡ ops.now) }
-{
-    let mut list = Vec::with_capacity(alloc, ops.len())?;
-    for op in ops {
-        list.push(op.copy()?)?;
-    }
-    Ok(Seq::from_items(list))
 }
 
 /// commit: the prepared commit is the domain's newest one, with both its trees. It takes no memory.

@@ -1,5 +1,6 @@
 //! The shared calls, and the log of them.
-use sal_rows::{Mode, Ops, Rows};
+use crate::shared::SharedOps;
+use sal_rows::{Mode, Rows};
 use sal_types::{Path, Seq, Store};
 
 /// A shared call: what one turn of the broker is asked. Tokens are numbers.
@@ -26,7 +27,7 @@ pub enum Call {
     /// Submits the transaction that the entry at this place of the log began, with its operations in order.
     Submit {
         place: u64,
-        ops: Ops,
+        ops: SharedOps,
     },
     /// Gives up the transaction that the entry at this place of the log began.
     Cancel {

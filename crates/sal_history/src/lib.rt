@@ -3,6 +3,7 @@
 //! | item | what it is |
 //! |---|---|
 //! | `Call`, `Entry`, `Log` | a shared call; a call with its client; the calls in order |
+//! | `SharedOps` | the operations of a submission, which the log and the commit have together |
 //! | `Reply` | what a shared call is answered |
 //! | `Device`, `Opening` | a domain's schema with its opening trees; its trees before the first commit |
 //! | `examples`, `chain_examples`, `listener_examples`, `service_examples` | functions that do nothing, each with worked examples of a log's meaning as its contract |
@@ -49,7 +50,7 @@
 //! (`laws::requests_go_to_their_provider_once`). What was answered is what is collected (`laws::answers_are_collected_as_given`). A
 //! subscriber takes each notification that was offered to it once, and in order (`laws::notifications_are_taken_once_in_order`).
 //!
-//! Costs: none. Nothing here runs: definitions, examples and laws are read by the prover alone.
+//! Costs: none. Definitions, examples and laws are read by the prover alone, and `SharedOps` takes no memory.
 #![tactic(auto)]
 
 pub mod call;
@@ -60,7 +61,9 @@ pub mod listener_examples;
 pub mod opening;
 pub mod reply;
 pub mod service_examples;
+pub mod shared;
 
 pub use call::{Call, Entry, Log};
 pub use opening::{Device, Opening};
 pub use reply::Reply;
+pub use shared::SharedOps;

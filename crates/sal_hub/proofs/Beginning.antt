@@ -55,6 +55,7 @@ module _ (journal journal' : Noted) (p : Pipeline) (is : IsKept journal p) (clie
   quiet_kept unmounted none nothing unspent unopened marks = record {
     kept = is.kept;
     current = subst (λ (l : List Entry). IsCurrent l journal'.marks (line_of p)) (sym log) (quiet journal.log journal.marks (line_of p) is.current entry journal'.marks unmounted none nothing unspent marks unopened);
+    let_go = is.let_go;
   }
 
   pub made_now : (r : Reply) → length journal.log < 1000000 → reply_to (world_in (line_of p).domains) (answers journal.log (line_of p)) client call ≡ r → Made (known_of journal p) (known_of journal' p) (record { client = client; number = entries_of journal.log client; call = call }) r

@@ -116,6 +116,7 @@ module _ (journal journal' : Noted) (p : Pipeline) (is : IsKept journal p) (clie
           (pushed journal.log journal.marks (line_of p) is.current entry line' journal'.marks (unsent journal.log journal.marks (line_of p) is.current entry line' refl sound_now) refl (sym (append-nil (line_of p).outcomes))
           (λ k. marks k ∙ sym (or_false (mark_at journal.marks k))) (longer ∙ ap (λ (o : Option ℕ). length (line_of p).failures + length (option_to_list o)) (sym opened))
           (still_live journal.log journal.marks (line_of p) is.current entry line' refl (λ n. refl))));
+      let_go = as_gone ∙ is.let_go ∙ (λ i. length (sym undecided i).items);
     }
 
     same_world : world_in (line_of p').domains ≡ w

@@ -197,6 +197,7 @@ module _ (journal journal' : Noted) (p : Pipeline) (is : IsKept journal p) (r r'
         kept = is.kept;
         current = current_now entered p refl (line_of p) refl is.current.sound refl refl
             (λ n. is.current.live n ∙ sym (live-same before (record { call = m; reply = reply }) no_mount no_unmount n));
+        let_go = is.let_go;
       }
 
     -- one that changes whether a domain is live
@@ -214,6 +215,7 @@ module _ (journal journal' : Noted) (p : Pipeline) (is : IsKept journal p) (r r'
       set_kept = record {
         kept = kept;
         current = current_now entered p' same_world (set_live (line_of p) domain live) (sym line) (sound-with (sents (answers journal.log (line_of p))) (line_of p) domain live is.current.sound) refl refl flags;
+        let_go = ap (λ (l : Line). l.gone) line ∙ is.let_go ∙ ap (λ (l : Line). length l.outcomes) (sym line);
       }
 
 -- ---- a call that is refused, or for which memory is wanting

@@ -116,6 +116,7 @@ opened_kept devices p journal some kept are zeroth none undecided unopened empty
     record {
       kept = kept;
       current = subst (λ (j : Noted). IsCurrent j.log j.marks (line_of p)) (sym empty) (subst (IsCurrent [] []) same start);
+      let_go = zeroth ∙ ap length (sym undecided);
     }
   where
     no_failure : (k : ℕ) → noted_in [] k ≡ None

@@ -40,6 +40,7 @@ cancel_kept journal journal' p is client place log marks =
           (pushed journal.log journal.marks (line_of p) is.current e (line_of p) journal'.marks (unsent journal.log journal.marks (line_of p) is.current e (line_of p) refl is.current.sound) refl
           (sym (append-nil (line_of p).outcomes)) (λ k. marks k ∙ swapped (nat_eq place k) (mark_at journal.marks k)) (none_more (length (line_of p).failures))
           (still_live journal.log journal.marks (line_of p) is.current e (line_of p) refl (λ n. refl)));
+      let_go = is.let_go;
     }
 
 -- ---- decisions
@@ -48,10 +49,6 @@ cancel_kept journal journal' p is client place log marks =
 pub few : (journal : Noted) (p : Pipeline) → IsKept journal p → p.gone + length p.waiting.items ≤ length journal.log
 few journal p is =
     omega (arith, length-submissions journal.log journal.marks (line_of p) is.current, sents-few (world_in (line_of p).domains) journal.log)
-
--- and no more outcomes than submissions
-pub decided_within : (journal : Noted) (p : Pipeline) → IsKept journal p → length p.outcomes.items ≤ p.gone + length p.waiting.items
-decided_within journal p is = omega (arith, length-submissions journal.log journal.marks (line_of p) is.current, is.current.sound.within)
 
 -- the submission of a receipt that was given is of its domain
 pub given_at : (known : Known) (receipt : Receipt) → IsGiven known receipt → (s : Sent) × (slice_get (sents (history known.world known.log)) (receipt.number - 1) ≡ Some s) × (s.base.domain ≡ receipt.domain)
@@ -83,8 +80,8 @@ module _ (journal journal' : Noted) (p p' : Pipeline) (is : IsKept journal p) (c
       → sent_by (answers journal.log (line_of p)) call (reply_to (world_in (line_of p).domains) (answers journal.log (line_of p)) client call) ≡ None
       → ((k : ℕ) → spends call (reply_to (world_in (line_of p).domains) (answers journal.log (line_of p)) client call) k ≡ false)
       → opened_chain call (reply_to (world_in (line_of p).domains) (answers journal.log (line_of p)) client call) ≡ None
-      → AllKept p'.domains.items → ((k : ℕ) → mark_at journal'.marks k ≡ mark_at journal.marks k) → IsKept journal' p'
-  decided_kept unmounted decides none unspent unopened kept marks = record {
+      → AllKept p'.domains.items → p'.gone ≡ length p'.outcomes.items → ((k : ℕ) → mark_at journal'.marks k ≡ mark_at journal.marks k) → IsKept journal' p'
+  decided_kept unmounted decides none unspent unopened kept gone marks = record {
     kept = kept;
     current = subst (λ (l : List Entry). IsCurrent l journal'.marks (line_of p')) (sym log)
         (pushed journal.log journal.marks (line_of p) is.current entry (line_of p') journal'.marks (unsent journal.log journal.marks (line_of p) is.current entry (line_of p') none decided.sound) decided.world
@@ -92,6 +89,7 @@ module _ (journal journal' : Noted) (p p' : Pipeline) (is : IsKept journal p) (c
         (λ k. marks k ∙ sym (or_false (mark_at journal.marks k)) ∙ ap (λ b. mark_at journal.marks k || b) (sym (unspent k)))
         (decided.chains ∙ none_more (length (line_of p).failures) ∙ ap (λ (o : Option ℕ). length (line_of p).failures + length (option_to_list o)) (sym unopened))
         (still_live journal.log journal.marks (line_of p) is.current entry (line_of p') unmounted decided.live));
+    let_go = gone;
   }
 
   pub decided_made : (r : Reply) → length journal.log < 1000000 → reply_to (world_in (line_of p).domains) (answers journal.log (line_of p)) client call ≡ r → Made (known_of journal p) (known_of journal' p') (record { client = client; number = entries_of journal.log client; call = call }) r
@@ -131,8 +129,8 @@ module _ (journal journal' : Noted) (p p' : Pipeline) (is : IsKept journal p) (c
       ap (λ (os : List Outcome). decide_next (world_in (line_of p).domains) (is_live (world_in (line_of p).domains) (answers journal.log (line_of p))) (sents (answers journal.log (line_of p))) (outcomes (answers journal.log (line_of p))) (n - length os)) (sym is.current.outcomes)
       ∙ kept_decides journal p is (n - length p.outcomes.items)
 
-  pub settled_kept : AllKept p'.domains.items → ((k : ℕ) → mark_at journal'.marks k ≡ mark_at journal.marks k) → IsKept journal' p'
-  settled_kept kept marks = decided_kept journal journal' p p' is client (Settle n) (n - length p.outcomes.items) log decided refl now_decided refl (λ k. refl) refl kept marks
+  pub settled_kept : AllKept p'.domains.items → p'.gone ≡ length p'.outcomes.items → ((k : ℕ) → mark_at journal'.marks k ≡ mark_at journal.marks k) → IsKept journal' p'
+  settled_kept kept gone marks = decided_kept journal journal' p p' is client (Settle n) (n - length p.outcomes.items) log decided refl now_decided refl (λ k. refl) refl kept gone marks
 
   pub settled_made : (o : Outcome) → length journal.log < 1000000 → IsGiven (known_of journal p) receipt → slice_get p'.outcomes.items (receipt.number - 1) ≡ Some o
       → Made (known_of journal p) (known_of journal' p') (record { client = client; number = entries_of journal.log client; call = Settle receipt.number }) (Settled receipt.domain o)
@@ -182,8 +180,8 @@ module _ (journal journal' : Noted) (p : Pipeline) (is : IsKept journal p) (clie
     one_decided : AreDecided (sents done) (line_of p) 1 (line_of p')
     one_decided = let one : length p.outcomes.items + 1 - length p.outcomes.items ≡ 1 = omega arith in subst (λ n. AreDecided (sents done) (line_of p) n (line_of p')) one decided
 
-    pub pumped_kept : AllKept p'.domains.items → ((k : ℕ) → mark_at journal'.marks k ≡ mark_at journal.marks k) → IsKept journal' p'
-    pumped_kept kept marks = decided_kept journal journal' p p' is client Pump 1 log one_decided refl (kept_decides journal p is 1) refl (λ k. refl) refl kept marks
+    pub pumped_kept : AllKept p'.domains.items → p'.gone ≡ length p'.outcomes.items → ((k : ℕ) → mark_at journal'.marks k ≡ mark_at journal.marks k) → IsKept journal' p'
+    pumped_kept kept gone marks = decided_kept journal journal' p p' is client Pump 1 log one_decided refl (kept_decides journal p is 1) refl (λ k. refl) refl kept gone marks
 
     module _ (receipt : Receipt) (number : receipt.number ≡ length p.outcomes.items + 1) (of_domain : option_map (λ (s : Submission). s.domain) (slice_get p.waiting.items (length p.outcomes.items - p.gone)) ≡ Some receipt.domain) where
       -- the submission that is decided, as the log has it

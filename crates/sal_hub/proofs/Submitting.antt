@@ -195,6 +195,7 @@ module _ (journal journal' : Noted) (p p' : Pipeline) (is : IsKept journal p) (c
   accepted_kept = record {
     kept = subst (λ (ds : List Domain). AllKept ds) (λ i. (sym domains i).items) is.kept;
     current = subst (λ (l : List Entry). IsCurrent l journal'.marks (line_of p')) (sym log) (subst (IsCurrent (journal.log ++ made_entry ∷ []) journal'.marks) line_is current_now);
+    let_go = as_gone ∙ is.let_go ∙ (λ i. length (sym outcomes_same i).items);
   }
 
   pub accepted_made : length journal.log < 1000000 → Made (known_of journal p) (known_of journal' p') (record { client = client; number = entries_of journal.log client; call = Submit tx.begun.place tx.changes }) (Receipt (p.gone + length p.waiting.items + 1))

@@ -22,6 +22,8 @@ pub record IsCurrent (log : List Entry) (noted : List Bool) (line : Line) : Type
 pub record IsKept (journal : Noted) (p : Pipeline) : Type 0 where
   pub kept : AllKept p.domains.items
   pub current : IsCurrent journal.log journal.marks (line_of p)
+  -- each submission that was decided was let go
+  pub let_go : p.gone ≡ length p.outcomes.items
 
 -- what a contract sees
 abbrev pub known_of : Noted → Pipeline → Known

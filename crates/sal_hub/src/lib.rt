@@ -19,8 +19,9 @@
 //! once: where memory is wanting, the hub is as it was. A settle that finds no memory takes back what it decided, and a call on a
 //! service that finds none takes its entry back.
 //!
-//! A submission is let go once it was decided, with its base, its view and its operations: what stays of it is its entry in the
-//! log, its outcome and, where it is done, its commit. A settle that finds no memory lets nothing go.
+//! A submission is let go once it was decided, with its base, its view and the look-ups of its operations: what stays of it is its
+//! entry in the log, its outcome and, where it is done, its commit. A settle that finds no memory lets nothing go. The operations are
+//! copied once, for the entry, and the commit has the same list.
 //!
 //! What is kept beside the log is tied to it by `specs/Current`: the submissions that wait, the outcomes, the marks of spent
 //! transactions and the flags of live domains are those of the answered log, and `specs/Lines` says that the commits of each
@@ -58,7 +59,7 @@
 //! | `take` | the same search, and the changes of each commit after the listener's version (`sal_listen`) |
 //! | `unlisten` | the same search |
 //! | `mount`, `unmount`, `mount_at` | the same, and some searches among mounts (`sal_mount`); a mount copies its path twice |
-//! | `submit` | the same, and a copy of the operations for the log |
+//! | `submit` | the same, and a copy of the operations for the log, which the commit shares |
 //! | `settle`, `pump` | the decision of each pending submission up to the receipt, or of the first (`sal_commit`), and one number for each domain; where memory is wanting, one look at each chain |
 //! | `provide`, `withdraw` | one search among the clients, two among the registrations, and a copy of the context for the log |
 //! | `invoke` | the same, one more search among the queues, and a copy of the input for the log |

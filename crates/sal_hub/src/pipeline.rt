@@ -171,6 +171,7 @@ impl Pipeline {
         ensures kept { AllKept self.new.domains.items }
         ensures outcome { IfOk result (λ o. slice_get self.new.outcomes.items (receipt - 1) ≡ Some o) }
         ensures decided { OnOk result (Decides (line_of self.old) (receipt - length self.old.outcomes.items) (line_of self.new)) }
+        ensures gone { OnOk result (self.new.gone ≡ length self.new.outcomes.items) }
         ensures same { OnErr result (line_of self.new ≡ line_of self.old) }
         ensures log { OnOk result (journal.new.log ≡ jotted journal.old.log client call) }
         ensures marks { OnOk result ((k : ℕ) → mark_at journal.new.marks k ≡ mark_at journal.old.marks k) }

@@ -16,11 +16,12 @@ use crate::hub::MAX_PENDING;
 use crate::journal::Journal;
 use crate::pipeline::Pipeline;
 use crate::receipt::Receipt;
-use sal_history::Call;
+use sal_history::{Call, SharedOps};
 use sal_rows::{CallFault, Op, Ops};
 use sal_tx::WriteTx;
 use sal_types::{Duplicate, NoMemory, Seq};
 use std::alloc::Global;
+use std::sync::Arc;
 
 /// Submits the transaction, unless it is refused, and adds the entry.
 pub(crate) fn submit(
@@ -40,7 +41,7 @@ pub(crate) fn submit(
 {
     match refusal(pipeline, journal, tx.begun().place as usize) {
         Some(fault) => match note(alloc, journal, client, &tx) {
-            Ok(()) => Err((tx, fault)),
+            Ok(_) => Err((tx, fault)),
             Err(NoMemory) => Err((tx, CallFault::NoMemory)),
         },
         None => match accept(alloc, pipeline, journal, client, tx) {
@@ -52,12 +53,10 @@ pub(crate) fn submit(
 
 // Why the submit of the transaction that began at the place is refused.
 fn refusal(pipeline: &Pipeline, journal: &Journal, place: usize) -> Option<CallFault>
-    requires behind { pipeline.now.gone ≤ length pipeline.now.outcomes.items }
-    requires within { length pipeline.now.outcomes.items ≤ pipeline.now.gone + length pipeline.now.waiting.items }
+    requires { pipeline.now.gone ≡ length pipeline.now.outcomes.items }
     ensures { result ≡ refusal_of (pipeline.now.gone + length pipeline.now.waiting.items - length pipeline.now.outcomes.items) (mark_at journal.now.marks place) }
 {
-    let pending = pipeline.waiting.len() - (pipeline.outcomes.len() - pipeline.gone);
-    if pending >= MAX_PENDING {
+    if pipeline.waiting.len() >= MAX_PENDING {
         return Some(CallFault::PipelineFull);
     }
     if journal.is_spent(place) {
@@ -66,28 +65,36 @@ fn refusal(pipeline: &Pipeline, journal: &Journal, place: usize) -> Option<CallF
     None
 }
 
-// Adds the entry of a submit.
-fn note(alloc: Global, journal: &mut Journal, client: u32, tx: &WriteTx) -> Result<(), NoMemory>
+// Adds the entry of a submit, and gives the list of the operations that it has.
+fn note(
+    alloc: Global,
+    journal: &mut Journal,
+    client: u32,
+    tx: &WriteTx,
+) -> Result<Arc<Ops>, NoMemory>
     requires { length journal.old.log < limit }
     ensures log { OnOk result (journal.new.log ≡ jotted journal.old.log client (Submit tx.now.begun.place tx.now.changes)) }
     ensures marks { OnOk result ((k : ℕ) → mark_at journal.new.marks k ≡ mark_at journal.old.marks k) }
+    ensures list { IfOk result (λ list. list.value ≡ tx.now.changes) }
     ensures err { OnErr result (journal.new ≡ journal.old) }
 {
-    let ops = copied(alloc, tx.ops())?;
+    let list = copied(alloc, tx.ops())?;
+    let ops = SharedOps::of(Arc::try_clone(&list)?);
     let place = tx.begun().place;
     journal.add(client, Call::Submit { place, ops })?;
-    Ok(())
+    Ok(list)
 }
 
-// A copy of the operations.
-fn copied(alloc: Global, ops: &[Op]) -> Result<Ops, NoMemory>
-    ensures { IfOk result (λ copy. copy ≡ ops.now) }
+// A copy of the operations, which the entry of the log and the commit have together.
+fn copied(alloc: Global, ops: &[Op]) -> Result<Arc<Ops>, NoMemory>
+    ensures { IfOk result (λ copy. copy.value ≡ ops.now) }
 {
     let mut list = Vec::with_capacity(alloc, ops.len())?;
     for op in ops {
         list.push(op.copy()?)?;
     }
-    Ok(Seq::from_items(list))
+    let shared = Arc::new(alloc, Seq::from_items(list))?;
+    Ok(shared)
 }
 
 // Adds the submission and its entry, and marks the transaction as spent. Where memory is wanting, it is given back, and nothing
@@ -119,15 +126,15 @@ fn accept(
         Ok(()) => {}
         Err(_) => return Err(tx),
     }
-    match note(alloc, journal, client, &tx) {
-        Ok(()) => {}
+    let list = match note(alloc, journal, client, &tx) {
+        Ok(list) => list,
         Err(NoMemory) => return Err(tx),
-    }
+    };
     let receipt = (pipeline.gone + pipeline.waiting.len()) as u64 + 1;
     let domain = tx.begun().domain;
     journal.spend(tx.begun().place as usize);
     pipeline
         .waiting
-        .push_back_reserved(tx.into_submission(receipt));
+        .push_back_reserved(tx.into_submission(receipt, list));
     Ok(Receipt::of(receipt, domain))
 }

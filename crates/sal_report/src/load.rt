@@ -8,11 +8,11 @@ use sal_script::DomainTrees;
 use sal_types::{Atom, Cell, NoMemory, Row, Step, Str};
 use std::alloc::Global;
 
-// The leaf of an entry that has its number.
+// The leaf of an entry that has its number: node 2, which in the schema of a load is the leaf `v`.
 const NUMBER: u32 = 2;
 
 /// The summary of a load of so many rounds behind this number: its words, the entries of the log, the commits, the rows of the
-/// configuration at the end, and the sum of the leafs `v` there. It fails only where memory runs out.
+/// configuration at the end, and the sum of the unsigned leafs of node 2 there, which in the schema of a load is `v`. It fails only where memory runs out.
 pub fn summary(
     alloc: Global,
     rounds: u32,
@@ -55,7 +55,7 @@ fn push_count(text: &mut String, word: &str, count: u128) -> Result<(), NoMemory
     Ok(())
 }
 
-// The sum of the leafs `v`.
+// The sum of the unsigned leafs of node 2.
 fn sum_of(rows: &[Row]) -> u128
     ensures { result ≡ sum_by spec.number_of rows.now }
 {
@@ -66,7 +66,7 @@ fn sum_of(rows: &[Row]) -> u128
     total
 }
 
-// The number of a leaf `v`; of each other row 0.
+// The number of an unsigned leaf of node 2; of each other row 0.
 fn number_of(row: &Row) -> u64
     ensures { result ≡ spec.number_of row.now }
 {

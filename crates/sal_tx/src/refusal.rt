@@ -1,5 +1,5 @@
 //! Why a write is refused.
-ghost use Rattle.std.specs.Prelude.{◌≡◌, ◌⊎◌, ◌≤◌, ◌<◌, ◌++◌, [], ◌∷◌, None, Some, IfOk, IfSome, OnOk, MatchResult, option_map, find, take, length, not, map, IsTrue};
+ghost use Rattle.std.specs.Prelude.{◌≡◌, ◌⊎◌, ◌≤◌, None, Some, IfSome, MatchResult, option_map, find, take, length};
 ghost use Rattle.std.specs.Option.{option_copied};
 ghost use Rattle.sal_types.specs.Tree.{has};
 ghost use Rattle.sal_rows.specs.Apply.{rows_of_act};
@@ -10,12 +10,13 @@ ghost use Rattle.sal_schema.specs.Fitting.{is_of_state, is_root};
 ghost use Rattle.sal_rules.specs.Refusals as spec;
 ghost use Rattle.sal_tx.specs.Walk as walk;
 
+use crate::steps::first_steps;
 use sal_node::Node;
 use sal_rows::{Act, Op};
 use sal_rules::TxFault;
 use sal_schema::Schema;
 use sal_tree::Root;
-use sal_types::{Duplicate, NoMemory, Path, PathFault, Row, Step, Store};
+use sal_types::{Duplicate, Path, Row, Step, Store};
 use std::alloc::Global;
 use std::sync::Arc;
 
@@ -35,7 +36,7 @@ pub(crate) fn check(alloc: Global, schema: &Schema, tree: &Root, op: &Op) -> Res
         return Err(TxFault::NotConfig { path });
     }
     if let Some(depth) = missing(schema, tree, op) {
-        let path = front(alloc, &op.path, depth)?;
+        let path = first_steps(alloc, &op.path, depth)?;
         return Err(TxFault::ParentMissing { path });
     }
     Ok(())
@@ -149,29 +150,5 @@ fn stands(node: Option<&Arc<Node>>) -> bool
     match node {
         None => false,
         Some(node) => node.is_filled(),
-    }
-}
-
-// The path's first steps.
-fn front(alloc: Global, path: &Path, depth: usize) -> Result<Path, NoMemory>
-    requires { depth ≤ length path.now }
-    ensures { IfOk result (λ front. front ≡ take depth path.now) }
-{
-    let mut front = Path::root(alloc);
-    for step in &path.steps()[..depth] {
-        add(&mut front, step)?;
-    }
-    Ok(front)
-}
-
-// One step further down.
-fn add(path: &mut Path, step: &Step) -> Result<(), NoMemory>
-    requires { length path.old < 32 }
-    ensures { OnOk result (path.new ≡ path.old ++ step.now ∷ []) }
-{
-    match path.push(step.copy()?) {
-        Ok(()) => Ok(()),
-        Err(PathFault::NoMemory) => Err(NoMemory),
-        Err(PathFault::TooDeep) => unreachable!(),
     }
 }

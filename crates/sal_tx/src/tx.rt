@@ -8,15 +8,17 @@ ghost use Rattle.sal_tx.specs.Views as spec;
 ghost use Rattle.sal_rules.specs.Writes.{IsForSchema};
 
 use crate::begun::Begun;
+use crate::changes::Changes;
 use crate::writing::{Writing, set_tree, written};
 use sal_mod::Mod;
-use sal_rows::{Act, Mode, Op, Rows};
+use sal_rows::{Act, Mode, Op, Ops, Rows};
 use sal_rules::{TxFault, WriteOnly};
 use sal_schema::Schema;
 use sal_tree::{Pair, Root};
 use sal_types::{Duplicate, NoMemory, Path, Store};
 use std::alloc::Global;
 use std::marker::Model;
+use std::sync::Arc;
 
 /// A transaction that only reads: it sees its base.
 #[derive(Drop)]
@@ -62,7 +64,7 @@ pub struct Submission {
     pub base_commit: u64,
     pub base: Pair,
     pub view: Pair,
-    pub changes: Mod,
+    pub changes: Changes,
 }
 
 fn tree_of(pair: &Pair, store: Store) -> &Root
@@ -347,8 +349,10 @@ impl WriteTx {
         }
     }
 
-    /// The submission of this receipt: the transaction's chain, base, view and operations. It takes no memory.
-    pub fn into_submission(self, receipt: u64) -> Submission
+    /// The submission of this receipt: the transaction's chain, base, view and operations, of which the list is given. It takes no
+    /// memory.
+    pub fn into_submission(self, receipt: u64, ops: Arc<Ops>) -> Submission
+        requires { ops.value ≡ self.changes }
         ensures submission { result ≡ record { receipt = receipt; domain = self.begun.domain; chain = self.begun.chain; base_commit = self.begun.base_commit; base = self.base; view = self.view; changes = self.changes } }
         ensures right { spec.IsRight self }
     {
@@ -366,7 +370,7 @@ impl WriteTx {
             base_commit: begun.base_commit,
             base,
             view,
-            changes,
+            changes: Changes::of(changes, ops),
         }
     }
 }

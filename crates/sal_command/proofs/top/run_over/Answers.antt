@@ -10,7 +10,7 @@ use Rattle.sal_command.proofs.top.run_over.Goals as goal
 pub returns : goal.returns
 returns g c =
     let world = c.args.hub.world in
-    let clients = clients_of c.args.read.now.script.clients in
+    let clients = clients_of c.args.read.script.clients in
     let left = c.in_ok-left.left in
     let played : Played = record { log = left.hub.log; replies = left.replies } in
     let told : IsReportInSomeOrder world clients (report world played) = c.what_is_left_is_reported.ensures world clients left.hub.log left.replies c.in_ok-left.ensures.left in

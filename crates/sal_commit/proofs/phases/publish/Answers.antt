@@ -3,7 +3,7 @@ use Rattle.std.proofs.Common.{sym, subst}
 use Rattle.std.specs.Prelude.{is_ok}
 use Rattle.sal_graft.specs.Following.{AreFollowing}
 use Rattle.sal_commit.specs.Sound.{AreSound}
-use Rattle.sal_commit.proofs.Following.{AreAgreed-following, AreFollowing-push}
+use Rattle.sal_commit.proofs.Following.{AreFollowing-push}
 use Rattle.sal_commit.proofs.Sounds.{AreSound-push}
 use Rattle.sal_commit.proofs.phases.publish.Goals as goal
 
@@ -15,6 +15,5 @@ invariant_of-domain c =
       planned = c.args.domain.now.planned;
       sound = subst (AreSound c.args.domain.now.schema.value) (sym c.push.ensures.items)
           (AreSound-push c.args.domain.now.schema.value c.args.domain.now.commits.items c.args.prepared.commit (is_ok c.push.result) c.args.domain.now.sound c.requires.sound);
-      agreed = AreAgreed-following c.push.new.self.items following;
       following = following;
     }

@@ -46,7 +46,7 @@ returns-in-Ok-settle-clause-kept c =
     let count : c.len-decided.result ≡ length p.outcomes.items = grind (arith, common_steps) in
     let decided : AreDecided all (line_of p) (length p.outcomes.items + 1 - length p.outcomes.items) (line_of c.settle.new.self) =
     subst (λ n. AreDecided all (line_of p) (n + 1 - length p.outcomes.items) (line_of c.settle.new.self)) count (done.decided all c.requires.kept.current.sound) in
-    pumped_kept c.args.journal.now c.settle.new.journal p c.requires.kept c.args.client done.log c.settle.new.self decided done.kept done.marks
+    pumped_kept c.args.journal.now c.settle.new.journal p c.requires.kept c.args.client done.log c.settle.new.self decided done.kept done.gone done.marks
 
 pub returns-in-Ok-settle-clause-answer : goal.returns-in-Ok-settle-clause-answer
 returns-in-Ok-settle-clause-answer c =

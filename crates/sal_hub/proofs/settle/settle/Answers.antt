@@ -30,7 +30,7 @@ returns-in-Ok-clause-kept c =
     let all : List Sent = sents (answers c.args.journal.now.log (line_of c.args.pipeline.now)) in
     let decided : AreDecided all (line_of c.args.pipeline.now) (c.args.receipt.number - length c.args.pipeline.now.outcomes.items) (line_of c.settle.new.self) =
     subst (λ n. AreDecided all (line_of c.args.pipeline.now) (n - length c.args.pipeline.now.outcomes.items) (line_of c.settle.new.self)) c.number-number.ensures (done.decided all c.requires.kept.current.sound) in
-    settled_kept c.args.journal.now c.settle.new.journal c.args.pipeline.now c.settle.new.self c.requires.kept c.args.client c.args.receipt log decided done.kept done.marks
+    settled_kept c.args.journal.now c.settle.new.journal c.args.pipeline.now c.settle.new.self c.requires.kept c.args.client c.args.receipt log decided done.kept done.gone done.marks
 
 pub returns-in-Ok-clause-answer : goal.returns-in-Ok-clause-answer
 returns-in-Ok-clause-answer c =

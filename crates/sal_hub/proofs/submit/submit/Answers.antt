@@ -10,7 +10,7 @@ use Rattle.sal_hub.specs.Journals.{mark_at}
 use Rattle.sal_hub.specs.Known.{entry_of}
 use Rattle.sal_hub.specs.Submits.{refusal_of}
 use Rattle.sal_hub.specs.Tokens.{IsGiven}
-use Rattle.sal_hub.proofs.Settling.{decided_within, few}
+use Rattle.sal_hub.proofs.Settling.{few}
 use Rattle.sal_hub.proofs.Submitting.{accepted_given, accepted_kept, accepted_made, fails_by, refused_kept, refused_made}
 use Rattle.sal_hub.proofs.submit.submit.Goals as goal
 
@@ -66,5 +66,5 @@ returns-in-Ok-accept-clause-given c =
 pub accept-requires-clause-few : goal.accept-requires-clause-few
 accept-requires-clause-few c = few c.args.journal.now c.args.pipeline.now c.requires.kept
 
-pub refusal-requires-clause-within : goal.refusal-requires-clause-within
-refusal-requires-clause-within c = decided_within c.args.journal.now c.args.pipeline.now c.requires.kept
+pub refusal-requires : goal.refusal-requires
+refusal-requires c = c.requires.kept.let_go

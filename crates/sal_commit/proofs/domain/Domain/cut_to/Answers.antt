@@ -2,7 +2,7 @@
 use Rattle.std.proofs.Common.{◌+◌, sym, subst}
 use Rattle.sal_graft.specs.Following.{AreFollowing}
 use Rattle.sal_commit.specs.Sound.{AreSound}
-use Rattle.sal_commit.proofs.Following.{AreAgreed-following, AreFollowing-take}
+use Rattle.sal_commit.proofs.Following.{AreFollowing-take}
 use Rattle.sal_commit.proofs.Sounds.{AreSound-take}
 use Rattle.sal_commit.proofs.domain.Domain.cut_to.Goals as goal
 
@@ -12,6 +12,5 @@ invariant_of-self c =
     record {
       planned = c.args.self.now.planned;
       sound = subst (AreSound c.args.self.now.schema.value) (sym c.truncate.ensures.items) (AreSound-take c.args.self.now.schema.value (c.args.number + 1) c.args.self.now.commits.items c.args.self.now.sound);
-      agreed = AreAgreed-following c.truncate.new.self.items following;
       following = following;
     }

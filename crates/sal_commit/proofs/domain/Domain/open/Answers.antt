@@ -2,7 +2,6 @@
 use Rattle.std.proofs.Common.{sym, ◌∙◌}
 use Rattle.sal_rules.specs.Breaches.{breach}
 use Rattle.sal_commit.specs.Opening.{opening_of_device}
-use Rattle.sal_commit.proofs.Following.{AreAgreed-following}
 use Rattle.sal_commit.proofs.Sounds.{none-fault}
 use Rattle.sal_commit.proofs.domain.Domain.open.Goals as goal
 
@@ -15,6 +14,5 @@ invariant_of-result c = record {
   sound = c.in_ok-commits.ensures.sound c.in_ok-schema.schema.value (λ s.
       (λ i. breach (c.in_ok-schema.ensures i) s (c.in_ok-trees.ensures.trees i s))
       ∙ none-fault c.args.device.now.schema.value (opening_of_device c.args.device.now) c.in_ok-trees.ensures.fault s);
-  agreed = AreAgreed-following c.in_ok-commits.commits.items (c.in_ok-commits.ensures.following c.in_ok-trees.ensures.stamps);
   following = c.in_ok-commits.ensures.following c.in_ok-trees.ensures.stamps;
 }

@@ -37,7 +37,7 @@ paths_of before s (op ∷ ops) = (if same_store op.store s then paths_by before 
 abbrev pub StampsLieOnTheWay : Type 0
 StampsLieOnTheWay =
     (commits : List Commit) (k : ℕ) (c d : Commit) (s : Store) (p : List Step) (n : Tree) → AreFollowing commits → k + 1 < length commits → c ≡ slice_index_or commits k c → d ≡ slice_index_or commits (k + 1) d
-        → at (Some (tree_in d.trees s)) p ≡ Some n → n.stamp ≡ stamp_of d.receipt → Contains (ways (paths_of (rows_in c.trees s) s d.ops.value)) p
+    → at (Some (tree_in d.trees s)) p ≡ Some n → n.stamp ≡ stamp_of d.receipt → Contains (ways (paths_of (rows_in c.trees s) s d.ops.value)) p
 
 -- on the ways to rows with at most 32 steps are at most 33 nodes for each row
 abbrev pub WaysAreFew : Type 0

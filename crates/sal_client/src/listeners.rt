@@ -194,9 +194,7 @@ impl ClientState {
         laws::tokens_last();
         match look_at(&self.listeners, slot) {
             None => unreachable!(),
-            Some(follower) => {
-                answer_to(accepted(hub.unlisten(alloc, self.number, follower.id)))
-            }
+            Some(follower) => { answer_to(accepted(hub.unlisten(alloc, self.number, follower.id))) }
         }
     }
 

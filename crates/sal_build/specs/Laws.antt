@@ -2,6 +2,7 @@
 use Rattle.std.specs.Prelude.{◌≡◌, ◌<◌, ◌^◌, ◌&&◌, List, length, Some, Ok, IsTrue}
 use Rattle.std.specs.List.{list_all}
 use Rattle.sal_stmt.specs.declared.stmt.Stmt.{Stmt}
+use Rattle.sal_module.specs.Places.{is_in_order}
 use Rattle.sal_schema.specs.declared.table.SchemaTable.{SchemaTable}
 use Rattle.sal_schema.specs.Names.{are_distinct, module_names, identity_names}
 use Rattle.sal_schema.specs.declared.table.NodeInfo.{NodeInfo}
@@ -47,3 +48,9 @@ KeysAreInside =
 -- Each name stands for one identity of a module.
 abbrev pub IdentityNamesDiffer : Type 0
 IdentityNamesDiffer = (stmts : List Stmt) (table : SchemaTable) → build stmts ≡ Ok table → IsTrue (are_distinct (identity_names table))
+
+-- Where the statements of each module stand in the order of its text, each node is named by an identifier.
+abbrev pub NodesAreNamed : Type 0
+NodesAreNamed =
+    (stmts : List Stmt) (table : SchemaTable) → IsTrue (list_all (is_in_order 64 (2 ^ 32)) stmts) → build stmts ≡ Ok table
+    → IsTrue (list_all (λ (node : NodeInfo). is_identifier node.name) table.nodes)

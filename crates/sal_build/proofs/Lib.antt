@@ -31,3 +31,4 @@ pub mod Uniques
 pub mod DistinctIdentities
 pub mod OwnStatements
 pub mod NamedNodes
+pub mod KeyedLists

@@ -40,10 +40,10 @@ wrong e = cc
 
 -- ---- arguments
 
-abbrev rule_given : Option Keyword → Rule
+abbrev pub rule_given : Option Keyword → Rule
 rule_given keyword = unwrap_or (option_and_then rule_at keyword) text_rule
 
-rule-by : (text : List ℕ) → rule_of text ≡ rule_given (keyword_of text)
+pub rule-by : (text : List ℕ) → rule_of text ≡ rule_given (keyword_of text)
 unfolding rule_of
 rule-by text = refl
 
@@ -87,7 +87,7 @@ name-good keyword stmt (Some implied.Case) e h good = good h
 name-good keyword stmt (Some implied.Input) e h good = refl
 name-good keyword stmt (Some implied.Output) e h good = refl
 
-none-fits : (side : Option Implied) → is_seed side None ≡ false
+pub none-fits : (side : Option Implied) → is_seed side None ≡ false
 none-fits None = refl
 none-fits (Some implied.Case) = refl
 none-fits (Some implied.Input) = refl

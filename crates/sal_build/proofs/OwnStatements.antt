@@ -18,19 +18,16 @@ use Rattle.sal_module.proofs.Order.{find_at-any, find_first-left, find_first-rig
 use Rattle.sal_grouping.proofs.Parts.{TreeRow}
 use Rattle.sal_grouping.specs.Rows.{is_part, part_of, part_among, row_of, with_row, with_rows, rows_of}
 use Rattle.sal_schema.proofs.Conjuncts.{and_first, and_second}
+use Rattle.sal_build.proofs.Distinct.{true-is}
 use Rattle.sal_build.proofs.NamedModules.{rule-named, same-text}
 use Rattle.sal_build.proofs.Quiet.{front-nil}
 
 -- ---- keywords
 
-free : (b : Bool) → IsTrue (not b) → b ≡ false
-free true h = absurd (let no : false ≡ true = h in cc)
-free false h = refl
-
 unprefixed-among : (all : List Word) (text : List ℕ) (keyword : Keyword) → IsTrue (list_all (λ (w : Word). not (is_prefixed w.0)) all) → keyword_among all text ≡ Some keyword → is_prefixed text ≡ false
 unprefixed-among [] text keyword h e = cc
 unprefixed-among (w ∷ all) text keyword h e = elim (cases_Bool (same w.0 text)) [
-  | inl t ↦ ap is_prefixed (sym (same-text w.0 text t)) ∙ free (is_prefixed w.0) (and_first (not (is_prefixed w.0)) (list_all (λ (v : Word). not (is_prefixed v.0)) all) h)
+  | inl t ↦ ap is_prefixed (sym (same-text w.0 text t)) ∙ true-is (is_prefixed w.0) (and_first (not (is_prefixed w.0)) (list_all (λ (v : Word). not (is_prefixed v.0)) all) h)
   | inr f ↦ unprefixed-among all text keyword (and_second (not (is_prefixed w.0)) (list_all (λ (v : Word). not (is_prefixed v.0)) all) h) (rw f at e)
 ]
 

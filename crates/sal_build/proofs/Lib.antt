@@ -29,3 +29,6 @@ pub mod Underived
 pub mod GoodIdentities
 pub mod Uniques
 pub mod DistinctIdentities
+pub mod OwnStatements
+pub mod NamedNodes
+pub mod KeyedLists

@@ -68,8 +68,13 @@ output-shape None h = h
 output-shape (Some Output) h = refl
 output-shape keyword h = absurd (wrong h)
 
+-- in an implied case stands a node by itself
+abbrev pub is_seed : Option Implied → Option Keyword → Bool
+is_seed (Some implied.Case) keyword = is_node keyword
+is_seed side keyword = is_shape keyword
+
 abbrev pub fits : List TreeRow → Seed → Bool
-fits rows seed = is_shape (keyword_at rows seed.0)
+fits rows seed = is_seed seed.1 (keyword_at rows seed.0)
 
 module _ (rows : List TreeRow) (named : List (Option ℕ)) where
   nodes-at : (within : ℕ → List ℕ) → ((b : ℕ) → IsTrue (list_all (λ k. is_node (keyword_at rows k)) (within b))) → (k : ℕ) → IsTrue (list_all (λ k. is_node (keyword_at rows k)) (nodes_at within rows named k))
@@ -83,21 +88,23 @@ module _ (rows : List TreeRow) (named : List (Option ℕ)) where
   nodes-within zero b = refl
   nodes-within (suc n) b = all-flat (λ k. is_node (keyword_at rows k)) (nodes_at (nodes_within n rows named) rows named) (nodes-at (nodes_within n rows named) (nodes-within n)) (inside rows b)
 
-  nodes-fit : (to : ℕ → Seed) → ((k : ℕ) → (to k).0 ≡ k) → (ks : List ℕ) → IsTrue (list_all (λ k. is_node (keyword_at rows k)) ks) → IsTrue (list_all (fits rows) (map to ks))
-  nodes-fit to same [] h = refl
-  nodes-fit to same (k ∷ ks) h =
+  nodes-fit : (to : ℕ → Seed) → ((k : ℕ) → IsTrue (is_node (keyword_at rows k)) → IsTrue (fits rows (to k))) → (ks : List ℕ) → IsTrue (list_all (λ k. is_node (keyword_at rows k)) ks) → IsTrue (list_all (fits rows) (map to ks))
+  nodes-fit to each [] h = refl
+  nodes-fit to each (k ∷ ks) h =
       let node : IsTrue (is_node (keyword_at rows k)) = and_first (is_node (keyword_at rows k)) (list_all (λ k. is_node (keyword_at rows k)) ks) h in
-      let shape : IsTrue (fits rows (to k)) = subst (λ j. IsTrue (is_shape (keyword_at rows j))) (sym (same k)) (shape-node (keyword_at rows k) node) in
-      both (fits rows (to k)) (list_all (fits rows) (map to ks)) shape (nodes-fit to same ks (and_second (is_node (keyword_at rows k)) (list_all (λ k. is_node (keyword_at rows k)) ks) h))
+      both (fits rows (to k)) (list_all (fits rows) (map to ks)) (each k node) (nodes-fit to each ks (and_second (is_node (keyword_at rows k)) (list_all (λ k. is_node (keyword_at rows k)) ks) h))
 
-  in-choice : (k : ℕ) → (in_choice rows k).0 ≡ k
-  in-choice k = elim (cases_Bool (is_keyword Case (keyword_at rows k))) [ inl t ↦ rw t refl | inr f ↦ rw f refl ]
+  plain-fits : (k : ℕ) → IsTrue (is_node (keyword_at rows k)) → IsTrue (fits rows (plain k))
+  plain-fits k h = shape-node (keyword_at rows k) h
+
+  in-choice : (k : ℕ) → IsTrue (is_node (keyword_at rows k)) → IsTrue (fits rows (in_choice rows k))
+  in-choice k h = elim (cases_Bool (is_keyword Case (keyword_at rows k))) [ inl t ↦ rw t (shape-node (keyword_at rows k) h) | inr f ↦ rw f h ]
 
   pub seeds-fit : (keyword : Option Keyword) (b : ℕ) → IsTrue (list_all (fits rows) (seeds_in rows named keyword b))
   seeds-fit (Some Choice) b = nodes-fit (in_choice rows) in-choice (nodes_in rows named b) (nodes-within (length rows) b)
-  seeds-fit keyword b = nodes-fit plain (λ k. refl) (nodes_in rows named b) (nodes-within (length rows) b)
+  seeds-fit keyword b = nodes-fit plain plain-fits (nodes_in rows named b) (nodes-within (length rows) b)
 
-  param-fits : (rpc : ℕ) (side : Implied) (keyword : Keyword) → ((k : Option Keyword) → is_keyword keyword k ≡ true → IsTrue (is_shape k)) → IsTrue (is_shape (keyword_at rows rpc))
+  param-fits : (rpc : ℕ) (side : Implied) (keyword : Keyword) → ((k : Option Keyword) → is_keyword keyword k ≡ true → IsTrue (is_shape k)) → IsTrue (is_seed (Some side) (keyword_at rows rpc))
       → IsTrue (fits rows (param rows rpc keyword side))
   param-fits rpc side keyword shows h =
       let p : ℕ → Bool = λ k. is_keyword keyword (keyword_at rows k) in
@@ -114,7 +121,7 @@ module _ (rows : List TreeRow) (named : List (Option ℕ)) where
 
   pub below-fits : (seed : Seed) → IsTrue (fits rows seed) → IsTrue (list_all (fits rows) (below rows named seed))
   below-fits (k, None) h = below-row (keyword_at rows k) k h
-  below-fits (k, Some implied.Case) h = both (fits rows (plain k)) true h refl
+  below-fits (k, Some implied.Case) h = both (fits rows (plain k)) true (plain-fits k h) refl
   below-fits (k, Some other) h = refl
 
 -- ---- growth

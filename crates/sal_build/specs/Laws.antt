@@ -1,13 +1,14 @@
 -- The table that modules have is one of a schema, part by part.
-use Rattle.std.specs.Prelude.{◌≡◌, ◌<◌, ◌^◌, ◌&&◌, List, length, Some, Ok, IsTrue}
+use Rattle.std.specs.Prelude.{◌≡◌, ◌<◌, ◌^◌, ◌&&◌, not, nat_eq, List, length, Some, Ok, IsTrue}
 use Rattle.std.specs.List.{list_all}
 use Rattle.sal_stmt.specs.declared.stmt.Stmt.{Stmt}
+use Rattle.sal_module.specs.Places.{is_in_order}
 use Rattle.sal_schema.specs.declared.table.SchemaTable.{SchemaTable}
 use Rattle.sal_schema.specs.Names.{are_distinct, module_names, identity_names}
 use Rattle.sal_schema.specs.declared.table.NodeInfo.{NodeInfo}
-use Rattle.sal_schema.specs.Kinds.{is_leaf}
+use Rattle.sal_schema.specs.Kinds.{is_leaf, is_list}
 use Rattle.sal_schema.specs.Table.{all_from, is_kind, is_same, parent_of}
-use Rattle.sal_schema.specs.Valid.{is_identifier, has_its_type, has_numbers, has_its_uniques, is_good_identity}
+use Rattle.sal_schema.specs.Valid.{is_identifier, agree, all_differ, is_empty, has_its_type, has_numbers, has_its_uniques, is_good_identity}
 use Rattle.sal_build.specs.Build.{build}
 
 -- Each module is named by an identifier.
@@ -47,3 +48,15 @@ KeysAreInside =
 -- Each name stands for one identity of a module.
 abbrev pub IdentityNamesDiffer : Type 0
 IdentityNamesDiffer = (stmts : List Stmt) (table : SchemaTable) → build stmts ≡ Ok table → IsTrue (are_distinct (identity_names table))
+
+-- Where the statements of each module stand in the order of its text, each node is named by an identifier.
+abbrev pub NodesAreNamed : Type 0
+NodesAreNamed =
+    (stmts : List Stmt) (table : SchemaTable) → IsTrue (list_all (is_in_order 64 (2 ^ 32)) stmts) → build stmts ≡ Ok table
+    → IsTrue (list_all (λ (node : NodeInfo). is_identifier node.name) table.nodes)
+
+-- And just lists have keys: at least one, and none stands twice.
+abbrev pub KeysAreThere : Type 0
+KeysAreThere =
+    (stmts : List Stmt) (table : SchemaTable) → IsTrue (list_all (is_in_order 64 (2 ^ 32)) stmts) → build stmts ≡ Ok table
+    → IsTrue (list_all (λ (node : NodeInfo). agree (is_list node.kind) (not (is_empty node.keys)) && all_differ nat_eq node.keys) table.nodes)

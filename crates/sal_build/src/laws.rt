@@ -1,5 +1,5 @@
 //! Laws of the definitions: the table that modules have is one of a schema. A call does nothing: its clause is the law.
-ghost use Rattle.sal_build.specs.Laws.{IdentitiesAreGood, IdentityNamesDiffer, KeysAreInside, LeafsAreTyped, ModuleNamesDiffer, ModulesAreNamed, NumbersAreThere, TablesAreSmall, UniquesAreBelow};
+ghost use Rattle.sal_build.specs.Laws.{IdentitiesAreGood, IdentityNamesDiffer, KeysAreInside, KeysAreThere, LeafsAreTyped, ModuleNamesDiffer, ModulesAreNamed, NodesAreNamed, NumbersAreThere, TablesAreSmall, UniquesAreBelow};
 
 /// Each module is named by an identifier.
 pub fn modules_are_named()
@@ -44,4 +44,14 @@ pub fn keys_are_inside()
 /// Each name stands for one identity of a module.
 pub fn identity_names_differ()
     ensures { IdentityNamesDiffer }
+{}
+
+/// Where the statements of each module stand in the order of its text, each node is named by an identifier.
+pub fn nodes_are_named()
+    ensures { NodesAreNamed }
+{}
+
+/// And just lists have keys: at least one, and none stands twice.
+pub fn keys_are_there()
+    ensures { KeysAreThere }
 {}

@@ -116,11 +116,7 @@ pub(crate) fn submission(
 }
 
 /// The outcome of such a submission.
-pub(crate) fn decided(
-    domain: &mut Domain,
-    alloc: Global,
-    words: Words<'_>,
-) -> Result<Outcome, Fail>
+pub(crate) fn decided(domain: &mut Domain, alloc: Global, words: Words<'_>) -> Result<Outcome, Fail>
     requires { AreKept domain.old.commits.items }
     ensures { IfOk result (λ o. AreKept domain.new.commits.items) }
 {

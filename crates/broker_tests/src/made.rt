@@ -11,7 +11,8 @@ use std::alloc::Global;
 use std::test::Fail;
 
 // The list 0 with its key 1 and the leaf 2, as a load has it.
-const MODULE: &str = "module load { namespace \"urn:load\"; prefix l; list cell { key k; leaf k { type uint32; } leaf v { type uint32; } } }";
+const MODULE: &str =
+    "module load { namespace \"urn:load\"; prefix l; list cell { key k; leaf k { type uint32; } leaf v { type uint32; } } }";
 
 // ---- the nodes of a tree
 
@@ -54,11 +55,7 @@ fn many(alloc: Global) -> Result<Domain, Fail>
     opened(alloc, MODULE, rows)
 }
 
-const ENTRY: Words<'static> = (
-    "put",
-    "0/#10000",
-    "0/#10000 0/#10000/1=10000 0/#10000/2=0",
-);
+const ENTRY: Words<'static> = ("put", "0/#10000", "0/#10000 0/#10000/1=10000 0/#10000/2=0");
 
 // The nodes of the configuration after the entry is put.
 fn put_in(alloc: Global, domain: &Domain) -> Result<[usize; 4], Fail>

@@ -19,7 +19,9 @@ fn words_in<'a>(kind: &'a str, text: &'a str) -> Words<'a> {
 }
 
 fn op_on(alloc: Global, kind: &str, key: u64) -> Result<Op, Fail> {
-    let text = format!(in alloc; "0/#{key} + 0/#{key} 0/#{key}/1={key} 0/#{key}/2=0 + 0/#{key}/2=1")?;
+    let text = format!(in alloc;
+        "0/#{key} + 0/#{key} 0/#{key}/1={key} 0/#{key}/2=0 + 0/#{key}/2=1"
+    )?;
     op_of(alloc, words_in(kind, text.as_str()))
 }
 

@@ -1,153 +1,40 @@
-use crate::tables::Given;
-use crate::words::{letter, split};
-use sal_types::{Atom, Cell, Path, Seq, Step, Str, Value};
+ghost use Rattle.std.specs.Prelude.{◌≡◌};
+ghost use Rattle.sal_json.specs.Patterns.{patterns_of};
+
+use sal_data::read_data;
+use sal_json::Patterns;
+use sal_rows::Rows;
+use sal_schema::Schema;
+use sal_types::Path;
+use serde_json::Value as Json;
 use std::alloc::Global;
 use std::test::Fail;
 
-/// A box with a leaf of each type and nodes of each kind, an RPC with its input and output, and a notification.
-pub(crate) const BOXES: Given = Given {
-    modules: "inv geo net",
-    nodes: NODES,
-    nested: 0,
-    messages: MESSAGES,
-};
+/// A whole box.
+pub(crate) const BOX: &str =
+    r#"{"inv:box":{"i8":-128,"i16":-32768,"i32":-2147483648,"i64":"-9223372036854775808",
+ "u8":255,"u16":65535,"u32":4294967295,"u64":"18446744073709551615","dec":"-0.000000000000000001","text":"é\"\n","flag":true,"state":"down",
+ "mask":"c a","bytes":"AP8Q","kind":"geo:copper","none":[null],"first":7,"second":7,"lamp":{},
+ "slot":[{"id":1,"side":"l","geo:site":"x"},{"id":2,"side":"l"}],"tag":["a","b"],"geo:area":{"name":"n","net:owner":"o"},"pair":9}}"#;
 
-const NODES: &str = "- container 0 box -
-0 leaf 0 i8 0
-0 leaf 0 i16 1
-0 leaf 0 i32 2
-0 leaf 0 i64 3
-0 leaf 0 u8 4
-0 leaf 0 u16 5
-0 leaf 0 u32 6
-0 leaf 0 u64 7
-0 leaf 0 dec 8
-0 leaf 0 text 9
-0 leaf 0 flag 10
-0 leaf 0 state 11
-0 leaf 0 mask 12
-0 leaf 0 bytes 13
-0 leaf 0 kind 14
-0 leaf 0 none 15
-0 leaf 0 first 16
-0 leaf 0 second 17
-0 presence 0 lamp -
-0 list 0 slot - 21 22
-20 leaf 0 id 4
-20 leaf 0 side 9
-20 leaf 1 site 9
-0 leaf-list 0 tag 9
-0 container 1 area -
-25 leaf 1 name 9
-25 leaf 2 owner 9
-0 choice 0 how -
-28 case 0 wire -
-29 leaf 0 pair 4";
-
-const MESSAGES: &str = "- rpc 0 go -
-31 input 0 input -
-32 leaf 0 speed 4
-31 output 0 output -
-34 leaf 1 time 4
-- notification 0 told -
-36 leaf 0 why 9";
-
-fn text(alloc: Global, text: &str) -> Result<Atom, Fail> {
-    Ok(Atom::Text(Str::new(alloc, text)?))
-}
-
-fn add_bytes(list: &mut Vec<u8>, text: &str) -> Result<(), Fail> {
-    for word in text.split(',') {
-        list.push(word.parse::<u8>()?)?;
-    }
-    Ok(())
-}
-
-fn bytes(alloc: Global, text: &str) -> Result<Atom, Fail> {
-    let mut list = Vec::new(alloc);
-    add_bytes(&mut list, text)?;
-    Ok(Atom::Bin(Seq::from_items(list)))
-}
-
-fn dec(units: i64) -> Atom {
-    Atom::Dec { units, digits: 18 }
-}
-
-// A letter, and the text of the atom: a signed or an unsigned number, units of a decimal, a text, `true` or another word, the
-// number of an enumeration, of bits or of an identity, bytes, or nothing.
-fn atom(alloc: Global, letter: char, held: &str) -> Result<Atom, Fail> {
-    match letter {
-        's' => Ok(Atom::Signed(held.parse::<i64>()?)),
-        'u' | 'v' => Ok(Atom::Unsigned(held.parse::<u64>()?)),
-        'd' => Ok(dec(held.parse::<i64>()?)),
-        't' => text(alloc, held),
-        'b' => Ok(Atom::Bool(held == "true")),
-        'e' => Ok(Atom::Enum(held.parse::<u32>()?)),
-        'm' => Ok(Atom::Bits(held.parse::<u64>()?)),
-        'x' => bytes(alloc, held),
-        'i' => Ok(Atom::Ident(held.parse::<u32>()?)),
-        _ => Ok(Atom::Empty),
+fn read(alloc: Global, schema: &Schema, patterns: &Patterns, json: &Json) -> Result<Rows, Fail>
+    requires { patterns.now ≡ patterns_of schema.now }
+{
+    match read_data(alloc, schema, patterns, &Path::root(alloc), json) {
+        Ok(rows) => Ok(rows),
+        Err(_) => Err("no data".into()),
     }
 }
 
-// Under `v` the value is one of the second type of a union.
-fn value(alloc: Global, held: &str) -> Result<Value, Fail> {
-    let (word, text) = split(held);
-    let atom = atom(alloc, letter(word), text)?;
-    let member = if word == "v" { 1 } else { 0 };
-    Ok(Value { member, atom })
+fn read_text(alloc: Global, schema: &Schema, patterns: &Patterns, text: &str) -> Result<Rows, Fail>
+    requires { patterns.now ≡ patterns_of schema.now }
+{
+    let json = Json::from_str(alloc, text)?;
+    read(alloc, schema, patterns, &json)
 }
 
-/// The cell of a star, or of a letter and the text of its value.
-pub(crate) fn cell(alloc: Global, held: &str) -> Result<Cell, Fail> {
-    if held == "*" {
-        return Ok(Cell::Mark);
-    }
-    Ok(Cell::Leaf(value(alloc, held)?))
-}
-
-fn value_of(atom: Atom) -> Value {
-    Value { member: 0, atom }
-}
-
-fn item(alloc: Global, name: &str) -> Result<Value, Fail> {
-    Ok(value_of(text(alloc, name)?))
-}
-
-fn with_side(keys: Vec<Value>, side: Value) -> Result<Seq<Value>, Fail> {
-    let mut keys = keys;
-    keys.push(side)?;
-    Ok(Seq::from_items(keys))
-}
-
-fn keys(alloc: Global, id: u64) -> Result<Seq<Value>, Fail> {
-    let keys = vec![in alloc; value_of(Atom::Unsigned(id))]?;
-    with_side(keys, item(alloc, "l")?)
-}
-
-// To a node `7`, to the slot with the `id` 1 on the side `l` as `#1`, or to the tag `a` as `.a`.
-fn step(alloc: Global, word: &str) -> Result<Step, Fail> {
-    if let Some(id) = word.strip_prefix('#') {
-        return Ok(Step::Key(keys(alloc, id.parse::<u64>()?)?));
-    }
-    match word.strip_prefix('.') {
-        Some(name) => Ok(Step::Item(item(alloc, name)?)),
-        None => Ok(Step::Node(word.parse::<u32>()?)),
-    }
-}
-
-fn go(path: &mut Path, alloc: Global, word: &str) -> Result<(), Fail> {
-    if !word.is_empty() {
-        path.push(step(alloc, word)?)?;
-    }
-    Ok(())
-}
-
-/// The path of steps with `/` between them. No step is the root.
-pub(crate) fn path_of(alloc: Global, text: &str) -> Result<Path, Fail> {
-    let mut path = Path::root(alloc);
-    for word in text.split('/') {
-        go(&mut path, alloc, word)?;
-    }
-    Ok(path)
+/// The rows of a text at the root.
+pub(crate) fn rows_of(alloc: Global, schema: &Schema, text: &str) -> Result<Rows, Fail> {
+    let patterns = Patterns::of(alloc, schema)?;
+    read_text(alloc, schema, &patterns, text)
 }

@@ -1,4 +1,3 @@
-use crate::words::split;
 use sal_restrict::{Part, Ranges, YangType};
 use sal_schema::{IdentityInfo, Kind, NodeInfo, Schema, SchemaTable};
 use sal_table::schema_of;
@@ -6,15 +5,43 @@ use sal_types::{Seq, Str};
 use std::alloc::Global;
 use std::test::Fail;
 
-/// Nodes of modules, and behind them those of their RPCs and notifications, one on a line: its parent or `-`, the word of its
-/// kind, its module, its name, its type or `-`, and its keys. Below the last data node stand so many containers `c`, each in the
-/// one before.
-#[derive(Drop)]
-pub(crate) struct Given {
-    pub modules: &'static str,
-    pub nodes: &'static str,
-    pub nested: u32,
-    pub messages: &'static str,
+// Nodes of a box with a leaf of each type, one on a line: its parent or `-`, the word of its kind, its module, its name, its type or
+// `-`, and its keys.
+const NODES: &str = "- container 0 box -
+0 leaf 0 i8 0
+0 leaf 0 i16 1
+0 leaf 0 i32 2
+0 leaf 0 i64 3
+0 leaf 0 u8 4
+0 leaf 0 u16 5
+0 leaf 0 u32 6
+0 leaf 0 u64 7
+0 leaf 0 dec 8
+0 leaf 0 text 9
+0 leaf 0 flag 10
+0 leaf 0 state 11
+0 leaf 0 mask 12
+0 leaf 0 bytes 13
+0 leaf 0 kind 14
+0 leaf 0 none 15
+0 leaf 0 first 16
+0 leaf 0 second 17
+0 presence 0 lamp -
+0 list 0 slot - 21 22
+20 leaf 0 id 4
+20 leaf 0 side 9
+20 leaf 1 site 9
+0 leaf-list 0 tag 9
+0 container 1 area -
+25 leaf 1 name 9
+25 leaf 2 owner 9
+0 choice 0 how -
+28 case 0 wire -
+29 leaf 0 pair 4";
+
+// The first word of a text, and what stands behind the blank after it: nothing where there is none.
+fn split(text: &str) -> (&str, &str) {
+    text.split_once(' ').unwrap_or((text, ""))
 }
 
 // ---- nodes
@@ -42,10 +69,6 @@ const KINDS: &[Kind] = &[
     Kind::Leaf,
     Kind::Choice,
     Kind::Case,
-    Kind::Rpc,
-    Kind::Input,
-    Kind::Output,
-    Kind::Notification,
 ];
 
 fn kind_of(word: &str) -> Kind {
@@ -57,7 +80,7 @@ fn kind_of(word: &str) -> Kind {
     Kind::Leaf
 }
 
-fn node(alloc: Global, line: &str, config: Option<bool>) -> Result<NodeInfo, Fail> {
+fn node(alloc: Global, line: &str) -> Result<NodeInfo, Fail> {
     let (parent, rest) = split(line);
     let (kind, rest) = split(rest);
     let (module, rest) = split(rest);
@@ -71,7 +94,7 @@ fn node(alloc: Global, line: &str, config: Option<bool>) -> Result<NodeInfo, Fai
         kind: kind_of(kind),
         module,
         name,
-        config,
+        config: Some(true),
         ty: ty.parse::<u32>().ok(),
         keys,
         mandatory: false,
@@ -81,42 +104,16 @@ fn node(alloc: Global, line: &str, config: Option<bool>) -> Result<NodeInfo, Fai
     })
 }
 
-fn add_nodes(
-    list: &mut Vec<NodeInfo>,
-    alloc: Global,
-    lines: &str,
-    config: Option<bool>,
-) -> Result<(), Fail> {
-    for line in lines.lines() {
-        list.push(node(alloc, line, config)?)?;
+fn add_nodes(list: &mut Vec<NodeInfo>, alloc: Global) -> Result<(), Fail> {
+    for line in NODES.lines() {
+        list.push(node(alloc, line)?)?;
     }
     Ok(())
 }
 
-fn add_nested(
-    list: &mut Vec<NodeInfo>,
-    alloc: Global,
-    from: usize,
-    count: u32,
-) -> Result<(), Fail> {
-    for i in 0..count {
-        let parent = from.saturating_add(i as usize);
-        let line = format!(in alloc; "{parent} container 0 c -")?;
-        list.push(node(alloc, line.as_str(), Some(true))?)?;
-    }
-    Ok(())
-}
-
-fn add_all(list: &mut Vec<NodeInfo>, alloc: Global, given: &Given) -> Result<(), Fail> {
-    add_nodes(list, alloc, given.nodes, Some(true))?;
-    let last = list.len().saturating_sub(1);
-    add_nested(list, alloc, last, given.nested)?;
-    add_nodes(list, alloc, given.messages, None)
-}
-
-fn nodes(alloc: Global, given: &Given) -> Result<Seq<NodeInfo>, Fail> {
+fn nodes(alloc: Global) -> Result<Seq<NodeInfo>, Fail> {
     let mut list = Vec::new(alloc);
-    add_all(&mut list, alloc, given)?;
+    add_nodes(&mut list, alloc)?;
     Ok(Seq::from_items(list))
 }
 
@@ -127,8 +124,7 @@ enum Form {
     // the bits, whether there is a sign, the least and the greatest
     Int(u8, bool, i128, i128),
     Dec,
-    // the greatest length
-    Text(u16),
+    Text,
     Bool,
     Enum,
     Bits,
@@ -149,7 +145,7 @@ const FORMS: &[Form] = &[
     Form::Int(32, false, 0, 4294967295),
     Form::Int(64, false, 0, 18446744073709551615),
     Form::Dec,
-    Form::Text(8),
+    Form::Text,
     Form::Bool,
     Form::Enum,
     Form::Bits,
@@ -158,8 +154,6 @@ const FORMS: &[Form] = &[
     Form::Empty,
     Form::ByteOrText,
     Form::TextOrByte,
-    Form::Text(1000),
-    Form::Int(16, false, 0, 4096),
 ];
 
 fn range(alloc: Global, low: i128, high: i128) -> Result<Ranges, Fail> {
@@ -182,8 +176,8 @@ fn byte(alloc: Global) -> Result<YangType, Fail> {
     int(alloc, 8, false, (0, 255))
 }
 
-fn text(alloc: Global, longest: u16) -> Result<YangType, Fail> {
-    let length = range(alloc, 0, i128::from(longest))?;
+fn text(alloc: Global) -> Result<YangType, Fail> {
+    let length = range(alloc, 0, 8)?;
     Ok(YangType::Text {
         length,
         patterns: Seq::new(alloc),
@@ -236,7 +230,7 @@ fn add_byte(members: &mut Vec<YangType>, alloc: Global) -> Result<(), Fail> {
 }
 
 fn add_text(members: &mut Vec<YangType>, alloc: Global) -> Result<(), Fail> {
-    members.push(text(alloc, 8)?)?;
+    members.push(text(alloc)?)?;
     Ok(())
 }
 
@@ -262,7 +256,7 @@ fn type_of(alloc: Global, form: &Form) -> Result<YangType, Fail> {
     match form {
         Form::Int(bits, signed, low, high) => int(alloc, *bits, *signed, (*low, *high)),
         Form::Dec => dec(alloc),
-        Form::Text(longest) => text(alloc, *longest),
+        Form::Text => text(alloc),
         Form::Bool => Ok(YangType::Bool),
         Form::Enum => enumeration(alloc),
         Form::Bits => bits(alloc),
@@ -322,26 +316,30 @@ fn identities(alloc: Global) -> Result<Seq<IdentityInfo>, Fail> {
 
 // ---- the schema
 
-fn fill(table: &mut SchemaTable, alloc: Global, given: &Given) -> Result<(), Fail> {
-    table.nodes = nodes(alloc, given)?;
+fn fill(table: &mut SchemaTable, alloc: Global) -> Result<(), Fail> {
+    table.nodes = nodes(alloc)?;
     table.types = types(alloc)?;
-    table.modules = names(alloc, given.modules)?;
+    table.modules = names(alloc, "inv geo net")?;
     table.identities = identities(alloc)?;
     Ok(())
 }
 
-fn table(alloc: Global, given: &Given) -> Result<SchemaTable, Fail> {
-    let mut table = SchemaTable {
+fn no_nodes(alloc: Global) -> SchemaTable {
+    SchemaTable {
         nodes: Seq::new(alloc),
         types: Seq::new(alloc),
         modules: Seq::new(alloc),
         identities: Seq::new(alloc),
-    };
-    fill(&mut table, alloc, given)?;
+    }
+}
+
+fn table(alloc: Global) -> Result<SchemaTable, Fail> {
+    let mut table = no_nodes(alloc);
+    fill(&mut table, alloc)?;
     Ok(table)
 }
 
-/// The schema of these nodes. Their types are numbered as `FORMS` is.
-pub(crate) fn schema(alloc: Global, given: &Given) -> Result<Schema, Fail> {
-    Ok(schema_of(alloc, table(alloc, given)?)?)
+/// The schema of the box. The types of its nodes are numbered as `FORMS` is.
+pub(crate) fn schema(alloc: Global) -> Result<Schema, Fail> {
+    Ok(schema_of(alloc, table(alloc)?)?)
 }

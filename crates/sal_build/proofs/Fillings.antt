@@ -14,7 +14,7 @@ pub type-zero : (own : List YangType) (edges : List (List ℕ)) (k : ℕ) → no
 unfolding node_type
 type-zero own edges k = refl
 
-type-suc : (own : List YangType) (edges : List (List ℕ)) (n k : ℕ) → node_type own edges (suc n) k ≡ filled_at own edges (node_type own edges n) k
+pub type-suc : (own : List YangType) (edges : List (List ℕ)) (n k : ℕ) → node_type own edges (suc n) k ≡ filled_at own edges (node_type own edges n) k
 unfolding node_type
 type-suc own edges n k = refl
 

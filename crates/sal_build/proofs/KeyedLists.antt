@@ -1,18 +1,17 @@
 -- Just lists have keys, each at least one and none twice: the profile asks for the statement, and its names are judged.
-use Rattle.std.proofs.Common.{◌≡◌, ℕ, zero, suc, ◌+◌, ◌^◌, ◌<◌, Bool, true, false, not, ◌&&◌, ◌==◌, nat_eq, IsTrue, List, [], ◌∷◌, ◌++◌, filter, map, length, Option, Some, None, refl, sym, ap, ◌∙◌, subst, inl, inr, arith, append-nil, length-append, append_assoc}
+use Rattle.std.proofs.Common.{◌≡◌, ℕ, ◌+◌, ◌^◌, ◌<◌, Bool, true, false, not, ◌&&◌, ◌==◌, nat_eq, IsTrue, List, [], ◌∷◌, ◌++◌, filter, map, length, Option, Some, None, refl, sym, ap, ◌∙◌, subst, inl, inr, arith, append-nil}
 use Rattle.std.specs.Prelude.{◌||◌, option_map, is_some, is_none, if◌then◌else◌}
 use Rattle.std.specs.List.{list_all, list_any, flat_map, enumerate_from, slice_get}
-use Rattle.std.specs.Option.{option_to_list}
 use Rattle.std.proofs.lemmas.Bool.{cases_Bool}
 use Rattle.std.proofs.lemmas.Bool.Decides.{nat_tests}
 use Rattle.sal_stmt.specs.declared.stmt.Stmt.{Stmt, out-Stmt}
 use Rattle.sal_module.specs.declared.keyword.Keyword.{Keyword}
 use Rattle.sal_module.specs.declared.keyword.Keyword.TheVariants as word
 use Rattle.sal_module.specs.declared.table.Often.TheVariants.{Optional}
-use Rattle.sal_module.specs.Keywords.{Word, same, same_keyword, word_of, keyword_of, keyword_among, words}
+use Rattle.sal_module.specs.Keywords.{Word, same, word_of, keyword_of, keyword_among, words}
 use Rattle.sal_module.specs.LeftOut.{is_left_out, lacks_keys, is_ordered_by_user, is_instance_identifier, is_calling_path, is_past_the_last_bit}
 use Rattle.sal_module.specs.Modules.{stmt_at}
-use Rattle.sal_module.specs.Profile.{often_faults, standing_of, entry_faults, sub_faults, type_faults, argument_faults, left_out_faults, block_faults, level_faults}
+use Rattle.sal_module.specs.Profile.{often_faults, standing_of, entry_faults, sub_faults, type_faults, argument_faults, left_out_faults, level_faults}
 use Rattle.sal_module.specs.Statements.{is_named, subs_of, argument_of, all_named}
 use Rattle.sal_module.specs.Table.{Entry, Rule, rule_of, rule_at}
 use Rattle.sal_module.specs.Table as table
@@ -21,7 +20,6 @@ use Rattle.sal_grouping.specs.declared.forest.Branch.{Branch}
 use Rattle.sal_grouping.specs.declared.forest.Implied.{Implied}
 use Rattle.sal_grouping.specs.declared.forest.Implied.TheVariants as implied
 use Rattle.sal_grouping.specs.Expand.{branch_of, source_of, place_of}
-use Rattle.sal_grouping.specs.Growth.{Seed}
 use Rattle.sal_grouping.specs.Rows.{rows_of, part_of}
 use Rattle.sal_schema.specs.declared.table.NodeInfo.{NodeInfo}
 use Rattle.sal_schema.specs.declared.table.SchemaTable.{SchemaTable}
@@ -31,7 +29,7 @@ use Rattle.sal_schema.specs.Valid.{agree, all_differ, is_empty}
 use Rattle.sal_schema.proofs.Conjuncts.{and_first, and_second, or_first, or_second}
 use Rattle.sal_grouping.proofs.IndexLists.{not-false}
 use Rattle.sal_build.specs.Laws.{KeysAreThere}
-use Rattle.sal_build.specs.Lists.{keys_named, given, has_none, is_missing, differs, is_bad_key, keys_in, keys_of, block_of, own_stmt, list_faults, config_faults, node_faults, all_faults}
+use Rattle.sal_build.specs.Lists.{keys_named, given, has_none, is_missing, differs, is_bad_key, keys_in, keys_of, block_of, own_stmt, list_faults, config_faults, node_faults}
 use Rattle.sal_build.specs.Lists as lists
 use Rattle.sal_build.specs.Nodes.{kind_among, kind_in, kind_of, has}
 use Rattle.sal_build.specs.Table.{infos_from}

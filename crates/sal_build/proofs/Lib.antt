@@ -32,3 +32,4 @@ pub mod DistinctIdentities
 pub mod OwnStatements
 pub mod NamedNodes
 pub mod KeyedLists
+pub mod FlatTypes

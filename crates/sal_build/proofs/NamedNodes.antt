@@ -1,5 +1,5 @@
 -- Nodes are named by identifiers: the statement of each is its own, and the profile says so.
-use Rattle.std.proofs.Common.{◌≡◌, ℕ, ◌+◌, ◌^◌, ◌<◌, Bool, true, false, ◌&&◌, IsTrue, List, [], ◌∷◌, map, length, Option, Some, None, refl, sym, ap, ◌∙◌, subst}
+use Rattle.std.proofs.Common.{◌≡◌, ℕ, ◌+◌, ◌^◌, Bool, true, false, IsTrue, List, [], ◌∷◌, map, Option, Some, None, refl, sym, ap, ◌∙◌, subst}
 use Rattle.std.specs.Prelude.{option_map, option_and_then, unwrap_or}
 use Rattle.std.specs.List.{list_all, slice_get}
 use Rattle.sal_stmt.specs.declared.stmt.Stmt.{Stmt, out-Stmt}
@@ -7,7 +7,6 @@ use Rattle.sal_module.specs.declared.argument.Form.TheVariants.{Identifier}
 use Rattle.sal_module.specs.declared.keyword.Keyword.{Keyword}
 use Rattle.sal_module.specs.declared.keyword.Keyword.TheVariants as word
 use Rattle.sal_module.specs.Keywords.{keyword_of}
-use Rattle.sal_module.specs.Places.{is_in_order}
 use Rattle.sal_module.specs.Profile.{level_faults}
 use Rattle.sal_module.specs.Statements.{argument_of}
 use Rattle.sal_module.specs.Modules.{stmt_at}
@@ -18,7 +17,7 @@ use Rattle.sal_grouping.specs.declared.forest.Branch.{Branch}
 use Rattle.sal_grouping.specs.declared.forest.Implied.{Implied}
 use Rattle.sal_grouping.specs.declared.forest.Implied.TheVariants as implied
 use Rattle.sal_grouping.specs.Expand.{branch_of, source_of, place_of}
-use Rattle.sal_grouping.specs.Growth.{Seed, is_node, node_of}
+use Rattle.sal_grouping.specs.Growth.{is_node}
 use Rattle.sal_grouping.specs.Rows.{rows_of}
 use Rattle.sal_schema.specs.declared.table.NodeInfo.{NodeInfo}
 use Rattle.sal_schema.specs.declared.table.SchemaTable.{SchemaTable}
@@ -33,7 +32,7 @@ use Rattle.sal_build.proofs.Grown.{built-good}
 use Rattle.sal_build.proofs.NamedModules.{good-argument, identifier-given}
 use Rattle.sal_build.proofs.OwnStatements.{IsOwn, AreOwn, own-rows}
 use Rattle.sal_build.proofs.Quiet.{both}
-use Rattle.sal_build.proofs.Shapes.{is_shape, is_seed, fits}
+use Rattle.sal_build.proofs.Shapes.{is_shape, is_seed}
 
 wrong : false ≡ true → ⊥
 wrong e = cc

@@ -1,14 +1,16 @@
 -- The table that modules have is one of a schema, part by part.
-use Rattle.std.specs.Prelude.{◌≡◌, ◌<◌, ◌^◌, ◌&&◌, not, nat_eq, List, length, Some, Ok, IsTrue}
+use Rattle.std.specs.Prelude.{◌≡◌, ◌<◌, ◌^◌, ◌&&◌, not, nat_eq, Bool as Truth, true, false, List, length, Some, Ok, IsTrue}
 use Rattle.std.specs.List.{list_all}
 use Rattle.sal_stmt.specs.declared.stmt.Stmt.{Stmt}
 use Rattle.sal_module.specs.Places.{is_in_order}
+use Rattle.sal_restrict.specs.declared.yang_type.YangType.{YangType, out-YangType}
+use Rattle.sal_restrict.specs.declared.yang_type.YangType.TheOpen.{YangType-F}
 use Rattle.sal_schema.specs.declared.table.SchemaTable.{SchemaTable}
 use Rattle.sal_schema.specs.Names.{are_distinct, module_names, identity_names}
 use Rattle.sal_schema.specs.declared.table.NodeInfo.{NodeInfo}
 use Rattle.sal_schema.specs.Kinds.{is_leaf, is_list}
 use Rattle.sal_schema.specs.Table.{all_from, is_kind, is_same, parent_of}
-use Rattle.sal_schema.specs.Valid.{is_identifier, agree, all_differ, is_empty, has_its_type, has_numbers, has_its_uniques, is_good_identity}
+use Rattle.sal_schema.specs.Valid.{is_identifier, agree, all_differ, is_empty, is_width, has_its_type, has_numbers, has_its_uniques, is_good_identity}
 use Rattle.sal_build.specs.Build.{build}
 
 -- Each module is named by an identifier.
@@ -60,3 +62,17 @@ abbrev pub KeysAreThere : Type 0
 KeysAreThere =
     (stmts : List Stmt) (table : SchemaTable) → IsTrue (list_all (is_in_order 64 (2 ^ 32)) stmts) → build stmts ≡ Ok table
     → IsTrue (list_all (λ (node : NodeInfo). agree (is_list node.kind) (not (is_empty node.keys)) && all_differ nat_eq node.keys) table.nodes)
+
+-- of a type that is no union: an integer has 8, 16, 32 or 64 bits
+abbrev pub is_sized : YangType-F YangType → Truth
+is_sized (YangType-F.Int bits signed range) = is_width bits
+is_sized (YangType-F.Union members) = false
+is_sized layer = true
+
+abbrev pub is_flat : YangType-F YangType → Truth
+is_flat (YangType-F.Union members) = list_all (λ member. is_sized (out-YangType member)) members
+is_flat layer = is_sized layer
+
+-- Integers have 8, 16, 32 or 64 bits, and no member of a union is a union.
+abbrev pub TypesAreFlat : Type 0
+TypesAreFlat = (stmts : List Stmt) (table : SchemaTable) → build stmts ≡ Ok table → IsTrue (list_all (λ ty. is_flat (out-YangType ty)) table.types)

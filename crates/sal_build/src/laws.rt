@@ -1,5 +1,5 @@
 //! Laws of the definitions: the table that modules have is one of a schema. A call does nothing: its clause is the law.
-ghost use Rattle.sal_build.specs.Laws.{IdentitiesAreGood, IdentityNamesDiffer, KeysAreInside, KeysAreThere, LeafsAreTyped, ModuleNamesDiffer, ModulesAreNamed, NodesAreNamed, NumbersAreThere, TablesAreSmall, UniquesAreBelow};
+ghost use Rattle.sal_build.specs.Laws.{IdentitiesAreGood, IdentityNamesDiffer, KeysAreInside, KeysAreThere, LeafsAreTyped, ModuleNamesDiffer, ModulesAreNamed, NodesAreNamed, NumbersAreThere, TablesAreSmall, TypesAreFlat, UniquesAreBelow};
 
 /// Each module is named by an identifier.
 pub fn modules_are_named()
@@ -54,4 +54,9 @@ pub fn nodes_are_named()
 /// And just lists have keys: at least one, and none stands twice.
 pub fn keys_are_there()
     ensures { KeysAreThere }
+{}
+
+/// Integers have 8, 16, 32 or 64 bits, and no member of a union is a union.
+pub fn types_are_flat()
+    ensures { TypesAreFlat }
 {}

@@ -1,5 +1,4 @@
-use crate::boxes::{BOX, rows_of};
-use crate::tables::schema;
+use crate::boxes::{BOX, rows_of, schema};
 use sal_data::{fits_rows, write_data};
 use sal_rows::Rows;
 use sal_schema::Schema;
@@ -23,7 +22,7 @@ Leaf(Value { member: 0, atom: Bool(true) })
 Leaf(Value { member: 0, atom: Enum(5) })
 Leaf(Value { member: 0, atom: Bits(9223372036854775809) })
 Leaf(Value { member: 0, atom: Bin(Seq { vec: [0, 255, 16] }) })
-Leaf(Value { member: 0, atom: Ident(2) })
+Leaf(Value { member: 0, atom: Ident(1) })
 Leaf(Value { member: 0, atom: Empty })
 Leaf(Value { member: 0, atom: Unsigned(7) })
 Leaf(Value { member: 1, atom: Unsigned(7) })

@@ -1,4 +1,4 @@
-use crate::tables::schema;
+use crate::boxes::schema;
 use sal_data::DataFault;
 use sal_history::Reply;
 use sal_json::ScalarFault;

@@ -1,10 +1,9 @@
 ghost use Rattle.std.specs.Prelude.{◌≡◌, ◌-◌, ◌<◌, ◌^◌, IfOk};
 ghost use Rattle.sal_hub.specs.Tokens.{IsBegun};
 
-use crate::schemas::schema_of;
-use sal_history::{Device, Opening};
+use crate::schemas::device;
 use sal_hub::{Hub, MAX_ENTRIES, laws};
-use sal_rows::{CallFault, Mode, Outcome, Rows};
+use sal_rows::{CallFault, Mode, Rows};
 use sal_tree::Pair;
 use sal_tx::{Begun, Tx, WriteTx};
 use sal_types::{Duplicate, NoMemory};
@@ -14,52 +13,10 @@ use std::test::Fail;
 
 const NO_NODES: &str = "module nothing { namespace 'urn:nothing'; prefix n; }";
 
-fn device(alloc: Global) -> Result<Device, Fail> {
-    let schema = Arc::new(alloc, schema_of(alloc, NO_NODES)?)?;
-    let opening = Opening {
-        config: Rows::new(alloc),
-        oper: Rows::new(alloc),
-    };
-    Ok(Device { schema, opening })
-}
-
 // A hub over one empty domain.
 fn hub(alloc: Global) -> Result<Hub, Fail> {
-    let devices = vec![in alloc; device(alloc)?]?;
+    let devices = vec![in alloc; device(alloc, NO_NODES, Rows::new(alloc))?]?;
     Ok(Hub::open(alloc, devices)?)
-}
-
-// ---- transactions to their end
-
-// Begins a transaction, and cancels it where it only reads.
-fn is_cancelled(hub: &mut Hub, alloc: Global) -> Result<bool, Fail> {
-    let tx = hub.begin(alloc, 7, 0, Mode::Ro)?;
-    let is_read = match &tx {
-        Tx::Read(_) => true,
-        Tx::Write(_) => false,
-    };
-    Ok(is_read && hub.cancel(alloc, 7, tx).is_ok())
-}
-
-// Begins a transaction, submits and settles it.
-fn is_done(hub: &mut Hub, alloc: Global) -> Result<bool, Fail> {
-    let Tx::Write(tx) = hub.begin(alloc, 7, 0, Mode::Rw)? else {
-        return Ok(false);
-    };
-    match hub.submit(alloc, 7, tx) {
-        Ok(receipt) => Ok(hub.settle(alloc, 7, receipt)? == Outcome::Done { commit: 1 }),
-        Err((_, fault)) => Err(Fail::from(fault)),
-    }
-}
-
-#[test]
-fn transactions_are_submitted_settled_and_cancelled(rt: HostRuntime) -> Result<(), Fail> {
-    let mut hub = hub(rt.alloc())?;
-    assert!(rt; is_done(&mut hub, rt.alloc())?);
-    assert!(rt; is_cancelled(&mut hub, rt.alloc())?);
-    assert!(rt; hub.begin(rt.alloc(), 7, 1, Mode::Rw).is_err());
-    assert!(rt; hub.newest() == 1 && hub.log().len() == 6);
-    Ok(())
 }
 
 // ---- a transaction on the fields of a submitted one
@@ -122,27 +79,17 @@ fn marks_left(hub: &mut Hub, alloc: Global) -> Result<usize, Fail> {
 }
 
 // Whether a call behind the last entry is refused, and marks are found or not.
-fn is_full(hub: &mut Hub, alloc: Global) -> [bool; 4] {
-    let is_refused = match hub.mark(alloc, 7, 3) {
-        Err(CallFault::HistoryFull) => true,
-        _ => false,
-    };
-    let is_late = match hub.after(alloc, 7, 3) {
-        Err(CallFault::HistoryFull) => true,
-        _ => false,
-    };
-    [
-        is_refused,
-        is_late,
-        hub.has_mark(999999),
-        !hub.has_mark(1000000),
-    ]
+fn is_full(hub: &mut Hub, alloc: Global) -> bool {
+    matches!(hub.mark(alloc, 7, 3), Err(CallFault::HistoryFull))
+        && matches!(hub.after(alloc, 7, 3), Err(CallFault::HistoryFull))
+        && hub.has_mark(999999)
+        && !hub.has_mark(1000000)
 }
 
 #[test]
 fn a_million_marks_fill_the_history(rt: HostRuntime) -> Result<(), Fail> {
     let mut hub = hub(rt.alloc())?;
-    assert_eq!(rt; marks_left(&mut hub, rt.alloc())?, 1000000);
-    assert_eq!(rt; is_full(&mut hub, rt.alloc()), [true; 4]);
+    let count = marks_left(&mut hub, rt.alloc())?;
+    assert_eq!(rt; (count, is_full(&mut hub, rt.alloc())), (1000000, true));
     Ok(())
 }

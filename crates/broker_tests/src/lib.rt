@@ -1,4 +1,4 @@
-//! The tests of the broker's half: rows, nodes, trees, changes, checks, transactions, commits, mirrors and the hub.
+//! The tests of the broker's half: rows, nodes, trees, operations, rules of state data, decisions, mirrors and the hub.
 #![tactic(auto)]
 
 #[cfg(test)]
@@ -7,6 +7,8 @@ mod check;
 mod commit;
 #[cfg(test)]
 mod hub;
+#[cfg(test)]
+mod made;
 #[cfg(test)]
 mod mirror;
 #[cfg(test)]
@@ -23,5 +25,3 @@ mod schemas;
 mod texts;
 #[cfg(test)]
 mod tree;
-#[cfg(test)]
-mod tx;

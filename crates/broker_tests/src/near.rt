@@ -1,17 +1,13 @@
-ghost use Rattle.std.specs.Prelude.{◌≡◌, ◌∷◌, [], IfOk};
+ghost use Rattle.std.specs.Prelude.{IfOk};
 ghost use Rattle.sal_graft.specs.Kept.{AreKept};
 
-use crate::commit::{changed, decided};
-use crate::schemas::schema_of;
-use crate::texts::{add_all, list_of, path_of, rows_of};
+use crate::commit::{add_cells, changed, decided, opened};
+use crate::texts::add_all;
 use sal_commit::Domain;
 use sal_graft::{conflict, foreign_spans};
-use sal_history::{Device, Opening};
-use sal_mod::Mod;
-use sal_rows::{Act, Clash, Op, Outcome, Rows};
-use sal_types::{Row, Store};
+use sal_rows::{Clash, Outcome};
+use sal_tx::Changes;
 use std::alloc::Global;
-use std::sync::Arc;
 use std::test::Fail;
 
 // How many entries the opening has, and how many times a decision and a conflict are asked for. Where a decision looked at all rows, or a conflict
@@ -20,70 +16,40 @@ const CELLS: u64 = 200_000;
 
 const TIMES: u64 = 100_000;
 
-// The container 0 with the leafs 1 and 2, and the list 3 with its key 4 and the mandatory leaf 5.
+// The list 0 with its key 1 and the mandatory leaf 2, and the container 3 with the leafs 4 and 5.
 const MODULE: &str = "module near {
   namespace 'urn:near';
   prefix n;
-  container box {
-    leaf a { type string; }
-    leaf b { type string; }
-  }
   list cell {
     key k;
     leaf k { type uint32; }
     leaf v { type uint32; mandatory true; }
   }
+  container box {
+    leaf a { type string; }
+    leaf b { type string; }
+  }
 }";
 
 // ---- an opening with many entries, and many commits of one leaf beside them
 
-fn add_cell(list: &mut Vec<Row>, alloc: Global, key: u64) -> Result<(), Fail> {
-    let text = format!(in alloc; "3/#{key} 3/#{key}/4={key} 3/#{key}/5=0")?;
-    add_all(list, alloc, text.as_str())
-}
-
-fn cells(alloc: Global, count: u64) -> Result<Rows, Fail> {
-    let mut list = list_of(alloc, "0/2='o")?;
-    for key in 0..count {
-        add_cell(&mut list, alloc, key)?;
-    }
-    Ok(Rows::from_list(list)?)
-}
-
-fn device(alloc: Global, count: u64) -> Result<Device, Fail> {
-    let schema = Arc::new(alloc, schema_of(alloc, MODULE)?)?;
-    let opening = Opening {
-        config: cells(alloc, count)?,
-        oper: Rows::new(alloc),
-    };
-    Ok(Device { schema, opening })
-}
-
-// A merge of the first leaf.
-fn merged(alloc: Global) -> Result<Op, Fail> {
-    let act = Act::Merge(rows_of(alloc, "0/1='x")?);
-    let path = path_of(alloc, "0/1")?;
-    let store = Store::Config;
-    Ok(Op { store, path, act })
-}
-
-// Whether a merge, begun at the newest commit, is the next one.
-fn is_next(domain: &mut Domain, alloc: Global) -> Result<bool, Fail>
-    requires { AreKept domain.old.commits.items }
-    ensures { IfOk result (λ b. AreKept domain.new.commits.items) }
+fn many(alloc: Global) -> Result<Domain, Fail>
+    ensures { IfOk result (λ d. AreKept d.commits.items) }
 {
-    let commit = domain.commits.len() as u64;
-    let op = merged(alloc)?;
-    Ok(decided(domain, alloc, commit - 1, op)? == Outcome::Done { commit })
+    let mut rows = Vec::new(alloc);
+    add_cells(&mut rows, alloc, CELLS)?;
+    add_all(&mut rows, alloc, "3/5='o")?;
+    opened(alloc, MODULE, rows)
 }
 
-// Whether so many merges are done, one after another.
+// Whether so many merges of the first leaf are done, one after another.
 fn all_are_next(domain: &mut Domain, alloc: Global, count: u64) -> Result<bool, Fail>
     requires { AreKept domain.old.commits.items }
     ensures { IfOk result (λ b. AreKept domain.new.commits.items) }
 {
     for _ in 0..count {
-        if !is_next(domain, alloc)? {
+        let commit = domain.commits.len() as u64;
+        if decided(domain, alloc, ("merge", "3/4", "3/4='x"))? != (Outcome::Done { commit }) {
             return Ok(false);
         }
     }
@@ -92,22 +58,12 @@ fn all_are_next(domain: &mut Domain, alloc: Global, count: u64) -> Result<bool, 
 
 // ---- conflicts over all of them
 
-// A put of one of the leafs.
-fn put(alloc: Global, text: &str) -> Result<Mod, Fail> {
-    let act = Act::Put(rows_of(alloc, text)?);
-    let path = match text.split_once('=') {
-        None => path_of(alloc, text)?,
-        Some((path, _)) => path_of(alloc, path)?,
-    };
-    let store = Store::Config;
-    Ok(changed(alloc, Op { store, path, act })?)
-}
-
-fn clash(alloc: Global, domain: &Domain, changes: &Mod) -> Result<Option<Clash>, Fail>
+fn clash(alloc: Global, domain: &Domain, changes: &Changes) -> Result<Option<Clash>, Fail>
     requires { AreKept domain.now.commits.items }
 {
     let spans = foreign_spans(alloc, 0, None, &domain.commits)?;
-    let found = conflict(changes, &domain.commits[0].trees, &spans, &domain.commits);
+    let base = &domain.commits[0].trees;
+    let found = conflict(changes.lookups(), base, &spans, &domain.commits);
     Ok(found)
 }
 
@@ -115,7 +71,7 @@ fn clash(alloc: Global, domain: &Domain, changes: &Mod) -> Result<Option<Clash>,
 fn is_free(alloc: Global, domain: &Domain, times: u64) -> Result<bool, Fail>
     requires { AreKept domain.now.commits.items }
 {
-    let changes = put(alloc, "0/2='y")?;
+    let changes = changed(alloc, ("put", "3/5", "3/5='y"))?;
     for _ in 0..times {
         if clash(alloc, domain, &changes)?.is_some() {
             return Ok(false);
@@ -128,28 +84,22 @@ fn is_free(alloc: Global, domain: &Domain, times: u64) -> Result<bool, Fail>
 fn named(alloc: Global, domain: &Domain) -> Result<u64, Fail>
     requires { AreKept domain.now.commits.items }
 {
-    let changes = put(alloc, "0/1='y")?;
+    let changes = changed(alloc, ("put", "3/4", "3/4='y"))?;
     Ok(match clash(alloc, domain, &changes)? {
         None => 0,
         Some(found) => found.commit,
     })
 }
 
-fn decided_and_asked(domain: &mut Domain, alloc: Global) -> Result<(bool, bool, u64), Fail>
-    requires { AreKept domain.old.commits.items }
-{
-    let done = all_are_next(domain, alloc, TIMES)?;
-    let free = is_free(alloc, domain, TIMES)?;
-    Ok((done, free, named(alloc, domain)?))
+fn decided_and_asked(alloc: Global) -> Result<(bool, bool, u64), Fail> {
+    let mut domain = many(alloc)?;
+    let done = all_are_next(&mut domain, alloc, TIMES)?;
+    let free = is_free(alloc, &domain, TIMES)?;
+    Ok((done, free, named(alloc, &domain)?))
 }
 
 #[test]
 fn near_and_stamps(rt: HostRuntime) -> Result<(), Fail> {
-    let device = device(rt.alloc(), CELLS)?;
-    let mut domain = Domain::open(rt.alloc(), 0, &device, true)?;
-    assert_eq!(rt;
-        decided_and_asked(&mut domain, rt.alloc())?,
-        (true, true, TIMES)
-    );
+    assert_eq!(rt; decided_and_asked(rt.alloc())?, (true, true, TIMES));
     Ok(())
 }

@@ -1,137 +1,90 @@
-use crate::texts::path_of;
+ghost use Rattle.std.specs.Prelude.{◌≡◌, ◌∷◌, ◌++◌, [], OnOk};
+
+use crate::texts::{Words, op_of, path_of};
 use sal_mod::Mod;
-use sal_rows::{Act, Op, Rows};
-use sal_types::{Cell, NoMemory, Path, Row, Store};
+use sal_rows::Op;
+use sal_types::{Cell, NoMemory, Store};
 use std::alloc::Global;
 use std::test::Fail;
 
-fn added(changes: &mut Mod, alloc: Global, path: Path, act: Act) -> Result<(), NoMemory> {
-    let store = Store::Config;
-    match changes.add(alloc, Op { store, path, act }) {
+/// Adds an operation to those of a transaction.
+pub(crate) fn added(changes: &mut Mod, alloc: Global, op: Op) -> Result<(), NoMemory>
+    ensures { OnOk result (changes.new ≡ changes.old ++ op ∷ []) }
+{
+    match changes.add(alloc, op) {
         Ok(()) => Ok(()),
         Err((_, refused)) => Err(refused),
     }
 }
 
-fn mark_at(alloc: Global, path: Path) -> Result<Rows, Fail> {
-    let cell = Cell::Mark;
-    Ok(Rows::of_one(alloc, Row { path, cell })?)
-}
-
-fn act_of(alloc: Global, kind: &str, path: &str) -> Result<Act, Fail> {
-    if kind == "delete" {
-        return Ok(Act::Delete);
-    }
-    if kind == "put" {
-        return Ok(Act::Put(Rows::new(alloc)));
-    }
-    Ok(Act::Merge(mark_at(alloc, path_of(alloc, path)?)?))
-}
-
 // A delete, the merge of a mark, and a put of nothing.
-const OPERATIONS: &str = "delete 1
-merge 2/5
-put 2/6";
+const OPERATIONS: &[Words<'static>] = &[
+    ("delete", "1", ""),
+    ("merge", "2/5", "2/5"),
+    ("put", "2/6", ""),
+];
 
-fn add(changes: &mut Mod, alloc: Global, line: &str) -> Result<(), Fail> {
-    let (kind, path) = line.split_once(' ').ok_or("no path")?;
-    let act = act_of(alloc, kind, path)?;
-    added(changes, alloc, path_of(alloc, path)?, act)?;
+fn add_all(changes: &mut Mod, alloc: Global) -> Result<(), Fail> {
+    for words in OPERATIONS {
+        added(changes, alloc, op_of(alloc, *words)?)?;
+    }
     Ok(())
 }
 
-fn changes(alloc: Global) -> Result<Mod, Fail> {
-    let mut changes = Mod::new(alloc);
-    for line in OPERATIONS.lines() {
-        add(&mut changes, alloc, line)?;
+// A store, a path and a place among the operations: whether an operation before that place puts or deletes at the path or
+// above it, and what all of them set there last. The path lies below the delete, at the merge, at the put without it and with
+// it, at the merge in the other store, and elsewhere.
+const ANSWERS: &str = "config 1/7 1 covered absence
+config 2/5 3 bare cell
+config 2/6 2 bare absence
+config 2/6 3 covered absence
+operational 2/5 3 bare nothing
+config 3/5 3 bare nothing";
+
+fn words(is_covered: bool, set: Option<Option<&Cell>>) -> &'static str {
+    match (is_covered, set) {
+        (true, None) => "covered nothing",
+        (true, Some(None)) => "covered absence",
+        (true, Some(Some(_))) => "covered cell",
+        (false, None) => "bare nothing",
+        (false, Some(None)) => "bare absence",
+        (false, Some(Some(_))) => "bare cell",
     }
-    Ok(changes)
 }
 
-// Paths with places among the operations: where an operation from that place on puts or deletes at the path or above it,
-// `covered`. Below the delete, at the merge, at the put before it and after it.
-const COVERED: &str = "1/7 1 covered
-2/5 3 bare
-2/6 2 bare
-2/6 3 covered";
-
-fn is_covered(alloc: Global, changes: &Mod, path: &str, place: &str) -> Result<bool, Fail> {
-    let place = place.parse::<usize>()?;
-    let path = path_of(alloc, path)?;
-    Ok(changes.covered(Store::Config, &path, place))
-}
-
-fn is_cover_told(alloc: Global, changes: &Mod, line: &str) -> Result<bool, Fail> {
-    let (path, rest) = line.split_once(' ').ok_or("no place")?;
+fn is_told(alloc: Global, changes: &Mod, line: &str) -> Result<bool, Fail> {
+    let (store, rest) = line.split_once(' ').ok_or("no path")?;
+    let (path, rest) = rest.split_once(' ').ok_or("no place")?;
     let (place, wanted) = rest.split_once(' ').ok_or("no answer")?;
-    Ok(is_covered(alloc, changes, path, place)? == (wanted == "covered"))
-}
-
-fn wrong_cover(alloc: Global, changes: &Mod) -> Result<&'static str, Fail> {
-    for line in COVERED.lines() {
-        if !is_cover_told(alloc, changes, line)? {
-            return Ok(line);
-        }
-    }
-    Ok("")
-}
-
-// What an operation sets last: nothing, the absence of a cell, or a cell.
-fn set_of(set: Option<Option<&Cell>>) -> &'static str {
-    match set {
-        None => "nothing",
-        Some(None) => "absence",
-        Some(Some(_)) => "cell",
-    }
-}
-
-// What is set last below the delete, at the merge, there in the other store, and elsewhere.
-const LAST: &str = "config 1/7 absence
-config 2/5 cell
-operational 2/5 nothing
-config 3/5 nothing";
-
-fn last_set(alloc: Global, changes: &Mod, store: Store, path: &str) -> Result<&'static str, Fail> {
-    let path = path_of(alloc, path)?;
-    Ok(set_of(changes.last_setting(store, &path)))
-}
-
-fn store_of(word: &str) -> Store {
-    if word == "config" {
+    let store = if store == "config" {
         Store::Config
     } else {
         Store::Oper
-    }
+    };
+    let place = place.parse::<usize>()?;
+    let path = path_of(alloc, path)?;
+    let is_covered = changes.covered(store, &path, place);
+    Ok(words(is_covered, changes.last_setting(store, &path)) == wanted)
 }
 
-fn is_last_told(alloc: Global, changes: &Mod, line: &str) -> Result<bool, Fail> {
-    let (store, rest) = line.split_once(' ').ok_or("no path")?;
-    let (path, wanted) = rest.split_once(' ').ok_or("no answer")?;
-    Ok(last_set(alloc, changes, store_of(store), path)? == wanted)
-}
-
-fn wrong_last(alloc: Global, changes: &Mod) -> Result<&'static str, Fail> {
-    for line in LAST.lines() {
-        if !is_last_told(alloc, changes, line)? {
+// The first line that is not answered so, or an empty text.
+fn wrong_in(alloc: Global, changes: &Mod) -> Result<&'static str, Fail> {
+    for line in ANSWERS.lines() {
+        if !is_told(alloc, changes, line)? {
             return Ok(line);
         }
     }
     Ok("")
 }
 
-fn wrong_in(alloc: Global, changes: &Mod) -> Result<(&'static str, &'static str), Fail> {
-    let cover = wrong_cover(alloc, changes)?;
-    Ok((cover, wrong_last(alloc, changes)?))
-}
-
-// The first path that is covered, and the first at which is set, what is not wanted; empty texts where there is none.
-fn wrong(alloc: Global) -> Result<(&'static str, &'static str), Fail> {
-    let changes = changes(alloc)?;
+fn wrong(alloc: Global) -> Result<&'static str, Fail> {
+    let mut changes = Mod::new(alloc);
+    add_all(&mut changes, alloc)?;
     wrong_in(alloc, &changes)
 }
 
 #[test]
 fn operations_cover_and_the_last_setting_counts(rt: HostRuntime) -> Result<(), Fail> {
-    assert_eq!(rt; wrong(rt.alloc())?, ("", ""));
+    assert_eq!(rt; wrong(rt.alloc())?, "");
     Ok(())
 }

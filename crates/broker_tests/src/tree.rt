@@ -1,67 +1,36 @@
-use crate::texts::{path_of, rows_of};
+use crate::texts::{Words, lies_below, op_of, path_of};
 use sal_node::Paging;
-use sal_rows::{Act, Op, Rows, apply};
-use sal_tree::{Pair, Root, is_alike, lie_under};
-use sal_types::{Duplicate, Path, Store};
+use sal_rows::{Op, Rows, apply};
+use sal_tree::{Root, is_alike};
+use sal_tx::edited;
+use sal_types::{Duplicate, NoMemory, Path, Store};
 use std::alloc::Global;
+use std::slice;
 use std::sync::Arc;
 use std::test::Fail;
 
 // ---- a list, node 0, whose entries have a key, node 1, and a value, node 2
 
-#[derive(Clone, Copy)]
-enum Kind {
-    Put,
-    Merge,
-    Delete,
+// The words of an operation of this kind, in a text with a path, the rows of a put there, and those of a merge.
+fn words_in<'a>(kind: &'a str, text: &'a str) -> Words<'a> {
+    let (path, rest) = text.split_once(" + ").unwrap_or(("", ""));
+    let (put, merged) = rest.split_once(" + ").unwrap_or(("", ""));
+    (kind, path, if kind == "merge" { merged } else { put })
 }
 
-fn entry_rows(alloc: Global, key: u64) -> Result<Rows, Fail> {
-    let text = format!(in alloc; "0/#{key} 0/#{key}/1={key} 0/#{key}/2=0")?;
-    rows_of(alloc, text.as_str())
+fn op_on(alloc: Global, kind: &str, key: u64) -> Result<Op, Fail> {
+    let text = format!(in alloc; "0/#{key} + 0/#{key} 0/#{key}/1={key} 0/#{key}/2=0 + 0/#{key}/2=1")?;
+    op_of(alloc, words_in(kind, text.as_str()))
 }
 
-fn value_rows(alloc: Global, key: u64) -> Result<Rows, Fail> {
-    let text = format!(in alloc; "0/#{key}/2=1")?;
-    rows_of(alloc, text.as_str())
-}
-
-fn entry(alloc: Global, key: u64) -> Result<Path, Fail> {
-    let text = format!(in alloc; "0/#{key}")?;
-    path_of(alloc, text.as_str())
-}
-
-fn act_of(alloc: Global, kind: Kind, key: u64) -> Result<Act, Fail> {
-    match kind {
-        Kind::Put => Ok(Act::Put(entry_rows(alloc, key)?)),
-        Kind::Merge => Ok(Act::Merge(value_rows(alloc, key)?)),
-        Kind::Delete => Ok(Act::Delete),
-    }
-}
-
-fn op_of(alloc: Global, kind: Kind, key: u64) -> Result<Op, Fail> {
-    let act = act_of(alloc, kind, key)?;
-    let path = entry(alloc, key)?;
-    let store = Store::Config;
-    Ok(Op { store, path, act })
-}
-
-// The tree after the operation, whose rows have to lie at and below its path.
 fn after(alloc: Global, root: &Root, op: &Op) -> Result<Root, Fail> {
-    match &op.act {
-        Act::Put(rows) if lie_under(rows, &op.path) => Ok(root.put(alloc, &op.path, rows, 9)?),
-        Act::Merge(rows) if lie_under(rows, &op.path) => Ok(root.merge(alloc, &op.path, rows, 9)?),
-        Act::Delete => Ok(root.delete(alloc, &op.path, 9)?),
-        _ => Err("rows beside the path".into()),
+    if !lies_below(op) {
+        return Err("rows beside the path".into());
     }
+    Ok(edited(alloc, root, op, 9)?)
 }
 
-fn rows_after(alloc: Global, rows: &Rows, op: Op) -> Result<Rows, Fail> {
-    let ops = vec![in alloc; op]?;
-    Ok(apply(alloc, rows, Store::Config, ops.as_slice())?)
-}
-
-fn is_same(alloc: Global, root: &Root, rows: &Rows) -> Result<bool, Fail> {
+fn is_same(alloc: Global, root: &Root, rows: &Rows) -> Result<bool, NoMemory> {
     let path = Path::root(alloc);
     Ok(root.rows(alloc, &path)?.items() == rows.items())
 }
@@ -73,25 +42,19 @@ struct Both {
     rows: Rows,
 }
 
-fn nothing(alloc: Global) -> Result<Both, Fail> {
-    let root = Root::empty(alloc)?;
-    let rows = Rows::new(alloc);
-    Ok(Both { root, rows })
-}
-
 // Does the operation on both: whether they agree still.
-fn agree(both: &mut Both, alloc: Global, op: Op) -> Result<bool, Fail> {
-    both.root = after(alloc, &both.root, &op)?;
-    both.rows = rows_after(alloc, &both.rows, op)?;
-    is_same(alloc, &both.root, &both.rows)
+fn agree(both: &mut Both, alloc: Global, op: &Op) -> Result<bool, Fail> {
+    both.root = after(alloc, &both.root, op)?;
+    both.rows = apply(alloc, &both.rows, Store::Config, slice::from_ref(op))?;
+    Ok(is_same(alloc, &both.root, &both.rows)?)
 }
 
 // The operation of each number: 300 entries are put in descending order, 100 leafs merged, and 100 entries deleted.
-fn numbered(number: u64) -> (Kind, u64) {
+fn numbered(number: u64) -> (&'static str, u64) {
     match number {
-        0..300 => (Kind::Put, 299 - number),
-        300..400 => (Kind::Merge, number - 300),
-        _ => (Kind::Delete, number % 100),
+        0..300 => ("put", 299 - number),
+        300..400 => ("merge", number - 300),
+        _ => ("delete", number % 100),
     }
 }
 
@@ -99,7 +62,7 @@ fn numbered(number: u64) -> (Kind, u64) {
 fn all_agree(both: &mut Both, alloc: Global) -> Result<bool, Fail> {
     for number in 0..500u64 {
         let (kind, key) = numbered(number);
-        if !agree(both, alloc, op_of(alloc, kind, key)?)? {
+        if !agree(both, alloc, &op_on(alloc, kind, key)?)? {
             return Ok(false);
         }
     }
@@ -108,7 +71,9 @@ fn all_agree(both: &mut Both, alloc: Global) -> Result<bool, Fail> {
 
 // Whether they agree all along, and how many rows are left.
 fn five_hundred(alloc: Global) -> Result<(bool, usize), Fail> {
-    let mut both = nothing(alloc)?;
+    let root = Root::empty(alloc)?;
+    let rows = Rows::new(alloc);
+    let mut both = Both { root, rows };
     let all_agree = all_agree(&mut both, alloc)?;
     Ok((all_agree, both.rows.items().len()))
 }
@@ -124,7 +89,7 @@ fn five_hundred_operations(rt: HostRuntime) -> Result<(), Fail> {
 fn put_in_order(alloc: Global) -> Result<Root, Fail> {
     let mut root = Root::empty(alloc)?;
     for key in 0..200u64 {
-        root = after(alloc, &root, &op_of(alloc, Kind::Put, key)?)?;
+        root = after(alloc, &root, &op_on(alloc, "put", key)?)?;
     }
     Ok(root)
 }
@@ -140,52 +105,31 @@ fn pages(root: &Root, list: &Path) -> usize {
     }
 }
 
-fn pair(alloc: Global, root: &Root) -> Result<Pair, Fail> {
-    let config = root.copy()?;
-    let oper = Root::empty(alloc)?;
-    Ok(Pair { config, oper })
-}
-
-// Whether a copy of a copy shares the list.
-fn is_shared(alloc: Global, root: &Root, list: &Path) -> Result<bool, Fail> {
-    let copy = pair(alloc, root)?.copy()?;
-    Ok(is_alike(root, &copy.config, list))
-}
-
-fn again(alloc: Global, rows: &Rows) -> Result<Root, Fail> {
-    let root = Root::from_rows(alloc, rows, 0)?;
-    Ok(Root::from_node(Arc::try_clone(root.node())?))
-}
-
-// Whether the tree made of the list's rows shares the list, and whether it has its rows.
-fn made_again(alloc: Global, root: &Root, list: &Path) -> Result<(bool, bool), Fail> {
+// Whether the tree made of a tree's rows shares the list, and whether it has its rows.
+fn made_again(alloc: Global, root: &Root, list: &Path) -> Result<[usize; 2], NoMemory> {
     let rows = root.rows(alloc, list)?;
-    let again = again(alloc, &rows)?;
-    Ok((
-        is_alike(root, &again, list),
-        again.rows(alloc, list)?.items() == rows.items(),
-    ))
+    let again = Root::from_rows(alloc, &rows, 0)?;
+    let is_shared = is_alike(root, &again, list);
+    Ok([is_shared as usize, is_same(alloc, &again, &rows)? as usize])
 }
 
-// Its pages, whether a copy shares the list, and whether the tree made again does, and has its rows.
-fn seen(alloc: Global, root: &Root, list: &Path) -> Result<(usize, bool, (bool, bool)), Fail> {
-    let is_shared = is_shared(alloc, root, list)?;
-    Ok((pages(root, list), is_shared, made_again(alloc, root, list)?))
+// How many pages the list has; whether a copy shares it; whether the tree made again does, and has its rows.
+fn seen(alloc: Global, root: &Root) -> Result<[usize; 4], Fail> {
+    let list = path_of(alloc, "0")?;
+    let copy = Root::from_node(Arc::try_clone(root.copy()?.node())?);
+    let is_shared = is_alike(root, &copy, &list);
+    let [again, same] = made_again(alloc, root, &list)?;
+    Ok([pages(root, &list), is_shared as usize, again, same])
 }
 
-fn seen_at(alloc: Global, root: &Root, list: &str) -> Result<(usize, bool, (bool, bool)), Fail> {
-    let list = path_of(alloc, list)?;
-    seen(alloc, root, &list)
-}
-
-fn seen_in_order(alloc: Global) -> Result<(usize, bool, (bool, bool)), Fail> {
+fn seen_in_order(alloc: Global) -> Result<[usize; 4], Fail> {
     let root = put_in_order(alloc)?;
-    seen_at(alloc, &root, "0")
+    seen(alloc, &root)
 }
 
 // Entries put in ascending order leave full pages.
 #[test]
 fn trees_are_made_again_of_their_rows(rt: HostRuntime) -> Result<(), Fail> {
-    assert_eq!(rt; seen_in_order(rt.alloc())?, (4, true, (false, true)));
+    assert_eq!(rt; seen_in_order(rt.alloc())?, [4, 1, 0, 1]);
     Ok(())
 }

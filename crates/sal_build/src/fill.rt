@@ -240,7 +240,7 @@ fn types_slowly(
 ///
 /// Each is made once, after those of its targets. Where a way leads into a cycle, which is a fault that stands before this, each
 /// way is gone along by itself.
-pub fn filled_types(
+pub(crate) fn filled_types(
     alloc: Global,
     own: &[YangType],
     edges: &[Vec<usize>],

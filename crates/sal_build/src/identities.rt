@@ -11,7 +11,7 @@ use crate::append::append;
 use crate::derived::derived_of;
 use crate::lists::with_bad;
 use sal_grouping::{ranking, reaches};
-use sal_module::{Cause, Found, Keyword, argument_of, is_named};
+use sal_module::{Cause, Found, Keyword, Modules, argument_of, is_named};
 use sal_schema::IdentityInfo;
 use sal_stmt::Stmt;
 use sal_typedefs::Typedefs;
@@ -264,4 +264,39 @@ pub(crate) fn infos_of(
         append(&mut infos, info_of(alloc, &derived, i, one.0, one.1)?)?;
     }
     Ok(infos)
+}
+
+/// The first fault of identities, or none: a `base` that names no identity, or by which an identity is derived from itself
+/// (RFC 7950 section 7.18.2).
+///
+/// Without a cycle it takes time linear in the statements, times the logarithm of the identities. Where a way leads into a
+/// cycle, it takes, for each `base` from which it does, the time of all of them for each step of the longest way.
+pub(crate) fn identity_fault(
+    alloc: Global,
+    modules: &Modules,
+    typedefs: &Typedefs,
+) -> Result<Option<Found>, NoMemory>
+    requires { typedefs.now ≡ modules.now }
+    ensures { IfOk result (λ found. found ≡ least None (spec.all_faults modules.now)) }
+{
+    let all = identities_of(alloc, modules.items())?;
+    let edges = edges_of(alloc, typedefs, &all)?;
+    identities_fault(alloc, typedefs, &all, &edges)
+}
+
+/// The identities of the table, in the order of modules and texts, each with all that it is derived from.
+///
+/// Each is gone through once, after its bases, in the square of the number of identities that it is derived from. Where a way
+/// leads into a cycle, which `identity_fault` finds, each way is gone along by itself.
+pub(crate) fn identity_infos(
+    alloc: Global,
+    modules: &Modules,
+    typedefs: &Typedefs,
+) -> Result<Seq<IdentityInfo>, NoMemory>
+    requires { typedefs.now ≡ modules.now }
+    ensures { IfOk result (λ infos. infos ≡ spec.infos_of modules.now) }
+{
+    let all = identities_of(alloc, modules.items())?;
+    let edges = edges_of(alloc, typedefs, &all)?;
+    Ok(Seq::from_items(infos_of(alloc, &all, &edges)?))
 }

@@ -4,11 +4,6 @@
 //! |---|---|
 //! | `build` | the schema of modules, or their first fault |
 //! | `table_of_modules` | its table as data |
-//! | `list_fault` | the first fault of keys, unique leafs and `config` in the tree of modules |
-//! | `node_infos` | the nodes of the table, by number |
-//! | `identity_fault`, `identity_infos` | the first fault of identities, and the identities of the table |
-//! | `leafref_end` | where the path of a leafref leads |
-//! | `filled_types` | the types of nodes: a leafref takes its target's type |
 //! | `Key` | what a node is found by: its parent, its module and its name |
 //! | `examples` | worked examples, as laws |
 //!
@@ -45,10 +40,7 @@ mod typed;
 mod types;
 mod vectors;
 mod walk;
-mod whole;
 mod words;
 
 pub use child::Key;
-pub use fill::filled_types;
 pub use schema::{build, table_of_modules};
-pub use whole::{identity_fault, identity_infos, leafref_end, list_fault, node_infos};

@@ -18,13 +18,13 @@ ghost use Rattle.sal_build.specs.Types as types;
 
 use crate::append::append;
 use crate::fill::{filled_types, type_at};
+use crate::identities::{identity_fault, identity_infos};
 use crate::info::{infos_of as nodes_of, is_typed};
 use crate::leafrefs::{Led, led_of};
 use crate::lists::lists_fault;
 use crate::tables::{Tables, tables_of};
 use crate::typed::{NodeTypes, leafrefs_of_nodes, node_types, own_types};
 use crate::types::{type_name_fault, type_other_fault};
-use crate::whole::{identity_fault, identity_infos};
 use sal_grouping::{Branch, Forest, expand};
 use sal_module::{BuildFault, Found, Modules, argument_of, better, check};
 use sal_restrict::YangType;

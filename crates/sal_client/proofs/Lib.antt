@@ -6,9 +6,9 @@ pub mod Following
 pub mod Going
 pub mod Heard
 pub mod Invoked
+pub mod Leaving
 pub mod Mirroring
 pub mod Places
-pub mod Quiet
 pub mod Soundness
 pub mod Standing
 pub mod Values

@@ -3,6 +3,7 @@ pub mod Asked
 pub mod Clients
 pub mod Deeds
 pub mod Followers
+pub mod Leaving
 pub mod Malformed
 pub mod Runs
 pub mod Slots

@@ -7,7 +7,7 @@ use crate::calls::{called, refused_call};
 use crate::wish::RunFault;
 use sal_history::Reply;
 use sal_note::NoteList;
-use sal_rows::{CallFault, Rows};
+use sal_rows::{CallFault, Outcome, Rows};
 use sal_script::StepReply;
 
 /// The answer to a call, unless it stops the client.
@@ -16,10 +16,7 @@ pub(crate) fn answer_to(made: Result<Reply, CallFault>) -> Result<StepReply, Run
 {
     match made {
         Ok(reply) => Ok(called(reply)),
-        Err(fault) => {
-            let reply = refused_call(fault)?;
-            Ok(reply)
-        }
+        Err(fault) => refused_call(fault),
     }
 }
 
@@ -29,6 +26,16 @@ pub(crate) fn accepted(made: Result<(), CallFault>) -> Result<Reply, CallFault>
 {
     match made {
         Ok(()) => Ok(Reply::Accepted),
+        Err(fault) => Err(fault),
+    }
+}
+
+/// The outcome of a submission to the domain.
+pub(crate) fn settled(domain: u32, made: Result<Outcome, CallFault>) -> Result<Reply, CallFault>
+    ensures { result ≡ said (λ outcome. Reply.Settled domain outcome) made }
+{
+    match made {
+        Ok(outcome) => Ok(Reply::Settled { domain, outcome }),
         Err(fault) => Err(fault),
     }
 }

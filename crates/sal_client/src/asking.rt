@@ -1,5 +1,5 @@
 //! From a step to the shared call that it asks for, and from that call to its answer.
-ghost use Rattle.std.specs.Prelude.{◌≡◌, IfOk, IfErr, OnOk, false, true};
+ghost use Rattle.std.specs.Prelude.{◌≡◌, IfOk, false, true};
 ghost use Rattle.sal_script.specs.Moves.{ChainBegin, Cancel, CloseChain, Settle, Submit, move_of};
 ghost use Rattle.sal_client.specs.Clients.{is_local, is_service};
 
@@ -17,8 +17,9 @@ use sal_types::NoMemory;
 use std::alloc::Global;
 
 impl ClientState {
-    ghost use Rattle.sal_client.specs.Clients.{client_of, IsSound, Same};
-    ghost use Rattle.sal_client.specs.Wishes.{CanMake, GrowsAtMost, MakesFor, Stops, Wants};
+    ghost use Rattle.sal_client.specs.Clients.{IsSound};
+    ghost use Rattle.sal_client.specs.Leaving.{Leaves};
+    ghost use Rattle.sal_client.specs.Wishes.{CanMake, Wants};
 
     /// The shared call that the step asks for, or why it is refused. It takes no turn at a hub.
     pub(crate) fn wish_of(
@@ -169,11 +170,7 @@ impl ClientState {
     ) -> Result<StepReply, RunFault>
         requires sound { IsSound hub.old self.old }
         requires can { CanMake wish self.old }
-        ensures answers { IfOk result (MakesFor wish self.old.number hub.old (client_of self.old) hub.new (client_of self.new)) }
-        ensures sound { OnOk result (IsSound hub.new self.new) }
-        ensures same { OnOk result (Same self.old self.new) }
-        ensures grows { GrowsAtMost self.old.number hub.old hub.new }
-        ensures stops { IfErr result (Stops self.old.number hub.old hub.new) }
+        ensures { Leaves wish hub.old self.old hub.new self.new result }
     {
         match wish {
             Wish::Begin { slot, domain, mode } => self.begin(alloc, hub, slot, domain, mode),

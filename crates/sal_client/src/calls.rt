@@ -1,11 +1,12 @@
 //! The shared calls of a client for its transactions and receipts.
-ghost use Rattle.std.specs.Prelude.{◌≡◌, List, IfOk, IfErr, IsSome, OnOk};
+ghost use Rattle.std.specs.Prelude.{◌≡◌, Err, IsSome};
 ghost use Rattle.sal_hub.specs.Tokens.{begun_of};
-ghost use Rattle.sal_schema.specs.declared.table.SchemaTable.{SchemaTable};
-ghost use Rattle.sal_script.specs.Moves.{Begin, Submit, Cancel, Settle};
+ghost use Rattle.sal_client.specs.Answers.{IsAnswer};
+ghost use Rattle.sal_client.specs.Leaving.{Leaves};
 ghost use Rattle.sal_client.specs.Slots.{held};
-ghost use Rattle.sal_client.specs.Wishes.{IsStop};
+ghost use Rattle.sal_client.specs.declared.wish.Wish.TheVariants.{Begin, Submit, Cancel, Settle};
 
+use crate::answers::{answer_to, settled};
 use crate::client::{ClientState, Standing};
 use crate::slots::{fill_slot, look_at, take_slot};
 use crate::wish::RunFault;
@@ -25,10 +26,7 @@ pub(crate) fn called(reply: Reply) -> StepReply
 
 /// The answer to a call that was refused, unless that stops the client.
 pub(crate) fn refused_call(fault: CallFault) -> Result<StepReply, RunFault>
-    ensures reply { IfOk result (λ r. r ≡ StepReply.Called (Reply.Refused fault)) }
-    ensures full { OnOk result (fault ≡ CallFault.HistoryFull → ⊥) }
-    ensures memory { OnOk result (fault ≡ CallFault.NoMemory → ⊥) }
-    ensures stop { IfErr result (IsStop fault) }
+    ensures { IsAnswer (Err fault) result }
 {
     match fault {
         CallFault::NoMemory => Err(RunFault::NoMemory),
@@ -54,8 +52,7 @@ pub(crate) fn begun(tx: &Tx) -> Reply
 }
 
 impl ClientState {
-    ghost use Rattle.sal_client.specs.Clients.{client_of, opened, standing_of, IsSound, Same};
-    ghost use Rattle.sal_client.specs.Wishes.{Makes, Stops};
+    ghost use Rattle.sal_client.specs.Clients.{opened, standing_of, IsSound};
 
     /// Begins a transaction into the slot.
     pub(crate) fn begin(
@@ -67,10 +64,7 @@ impl ClientState {
         mode: Mode,
     ) -> Result<StepReply, RunFault>
         requires sound { IsSound hub.old self.old }
-        ensures answers { IfOk result (λ r. (tables : List SchemaTable) → Makes tables r self.old.number hub.old (client_of self.old) (Begin slot domain mode) hub.new (client_of self.new)) }
-        ensures sound { OnOk result (IsSound hub.new self.new) }
-        ensures same { OnOk result (Same self.old self.new) }
-        ensures stops { IfErr result (Stops self.old.number hub.old hub.new) }
+        ensures { Leaves (Begin slot domain mode) hub.old self.old hub.new self.new result }
     {
         laws::tokens_last();
         match hub.begin(alloc, self.number, domain, mode) {
@@ -79,10 +73,7 @@ impl ClientState {
                 fill_slot(&mut self.transactions, slot, tx)?;
                 Ok(called(reply))
             }
-            Err(fault) => {
-                let reply = refused_call(fault)?;
-                Ok(reply)
-            }
+            Err(fault) => refused_call(fault),
         }
     }
 
@@ -95,10 +86,7 @@ impl ClientState {
     ) -> Result<StepReply, RunFault>
         requires sound { IsSound hub.old self.old }
         requires writable { standing_of (opened self.old slot) ≡ Standing.Writable }
-        ensures answers { IfOk result (λ r. (tables : List SchemaTable) → Makes tables r self.old.number hub.old (client_of self.old) (Submit slot) hub.new (client_of self.new)) }
-        ensures sound { OnOk result (IsSound hub.new self.new) }
-        ensures same { OnOk result (Same self.old self.new) }
-        ensures stops { IfErr result (Stops self.old.number hub.old hub.new) }
+        ensures { Leaves (Submit slot) hub.old self.old hub.new self.new result }
     {
         laws::tokens_last();
         match take_slot(&mut self.transactions, slot) {
@@ -109,9 +97,8 @@ impl ClientState {
                     Ok(called(Reply::Receipt { number }))
                 }
                 Err((tx, fault)) => {
-                    let reply = refused_call(fault)?;
                     fill_slot(&mut self.transactions, slot, Tx::Write(tx))?;
-                    Ok(reply)
+                    refused_call(fault)
                 }
             },
             Some(Tx::Read(_)) => unreachable!(),
@@ -128,10 +115,7 @@ impl ClientState {
     ) -> Result<StepReply, RunFault>
         requires sound { IsSound hub.old self.old }
         requires filled { standing_of (opened self.old slot) ≡ Standing.Empty → ⊥ }
-        ensures answers { IfOk result (λ r. (tables : List SchemaTable) → Makes tables r self.old.number hub.old (client_of self.old) (Cancel slot) hub.new (client_of self.new)) }
-        ensures sound { OnOk result (IsSound hub.new self.new) }
-        ensures same { OnOk result (Same self.old self.new) }
-        ensures stops { IfErr result (Stops self.old.number hub.old hub.new) }
+        ensures { Leaves (Cancel slot) hub.old self.old hub.new self.new result }
     {
         laws::tokens_last();
         match take_slot(&mut self.transactions, slot) {
@@ -139,9 +123,8 @@ impl ClientState {
             Some(tx) => match hub.cancel(alloc, self.number, tx) {
                 Ok(()) => Ok(called(Reply::Accepted)),
                 Err((tx, fault)) => {
-                    let reply = refused_call(fault)?;
                     fill_slot(&mut self.transactions, slot, tx)?;
-                    Ok(reply)
+                    refused_call(fault)
                 }
             },
         }
@@ -156,23 +139,15 @@ impl ClientState {
     ) -> Result<StepReply, RunFault>
         requires sound { IsSound hub.old self.now }
         requires filled { IsSome (held self.now.receipts slot) }
-        ensures answers { IfOk result (λ r. (tables : List SchemaTable) → Makes tables r self.now.number hub.old (client_of self.now) (Settle slot) hub.new (client_of self.now)) }
-        ensures sound { OnOk result (IsSound hub.new self.now) }
-        ensures stops { IfErr result (Stops self.now.number hub.old hub.new) }
+        ensures { Leaves (Settle slot) hub.old self.now hub.new self.now result }
     {
         laws::tokens_last();
         match look_at(&self.receipts, slot) {
             None => unreachable!(),
-            Some(receipt) => match hub.settle(alloc, self.number, *receipt) {
-                Ok(outcome) => {
-                    let domain = receipt.domain();
-                    Ok(called(Reply::Settled { domain, outcome }))
-                }
-                Err(fault) => {
-                    let reply = refused_call(fault)?;
-                    Ok(reply)
-                }
-            },
+            Some(receipt) => {
+                let domain = receipt.domain();
+                answer_to(settled(domain, hub.settle(alloc, self.number, *receipt)))
+            }
         }
     }
 }

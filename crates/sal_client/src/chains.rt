@@ -1,9 +1,10 @@
 //! The shared calls of a client for its transaction chains.
-ghost use Rattle.std.specs.Prelude.{◌≡◌, List, IfOk, IfErr, IsSome, OnOk};
-ghost use Rattle.sal_schema.specs.declared.table.SchemaTable.{SchemaTable};
-ghost use Rattle.sal_script.specs.Moves.{OpenChain, ChainBegin, CloseChain};
+ghost use Rattle.std.specs.Prelude.{IsSome};
+ghost use Rattle.sal_client.specs.Leaving.{Leaves};
 ghost use Rattle.sal_client.specs.Slots.{held};
+ghost use Rattle.sal_client.specs.declared.wish.Wish.TheVariants.{OpenChain, ChainBegin, CloseChain};
 
+use crate::answers::{accepted, answer_to};
 use crate::calls::{begun, called, refused_call};
 use crate::client::ClientState;
 use crate::slots::{fill_slot, look_at};
@@ -15,8 +16,7 @@ use sal_script::StepReply;
 use std::alloc::Global;
 
 impl ClientState {
-    ghost use Rattle.sal_client.specs.Clients.{client_of, IsSound, Same};
-    ghost use Rattle.sal_client.specs.Wishes.{Makes, Stops};
+    ghost use Rattle.sal_client.specs.Clients.{IsSound};
 
     /// Opens a chain over the domain into the chain slot.
     pub(crate) fn open_chain(
@@ -27,10 +27,7 @@ impl ClientState {
         domain: u32,
     ) -> Result<StepReply, RunFault>
         requires sound { IsSound hub.old self.old }
-        ensures answers { IfOk result (λ r. (tables : List SchemaTable) → Makes tables r self.old.number hub.old (client_of self.old) (OpenChain slot domain) hub.new (client_of self.new)) }
-        ensures sound { OnOk result (IsSound hub.new self.new) }
-        ensures same { OnOk result (Same self.old self.new) }
-        ensures stops { IfErr result (Stops self.old.number hub.old hub.new) }
+        ensures { Leaves (OpenChain slot domain) hub.old self.old hub.new self.new result }
     {
         laws::tokens_last();
         match hub.open_chain(alloc, self.number, domain) {
@@ -39,10 +36,7 @@ impl ClientState {
                 fill_slot(&mut self.chains, slot, chain)?;
                 Ok(called(Reply::Chain { id }))
             }
-            Err(fault) => {
-                let reply = refused_call(fault)?;
-                Ok(reply)
-            }
+            Err(fault) => refused_call(fault),
         }
     }
 
@@ -57,10 +51,7 @@ impl ClientState {
     ) -> Result<StepReply, RunFault>
         requires sound { IsSound hub.old self.old }
         requires filled { IsSome (held self.old.chains from) }
-        ensures answers { IfOk result (λ r. (tables : List SchemaTable) → Makes tables r self.old.number hub.old (client_of self.old) (ChainBegin from slot mode) hub.new (client_of self.new)) }
-        ensures sound { OnOk result (IsSound hub.new self.new) }
-        ensures same { OnOk result (Same self.old self.new) }
-        ensures stops { IfErr result (Stops self.old.number hub.old hub.new) }
+        ensures { Leaves (ChainBegin from slot mode) hub.old self.old hub.new self.new result }
     {
         laws::tokens_last();
         match look_at(&self.chains, from) {
@@ -71,10 +62,7 @@ impl ClientState {
                     fill_slot(&mut self.transactions, slot, tx)?;
                     Ok(called(reply))
                 }
-                Err(fault) => {
-                    let reply = refused_call(fault)?;
-                    Ok(reply)
-                }
+                Err(fault) => refused_call(fault),
             },
         }
     }
@@ -88,20 +76,12 @@ impl ClientState {
     ) -> Result<StepReply, RunFault>
         requires sound { IsSound hub.old self.now }
         requires filled { IsSome (held self.now.chains slot) }
-        ensures answers { IfOk result (λ r. (tables : List SchemaTable) → Makes tables r self.now.number hub.old (client_of self.now) (CloseChain slot) hub.new (client_of self.now)) }
-        ensures sound { OnOk result (IsSound hub.new self.now) }
-        ensures stops { IfErr result (Stops self.now.number hub.old hub.new) }
+        ensures { Leaves (CloseChain slot) hub.old self.now hub.new self.now result }
     {
         laws::tokens_last();
         match look_at(&self.chains, slot) {
             None => unreachable!(),
-            Some(chain) => match hub.close_chain(alloc, self.number, chain) {
-                Ok(()) => Ok(called(Reply::Accepted)),
-                Err(fault) => {
-                    let reply = refused_call(fault)?;
-                    Ok(reply)
-                }
-            },
+            Some(chain) => answer_to(accepted(hub.close_chain(alloc, self.number, chain))),
         }
     }
 }

@@ -1,15 +1,16 @@
 //! The steps of a client for its listeners.
-ghost use Rattle.std.specs.Prelude.{◌≡◌, ℕ, List, Some, IfOk, IfErr, IsSome, OnOk};
+ghost use Rattle.std.specs.Prelude.{◌≡◌, Some, IfOk, IsSome, OnOk};
 ghost use Rattle.sal_rows.specs.declared.batch.Batch.{Batch as Told};
-ghost use Rattle.sal_schema.specs.declared.table.SchemaTable.{SchemaTable};
 ghost use Rattle.sal_script.specs.Moves.{Listen, Take, Unlisten};
 ghost use Rattle.sal_script.specs.Play.{local, set_slot};
 ghost use Rattle.sal_script.specs.Play as play_spec;
 ghost use Rattle.sal_client.specs.Followers.{Advances};
+ghost use Rattle.sal_client.specs.Leaving.{Leaves};
 ghost use Rattle.sal_client.specs.Slots.{held};
 ghost use Rattle.sal_client.specs.declared.follower.Follower.{Follower as Kept};
-ghost use Rattle.sal_client.specs.declared.wish.Wish.TheVariants.{Listen as ListenWish};
+ghost use Rattle.sal_client.specs.declared.wish.Wish.TheVariants.{Listen as ListenCall, Take as TakeCall, Unlisten as UnlistenCall};
 
+use crate::answers::{accepted, answer_to};
 use crate::calls::{called, refused_call};
 use crate::client::{ClientState, refused};
 use crate::deed::path_of;
@@ -73,8 +74,8 @@ fn advance_in(
 }
 
 impl ClientState {
-    ghost use Rattle.sal_client.specs.Clients.{client_of, listeners_in, Everywhere, IsSound, Same};
-    ghost use Rattle.sal_client.specs.Wishes.{GrowsBy, Makes, ReadBy, Stops, Wants};
+    ghost use Rattle.sal_client.specs.Clients.{client_of, listeners_in, Everywhere, IsSound};
+    ghost use Rattle.sal_client.specs.Wishes.{Wants};
 
     /// To listen at the path of the text, where the script has the domain and the text is a path.
     pub(crate) fn listen_wish(
@@ -134,11 +135,7 @@ impl ClientState {
         target: &Target,
     ) -> Result<StepReply, RunFault>
         requires sound { IsSound hub.old self.old }
-        ensures grows { OnOk result (GrowsBy self.old.number hub.old hub.new) }
-        ensures answers { IfOk result (λ r. (tables : List SchemaTable) → ReadBy tables (ListenWish slot target.now) → Makes tables r self.old.number hub.old (client_of self.old) (Listen slot target.now.domain target.now.store target.now.text.value) hub.new (client_of self.new)) }
-        ensures sound { OnOk result (IsSound hub.new self.new) }
-        ensures same { OnOk result (Same self.old self.new) }
-        ensures stops { IfErr result (Stops self.old.number hub.old hub.new) }
+        ensures { Leaves (ListenCall slot target.now) hub.old self.old hub.new self.new result }
     {
         laws::tokens_last();
         match hub.listen(
@@ -153,10 +150,7 @@ impl ClientState {
                 let reply = listening(id, target.domain, &target.path, opened)?;
                 Ok(called(reply))
             }
-            Err(fault) => {
-                let reply = refused_call(fault)?;
-                Ok(reply)
-            }
+            Err(fault) => refused_call(fault),
         }
     }
 
@@ -169,10 +163,7 @@ impl ClientState {
     ) -> Result<StepReply, RunFault>
         requires sound { IsSound hub.old self.old }
         requires filled { IsSome (held self.old.listeners slot) }
-        ensures answers { IfOk result (λ r. (tables : List SchemaTable) → Makes tables r self.old.number hub.old (client_of self.old) (Take slot) hub.new (client_of self.new)) }
-        ensures sound { OnOk result (IsSound hub.new self.new) }
-        ensures same { OnOk result (Same self.old self.new) }
-        ensures stops { IfErr result (Stops self.old.number hub.old hub.new) }
+        ensures { Leaves (TakeCall slot) hub.old self.old hub.new self.new result }
     {
         laws::tokens_last();
         let Some(follower) = look_at(&self.listeners, slot) else {
@@ -185,10 +176,7 @@ impl ClientState {
                 let domain = id.domain();
                 Ok(called(Reply::Batch { domain, batch }))
             }
-            Err(fault) => {
-                let reply = refused_call(fault)?;
-                Ok(reply)
-            }
+            Err(fault) => refused_call(fault),
         }
     }
 
@@ -201,20 +189,14 @@ impl ClientState {
     ) -> Result<StepReply, RunFault>
         requires sound { IsSound hub.old self.now }
         requires filled { IsSome (held self.now.listeners slot) }
-        ensures answers { IfOk result (λ r. (tables : List SchemaTable) → Makes tables r self.now.number hub.old (client_of self.now) (Unlisten slot) hub.new (client_of self.now)) }
-        ensures sound { OnOk result (IsSound hub.new self.now) }
-        ensures stops { IfErr result (Stops self.now.number hub.old hub.new) }
+        ensures { Leaves (UnlistenCall slot) hub.old self.now hub.new self.now result }
     {
         laws::tokens_last();
         match look_at(&self.listeners, slot) {
             None => unreachable!(),
-            Some(follower) => match hub.unlisten(alloc, self.number, follower.id) {
-                Ok(()) => Ok(called(Reply::Accepted)),
-                Err(fault) => {
-                    let reply = refused_call(fault)?;
-                    Ok(reply)
-                }
-            },
+            Some(follower) => {
+                answer_to(accepted(hub.unlisten(alloc, self.number, follower.id)))
+            }
         }
     }
 

@@ -1,61 +1,55 @@
 //! The shared calls of a client that need none of its slots: pumps and marks.
-ghost use Rattle.std.specs.Prelude.{◌≡◌, List, IfOk, IfErr, OnOk};
+ghost use Rattle.std.specs.Prelude.{◌≡◌};
 ghost use Rattle.sal_hub.specs.Seen.{pump_reply, seen_reply};
-ghost use Rattle.sal_schema.specs.declared.table.SchemaTable.{SchemaTable};
-ghost use Rattle.sal_script.specs.Moves.{Pump, Mark, After};
+ghost use Rattle.sal_client.specs.Answers.{said};
+ghost use Rattle.sal_client.specs.Leaving.{Leaves};
+ghost use Rattle.sal_client.specs.declared.wish.Wish.TheVariants.{Pump, Mark, After};
 
-use crate::calls::{called, refused_call};
+use crate::answers::{accepted, answer_to};
 use crate::client::ClientState;
 use crate::wish::RunFault;
 use sal_history::Reply;
 use sal_hub::{Hub, Receipt, Seen, laws};
-use sal_rows::Outcome;
+use sal_rows::{CallFault, Outcome};
 use sal_script::StepReply;
 use std::alloc::Global;
 
-// The answer to a pump that is good.
-fn pumped(decided: Option<(Receipt, Outcome)>) -> Reply
-    ensures { result ≡ pump_reply decided }
+// What a pump decided, and where it decided nothing.
+fn pumped(made: Result<Option<(Receipt, Outcome)>, CallFault>) -> Result<Reply, CallFault>
+    ensures { result ≡ said pump_reply made }
 {
-    match decided {
-        None => Reply::Nothing,
-        Some((receipt, outcome)) => Reply::Decided {
+    match made {
+        Ok(None) => Ok(Reply::Nothing),
+        Ok(Some((receipt, outcome))) => Ok(Reply::Decided {
             receipt: receipt.number(),
             domain: receipt.domain(),
             outcome,
-        },
+        }),
+        Err(fault) => Err(fault),
     }
 }
 
-// The answer to a look for a mark that is good.
-fn looked(seen: Seen) -> Reply
-    ensures { result ≡ seen_reply seen }
+// Whether the mark was left.
+fn looked(made: Result<Seen, CallFault>) -> Result<Reply, CallFault>
+    ensures { result ≡ said seen_reply made }
 {
-    match seen {
-        Seen::Found => Reply::Found,
-        Seen::Late { .. } => Reply::Late,
+    match made {
+        Ok(Seen::Found) => Ok(Reply::Found),
+        Ok(Seen::Late { .. }) => Ok(Reply::Late),
+        Err(fault) => Err(fault),
     }
 }
 
 impl ClientState {
-    ghost use Rattle.sal_client.specs.Clients.{client_of, IsSound};
-    ghost use Rattle.sal_client.specs.Wishes.{Makes, Stops};
+    ghost use Rattle.sal_client.specs.Clients.{IsSound};
 
     /// Decides the first receipt that is pending.
     pub(crate) fn pump(&self, alloc: Global, hub: &mut Hub) -> Result<StepReply, RunFault>
         requires sound { IsSound hub.old self.now }
-        ensures answers { IfOk result (λ r. (tables : List SchemaTable) → Makes tables r self.now.number hub.old (client_of self.now) Pump hub.new (client_of self.now)) }
-        ensures sound { OnOk result (IsSound hub.new self.now) }
-        ensures stops { IfErr result (Stops self.now.number hub.old hub.new) }
+        ensures { Leaves Pump hub.old self.now hub.new self.now result }
     {
         laws::tokens_last();
-        match hub.pump(alloc, self.number) {
-            Ok(decided) => Ok(called(pumped(decided))),
-            Err(fault) => {
-                let reply = refused_call(fault)?;
-                Ok(reply)
-            }
-        }
+        answer_to(pumped(hub.pump(alloc, self.number)))
     }
 
     /// Leaves the mark in the log.
@@ -66,18 +60,10 @@ impl ClientState {
         mark: u32,
     ) -> Result<StepReply, RunFault>
         requires sound { IsSound hub.old self.now }
-        ensures answers { IfOk result (λ r. (tables : List SchemaTable) → Makes tables r self.now.number hub.old (client_of self.now) (Mark mark) hub.new (client_of self.now)) }
-        ensures sound { OnOk result (IsSound hub.new self.now) }
-        ensures stops { IfErr result (Stops self.now.number hub.old hub.new) }
+        ensures { Leaves (Mark mark) hub.old self.now hub.new self.now result }
     {
         laws::tokens_last();
-        match hub.mark(alloc, self.number, mark) {
-            Ok(()) => Ok(called(Reply::Accepted)),
-            Err(fault) => {
-                let reply = refused_call(fault)?;
-                Ok(reply)
-            }
-        }
+        answer_to(accepted(hub.mark(alloc, self.number, mark)))
     }
 
     /// Asks whether the mark was left.
@@ -88,17 +74,9 @@ impl ClientState {
         mark: u32,
     ) -> Result<StepReply, RunFault>
         requires sound { IsSound hub.old self.now }
-        ensures answers { IfOk result (λ r. (tables : List SchemaTable) → Makes tables r self.now.number hub.old (client_of self.now) (After mark) hub.new (client_of self.now)) }
-        ensures sound { OnOk result (IsSound hub.new self.now) }
-        ensures stops { IfErr result (Stops self.now.number hub.old hub.new) }
+        ensures { Leaves (After mark) hub.old self.now hub.new self.now result }
     {
         laws::tokens_last();
-        match hub.after(alloc, self.number, mark) {
-            Ok(seen) => Ok(called(looked(seen))),
-            Err(fault) => {
-                let reply = refused_call(fault)?;
-                Ok(reply)
-            }
-        }
+        answer_to(looked(hub.after(alloc, self.number, mark)))
     }
 }

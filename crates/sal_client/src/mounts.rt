@@ -1,6 +1,7 @@
 //! The steps of a client for mounts.
-ghost use Rattle.std.specs.Prelude.{◌≡◌, IfOk, IfErr, OnOk};
+ghost use Rattle.std.specs.Prelude.{◌≡◌, IfOk};
 ghost use Rattle.sal_script.specs.Moves.{Mount, MountAt};
+ghost use Rattle.sal_client.specs.Leaving.{Leaves};
 ghost use Rattle.sal_client.specs.declared.wish.Wish.TheVariants.{Mount as MountCall};
 
 use crate::answers::{accepted, answer_to, mounted};
@@ -35,8 +36,8 @@ pub enum MountWish {
 }
 
 impl ClientState {
-    ghost use Rattle.sal_client.specs.Clients.{client_of, IsSound};
-    ghost use Rattle.sal_client.specs.Wishes.{GrowsAtMost, MakesFor, Stops, Wants};
+    ghost use Rattle.sal_client.specs.Clients.{IsSound};
+    ghost use Rattle.sal_client.specs.Wishes.{Wants};
 
     /// To mount the device at the path of the text, where it is one.
     pub(crate) fn mount_wish(
@@ -84,10 +85,7 @@ impl ClientState {
         wish: MountWish,
     ) -> Result<StepReply, RunFault>
         requires sound { IsSound hub.old self.now }
-        ensures answers { IfOk result (MakesFor (MountCall wish) self.now.number hub.old (client_of self.now) hub.new (client_of self.now)) }
-        ensures sound { OnOk result (IsSound hub.new self.now) }
-        ensures grows { GrowsAtMost self.now.number hub.old hub.new }
-        ensures stops { IfErr result (Stops self.now.number hub.old hub.new) }
+        ensures { Leaves (MountCall wish) hub.old self.now hub.new self.now result }
     {
         laws::tokens_last();
         match wish {

@@ -1,7 +1,8 @@
 //! The steps of a client for notifications.
-ghost use Rattle.std.specs.Prelude.{◌≡◌, IfOk, IfErr, OnOk};
+ghost use Rattle.std.specs.Prelude.{◌≡◌, IfOk};
 ghost use Rattle.serde_json.specs.View.{view};
 ghost use Rattle.sal_script.specs.Moves.{Subscribe, Offer};
+ghost use Rattle.sal_client.specs.Leaving.{Leaves};
 ghost use Rattle.sal_client.specs.declared.wish.Wish.TheVariants.{Note as NoteCall};
 
 use crate::answers::{accepted, answer_to, notes, offered};
@@ -37,8 +38,8 @@ pub enum NoteWish {
 }
 
 impl ClientState {
-    ghost use Rattle.sal_client.specs.Clients.{client_of, IsSound};
-    ghost use Rattle.sal_client.specs.Wishes.{GrowsAtMost, MakesFor, Stops, Wants};
+    ghost use Rattle.sal_client.specs.Clients.{IsSound};
+    ghost use Rattle.sal_client.specs.Wishes.{Wants};
 
     /// To subscribe to the notification of this name, where there is one.
     pub(crate) fn subscribe_wish(&self, readers: &Readers, name: &Str) -> Result<Wish, StepRefusal>
@@ -87,10 +88,7 @@ impl ClientState {
         wish: NoteWish,
     ) -> Result<StepReply, RunFault>
         requires sound { IsSound hub.old self.now }
-        ensures answers { IfOk result (MakesFor (NoteCall wish) self.now.number hub.old (client_of self.now) hub.new (client_of self.now)) }
-        ensures sound { OnOk result (IsSound hub.new self.now) }
-        ensures grows { GrowsAtMost self.now.number hub.old hub.new }
-        ensures stops { IfErr result (Stops self.now.number hub.old hub.new) }
+        ensures { Leaves (NoteCall wish) hub.old self.now hub.new self.now result }
     {
         laws::tokens_last();
         match wish {

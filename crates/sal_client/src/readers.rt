@@ -8,7 +8,7 @@ ghost use Rattle.sal_client.specs.Malformed.{is_malformed, shared_tables, IsMalf
 use crate::reader::Reader;
 use sal_json::PatternsFault;
 use sal_schema::Schema;
-use std::alloc::Global;
+use std::alloc::{AllocError, AllocFailed, Global};
 use std::marker::Model;
 use std::sync::Arc;
 
@@ -62,7 +62,7 @@ fn reader_of(alloc: Global, device: u32, schema: &Arc<Schema>) -> Result<Reader,
 {
     match Arc::try_clone(schema) {
         Ok(schema) => compiled(alloc, device, schema),
-        Err(_) => Err(ReadersFault::NoMemory),
+        Err(AllocError) => Err(ReadersFault::NoMemory),
     }
 }
 
@@ -77,7 +77,7 @@ fn add(alloc: Global, list: &mut Vec<Reader>, schema: &Arc<Schema>) -> Result<()
     let reader = reader_of(alloc, device, schema)?;
     match list.push(reader) {
         Ok(()) => Ok(()),
-        Err(_) => Err(ReadersFault::NoMemory),
+        Err(AllocFailed { .. }) => Err(ReadersFault::NoMemory),
     }
 }
 

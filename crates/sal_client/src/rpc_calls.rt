@@ -1,7 +1,8 @@
 //! The shared calls of a client for RPCs.
-ghost use Rattle.std.specs.Prelude.{◌≡◌, IfOk, IfErr, IsSome, OnOk};
+ghost use Rattle.std.specs.Prelude.{◌≡◌, IsSome, OnOk};
 ghost use Rattle.sal_hub.specs.Routed.{request_reply};
 ghost use Rattle.sal_client.specs.Asked.{handed_with};
+ghost use Rattle.sal_client.specs.Leaving.{Leaves};
 ghost use Rattle.sal_client.specs.Slots.{held};
 ghost use Rattle.sal_client.specs.declared.rpcs.RpcWish.TheVariants.{Collect, Invoke, NextCall};
 ghost use Rattle.sal_client.specs.declared.wish.Wish.TheVariants.{Rpc as RpcCall};
@@ -49,8 +50,8 @@ fn put_handed(
 }
 
 impl ClientState {
-    ghost use Rattle.sal_client.specs.Clients.{client_of, IsSound, Same};
-    ghost use Rattle.sal_client.specs.Wishes.{CanMake, GrowsAtMost, GrowsBy, MakesFor, Stops};
+    ghost use Rattle.sal_client.specs.Clients.{IsSound};
+    ghost use Rattle.sal_client.specs.Wishes.{CanMake};
 
     // Makes a request; its id goes into the slot.
     fn invoke(
@@ -61,11 +62,7 @@ impl ClientState {
         ask: Ask,
     ) -> Result<StepReply, RunFault>
         requires sound { IsSound hub.old self.old }
-        ensures grows { OnOk result (GrowsBy self.old.number hub.old hub.new) }
-        ensures answers { IfOk result (MakesFor (RpcCall (Invoke slot ask)) self.old.number hub.old (client_of self.old) hub.new (client_of self.new)) }
-        ensures sound { OnOk result (IsSound hub.new self.new) }
-        ensures same { OnOk result (Same self.old self.new) }
-        ensures stops { IfErr result (Stops self.old.number hub.old hub.new) }
+        ensures { Leaves (RpcCall (Invoke slot ask)) hub.old self.old hub.new self.new result }
     {
         laws::tokens_last();
         let Ask { service, input, .. } = ask;
@@ -76,21 +73,14 @@ impl ClientState {
                 let number = id.number();
                 Ok(called(Reply::CallMade { id: number }))
             }
-            Err(fault) => {
-                let reply = refused_call(fault)?;
-                Ok(reply)
-            }
+            Err(fault) => refused_call(fault),
         }
     }
 
     // Takes the next request that waits for the client into the slot.
     fn next_call(&mut self, alloc: Global, hub: &mut Hub, slot: u8) -> Result<StepReply, RunFault>
         requires sound { IsSound hub.old self.old }
-        ensures grows { OnOk result (GrowsBy self.old.number hub.old hub.new) }
-        ensures answers { IfOk result (MakesFor (RpcCall (NextCall slot)) self.old.number hub.old (client_of self.old) hub.new (client_of self.new)) }
-        ensures sound { OnOk result (IsSound hub.new self.new) }
-        ensures same { OnOk result (Same self.old self.new) }
-        ensures stops { IfErr result (Stops self.old.number hub.old hub.new) }
+        ensures { Leaves (RpcCall (NextCall slot)) hub.old self.old hub.new self.new result }
     {
         laws::tokens_last();
         match hub.next_call(alloc, self.number) {
@@ -98,10 +88,7 @@ impl ClientState {
                 put_handed(&mut self.handed, slot, &found)?;
                 Ok(called(handed(found)))
             }
-            Err(fault) => {
-                let reply = refused_call(fault)?;
-                Ok(reply)
-            }
+            Err(fault) => refused_call(fault),
         }
     }
 
@@ -109,10 +96,7 @@ impl ClientState {
     fn collect(&self, alloc: Global, hub: &mut Hub, slot: u8) -> Result<StepReply, RunFault>
         requires sound { IsSound hub.old self.now }
         requires filled { IsSome (held self.now.invoked slot) }
-        ensures answers { IfOk result (MakesFor (RpcCall (Collect slot)) self.now.number hub.old (client_of self.now) hub.new (client_of self.now)) }
-        ensures sound { OnOk result (IsSound hub.new self.now) }
-        ensures grows { GrowsAtMost self.now.number hub.old hub.new }
-        ensures stops { IfErr result (Stops self.now.number hub.old hub.new) }
+        ensures { Leaves (RpcCall (Collect slot)) hub.old self.now hub.new self.now result }
     {
         laws::tokens_last();
         match look_at(&self.invoked, slot) {
@@ -130,11 +114,7 @@ impl ClientState {
     ) -> Result<StepReply, RunFault>
         requires sound { IsSound hub.old self.old }
         requires can { CanMake (RpcCall wish) self.old }
-        ensures answers { IfOk result (MakesFor (RpcCall wish) self.old.number hub.old (client_of self.old) hub.new (client_of self.new)) }
-        ensures sound { OnOk result (IsSound hub.new self.new) }
-        ensures same { OnOk result (Same self.old self.new) }
-        ensures grows { GrowsAtMost self.old.number hub.old hub.new }
-        ensures stops { IfErr result (Stops self.old.number hub.old hub.new) }
+        ensures { Leaves (RpcCall wish) hub.old self.old hub.new self.new result }
     {
         laws::tokens_last();
         match wish {

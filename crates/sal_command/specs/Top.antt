@@ -10,8 +10,7 @@ use Rattle.sal_script.specs.Script.{Parts, script_of}
 use Rattle.sal_script.specs.Play.{Played, play}
 use Rattle.sal_script.specs.Report.{report}
 use Rattle.sal_script.specs.SomeOrder.{IsReportInSomeOrder}
-use Rattle.sal_script.specs.LoadOrder.{IsSummaryInSomeOrder}
-use Rattle.sal_command.specs.Loads.{load_world}
+use Rattle.sal_loads.specs.Numbers.{load_text}
 use Rattle.sal_command.specs.Schemas.{table_of}
 use Rattle.sal_command.specs.Scripted.{Comes, IsStatusOf, Prepared, or_schema, or_script, prepared}
 use Rattle.sal_command.specs.declared.top.TheConstants.{HELP, VERSION}
@@ -41,10 +40,10 @@ RunsTo bytes (Ok text) = (script : Prepared) × (prepared bytes ≡ Ok script) �
 RunsTo bytes (Err (BadOrder index)) = ⊥
 RunsTo bytes (Err status) = prepared bytes ≡ Err status
 
--- A load: the summary of its clients run at the same time, played in some order of their shared calls over the world of its own
--- module. Its own script is always a script, so it comes to nothing else.
+-- A load: the one summary that its clients come to, whatever the order of their shared calls is. Its own script is always a script,
+-- so it comes to nothing else.
 abbrev pub LoadsTo : ℕ → ℕ → List ℕ → Type 0
-LoadsTo = IsSummaryInSomeOrder load_world
+LoadsTo rounds start text = text ≡ load_text rounds start
 
 -- the text of the schema that the modules of the script build
 abbrev pub schema_text : List ℕ → Result (List ℕ) Status
@@ -152,6 +151,6 @@ IsPlayOr made result = MatchResult result (λ text. made ≡ Ok text) (IsPlayFau
 abbrev pub IsRunOr : List ℕ → Result (List ℕ) Status → Type 0
 IsRunOr bytes result = MatchResult result (λ text. RunsTo bytes (Ok text)) (IsStatusOf (prepared bytes))
 
--- a summary that a load may come to, unless memory ran out
+-- the summary that a load comes to, unless memory ran out
 abbrev pub IsLoadOr : ℕ → ℕ → Result (List ℕ) Status → Type 0
 IsLoadOr rounds start result = MatchResult result (LoadsTo rounds start) (λ status. status ≡ NoMemory)

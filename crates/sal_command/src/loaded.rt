@@ -12,6 +12,7 @@ use crate::reported::summary_of;
 use crate::scripted::{Prepared, prepare_script};
 use crate::status::Status;
 use sal_io::Gate;
+use sal_loads::laws::loads_come_to_one;
 use sal_run::run;
 use sal_script::{laws, load_script};
 use sal_types::{NoMemory, Str};
@@ -31,6 +32,7 @@ pub(crate) fn load_text<R: Threads + Wait + Sync, G: Gate>(
     requires start { start ≤ 65536 }
     ensures { spec.IsLoadOr rounds start result }
 {
+    loads_come_to_one();
     let prepared = prepare_load(alloc, rounds, start)?;
     match run_load(rt, alloc, rounds, start, prepared, gate) {
         Ok(text) => Ok(text),

@@ -37,12 +37,7 @@ fn clash_in(alloc: Global, sub: &Submission, domain: &Domain) -> Result<Option<C
     ensures { IfOk result (λ o. o ≡ clash (opening_in domain.now.commits.items) (ops_of domain.now.commits.items) (rows_in sub.now.base) (spec.spans_of domain.now sub.now) sub.now.changes) }
 {
     let spans = foreign_spans(alloc, sub.base_commit, sub.chain, &domain.commits)?;
-    let found = conflict(
-        sub.changes.lookups(),
-        &sub.base,
-        &spans,
-        &domain.commits,
-    );
+    let found = conflict(sub.changes.lookups(), &sub.base, &spans, &domain.commits);
     Ok(found)
 }
 

@@ -1,8 +1,9 @@
 -- What is kept stays the log's with each call.
 use Rattle.std.proofs.Common.{◌≡◌, ℕ, ◌+◌, ◌≤◌, Bool, true, false, List, [], ◌∷◌, ◌++◌, length, map, Option, None, Some, refl, ap, sym, ◌∙◌, subst, arith, append-nil, length-append, inl, inr}
-use Rattle.std.specs.Prelude.{◌||◌}
+use Rattle.std.specs.Prelude.{◌||◌, slice_get}
 use Rattle.std.specs.Option.{option_to_list}
 use Rattle.std.proofs.lemmas.List.{drop-append-le, map-append}
+use Rattle.std.proofs.lemmas.Option.{none-some}
 use Rattle.sal_rows.specs.declared.op.Op.{Op}
 use Rattle.sal_rows.specs.declared.outcome.Outcome.{Outcome}
 use Rattle.sal_tx.specs.declared.tx.Submission.{Submission}
@@ -12,6 +13,7 @@ use Rattle.sal_history.specs.World.{Domain}
 use Rattle.sal_history.specs.History.{Answered, chain_domains, commits, decided_by, history, is_live, is_spent, opened_chain, outcomes, reply_to, sent_by, sents, spends}
 use Rattle.sal_history.specs.Services.{mount_call}
 use Rattle.sal_history.specs.Submissions.{Sent, done_chains, done_ops}
+use Rattle.sal_closed.specs.Logs.{AreSentLawful, IsSentLawful}
 use Rattle.sal_hub.specs.Current.{IsCurrent, answers}
 use Rattle.sal_hub.specs.Journals.{mark_at}
 use Rattle.sal_hub.specs.CommitReceipts.{commit_receipts}
@@ -57,19 +59,40 @@ module _ (log : List Entry) (marks : List Bool) (line : Line) (was : IsCurrent l
   pub still_live : (line' : Line) → mount_call e.call ≡ None → ((n : ℕ) → is_live_in line'.domains n ≡ is_live_in line.domains n) → (n : ℕ) → is_live_in line'.domains n ≡ is_live (world_in line.domains) (history (world_in line.domains) (log ++ e ∷ [])) n
   still_live line' unmounted same n = same n ∙ was.live n ∙ sym (live-quiet world log e n unmounted)
 
+  -- what the call submits, if anything: the submissions with it, and its operations, which are lawful
+  abbrev pub Adds : Line → Type 0
+  Adds line' =
+      IsSound (sents (answers log line) ++ option_to_list (sent_by (answers log line) e.call (reply_to (world_in line.domains) (answers log line) e.client e.call))) line'
+      × ((s : Sent) → sent_by (answers log line) e.call (reply_to (world_in line.domains) (answers log line) e.client e.call) ≡ Some s → IsSentLawful (world_in line.domains) s)
+
   -- a call that submits nothing
   pub unsent : (line' : Line) → sent_by (answers log line) e.call (reply_to (world_in line.domains) (answers log line) e.client e.call) ≡ None → IsSound (sents (answers log line)) line'
-      → IsSound (sents (answers log line) ++ option_to_list (sent_by (answers log line) e.call (reply_to (world_in line.domains) (answers log line) e.client e.call))) line'
-  unsent line' none sound = subst (λ (ss : List Sent). IsSound ss line') (sym (append-nil (sents answered)) ∙ ap (λ (o : Option Sent). sents answered ++ option_to_list o) (sym none)) sound
+      → Adds line'
+  unsent line' none sound = (
+    subst (λ (ss : List Sent). IsSound ss line') (sym (append-nil (sents answered)) ∙ ap (λ (o : Option Sent). sents answered ++ option_to_list o) (sym none)) sound,
+    λ s e. absurd (none-some s (sym none ∙ e)),
+  )
 
-  pub pushed : (line' : Line) (marks' : List Bool) → IsSound (sents (answers log line) ++ option_to_list (sent_by (answers log line) e.call (reply_to (world_in line.domains) (answers log line) e.client e.call))) line' → world_in line'.domains ≡ world_in line.domains
+  -- with it, the submissions of the log are lawful
+  lawful-push : ((s : Sent) → sent_by (answers log line) e.call (reply_to (world_in line.domains) (answers log line) e.client e.call) ≡ Some s → IsSentLawful (world_in line.domains) s)
+      → AreSentLawful (world_in line.domains) (history (world_in line.domains) (log ++ e ∷ []))
+  lawful-push new i s at = by (sent_by answered e.call reply) refl (ap (λ (ss : List Sent). slice_get ss i) (sym (sents-push world log e)) ∙ at)
+    where
+      by : (o : Option Sent) → sent_by answered e.call reply ≡ o → slice_get (sents answered ++ option_to_list o) i ≡ Some s → IsSentLawful (world_in line.domains) s
+      by None is there = was.lawful i s (ap (λ (ss : List Sent). slice_get ss i) (sym (append-nil (sents answered))) ∙ there)
+      by (Some x) is there = elim (last_or_before (sents answered) x s i there) [
+        | inl old ↦ was.lawful i s old
+        | inr w ↦ new s (is ∙ ap Some w.1)
+      ]
+
+  pub pushed : (line' : Line) (marks' : List Bool) → Adds line' → world_in line'.domains ≡ world_in line.domains
       → line'.outcomes ≡ line.outcomes ++ decided_by (world_in line.domains) (answers log line) e.call
       → ((k : ℕ) → mark_at marks' k ≡ (mark_at marks k || spends e.call (reply_to (world_in line.domains) (answers log line) e.client e.call) k))
       → length line'.failures ≡ length line.failures + length (option_to_list (opened_chain e.call (reply_to (world_in line.domains) (answers log line) e.client e.call)))
       → ((n : ℕ) → is_live_in line'.domains n ≡ is_live (world_in line.domains) (history (world_in line.domains) (log ++ e ∷ [])) n)
       → IsCurrent (log ++ e ∷ []) marks' line'
-  pushed line' marks' sound same decided marked opened live = record {
-    sound = subst (λ (ss : List Sent). IsSound ss line') (sym (sents-push world log e) ∙ (λ i. sents (history (sym same i) (log ++ e ∷ [])))) sound;
+  pushed line' marks' adds same decided marked opened live = record {
+    sound = subst (λ (ss : List Sent). IsSound ss line') (sym (sents-push world log e) ∙ (λ i. sents (history (sym same i) (log ++ e ∷ [])))) adds.0;
     outcomes =
         decided ∙ ap (λ (os : List Outcome). os ++ decided_by world answered e.call) was.outcomes ∙ sym (outcomes-push world log e)
         ∙ (λ i. outcomes (history (sym same i) (log ++ e ∷ [])));
@@ -81,6 +104,7 @@ module _ (log : List Entry) (marks : List Bool) (line : Line) (was : IsCurrent l
         ∙ sym (length-append (chain_domains answered) (option_to_list (opened_chain e.call reply))) ∙ ap length (sym (chains-push world log e))
         ∙ (λ i. length (chain_domains (history (sym same i) (log ++ e ∷ []))));
     live = λ n. live n ∙ (λ i. is_live (sym same i) (history (sym same i) (log ++ e ∷ [])) n);
+    lawful = subst (λ (w : List Domain). AreSentLawful w (history w (log ++ e ∷ []))) (sym same) (lawful-push adds.1);
   }
 
   -- a call that is none on mounts, and submits, decides, spends and opens nothing

@@ -111,6 +111,7 @@ opened_kept devices p journal some kept are zeroth none undecided unopened empty
       marks = λ place. refl;
       chains = refl;
       live = λ n. live_first n devices some ∙ or_none (nat_eq n 0);
+      lawful = λ i s at. cc;
     } in
     let same : ◌≡◌ {A = Line} line (line_of p) = λ i. record { domains = sym are i; gone = sym zeroth i; waiting = sym none i; outcomes = sym undecided i; failures = sym unopened i } in
     record {

@@ -163,9 +163,9 @@ module _ (journal journal' : Noted) (p : Pipeline) (is : IsKept journal p) (clie
   is_front : slice_get (sents done) (length (outcomes done)) ≡ front
   is_front = ap (slice_get (sents done)) count
 
-  module _ (none : length p.waiting.items ≤ length p.outcomes.items - p.gone) where
+  module _ (none : length p.waiting.items ≤ 0) where
     nothing_left : front ≡ None
-    nothing_left = slice_get_none (sents done) (length p.outcomes.items) (omega (arith, none, length-submissions journal.log journal.marks (line_of p) is.current, is.current.sound.behind))
+    nothing_left = slice_get_none (sents done) (length p.outcomes.items) (omega (arith, none, length-submissions journal.log journal.marks (line_of p) is.current, is.let_go))
 
     nothing_decided : decided_by here done Pump ≡ []
     nothing_decided = kept_decides journal p is 1 ∙ ap (λ (o : Option Sent). decide_front here lives (sents done) p.outcomes.items o ++ []) nothing_left
@@ -183,17 +183,17 @@ module _ (journal journal' : Noted) (p : Pipeline) (is : IsKept journal p) (clie
     pub pumped_kept : AllKept p'.domains.items → p'.gone ≡ length p'.outcomes.items → ((k : ℕ) → mark_at journal'.marks k ≡ mark_at journal.marks k) → IsKept journal' p'
     pumped_kept kept gone marks = decided_kept journal journal' p p' is client Pump 1 log one_decided refl (kept_decides journal p is 1) refl (λ k. refl) refl kept gone marks
 
-    module _ (receipt : Receipt) (number : receipt.number ≡ length p.outcomes.items + 1) (of_domain : option_map (λ (s : Submission). s.domain) (slice_get p.waiting.items (length p.outcomes.items - p.gone)) ≡ Some receipt.domain) where
+    module _ (receipt : Receipt) (number : receipt.number ≡ length p.outcomes.items + 1) (of_domain : option_map (λ (s : Submission). s.domain) (slice_get p.waiting.items 0) ≡ Some receipt.domain) where
       -- the submission that is decided, as the log has it
-      its_front : (s : Submission) → slice_get p.waiting.items (length p.outcomes.items - p.gone) ≡ Some s → front ≡ Some (sent_of s)
+      its_front : (s : Submission) → slice_get p.waiting.items 0 ≡ Some s → front ≡ Some (sent_of s)
       its_front s there =
-          let place : p.gone + (length p.outcomes.items - p.gone) ≡ length p.outcomes.items = omega (arith, is.current.sound.behind) in
-          ap (slice_get (sents done)) (sym place) ∙ kept_sent journal p is (length p.outcomes.items - p.gone) s there
+          let place : p.gone + 0 ≡ length p.outcomes.items = omega (arith, is.let_go) in
+          ap (slice_get (sents done)) (sym place) ∙ kept_sent journal p is 0 s there
 
-      waits : length p.outcomes.items - p.gone < length p.waiting.items → (s : Submission) × (slice_get p.waiting.items (length p.outcomes.items - p.gone) ≡ Some s)
-      waits within = slice_get_some p.waiting.items (length p.outcomes.items - p.gone) within
+      waits : 0 < length p.waiting.items → (s : Submission) × (slice_get p.waiting.items 0 ≡ Some s)
+      waits within = slice_get_some p.waiting.items 0 within
 
-      pub pumped_made : (o : Outcome) → length journal.log < 1000000 → length p.outcomes.items - p.gone < length p.waiting.items → slice_get p'.outcomes.items (length p.outcomes.items) ≡ Some o
+      pub pumped_made : (o : Outcome) → length journal.log < 1000000 → 0 < length p.waiting.items → slice_get p'.outcomes.items (length p.outcomes.items) ≡ Some o
           → Made (known_of journal p) (known_of journal' p') (record { client = client; number = entries_of journal.log client; call = Pump }) (Decided receipt.number receipt.domain o)
       pumped_made o room within at =
           let (s, there) = waits within in
@@ -208,7 +208,7 @@ module _ (journal journal' : Noted) (p : Pipeline) (is : IsKept journal p) (clie
           ∙ (λ i. Decided (sym number i) (domain i) o))
 
       -- its receipt was given
-      pub pumped_given : length p.outcomes.items - p.gone < length p.waiting.items → IsGiven (known_of journal' p') receipt
+      pub pumped_given : 0 < length p.waiting.items → IsGiven (known_of journal' p') receipt
       pumped_given within =
           let place : receipt.number - 1 ≡ length p.outcomes.items = omega (arith, number) in
           let (s, there) = waits within in

@@ -4,6 +4,7 @@ use Rattle.std.specs.Prelude.{slice_get, unwrap_or, ◌||◌}
 use Rattle.std.specs.Option.{option_map, option_to_list}
 use Rattle.std.proofs.lemmas.List.{length-map}
 use Rattle.std.proofs.lemmas.Option.{same_Some}
+use Rattle.sal_types.specs.declared.row.Row.{Row}
 use Rattle.sal_rows.specs.declared.op.Op.{Op}
 use Rattle.sal_rows.specs.Apply.{apply_ops, rows_of_act}
 use Rattle.sal_rows.specs.declared.outcome.CallFault.{CallFault}
@@ -26,6 +27,8 @@ use Rattle.sal_history.specs.declared.reply.Reply.TheVariants.{Receipt, Refused}
 use Rattle.sal_history.specs.World as world
 use Rattle.sal_history.specs.History.{Answered, commits, entries_of, nowhere, outcomes, reply_to, sent_by, sents, spends, submitted}
 use Rattle.sal_history.specs.Submissions.{Base, Sent}
+use Rattle.sal_closed.specs.Lawful.{AreLawful as AreSentOver}
+use Rattle.sal_closed.specs.Logs.{IsSentLawful}
 use Rattle.sal_hub.specs.declared.pipeline.Pipeline.{Pipeline}
 use Rattle.sal_hub.specs.Answers.{Fails, Made}
 use Rattle.sal_hub.specs.Current.{IsCurrent, IsKept, answers, known_of}
@@ -46,6 +49,11 @@ use Rattle.sal_hub.proofs.Starting.{same_rows}
 lie_below : (table : SchemaTable) (base : Pair) (earlier ops : List Op) → AreLawful table base earlier ops → LieBelow ops
 lie_below table base earlier [] l = tt
 lie_below table base earlier (op ∷ ops) l = (lie_under table op.path (rows_of_act op.act) l.0.0.rows, lie_below table base (earlier ++ op ∷ []) ops l.1)
+
+-- the operations of a transaction are lawful, as the log has it
+as_sent : (table : SchemaTable) (base : Pair) (earlier ops : List Op) → AreLawful table base earlier ops → AreSentOver table (λ s. tx_rows base s) earlier ops
+as_sent table base earlier [] l = tt
+as_sent table base earlier (op ∷ ops) l = (l.0, as_sent table base (earlier ++ op ∷ []) ops l.1)
 
 pub swapped : (a b : Bool) → (a || b) ≡ (b || a)
 swapped true true = refl
@@ -180,10 +188,19 @@ module _ (journal journal' : Noted) (p p' : Pipeline) (is : IsKept journal p) (c
       ∙ ap (λ (o : Option Base). Some (let s : Sent = record { base = unwrap_or o nowhere; ops = tx.changes } in s)) token.began
       ∙ (λ i. Some (let s : Sent = record { base = record { domain = tx.begun.domain; commit = tx.begun.base_commit; chain = tx.begun.chain; trees = λ store. same_rows tx.base store i }; ops = tx.changes } in s))
 
+  -- it is lawful over what its transaction stands on
+  sub_lawful : IsSentLawful new_world (sent_of sub)
+  sub_lawful =
+      subst (λ (trees : Store → List Row). AreSentOver (world.table_of new_world tx.begun.domain) trees [] tx.changes) (λ i store. same_rows tx.base store i)
+      (subst (λ (table : SchemaTable). AreSentOver table (λ s. tx_rows tx.base s) [] tx.changes) token.schema (as_sent tx.begun.schema.value tx.base [] tx.changes right.lawful))
+
+  lawful_now : (s : Sent) → sent_by before (Submit tx.begun.place tx.changes) (reply_to new_world before client (Submit tx.begun.place tx.changes)) ≡ Some s → IsSentLawful new_world s
+  lawful_now s e = subst (IsSentLawful new_world) (same_Some (sent_of sub) s (sym sent_now ∙ e)) sub_lawful
+
   current_now : IsCurrent (journal.log ++ made_entry ∷ []) journal'.marks more
   current_now =
       pushed journal.log journal.marks (line_of p) is.current made_entry more journal'.marks
-      (subst (λ (o : Option Sent). IsSound (sents before ++ option_to_list o) more) (sym sent_now) (sound-longer (sents before) (line_of p) is.current.sound sub stands refl)) refl
+      (subst (λ (o : Option Sent). IsSound (sents before ++ option_to_list o) more) (sym sent_now) (sound-longer (sents before) (line_of p) is.current.sound sub stands refl), lawful_now) refl
       (sym (append-nil (line_of p).outcomes))
       (λ k.
       marks k ∙ swapped (nat_eq tx.begun.place k) (mark_at journal.marks k)

@@ -13,6 +13,7 @@
 //! | `Hub::mark`, `after`, `has_mark` | the same, of marks, by which clients can tell each other how far they are; and a look that makes no entry |
 //! | `Receipt`, `Chain`, `ListenerId`, `CallId` | the tokens of a submission, of a chain, of a listener and of a request |
 //! | `Seen` | what a look for a mark finds |
+//! | `Hub::stays_closed` | does nothing: its contract is the law that committed trees are closed by their schemas, where the openings are |
 //! | `laws` | a function that does nothing, with a law of the tokens as its contract |
 //!
 //! Each call tests first that the log has room, then takes all memory that it needs, and changes what is seen last and all at
@@ -24,7 +25,8 @@
 //! copied once, for the entry, and the commit has the same list.
 //!
 //! What is kept beside the log is tied to it by `specs/Current`: the submissions that wait, the outcomes, the marks of spent
-//! transactions and the flags of live domains are those of the answered log, and `specs/Lines` says that the commits of each
+//! transactions and the flags of live domains are those of the answered log, and each submission is lawful over what its
+//! transaction stands on (`sal_closed`); `specs/Lines` says that the commits of each
 //! domain, and the receipts by which chains failed, are those that the outcomes tell. What is kept of chains is tied to the log by
 //! `specs/Chains`, what is kept of listeners by `specs/Listeners`, the marks that were left by `specs/Marks`, and what each
 //! service keeps of its calls by `specs/Services`; `specs/Whole` has them all.
@@ -73,6 +75,7 @@ mod call_id;
 mod chain;
 mod chain_calls;
 mod chains;
+mod closed;
 mod counts;
 mod devices;
 mod failures;

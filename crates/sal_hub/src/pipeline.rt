@@ -207,7 +207,7 @@ fn drop_first(waiting: &mut VecDeque<Submission>, count: usize)
     ensures { waiting.new.items ≡ drop count waiting.old.items }
 {
     for _ in 0..count {
-        let _ = waiting.pop_front();
+        drop(waiting.pop_front());
     }
 }
 

@@ -57,28 +57,24 @@ pub(crate) fn pump(
     ensures given { IfOk result (λ decided. IfSome decided (λ d. IsGiven (known_of journal.new pipeline.new) d.0)) }
 {
     let decided = pipeline.outcomes.len();
-    if decided - pipeline.gone >= pipeline.waiting.len() {
+    if pipeline.waiting.is_empty() {
         return match journal.add(client, Call::Pump) {
             Ok(()) => Ok(None),
             Err(NoMemory) => Err(CallFault::NoMemory),
         };
     }
-    let receipt = receipt_at(
-        &pipeline.waiting,
-        decided - pipeline.gone,
-        decided as u64 + 1,
-    );
+    let receipt = first_receipt(&pipeline.waiting, decided as u64 + 1);
     match pipeline.settle(alloc, journal, client, Call::Pump, decided + 1) {
         Ok(outcome) => Ok(Some((receipt, outcome))),
         Err(NoMemory) => Err(CallFault::NoMemory),
     }
 }
 
-// The receipt of this number, of the submission at the index.
-fn receipt_at(waiting: &VecDeque<Submission>, index: usize, number: u64) -> Receipt
-    requires { index < length waiting.now.items }
+// The receipt of this number, of the first submission.
+fn first_receipt(waiting: &VecDeque<Submission>, number: u64) -> Receipt
+    requires { 0 < length waiting.now.items }
     ensures number { result.number ≡ number }
-    ensures domain { option_map (λ (s : Sent). s.domain) (slice_get waiting.now.items index) ≡ Some result.domain }
+    ensures domain { option_map (λ (s : Sent). s.domain) (slice_get waiting.now.items 0) ≡ Some result.domain }
 {
-    Receipt::of(number, waiting[index].domain)
+    Receipt::of(number, waiting[0].domain)
 }

@@ -41,7 +41,7 @@ pub(crate) fn submit(
 {
     match refusal(pipeline, journal, tx.begun().place as usize) {
         Some(fault) => match note(alloc, journal, client, &tx) {
-            Ok(_) => Err((tx, fault)),
+            Ok(()) => Err((tx, fault)),
             Err(NoMemory) => Err((tx, CallFault::NoMemory)),
         },
         None => match accept(alloc, pipeline, journal, client, tx) {
@@ -65,8 +65,19 @@ fn refusal(pipeline: &Pipeline, journal: &Journal, place: usize) -> Option<CallF
     None
 }
 
+// Adds the entry of a submit.
+fn note(alloc: Global, journal: &mut Journal, client: u32, tx: &WriteTx) -> Result<(), NoMemory>
+    requires { length journal.old.log < limit }
+    ensures log { OnOk result (journal.new.log ≡ jotted journal.old.log client (Submit tx.now.begun.place tx.now.changes)) }
+    ensures marks { OnOk result ((k : ℕ) → mark_at journal.new.marks k ≡ mark_at journal.old.marks k) }
+    ensures err { OnErr result (journal.new ≡ journal.old) }
+{
+    let _list = note_list(alloc, journal, client, tx)?;
+    Ok(())
+}
+
 // Adds the entry of a submit, and gives the list of the operations that it has.
-fn note(
+fn note_list(
     alloc: Global,
     journal: &mut Journal,
     client: u32,
@@ -126,7 +137,7 @@ fn accept(
         Ok(()) => {}
         Err(_) => return Err(tx),
     }
-    let list = match note(alloc, journal, client, &tx) {
+    let list = match note_list(alloc, journal, client, &tx) {
         Ok(list) => list,
         Err(NoMemory) => return Err(tx),
     };

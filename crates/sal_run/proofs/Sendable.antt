@@ -16,6 +16,7 @@ use Rattle.sal_rows.proofs.op.Op.TheSendSync as Op-here
 use Rattle.sal_rows.proofs.outcome.Outcome.TheSendSync as Outcome-here
 use Rattle.sal_rows.proofs.outcome.Mode.TheSendSync as Mode-here
 use Rattle.sal_mod.proofs.changes.Mod.TheSendSync as Mod-here
+use Rattle.sal_tx.proofs.changes.Changes.TheSendSync as Changes-here
 use Rattle.sal_hub.proofs.journal.Journal.TheSendSync as Journal-here
 use Rattle.sal_hub.proofs.chains.Chains.TheSendSync as Chains-here
 use Rattle.sal_hub.proofs.marks.Marks.TheSendSync as Marks-here
@@ -133,7 +134,7 @@ Tx-send : IsSend Tx.the_row
 Tx-send = search (ReadTx-field_send, WriteTx-send, crosses, maps.crosses, sendable) depth 40 fits 20000
 
 Submission-send : IsSend Submission.the_row
-Submission-send = search (Pair-field_send, Mod-here.the_send, crosses, maps.crosses, sendable) depth 40 fits 20000
+Submission-send = search (Pair-field_send, Changes-here.the_send, crosses, maps.crosses, sendable) depth 40 fits 20000
 
 Domain-send : IsSend Domain.the_row
 Domain-send = search (Schema-send, Schema-sync, Commit-send, Plan-field_send, crosses, maps.crosses, sendable) depth 40 fits 20000

@@ -1,12 +1,10 @@
-//! Tests of the libraries that lead from YANG texts to schemas: of what no clause of theirs says, and of worked examples.
+//! Tests of the libraries that lead from YANG texts to schemas: of what no clause of theirs says and no case of the command shows.
 #![tactic(auto)]
 
 #[cfg(test)]
-mod build;
-#[cfg(test)]
-mod grouping;
-#[cfg(test)]
 mod io;
+#[cfg(test)]
+mod lines;
 #[cfg(test)]
 mod module;
 #[cfg(test)]
@@ -17,7 +15,5 @@ mod stmt;
 mod table;
 #[cfg(test)]
 mod texts;
-#[cfg(test)]
-mod typedefs;
 #[cfg(test)]
 mod types;

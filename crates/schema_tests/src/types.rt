@@ -26,16 +26,23 @@ fn entry_step(alloc: Global) -> Result<Step, Fail> {
     Ok(Step::Key(Seq::from_items(keys)))
 }
 
+fn pushed(path: &mut Path, step: Step) -> Result<(), Fail> {
+    match path.push(step) {
+        Ok(()) => Ok(()),
+        Err(_) => Err("no room".into()),
+    }
+}
+
 fn node(alloc: Global, number: u32) -> Result<Path, Fail> {
     let mut path = Path::root(alloc);
-    path.push(Step::Node(number))?;
+    pushed(&mut path, Step::Node(number))?;
     Ok(path)
 }
 
 /// The entry of node 2 with a text and bytes as its keys.
 fn entry(alloc: Global) -> Result<Path, Fail> {
     let mut path = node(alloc, 2)?;
-    path.push(entry_step(alloc)?)?;
+    pushed(&mut path, entry_step(alloc)?)?;
     Ok(path)
 }
 
@@ -63,50 +70,49 @@ fn a_copied_row_is_the_same_row(rt: HostRuntime) -> Result<(), Fail> {
     Ok(())
 }
 
-/// How two paths are ordered, and whether either is a prefix of the other.
-fn compared(first: Path, second: Path) -> (Ordering, bool, bool) {
-    (
-        first.cmp(&second),
-        first.is_prefix_of(&second),
-        second.is_prefix_of(&first),
-    )
+/// Whether a path goes ahead of another one, and whether it is a prefix of it; the other one is no prefix of the first.
+fn goes_ahead(first: &Path, second: &Path, is_prefix: bool) -> bool {
+    matches!(first.cmp(second), Ordering::Less)
+        && first.is_prefix_of(second) == is_prefix
+        && !second.is_prefix_of(first)
 }
 
-fn above_and_entry(alloc: Global) -> Result<(Ordering, bool, bool), Fail> {
+fn is_behind_its_list(alloc: Global, entry: &Path) -> Result<bool, Fail> {
     let above = node(alloc, 2)?;
-    Ok(compared(above, entry(alloc)?))
+    Ok(goes_ahead(&above, entry, true))
 }
 
-fn entry_and_later(alloc: Global) -> Result<(Ordering, bool, bool), Fail> {
+fn is_ahead_of_a_later_node(alloc: Global, entry: &Path) -> Result<bool, Fail> {
     let later = node(alloc, 10)?;
-    Ok(compared(entry(alloc)?, later))
+    Ok(goes_ahead(entry, &later, false))
+}
+
+fn is_entry_in_order(alloc: Global) -> Result<bool, Fail> {
+    let entry = entry(alloc)?;
+    Ok(is_behind_its_list(alloc, &entry)? && is_ahead_of_a_later_node(alloc, &entry)?)
 }
 
 // By step; nodes by number, entries by their keys; a path before the paths that it is a prefix of.
 #[test]
 fn paths_go_step_by_step(rt: HostRuntime) -> Result<(), Fail> {
-    assert_eq!(rt; above_and_entry(rt.alloc())?, (Ordering::Less, true, false));
-    assert_eq!(rt;
-        entry_and_later(rt.alloc())?,
-        (Ordering::Less, false, false)
-    );
+    assert!(rt; is_entry_in_order(rt.alloc())?);
     Ok(())
 }
 
-/// How many steps a path has after so many pushes, and how often a push was one too many.
-fn pushed(path: &mut Path, count: u32) -> (usize, u32) {
+/// How often a push was one too many, of so many pushes.
+fn refusals(path: &mut Path, count: u32) -> u32 {
     let mut refused = 0_u32;
     for _i in 0..count {
         if path.push(Step::Node(1)) == Err(PathFault::TooDeep) {
             refused = refused.saturating_add(1);
         }
     }
-    (path.steps().len(), refused)
+    refused
 }
 
 #[test]
 fn a_33rd_step_is_too_deep(rt: HostRuntime) {
     let mut path = Path::root(rt.alloc());
-    assert_eq!(rt; pushed(&mut path, 32), (32, 0));
-    assert_eq!(rt; pushed(&mut path, 1), (32, 1));
+    assert!(rt; refusals(&mut path, 32) == 0 && path.steps().len() == 32);
+    assert!(rt; refusals(&mut path, 1) == 1 && path.steps().len() == 32);
 }

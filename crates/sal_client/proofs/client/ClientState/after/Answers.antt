@@ -1,23 +1,14 @@
 -- A look for a mark changes no slot.
-use Rattle.std.proofs.Common.{refl, ap, sym, ◌∙◌, subst}
+use Rattle.std.proofs.Common.{refl, subst}
 use Rattle.sal_history.specs.declared.call.Call.TheVariants.{After as AfterCall}
-use Rattle.sal_script.specs.Moves.{After}
-use Rattle.sal_script.specs.declared.reply.StepReply.TheVariants.{Called}
-use Rattle.sal_hub.specs.Known.{Known, entry_of}
-use Rattle.sal_client.specs.Clients.{IsSound, client_of}
-use Rattle.sal_client.proofs.Soundness.{IsSound-more}
-use Rattle.sal_client.proofs.Answering.{called}
+use Rattle.sal_hub.specs.Seen.{seen_reply}
+use Rattle.sal_client.specs.declared.wish.Wish.TheVariants.{After}
+use Rattle.sal_client.specs.Answers.{IsAnswer}
+use Rattle.sal_client.proofs.Leaving.{leaves_slots}
 use Rattle.sal_client.proofs.client.ClientState.after.Goals as goal
 
-pub returns-in-Ok-clause-answers : goal.returns-in-Ok-clause-answers
-returns-in-Ok-clause-answers c tables =
-    let client = c.args.self.now in
-    let known = c.args.hub.now in
-    let call = AfterCall c.args.mark in
-    (call, called tables c.called.result client.number known (client_of client) (After c.args.mark) c.after.new.self (client_of client) call _ refl c.in-Ok.ensures.answer (c.called.ensures ∙ ap Called c.looked.ensures) refl)
-
-pub returns-in-Ok-clause-sound : goal.returns-in-Ok-clause-sound
-returns-in-Ok-clause-sound c =
-    let client = c.args.self.now in
-    let known = c.args.hub.now in
-    subst (λ (k : Known). IsSound k client) (sym c.in-Ok.ensures.answer.log) (IsSound-more (c.tokens_last.ensures.begun, c.tokens_last.ensures.given, c.tokens_last.ensures.opened, c.tokens_last.ensures.called) known (entry_of known client.number (AfterCall c.args.mark)) client refl c.requires.sound)
+pub returns : goal.returns
+returns c =
+    let last = c.tokens_last.ensures in
+    leaves_slots (After c.args.mark) c.args.hub.now c.after.new.self c.args.self.now (AfterCall c.args.mark) (last.begun, last.given, last.opened, last.called) refl c.requires.sound (λ tables read. refl) (λ r. refl)
+    seen_reply c.after.result c.answer_to.result c.after.ensures.answer (subst (λ q. IsAnswer q c.answer_to.result) c.looked.ensures c.answer_to.ensures)

@@ -10,23 +10,18 @@ use Rattle.sal_client.specs.declared.wish.Wish.TheVariants.{Rpc}
 use Rattle.sal_client.specs.Answers.{IsAnswer, said}
 use Rattle.sal_client.specs.Slots.{held}
 use Rattle.sal_client.specs.Clients.{client_of, request_of}
-use Rattle.sal_client.proofs.Quiet.{quiet_answers, quiet_sound}
+use Rattle.sal_client.proofs.Leaving.{leaves_slots}
 use Rattle.sal_client.proofs.client.ClientState.collect.Goals as goal
 
 pub collect-requires : goal.collect-requires
 collect-requires c = record { token = c.requires.sound.invoked c.args.slot c.in-Some.id.now (sym c.in-Some.ensures) }
 
-pub returns-clause-answers : goal.returns-clause-answers
-returns-clause-answers c =
+pub returns : goal.returns
+returns c =
     let client = c.args.self.now in
     let id = c.in-Some.id.now in
     let found : held client.invoked c.args.slot ≡ Some id = sym c.in-Some.ensures in
-    quiet_answers client c.args.hub.now c.collect.new.self (CollectCall id.number) (collect_reply id.rpc) (Rpc (Collect c.args.slot)) (λ tables read. ap (λ o. ask (collect (option_map request_of o)) (client_of client)) found) (λ r. refl)
-    c.collect.result c.answer_to.result c.collect.ensures.answer (subst (λ q. IsAnswer q c.answer_to.result) (c.output.ensures ∙ ap (λ n. said (collect_reply n) c.collect.result) c.rpc.ensures) c.answer_to.ensures)
-
-pub returns-clause-sound : goal.returns-clause-sound
-returns-clause-sound c =
-    let id = c.in-Some.id.now in
     let last = c.tokens_last.ensures in
-    quiet_sound c.args.self.now c.args.hub.now c.collect.new.self (CollectCall id.number) (collect_reply id.rpc) (last.begun, last.given, last.opened, last.called) refl c.requires.sound c.collect.result c.answer_to.result c.collect.ensures.answer
+    leaves_slots (Rpc (Collect c.args.slot)) c.args.hub.now c.collect.new.self client (CollectCall id.number) (last.begun, last.given, last.opened, last.called) refl c.requires.sound
+    (λ tables read. ap (λ o. ask (collect (option_map request_of o)) (client_of client)) found) (λ r. refl) (collect_reply id.rpc) c.collect.result c.answer_to.result c.collect.ensures.answer
     (subst (λ q. IsAnswer q c.answer_to.result) (c.output.ensures ∙ ap (λ n. said (collect_reply n) c.collect.result) c.rpc.ensures) c.answer_to.ensures)

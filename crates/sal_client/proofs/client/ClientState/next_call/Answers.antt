@@ -1,30 +1,30 @@
 -- The request stands in its slot, if one waited.
-use Rattle.std.proofs.Common.{length, refl, ap, sym, ◌∙◌, subst}
+use Rattle.std.proofs.Common.{◌∙◌, ap, length, refl}
 use Rattle.sal_history.specs.declared.call.Call.TheVariants.{NextCall as NextCallCall}
 use Rattle.sal_script.specs.declared.reply.StepReply.TheVariants.{Called}
-use Rattle.sal_hub.specs.Known.{Known, entry_of}
 use Rattle.sal_client.specs.declared.rpcs.RpcWish.TheVariants.{NextCall}
+use Rattle.sal_client.specs.declared.wish.Wish.TheVariants.{Rpc}
 use Rattle.sal_client.specs.Slots.{held}
-use Rattle.sal_client.specs.Clients.{IsSound, client_of}
-use Rattle.sal_client.specs.Wishes.{rpc_move}
 use Rattle.sal_client.proofs.Invoked.{kept_handed}
-use Rattle.sal_client.proofs.Soundness.{IsSound-more, IsSound-same}
-use Rattle.sal_client.proofs.Answering.{called}
+use Rattle.sal_client.proofs.Soundness.{IsSound-same}
+use Rattle.sal_client.proofs.Leaving.{leaves_made, leaves_refused, sound_behind}
 use Rattle.sal_client.proofs.client.ClientState.next_call.Goals as goal
 
-pub returns-in_ok-put_handed-in-Ok-clause-answers : goal.returns-in_ok-put_handed-in-Ok-clause-answers
-returns-in_ok-put_handed-in-Ok-clause-answers c tables read =
-    let old = c.args.self.now in
-    let known = c.args.hub.now in (
-      NextCallCall,
-      called tables c.called.result old.number known (client_of old) (rpc_move (NextCall c.args.slot)) c.next_call.new.self _ NextCallCall _ refl c.in-Ok.ensures.answer (c.called.ensures ∙ ap Called c.handed.ensures)
-          (kept_handed old (held c.put_handed.new.slots) c.args.slot (length known.log) c.in-Ok.found c.in_ok-put_handed-in-Ok.ensures),
-    )
-
-pub returns-in_ok-put_handed-in-Ok-clause-sound : goal.returns-in_ok-put_handed-in-Ok-clause-sound
-returns-in_ok-put_handed-in-Ok-clause-sound c =
+pub returns-in_ok-put_handed-in-Ok : goal.returns-in_ok-put_handed-in-Ok
+returns-in_ok-put_handed-in-Ok c =
     let old = c.args.self.now in
     let known = c.args.hub.now in
+    let wish = Rpc (NextCall c.args.slot) in
+    let made = c.in-Ok.ensures.answer in
     let last = c.tokens_last.ensures in
-    let was : IsSound c.next_call.new.self old = subst (λ (k : Known). IsSound k old) (sym c.in-Ok.ensures.answer.log) (IsSound-more (last.begun, last.given, last.opened, last.called) known (entry_of known old.number NextCallCall) old refl c.requires.sound) in
-    IsSound-same c.next_call.new.self old _ was refl refl refl (refl, refl, refl)
+    let was = sound_behind wish known c.next_call.new.self old NextCallCall (last.begun, last.given, last.opened, last.called) refl _ made c.requires.sound in
+    leaves_made wish known c.next_call.new.self old NextCallCall _ (record { number = refl; replies = refl }) (λ tables read. refl) _ c.called.result made (c.called.ensures ∙ ap Called c.handed.ensures)
+    (kept_handed old (held c.put_handed.new.slots) c.args.slot (length known.log) c.in-Ok.found c.in_ok-put_handed-in-Ok.ensures) (IsSound-same c.next_call.new.self old _ was refl refl refl (refl, refl, refl))
+
+pub returns-in-Err : goal.returns-in-Err
+returns-in-Err c =
+    let old = c.args.self.now in
+    let wish = Rpc (NextCall c.args.slot) in
+    let last = c.tokens_last.ensures in
+    leaves_refused wish c.args.hub.now c.next_call.new.self old NextCallCall old (record { number = refl; replies = refl }) (λ tables read. refl) c.in-Err.fault c.refused_call.result c.in-Err.ensures.answer c.refused_call.ensures refl
+    (λ made. sound_behind wish c.args.hub.now c.next_call.new.self old NextCallCall (last.begun, last.given, last.opened, last.called) refl _ made c.requires.sound)

@@ -1,16 +1,13 @@
--- The listener stands in its slot at the end of the batch.
-use Rattle.std.proofs.Common.{◌≡◌, Some, refl, ap, sym, ◌∙◌, subst}
-use Rattle.std.specs.Option.{option_map}
+-- The listener's rows come to where the batch ends.
+use Rattle.std.proofs.Common.{◌≡◌, ◌∙◌, Some, ap, refl, sym}
 use Rattle.sal_history.specs.declared.call.Call.TheVariants.{Take as TakeCall}
-use Rattle.sal_history.specs.declared.reply.Reply.TheVariants.{Batch, Refused}
-use Rattle.sal_script.specs.Moves.{Take}
+use Rattle.sal_history.specs.declared.reply.Reply.TheVariants.{Batch}
 use Rattle.sal_script.specs.declared.reply.StepReply.TheVariants.{Called}
-use Rattle.sal_hub.specs.Known.{Known, entry_of}
+use Rattle.sal_client.specs.declared.wish.Wish.TheVariants.{Take}
 use Rattle.sal_client.specs.Slots.{held}
-use Rattle.sal_client.specs.Clients.{IsSound, client_of}
-use Rattle.sal_client.proofs.Answering.{called, made_refused}
-use Rattle.sal_client.proofs.Following.{told_from, token_of}
+use Rattle.sal_client.proofs.Following.{token_of}
 use Rattle.sal_client.proofs.Heard.{kept_taken, met_take, sound_refused, sound_taken}
+use Rattle.sal_client.proofs.Leaving.{leaves_made, leaves_refused}
 use Rattle.sal_client.proofs.client.ClientState.take.Goals as goal
 
 pub take-requires : goal.take-requires
@@ -19,41 +16,24 @@ take-requires c =
     let f = c.in-Some.follower.now in
     record { token = token_of c.args.hub.now old.number f (c.requires.sound.listeners c.args.slot f (sym c.in-Some.ensures)) }
 
-pub returns-in_ok-advance_in-in-Ok-clause-answers : goal.returns-in_ok-advance_in-in-Ok-clause-answers
-returns-in_ok-advance_in-in-Ok-clause-answers c tables =
+pub returns-in_ok-advance_in-in-Ok : goal.returns-in_ok-advance_in-in-Ok
+returns-in_ok-advance_in-in-Ok c =
     let old = c.args.self.now in
     let known = c.args.hub.now in
     let f = c.in-Some.follower.now in
     let found : held old.listeners c.args.slot ≡ Some f = sym c.in-Some.ensures in
     let (g, goes, filled) = c.in_ok-advance_in-in-Ok.ensures f found in
-    let call = TakeCall f.id.number in (
-      call,
-      called tables c.called.result old.number known (client_of old) (Take c.args.slot) c.take.new.self _ call _ (met_take tables known old c.args.slot f found) c.in-Ok.ensures.answer
-          (c.called.ensures ∙ ap (λ d. Called (Batch d c.in-Ok.batch)) c.domain-domain.ensures) (kept_taken old (held c.advance_in.new.listeners) c.args.slot f g c.in-Ok.batch found goes filled),
-    )
+    let last = c.tokens_last.ensures in
+    leaves_made (Take c.args.slot) known c.take.new.self old (TakeCall f.id.number) _ (record { number = refl; replies = refl }) (λ tables read. met_take tables known old c.args.slot f found) _ c.called.result c.in-Ok.ensures.answer
+    (c.called.ensures ∙ ap (λ d. Called (Batch d c.in-Ok.batch)) c.domain-domain.ensures) (kept_taken old (held c.advance_in.new.listeners) c.args.slot f g c.in-Ok.batch found goes filled)
+    (sound_taken (last.begun, last.given, last.opened, last.called) known c.take.new.self old _ c.args.slot c.requires.sound refl refl refl refl refl f g c.in-Ok.batch found c.in-Ok.ensures.answer goes filled)
 
-pub returns-in_ok-advance_in-in-Ok-clause-sound : goal.returns-in_ok-advance_in-in-Ok-clause-sound
-returns-in_ok-advance_in-in-Ok-clause-sound c =
-    let old = c.args.self.now in
-    let f = c.in-Some.follower.now in
-    let found : held old.listeners c.args.slot ≡ Some f = sym c.in-Some.ensures in
-    let (g, goes, filled) = c.in_ok-advance_in-in-Ok.ensures f found in
-    sound_taken (c.tokens_last.ensures.begun, c.tokens_last.ensures.given, c.tokens_last.ensures.opened, c.tokens_last.ensures.called) c.args.hub.now c.take.new.self old _ c.args.slot c.requires.sound refl refl refl refl refl f g c.in-Ok.batch found c.in-Ok.ensures.answer goes filled
-
-pub returns-in_ok-reply-in-Err-clause-answers : goal.returns-in_ok-reply-in-Err-clause-answers
-returns-in_ok-reply-in-Err-clause-answers c tables =
+pub returns-in-Err : goal.returns-in-Err
+returns-in-Err c =
     let old = c.args.self.now in
     let known = c.args.hub.now in
     let f = c.in-Some.follower.now in
     let found : held old.listeners c.args.slot ≡ Some f = sym c.in-Some.ensures in
-    let call = TakeCall f.id.number in
-    let made = made_refused known c.take.new.self (entry_of known old.number call) c.in-Err.fault c.in-Err.ensures.answer c.in_ok-reply-in-Err.ensures.full c.in_ok-reply-in-Err.ensures.memory in
-    (call, called tables c.in_ok-reply-in-Err.reply old.number known (client_of old) (Take c.args.slot) c.take.new.self (client_of old) call (Refused c.in-Err.fault) (met_take tables known old c.args.slot f found) made c.in_ok-reply-in-Err.ensures.reply refl)
-
-pub returns-in_ok-reply-in-Err-clause-sound : goal.returns-in_ok-reply-in-Err-clause-sound
-returns-in_ok-reply-in-Err-clause-sound c =
-    let old = c.args.self.now in
-    let known = c.args.hub.now in
-    let e = entry_of known old.number (TakeCall c.in-Some.follower.now.id.number) in
-    let made = made_refused known c.take.new.self e c.in-Err.fault c.in-Err.ensures.answer c.in_ok-reply-in-Err.ensures.full c.in_ok-reply-in-Err.ensures.memory in
-    sound_refused (c.tokens_last.ensures.begun, c.tokens_last.ensures.given, c.tokens_last.ensures.opened, c.tokens_last.ensures.called) known c.take.new.self old c.in-Some.follower.now.id.number c.in-Err.fault c.requires.sound made
+    let last = c.tokens_last.ensures in
+    leaves_refused (Take c.args.slot) known c.take.new.self old (TakeCall f.id.number) old (record { number = refl; replies = refl }) (λ tables read. met_take tables known old c.args.slot f found) c.in-Err.fault c.refused_call.result c.in-Err.ensures.answer c.refused_call.ensures refl
+    (λ made. sound_refused (last.begun, last.given, last.opened, last.called) known c.take.new.self old f.id.number c.in-Err.fault c.requires.sound made)

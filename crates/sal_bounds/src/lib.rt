@@ -1,0 +1,18 @@
+//! How many nodes a commit makes.
+//!
+//! | item | what it is |
+//! |---|---|
+//! | `laws` | a function that does nothing, with the law as its contract |
+//!
+//! A node of a commit's tree that has the commit's own stamp stands on the way from the root to a row that the commit touches, the
+//! row itself counted, and on these ways are at most 33 nodes for each row. So a commit leaves no more than that behind it, however
+//! large the tree is (`specs/Way`).
+//!
+//! ```
+//! laws::stamps_lie_on_the_way();
+//! ```
+//!
+//! Costs: none, since nothing here runs.
+#![tactic(auto)]
+
+pub mod laws;

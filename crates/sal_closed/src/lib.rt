@@ -1,0 +1,22 @@
+//! Trees stay closed by their schema: what transactions that were not refused make of closed trees is closed.
+//!
+//! | item | what it is |
+//! |---|---|
+//! | `laws` | functions that do nothing, each with a law of the definitions as its contract |
+//!
+//! A tree is closed by a table (`is_closed` in `crates/sal_schema/specs/Fitting.antt`) where the path and the cell of each row
+//! fit, no row is part of an RPC or a notification, each list entry and presence container above a row has its own row, and
+//! each entry its key leafs, with the values of its keys. `specs/` says which operations are lawful over a base (`Lawful`),
+//! and has the laws as statements (`Laws`).
+//!
+//! ```
+//! laws::without_conflict_a_newer_tree_stays_closed();
+//! ```
+//!
+//! A transaction is checked over its base, and done to the newest trees, in which a parent of one of its paths may be gone. So
+//! the second law rests on the first test of a conflict, which looks for parents that are lost.
+//!
+//! Costs: none, since nothing here runs.
+#![tactic(auto)]
+
+pub mod laws;

@@ -1,0 +1,17 @@
+pub mod Answering
+pub mod Behind
+pub mod Counted
+pub mod Decided
+pub mod Deciding
+pub mod Ending
+pub mod Entries
+pub mod Loaded
+pub mod Phases
+pub mod Placing
+pub mod Program
+pub mod ReadNumbers
+pub mod ReadPath
+pub mod ReadValue
+pub mod Standing
+pub mod Summed
+pub mod Turning

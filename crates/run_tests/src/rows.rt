@@ -1,9 +1,9 @@
-use crate::boxes::{BOX, rows_of};
-use crate::tables::schema;
+use crate::boxes::{BOX, rows_of, schema};
 use sal_data::{fits_rows, write_data};
 use sal_rows::Rows;
 use sal_schema::Schema;
 use sal_types::{Duplicate, Path, Row};
+use serde_json::Value as Json;
 use std::alloc::Global;
 use std::fmt::Write;
 use std::test::Fail;
@@ -23,7 +23,7 @@ Leaf(Value { member: 0, atom: Bool(true) })
 Leaf(Value { member: 0, atom: Enum(5) })
 Leaf(Value { member: 0, atom: Bits(9223372036854775809) })
 Leaf(Value { member: 0, atom: Bin(Seq { vec: [0, 255, 16] }) })
-Leaf(Value { member: 0, atom: Ident(2) })
+Leaf(Value { member: 0, atom: Ident(1) })
 Leaf(Value { member: 0, atom: Empty })
 Leaf(Value { member: 0, atom: Unsigned(7) })
 Leaf(Value { member: 1, atom: Unsigned(7) })
@@ -70,16 +70,23 @@ fn push_cells(out: &mut String, rows: &Rows) -> Result<(), Fail> {
     Ok(())
 }
 
-fn cells_of(alloc: Global, rows: &Rows) -> Result<String, Fail> {
+fn cells(alloc: Global, rows: &Rows) -> Result<String, Fail> {
     let mut out = String::new(alloc);
     push_cells(&mut out, rows)?;
     Ok(out)
 }
 
-// What the rows of the text hold.
-fn cells(alloc: Global, schema: &Schema, text: &str) -> Result<String, Fail> {
+fn hold(alloc: Global, rows: &Rows, wanted: &str) -> Result<(), Fail> {
+    if cells(alloc, rows)?.as_str() != wanted {
+        return Err("other cells".into());
+    }
+    Ok(())
+}
+
+// Fails where the rows of the text hold something else.
+fn reads_as(alloc: Global, schema: &Schema, text: &str, wanted: &str) -> Result<(), Fail> {
     let rows = rows_of(alloc, schema, text)?;
-    cells_of(alloc, &rows)
+    hold(alloc, &rows, wanted)
 }
 
 fn add_without(list: &mut Vec<Row>, rows: &[Row], left_out: usize) -> Result<(), Fail> {
@@ -103,47 +110,57 @@ fn fits_without(alloc: Global, schema: &Schema, rows: &Rows, left_out: &str) -> 
     Ok(fits_rows(schema, &Path::root(alloc), &rows))
 }
 
-fn wrong_fit_of(alloc: Global, schema: &Schema, rows: &Rows) -> Result<&'static str, Fail> {
+fn all_fit(alloc: Global, schema: &Schema, rows: &Rows) -> Result<(), Fail> {
     for line in LEFT_OUT.lines() {
         let (left_out, wanted) = line.split_once(' ').ok_or("no answer")?;
         if fits_without(alloc, schema, rows, left_out)? != (wanted == "whole") {
-            return Ok(line);
+            return Err(line.into());
         }
     }
-    Ok("")
+    Ok(())
 }
 
-// The first row without which the others fit where they should not, or do not where they should, or an empty text.
-fn wrong_fit(alloc: Global, schema: &Schema) -> Result<&'static str, Fail> {
+// Fails with the first row without which the others fit where they should not, or do not where they should.
+fn all_fit_in_box(alloc: Global, schema: &Schema) -> Result<(), Fail> {
     let rows = rows_of(alloc, schema, BOX)?;
-    wrong_fit_of(alloc, schema, &rows)
+    all_fit(alloc, schema, &rows)
 }
 
-fn is_written(alloc: Global, schema: &Schema, rows: &Rows, other: &Rows) -> Result<bool, Fail> {
-    let Some(entry) = other.items().first() else {
-        return Ok(false);
-    };
-    let json = write_data(alloc, schema, &entry.path, rows)?;
-    Ok(json.to_string(alloc)?.as_str() == "{}")
+fn is_empty_object(alloc: Global, json: &Json) -> Result<(), Fail> {
+    if json.to_string(alloc)?.as_str() != "{}" {
+        return Err("an entry that is not there".into());
+    }
+    Ok(())
 }
 
-fn is_nothing_written_of(alloc: Global, schema: &Schema, other: &Rows) -> Result<bool, Fail> {
-    let rows = rows_of(alloc, schema, BOX)?;
-    is_written(alloc, schema, &rows, other)
+fn is_written_empty(alloc: Global, schema: &Schema, rows: &Rows, path: &Path) -> Result<(), Fail> {
+    let json = write_data(alloc, schema, path, rows)?;
+    is_empty_object(alloc, &json)
 }
 
-// Whether an entry that is not there is written as an empty object.
-fn is_nothing_written(alloc: Global, schema: &Schema) -> Result<bool, Fail> {
+// Fails where something is written of an entry that the rows do not have: the first of the other ones.
+fn is_absent(alloc: Global, schema: &Schema, rows: &Rows) -> Result<(), Fail> {
     let other = rows_of(alloc, schema, THIRD_SLOT)?;
-    is_nothing_written_of(alloc, schema, &other)
+    match other.items().first() {
+        Some(entry) => is_written_empty(alloc, schema, rows, &entry.path),
+        None => Err("no entry".into()),
+    }
+}
+
+fn third_slot_is_absent(alloc: Global, schema: &Schema) -> Result<(), Fail> {
+    let rows = rows_of(alloc, schema, BOX)?;
+    is_absent(alloc, schema, &rows)
+}
+
+fn all_kept(alloc: Global, schema: &Schema) -> Result<(), Fail> {
+    reads_as(alloc, schema, BOX, CELLS)?;
+    reads_as(alloc, schema, TEXTS, CELLS_OF_TEXTS)?;
+    all_fit_in_box(alloc, schema)?;
+    third_slot_is_absent(alloc, schema)
 }
 
 #[test]
 fn values_are_kept_and_entries_are_whole(rt: HostRuntime) -> Result<(), Fail> {
     let schema = schema(rt.alloc())?;
-    assert_eq!(rt; cells(rt.alloc(), &schema, BOX)?.as_str(), CELLS);
-    assert_eq!(rt; cells(rt.alloc(), &schema, TEXTS)?.as_str(), CELLS_OF_TEXTS);
-    assert_eq!(rt; wrong_fit(rt.alloc(), &schema)?, "");
-    assert!(rt; is_nothing_written(rt.alloc(), &schema)?);
-    Ok(())
+    all_kept(rt.alloc(), &schema)
 }

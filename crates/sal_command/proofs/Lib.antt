@@ -11,6 +11,7 @@ pub mod LoadWorld
 pub mod Numbered
 pub mod Numerals
 pub mod Roots
+pub mod SoundWorlds
 pub mod Statements
 pub mod Statuses
 pub mod Worlds

@@ -1,5 +1,6 @@
 pub mod Each
 pub mod Loads
+pub mod Openings
 pub mod Schemas
 pub mod Scripted
 pub mod Statuses

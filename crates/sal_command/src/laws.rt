@@ -1,8 +1,18 @@
 //! Laws on which the contracts of the command rest.
 ghost use Rattle.sal_command.specs.Loads as loads;
+ghost use Rattle.sal_command.specs.Openings.{WorldsAreSound};
 
 /// The script of a load is a script, whatever its two numbers are: its module is read, the modules build the table that
 /// `LoadExamples` of `sal_script` has, and nothing is wrong with its opening trees, which are empty. A call does nothing.
 pub fn loads_are_prepared()
     ensures { loads.LoadsArePrepared }
 {}
+
+/// The openings of a script's domains are closed by their schemas, where the script is prepared: what is read at the root of a
+/// tree is whole. So a hub over them stays closed (`Hub::stays_closed`). It is owed of the values that they are JSON as a text
+/// can have it, as those of a script that was read are. A call does nothing.
+pub fn openings_are_closed()
+    ensures { WorldsAreSound }
+{
+    sal_data::laws::rows_that_were_read_are_whole();
+}

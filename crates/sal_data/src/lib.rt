@@ -26,7 +26,7 @@
 //! let json = write_data(alloc, &schema, &path, &rows)?;
 //! ```
 //!
-//! Costs: `lookups` and `members` find nodes by their names, `entries` the steps to entries, `walk` goes once through the value
+//! Costs: `members` finds nodes by their names, `entries` the steps to entries, `walk` goes once through the value
 //! and appends rows in the order of the text, and `order` puts them into the order of their paths. Rows that came
 //! in the order of their paths are a tree as they are, after two comparisons for each; n others take n log n. Beside them reading
 //! takes a search by halves for each name, and for each value what `read_scalar` takes. Entries that come in their order are told
@@ -49,7 +49,6 @@ mod examples;
 mod fault;
 mod fits;
 pub mod laws;
-mod lookups;
 mod members;
 mod order;
 mod read;

@@ -4,6 +4,7 @@
 //! |---|---|
 //! | `read_data` | the rows that a JSON value at a path stands for, in the order of their paths, or its first fault |
 //! | `write_data` | the JSON value of the rows at a path and below it |
+//! | `write_leaf` | the JSON value of a value of a leaf, or of an entry of a leaf-list |
 //! | `fits_rows` | whether rows are data of the schema at a path |
 //! | `DataFault` | why a JSON value stands for no rows, and where |
 //! | `specs/Members` | the name of a member for each node, and the node that a name means |
@@ -62,4 +63,4 @@ mod written_names;
 pub use fault::DataFault;
 pub use fits::fits_rows;
 pub use read::read_data;
-pub use write::write_data;
+pub use write::{write_data, write_leaf};

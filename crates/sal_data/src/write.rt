@@ -20,6 +20,24 @@ use std::alloc::Global;
 /// How many nodes rows are deep at most: a path has at most 32 steps.
 const MAX_LEVELS: u32 = 32;
 
+/// The JSON value of a value of a leaf, or of an entry of a leaf-list; null for a node that is neither.
+///
+/// It costs what `write_scalar` does.
+#[tactic(auto, unfolding(crate::specs::Written::scalar_json))]
+pub fn write_leaf(
+    alloc: Global,
+    schema: &Schema,
+    node: u32,
+    value: &Value,
+) -> Result<Json, NoMemory>
+    ensures { IfOk result (λ json. view json ≡ spec.scalar_json schema.now node value.now) }
+{
+    match (type_at(schema, node), module_at(schema, node)) {
+        (Some(ty), Some(module)) => write_scalar(alloc, schema, ty, module, value),
+        _ => Ok(Json::Null),
+    }
+}
+
 /// What rows are written by: a schema.
 ///
 /// Below, `k` is how many steps lead to a place, and `levels` how many nodes deep rows are below it at most.
@@ -30,17 +48,6 @@ struct Writer<'a> {
 }
 
 impl<'a> Writer<'a> {
-    /// The value of a leaf or of an entry of a leaf-list.
-    #[tactic(auto, unfolding(crate::specs::Written::scalar_json))]
-    fn scalar_json(&self, node: u32, value: &Value) -> Result<Json, NoMemory>
-        ensures { IfOk result (λ json. view json ≡ spec.scalar_json self.now.schema.now node value.now) }
-    {
-        match (type_at(self.schema, node), module_at(self.schema, node)) {
-            (Some(ty), Some(module)) => write_scalar(self.alloc, self.schema, ty, module, value),
-            _ => Ok(Json::Null),
-        }
-    }
-
     /// The value of a leaf, from its row.
     fn leaf_json(&self, node: u32, rows: &[Row]) -> Result<Json, NoMemory>
         ensures { IfOk result (λ json. view json ≡ spec.leaf_json self.now.schema.now node rows.now) }
@@ -49,7 +56,7 @@ impl<'a> Writer<'a> {
             [] => Ok(Json::Null),
             [row, ..] => match &row.cell {
                 Cell::Mark => Ok(Json::Null),
-                Cell::Leaf(value) => self.scalar_json(node, value),
+                Cell::Leaf(value) => write_leaf(self.alloc, self.schema, node, value),
             },
         }
     }
@@ -65,7 +72,7 @@ impl<'a> Writer<'a> {
     {
         match step {
             Some(Step::Item(value)) => {
-                let json = self.scalar_json(node, value)?;
+                let json = write_leaf(self.alloc, self.schema, node, value)?;
                 items.push(json)?;
                 Ok(())
             }
@@ -195,7 +202,7 @@ impl<'a> Writer<'a> {
         ensures { IfOk result (λ json. view json ≡ spec.json_at self.now.schema.now path.now (Some (Item value.now)) []) }
     {
         match node_at_end(path.steps()) {
-            Some(node) => self.scalar_json(node, value),
+            Some(node) => write_leaf(self.alloc, self.schema, node, value),
             None => Ok(Json::Null),
         }
     }

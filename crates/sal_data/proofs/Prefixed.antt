@@ -1,6 +1,5 @@
 -- The prefixes of a path, by their lengths.
 use Rattle.std.proofs.Common.{cond, ◌≡◌, ℕ, zero, suc, ◌+◌, ◌<◌, ◌≤◌, Bool, true, false, List, [], ◌∷◌, length, get_or, take, refl, ap, sym, ◌∙◌, arith}
-use Rattle.std.specs.Prelude.{◌&&◌}
 use Rattle.std.specs.List.{list_all, common_prefix_len}
 use Rattle.std.specs.Cmp.{first_so, second_so, Equal-is}
 use Rattle.std.proofs.lemmas.Bool.{and_from}

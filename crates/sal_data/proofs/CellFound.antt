@@ -1,24 +1,18 @@
 -- What a search by halves finds among rows in the order of their paths.
-use Rattle.std.proofs.Common.{◌≡◌, ℕ, zero, suc, ◌+◌, ◌<◌, true, false, List, [], ◌∷◌, length, get_or, Some, None, refl, ap, sym, ◌∙◌, arith, inl, inr}
+use Rattle.std.proofs.Common.{◌≡◌, ℕ, zero, suc, ◌<◌, true, false, List, [], ◌∷◌, length, get_or, Some, None, refl, ap, sym, ◌∙◌, arith, inl, inr}
 use Rattle.std.specs.Prelude.{if◌then◌else◌}
-use Rattle.std.specs.List.Sorted.{IsSortedBy, IsNonDecreasingBy, IsPartitionPoint}
-use Rattle.std.specs.Ordering.{is_lt, is_eq, ordering_reverse, ordering_index}
-use Rattle.std.specs.declared.cmp.Ordering.{Ordering}
+use Rattle.std.specs.List.Sorted.{IsPartitionPoint}
+use Rattle.std.specs.Ordering.{is_lt, is_eq, ordering_reverse}
 use Rattle.std.specs.declared.cmp.Ordering.TheVariants.{Less, Equal, Greater}
 use Rattle.std.specs.Cmp.{first_so, second_so, tied_back}
 use Rattle.std.specs.FinMap.{is_sorted}
 use Rattle.std.specs.FinMap.Entries.{below_all}
 use Rattle.std.proofs.lemmas.Bool.{cases_lt}
-use Rattle.std.proofs.lemmas.List.Sorted.{searchable_from_sorted}
 use Rattle.sal_types.specs.declared.value.Step.{Step}
 use Rattle.sal_types.specs.declared.row.Row.{Row}
 use Rattle.sal_types.specs.Order.{path_cmp, path_eq, path_cmp-IsTotalOrder, path_cmp-IsAntisymmetric}
-use Rattle.sal_types.specs.Tree.{entries, cell, IsAscending}
-
-less : (o : Ordering) → is_lt o ≡ true → o ≡ Less
-less Less e = refl
-less Equal e = cc
-less Greater e = cc
+use Rattle.sal_types.specs.Tree.{entries, cell}
+use Rattle.sal_data.proofs.Fronts.{less}
 
 -- one path before another stands so from both sides
 turned : (x y : List Step) → path_cmp x y ≡ Less → path_cmp y x ≡ Greater
@@ -31,23 +25,6 @@ above_each : (p : List Step) (rows : List Row) (i : ℕ) (d : Row) → below_all
 above_each p [] i d below inside = absurd (omega arith)
 above_each p (x ∷ rows) zero d below inside = less _ (first_so (is_lt (path_cmp p x.path)) _ below)
 above_each p (x ∷ rows) (suc i) d below inside = above_each p rows i d (second_so (is_lt (path_cmp p x.path)) _ below) (omega arith)
-
--- each row is less than the next
-next_rises : (rows : List Row) (k : ℕ) (d : Row) → is_sorted path_cmp (entries rows) ≡ true → suc k < length rows → path_cmp (get_or rows k d).path (get_or rows (suc k) d).path ≡ Less
-next_rises [] k d rising inside = absurd (omega arith)
-next_rises (x ∷ rows) zero d rising inside = above_each x.path rows 0 d (first_so (below_all path_cmp x.path (entries rows)) _ rising) (omega arith)
-next_rises (x ∷ rows) (suc k) d rising inside = next_rises rows k d (second_so (below_all path_cmp x.path (entries rows)) _ rising) (omega arith)
-
-rows_sorted : (rows : List Row) → IsAscending rows → IsSortedBy (λ (a b : Row). is_lt (path_cmp a.path b.path)) rows
-rows_sorted rows rising k d low inside =
-    let one : suc k ≡ k + 1 = omega arith in
-    let up = next_rises rows k d rising (omega arith) in
-    let down = turned (get_or rows k d).path (get_or rows (suc k) d).path up in
-    ap (λ n. is_lt (path_cmp (get_or rows n d).path (get_or rows k d).path)) (sym one) ∙ ap is_lt down
-
--- rows rise by how they stand to any path
-pub rows_rise : (rows : List Row) (q : List Step) → IsAscending rows → IsNonDecreasingBy (λ (y : Row). ordering_index (path_cmp y.path q)) rows
-rows_rise rows q rising = searchable_from_sorted path_cmp-IsTotalOrder (λ (y : Row). y.path) rows q (rows_sorted rows rising)
 
 apart_cell : (rows : List Row) (q : List Step) → ((k : ℕ) (d : Row) → k < length rows → path_eq q (get_or rows k d).path ≡ false) → cell rows q ≡ None
 apart_cell [] q apart = refl

@@ -3,7 +3,6 @@ use Rattle.std.proofs.Common.{◌≡◌, suc, ◌+◌, Bool, true, false, List, 
 use Rattle.std.specs.Prelude.{not, ◌&&◌}
 use Rattle.std.specs.List.{prefix_len, position_or_len}
 use Rattle.std.specs.Ordering.{is_lt, is_eq, ordering_then, ordering_reverse, eq_by_cmp}
-use Rattle.std.specs.declared.cmp.Ordering.{Ordering}
 use Rattle.std.specs.declared.cmp.Ordering.TheVariants.{Less, Equal, Greater}
 use Rattle.std.specs.Cmp.{first_so, second_so, tied_back, Equal-is}
 use Rattle.std.specs.FinMap.{is_sorted}
@@ -13,11 +12,7 @@ use Rattle.sal_types.specs.declared.row.Row.{Row}
 use Rattle.sal_types.specs.Order.{step_cmp, step_cmp-IsTotalOrder, step_cmp-IsAntisymmetric, path_cmp}
 use Rattle.sal_types.specs.Prefix.{is_prefix}
 use Rattle.sal_types.specs.Tree.{entries, IsAscending, under}
-
-less : (o : Ordering) → is_lt o ≡ true → o ≡ Less
-less Less e = refl
-less Equal e = cc
-less Greater e = cc
+use Rattle.sal_data.proofs.Fronts.{less}
 
 -- what stands between two paths below p is below p
 between : (p x y z : List Step) → is_prefix p x ≡ true → path_cmp x y ≡ Less → path_cmp y z ≡ Less → is_prefix p z ≡ true → is_prefix p y ≡ true

@@ -19,10 +19,10 @@ use Rattle.sal_schema.specs.Paths.{may_follow, fits_path, last_step, node_of}
 use Rattle.sal_schema.specs.Table.{is_kind, is_data_child}
 use Rattle.sal_schema.specs.Valid.{IsTable}
 use Rattle.sal_schema.specs.Values.{is_of_node}
+use Rattle.sal_table.proofs.Childless.{no_child}
 use Rattle.sal_data.specs.Laws.{IsWhole, IsReadable, HasReadable, step_values}
 use Rattle.sal_data.proofs.Listed.{In, In-map, list_all-In, All-In}
 use Rattle.sal_data.proofs.Fronts.{In-cell}
-use Rattle.sal_data.proofs.Children.{no_child}
 use Rattle.sal_data.proofs.PathsFit.{last_step-end, node_of-node, node_of-item, Spot, root, step_here, after, at_object, after-end, after-node, step-behind, follows_object}
 use Rattle.sal_data.proofs.KindFacts.{leaf-entries, leaf-type, leaf_list-type}
 

@@ -1,5 +1,4 @@
 pub mod CellFound
-pub mod Children
 pub mod Composed
 pub mod Consecutive
 pub mod FirstRun

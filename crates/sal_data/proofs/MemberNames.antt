@@ -10,10 +10,11 @@ use Rattle.sal_schema.specs.declared.table.SchemaTable.{SchemaTable}
 use Rattle.sal_schema.specs.Names.{child_of}
 use Rattle.sal_schema.specs.Table.{is_data_child, is_same, module_of, module_name, name_of}
 use Rattle.sal_schema.specs.Valid.{IsTable}
+use Rattle.sal_table.specs.Lookups.{own_module}
+use Rattle.sal_table.proofs.Children.{IsChild, child, module_name-is, module_of-is, name_of-is, child_of-name, own_module-is, same-is}
 use Rattle.sal_json.specs.Named.{is_colon}
 use Rattle.sal_json.proofs.IdentTexts.{no_colon}
-use Rattle.sal_data.specs.Members.{is_qualified, own_module, member_name, if_qualified, qualified_child, plain_child, child_called, name_fault, member_node}
-use Rattle.sal_data.proofs.Children.{IsChild, child, module_name-is, module_of-is, name_of-is, child_of-name, same-is}
+use Rattle.sal_data.specs.Members.{is_qualified, member_name, if_qualified, qualified_child, plain_child, child_called, name_fault, member_node}
 
 -- ---- a text with a colon
 
@@ -47,7 +48,7 @@ module _ (table : SchemaTable) (good : IsTable table) where
       c = child table good parent n e
 
       spelled : own_module table n ≡ c.module_text
-      spelled = ap (λ o. option_map_or (module_name table) o []) (module_of-is table good parent n c) ∙ module_name-is table good parent n c
+      spelled = own_module-is table good parent n c
 
       own : name_of table n ≡ c.node.name
       own = name_of-is table good parent n c

@@ -1,7 +1,7 @@
 -- Rows in the order of their paths, as a map holds them.
 use Rattle.std.proofs.Common.{◌≡◌, ℕ, zero, suc, Bool, true, false, List, [], ◌∷◌, ◌++◌, take, fold, refl, ap, sym, ◌∙◌}
+use Rattle.std.proofs.lemmas.Bool.{and_from}
 use Rattle.std.proofs.lemmas.List.Sums.{fold-append}
-use Rattle.std.specs.Prelude.{◌&&◌}
 use Rattle.std.specs.Ordering.{match_ordering, is_lt}
 use Rattle.std.specs.declared.cmp.Ordering.TheVariants.{Less, Equal, Greater}
 use Rattle.std.specs.BTreeMap.{insert_entry}
@@ -60,15 +60,11 @@ IsAscending-in_order rows = IsAscending-fold [] rows refl
 
 -- ---- the first of rows that rise
 
-both : (a b : Bool) → a ≡ true → b ≡ true → (a && b) ≡ true
-both true b p q = q
-both false b p q = p
-
 behind-take : (p : List Step) (n : ℕ) (rows : List Row) → below_all path_cmp p (entries rows) ≡ true → below_all path_cmp p (entries (take n rows)) ≡ true
 behind-take p zero rows h = refl
 behind-take p (suc n) [] h = refl
 behind-take p (suc n) (row ∷ rows) h =
-    both (is_lt (path_cmp p row.path)) _ (first_so (is_lt (path_cmp p row.path)) _ h) (behind-take p n rows (second_so (is_lt (path_cmp p row.path)) _ h))
+    and_from (is_lt (path_cmp p row.path)) _ (first_so (is_lt (path_cmp p row.path)) _ h) (behind-take p n rows (second_so (is_lt (path_cmp p row.path)) _ h))
 
 pub ascending-take : (n : ℕ) (rows : List Row) → IsAscending rows → IsAscending (take n rows)
 ascending-take zero rows h = refl
@@ -76,4 +72,4 @@ ascending-take (suc n) [] h = refl
 ascending-take (suc n) (row ∷ rows) h =
     let behind : below_all path_cmp row.path (entries rows) ≡ true = first_so (below_all path_cmp row.path (entries rows)) _ h in
     let rest : IsAscending rows = second_so (below_all path_cmp row.path (entries rows)) _ h in
-    both (below_all path_cmp row.path (entries (take n rows))) _ (behind-take row.path n rows behind) (ascending-take n rows rest)
+    and_from (below_all path_cmp row.path (entries (take n rows))) _ (behind-take row.path n rows behind) (ascending-take n rows rest)

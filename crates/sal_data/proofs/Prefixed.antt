@@ -1,8 +1,8 @@
 -- The prefixes of a path, by their lengths.
 use Rattle.std.proofs.Common.{cond, ◌≡◌, ℕ, zero, suc, ◌+◌, ◌<◌, ◌≤◌, Bool, true, false, List, [], ◌∷◌, length, get_or, take, refl, ap, sym, ◌∙◌, arith}
-use Rattle.std.specs.Prelude.{◌&&◌}
 use Rattle.std.specs.List.{list_all, common_prefix_len}
 use Rattle.std.specs.Cmp.{first_so, second_so, Equal-is}
+use Rattle.std.proofs.lemmas.Bool.{and_from}
 use Rattle.std.proofs.lemmas.List.{length-map, get_or-map, take_all}
 use Rattle.std.proofs.lemmas.List.Folds.{list_all_more, list_all_at}
 use Rattle.sal_types.specs.declared.value.Step.{Step}
@@ -22,15 +22,11 @@ prefix_at (step ∷ path) (suc n) d inside =
     let within : n < length (prefixes path) = omega (arith, length_prefixes path) in
     get_or-map (λ (q : List Step). step ∷ q) (prefixes path) n d d within ∙ ap (λ (q : List Step). step ∷ q) (prefix_at path n d (omega arith))
 
-both : (a b : Bool) → a ≡ true → b ≡ true → (a && b) ≡ true
-both true b e f = f
-both false b e f = e
-
 module _ (test : List Step → Bool) (path : List Step) (n : ℕ) where
   pub all_more : n < length path + 1 → list_all test (take n (prefixes path)) ≡ true → test (take n path) ≡ true → list_all test (take (n + 1) (prefixes path)) ≡ true
   all_more inside before here =
       let at = prefix_at path n [] (omega arith) in
-      list_all_more test (prefixes path) n [] (omega (arith, length_prefixes path)) ∙ both _ _ before (ap test at ∙ here)
+      list_all_more test (prefixes path) n [] (omega (arith, length_prefixes path)) ∙ and_from _ _ before (ap test at ∙ here)
 
   pub all_fails : n < length path + 1 → test (take n path) ≡ false → list_all test (prefixes path) ≡ false
   all_fails inside here =

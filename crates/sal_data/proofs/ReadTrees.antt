@@ -25,12 +25,12 @@ use Rattle.sal_schema.specs.Valid.{IsTable, has_its_keys, agree, is_empty, all_d
 use Rattle.sal_schema.specs.Values.{is_of_node}
 use Rattle.sal_schema.proofs.Facts.{slice_get_some, closest-Some}
 use Rattle.sal_schema.proofs.Numbered.{all_from-at}
+use Rattle.sal_table.proofs.Children.{same-is}
 use Rattle.sal_json.proofs.Chosen.{same_ok}
 use Rattle.sal_data.specs.Laws.{IsReadable, IsJson, AreJson, HasJson, step_values}
 use Rattle.sal_data.specs.Members.{member_name, member_node}
 use Rattle.sal_data.specs.Read.{marked, node_scalar, leaf_rows, key_values, items_rows, node_rows, members_rows, entries_rows}
 use Rattle.sal_data.proofs.Listed.{In, list_all-In}
-use Rattle.sal_data.proofs.Children.{same-is}
 use Rattle.sal_data.proofs.ObjectMembers.{Has, found, Has-found}
 use Rattle.sal_data.proofs.MemberNames.{member_node-name}
 use Rattle.sal_data.proofs.NamesMeant.{member_meant, same-itself}

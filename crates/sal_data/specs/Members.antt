@@ -1,11 +1,12 @@
 -- The names of members, and the nodes that they name (RFC 7951 section 4).
-use Rattle.std.specs.Prelude.{ℕ, Bool, true, not, ◌&&◌, List, [], ◌∷◌, ◌++◌, Option, Some, None, is_some, option_and_then, Result, Ok, Err, if◌then◌else◌}
+use Rattle.std.specs.Prelude.{ℕ, Bool, true, not, ◌&&◌, List, Option, Some, None, is_some, option_and_then, Result, Ok, Err, if◌then◌else◌}
 use Rattle.std.specs.List.{list_any, before_first, after_first}
 use Rattle.std.specs.Option.{option_map_or}
 use Rattle.sal_types.specs.declared.value.Step.{Step}
 use Rattle.sal_schema.specs.declared.table.SchemaTable.{SchemaTable}
-use Rattle.sal_schema.specs.Table.{is_same, module_of, module_name, name_of}
+use Rattle.sal_schema.specs.Table.{is_same, module_of, name_of}
 use Rattle.sal_schema.specs.Names.{child_of}
+use Rattle.sal_table.specs.Lookups.{own_module, full_name}
 use Rattle.sal_json.specs.Named.{is_colon}
 use Rattle.sal_data.specs.declared.fault.DataFault.{DataFault}
 use Rattle.sal_data.specs.declared.fault.DataFault.TheVariants.{UnknownMember, NeedsModule}
@@ -15,13 +16,9 @@ abbrev pub is_qualified : SchemaTable → Option ℕ → ℕ → Bool
 is_qualified table None n = true
 is_qualified table (Some p) n = not (is_same (module_of table n) (module_of table p))
 
--- the name of a node's module
-abbrev pub own_module : SchemaTable → ℕ → List ℕ
-own_module table n = option_map_or (module_name table) (module_of table n) []
-
 -- the name of the member for this node, below a parent or in the top object
 abbrev pub member_name : SchemaTable → Option ℕ → ℕ → List ℕ
-member_name table parent n = if is_qualified table parent n then own_module table n ++ 58 ∷ name_of table n else name_of table n
+member_name table parent n = if is_qualified table parent n then full_name table n else name_of table n
 
 -- ---- the node of a member
 

@@ -8,10 +8,10 @@ ghost use Rattle.sal_data.specs.Read as spec;
 ghost use Rattle.sal_data.specs.Walked.{HaveSame, new_entry};
 
 use crate::fault::DataFault;
-use crate::lookups::keys_at;
 use crate::members::member_for;
 use crate::reader::Reader;
 use crate::seen::Seen;
+use sal_table::lookups::keys_at;
 use sal_types::{Cell, Duplicate, NoMemory, Path, PathFault, Row, Seq, Step, Value};
 use serde_json::{Map, Value as Json};
 use std::alloc::Global;

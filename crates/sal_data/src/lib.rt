@@ -4,6 +4,7 @@
 //! |---|---|
 //! | `read_data` | the rows that a JSON value at a path stands for, in the order of their paths, or its first fault |
 //! | `write_data` | the JSON value of the rows at a path and below it |
+//! | `write_leaf` | the JSON value of a value of a leaf, or of an entry of a leaf-list |
 //! | `fits_rows` | whether rows are data of the schema at a path |
 //! | `DataFault` | why a JSON value stands for no rows, and where |
 //! | `specs/Members` | the name of a member for each node, and the node that a name means |
@@ -26,7 +27,7 @@
 //! let json = write_data(alloc, &schema, &path, &rows)?;
 //! ```
 //!
-//! Costs: `lookups` and `members` find nodes by their names, `entries` the steps to entries, `walk` goes once through the value
+//! Costs: `members` finds nodes by their names, `entries` the steps to entries, `walk` goes once through the value
 //! and appends rows in the order of the text, and `order` puts them into the order of their paths. Rows that came
 //! in the order of their paths are a tree as they are, after two comparisons for each; n others take n log n. Beside them reading
 //! takes a search by halves for each name, and for each value what `read_scalar` takes. Entries that come in their order are told
@@ -49,7 +50,6 @@ mod examples;
 mod fault;
 mod fits;
 pub mod laws;
-mod lookups;
 mod members;
 mod order;
 mod read;
@@ -63,4 +63,4 @@ mod written_names;
 pub use fault::DataFault;
 pub use fits::fits_rows;
 pub use read::read_data;
-pub use write::write_data;
+pub use write::{write_data, write_leaf};

@@ -1,18 +1,29 @@
 //! The nodes that the names of members mean, and the members that nodes have.
-ghost use Rattle.std.specs.Prelude.{◌≡◌, ◌<◌, ◌∷◌, ◌++◌, Some, length, is_some, option_map, option_and_then, IfOk, string_bytes};
+ghost use Rattle.std.specs.Prelude.{◌≡◌, ◌<◌, Some, length, is_some, option_map, option_and_then, IfOk, string_bytes};
 ghost use Rattle.serde_json.specs.View.{view, members_view};
 ghost use Rattle.serde_json.specs.Find.{get_member};
 ghost use Rattle.sal_types.specs.Reading.{GivesUnless};
 ghost use Rattle.sal_schema.specs.Names.{child_of};
-ghost use Rattle.sal_schema.specs.Table.{module_name, name_of};
+ghost use Rattle.sal_schema.specs.Table.{module_name};
+ghost use Rattle.sal_table.specs.Lookups as lookups;
 ghost use Rattle.sal_data.specs.Members as spec;
 
 use crate::fault::DataFault;
-use crate::lookups::{is_qualified, name_at, own_module};
 use sal_schema::Schema;
+use sal_table::lookups::{module_at, name_at, own_module, push_full_name};
 use sal_types::{Duplicate, NoMemory, Path, Str};
 use serde_json::{Map, Value as Json};
 use std::alloc::Global;
+
+/// Whether the node's name stands with its module below this parent, or in the top object.
+pub(crate) fn is_qualified(schema: &Schema, parent: Option<u32>, node: u32) -> bool
+    ensures { result ≡ spec.is_qualified schema.now parent node }
+{
+    match parent {
+        Some(parent) => module_at(schema, node) != module_at(schema, parent),
+        None => true,
+    }
+}
 
 /// Whether the name stands with a module.
 fn has_module(name: &str) -> bool
@@ -119,13 +130,11 @@ pub(crate) fn member_node(
 }
 
 /// The name of a node with its module.
-fn full_name(alloc: Global, schema: &Schema, node: u32) -> Result<String, NoMemory>
-    ensures { IfOk result (λ text. string_bytes text ≡ spec.own_module schema.now node ++ 58 ∷ name_of schema.now node) }
+pub(crate) fn full_name(alloc: Global, schema: &Schema, node: u32) -> Result<String, NoMemory>
+    ensures { IfOk result (λ text. string_bytes text ≡ lookups.full_name schema.now node) }
 {
     let mut text = String::new(alloc);
-    text.push_str(own_module(schema, node))?;
-    text.push(':')?;
-    text.push_str(name_at(schema, node))?;
+    push_full_name(&mut text, schema, node)?;
     Ok(text)
 }
 

@@ -9,10 +9,10 @@ ghost use Rattle.sal_data.specs.Walked as walked;
 
 use crate::entries::{entered, longer, mark};
 use crate::fault::DataFault;
-use crate::lookups::{has_entries, is_leaf, is_leaf_list, is_list, is_presence};
 use crate::members::member_node;
 use crate::reader::Reader;
 use crate::seen::Seen;
+use sal_table::lookups::{has_entries, is_leaf, is_leaf_list, is_list, is_presence};
 use sal_types::{Cell, Duplicate, Path, Row, Step};
 use serde_json::{Map, Value as Json};
 

@@ -1,29 +1,25 @@
 -- What a name stands for is a node for data below that parent.
-use Rattle.std.proofs.Common.{◌≡◌, ℕ, zero, suc, ◌+◌, ◌-◌, ◌≤◌, Bool, true, false, cond, not, List, [], ◌∷◌, ◌++◌, length, Option, Some, None, refl, sym, ap, ◌∙◌, arith}
+use Rattle.std.proofs.Common.{◌≡◌, ℕ, suc, ◌+◌, ◌-◌, ◌≤◌, Bool, true, false, cond, List, [], ◌∷◌, ◌++◌, Option, Some, None, refl, sym, ap, ◌∙◌, arith}
 use Rattle.std.specs.Prelude.{option_map, find, if◌then◌else◌}
 use Rattle.std.specs.List.{slice_get}
 use Rattle.std.specs.Ordering.{is_eq}
 use Rattle.std.specs.declared.cmp.Ordering.{Ordering}
 use Rattle.std.specs.declared.cmp.Ordering.TheVariants.{Less, Equal, Greater}
 use Rattle.std.specs.FinMap.{nat_cmp-IsAntisymmetric}
-use Rattle.std.proofs.lemmas.Bool.{not-true, true≢false}
 use Rattle.std.proofs.lemmas.Bool.Decides.{nat_tests}
 use Rattle.std.proofs.lemmas.Option.{option_and_then_some}
 use Rattle.sal_types.specs.Order.{then-first}
-use Rattle.sal_schema.specs.declared.kind.Kind.{Kind}
 use Rattle.sal_schema.specs.declared.names.Name.{Name as FullName}
 use Rattle.sal_schema.specs.declared.names.Named.{Named}
 use Rattle.sal_schema.specs.declared.table.NodeInfo.{NodeInfo}
 use Rattle.sal_schema.specs.declared.table.SchemaTable.{SchemaTable}
-use Rattle.sal_schema.specs.Kinds.{is_data, is_choice_or_case, has_type}
+use Rattle.sal_schema.specs.Kinds.{is_data}
 use Rattle.sal_schema.specs.Names.{name_cmp, is_called, lookup, named, name_of_parts, data_at, data_names, module_called, child_of}
-use Rattle.sal_schema.specs.Table.{each_from, closest, data_node, data_parent, is_data_child, is_kind, is_same, parent_of}
-use Rattle.sal_schema.specs.Valid.{IsTable, stands_right, is_under, text_eq}
-use Rattle.sal_schema.proofs.Conjuncts.{and_first, and_second}
-use Rattle.sal_schema.proofs.Facts.{slice_get_some, closest-None, closest-Some}
-use Rattle.sal_schema.proofs.Numbered.{list_all-at}
+use Rattle.sal_schema.specs.Table.{each_from, data_node, is_data_child, is_same}
+use Rattle.sal_schema.specs.Valid.{text_eq}
+use Rattle.sal_table.specs.Lookups.{own_module}
 use Rattle.sal_pathtext.specs.Words.{Name}
-use Rattle.sal_pathtext.specs.Nodes.{own_module, meant}
+use Rattle.sal_pathtext.specs.Nodes.{meant}
 
 some_same : {X : Type 0} (x y : X) → ◌≡◌ {A = Option X} (Some x) (Some y) → x ≡ y
 some_same x y e = cc
@@ -102,47 +98,3 @@ meant-is table (Some p) (Some m, own) n e = by (text_eq m (own_module table p)) 
     by : (b : Bool) → (if b then None else child_of table (Some p) m own) ≡ Some n → is_data_child table (Some p) n ≡ true
     by true e = none_some n e
     by false e = child_of-is table (Some p) m own n e
-
--- ---- leafs and leaf-lists have no children
-
-abbrev stays : Kind → Bool
-stays kind = not (is_choice_or_case kind)
-
-closest-zero : (table : SchemaTable) (here : Option ℕ) → closest stays table 0 here ≡ None
-unfolding closest
-closest-zero table here = refl
-
--- under a node that data stand under stands a child of it
-climb : (table : SchemaTable) (p steps k : ℕ) → closest stays table steps (parent_of table k) ≡ Some p → (c : ℕ) × (parent_of table c ≡ Some p)
-climb table p zero k e = none_some p (sym (closest-zero table (parent_of table k)) ∙ e)
-climb table p (suc steps) k e = by (λ q more. climb table p steps q more) (parent_of table k) refl e
-  where
-    by : ((q : ℕ) → closest stays table steps (parent_of table q) ≡ Some p → (c : ℕ) × (parent_of table c ≡ Some p)) → (o : Option ℕ) → parent_of table k ≡ o → closest stays table (suc steps) o ≡ Some p → (c : ℕ) × (parent_of table c ≡ Some p)
-    by up None above e = none_some p (sym (closest-None stays table (suc steps)) ∙ e)
-    by up (Some q) above e = elim (is_kind stays table q) as (λ b. cond b (Some q) (closest stays table steps (parent_of table q)) ≡ Some p → (c : ℕ) × (parent_of table c ≡ Some p)) [
-      | true ↦ λ here. (k, above ∙ here)
-      | false ↦ λ more. up q more
-    ] (sym (closest-Some stays table steps q) ∙ e)
-
--- what stands below this node, by its parent
-child_stands : (table : SchemaTable) (c p : ℕ) → IsTable table → parent_of table c ≡ Some p → is_kind has_type table p ≡ false
-child_stands table c p good e = option_and_then_some (λ (node : NodeInfo). node.parent) (slice_get table.nodes c) p e (λ node there above. by node there above)
-  where
-    by : (node : NodeInfo) → slice_get table.nodes c ≡ Some node → node.parent ≡ Some p → is_kind has_type table p ≡ false
-    by node there above =
-        let (inside, here) = slice_get_some table.nodes c node there in
-        let right = list_all-at (stands_right table) table.nodes c node good.places inside in
-        let right2 : stands_right table node ≡ true = rw here right in
-        let free = and_first (not (is_under has_type table node)) _ (and_first _ _ (and_first _ _ right2)) in
-        let no : is_under has_type table node ≡ false = not-true (is_under has_type table node) free in
-        rw above at no
-
-pub no_child : (table : SchemaTable) (p n : ℕ) → IsTable table → is_kind has_type table p ≡ true → is_data_child table (Some p) n ≡ true → ⊥
-no_child table p n good leaf child =
-    let above = same-is (data_parent table n) p (and_second (is_kind is_data table n) (is_same (data_parent table n) (Some p)) child) in
-    let (c, under) = climb table p (length table.nodes) n above in
-    true≢false (sym leaf ∙ child_stands table c p good under)
-  where
-    same-is : (o : Option ℕ) (p : ℕ) → is_same o (Some p) ≡ true → o ≡ Some p
-    same-is None p e = cc
-    same-is (Some q) p e = let same : q ≡ p = grind (arith, nat_tests) in ap Some same

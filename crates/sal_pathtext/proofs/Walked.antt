@@ -12,6 +12,7 @@ use Rattle.sal_schema.specs.Kinds.{is_list, has_entries, has_type, is_message}
 use Rattle.sal_schema.specs.Paths.{may_follow, may_pick, step_fits, after_step, fits_from, fits_path}
 use Rattle.sal_schema.specs.Table.{is_kind, kind_of, is_data_child}
 use Rattle.sal_schema.specs.Valid.{IsTable}
+use Rattle.sal_table.proofs.Childless.{no_child}
 use Rattle.sal_json.proofs.Chosen.{same_ok}
 use Rattle.sal_pathtext.specs.declared.fault.PathTextFault.{PathTextFault}
 use Rattle.sal_pathtext.specs.declared.fault.PathTextFault.TheVariants.{BadText, BadPredicate, UnknownNode, TooDeep}
@@ -20,7 +21,7 @@ use Rattle.sal_pathtext.specs.declared.here.Here.{Here}
 use Rattle.sal_pathtext.specs.Words.{Text, Name, first, is_empty, place, bad_text, name}
 use Rattle.sal_pathtext.specs.Nodes.{meant, entry_given}
 use Rattle.sal_pathtext.specs.Read.{top, found, predicate, predicates, lacks_keys, behind_name, behind_entry, named, entered, step, one_more, one_entry_more, steps, read_path}
-use Rattle.sal_pathtext.proofs.Children.{meant-is, no_child}
+use Rattle.sal_pathtext.proofs.Children.{meant-is}
 use Rattle.sal_pathtext.proofs.Fitting.{bind_ok, found_ok, predicates_right, IsSound, entry_fits}
 
 -- a step and what follows

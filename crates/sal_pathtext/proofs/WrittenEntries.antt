@@ -18,6 +18,7 @@ use Rattle.sal_schema.specs.Valid.{IsTable, all_differ, has_its_keys, agree, is_
 use Rattle.sal_schema.proofs.Conjuncts.{and_first, and_second, or_first, or_second}
 use Rattle.sal_schema.proofs.Facts.{slice_get_some, slice_get_there, is_there, closest-Some}
 use Rattle.sal_schema.proofs.Numbered.{all_from-at}
+use Rattle.sal_table.proofs.Children.{same-is}
 use Rattle.sal_pathtext.specs.declared.fault.PathTextFault.TheVariants.{BadPredicate}
 use Rattle.sal_pathtext.specs.declared.given.Given.{Given}
 use Rattle.sal_pathtext.specs.Laws.{IsReadable, AreReadable}
@@ -27,7 +28,7 @@ use Rattle.sal_pathtext.specs.Read.{taken, found, subject, predicate, predicates
 use Rattle.sal_pathtext.specs.Written.{name_text, said_text, key_text, item_text, keys_text}
 use Rattle.sal_pathtext.proofs.Children.{same-itself}
 use Rattle.sal_pathtext.proofs.Fitting.{from_value, from_said, from_leaf, from_subject}
-use Rattle.sal_pathtext.proofs.WrittenNames.{IsEnd, is_same-is, not_blank, not_dot, name-again, name-starts, meant-again}
+use Rattle.sal_pathtext.proofs.WrittenNames.{IsEnd, not_blank, not_dot, name-again, name-starts, meant-again}
 use Rattle.sal_pathtext.proofs.WrittenQuotes.{no_blanks, said-again}
 
 -- ---- the values of keys
@@ -136,7 +137,7 @@ module _ (table : SchemaTable) where
     key_is_child : (leaf : ℕ) → is_key leaf ≡ true → is_data_child table (Some n) leaf ≡ true
     key_is_child leaf e =
         let kind = leaf_is_data (kind_of table leaf) (and_first (is_kind is_leaf table leaf) (is_same (parent_of table leaf) (Some n)) e) in
-        let above = is_same-is (parent_of table leaf) (Some n) (and_second (is_kind is_leaf table leaf) (is_same (parent_of table leaf) (Some n)) e) in
+        let above = same-is (parent_of table leaf) (Some n) (and_second (is_kind is_leaf table leaf) (is_same (parent_of table leaf) (Some n)) e) in
         and_from (is_kind is_data table leaf) (is_same (data_parent table leaf) (Some n)) kind
         (ap (λ o. is_same o (Some n)) (ap (data_node table) above ∙ under_list) ∙ same-itself (Some n))
 

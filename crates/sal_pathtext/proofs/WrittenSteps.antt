@@ -17,12 +17,13 @@ use Rattle.sal_schema.specs.Table.{is_kind, kind_of, keys_of, name_of, is_data_c
 use Rattle.sal_schema.specs.Valid.{IsTable}
 use Rattle.sal_schema.specs.Values.{is_of_node}
 use Rattle.sal_schema.proofs.Conjuncts.{and_first, and_second}
+use Rattle.sal_table.specs.Lookups.{own_module}
 use Rattle.sal_pathtext.specs.declared.fault.PathTextFault.TheVariants.{BadPredicate, UnknownNode, BadText}
 use Rattle.sal_pathtext.specs.declared.given.Given.{Given}
 use Rattle.sal_pathtext.specs.declared.here.Here.{Here}
 use Rattle.sal_pathtext.specs.Laws.{IsReadable, AreReadable, IsReadableStep, AreReadableSteps, begins_with_data, WrittenReads, WrittenApart}
 use Rattle.sal_pathtext.specs.Words.{Text, first, place}
-use Rattle.sal_pathtext.specs.Nodes.{own_module, value_given, values_given, entry_given, meant}
+use Rattle.sal_pathtext.specs.Nodes.{value_given, values_given, entry_given, meant}
 use Rattle.sal_pathtext.specs.Read.{top, found, predicates, lacks_keys, behind_name, behind_entry, named, entered, step, steps, read_path}
 use Rattle.sal_pathtext.specs.Written.{name_text, said_text, item_text, keys_text, step_text, steps_text, behind, written}
 use Rattle.sal_pathtext.proofs.Steps.{steps-end, steps_at}

@@ -8,8 +8,9 @@ use Rattle.sal_types.specs.declared.value.Step.TheVariants.{Key, Item}
 use Rattle.sal_schema.specs.declared.table.SchemaTable.{SchemaTable}
 use Rattle.sal_schema.specs.Kinds.{is_leaf_list}
 use Rattle.sal_schema.specs.Names.{child_of}
-use Rattle.sal_schema.specs.Table.{is_among, is_kind, keys_of, module_of, module_name, type_of}
+use Rattle.sal_schema.specs.Table.{is_among, is_kind, keys_of, module_of, type_of}
 use Rattle.sal_schema.specs.Valid.{text_eq}
+use Rattle.sal_table.specs.Lookups.{own_module}
 use Rattle.sal_json.specs.declared.fault.ScalarFault.{ScalarFault}
 use Rattle.sal_json.specs.declared.fault.ScalarFault.TheVariants.{WrongKind}
 use Rattle.sal_json.specs.Read.{text_scalar_of}
@@ -39,17 +40,13 @@ not_given given None = None
 not_given given (Some leaf) = if list_any (is_for leaf) given then None else Some leaf
 
 module _ (table : SchemaTable) where
-  -- the name of a node's module
-  abbrev pub own_module : ℕ → List ℕ
-  own_module n = option_map_or (module_name table) (module_of table n) []
-
   -- The node for data that a name means, below a node or at the top. A name at the top tells its module, and one below a node
   -- does exactly where its module is another than that node's.
   abbrev pub meant : Option ℕ → Name → Option ℕ
   meant None (None, name) = None
   meant None (Some m, name) = child_of table None m name
-  meant (Some p) (None, name) = child_of table (Some p) (own_module p) name
-  meant (Some p) (Some m, name) = if text_eq m (own_module p) then None else child_of table (Some p) m name
+  meant (Some p) (None, name) = child_of table (Some p) (own_module table p) name
+  meant (Some p) (Some m, name) = if text_eq m (own_module table p) then None else child_of table (Some p) m name
 
   -- ---- entries
 

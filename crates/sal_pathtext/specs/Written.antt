@@ -8,8 +8,9 @@ use Rattle.sal_types.specs.declared.value.Step.TheVariants.{Node, Key, Item}
 use Rattle.sal_schema.specs.declared.table.SchemaTable.{SchemaTable}
 use Rattle.sal_schema.specs.Table.{keys_of, name_of}
 use Rattle.sal_schema.specs.Valid.{text_eq}
+use Rattle.sal_table.specs.Lookups.{own_module, full_name}
 use Rattle.sal_pathtext.specs.Words.{is_double_quote}
-use Rattle.sal_pathtext.specs.Nodes.{own_module, value_text}
+use Rattle.sal_pathtext.specs.Nodes.{value_text}
 
 -- ---- quotes
 
@@ -32,14 +33,10 @@ behind here (Node n) = Some n
 behind here step = here
 
 module _ (table : SchemaTable) where
-  -- the name of a node with its module
-  abbrev pub full_name : ℕ → List ℕ
-  full_name n = own_module table n ++ 58 ∷ name_of table n
-
   -- the name of a node below another, or at the top
   abbrev pub name_text : Option ℕ → ℕ → List ℕ
-  name_text None n = full_name n
-  name_text (Some p) n = if text_eq (own_module table n) (own_module table p) then name_of table n else full_name n
+  name_text None n = full_name table n
+  name_text (Some p) n = if text_eq (own_module table n) (own_module table p) then name_of table n else full_name table n
 
   -- what a predicate says of the value, and its end
   abbrev pub said_text : ℕ → Value → List ℕ

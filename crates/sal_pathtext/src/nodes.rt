@@ -1,108 +1,17 @@
 //! Which node a name means, and by which values the entries of lists and leaf-lists are told.
-ghost use Rattle.std.specs.Prelude.{◌≡◌, ◌<◌, length, option_map, find, IfOk, IfSome};
+ghost use Rattle.std.specs.Prelude.{◌≡◌, option_map, find, IfOk};
 ghost use Rattle.std.specs.List.{list_any};
 ghost use Rattle.sal_types.specs.Reading.{GivesUnless};
-ghost use Rattle.sal_schema.specs.Kinds as kinds;
 ghost use Rattle.sal_schema.specs.Table as table;
 ghost use Rattle.sal_json.specs.Patterns.{patterns_of};
 ghost use Rattle.sal_pathtext.specs.Nodes as spec;
 
 use crate::given::Given;
 use sal_json::{Patterns, ScalarFault, read_text, write_text};
-use sal_schema::{Kind, Schema};
+use sal_schema::Schema;
+use sal_table::lookups::{is_leaf_list, keys_at, module_at, own_module, type_at};
 use sal_types::{Duplicate, Keys, NoMemory, Seq, Step, Str, Value};
 use std::alloc::Global;
-
-fn module_at(schema: &Schema, node: u32) -> Option<u32>
-    ensures module_number { result ≡ table.module_of schema.now node }
-    ensures within { IfSome result (λ m. m < length schema.now.modules) }
-{
-    if node < schema.len() {
-        Some(schema.module_of(node))
-    } else {
-        None
-    }
-}
-
-fn type_at(schema: &Schema, node: u32) -> Option<u32>
-    ensures ty { result ≡ table.type_of schema.now node }
-    ensures within { IfSome result (λ ty. ty < length schema.now.types) }
-{
-    if node < schema.len() {
-        schema.type_of(node)
-    } else {
-        None
-    }
-}
-
-fn kind_at(schema: &Schema, node: u32) -> Option<Kind>
-    ensures { result ≡ table.kind_of schema.now node }
-{
-    if node < schema.len() {
-        Some(schema.kind(node))
-    } else {
-        None
-    }
-}
-
-/// The key leafs of a list, in order; none of another node.
-pub(crate) fn keys_at(schema: &Schema, node: u32) -> &[u32]
-    ensures { result.now ≡ table.keys_of schema.now node }
-{
-    if node < schema.len() {
-        schema.keys(node)
-    } else {
-        &[]
-    }
-}
-
-/// The name of a node, without its module.
-pub(crate) fn name_at(schema: &Schema, node: u32) -> &str
-    ensures { result.now ≡ table.name_of schema.now node }
-{
-    if node < schema.len() {
-        schema.name_of(node)
-    } else {
-        ""
-    }
-}
-
-/// The name of a node's module.
-pub(crate) fn own_module(schema: &Schema, node: u32) -> &str
-    ensures { result.now ≡ spec.own_module schema.now node }
-{
-    match module_at(schema, node) {
-        Some(module) => schema.module_name(module),
-        None => "",
-    }
-}
-
-pub(crate) fn is_list(schema: &Schema, node: u32) -> bool
-    ensures { result ≡ table.is_kind kinds.is_list schema.now node }
-{
-    match kind_at(schema, node) {
-        Some(Kind::List) => true,
-        _ => false,
-    }
-}
-
-pub(crate) fn is_leaf_list(schema: &Schema, node: u32) -> bool
-    ensures { result ≡ table.is_kind kinds.is_leaf_list schema.now node }
-{
-    match kind_at(schema, node) {
-        Some(Kind::LeafList) => true,
-        _ => false,
-    }
-}
-
-pub(crate) fn has_entries(schema: &Schema, node: u32) -> bool
-    ensures { result ≡ table.is_kind kinds.has_entries schema.now node }
-{
-    match kind_at(schema, node) {
-        Some(kind) => kind.has_entries(),
-        None => false,
-    }
-}
 
 /// The node for data that a name means, below a node or at the top.
 pub(crate) fn meant(

@@ -81,6 +81,7 @@ pub fn read_path(
     ensures exact { Gives (λ path. path) result (spec.read_path schema.now text.now) }
     ensures fits { IfOk result (λ path. IsTrue (fits_path schema.now path)) }
 {
+    // (for the prover: the clause of `len` has that the table is one of a schema)
     let _nodes = schema.len();
     let path = read(&Reader::new(alloc, schema, patterns, text))?;
     Ok(path)

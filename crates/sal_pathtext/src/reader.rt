@@ -10,12 +10,11 @@ ghost use Rattle.sal_pathtext.specs.Words.{place as place_in, first as first_of}
 use crate::fault::PathTextFault;
 use crate::given::Given;
 use crate::here::Here;
-use crate::nodes::{
-    dot_meant, entry_given, has_entries, is_list, key_meant, meant, not_given, value_of,
-};
+use crate::nodes::{dot_meant, entry_given, key_meant, meant, not_given, value_of};
 use crate::words::{after_blanks, bad_text, closed, first, name, place, said, tail};
 use sal_json::{Patterns, ScalarFault};
 use sal_schema::Schema;
+use sal_table::lookups::{has_entries, is_list};
 use sal_types::{NoMemory, Step, Value};
 use std::alloc::Global;
 

@@ -4,9 +4,10 @@ ghost use Rattle.std.specs.List.{list_any};
 ghost use Rattle.sal_schema.specs.Table.{keys_of};
 ghost use Rattle.sal_pathtext.specs.Written as spec;
 
-use crate::nodes::{keys_at, name_at, own_module, value_text};
+use crate::nodes::value_text;
 use crate::words::{front, place_of, tail};
 use sal_schema::Schema;
+use sal_table::lookups::{keys_at, name_at, own_module, push_full_name};
 use sal_types::{NoMemory, Path, Step, Str, Value};
 use std::alloc::{AllocError, Global};
 
@@ -50,15 +51,6 @@ fn push_quoted(out: &mut String, text: &str) -> Result<(), AllocError>
     out.push('\'')?;
     push_doubled(out, text)?;
     out.push('\'')
-}
-
-/// Appends the name of a node with its module.
-fn push_full_name(out: &mut String, schema: &Schema, node: u32) -> Result<(), AllocError>
-    ensures { OnOk result (string_bytes out.new ≡ string_bytes out.old ++ spec.full_name schema.now node) }
-{
-    out.push_str(own_module(schema, node))?;
-    out.push(':')?;
-    out.push_str(name_at(schema, node))
 }
 
 /// Appends the name of a node below another, or at the top.

@@ -1,3 +1,5 @@
+pub mod Childless
+pub mod Children
 mod Climbs
 mod Doubles
 mod Named

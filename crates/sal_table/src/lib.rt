@@ -1,10 +1,12 @@
-//! Whether a table is the table of a schema: the test for tables that come from outside the program.
+//! Whether a table is the table of a schema: the test for tables that come from outside the program. And what a schema says of
+//! a number that may be no node's.
 //!
 //! | item | what it is |
 //! |---|---|
 //! | `is_table` | whether a table is the table of a schema: exactly where `IsTable` of `sal_schema` holds |
 //! | `schema_of` | the schema of a table, or that it is not the table of one |
 //! | `TableFault` | why a table gives no schema: it is not the table of one, or memory ran out |
+//! | `lookups` | what a schema says of a node by its number: its module, type, keys, name and kind; nothing of a number that no node has |
 //!
 //! `sal_schema` says in `specs/Valid` what is asked of a table: numbers that stand for something, nodes below nodes that
 //! take them, types where they belong, keys and unique leafs of their lists, identities that are not derived from
@@ -24,6 +26,7 @@
 //! |---|---|
 //! | `is_table` | n log n comparisons of names, and k log k for k keys of a list or k names of an enumeration or of bits; for each node for data a look at the choices and cases right above it, and for each unique leaf at the nodes up to its list; a copy of each name, of one kind of names at a time |
 //! | `schema_of` | that, and what `Schema::from_table` costs |
+//! | those of `lookups` | the same time, whatever the schema; `push_full_name` is linear in the names |
 //!
 //! So a table that is made to be slow, as one chain of choices and cases above many leafs, costs the product of the two. No
 //! call goes deeper than the types of a union.
@@ -35,6 +38,7 @@ mod fault;
 mod identity;
 mod kind;
 mod lists;
+pub mod lookups;
 mod names;
 mod node;
 mod types;

@@ -2,7 +2,8 @@ use Rattle.std.proofs.Common.{rules, sym}
 use Rattle.std.proofs.lemmas.Fn.{always_returns_same}
 use Rattle.sal_types.specs.declared.row.Row.{Row}
 use Rattle.sal_types.specs.Order.{path_cmp}
-use Rattle.sal_data.proofs.CellFound.{rows_rise, none_found, cell_here}
+use Rattle.sal_rows.proofs.Found.{rows_rise}
+use Rattle.sal_data.proofs.CellFound.{none_found, cell_here}
 use Rattle.sal_data.proofs.cells.cell_at.Goals as goal
 
 pub returns-in-Ok : goal.returns-in-Ok

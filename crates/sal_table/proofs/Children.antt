@@ -1,78 +1,29 @@
--- The name of a child means it again, and leafs have no children.
-use Rattle.std.proofs.Common.{◌≡◌, ℕ, zero, suc, ◌+◌, Bool, true, false, cond, not, IsTrue, List, [], ◌∷◌, ◌++◌, length, get_or, Option, Some, None, refl, sym, ap, subst, ◌∙◌, arith}
+-- What is known of a node for data, and that its name means it again.
+use Rattle.std.proofs.Common.{◌≡◌, ℕ, zero, suc, ◌+◌, true, false, cond, IsTrue, List, [], ◌∷◌, ◌++◌, get_or, Option, Some, None, refl, sym, ap, subst, ◌∙◌, arith}
 use Rattle.std.specs.Prelude.{Contains, option_map, option_and_then}
 use Rattle.std.specs.List.{slice_get}
 use Rattle.std.specs.Option.{option_map_or}
 use Rattle.std.specs.Cmp.{eq_by_cmp_equiv}
-use Rattle.std.proofs.lemmas.Bool.{not-true, true≢false, and_parts}
-use Rattle.std.proofs.lemmas.Bool.Decides.{nat_tests}
-use Rattle.std.proofs.lemmas.Option.{option_and_then_some}
+use Rattle.std.proofs.lemmas.Bool.{and_parts}
 use Rattle.std.proofs.lemmas.List.Elements.{Contains-append_right}
 use Rattle.std.proofs.lemmas.List.Sorted.{IsPermutation-refl}
-use Rattle.sal_schema.specs.declared.kind.Kind.{Kind}
 use Rattle.sal_schema.specs.declared.names.Named.{Named}
 use Rattle.sal_schema.specs.declared.table.NodeInfo.{NodeInfo}
 use Rattle.sal_schema.specs.declared.table.SchemaTable.{SchemaTable}
-use Rattle.sal_schema.specs.Kinds.{is_data, is_choice_or_case, has_type}
+use Rattle.sal_schema.specs.Kinds.{is_data}
 use Rattle.sal_schema.specs.Names.{name_cmp-IsTotalOrder, is_called, lookup, are_distinct, named, name_of_parts, data_at, data_names, module_names, module_called, child_of}
-use Rattle.sal_schema.specs.Table.{each_from, closest, data_node, data_parent, is_data_child, is_kind, is_same, parent_of, module_of, name_of, module_name}
-use Rattle.sal_schema.specs.Valid.{IsTable, stands_right, is_under, is_identifier}
-use Rattle.sal_schema.proofs.Conjuncts.{and_first, and_second}
-use Rattle.sal_schema.proofs.Facts.{slice_get_some, slice_get_there, closest-None, closest-Some, module_is_there, numbers_at}
+use Rattle.sal_schema.specs.Table.{each_from, data_node, data_parent, is_data_child, is_kind, is_same, module_of, name_of, module_name}
+use Rattle.sal_schema.specs.Valid.{IsTable, is_identifier}
+use Rattle.sal_schema.proofs.Facts.{slice_get_some, slice_get_there, module_is_there, numbers_at}
 use Rattle.sal_schema.proofs.Numbered.{list_all-at}
 use Rattle.sal_schema.proofs.Searched.{lookup-Finds}
-
-none_some : {X P : Type 0} (x : X) → ◌≡◌ {A = Option X} None (Some x) → P
-none_some x e = cc
-
-same-some : (o : Option ℕ) (p : ℕ) → is_same o (Some p) ≡ true → o ≡ Some p
-same-some None p e = cc
-same-some (Some q) p e = let same : q ≡ p = grind (arith, nat_tests) in ap Some same
+use Rattle.sal_table.specs.Lookups.{own_module}
+use Rattle.sal_table.proofs.Childless.{same-some}
 
 pub same-is : (o parent : Option ℕ) → is_same o parent ≡ true → o ≡ parent
 same-is None None e = refl
 same-is (Some q) None e = cc
 same-is o (Some p) e = same-some o p e
-
--- ---- leafs and leaf-lists have no children
-
-abbrev stays : Kind → Bool
-stays kind = not (is_choice_or_case kind)
-
-closest-zero : (table : SchemaTable) (here : Option ℕ) → closest stays table 0 here ≡ None
-unfolding closest
-closest-zero table here = refl
-
--- under a node that data stand under stands a child of it
-climb : (table : SchemaTable) (p steps k : ℕ) → closest stays table steps (parent_of table k) ≡ Some p → (c : ℕ) × (parent_of table c ≡ Some p)
-climb table p zero k e = none_some p (sym (closest-zero table (parent_of table k)) ∙ e)
-climb table p (suc steps) k e = by (λ q more. climb table p steps q more) (parent_of table k) refl e
-  where
-    by : ((q : ℕ) → closest stays table steps (parent_of table q) ≡ Some p → (c : ℕ) × (parent_of table c ≡ Some p)) → (o : Option ℕ) → parent_of table k ≡ o → closest stays table (suc steps) o ≡ Some p → (c : ℕ) × (parent_of table c ≡ Some p)
-    by up None above e = none_some p (sym (closest-None stays table (suc steps)) ∙ e)
-    by up (Some q) above e = elim (is_kind stays table q) as (λ b. cond b (Some q) (closest stays table steps (parent_of table q)) ≡ Some p → (c : ℕ) × (parent_of table c ≡ Some p)) [
-      | true ↦ λ here. (k, above ∙ here)
-      | false ↦ λ more. up q more
-    ] (sym (closest-Some stays table steps q) ∙ e)
-
--- what stands below this node, by its parent
-child_stands : (table : SchemaTable) (c p : ℕ) → IsTable table → parent_of table c ≡ Some p → is_kind has_type table p ≡ false
-child_stands table c p good e = option_and_then_some (λ (node : NodeInfo). node.parent) (slice_get table.nodes c) p e (λ node there above. by node there above)
-  where
-    by : (node : NodeInfo) → slice_get table.nodes c ≡ Some node → node.parent ≡ Some p → is_kind has_type table p ≡ false
-    by node there above =
-        let (inside, here) = slice_get_some table.nodes c node there in
-        let right = list_all-at (stands_right table) table.nodes c node good.places inside in
-        let right2 : stands_right table node ≡ true = rw here right in
-        let free = and_first (not (is_under has_type table node)) _ (and_first _ _ (and_first _ _ right2)) in
-        let no : is_under has_type table node ≡ false = not-true (is_under has_type table node) free in
-        rw above at no
-
-pub no_child : (table : SchemaTable) (p n : ℕ) → IsTable table → is_kind has_type table p ≡ true → is_data_child table (Some p) n ≡ true → ⊥
-no_child table p n good leaf child =
-    let above = same-some (data_parent table n) p (and_second (is_kind is_data table n) (is_same (data_parent table n) (Some p)) child) in
-    let (c, under) = climb table p (length table.nodes) n above in
-    true≢false (sym leaf ∙ child_stands table c p good under)
 
 -- ---- what is listed under its own name
 
@@ -162,3 +113,11 @@ module _ (table : SchemaTable) (good : IsTable table) where
     -- the child of this name in its module
     pub child_of-name : child_of table parent c.module_text c.node.name ≡ Some n
     child_of-name = ap (option_and_then (λ k. lookup (data_names table) (name_of_parts parent k c.node.name))) (module_known c.node.module c.module_text c.of_module) ∙ name_found
+
+    -- the name of its module
+    pub own_module-is : own_module table n ≡ c.module_text
+    own_module-is = ap (λ o. option_map_or (module_name table) o []) module_of-is ∙ module_name-is
+
+    -- its name, with that of its module, means it again
+    pub child-again : child_of table parent (own_module table n) (name_of table n) ≡ Some n
+    child-again = (λ i. child_of table parent (own_module-is i) (name_of-is i)) ∙ child_of-name

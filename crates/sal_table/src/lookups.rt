@@ -1,13 +1,14 @@
 //! What a schema says of nodes, also of numbers that no node has.
-ghost use Rattle.std.specs.Prelude.{◌≡◌, ◌<◌, length, IfSome};
+ghost use Rattle.std.specs.Prelude.{◌≡◌, ◌<◌, ◌++◌, length, string_bytes, IfSome, OnOk};
 ghost use Rattle.sal_schema.specs.Kinds as kinds;
 ghost use Rattle.sal_schema.specs.Table as table;
-ghost use Rattle.sal_data.specs.Members as spec;
+ghost use Rattle.sal_table.specs.Lookups as spec;
 
 use sal_schema::{Kind, Schema};
+use std::alloc::AllocError;
 
-/// The module of a node.
-pub(crate) fn module_at(schema: &Schema, node: u32) -> Option<u32>
+/// The module of a node; none where no node has the number.
+pub fn module_at(schema: &Schema, node: u32) -> Option<u32>
     ensures module_number { result ≡ table.module_of schema.now node }
     ensures within { IfSome result (λ m. m < length schema.now.modules) }
 {
@@ -18,8 +19,8 @@ pub(crate) fn module_at(schema: &Schema, node: u32) -> Option<u32>
     }
 }
 
-/// The type of a leaf or leaf-list.
-pub(crate) fn type_at(schema: &Schema, node: u32) -> Option<u32>
+/// The type of a leaf or leaf-list; none of another node.
+pub fn type_at(schema: &Schema, node: u32) -> Option<u32>
     ensures ty { result ≡ table.type_of schema.now node }
     ensures within { IfSome result (λ ty. ty < length schema.now.types) }
 {
@@ -41,7 +42,7 @@ fn kind_at(schema: &Schema, node: u32) -> Option<Kind>
 }
 
 /// The key leafs of a list, in order; none of another node.
-pub(crate) fn keys_at(schema: &Schema, node: u32) -> &[u32]
+pub fn keys_at(schema: &Schema, node: u32) -> &[u32]
     ensures { result.now ≡ table.keys_of schema.now node }
 {
     if node < schema.len() {
@@ -51,8 +52,8 @@ pub(crate) fn keys_at(schema: &Schema, node: u32) -> &[u32]
     }
 }
 
-/// The name of a node, without its module.
-pub(crate) fn name_at(schema: &Schema, node: u32) -> &str
+/// The name of a node, without its module; empty where no node has the number.
+pub fn name_at(schema: &Schema, node: u32) -> &str
     ensures { result.now ≡ table.name_of schema.now node }
 {
     if node < schema.len() {
@@ -62,8 +63,8 @@ pub(crate) fn name_at(schema: &Schema, node: u32) -> &str
     }
 }
 
-/// The name of a node's module.
-pub(crate) fn own_module(schema: &Schema, node: u32) -> &str
+/// The name of a node's module; empty where no node has the number.
+pub fn own_module(schema: &Schema, node: u32) -> &str
     ensures { result.now ≡ spec.own_module schema.now node }
 {
     match module_at(schema, node) {
@@ -72,17 +73,18 @@ pub(crate) fn own_module(schema: &Schema, node: u32) -> &str
     }
 }
 
-/// Whether the node's name stands with its module below this parent, or in the top object.
-pub(crate) fn is_qualified(schema: &Schema, parent: Option<u32>, node: u32) -> bool
-    ensures { result ≡ spec.is_qualified schema.now parent node }
+/// Appends the name of a node behind that of its module and a colon; a colon alone where no node has the number. It fails only
+/// where memory runs out.
+pub fn push_full_name(out: &mut String, schema: &Schema, node: u32) -> Result<(), AllocError>
+    ensures { OnOk result (string_bytes out.new ≡ string_bytes out.old ++ spec.full_name schema.now node) }
 {
-    match parent {
-        Some(parent) => module_at(schema, node) != module_at(schema, parent),
-        None => true,
-    }
+    out.push_str(own_module(schema, node))?;
+    out.push(':')?;
+    out.push_str(name_at(schema, node))
 }
 
-pub(crate) fn is_leaf(schema: &Schema, node: u32) -> bool
+/// Whether the node is there and is a leaf.
+pub fn is_leaf(schema: &Schema, node: u32) -> bool
     ensures { result ≡ table.is_kind kinds.is_leaf schema.now node }
 {
     match kind_at(schema, node) {
@@ -91,7 +93,8 @@ pub(crate) fn is_leaf(schema: &Schema, node: u32) -> bool
     }
 }
 
-pub(crate) fn is_list(schema: &Schema, node: u32) -> bool
+/// Whether the node is there and is a list.
+pub fn is_list(schema: &Schema, node: u32) -> bool
     ensures { result ≡ table.is_kind kinds.is_list schema.now node }
 {
     match kind_at(schema, node) {
@@ -100,7 +103,8 @@ pub(crate) fn is_list(schema: &Schema, node: u32) -> bool
     }
 }
 
-pub(crate) fn is_leaf_list(schema: &Schema, node: u32) -> bool
+/// Whether the node is there and is a leaf-list.
+pub fn is_leaf_list(schema: &Schema, node: u32) -> bool
     ensures { result ≡ table.is_kind kinds.is_leaf_list schema.now node }
 {
     match kind_at(schema, node) {
@@ -109,7 +113,8 @@ pub(crate) fn is_leaf_list(schema: &Schema, node: u32) -> bool
     }
 }
 
-pub(crate) fn has_entries(schema: &Schema, node: u32) -> bool
+/// Whether the node is there and is a list or a leaf-list.
+pub fn has_entries(schema: &Schema, node: u32) -> bool
     ensures { result ≡ table.is_kind kinds.has_entries schema.now node }
 {
     match kind_at(schema, node) {
@@ -118,7 +123,8 @@ pub(crate) fn has_entries(schema: &Schema, node: u32) -> bool
     }
 }
 
-pub(crate) fn is_presence(schema: &Schema, node: u32) -> bool
+/// Whether the node is there and is a presence container.
+pub fn is_presence(schema: &Schema, node: u32) -> bool
     ensures { result ≡ table.is_kind kinds.is_presence schema.now node }
 {
     match kind_at(schema, node) {

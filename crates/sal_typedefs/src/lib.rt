@@ -60,6 +60,7 @@ mod pattern;
 mod restriction;
 mod site_judge;
 mod spot;
+mod tally;
 mod typedefs;
 mod vectors;
 mod walk;

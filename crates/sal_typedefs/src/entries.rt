@@ -57,7 +57,7 @@ impl Naming {
         ensures small { IfOk result (λ p. p.1 ≤ℤ spec.bound (length entries.old.items + 1)) }
     {
         let (bad, entry) = own_entry(self.alloc, self.numbering, entries.as_slice(), next, stmt)?;
-        let after = next_after(entries.as_slice(), next, entry.number);
+        let after = next_after(entries.as_slice(), next, &entry);
         append(entries, entry)?;
         Ok((
             with_fault(best, bad, Cause::BadRestriction, self.number, stmt),

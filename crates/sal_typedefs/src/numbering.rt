@@ -244,16 +244,16 @@ pub(crate) fn chosen_entry(
     Ok((bad, entry_or(alloc, found, name)?))
 }
 
-/// The next number, behind one more name of this number.
-pub(crate) fn next_after(before: &[Entry], next: i128, number: i128) -> i128
+/// The next number, behind one more name.
+pub(crate) fn next_after(before: &[Entry], next: i128, entry: &Entry) -> i128
     requires next { next ≡ spec.next before.now }
     requires small { next ≤ℤ spec.bound (length before.now) }
-    requires few { number ≤ℤ spec.bound (length before.now) }
-    ensures next { (name : List ℕ) → result ≡ spec.next (before.now ++ record { name = name; number = number } ∷ []) }
+    requires entry { entry.now.number ≤ℤ spec.bound (length before.now) }
+    ensures next { result ≡ spec.next (before.now ++ entry.now ∷ []) }
     ensures small { result ≤ℤ spec.bound (length before.now + 1) }
 {
     let count = before.len();
-    let after = number + 1;
+    let after = entry.number + 1;
     if count == 0 || after > next {
         after
     } else {

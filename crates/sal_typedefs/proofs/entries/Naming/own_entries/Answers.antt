@@ -1,5 +1,7 @@
-use Rattle.std.proofs.Common.{◌≡◌, ◌∙◌, ◌≤ℤ◌, ◌+◌, ◌∷◌, [], length, rules, arith, subst, ap, true, sym}
+use Rattle.std.proofs.Common.{◌≡◌, ◌∙◌, ◌≤ℤ◌, FitsSigned, ◌+◌, ◌∷◌, [], length, rules, arith, subst, ap, true, sym}
 use Rattle.std.specs.Prelude.{None, Option, List}
+use Rattle.std.specs.Int.{w128}
+use Rattle.std.proofs.lemmas.Int.{to_z-of_z}
 use Rattle.std.proofs.lemmas.List.{length-append}
 use Rattle.sal_typedefs.specs.declared.entry.Entry.{Entry}
 use Rattle.sal_module.specs.Statements.{is_named, subs_of}
@@ -21,10 +23,11 @@ loop-sub-preserved c =
     let here : p sub ≡ true = sym (rw c.item.ensures at c.is_named.ensures) ∙ c.if-not-is_named.false in
     let all = c.loop-sub.entries.items in
     let longer : length c.with_own.new.entries.items ≡ length all + 1 = ap length c.in_ok-found.ensures.entries ∙ length-append all (entry_of n from all sub ∷ []) in
+    let fits : FitsSigned w128 c.in_ok-found.after = search rules in
     record {
       entries = entries-more n from a.self.number p subs i sub lt is all c.with_own.new.entries.items here c.loop-sub.invariant.entries c.in_ok-found.ensures.entries;
       fault = faults-more n from a.self.number p subs i sub lt is all a.best c.loop-sub.best c.in_ok-found.found here c.loop-sub.invariant.entries c.loop-sub.invariant.fault
           c.in_ok-found.ensures.fault;
       next = search rules;
-      small = subst (λ k. c.in_ok-found.after ≤ℤ bound k) (sym longer) c.in_ok-found.ensures.small;
+      small = rw (to_z-of_z w128 c.in_ok-found.after fits) (subst (λ k. c.in_ok-found.after ≤ℤ bound k) (sym longer) c.in_ok-found.ensures.small);
     }

@@ -1,5 +1,5 @@
 //! How names get their numbers (RFC 7950 sections 9.6.4.2 and 9.7.4.2).
-ghost use Rattle.std.specs.Prelude.{◌≡◌, ◌≢◌, ◌≤◌, ◌≤ℤ◌, ◌+◌, ◌++◌, ◌∷◌, [], ℕ, List, min, pos, drop, length, IfOk, IfSome, None, Some, unwrap_or};
+ghost use Rattle.std.specs.Prelude.{◌≡◌, ◌≢◌, ◌≤◌, ◌≤ℤ◌, ◌+◌, ◌++◌, ◌∷◌, [], ℕ, min, pos, drop, length, IfOk, IfSome, None, Some, unwrap_or};
 ghost use Rattle.sal_stmt.specs.Words.{first};
 ghost use Rattle.std.specs.Option.{option_copied};
 ghost use Rattle.sal_module.specs.Arguments.{decimal};

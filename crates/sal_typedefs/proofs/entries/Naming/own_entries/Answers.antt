@@ -1,5 +1,5 @@
 use Rattle.std.proofs.Common.{◌≡◌, ◌∙◌, ◌≤ℤ◌, FitsSigned, ◌+◌, ◌∷◌, [], length, rules, arith, subst, ap, true, sym}
-use Rattle.std.specs.Prelude.{None, Option, List}
+use Rattle.std.specs.Prelude.{None}
 use Rattle.std.specs.Int.{w128}
 use Rattle.std.proofs.lemmas.Int.{to_z-of_z}
 use Rattle.std.proofs.lemmas.List.{length-append}

@@ -1,7 +1,6 @@
 //! The nodes of a schema.
-ghost use Rattle.std.specs.Prelude.{◌≡◌, IfOk};
+ghost use Rattle.std.specs.Prelude.{◌≡◌};
 
-use sal_types::NoMemory;
 use std::marker::Model;
 
 /// A node without a statement of its own.
@@ -58,16 +57,5 @@ impl Forest {
         ensures { result.now ≡ self.now }
     {
         &self.list
-    }
-
-    /// A second forest, equal to this one.
-    pub fn copy(&self) -> Result<Forest, NoMemory>
-        ensures { IfOk result (λ it. it ≡ self.now) }
-    {
-        let mut list = Vec::with_capacity(*self.list.allocator(), self.list.len())?;
-        for branch in &self.list {
-            list.push(*branch)?;
-        }
-        Ok(Forest { list })
     }
 }

@@ -85,21 +85,21 @@ fn from_block(
     }
 }
 
-/// The grouping of this name in a module, for a statement in a block.
+/// The grouping of a statement's name in a module, for the statement in its block.
 fn grouping_in(
     modules: &Modules,
     rows: &[Row],
     tops: &[usize],
     groupings: &[Names],
     row: &Row,
-    name: &str,
     m: u32,
 ) -> Option<usize>
     requires tops { index.AreTops modules.now tops.now }
     requires rows { rows.now ≡ rows_spec.rows_of modules.now }
     requires firsts { index.AreFirsts rows.now word.Grouping groupings.now }
-    ensures { result ≡ spec.grouping_in modules.now rows.now row.now.module row.now.around name.now (Some m) }
+    ensures { result ≡ spec.grouping_in modules.now rows.now row.now.module row.now.around (spec.local_name row.now.name) (Some m) }
 {
+    let name = local_name(row.name.as_str());
     if m == row.module {
         return from_block(rows, groupings, name, MAX_DEPTH, row.around);
     }
@@ -135,10 +135,8 @@ pub(crate) fn named_by(
     if row.keyword != Keyword::Uses {
         return None;
     }
-    let text = row.name.as_str();
-    let name = local_name(text);
-    match module_of(modules, row.module, text) {
+    match module_of(modules, row.module, row.name.as_str()) {
         None => None,
-        Some(m) => grouping_in(modules, rows, tops, groupings, row, name, m),
+        Some(m) => grouping_in(modules, rows, tops, groupings, row, m),
     }
 }

@@ -254,49 +254,48 @@ fn with_cycle(
     Ok(best)
 }
 
-/// The least of this fault and those of a `uses`.
-fn with_uses(
-    best: Option<Found>,
+/// What the faults of the names in modules are judged by: their statements with what these name, and the groupings' graph.
+#[derive(Clone, Copy)]
+struct Judging<'x> {
     alloc: Global,
-    modules: &Modules,
-    t: &Tables,
-    graph: &Graph,
-    row: &Row,
-) -> Result<Option<Found>, NoMemory>
-    requires tables { AreTables modules.now t.now }
-    requires count { length graph.now.edges.items ≡ length t.now.rows.items }
-    requires edges { index.lists graph.now.edges.items ≡ spec.edges_of modules.now t.now.rows.items }
-    requires ranks { IfSome graph.now.ranks (λ ranks. IsRanked (index.lists graph.now.edges.items) ranks.items) }
-    ensures { IfOk result (λ found. found ≡ least best (spec.unknown_faults modules.now t.now.rows.items row.now ++ spec.cycle_faults modules.now t.now.rows.items row.now)) }
-{
-    let used = named_by(modules, &t.rows, &t.tops, &t.groupings, row);
-    let best = with_unknown(best, used, row);
-    with_cycle(best, alloc, &t.rows, graph, used, row)
+    modules: &'x Modules,
+    tables: &'x Tables,
+    graph: &'x Graph,
 }
 
-/// The least of this fault and those of a statement.
-fn with_row(
-    best: Option<Found>,
-    alloc: Global,
-    modules: &Modules,
-    t: &Tables,
-    graph: &Graph,
-    k: usize,
-    row: &Row,
-) -> Result<Option<Found>, NoMemory>
-    requires tables { AreTables modules.now t.now }
-    requires count { length graph.now.edges.items ≡ length t.now.rows.items }
-    requires edges { index.lists graph.now.edges.items ≡ spec.edges_of modules.now t.now.rows.items }
-    requires ranks { IfSome graph.now.ranks (λ ranks. IsRanked (index.lists graph.now.edges.items) ranks.items) }
-    ensures { IfOk result (λ found. found ≡ least best (spec.row_faults modules.now t.now.rows.items k row.now row.now.keyword)) }
-{
-    match row.keyword {
-        Keyword::Uses => with_uses(best, alloc, modules, t, graph, row),
-        Keyword::Augment => with_path(best, alloc, modules, row),
-        Keyword::Typedef => Ok(with_double(best, &t.rows, row.keyword, &t.typedefs, k, row)),
-        Keyword::Grouping => Ok(with_double(best, &t.rows, row.keyword, &t.groupings, k, row)),
-        Keyword::Identity => Ok(with_double(best, &t.rows, row.keyword, &t.identities, k, row)),
-        _ => Ok(best),
+impl<'x> Judging<'x> {
+    /// The least of this fault and those of a `uses`.
+    fn with_uses(&self, best: Option<Found>, row: &Row) -> Result<Option<Found>, NoMemory>
+        requires tables { AreTables self.now.modules.now self.now.tables.now }
+        requires count { length self.now.graph.now.edges.items ≡ length self.now.tables.now.rows.items }
+        requires edges { index.lists self.now.graph.now.edges.items ≡ spec.edges_of self.now.modules.now self.now.tables.now.rows.items }
+        requires ranks { IfSome self.now.graph.now.ranks (λ ranks. IsRanked (index.lists self.now.graph.now.edges.items) ranks.items) }
+        ensures { IfOk result (λ found. found ≡ least best
+            (spec.unknown_faults self.now.modules.now self.now.tables.now.rows.items row.now ++ spec.cycle_faults self.now.modules.now self.now.tables.now.rows.items row.now)) }
+    {
+        let t = self.tables;
+        let used = named_by(self.modules, &t.rows, &t.tops, &t.groupings, row);
+        let best = with_unknown(best, used, row);
+        with_cycle(best, self.alloc, &t.rows, self.graph, used, row)
+    }
+
+    /// The least of this fault and those of a statement.
+    fn with_row(&self, best: Option<Found>, k: usize, row: &Row) -> Result<Option<Found>, NoMemory>
+        requires tables { AreTables self.now.modules.now self.now.tables.now }
+        requires count { length self.now.graph.now.edges.items ≡ length self.now.tables.now.rows.items }
+        requires edges { index.lists self.now.graph.now.edges.items ≡ spec.edges_of self.now.modules.now self.now.tables.now.rows.items }
+        requires ranks { IfSome self.now.graph.now.ranks (λ ranks. IsRanked (index.lists self.now.graph.now.edges.items) ranks.items) }
+        ensures { IfOk result (λ found. found ≡ least best (spec.row_faults self.now.modules.now self.now.tables.now.rows.items k row.now row.now.keyword)) }
+    {
+        let t = self.tables;
+        match row.keyword {
+            Keyword::Uses => self.with_uses(best, row),
+            Keyword::Augment => with_path(best, self.alloc, self.modules, row),
+            Keyword::Typedef => Ok(with_double(best, &t.rows, row.keyword, &t.typedefs, k, row)),
+            Keyword::Grouping => Ok(with_double(best, &t.rows, row.keyword, &t.groupings, k, row)),
+            Keyword::Identity => Ok(with_double(best, &t.rows, row.keyword, &t.identities, k, row)),
+            _ => Ok(best),
+        }
     }
 }
 
@@ -310,9 +309,15 @@ pub(crate) fn names_fault(
     ensures { IfOk result (λ found. found ≡ least None (spec.name_faults modules.now t.now.rows.items)) }
 {
     let graph = graph_of(alloc, modules, t)?;
+    let judging = Judging {
+        alloc,
+        modules,
+        tables: t,
+        graph: &graph,
+    };
     let mut best = None;
     for (k, row) in t.rows.iter().enumerate() {
-        best = with_row(best, alloc, modules, t, &graph, k, row)?;
+        best = judging.with_row(best, k, row)?;
     }
     Ok(best)
 }

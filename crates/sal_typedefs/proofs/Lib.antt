@@ -9,5 +9,4 @@ pub mod WalkLists
 pub mod IdentityLists
 pub mod SpotLists
 pub mod PathLists
-pub mod PlaceLists
 pub mod PlainTypes

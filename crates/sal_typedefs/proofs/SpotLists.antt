@@ -1,9 +1,9 @@
 -- Blocks around a statement, from one to the next.
-use Rattle.std.proofs.Common.{◌≡◌, ℕ, zero, suc, ◌+◌, ◌-◌, ◌<◌, ◌≤◌, List, [], ◌∷◌, ◌++◌, length, take, drop, get_or, Bool, true, false, Some, None, is_some, option_map, if◌then◌else◌, refl, ◌∙◌, sym, ap, arith}
+use Rattle.std.proofs.Common.{◌≡◌, ℕ, zero, suc, ◌+◌, ◌-◌, ◌<◌, ◌≤◌, List, [], ◌∷◌, ◌++◌, length, take, get_or, Bool, true, false, Some, None, is_some, option_map, if◌then◌else◌, refl, ◌∙◌, sym, ap, arith}
 use Rattle.std.specs.Prelude.{find, reverse}
 use Rattle.std.specs.Borrow.{Bor}
 use Rattle.std.specs.List.{sum_by}
-use Rattle.std.proofs.lemmas.List.{take_more, drop_more, length-map, get_or-map, reverse-append}
+use Rattle.std.proofs.lemmas.List.{take_more, length-map, get_or-map, reverse-append}
 use Rattle.sal_stmt.specs.declared.stmt.Stmt.{Stmt}
 use Rattle.sal_module.specs.Statements.{subs_of}
 use Rattle.sal_typedefs.specs.Scopes.{Site, is_typedef_of, closest}
@@ -20,15 +20,6 @@ last-block bs n b some within is =
     let more : take n (stmts bs) ≡ take (n - 1) (stmts bs) ++ get_or (stmts bs) (n - 1) b.now ∷ [] = ap (λ k. take k (stmts bs)) (sym count) ∙ take_more (stmts bs) (n - 1) b.now lt' in
     let last : get_or (stmts bs) (n - 1) b.now ≡ b.now = get_or-map (λ (s : Bor Stmt). s.now) bs (n - 1) b b.now lt ∙ ap (λ (s : Bor Stmt). s.now) (sym is) in
     ap reverse (more ∙ ap (λ s. take (n - 1) (stmts bs) ++ s ∷ []) last) ∙ reverse-append (take (n - 1) (stmts bs)) (b.now ∷ [])
-
--- and all behind it
-pub drop-block : (bs : List (Bor Stmt)) (n : ℕ) (b : Bor Stmt) → 0 < n → n ≤ length bs → b ≡ get_or bs (n - 1) b → drop (n - 1) (stmts bs) ≡ b.now ∷ drop n (stmts bs)
-drop-block bs n b some within is =
-    let count : n - 1 + 1 ≡ n = omega arith in
-    let lt : n - 1 < length bs = omega arith in
-    let lt' : n - 1 < length (stmts bs) = omega (arith, length-map bs (λ (s : Bor Stmt). s.now)) in
-    let one : get_or (stmts bs) (n - 1) b.now ≡ b.now = get_or-map (λ (s : Bor Stmt). s.now) bs (n - 1) b b.now lt ∙ ap (λ (s : Bor Stmt). s.now) (sym is) in
-    drop_more (stmts bs) (n - 1) b.now lt' ∙ ap (λ s. s ∷ drop (n - 1 + 1) (stmts bs)) one ∙ ap (λ k. b.now ∷ drop k (stmts bs)) count
 
 pub found-here : (m : ℕ) (name : List ℕ) (block t : Stmt) (outer : List Stmt) → Some t ≡ find (is_typedef_of name) (subs_of block)
     → closest m name (block ∷ outer) ≡ Some (record { «module» = m; stmt = t; around = block ∷ outer })

@@ -1,5 +1,5 @@
 -- The names of enumerations and bits, with their numbers (RFC 7950 sections 9.6 and 9.7).
-use Rattle.std.specs.Prelude.{ℕ, ℤ, pos, neg_ℤ, ◌+ℤ◌, int_lt, Bool, true, false, not, ◌&&◌, ◌||◌, ◌==◌, nat_le, List, [], ◌∷◌, ◌++◌, map, fold, find, drop, Option, Some, None, option_map, unwrap_or, if◌then◌else◌}
+use Rattle.std.specs.Prelude.{ℕ, ℤ, pos, ◌+◌, neg_ℤ, ◌+ℤ◌, int_lt, Bool, true, false, not, ◌&&◌, ◌||◌, ◌==◌, nat_le, List, [], ◌∷◌, ◌++◌, map, fold, find, drop, Option, Some, None, option_map, unwrap_or, if◌then◌else◌}
 use Rattle.std.specs.Borrow.{Bor}
 use Rattle.std.specs.Int.{int_max}
 use Rattle.std.specs.List.{list_any}
@@ -64,6 +64,10 @@ has_number number entries = list_any (λ (e : Entry). int_eq e.number number) en
 abbrev pub next : List Entry → ℤ
 next [] = pos 0
 next (e ∷ entries) = fold int_max e.number (map (λ (e : Entry). e.number) entries) +ℤ pos 1
+
+-- no number is greater that a text gives, or that comes next behind so many names
+abbrev pub bound : ℕ → ℤ
+bound count = pos (4294967296 + count)
 
 -- ---- a name of a type of its own
 

@@ -1,18 +1,17 @@
 -- Words for the examples.
-use Rattle.std.specs.Prelude.{ℕ, pos, None, List, [], ◌∷◌, ◌++◌, Option, Some, option_map, Result, Ok, Err}
+use Rattle.std.specs.Prelude.{ℕ, pos, None, List, [], ◌∷◌, ◌++◌, Option, Some, option_map}
 use Prim.Native.String.{String}
 use Rattle.sal_stmt.specs.declared.stmt.Stmt.{Stmt}
-use Rattle.sal_module.specs.declared.fault.BuildFault.{BuildFault}
-use Rattle.sal_module.specs.Examples.{plain, found as found_at}
+use Rattle.sal_module.specs.Examples.{plain, found}
 use Rattle.sal_restrict.specs.declared.ranges.Part.{Part}
 use Rattle.sal_restrict.specs.declared.yang_type.YangType.{YangType, roll-YangType}
 use Rattle.sal_restrict.specs.declared.yang_type.YangType.TheOpen.{YangType-F}
 use Rattle.sal_typedefs.specs.Scopes.{site_at}
 use Rattle.sal_module.specs.declared.fault.Found.{Found}
-use Rattle.sal_module.specs.declared.fault.Cause.TheVariants.{BadRestriction}
+use Rattle.sal_module.specs.declared.fault.Cause.TheVariants.{BadRestriction, UnknownName}
 use Rattle.sal_module.specs.Faults.{least}
 use Rattle.sal_typedefs.specs.Names.{name_faults}
-use Rattle.sal_typedefs.specs.Types.{judge, resolve}
+use Rattle.sal_typedefs.specs.Types.{judge}
 
 -- the module `m`, whose prefix is `p`, with these statements
 abbrev pub module_with : List Stmt → Stmt
@@ -42,22 +41,8 @@ letters = typedef 20 "letter" (type_at 22 "enumeration" (enum 24 "x" ∷ enum 26
 abbrev pub with_leaf : List Stmt → String → List Stmt → List Stmt
 with_leaf stmts name subs = stmts ++ leaf 30 "a" (type_at 32 name subs) ∷ []
 
--- what the type at a place of the module with these statements means
-abbrev pub resolved : List Stmt → ℕ → Option (Result YangType BuildFault)
-resolved stmts at = option_map (resolve (module_with stmts ∷ [])) (site_at (module_with stmts ∷ []) 0 at)
-
-abbrev pub found : YangType-F YangType → Option (Result YangType BuildFault)
-found layer = Some (Ok (roll-YangType layer))
-
-abbrev pub refused : BuildFault → Option (Result YangType BuildFault)
-refused fault = Some (Err fault)
-
 abbrev pub upto : ℕ → ℕ → Part
 upto low high = record { low = pos low; high = pos high }
-
--- what the type of that leaf means
-abbrev pub leaf_type : List Stmt → String → List Stmt → Option (Result YangType BuildFault)
-leaf_type stmts name subs = resolved (with_leaf stmts name subs) 32
 
 abbrev pub boolean : YangType
 boolean = roll-YangType YangType-F.Bool
@@ -79,5 +64,8 @@ leaf_meaning stmts name subs =
 abbrev pub name_fault : List Stmt → ℕ → Option (Option Found)
 name_fault stmts at = option_map (λ site. least None (name_faults 2 (module_with stmts ∷ []) site)) (site_at (module_with stmts ∷ []) 0 at)
 
+abbrev pub unknown : ℕ → Option (Option Found)
+unknown at = Some (found UnknownName 0 at)
+
 abbrev pub bad : ℕ → Option (Option Found)
-bad at = Some (found_at BadRestriction 0 at)
+bad at = Some (found BadRestriction 0 at)

@@ -10,7 +10,6 @@ pub mod Entries
 pub mod Patterns
 pub mod Restrictions
 pub mod Types
-pub mod Sites
 pub mod Judgements
 pub mod Runs
 pub mod Examples

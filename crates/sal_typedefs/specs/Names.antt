@@ -139,7 +139,3 @@ path_faults modules site =
 abbrev pub name_faults : ℕ → List Stmt → Site → List Found
 name_faults steps modules site =
     unknown_faults modules site ++ cycle_faults steps modules site ++ base_faults modules site ++ path_faults modules site
-
--- of a type statement and of all that it rests on
-abbrev pub all_name_faults : List Stmt → Site → List Found
-all_name_faults modules site = flat_map (name_faults (steps_of modules) modules) (under (steps_of modules) modules site)

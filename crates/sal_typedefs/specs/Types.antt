@@ -1,5 +1,5 @@
 -- What a type statement means: its type, or the first fault in it and in those that it rests on.
-use Rattle.std.specs.Prelude.{◌≡◌, ⊤, ℕ, zero, suc, Bool, true, false, not, ◌&&◌, ◌==◌, List, [], ◌∷◌, ◌++◌, map, find, length, Option, Some, None, is_some, option_map, unwrap_or, if◌then◌else◌, Result, Ok, Err, unsigned_abs}
+use Rattle.std.specs.Prelude.{◌≡◌, ⊤, ℕ, zero, suc, Bool, true, false, not, ◌&&◌, ◌==◌, List, [], ◌∷◌, ◌++◌, map, find, length, Option, Some, None, is_some, option_map, unwrap_or, if◌then◌else◌, unsigned_abs}
 use Rattle.std.specs.List.{flat_map, list_any, enumerate_from, position_from, slice_get, slice_index}
 use Rattle.std.specs.Option.{option_to_list}
 use Rattle.std.specs.Result.{result_unwrap_or}
@@ -7,8 +7,6 @@ use Rattle.sal_stmt.specs.declared.stmt.Stmt.{Stmt}
 use Rattle.sal_module.specs.declared.keyword.Keyword.{Keyword}
 use Rattle.sal_module.specs.declared.keyword.Keyword.TheVariants as word
 use Rattle.sal_module.specs.declared.fault.Found.{Found}
-use Rattle.sal_module.specs.declared.fault.BuildFault.{BuildFault}
-use Rattle.sal_module.specs.Faults.{least, fault_of}
 use Rattle.sal_module.specs.Keywords.{same}
 use Rattle.sal_module.specs.Statements.{is_named, subs_of, all_named, argument_of, value_of}
 use Rattle.sal_restrict.specs.declared.ranges.Part.{Part}
@@ -18,7 +16,7 @@ use Rattle.sal_restrict.specs.declared.yang_type.YangType.TheOpen.{YangType-F}
 use Rattle.sal_restrict.specs.RangeTexts.{read_ranges}
 use Rattle.sal_typedefs.specs.Scopes.{Site, identity_of}
 use Rattle.sal_typedefs.specs.Builtins.{builtin_of, type_of}
-use Rattle.sal_typedefs.specs.Names.{name_of, rests_on, steps_of, all_name_faults}
+use Rattle.sal_typedefs.specs.Names.{name_of, rests_on, steps_of}
 use Rattle.sal_typedefs.specs.declared.entry.Entry.{Entry}
 use Rattle.sal_typedefs.specs.declared.entry.Numbering.{Numbering}
 use Rattle.sal_typedefs.specs.declared.entry.Numbering.TheVariants.{Enums, Bits}
@@ -147,19 +145,5 @@ judge (suc steps) modules site =
 
 -- ---- the answer
 
-abbrev pub answer : Judged → Option Found → Result YangType BuildFault
-answer judged None = Ok judged.type
-answer judged (Some found) = Err (fault_of found)
-
-abbrev pub unless : Option Found → Result YangType BuildFault → Result YangType BuildFault
-unless None result = result
-unless (Some found) result = Err (fault_of found)
-
 abbrev pub judgement : List Stmt → Site → Judged
 judgement modules site = judge (steps_of modules) modules site
-
--- Names are judged first, and all else only where no name has a fault.
-unfoldable pub resolve : List Stmt → Site → Result YangType BuildFault
-resolve modules site =
-    let type = judgement modules site in
-    unless (least None (all_name_faults modules site)) (answer type (least None type.faults))

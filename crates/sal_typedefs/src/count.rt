@@ -2,42 +2,35 @@
 ghost use Rattle.std.specs.Prelude.{◌≡◌, ◌+◌, IfOk};
 ghost use Rattle.sal_typedefs.specs.Names as spec;
 
+use crate::tally::Tally;
 use sal_stmt::Stmt;
 use sal_types::NoMemory;
+use std::alloc::Global;
 
 /// How deep the blocks of a statement may be open in one another.
 const MAX_BLOCKS: u32 = 64;
 
-fn sum(a: usize, b: usize) -> Result<usize, NoMemory>
-    ensures { IfOk result (λ n. n ≡ a + b) }
+/// Counts the statements in so many levels.
+fn count(tally: &mut Tally, levels: u32, stmt: &Stmt) -> Result<(), NoMemory>
+    ensures { IfOk result (λ _. tally.new ≡ tally.old + spec.count levels stmt.now) }
 {
-    match a.checked_add(b) {
-        Some(n) => Ok(n),
-        None => Err(NoMemory),
-    }
-}
-
-/// How many statements stand in so many levels.
-fn count(levels: u32, stmt: &Stmt) -> Result<usize, NoMemory>
-    ensures { IfOk result (λ n. n ≡ spec.count levels stmt.now) }
-{
-    let mut n = 1;
+    tally.add()?;
     if levels == 0 {
-        return Ok(n);
+        return Ok(());
     }
     for sub in stmt.subs.items() {
-        n = sum(n, count(levels - 1, sub)?)?;
+        count(tally, levels - 1, sub)?;
     }
-    Ok(n)
+    Ok(())
 }
 
-/// How many statements modules have. More than can be numbered count as want of memory.
-pub(crate) fn steps_of(stmts: &[Stmt]) -> Result<usize, NoMemory>
+/// How many statements modules have. It takes a byte of memory for each, and gives it back.
+pub(crate) fn steps_of(alloc: Global, stmts: &[Stmt]) -> Result<usize, NoMemory>
     ensures { IfOk result (λ n. n ≡ spec.steps_of stmts.now) }
 {
-    let mut n = 0;
+    let mut tally = Tally::new(alloc);
     for stmt in stmts {
-        n = sum(n, count(MAX_BLOCKS, stmt)?)?;
+        count(&mut tally, MAX_BLOCKS, stmt)?;
     }
-    Ok(n)
+    Ok(tally.number())
 }

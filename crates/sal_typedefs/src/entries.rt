@@ -1,5 +1,5 @@
 //! All names of an enumeration or of bits (RFC 7950 sections 9.6 and 9.7).
-ghost use Rattle.std.specs.Prelude.{◌≡◌, ◌∷◌, ◌++◌, [], Some, None, IfOk, filter, if◌then◌else◌};
+ghost use Rattle.std.specs.Prelude.{◌≡◌, ◌≤ℤ◌, ◌+◌, ◌∷◌, ◌++◌, [], length, Some, None, IfOk, filter, if◌then◌else◌};
 ghost use Rattle.sal_module.specs.declared.fault.Cause.TheVariants.{BadRestriction};
 ghost use Rattle.sal_module.specs.Faults.{least};
 ghost use Rattle.sal_module.specs.Profile.{at_stmt};
@@ -14,25 +14,6 @@ use sal_module::{Cause, Found, better, is_named};
 use sal_stmt::Stmt;
 use sal_types::NoMemory;
 use std::alloc::Global;
-
-/// One name, and whether it is faulty.
-fn entry_of(
-    alloc: Global,
-    n: Numbering,
-    from: Option<&[Entry]>,
-    before: &[Entry],
-    next: i128,
-    stmt: &Stmt,
-) -> Result<(bool, Entry), NoMemory>
-    requires { next ≡ spec.next before.now }
-    ensures bad { IfOk result (λ p. p.0 ≡ spec.is_faulty n (spec.entries_seen from.entry) before.now stmt.now) }
-    ensures entry { IfOk result (λ p. p.1 ≡ spec.entry_of n (spec.entries_seen from.entry) before.now stmt.now) }
-{
-    match from {
-        None => own_entry(alloc, n, before, next, stmt),
-        Some(from) => chosen_entry(alloc, n, from, before, stmt),
-    }
-}
 
 /// The least of this fault and that of a statement, if there is one.
 pub(crate) fn with_fault(
@@ -51,53 +32,119 @@ pub(crate) fn with_fault(
     }
 }
 
-/// One more name behind those before, with the least fault and the next number.
-fn with_entry(
-    best: Option<Found>,
-    alloc: Global,
-    n: Numbering,
-    from: Option<&[Entry]>,
-    number: u32,
-    entries: &mut Vec<Entry>,
-    next: i128,
-    stmt: &Stmt,
-) -> Result<(Option<Found>, i128), NoMemory>
-    requires { next ≡ spec.next entries.old.items }
-    ensures entries { IfOk result (λ _. entries.new.items ≡ entries.old.items ++ spec.entry_of n (spec.entries_seen from.entry) entries.old.items stmt.now ∷ []) }
-    ensures fault { IfOk result (λ p. p.0 ≡ least best (if spec.is_faulty n (spec.entries_seen from.entry) entries.old.items stmt.now then at_stmt BadRestriction number stmt.now else [])) }
-    ensures next { IfOk result (λ p. p.1 ≡ spec.next entries.new.items) }
-{
-    let (bad, entry) = entry_of(alloc, n, from, entries.as_slice(), next, stmt)?;
-    let after = next_after(entries.as_slice(), next, entry.number)?;
-    append(entries, entry)?;
-    Ok((
-        with_fault(best, bad, Cause::BadRestriction, number, stmt),
-        after,
-    ))
+/// How a statement of a module lists the names of a type.
+#[derive(Clone, Copy)]
+pub(crate) struct Naming {
+    pub(crate) alloc: Global,
+    pub(crate) numbering: Numbering,
+    pub(crate) number: u32,
 }
 
-/// The names that a statement gives, and the least of this fault and theirs.
-pub(crate) fn with_entries(
-    best: Option<Found>,
-    alloc: Global,
-    n: Numbering,
-    from: Option<&[Entry]>,
-    number: u32,
-    stmt: &Stmt,
-) -> Result<(Option<Found>, Vec<Entry>), NoMemory>
-    ensures fault { IfOk result (λ p. p.0 ≡ least best (spec.entry_faults n (spec.entries_seen from.entry) number [] (statements.all_named (spec.item_of n) stmt.now))) }
-    ensures entries { IfOk result (λ p. p.1.items ≡ spec.entries_of n (spec.entries_seen from.entry) [] (statements.all_named (spec.item_of n) stmt.now)) }
-{
-    let mut entries = Vec::new(alloc);
-    let mut best = best;
-    let mut next = 0;
-    for sub in stmt.subs.items() {
-        if !is_named(n.item(), sub) {
-            continue;
-        }
-        let (found, after) = with_entry(best, alloc, n, from, number, &mut entries, next, sub)?;
-        best = found;
-        next = after;
+impl Naming {
+    /// One more name of the statement's own behind those before, with the least fault and the next number.
+    fn with_own(
+        self,
+        best: Option<Found>,
+        entries: &mut Vec<Entry>,
+        next: i128,
+        stmt: &Stmt,
+    ) -> Result<(Option<Found>, i128), NoMemory>
+        requires next { next ≡ spec.next entries.old.items }
+        requires small { next ≤ℤ spec.bound (length entries.old.items) }
+        ensures entries { IfOk result (λ _. entries.new.items ≡ entries.old.items ++ spec.entry_of self.numbering None entries.old.items stmt.now ∷ []) }
+        ensures fault { IfOk result (λ p. p.0 ≡ least best (if spec.is_faulty self.numbering None entries.old.items stmt.now then at_stmt BadRestriction self.number stmt.now else [])) }
+        ensures next { IfOk result (λ p. p.1 ≡ spec.next entries.new.items) }
+        ensures small { IfOk result (λ p. p.1 ≤ℤ spec.bound (length entries.old.items + 1)) }
+    {
+        let (bad, entry) = own_entry(self.alloc, self.numbering, entries.as_slice(), next, stmt)?;
+        let after = next_after(entries.as_slice(), next, &entry);
+        append(entries, entry)?;
+        Ok((
+            with_fault(best, bad, Cause::BadRestriction, self.number, stmt),
+            after,
+        ))
     }
-    Ok((best, entries))
+
+    /// The names that the statement gives, and the least of this fault and theirs.
+    fn own_entries(
+        self,
+        best: Option<Found>,
+        stmt: &Stmt,
+    ) -> Result<(Option<Found>, Vec<Entry>), NoMemory>
+        ensures fault { IfOk result (λ p. p.0 ≡ least best (spec.entry_faults self.numbering None self.number [] (statements.all_named (spec.item_of self.numbering) stmt.now))) }
+        ensures entries { IfOk result (λ p. p.1.items ≡ spec.entries_of self.numbering None [] (statements.all_named (spec.item_of self.numbering) stmt.now)) }
+    {
+        let mut entries = Vec::new(self.alloc);
+        let mut best = best;
+        let mut next = 0;
+        for sub in stmt.subs.items() {
+            if !is_named(self.numbering.item(), sub) {
+                continue;
+            }
+            let (found, after) = self.with_own(best, &mut entries, next, sub)?;
+            best = found;
+            next = after;
+        }
+        Ok((best, entries))
+    }
+
+    /// One more name that is chosen from these behind those before, with the least fault.
+    fn with_choice(
+        self,
+        best: Option<Found>,
+        from: &[Entry],
+        entries: &mut Vec<Entry>,
+        stmt: &Stmt,
+    ) -> Result<Option<Found>, NoMemory>
+        ensures entries { IfOk result (λ _. entries.new.items ≡ entries.old.items ++ spec.entry_of self.numbering (Some from.now) entries.old.items stmt.now ∷ []) }
+        ensures fault { IfOk result (λ found. found ≡ least best (if spec.is_faulty self.numbering (Some from.now) entries.old.items stmt.now then at_stmt BadRestriction self.number stmt.now else [])) }
+    {
+        let (bad, entry) = chosen_entry(
+            self.alloc,
+            self.numbering,
+            from,
+            entries.as_slice(),
+            stmt,
+        )?;
+        append(entries, entry)?;
+        Ok(with_fault(best, bad, Cause::BadRestriction, self.number, stmt))
+    }
+
+    /// The names that the statement chooses from these, and the least of this fault and theirs.
+    fn chosen_entries(
+        self,
+        best: Option<Found>,
+        from: &[Entry],
+        stmt: &Stmt,
+    ) -> Result<(Option<Found>, Vec<Entry>), NoMemory>
+        ensures fault { IfOk result (λ p. p.0 ≡ least best (spec.entry_faults self.numbering (Some from.now) self.number [] (statements.all_named (spec.item_of self.numbering) stmt.now))) }
+        ensures entries { IfOk result (λ p. p.1.items ≡ spec.entries_of self.numbering (Some from.now) [] (statements.all_named (spec.item_of self.numbering) stmt.now)) }
+    {
+        let mut entries = Vec::new(self.alloc);
+        let mut best = best;
+        for sub in stmt.subs.items() {
+            if !is_named(self.numbering.item(), sub) {
+                continue;
+            }
+            best = self.with_choice(best, from, &mut entries, sub)?;
+        }
+        Ok((best, entries))
+    }
+
+    /// The names that the statement has, chosen from these where there are some to choose from, and the least of this fault and
+    /// theirs.
+    pub(crate) fn with_entries(
+        self,
+        best: Option<Found>,
+        from: Option<&[Entry]>,
+        stmt: &Stmt,
+    ) -> Result<(Option<Found>, Vec<Entry>), NoMemory>
+        ensures fault { IfOk result (λ p. p.0 ≡ least best (spec.entry_faults self.numbering (spec.entries_seen from.entry) self.number [] (statements.all_named (spec.item_of self.numbering) stmt.now))) }
+        ensures entries { IfOk result (λ p. p.1.items ≡ spec.entries_of self.numbering (spec.entries_seen from.entry) [] (statements.all_named (spec.item_of self.numbering) stmt.now)) }
+    {
+        match from {
+            None => self.own_entries(best, stmt),
+            Some(from) => self.chosen_entries(best, from, stmt),
+        }
+    }
 }

@@ -6,47 +6,40 @@ ghost use Rattle.sal_typedefs.specs.Ready as spec;
 
 use crate::append::append;
 use crate::block::{Numbers, define};
+use crate::tally::Tally;
 use sal_module::{Keyword, argument_of, is_named};
 use sal_stmt::Stmt;
 use sal_types::NoMemory;
 use std::alloc::Global;
 use std::collections::BTreeMap;
 
-/// A statement that is an identity has this number, where its name has none. The answer is the next number.
+/// A statement that is an identity has the next number, where its name has none, and is counted.
 fn define_identity(
     map: &mut Numbers,
     alloc: Global,
     sub: &Stmt,
-    next: usize,
-) -> Result<usize, NoMemory>
-    ensures next { IfOk result (λ n. n ≡ next + length (spec.identities_among (sub.now ∷ []))) }
-    ensures names { IfOk result (λ _. (q : List ℕ) → get_by_text map.new q ≡ blocks.with_first (get_by_text map.old q) (spec.is_identity_of q sub.now) next) }
+    tally: &mut Tally,
+) -> Result<(), NoMemory>
+    ensures next { IfOk result (λ _. tally.new ≡ tally.old + length (spec.identities_among (sub.now ∷ []))) }
+    ensures names { IfOk result (λ _. (q : List ℕ) → get_by_text map.new q ≡ blocks.with_first (get_by_text map.old q) (spec.is_identity_of q sub.now) tally.old) }
 {
     if !is_named(Keyword::Identity, sub) {
-        return Ok(next);
+        return Ok(());
     }
-    define(map, alloc, argument_of(sub), next)?;
-    match next.checked_add(1) {
-        Some(n) => Ok(n),
-        None => Err(NoMemory),
-    }
+    define(map, alloc, argument_of(sub), tally.number())?;
+    tally.add()
 }
 
-/// The identities among these statements by name, counted from a number on, and the next number.
-fn identities_among(
-    alloc: Global,
-    start: usize,
-    subs: &[Stmt],
-) -> Result<(Numbers, usize), NoMemory>
-    ensures names { IfOk result (λ p. spec.AreNumbered start subs.now p.0) }
-    ensures next { IfOk result (λ p. p.1 ≡ start + length (spec.identities_among subs.now)) }
+/// The identities among these statements by name, numbered behind those that were counted, and now counted too.
+fn identities_among(alloc: Global, tally: &mut Tally, subs: &[Stmt]) -> Result<Numbers, NoMemory>
+    ensures names { IfOk result (λ map. spec.AreNumbered tally.old subs.now map) }
+    ensures next { IfOk result (λ _. tally.new ≡ tally.old + length (spec.identities_among subs.now)) }
 {
     let mut map = BTreeMap::new(alloc);
-    let mut next = start;
     for sub in subs {
-        next = define_identity(&mut map, alloc, sub, next)?;
+        define_identity(&mut map, alloc, sub, tally)?;
     }
-    Ok((map, next))
+    Ok(map)
 }
 
 /// The identities of each module by name.
@@ -54,11 +47,12 @@ pub(crate) fn identities_of(alloc: Global, stmts: &[Stmt]) -> Result<Vec<Numbers
     ensures { IfOk result (λ all. spec.AreIdentities stmts.now all.items) }
 {
     let mut all = Vec::with_capacity(alloc, stmts.len())?;
-    let mut next = 0;
+    let mut tally = Tally::new(alloc);
     for stmt in stmts {
-        let (map, after) = identities_among(alloc, next, stmt.subs.items())?;
-        append(&mut all, map)?;
-        next = after;
+        append(
+            &mut all,
+            identities_among(alloc, &mut tally, stmt.subs.items())?,
+        )?;
     }
     Ok(all)
 }

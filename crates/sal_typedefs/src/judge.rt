@@ -11,9 +11,8 @@ use crate::basis::with_entries;
 use crate::entry::Entry;
 use crate::judgement::{Basis, Judgement};
 use crate::judging::{small_number, with_absent, with_all_digits, with_subs};
-use crate::layer::{is_plain, listed, named_type};
+use crate::layer::{Restriction, is_plain, listed};
 use crate::narrowing::restricted;
-use crate::typedefs::Typedefs;
 use sal_module::{Found, Keyword, value_of};
 use sal_restrict::YangType;
 use sal_stmt::Stmt;
@@ -30,65 +29,6 @@ pub(crate) fn faulty(alloc: Global, fault: Option<Found>) -> Judgement
         ty: YangType::Empty,
         entries: Vec::new(alloc),
     }
-}
-
-fn typed(
-    alloc: Global,
-    typedefs: &Typedefs,
-    number: u32,
-    stmt: &Stmt,
-    basis: &Basis,
-    entries: &[Entry],
-    types: &[YangType],
-) -> Result<YangType, NoMemory>
-    requires { HasNumbers (out-YangType basis.now.ty) }
-    ensures value { IfOk result (λ it. it
-        ≡ roll-YangType (types_spec.restricted typedefs.now number (spec.base_seen basis.now) stmt.now types.now entries.now (out-YangType basis.now.ty))) }
-    ensures numbers { IfOk result (λ it. HasNumbers (out-YangType it)) }
-{
-    if is_plain(&basis.ty) {
-        let ty = restricted(alloc, &basis.ty, basis.itself, stmt)?;
-        return Ok(ty);
-    }
-    named_type(alloc, typedefs, number, stmt, basis, entries, types)
-}
-
-/// A statement over a type that has its fraction digits.
-fn judge_layer(
-    best: Option<Found>,
-    alloc: Global,
-    typedefs: &Typedefs,
-    number: u32,
-    stmt: &Stmt,
-    basis: &Basis,
-    types: &[YangType],
-) -> Result<Judgement, NoMemory>
-    requires { HasNumbers (out-YangType basis.now.ty) }
-    ensures fault { IfOk result (λ d. d.fault ≡ least best (spec.layer_faults (spec.base_seen basis.now) number stmt.now)) }
-    ensures meant { IfOk result (λ d. d.fault ≡ None → d.ty ≡ spec.layer_meaning typedefs.now number (spec.base_seen basis.now) stmt.now types.now) }
-    ensures entries { IfOk result (λ d. d.fault ≡ None → d.entries.items ≡ types_spec.entries_in (spec.base_seen basis.now) stmt.now (out-YangType basis.now.ty)) }
-    ensures numbers { IfOk result (λ d. HasNumbers (out-YangType d.ty)) }
-{
-    let best = with_absent(best, &basis.ty, basis.itself, number, stmt);
-    let best = with_subs(best, alloc, &basis.ty, basis.itself, number, stmt)?;
-    let (best, entries) = listed(best, alloc, basis, number, stmt)?;
-    if best.is_some() {
-        return Ok(faulty(alloc, best));
-    }
-    let ty = typed(
-        alloc,
-        typedefs,
-        number,
-        stmt,
-        basis,
-        entries.as_slice(),
-        types,
-    )?;
-    Ok(Judgement {
-        fault: best,
-        ty,
-        entries,
-    })
 }
 
 /// Whether this is the built-in type decimal64.
@@ -123,49 +63,72 @@ fn digits_layer(alloc: Global, basis: &Basis, stmt: &Stmt) -> Result<Basis, NoMe
     with_entries(alloc, ty, basis.entries.as_slice(), basis.itself)
 }
 
-/// A statement over a decimal64 whose digits it gives.
-fn judge_digits(
-    best: Option<Found>,
-    alloc: Global,
-    typedefs: &Typedefs,
-    number: u32,
-    stmt: &Stmt,
-    basis: &Basis,
-    types: &[YangType],
-) -> Result<Judgement, NoMemory>
-    requires digits { restrictions.digits_of stmt.now ≤ 18 }
-    requires numbers { HasNumbers (out-YangType basis.now.ty) }
-    ensures fault { IfOk result (λ d. d.fault ≡ least best (spec.layer_faults (spec.with_layer (spec.base_seen basis.now) (restrictions.digits_of stmt.now)) number stmt.now)) }
-    ensures meant { IfOk result (λ d. d.fault ≡ None → d.ty ≡ spec.layer_meaning typedefs.now number (spec.with_layer (spec.base_seen basis.now) (restrictions.digits_of stmt.now)) stmt.now types.now) }
-    ensures entries { IfOk result (λ d. d.fault ≡ None → d.entries.items
-        ≡ types_spec.entries_in (spec.with_layer (spec.base_seen basis.now) (restrictions.digits_of stmt.now)) stmt.now (out-YangType (spec.with_layer (spec.base_seen basis.now) (restrictions.digits_of stmt.now)).type)) }
-    ensures numbers { IfOk result (λ d. HasNumbers (out-YangType d.ty)) }
-{
-    let layer = digits_layer(alloc, basis, stmt)?;
-    judge_layer(best, alloc, typedefs, number, stmt, &layer, types)
-}
+impl<'x, 'a> Restriction<'x, 'a> {
+    /// The type that the statement means, with these names.
+    fn typed(&self, basis: &Basis, entries: &[Entry]) -> Result<YangType, NoMemory>
+        requires { HasNumbers (out-YangType basis.now.ty) }
+        ensures value { IfOk result (λ it. it
+            ≡ roll-YangType (types_spec.restricted self.now.typedefs.now self.now.number (spec.base_seen basis.now) self.now.stmt.now self.now.types.now entries.now (out-YangType basis.now.ty))) }
+        ensures numbers { IfOk result (λ it. HasNumbers (out-YangType it)) }
+    {
+        if is_plain(&basis.ty) {
+            let ty = restricted(self.alloc, &basis.ty, basis.itself, self.stmt)?;
+            return Ok(ty);
+        }
+        self.named_type(basis, entries)
+    }
 
-/// A statement over the type that it restricts.
-pub(crate) fn restrict(
-    best: Option<Found>,
-    alloc: Global,
-    typedefs: &Typedefs,
-    number: u32,
-    stmt: &Stmt,
-    basis: &Basis,
-    types: &[YangType],
-) -> Result<Judgement, NoMemory>
-    requires { HasNumbers (out-YangType basis.now.ty) }
-    ensures fault { IfOk result (λ d. d.fault ≡ least best (restrictions.restriction_faults (spec.base_seen basis.now) number stmt.now)) }
-    ensures meant { IfOk result (λ d. d.fault ≡ None → d.ty ≡ spec.meaning_of typedefs.now number (spec.base_seen basis.now) stmt.now types.now) }
-    ensures entries { IfOk result (λ d. d.fault ≡ None → d.entries.items ≡ types_spec.entries_in (spec.base_seen basis.now) stmt.now (restrictions.layer_of (spec.base_seen basis.now) stmt.now)) }
-    ensures numbers { IfOk result (λ d. HasNumbers (out-YangType d.ty)) }
-{
-    if !is_decimal(basis) {
-        return judge_layer(best, alloc, typedefs, number, stmt, basis, types);
+    /// The statement over a type that has its fraction digits.
+    fn judge_layer(&self, best: Option<Found>, basis: &Basis) -> Result<Judgement, NoMemory>
+        requires { HasNumbers (out-YangType basis.now.ty) }
+        ensures fault { IfOk result (λ d. d.fault ≡ least best (spec.layer_faults (spec.base_seen basis.now) self.now.number self.now.stmt.now)) }
+        ensures meant { IfOk result (λ d. d.fault ≡ None → d.ty ≡ spec.layer_meaning self.now.typedefs.now self.now.number (spec.base_seen basis.now) self.now.stmt.now self.now.types.now) }
+        ensures entries { IfOk result (λ d. d.fault ≡ None → d.entries.items ≡ types_spec.entries_in (spec.base_seen basis.now) self.now.stmt.now (out-YangType basis.now.ty)) }
+        ensures numbers { IfOk result (λ d. HasNumbers (out-YangType d.ty)) }
+    {
+        let (number, stmt) = (self.number, self.stmt);
+        let best = with_absent(best, &basis.ty, basis.itself, number, stmt);
+        let best = with_subs(best, self.alloc, &basis.ty, basis.itself, number, stmt)?;
+        let (best, entries) = listed(best, self.alloc, basis, number, stmt)?;
+        if best.is_some() {
+            return Ok(faulty(self.alloc, best));
+        }
+        let ty = self.typed(basis, entries.as_slice())?;
+        Ok(Judgement {
+            fault: best,
+            ty,
+            entries,
+        })
     }
-    if with_all_digits(None, number, stmt).is_some() {
-        return Ok(faulty(alloc, with_all_digits(best, number, stmt)));
+
+    /// The statement over a decimal64 whose digits it gives.
+    fn judge_digits(&self, best: Option<Found>, basis: &Basis) -> Result<Judgement, NoMemory>
+        requires digits { restrictions.digits_of self.now.stmt.now ≤ 18 }
+        requires numbers { HasNumbers (out-YangType basis.now.ty) }
+        ensures fault { IfOk result (λ d. d.fault ≡ least best (spec.layer_faults (spec.with_layer (spec.base_seen basis.now) (restrictions.digits_of self.now.stmt.now)) self.now.number self.now.stmt.now)) }
+        ensures meant { IfOk result (λ d. d.fault ≡ None → d.ty ≡ spec.layer_meaning self.now.typedefs.now self.now.number (spec.with_layer (spec.base_seen basis.now) (restrictions.digits_of self.now.stmt.now)) self.now.stmt.now self.now.types.now) }
+        ensures entries { IfOk result (λ d. d.fault ≡ None → d.entries.items
+            ≡ types_spec.entries_in (spec.with_layer (spec.base_seen basis.now) (restrictions.digits_of self.now.stmt.now)) self.now.stmt.now (out-YangType (spec.with_layer (spec.base_seen basis.now) (restrictions.digits_of self.now.stmt.now)).type)) }
+        ensures numbers { IfOk result (λ d. HasNumbers (out-YangType d.ty)) }
+    {
+        let layer = digits_layer(self.alloc, basis, self.stmt)?;
+        self.judge_layer(best, &layer)
     }
-    judge_digits(best, alloc, typedefs, number, stmt, basis, types)
+
+    /// The statement over the type that it restricts.
+    pub(crate) fn judge(&self, best: Option<Found>, basis: &Basis) -> Result<Judgement, NoMemory>
+        requires { HasNumbers (out-YangType basis.now.ty) }
+        ensures fault { IfOk result (λ d. d.fault ≡ least best (restrictions.restriction_faults (spec.base_seen basis.now) self.now.number self.now.stmt.now)) }
+        ensures meant { IfOk result (λ d. d.fault ≡ None → d.ty ≡ spec.meaning_of self.now.typedefs.now self.now.number (spec.base_seen basis.now) self.now.stmt.now self.now.types.now) }
+        ensures entries { IfOk result (λ d. d.fault ≡ None → d.entries.items ≡ types_spec.entries_in (spec.base_seen basis.now) self.now.stmt.now (restrictions.layer_of (spec.base_seen basis.now) self.now.stmt.now)) }
+        ensures numbers { IfOk result (λ d. HasNumbers (out-YangType d.ty)) }
+    {
+        if !is_decimal(basis) {
+            return self.judge_layer(best, basis);
+        }
+        if with_all_digits(None, self.number, self.stmt).is_some() {
+            return Ok(faulty(self.alloc, with_all_digits(best, self.number, self.stmt)));
+        }
+        self.judge_digits(best, basis)
+    }
 }

@@ -12,7 +12,7 @@ ghost use Rattle.sal_typedefs.specs.Types as types_spec;
 ghost use Rattle.sal_typedefs.specs.Judgements as spec;
 
 use crate::append::append;
-use crate::entries::with_entries;
+use crate::entries::Naming;
 use crate::entry::{Entry, Numbering};
 use crate::judgement::Basis;
 use crate::meaning::{bases_of, chosen_places, flat, names_in, own_places, positions};
@@ -81,7 +81,12 @@ fn listed_by(
     if takes_all(n, basis, stmt) {
         return Ok((best, copies(alloc, basis.entries.as_slice())?));
     }
-    with_entries(best, alloc, n, choices(basis), number, stmt)
+    let naming = Naming {
+        alloc,
+        numbering: n,
+        number,
+    };
+    naming.with_entries(best, choices(basis), stmt)
 }
 
 /// The names of a type that a statement restricts, and the least of this fault and theirs.
@@ -125,54 +130,59 @@ fn enum_type(
     })
 }
 
-/// The type that a statement means which lists names, or names bases or members.
-pub(crate) fn named_type(
-    alloc: Global,
-    typedefs: &Typedefs,
-    number: u32,
-    stmt: &Stmt,
-    basis: &Basis,
-    entries: &[Entry],
-    types: &[YangType],
-) -> Result<YangType, NoMemory>
-    requires { types_spec.IsPlain (out-YangType basis.now.ty) → ⊥ }
-    ensures value { IfOk result (λ it. it
-        ≡ roll-YangType (types_spec.restricted typedefs.now number (spec.base_seen basis.now) stmt.now types.now entries.now (out-YangType basis.now.ty))) }
-    ensures numbers { IfOk result (λ it. HasNumbers (out-YangType it)) }
-{
-    match &basis.ty {
-        YangType::Enum { names, places } => {
-            if takes_all(Numbering::Enums, basis, stmt) {
-                return basis.ty.copy(alloc);
+/// A statement of a module that restricts a type, and the types of the statements that it rests on.
+#[derive(Clone, Copy)]
+pub(crate) struct Restriction<'x, 'a> {
+    pub(crate) alloc: Global,
+    pub(crate) typedefs: &'x Typedefs<'a>,
+    pub(crate) number: u32,
+    pub(crate) stmt: &'x Stmt,
+    pub(crate) types: &'x [YangType],
+}
+
+impl<'x, 'a> Restriction<'x, 'a> {
+    /// The type that the statement means, where it lists names, or names bases or members.
+    pub(crate) fn named_type(&self, basis: &Basis, entries: &[Entry]) -> Result<YangType, NoMemory>
+        requires { types_spec.IsPlain (out-YangType basis.now.ty) → ⊥ }
+        ensures value { IfOk result (λ it. it
+            ≡ roll-YangType (types_spec.restricted self.now.typedefs.now self.now.number (spec.base_seen basis.now) self.now.stmt.now self.now.types.now entries.now (out-YangType basis.now.ty))) }
+        ensures numbers { IfOk result (λ it. HasNumbers (out-YangType it)) }
+    {
+        let alloc = self.alloc;
+        match &basis.ty {
+            YangType::Enum { names, places } => {
+                if takes_all(Numbering::Enums, basis, self.stmt) {
+                    return basis.ty.copy(alloc);
+                }
+                enum_type(alloc, names.items(), places.items(), basis.itself, entries)
             }
-            enum_type(alloc, names.items(), places.items(), basis.itself, entries)
-        }
-        YangType::Bits { .. } => {
-            if takes_all(Numbering::Bits, basis, stmt) {
-                return basis.ty.copy(alloc);
+            YangType::Bits { .. } => {
+                if takes_all(Numbering::Bits, basis, self.stmt) {
+                    return basis.ty.copy(alloc);
+                }
+                Ok(YangType::Bits {
+                    names: names_in(alloc, entries)?,
+                    positions: positions(alloc, entries)?,
+                })
             }
-            Ok(YangType::Bits {
-                names: names_in(alloc, entries)?,
-                positions: positions(alloc, entries)?,
-            })
-        }
-        YangType::Ident { .. } => {
-            if !basis.itself {
-                return basis.ty.copy(alloc);
+            YangType::Ident { .. } => {
+                if !basis.itself {
+                    return basis.ty.copy(alloc);
+                }
+                Ok(YangType::Ident {
+                    bases: bases_of(alloc, self.typedefs, self.number, self.stmt)?,
+                })
             }
-            Ok(YangType::Ident {
-                bases: bases_of(alloc, typedefs, number, stmt)?,
-            })
-        }
-        YangType::Union { .. } => {
-            if !basis.itself {
-                return basis.ty.copy(alloc);
+            YangType::Union { .. } => {
+                if !basis.itself {
+                    return basis.ty.copy(alloc);
+                }
+                Ok(YangType::Union {
+                    members: flat(alloc, self.types)?,
+                })
             }
-            Ok(YangType::Union {
-                members: flat(alloc, types)?,
-            })
+            _ => basis.ty.copy(alloc),
         }
-        _ => basis.ty.copy(alloc),
     }
 }
 

@@ -2,8 +2,6 @@
 //!
 //! | item | what it is |
 //! |---|---|
-//! | `resolve` | what the `type` statement at a place of some modules means, or its first fault: names first, then all else |
-//! | `TypeSite` | where a `type` statement begins |
 //! | `Typedefs` | modules with their typedefs and identities by name, made once for all look-ups |
 //! | `Block` | a statement whose block is open, with its typedefs by name |
 //! | `name_fault_at` | the first fault of the names in one `type` statement that stands in some blocks |
@@ -19,17 +17,20 @@
 //!
 //! ```
 //! // module m { namespace u; prefix p; typedef t { type uint8 { range 1..9; } } leaf a { type t; } }
-//! resolve(alloc, &modules, &TypeSite { module: 0, at: 84 })?; // uint8, from 1 to 9
-//! path_names(alloc, "../p:a[k = current()/../b]/c")?;         // p:a and c
-//! is_malformed(alloc, "a)|(?:b")?;                            // false: all of the text is put into one group
+//! let typedefs = Typedefs::new(alloc, &modules)?;
+//! // where `module` is the block of m, `leaf` that of its leaf, and `ty` the type statement in it
+//! name_fault_at(alloc, &typedefs, 0, &[module, leaf], ty)?; // None
+//! judge_at(alloc, &typedefs, 0, &[module, leaf], ty)?;      // None, and uint8 from 1 to 9
+//! path_names(alloc, "../p:a[k = current()/../b]/c")?;       // p:a and c
+//! is_malformed(alloc, "a)|(?:b")?;                          // false: all of the text is put into one group
 //! ```
 //!
 //! Cost: `is_malformed` compiles the pattern, as `regex` does. `Typedefs::new` and `Block::new` are linear in the statements, with
 //! the logarithm of the names for each, and `path_names` in the text. The calls for a statement are linear in the statements
 //! that the type rests on, each as often as it is rested on, with the logarithm of a block's typedefs for each name; `judge_at`
-//! also takes the square of the names that a statement lists, and `resolve` looks for circles once for each statement. Where the
-//! names have a fault that is exponential at worst: in a union that names one typedef twice in a circle there is no end but the
-//! number of statements. So ask `name_fault_at` for all types of the modules before any of the others.
+//! also takes the square of the names that a statement lists. Where the names have a fault that is exponential at worst: in a
+//! union that names one typedef twice in a circle there is no end but the number of statements. So ask `name_fault_at` for all
+//! types of the modules before any of the others.
 #![tactic(auto)]
 
 mod append;
@@ -56,12 +57,10 @@ mod narrowing;
 mod numbering;
 mod path;
 mod pattern;
-mod place;
-mod resolution;
 mod restriction;
-mod site;
 mod site_judge;
 mod spot;
+mod tally;
 mod typedefs;
 mod vectors;
 mod walk;
@@ -72,6 +71,4 @@ pub use leafrefs::{Leafref, leafrefs_at};
 pub use names::name_fault_at;
 pub use path::{count_up, path_names};
 pub use pattern::is_malformed;
-pub use resolution::resolve;
-pub use site::TypeSite;
 pub use typedefs::Typedefs;

@@ -1,5 +1,5 @@
 //! How names get their numbers (RFC 7950 sections 9.6.4.2 and 9.7.4.2).
-ghost use Rattle.std.specs.Prelude.{◌≡◌, ◌≢◌, ◌≤◌, ◌++◌, ◌∷◌, [], ℕ, List, min, pos, drop, IfOk, None, Some, unwrap_or};
+ghost use Rattle.std.specs.Prelude.{◌≡◌, ◌≢◌, ◌≤◌, ◌≤ℤ◌, ◌+◌, ◌++◌, ◌∷◌, [], ℕ, min, pos, drop, length, IfOk, IfSome, None, Some, unwrap_or};
 ghost use Rattle.sal_stmt.specs.Words.{first};
 ghost use Rattle.std.specs.Option.{option_copied};
 ghost use Rattle.sal_module.specs.Arguments.{decimal};
@@ -41,7 +41,8 @@ fn first(text: &[u8]) -> u8
 fn integer(text: &[u8]) -> i128
     requires minus { first text.now ≡ 45 → decimal (drop 1 text.now) ≤ 4294967296 }
     requires plus { first text.now ≢ 45 → decimal text.now ≤ 4294967296 }
-    ensures { result ≡ spec.integer text.now }
+    ensures value { result ≡ spec.integer text.now }
+    ensures small { result ≤ℤ spec.bound 0 }
 {
     if first(text) == b'-' {
         -i128::from(decimal(&text[1..]))
@@ -103,7 +104,8 @@ impl Numbering {
 
     /// The number that a text writes, where it has the form.
     fn number(self, text: &str) -> Option<i128>
-        ensures { result ≡ spec.stated self (Some text.now) }
+        ensures value { result ≡ spec.stated self (Some text.now) }
+        ensures small { IfSome result (λ number. number ≤ℤ spec.bound 0) }
     {
         if !self.has_form(text) {
             return None;
@@ -113,7 +115,8 @@ impl Numbering {
 
     /// The number that a statement gives, or else this one.
     fn number_or(self, text: Option<&str>, next: i128) -> i128
-        ensures { result ≡ unwrap_or (spec.stated self (spec.text_seen text.entry)) next }
+        ensures value { result ≡ unwrap_or (spec.stated self (spec.text_seen text.entry)) next }
+        ensures small { (k : ℕ) → next ≤ℤ spec.bound k → result ≤ℤ spec.bound k }
     {
         match text {
             None => next,
@@ -187,9 +190,11 @@ pub(crate) fn own_entry(
     next: i128,
     stmt: &Stmt,
 ) -> Result<(bool, Entry), NoMemory>
-    requires { next ≡ spec.next before.now }
+    requires next { next ≡ spec.next before.now }
+    requires small { next ≤ℤ spec.bound (length before.now) }
     ensures bad { IfOk result (λ p. p.0 ≡ spec.is_bad n before.now stmt.now) }
     ensures entry { IfOk result (λ p. p.1 ≡ spec.entry_of n None before.now stmt.now) }
+    ensures small { IfOk result (λ p. p.1.number ≤ℤ spec.bound (length before.now)) }
 {
     let name = argument_of(stmt);
     let text = n.text_of(stmt);
@@ -239,18 +244,19 @@ pub(crate) fn chosen_entry(
     Ok((bad, entry_or(alloc, found, name)?))
 }
 
-/// The next number, behind one more name of this number.
-pub(crate) fn next_after(before: &[Entry], next: i128, number: i128) -> Result<i128, NoMemory>
-    requires { next ≡ spec.next before.now }
-    ensures { IfOk result (λ after. (name : List ℕ) → after ≡ spec.next (before.now ++ record { name = name; number = number } ∷ [])) }
+/// The next number, behind one more name.
+pub(crate) fn next_after(before: &[Entry], next: i128, entry: &Entry) -> i128
+    requires next { next ≡ spec.next before.now }
+    requires small { next ≤ℤ spec.bound (length before.now) }
+    requires entry { entry.now.number ≤ℤ spec.bound (length before.now) }
+    ensures next { result ≡ spec.next (before.now ++ entry.now ∷ []) }
+    ensures small { result ≤ℤ spec.bound (length before.now + 1) }
 {
-    let after = match number.checked_add(1) {
-        None => return Err(NoMemory),
-        Some(after) => after,
-    };
-    if before.is_empty() || after > next {
-        Ok(after)
+    let count = before.len();
+    let after = entry.number + 1;
+    if count == 0 || after > next {
+        after
     } else {
-        Ok(next)
+        next
     }
 }

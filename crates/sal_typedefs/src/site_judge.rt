@@ -12,14 +12,14 @@ ghost use Rattle.sal_typedefs.specs.Judgements as spec;
 
 use crate::basis::{basis_of, types_of};
 use crate::builtin::builtin_of;
-use crate::judge::{faulty, restrict};
+use crate::judge::faulty;
 use crate::judgement::{Basis, Judgement};
 use crate::judging::with_patterns;
+use crate::layer::Restriction;
 use crate::merging::fault_below;
 use crate::spot::Spot;
 use crate::typedefs::Typedefs;
 use sal_module::{Found, argument_of};
-use sal_stmt::Stmt;
 use sal_types::NoMemory;
 use std::alloc::Global;
 
@@ -28,19 +28,25 @@ fn judge_over(
     best: Option<Found>,
     alloc: Global,
     typedefs: &Typedefs,
-    number: u32,
-    stmt: &Stmt,
+    spot: &Spot,
     basis: &Basis,
     below: &[Judgement],
 ) -> Result<Judgement, NoMemory>
     requires { HasNumbers (out-YangType basis.now.ty) }
-    ensures fault { IfOk result (λ d. d.fault ≡ least best (restrictions.restriction_faults (spec.base_seen basis.now) number stmt.now)) }
-    ensures meant { IfOk result (λ d. d.fault ≡ None → d.ty ≡ spec.meaning_of typedefs.now number (spec.base_seen basis.now) stmt.now (map (λ (j : Kept). j.ty) below.now)) }
-    ensures entries { IfOk result (λ d. d.fault ≡ None → d.entries.items ≡ types_spec.entries_in (spec.base_seen basis.now) stmt.now (restrictions.layer_of (spec.base_seen basis.now) stmt.now)) }
+    ensures fault { IfOk result (λ d. d.fault ≡ least best (restrictions.restriction_faults (spec.base_seen basis.now) spot.now.module spot.now.stmt.now)) }
+    ensures meant { IfOk result (λ d. d.fault ≡ None → d.ty ≡ spec.meaning_of typedefs.now spot.now.module (spec.base_seen basis.now) spot.now.stmt.now (map (λ (j : Kept). j.ty) below.now)) }
+    ensures entries { IfOk result (λ d. d.fault ≡ None → d.entries.items ≡ types_spec.entries_in (spec.base_seen basis.now) spot.now.stmt.now (restrictions.layer_of (spec.base_seen basis.now) spot.now.stmt.now)) }
     ensures numbers { IfOk result (λ d. HasNumbers (out-YangType d.ty)) }
 {
     let types = types_of(alloc, below)?;
-    restrict(best, alloc, typedefs, number, stmt, basis, types.as_slice())
+    let restriction = Restriction {
+        alloc,
+        typedefs,
+        number: spot.module,
+        stmt: spot.stmt,
+        types: types.as_slice(),
+    };
+    restriction.judge(best, basis)
 }
 
 /// What a statement is, where those below are these.
@@ -61,6 +67,6 @@ pub(crate) fn judge_one(
         return Ok(faulty(alloc, best));
     }
     let basis = basis_of(alloc, builtin_of(argument_of(spot.stmt)), below)?;
-    let judgement = judge_over(best, alloc, typedefs, spot.module, spot.stmt, &basis, below)?;
+    let judgement = judge_over(best, alloc, typedefs, spot, &basis, below)?;
     Ok(judgement)
 }

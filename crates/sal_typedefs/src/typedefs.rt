@@ -74,7 +74,7 @@ impl<'a> Typedefs<'a> {
         let stmts = modules.items();
         let tops = tops_of(alloc, stmts)?;
         let identities = identities_of(alloc, stmts)?;
-        let steps = steps_of(stmts)?;
+        let steps = steps_of(alloc, stmts)?;
         Ok(Typedefs {
             modules,
             tops,

@@ -6,19 +6,19 @@ ghost use Rattle.sal_restrict.specs.declared.yang_type.YangType.{roll-YangType};
 ghost use Rattle.sal_typedefs.specs.Examples as example;
 ghost use Rattle.sal_typedefs.specs.Patterns.{is_malformed};
 
-use sal_module::{BuildFault, Cause};
+use sal_module::Cause;
 
 /// Faults, as the definitions give them. A call does nothing: its clauses are the laws.
 pub fn faults()
-    ensures unknown { example.leaf_type [] "nope" [] ≡ example.refused (BuildFault.UnknownName 0 32) }
-    ensures prefix { example.name_fault (example.with_leaf [] "p:string" []) 32 ≡ Some (found Cause.UnknownName 0 32) }
+    ensures unknown { example.name_fault (example.with_leaf [] "nope" []) 32 ≡ example.unknown 32 }
+    ensures prefix { example.name_fault (example.with_leaf [] "p:string" []) 32 ≡ example.unknown 32 }
     ensures wider { example.leaf_fault (example.port ∷ []) "p:port" (plain "range" 34 "0..5" [] ∷ []) ≡ example.bad 34 }
     ensures circle { example.name_fault (example.typedef 20 "a" (example.type_at 22 "b" []) ∷ example.typedef 25 "b" (example.type_at 27 "a" []) ∷ []) 22 ≡ Some (found Cause.NameCycle 0 22) }
     ensures lacking { example.leaf_fault (example.letters ∷ []) "letter" (example.enum 34 "z" ∷ []) ≡ example.bad 34 }
     ensures twice { example.leaf_fault [] "enumeration" (example.enum 34 "x" ∷ example.enum 36 "x" ∷ []) ≡ example.bad 36 }
-    ensures absent { example.leaf_type [] "decimal64" (plain "range" 34 "1" [] ∷ []) ≡ example.refused (BuildFault.BadRestriction 0 32) }
-    ensures kind { example.leaf_type [] "string" (plain "range" 34 "1" [] ∷ []) ≡ example.refused (BuildFault.BadRestriction 0 34) }
-    ensures path { example.leaf_type [] "leafref" (plain "path" 34 "/q:a[b]/c" [] ∷ []) ≡ example.refused (BuildFault.UnknownName 0 32) }
+    ensures absent { example.leaf_fault [] "decimal64" (plain "range" 34 "1" [] ∷ []) ≡ example.bad 32 }
+    ensures kind { example.leaf_fault [] "string" (plain "range" 34 "1" [] ∷ []) ≡ example.bad 34 }
+    ensures path { example.name_fault (example.with_leaf [] "leafref" (plain "path" 34 "/q:a[b]/c" [] ∷ [])) 32 ≡ example.unknown 32 }
 {}
 
 /// Types, and what is a pattern, as the definitions give them. A call does nothing: its clauses are the laws.

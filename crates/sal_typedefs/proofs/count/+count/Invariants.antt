@@ -9,4 +9,4 @@ abbrev pub decreases-count : goal.decreases-count
 decreases-count l = l.levels
 
 abbrev pub invariant-loop-sub : goal.invariant-loop-sub
-invariant-loop-sub l = l.n ≡ 1 + sum_by (count (l.levels - 1)) (take l.sub-index (subs_of l.stmt))
+invariant-loop-sub l = l.tally ≡ l.fn.tally + (1 + sum_by (count (l.levels - 1)) (take l.sub-index (subs_of l.stmt)))

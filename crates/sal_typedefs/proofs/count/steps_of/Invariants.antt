@@ -5,4 +5,4 @@ use Rattle.sal_typedefs.specs.Names.{count}
 use Rattle.sal_typedefs.proofs.count.steps_of.Given as goal
 
 abbrev pub invariant-loop-stmt : goal.invariant-loop-stmt
-invariant-loop-stmt l = l.n ≡ sum_by (count 64) (take l.stmt-index l.stmts)
+invariant-loop-stmt l = l.tally ≡ sum_by (count 64) (take l.stmt-index l.stmts)

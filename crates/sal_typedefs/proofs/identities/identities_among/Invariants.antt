@@ -6,6 +6,6 @@ use Rattle.sal_typedefs.proofs.identities.identities_among.Given as goal
 abbrev pub invariant-loop-sub : goal.invariant-loop-sub
 invariant-loop-sub l =
     record {
-      names : AreNumbered l.start (take l.sub-index l.subs) l.map;
-      next : l.next ≡ l.start + length (identities_among (take l.sub-index l.subs));
+      names : AreNumbered l.initial.tally (take l.sub-index l.subs) l.map;
+      next : l.tally ≡ l.initial.tally + length (identities_among (take l.sub-index l.subs));
     }

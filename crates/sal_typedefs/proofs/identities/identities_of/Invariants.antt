@@ -11,6 +11,6 @@ abbrev pub invariant-loop-stmt : goal.invariant-loop-stmt
 invariant-loop-stmt l =
     record {
       count : length l.all.items ≡ l.stmt-index;
-      next : l.next ≡ sum_by (λ one. length (identities_of one)) (take l.stmt-index l.stmts);
+      next : l.tally ≡ sum_by (λ one. length (identities_of one)) (take l.stmt-index l.stmts);
       each : (m : ℕ) (d : Numbers) → m < l.stmt-index → (e : Stmt) (q : List ℕ) → get_by_text (get_or l.all.items m d) q ≡ identity_in l.stmts q m (get_or l.stmts m e);
     }

@@ -11,29 +11,29 @@ use Rattle.sal_typedefs.specs.Builtins.{names, builtin_of}
 use Rattle.sal_typedefs.specs.Names.{under, count, name_of}
 use Rattle.sal_typedefs.specs.Restrictions.{is_needed, is_misplaced, layer_of}
 use Rattle.sal_typedefs.specs.Patterns.{is_malformed}
-use Rattle.sal_typedefs.specs.Types.{judge, resolve, restricted, judged, base_of, members_of}
+use Rattle.sal_typedefs.specs.Types.{judge, restricted, judged, base_of, members_of}
 use Rattle.regex.proofs.OnLiterals.{regex_on_literals}
 use Rattle.std.specs.Str.{chars}
 use Rattle.sal_typedefs.proofs.vectors.meanings.Goals as goal
 
 pub returns-clause-narrowed : goal.returns-clause-narrowed
-unfolding words keyword_of word_of is_keyword way_to names builtin_of under count judge resolve
+unfolding words keyword_of word_of is_keyword way_to names builtin_of under count judge
 returns-clause-narrowed c = simp (place_of, subs_of, within, argument_of, is_named, all_named, value_of, at_stmt, name_of, is_needed, is_misplaced, layer_of, out-roll-Stmt, out-roll-YangType)
 
 pub returns-clause-enumeration : goal.returns-clause-enumeration
-unfolding words keyword_of word_of is_keyword way_to names builtin_of under count judge resolve
+unfolding words keyword_of word_of is_keyword way_to names builtin_of under count judge
 returns-clause-enumeration c = simp (place_of, subs_of, within, argument_of, is_named, all_named, value_of, at_stmt, name_of, is_needed, is_misplaced, layer_of, out-roll-Stmt, out-roll-YangType)
 
 pub returns-clause-subset : goal.returns-clause-subset
-unfolding words keyword_of word_of is_keyword way_to names builtin_of under count judge resolve
+unfolding words keyword_of word_of is_keyword way_to names builtin_of under count judge
 returns-clause-subset c = simp (place_of, subs_of, within, argument_of, is_named, all_named, value_of, at_stmt, name_of, is_needed, is_misplaced, layer_of, out-roll-Stmt, out-roll-YangType)
 
 pub returns-clause-bits : goal.returns-clause-bits
-unfolding words keyword_of word_of is_keyword way_to names builtin_of under count judge resolve
+unfolding words keyword_of word_of is_keyword way_to names builtin_of under count judge
 returns-clause-bits c = simp (place_of, subs_of, within, argument_of, is_named, all_named, value_of, at_stmt, name_of, is_needed, is_misplaced, layer_of, out-roll-Stmt, out-roll-YangType)
 
 pub returns-clause-flat : goal.returns-clause-flat
-unfolding words keyword_of word_of is_keyword way_to names builtin_of under count judge resolve
+unfolding words keyword_of word_of is_keyword way_to names builtin_of under count judge
 returns-clause-flat c = simp (restricted, judged, base_of, members_of, place_of, subs_of, within, argument_of, is_named, all_named, value_of, at_stmt, name_of, is_needed, is_misplaced, layer_of, out-roll-Stmt, out-roll-YangType)
 
 pub returns-clause-open : goal.returns-clause-open

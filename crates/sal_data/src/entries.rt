@@ -55,6 +55,13 @@ pub(crate) fn mark(path: &Path, out: &mut Vec<Row>) -> Result<(), NoMemory>
     Ok(())
 }
 
+fn append(values: &mut Vec<Value>, value: Value) -> Result<(), NoMemory>
+    ensures { OnOk result (values.new.items ≡ values.old.items ++ value ∷ []) }
+{
+    values.push(value)?;
+    Ok(())
+}
+
 fn longer_by(alloc: Global, path: &Path, step: &Step) -> Result<Path, DataFault>
     ensures { GivesUnless DataFault.NoMemory (λ below. below) result (spec.longer path.now step.now) }
 {
@@ -109,7 +116,7 @@ impl<'a> Reader<'a> {
         let mut values = Vec::with_capacity(self.alloc, keys.len())?;
         for key in keys {
             let value = self.key_value(node, path, members, *key)?;
-            values.push(value)?;
+            append(&mut values, value)?;
         }
         Ok(values)
     }

@@ -24,6 +24,7 @@ use Rattle.sal_schema.specs.declared.table.SchemaTable.{SchemaTable}
 use Rattle.sal_schema.specs.Kinds.{is_leaf, is_leaf_list, is_list}
 use Rattle.sal_schema.specs.Table.{is_kind, type_of, module_of}
 use Rattle.sal_schema.specs.Paths.{last_step, node_of}
+use Rattle.sal_schema.proofs.Conjuncts.{or_first, or_second}
 use Rattle.sal_json.specs.Written.{is_wide, atom_json, layer_for, type_json_of, json_of}
 use Rattle.sal_data.specs.Members.{member_name}
 use Rattle.sal_data.specs.Written.{runs_of, step_of, scalar_json, leaf_json, Writer, with_member, with_run, members_json, item_json, items_json, entry_json, entries_json, node_json, any_json, json_at, write_data}
@@ -33,14 +34,6 @@ use Rattle.sal_script.specs.BatchData.{leaf_data}
 
 neither : (a b : Bool) → a ≡ false → b ≡ false → (a || b) ≡ false
 neither a b p q = rw (p, q) refl
-
-first_whole : (a b : Bool) → (a || b) ≡ false → a ≡ false
-first_whole true b h = absurd cc
-first_whole false b h = refl
-
-rest_whole : (a b : Bool) → (a || b) ≡ false → b ≡ false
-rest_whole true b h = absurd cc
-rest_whole false b h = h
 
 one_of : (b : Bool) (x y : Data) → has_float x ≡ false → has_float y ≡ false → has_float (if b then x else y) ≡ false
 one_of true x y p q = p
@@ -58,15 +51,15 @@ chosen Greater a b c p q r = r
 whole_put : (k : List ℕ) (d : Data) (ms : Members) → has_float d ≡ false → members_have_float ms ≡ false → members_have_float (put k d ms) ≡ false
 whole_put k d no_members one all = rw one refl
 whole_put k d (member l e ms) one all =
-    let here = first_whole (has_float e) (members_have_float ms) all in
-    let rest = rest_whole (has_float e) (members_have_float ms) all in
+    let here = or_first (has_float e) (members_have_float ms) all in
+    let rest = or_second (has_float e) (members_have_float ms) all in
     chosen (slice_cmp nat_cmp k l) _ _ _ (neither (has_float d) _ one all) (neither (has_float d) _ one rest) (neither (has_float e) _ here (whole_put k d ms one rest))
 
 whole_append : (xs ys : List Data) → items_have_float (items_of xs) ≡ false → items_have_float (items_of ys) ≡ false → items_have_float (items_of (xs ++ ys)) ≡ false
 whole_append [] ys p q = q
 whole_append (x ∷ xs) ys p q =
-    let here = first_whole (has_float x) (items_have_float (items_of xs)) p in
-    let rest = rest_whole (has_float x) (items_have_float (items_of xs)) p in
+    let here = or_first (has_float x) (items_have_float (items_of xs)) p in
+    let rest = or_second (has_float x) (items_have_float (items_of xs)) p in
     neither (has_float x) _ here (whole_append xs ys rest q)
 
 -- ---- values

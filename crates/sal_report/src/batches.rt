@@ -1,6 +1,5 @@
-//! A listener's batch as a JSON text. Each function writes behind what stands in the text, and copies no change.
-ghost use Rattle.std.specs.Prelude.{◌≡◌, ◌∷◌, ◌++◌, ◌<◌, IfOk, IfSome, OnOk, length, map, option_map, string_bytes};
-ghost use Rattle.std.specs.List.{flat_map};
+//! The parts of a listener's batch as JSON texts. Each function writes behind what stands in the text, and copies no change.
+ghost use Rattle.std.specs.Prelude.{◌≡◌, ◌∷◌, ◌++◌, ◌<◌, IfOk, IfSome, OnOk, length, option_map, string_bytes};
 ghost use Rattle.serde_json.specs.View.{view};
 ghost use Rattle.serde_json.specs.Written.{compact_text};
 ghost use Rattle.sal_schema.specs.Paths.{last_step};
@@ -8,6 +7,7 @@ ghost use Rattle.sal_schema.specs.Table.{type_of};
 ghost use Rattle.sal_data.specs.Written.{scalar_json};
 ghost use Rattle.sal_script.specs.BatchData as spec;
 
+use crate::arrays::{Item, push_array};
 use crate::pieces::{push_location, push_value, push_word};
 use crate::words::candidate_word;
 use sal_json::write_scalar;
@@ -17,99 +17,30 @@ use sal_types::{Cell, NoMemory, Path, Step, Value};
 use serde_json::Value as Json;
 use std::alloc::Global;
 
-// The parts of a batch, as an array.
-pub(crate) fn push_parts(
-    alloc: Global,
-    text: &mut String,
-    schema: &Schema,
-    parts: &[Part],
-) -> Result<(), NoMemory>
-    ensures { OnOk result (string_bytes text.new ≡ string_bytes text.old ++ compact_text (spec.list_data (map (spec.part_data schema.now) parts.now))) }
-{
-    let [first, more @ ..] = parts else {
-        return push_word(text, "[]");
-    };
-    push_word(text, "[")?;
-    push_part(alloc, text, schema, first)?;
-    push_more_parts(alloc, text, schema, more)?;
-    push_word(text, "]")
-}
-
-// A comma and a part, for each.
-fn push_more_parts(
-    alloc: Global,
-    text: &mut String,
-    schema: &Schema,
-    parts: &[Part],
-) -> Result<(), NoMemory>
-    ensures { OnOk result (string_bytes text.new ≡ string_bytes text.old ++ flat_map (λ part. 44 ∷ compact_text (spec.part_data schema.now part)) parts.now) }
-{
-    for part in parts {
-        text.push(',')?;
-        push_part(alloc, text, schema, part)?;
-    }
-    Ok(())
-}
-
 // What one commit changed.
-fn push_part(alloc: Global, text: &mut String, schema: &Schema, part: &Part) -> Result<(), NoMemory>
-    ensures { OnOk result (string_bytes text.new ≡ string_bytes text.old ++ compact_text (spec.part_data schema.now part.now)) }
-{
-    write!(text, "[{},", part.commit)?;
-    text.push_str(candidate_word(part.kind))?;
-    text.push(',')?;
-    push_changes(alloc, text, schema, part.list.items())?;
-    push_word(text, "]")
-}
+impl Item for Part {
+    ghost json = { spec.part_data };
 
-// Changes, as an array.
-fn push_changes(
-    alloc: Global,
-    text: &mut String,
-    schema: &Schema,
-    changes: &[Change],
-) -> Result<(), NoMemory>
-    ensures { OnOk result (string_bytes text.new ≡ string_bytes text.old ++ compact_text (spec.list_data (map (spec.change_data schema.now) changes.now))) }
-{
-    let [first, more @ ..] = changes else {
-        return push_word(text, "[]");
-    };
-    push_word(text, "[")?;
-    push_change(alloc, text, schema, first)?;
-    push_more_changes(alloc, text, schema, more)?;
-    push_word(text, "]")
-}
-
-// A comma and a change, for each.
-fn push_more_changes(
-    alloc: Global,
-    text: &mut String,
-    schema: &Schema,
-    changes: &[Change],
-) -> Result<(), NoMemory>
-    ensures { OnOk result (string_bytes text.new ≡ string_bytes text.old ++ flat_map (λ change. 44 ∷ compact_text (spec.change_data schema.now change)) changes.now) }
-{
-    for change in changes {
+    fn push_item(&self, alloc: Global, text: &mut String, schema: &Schema) -> Result<(), NoMemory> {
+        write!(text, "[{},", self.commit)?;
+        text.push_str(candidate_word(self.kind))?;
         text.push(',')?;
-        push_change(alloc, text, schema, change)?;
+        push_array(alloc, text, schema, self.list.items())?;
+        push_word(text, "]")
     }
-    Ok(())
 }
 
 // The path of a change, with the cells before and after it.
-fn push_change(
-    alloc: Global,
-    text: &mut String,
-    schema: &Schema,
-    change: &Change,
-) -> Result<(), NoMemory>
-    ensures { OnOk result (string_bytes text.new ≡ string_bytes text.old ++ compact_text (spec.change_data schema.now change.now)) }
-{
-    text.push('[')?;
-    push_location(alloc, text, schema, &change.path)?;
-    push_cell(alloc, text, schema, &change.path, &change.before)?;
-    push_cell(alloc, text, schema, &change.path, &change.after)?;
-    push_word(text, "]")
+impl Item for Change {
+    ghost json = { spec.change_data };
+
+    fn push_item(&self, alloc: Global, text: &mut String, schema: &Schema) -> Result<(), NoMemory> {
+        text.push('[')?;
+        push_location(alloc, text, schema, &self.path)?;
+        push_cell(alloc, text, schema, &self.path, &self.before)?;
+        push_cell(alloc, text, schema, &self.path, &self.after)?;
+        push_word(text, "]")
+    }
 }
 
 // A comma and a cell at the path.

@@ -46,16 +46,21 @@ fn push_rule(text: &mut String, schema: &Schema, rule: Rule) -> Result<(), NoMem
     ensures { OnOk result (string_bytes text.new ≡ string_bytes text.old ++ spec.rule_text schema.now rule) }
 {
     match rule {
-        Rule::Mandatory(node) => push_stated(text, schema, "mandatory ", node),
-        Rule::MinElements(node) => push_stated(text, schema, "min-elements ", node),
-        Rule::MaxElements(node) => push_stated(text, schema, "max-elements ", node),
-        Rule::Unique(node) => push_stated(text, schema, "unique ", node),
-        Rule::TwoCases(node) => push_stated(text, schema, "two-cases ", node),
+        Rule::Mandatory(node) => push_named(text, schema, "mandatory ", node),
+        Rule::MinElements(node) => push_named(text, schema, "min-elements ", node),
+        Rule::MaxElements(node) => push_named(text, schema, "max-elements ", node),
+        Rule::Unique(node) => push_named(text, schema, "unique ", node),
+        Rule::TwoCases(node) => push_named(text, schema, "two-cases ", node),
     }
 }
 
-// A word and the node that states the rule.
-fn push_stated(text: &mut String, schema: &Schema, word: &str, node: u32) -> Result<(), NoMemory>
+// A word and the name of a node with that of its module.
+pub(crate) fn push_named(
+    text: &mut String,
+    schema: &Schema,
+    word: &str,
+    node: u32,
+) -> Result<(), NoMemory>
     ensures { OnOk result (string_bytes text.new ≡ string_bytes text.old ++ (word.now ++ node_text schema.now node)) }
 {
     text.push_str(word)?;

@@ -30,6 +30,7 @@
 //! the log and makes its calls on mounts once more, which takes what `sal_mount` takes for them.
 #![tactic(auto)]
 
+mod arrays;
 mod batches;
 mod breaches;
 mod faults;

@@ -4,7 +4,7 @@ ghost use Rattle.serde_json.specs.Written.{compact_text};
 ghost use Rattle.sal_script.specs.BatchData.{batch_data};
 ghost use Rattle.sal_script.specs.Report as spec;
 
-use crate::batches::push_parts;
+use crate::arrays::push_array;
 use crate::pieces::{push_data, push_number, push_numbered, push_word};
 use sal_rows::{Batch, Opened, Rows};
 use sal_schema::Schema;
@@ -39,7 +39,7 @@ pub(crate) fn push_batch(
     push_numbered(text, "batch", batch.from)?;
     push_number(text, batch.to)?;
     text.push(' ')?;
-    push_parts(alloc, text, schema, batch.lists.items())
+    push_array(alloc, text, schema, batch.lists.items())
 }
 
 // What a client has of its listener.

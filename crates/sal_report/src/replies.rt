@@ -1,9 +1,8 @@
 //! The texts of replies. Each function writes behind what stands in the text.
 ghost use Rattle.std.specs.Prelude.{◌≡◌, ◌∷◌, ◌++◌, OnOk, codes, string_bytes};
-ghost use Rattle.sal_script.specs.MessageData.{node_text};
 ghost use Rattle.sal_script.specs.Report as spec;
 
-use crate::breaches::{push_breach, push_node};
+use crate::breaches::{push_breach, push_named};
 use crate::faults::{push_data_fault, push_path_fault, push_tx_fault};
 use crate::listeners::{push_batch, push_listener, push_mirror};
 use crate::pieces::{push_data, push_numbered, push_path, push_word};
@@ -129,14 +128,6 @@ fn push_fault(text: &mut String, schema: &Schema, fault: CallFault) -> Result<()
         CallFault::NoMemory => push_word(text, "no-memory"),
         CallFault::TxSpent => push_word(text, "tx-spent"),
     }
-}
-
-// A word and the name of an RPC.
-fn push_named(text: &mut String, schema: &Schema, word: &str, rpc: u32) -> Result<(), NoMemory>
-    ensures { OnOk result (string_bytes text.new ≡ string_bytes text.old ++ (word.now ++ node_text schema.now rpc)) }
-{
-    text.push_str(word)?;
-    push_node(text, schema, rpc)
 }
 
 fn push_outcome(

@@ -1,16 +1,16 @@
 //! The texts of what services answer: requests and their outputs, notifications, mounts. Each function writes behind what stands in
 //! the text.
-ghost use Rattle.std.specs.Prelude.{◌≡◌, [], ◌∷◌, ◌++◌, IfOk, OnOk, Some, codes, map, string_bytes};
-ghost use Rattle.std.specs.List.{flat_map, slice_get};
+ghost use Rattle.std.specs.Prelude.{◌≡◌, [], ◌∷◌, ◌++◌, IfOk, OnOk, Some, codes, string_bytes};
+ghost use Rattle.std.specs.List.{slice_get};
 ghost use Rattle.serde_json.specs.Data.{string};
 ghost use Rattle.serde_json.specs.Written.{compact_text};
 ghost use Rattle.sal_types.specs.declared.value.Step.TheVariants.{Node};
 ghost use Rattle.sal_schema.specs.Table.{children_of};
-ghost use Rattle.sal_script.specs.BatchData.{list_data};
 ghost use Rattle.sal_script.specs.MessageData.{message_data, node_text, note_data, notes_data};
 ghost use Rattle.sal_script.specs.Messages.{input_of, output_of};
 ghost use Rattle.sal_script.specs.Report as spec;
 
+use crate::arrays::{Item, push_array};
 use crate::breaches::push_node;
 use crate::pieces::{push_data, push_numbered, push_path, push_string, push_word};
 use sal_note::Note;
@@ -151,49 +151,17 @@ pub(crate) fn push_notes(
     push_array(alloc, text, schema, notes)
 }
 
-// Notifications, as an array.
-fn push_array(
-    alloc: Global,
-    text: &mut String,
-    schema: &Schema,
-    notes: &[Note],
-) -> Result<(), NoMemory>
-    ensures { OnOk result (string_bytes text.new ≡ string_bytes text.old ++ compact_text (list_data (map (note_data schema.now) notes.now))) }
-{
-    let [first, more @ ..] = notes else {
-        return push_word(text, "[]");
-    };
-    push_word(text, "[")?;
-    push_note(alloc, text, schema, first)?;
-    push_more_notes(alloc, text, schema, more)?;
-    push_word(text, "]")
-}
-
-// A comma and a notification, for each.
-fn push_more_notes(
-    alloc: Global,
-    text: &mut String,
-    schema: &Schema,
-    notes: &[Note],
-) -> Result<(), NoMemory>
-    ensures { OnOk result (string_bytes text.new ≡ string_bytes text.old ++ flat_map (λ note. 44 ∷ compact_text (note_data schema.now note)) notes.now) }
-{
-    for note in notes {
-        text.push(',')?;
-        push_note(alloc, text, schema, note)?;
-    }
-    Ok(())
-}
-
 // The name of a notification, and its data.
-fn push_note(alloc: Global, text: &mut String, schema: &Schema, note: &Note) -> Result<(), NoMemory>
-    ensures { OnOk result (string_bytes text.new ≡ string_bytes text.old ++ compact_text (note_data schema.now note.now)) }
-{
-    text.push('[')?;
-    push_name(alloc, text, schema, note.note)?;
-    text.push(',')?;
-    push_message(alloc, text, schema, note.note, &note.rows)?;
-    push_word(text, "]")
+impl Item for Note {
+    ghost json = { note_data };
+
+    fn push_item(&self, alloc: Global, text: &mut String, schema: &Schema) -> Result<(), NoMemory> {
+        text.push('[')?;
+        push_name(alloc, text, schema, self.note)?;
+        text.push(',')?;
+        push_message(alloc, text, schema, self.note, &self.rows)?;
+        push_word(text, "]")
+    }
 }
 
 // The name of a node with that of its module, as a JSON text.

@@ -5,9 +5,11 @@ ghost use Rattle.sal_grouping.specs.declared.forest.Branch.{Branch as Knot};
 ghost use Rattle.sal_build.specs.declared.child.Key.{Key as Name};
 ghost use Rattle.sal_build.specs.Inherited.{AreInherited, with_data_node};
 ghost use Rattle.sal_build.specs.Children as spec;
+ghost use Rattle.sal_build.specs.Leafrefs as paths;
 
 use crate::inherited::data_parent;
 use crate::node::{kind_in, name_in, stmt_of};
+use crate::nodes::Nodes;
 use sal_grouping::Branch;
 use sal_module::Modules;
 use sal_schema::Kind;
@@ -29,7 +31,7 @@ pub struct Key {
 }
 
 /// The first node with each key.
-pub(crate) type Found = BTreeMap<Key, u32>;
+pub(crate) type Children = BTreeMap<Key, u32>;
 
 fn is_leaf(kind: Kind) -> bool
     ensures { result ≡ spec.is_leaf_kind kind }
@@ -79,7 +81,7 @@ fn data_key(
 }
 
 /// The key has this number, whatever it had.
-fn put(map: &mut Found, key: Option<Key>, k: u32) -> Result<(), NoMemory>
+fn put(map: &mut Children, key: Option<Key>, k: u32) -> Result<(), NoMemory>
     ensures { IfOk result (λ _. (q : Name) → get spec.key_cmp map.new q ≡ (if spec.is_found_by q key then Some k else get spec.key_cmp map.old q)) }
 {
     if let Some(key) = key {
@@ -101,7 +103,7 @@ pub(crate) fn children_of(
     alloc: Global,
     modules: &Modules,
     forest: &[Branch],
-) -> Result<Found, NoMemory>
+) -> Result<Children, NoMemory>
     requires { length forest.now ≤ 65536 }
     ensures { IfOk result (λ map. (q : Name) → get spec.key_cmp map q ≡ spec.first_with (spec.child_key modules.now) forest.now q) }
 {
@@ -121,7 +123,7 @@ pub(crate) fn data_children_of(
     modules: &Modules,
     forest: &[Branch],
     nodes: &[Option<u32>],
-) -> Result<Found, NoMemory>
+) -> Result<Children, NoMemory>
     requires few { length forest.now ≤ 65536 }
     requires known { AreInherited (with_data_node modules.now) None forest.now nodes.now }
     ensures { IfOk result (λ map. (q : Name) → get spec.key_cmp map q ≡ spec.first_with (spec.data_key modules.now forest.now) forest.now q) }
@@ -147,47 +149,43 @@ pub(crate) fn local_name<'s>(text: &'s str) -> &'s str
     }
 }
 
-/// The module of a name in the statement of a node.
-fn module_named(modules: &Modules, branch: &Branch, text: &str) -> Option<u32>
-    ensures { result ≡ spec.module_named modules.now branch.now text.now }
+/// The module of a name in a statement: without a prefix the owner, and with one what the text of the source means.
+pub(crate) fn module_named(modules: &Modules, owner: u32, source: u32, text: &str) -> Option<u32>
+    ensures { result ≡ paths.module_named modules.now owner source text.now }
 {
     match text.split_once(':') {
-        Some((prefix, _name)) => modules.imported(branch.source, prefix),
-        None => Some(branch.module),
+        Some((prefix, _name)) => modules.imported(source, prefix),
+        None => Some(owner),
     }
 }
 
-pub(crate) fn find(map: &Found, key: Key) -> Option<u32>
+pub(crate) fn find(map: &Children, key: Key) -> Option<u32>
     ensures { result ≡ get spec.key_cmp map.now key }
 {
     map.get(&key).copied()
 }
 
-/// The child of a name, a leaf or another node.
+/// The child of a name in the statement of a node, a leaf or another node.
 pub(crate) fn child_named(
-    alloc: Global,
-    modules: &Modules,
-    forest: &[Branch],
-    map: &Found,
+    nodes: &Nodes,
     branch: &Branch,
     leaf: bool,
     above: u32,
     text: &str,
 ) -> Result<Option<u32>, NoMemory>
-    requires { (q : Name) → get spec.key_cmp map.now q ≡ spec.first_with (spec.child_key modules.now) forest.now q }
-    ensures { IfOk result (λ child. child ≡ spec.child_named modules.now forest.now branch.now leaf above text.now) }
+    ensures { IfOk result (λ child. child ≡ spec.child_named nodes.now.modules.now nodes.now.forest.now branch.now leaf above text.now) }
 {
-    match module_named(modules, branch, text) {
+    match module_named(nodes.modules, branch.module, branch.source, text) {
         None => Ok(None),
         Some(module) => {
-            let name = Str::new(alloc, local_name(text))?;
+            let name = Str::new(nodes.alloc, local_name(text))?;
             let key = Key {
                 leaf,
                 above: Some(above),
                 module,
                 name,
             };
-            Ok(find(map, key))
+            Ok(find(&nodes.tables.children, key))
         }
     }
 }

@@ -1,16 +1,15 @@
 //! Identities: their list, their faults, and what they are derived from.
-ghost use Rattle.std.specs.Prelude.{◌≡◌, ◌++◌, ◌<◌, ℕ, [], None, Some, length, map, IfOk, IfSome, slice_index_or};
+ghost use Rattle.std.specs.Prelude.{◌≡◌, ◌++◌, ◌<◌, ℕ, [], None, length, map, IfOk, slice_index_or};
 ghost use Rattle.sal_module.specs.Faults.{least};
 ghost use Rattle.sal_grouping.specs.Indexes.{lists};
-ghost use Rattle.sal_grouping.specs.Names.{reaches_home};
-ghost use Rattle.sal_grouping.specs.Reach.{IsRanked};
 ghost use Rattle.sal_build.specs.Orders.{rows};
 ghost use Rattle.sal_build.specs.Identities as spec;
 
 use crate::append::append;
+use crate::circles::{Circles, is_cyclic};
 use crate::derived::derived_of;
 use crate::lists::with_bad;
-use sal_grouping::{ranking, reaches};
+use sal_grouping::ranking;
 use sal_module::{Cause, Found, Keyword, Modules, argument_of, is_named};
 use sal_schema::IdentityInfo;
 use sal_stmt::Stmt;
@@ -112,102 +111,73 @@ pub(crate) fn edges_of(
 
 // ---- faults
 
-/// Whether a way leads from a target back to the one that has it.
-pub(crate) fn is_cyclic(
-    alloc: Global,
-    edges: &[Vec<usize>],
-    ranks: &Option<Vec<usize>>,
-    i: usize,
-    target: Option<usize>,
-) -> Result<bool, NoMemory>
-    requires { IfSome ranks.now (λ ranks. IsRanked (lists edges.now) ranks.items) }
-    ensures { IfOk result (λ b. b ≡ reaches_home (lists edges.now) (length edges.now) (Some i) target) }
-{
-    match target {
-        None => Ok(false),
-        Some(used) => reaches(alloc, edges, ranks, used, i),
-    }
-}
-
 fn with_target(
     best: Option<Found>,
-    alloc: Global,
-    edges: &[Vec<usize>],
-    ranks: &Option<Vec<usize>>,
+    circles: &Circles,
     i: usize,
     module: u32,
     sub: &Stmt,
     target: Option<usize>,
 ) -> Result<Option<Found>, NoMemory>
-    requires { IfSome ranks.now (λ ranks. IsRanked (lists edges.now) ranks.items) }
-    ensures { IfOk result (λ found. found ≡ least best (spec.target_faults (lists edges.now) i «module» sub.now target)) }
+    ensures { IfOk result (λ found. found ≡ least best (spec.target_faults (lists circles.now.edges.now) i «module» sub.now target)) }
 {
     let best = with_bad(best, target.is_none(), Cause::UnknownName, module, sub);
-    let cyclic = is_cyclic(alloc, edges, ranks, i, target)?;
+    let cyclic = is_cyclic(circles, i, target)?;
     Ok(with_bad(best, cyclic, Cause::NameCycle, module, sub))
 }
 
 fn with_base(
     best: Option<Found>,
-    alloc: Global,
     typedefs: &Typedefs,
-    edges: &[Vec<usize>],
-    ranks: &Option<Vec<usize>>,
+    circles: &Circles,
     i: usize,
     module: u32,
     sub: &Stmt,
 ) -> Result<Option<Found>, NoMemory>
-    requires { IfSome ranks.now (λ ranks. IsRanked (lists edges.now) ranks.items) }
-    ensures { IfOk result (λ found. found ≡ least best (spec.base_faults typedefs.now (lists edges.now) i «module» sub.now)) }
+    ensures { IfOk result (λ found. found ≡ least best (spec.base_faults typedefs.now (lists circles.now.edges.now) i «module» sub.now)) }
 {
     if !is_named(Keyword::Base, sub) {
         return Ok(best);
     }
     let target = typedefs.identity_of(module, argument_of(sub));
-    with_target(best, alloc, edges, ranks, i, module, sub, target)
+    with_target(best, circles, i, module, sub, target)
 }
 
 fn with_identity(
     best: Option<Found>,
-    alloc: Global,
     typedefs: &Typedefs,
-    edges: &[Vec<usize>],
-    ranks: &Option<Vec<usize>>,
+    circles: &Circles,
     i: usize,
     module: u32,
     one: &Stmt,
 ) -> Result<Option<Found>, NoMemory>
-    requires { IfSome ranks.now (λ ranks. IsRanked (lists edges.now) ranks.items) }
-    ensures { IfOk result (λ found. found ≡ least best (spec.faults_of typedefs.now (lists edges.now) i («module», one.now))) }
+    ensures { IfOk result (λ found. found ≡ least best (spec.faults_of typedefs.now (lists circles.now.edges.now) i («module», one.now))) }
 {
     let mut best = best;
     for sub in one.subs.items() {
-        best = with_base(best, alloc, typedefs, edges, ranks, i, module, sub)?;
+        best = with_base(best, typedefs, circles, i, module, sub)?;
     }
     Ok(best)
 }
 
 fn ranked_fault(
-    alloc: Global,
     typedefs: &Typedefs,
     all: &[Identity],
-    edges: &[Vec<usize>],
-    ranks: &Option<Vec<usize>>,
+    circles: &Circles,
 ) -> Result<Option<Found>, NoMemory>
-    requires ranks { IfSome ranks.now (λ ranks. IsRanked (lists edges.now) ranks.items) }
     requires all { spec.seen all.now ≡ spec.identities_of typedefs.now }
-    requires edges { lists edges.now ≡ spec.edges_of typedefs.now }
+    requires edges { lists circles.now.edges.now ≡ spec.edges_of typedefs.now }
     ensures { IfOk result (λ found. found ≡ least None (spec.all_faults typedefs.now)) }
 {
     let mut best = None;
     for (i, one) in all.iter().enumerate() {
-        best = with_identity(best, alloc, typedefs, edges, ranks, i, one.0, one.1)?;
+        best = with_identity(best, typedefs, circles, i, one.0, one.1)?;
     }
     Ok(best)
 }
 
 /// The first fault of these identities.
-pub(crate) fn identities_fault(
+fn identities_fault(
     alloc: Global,
     typedefs: &Typedefs,
     all: &[Identity],
@@ -218,7 +188,12 @@ pub(crate) fn identities_fault(
     ensures { IfOk result (λ found. found ≡ least None (spec.all_faults typedefs.now)) }
 {
     let ranks = ranking(alloc, edges)?;
-    ranked_fault(alloc, typedefs, all, edges, &ranks)
+    let circles = Circles {
+        alloc,
+        edges,
+        ranks: &ranks,
+    };
+    ranked_fault(typedefs, all, &circles)
 }
 
 // ---- the table

@@ -6,63 +6,46 @@ ghost use Rattle.sal_build.specs.Table as spec;
 ghost use Rattle.sal_schema.specs.Kinds as kinds;
 
 use crate::append::append;
-use crate::inherited::config_at;
-use crate::lists::{block_of, given, is_list, keys_named, uniques_named};
+use crate::lists::{block_of, config_above, given, is_list, keys_named, uniques_named};
 use crate::node::{
     is_mandatory, kind_in, kind_of, max_elements, min_elements, name_in, own_in, stmt_of,
 };
-use crate::tables::Tables;
-use crate::words::words_of;
+use crate::nodes::Nodes;
 use sal_grouping::Branch;
 use sal_module::{Keyword, Modules, argument_of, is_named};
 use sal_schema::{Kind, Leafs, NodeInfo};
 use sal_stmt::Stmt;
 use sal_types::{NoMemory, Seq, Str};
-use std::alloc::Global;
 
 /// The keys that a statement gives go behind these.
 fn push_keys(
     keys: &mut Vec<u32>,
-    alloc: Global,
-    modules: &Modules,
-    forest: &[Branch],
-    tables: &Tables,
+    nodes: &Nodes,
     k: u32,
     branch: &Branch,
     sub: &Stmt,
 ) -> Result<(), NoMemory>
-    requires { lists.AreTables modules.now forest.now tables.now }
-    ensures { IfOk result (λ _. keys.new.items ≡ keys.old.items ++ lists.keys_in modules.now forest.now k branch.now sub.now) }
+    ensures { IfOk result (λ _. keys.new.items ≡ keys.old.items ++ lists.keys_in nodes.now.modules.now nodes.now.forest.now k branch.now sub.now) }
 {
     if !is_named(Keyword::Key, sub) {
         return Ok(());
     }
-    let names = words_of(alloc, argument_of(sub))?;
-    let named = keys_named(alloc, modules, forest, tables, k, branch, &names)?;
-    let leafs = given(alloc, &named)?;
+    let named = keys_named(nodes, k, branch, argument_of(sub))?;
+    let leafs = given(nodes.alloc, &named)?;
     keys.extend_from_slice(&leafs)?;
     Ok(())
 }
 
-fn keys_of(
-    alloc: Global,
-    modules: &Modules,
-    forest: &[Branch],
-    tables: &Tables,
-    k: u32,
-    branch: &Branch,
-    kind: Kind,
-) -> Result<Vec<u32>, NoMemory>
-    requires tables { lists.AreTables modules.now forest.now tables.now }
-    requires kind { kind ≡ node_kind modules.now branch.now }
-    ensures { IfOk result (λ keys. keys.items ≡ lists.keys_of modules.now forest.now k branch.now) }
+fn keys_of(nodes: &Nodes, k: u32, branch: &Branch, kind: Kind) -> Result<Vec<u32>, NoMemory>
+    requires { kind ≡ node_kind nodes.now.modules.now branch.now }
+    ensures { IfOk result (λ keys. keys.items ≡ lists.keys_of nodes.now.modules.now nodes.now.forest.now k branch.now) }
 {
-    let mut keys = Vec::new(alloc);
+    let mut keys = Vec::new(nodes.alloc);
     if !is_list(kind) {
         return Ok(keys);
     }
-    for sub in block_of(modules, branch) {
-        push_keys(&mut keys, alloc, modules, forest, tables, k, branch, sub)?;
+    for sub in block_of(nodes.modules, branch) {
+        push_keys(&mut keys, nodes, k, branch, sub)?;
     }
     Ok(keys)
 }
@@ -70,45 +53,31 @@ fn keys_of(
 /// The unique leafs that a statement gives go behind these.
 fn push_unique(
     uniques: &mut Vec<Leafs>,
-    alloc: Global,
-    modules: &Modules,
-    forest: &[Branch],
-    tables: &Tables,
+    nodes: &Nodes,
     k: u32,
     branch: &Branch,
     sub: &Stmt,
 ) -> Result<(), NoMemory>
-    requires { lists.AreTables modules.now forest.now tables.now }
-    ensures { IfOk result (λ _. uniques.new.items ≡ uniques.old.items ++ lists.uniques_in modules.now forest.now k branch.now sub.now) }
+    ensures { IfOk result (λ _. uniques.new.items ≡ uniques.old.items ++ lists.uniques_in nodes.now.modules.now nodes.now.forest.now k branch.now sub.now) }
 {
     if !is_named(Keyword::Unique, sub) {
         return Ok(());
     }
-    let names = words_of(alloc, argument_of(sub))?;
-    let named = uniques_named(alloc, modules, forest, tables, k, branch, &names)?;
-    append(uniques, Seq::from_items(given(alloc, &named)?))?;
+    let named = uniques_named(nodes, k, branch, argument_of(sub))?;
+    append(uniques, Seq::from_items(given(nodes.alloc, &named)?))?;
     Ok(())
 }
 
-fn uniques_of(
-    alloc: Global,
-    modules: &Modules,
-    forest: &[Branch],
-    tables: &Tables,
-    k: u32,
-    branch: &Branch,
-    kind: Kind,
-) -> Result<Vec<Leafs>, NoMemory>
-    requires tables { lists.AreTables modules.now forest.now tables.now }
-    requires kind { kind ≡ node_kind modules.now branch.now }
-    ensures { IfOk result (λ uniques. uniques.items ≡ lists.uniques_of modules.now forest.now k branch.now) }
+fn uniques_of(nodes: &Nodes, k: u32, branch: &Branch, kind: Kind) -> Result<Vec<Leafs>, NoMemory>
+    requires { kind ≡ node_kind nodes.now.modules.now branch.now }
+    ensures { IfOk result (λ uniques. uniques.items ≡ lists.uniques_of nodes.now.modules.now nodes.now.forest.now k branch.now) }
 {
-    let mut uniques = Vec::new(alloc);
+    let mut uniques = Vec::new(nodes.alloc);
     if !is_list(kind) {
         return Ok(uniques);
     }
-    for sub in block_of(modules, branch) {
-        push_unique(&mut uniques, alloc, modules, forest, tables, k, branch, sub)?;
+    for sub in block_of(nodes.modules, branch) {
+        push_unique(&mut uniques, nodes, k, branch, sub)?;
     }
     Ok(uniques)
 }
@@ -136,34 +105,25 @@ fn type_number(kind: Kind, n: u32) -> Option<u32>
     if has_type(kind) { Some(n) } else { None }
 }
 
-fn info_of(
-    alloc: Global,
-    modules: &Modules,
-    forest: &[Branch],
-    tables: &Tables,
-    k: u32,
-    branch: &Branch,
-    types: u32,
-) -> Result<NodeInfo, NoMemory>
-    requires tables { lists.AreTables modules.now forest.now tables.now }
-    requires types { types ≡ spec.types_before modules.now forest.now k }
-    ensures { IfOk result (λ info. info ≡ spec.info_of modules.now forest.now k branch.now) }
+fn info_of(nodes: &Nodes, k: u32, branch: &Branch, types: u32) -> Result<NodeInfo, NoMemory>
+    requires { types ≡ spec.types_before nodes.now.modules.now nodes.now.forest.now k }
+    ensures { IfOk result (λ info. info ≡ spec.info_of nodes.now.modules.now nodes.now.forest.now k branch.now) }
 {
-    let stmt = stmt_of(modules, branch);
+    let stmt = stmt_of(nodes.modules, branch);
     let kind = kind_in(stmt, branch.implied);
     let own = own_in(stmt, branch.implied);
     Ok(NodeInfo {
         parent: branch.parent,
         kind,
         module: branch.module,
-        name: Str::new(alloc, name_in(kind, stmt))?,
-        config: config_at(modules, forest, &tables.configs, Some(k)),
+        name: Str::new(nodes.alloc, name_in(kind, stmt))?,
+        config: config_above(nodes, Some(k)),
         ty: type_number(kind, types),
-        keys: Seq::from_items(keys_of(alloc, modules, forest, tables, k, branch, kind)?),
+        keys: Seq::from_items(keys_of(nodes, k, branch, kind)?),
         mandatory: is_mandatory(own),
         min_elements: min_elements(own),
         max_elements: max_elements(own),
-        unique: Seq::from_items(uniques_of(alloc, modules, forest, tables, k, branch, kind)?),
+        unique: Seq::from_items(uniques_of(nodes, k, branch, kind)?),
     })
 }
 
@@ -175,23 +135,14 @@ fn after(types: u32, typed: bool) -> u32
 }
 
 /// The nodes of the table.
-pub(crate) fn infos_of(
-    alloc: Global,
-    modules: &Modules,
-    forest: &[Branch],
-    tables: &Tables,
-) -> Result<Vec<NodeInfo>, NoMemory>
-    requires { lists.AreTables modules.now forest.now tables.now }
-    ensures { IfOk result (λ infos. infos.items ≡ spec.infos_of modules.now forest.now) }
+pub(crate) fn infos_of(nodes: &Nodes) -> Result<Vec<NodeInfo>, NoMemory>
+    ensures { IfOk result (λ infos. infos.items ≡ spec.infos_of nodes.now.modules.now nodes.now.forest.now) }
 {
-    let mut infos = Vec::with_capacity(alloc, forest.len())?;
+    let mut infos = Vec::with_capacity(nodes.alloc, nodes.forest.len())?;
     let mut types = 0;
-    for (k, branch) in forest.iter().enumerate() {
-        append(
-            &mut infos,
-            info_of(alloc, modules, forest, tables, k as u32, branch, types)?,
-        )?;
-        types = after(types, is_typed(modules, branch));
+    for (k, branch) in nodes.forest.iter().enumerate() {
+        append(&mut infos, info_of(nodes, k as u32, branch, types)?)?;
+        types = after(types, is_typed(nodes.modules, branch));
     }
     Ok(infos)
 }

@@ -24,6 +24,7 @@
 
 mod append;
 mod child;
+mod circles;
 mod derived;
 mod fill;
 mod identities;
@@ -33,7 +34,9 @@ pub mod laws;
 mod leafrefs;
 mod lists;
 mod node;
+mod nodes;
 mod order;
+mod paths;
 mod schema;
 mod tables;
 mod typed;

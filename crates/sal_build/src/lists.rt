@@ -5,13 +5,14 @@ ghost use Rattle.std.specs.Option.{option_copied};
 ghost use Rattle.sal_stmt.specs.declared.stmt.Stmt.TheViews.{out-Stmt};
 ghost use Rattle.sal_module.specs.Faults.{least};
 ghost use Rattle.sal_module.specs.Statements.{argument_of as argument};
+ghost use Rattle.sal_build.specs.Inherited as inherited;
 ghost use Rattle.sal_build.specs.Lists as spec;
 
 use crate::append::append;
 use crate::child::child_named;
 use crate::inherited::config_at;
 use crate::node::{is_true, kind_of, own_stmt};
-use crate::tables::Tables;
+use crate::nodes::Nodes;
 use crate::words::{steps_of, words_of};
 use sal_grouping::Branch;
 use sal_module::{Cause, Found, Keyword, Modules, argument_of, better, is_named};
@@ -31,34 +32,34 @@ pub(crate) fn is_list(kind: Kind) -> bool
 
 // ---- names
 
-/// The leafs of a list that names mean, as keys.
-pub(crate) fn keys_named(
-    alloc: Global,
-    modules: &Modules,
-    forest: &[Branch],
-    tables: &Tables,
+/// The leafs of a list that these names mean, as keys.
+fn key_leafs(
+    nodes: &Nodes,
     k: u32,
     branch: &Branch,
     names: &[Str],
 ) -> Result<Vec<Option<u32>>, NoMemory>
-    requires { spec.AreTables modules.now forest.now tables.now }
-    ensures { IfOk result (λ named. named.items ≡ map (spec.key_leaf modules.now forest.now k branch.now) names.now) }
+    ensures { IfOk result (λ named. named.items ≡ map (spec.key_leaf nodes.now.modules.now nodes.now.forest.now k branch.now) names.now) }
 {
-    let mut named = Vec::with_capacity(alloc, names.len())?;
+    let mut named = Vec::with_capacity(nodes.alloc, names.len())?;
     for name in names {
-        let leaf = child_named(
-            alloc,
-            modules,
-            forest,
-            &tables.children,
-            branch,
-            true,
-            k,
-            name.as_str(),
-        )?;
+        let leaf = child_named(nodes, branch, true, k, name.as_str())?;
         append(&mut named, leaf)?;
     }
     Ok(named)
+}
+
+/// The leafs of a list that the names in a text mean, as keys.
+pub(crate) fn keys_named(
+    nodes: &Nodes,
+    k: u32,
+    branch: &Branch,
+    text: &str,
+) -> Result<Vec<Option<u32>>, NoMemory>
+    ensures { IfOk result (λ named. named.items ≡ spec.keys_named nodes.now.modules.now nodes.now.forest.now k branch.now text.now) }
+{
+    let names = words_of(nodes.alloc, text)?;
+    key_leafs(nodes, k, branch, &names)
 }
 
 /// The node of this number, where it is no list.
@@ -82,16 +83,12 @@ fn unless_list(modules: &Modules, forest: &[Branch], node: Option<u32>) -> Optio
 
 /// The leaf below a node to which the steps lead through nodes that are no lists.
 fn leaf_below(
-    alloc: Global,
-    modules: &Modules,
-    forest: &[Branch],
-    tables: &Tables,
+    nodes: &Nodes,
     branch: &Branch,
     above: u32,
     steps: &[Str],
 ) -> Result<Option<u32>, NoMemory>
-    requires { spec.AreTables modules.now forest.now tables.now }
-    ensures { IfOk result (λ leaf. leaf ≡ spec.leaf_below modules.now forest.now branch.now above steps.now) }
+    ensures { IfOk result (λ leaf. leaf ≡ spec.leaf_below nodes.now.modules.now nodes.now.forest.now branch.now above steps.now) }
 {
     let mut above = above;
     let mut rest = steps;
@@ -100,28 +97,10 @@ fn leaf_below(
             None => return Ok(None),
             Some((step, more)) => {
                 if more.is_empty() {
-                    return child_named(
-                        alloc,
-                        modules,
-                        forest,
-                        &tables.children,
-                        branch,
-                        true,
-                        above,
-                        step.as_str(),
-                    );
+                    return child_named(nodes, branch, true, above, step.as_str());
                 }
-                let next = child_named(
-                    alloc,
-                    modules,
-                    forest,
-                    &tables.children,
-                    branch,
-                    false,
-                    above,
-                    step.as_str(),
-                )?;
-                match unless_list(modules, forest, next) {
+                let next = child_named(nodes, branch, false, above, step.as_str())?;
+                match unless_list(nodes.modules, nodes.forest, next) {
                     None => return Ok(None),
                     Some(n) => {
                         above = n;
@@ -133,41 +112,41 @@ fn leaf_below(
     }
 }
 
-fn unique_leaf(
-    alloc: Global,
-    modules: &Modules,
-    forest: &[Branch],
-    tables: &Tables,
-    k: u32,
-    branch: &Branch,
-    name: &str,
-) -> Result<Option<u32>, NoMemory>
-    requires { spec.AreTables modules.now forest.now tables.now }
-    ensures { IfOk result (λ leaf. leaf ≡ spec.unique_leaf modules.now forest.now k branch.now name.now) }
+fn unique_leaf(nodes: &Nodes, k: u32, branch: &Branch, name: &str) -> Result<Option<u32>, NoMemory>
+    ensures { IfOk result (λ leaf. leaf ≡ spec.unique_leaf nodes.now.modules.now nodes.now.forest.now k branch.now name.now) }
 {
-    let steps = steps_of(alloc, name)?;
-    leaf_below(alloc, modules, forest, tables, branch, k, &steps)
+    let steps = steps_of(nodes.alloc, name)?;
+    leaf_below(nodes, branch, k, &steps)
 }
 
-/// The leafs below a list that names mean, as unique ones.
-pub(crate) fn uniques_named(
-    alloc: Global,
-    modules: &Modules,
-    forest: &[Branch],
-    tables: &Tables,
+/// The leafs below a list that these names mean, as unique ones.
+fn unique_leafs(
+    nodes: &Nodes,
     k: u32,
     branch: &Branch,
     names: &[Str],
 ) -> Result<Vec<Option<u32>>, NoMemory>
-    requires { spec.AreTables modules.now forest.now tables.now }
-    ensures { IfOk result (λ named. named.items ≡ map (spec.unique_leaf modules.now forest.now k branch.now) names.now) }
+    ensures { IfOk result (λ named. named.items ≡ map (spec.unique_leaf nodes.now.modules.now nodes.now.forest.now k branch.now) names.now) }
 {
-    let mut named = Vec::with_capacity(alloc, names.len())?;
+    let mut named = Vec::with_capacity(nodes.alloc, names.len())?;
     for name in names {
-        let leaf = unique_leaf(alloc, modules, forest, tables, k, branch, name.as_str())?;
+        let leaf = unique_leaf(nodes, k, branch, name.as_str())?;
         append(&mut named, leaf)?;
     }
     Ok(named)
+}
+
+/// The leafs below a list that the names in a text mean, as unique ones.
+pub(crate) fn uniques_named(
+    nodes: &Nodes,
+    k: u32,
+    branch: &Branch,
+    text: &str,
+) -> Result<Vec<Option<u32>>, NoMemory>
+    ensures { IfOk result (λ named. named.items ≡ spec.uniques_named nodes.now.modules.now nodes.now.forest.now k branch.now text.now) }
+{
+    let names = words_of(nodes.alloc, text)?;
+    unique_leafs(nodes, k, branch, &names)
 }
 
 /// Those that are there.
@@ -221,74 +200,51 @@ fn same_config(a: Option<bool>, b: Option<bool>) -> bool
     a == b
 }
 
-fn differs(modules: &Modules, forest: &[Branch], tables: &Tables, k: u32, leaf: u32) -> bool
-    requires { spec.AreTables modules.now forest.now tables.now }
-    ensures { result ≡ spec.differs modules.now forest.now k leaf }
+/// Whether the node at a place is configuration: at the top it would be.
+pub(crate) fn config_above(nodes: &Nodes, place: Option<u32>) -> Option<bool>
+    ensures { result ≡ inherited.config_above nodes.now.modules.now nodes.now.forest.now place }
+{
+    config_at(nodes.modules, nodes.forest, &nodes.tables.configs, place)
+}
+
+fn differs(nodes: &Nodes, k: u32, leaf: u32) -> bool
+    ensures { result ≡ spec.differs nodes.now.modules.now nodes.now.forest.now k leaf }
 {
     !same_config(
-        config_at(modules, forest, &tables.configs, Some(leaf)),
-        config_at(modules, forest, &tables.configs, Some(k)),
+        config_above(nodes, Some(leaf)),
+        config_above(nodes, Some(k)),
     )
 }
 
-fn any_differs(modules: &Modules, forest: &[Branch], tables: &Tables, k: u32, leafs: &[u32]) -> bool
-    requires { spec.AreTables modules.now forest.now tables.now }
-    ensures { result ≡ list_any (spec.differs modules.now forest.now k) leafs.now }
+fn any_differs(nodes: &Nodes, k: u32, leafs: &[u32]) -> bool
+    ensures { result ≡ list_any (spec.differs nodes.now.modules.now nodes.now.forest.now k) leafs.now }
 {
     for leaf in leafs {
-        if differs(modules, forest, tables, k, *leaf) {
+        if differs(nodes, k, *leaf) {
             return true;
         }
     }
     false
 }
 
-fn are_bad_keys(
-    alloc: Global,
-    modules: &Modules,
-    forest: &[Branch],
-    tables: &Tables,
-    k: u32,
-    named: &[Option<u32>],
-) -> Result<bool, NoMemory>
-    requires { spec.AreTables modules.now forest.now tables.now }
-    ensures { IfOk result (λ bad. bad ≡ spec.are_bad_keys modules.now forest.now k named.now) }
+fn are_bad_keys(nodes: &Nodes, k: u32, named: &[Option<u32>]) -> Result<bool, NoMemory>
+    ensures { IfOk result (λ bad. bad ≡ spec.are_bad_keys nodes.now.modules.now nodes.now.forest.now k named.now) }
 {
-    let leafs = given(alloc, named)?;
-    Ok(is_missing(named) || !all_differ(&leafs) || any_differs(modules, forest, tables, k, &leafs))
+    let leafs = given(nodes.alloc, named)?;
+    Ok(is_missing(named) || !all_differ(&leafs) || any_differs(nodes, k, &leafs))
 }
 
-fn is_bad_key(
-    alloc: Global,
-    modules: &Modules,
-    forest: &[Branch],
-    tables: &Tables,
-    k: u32,
-    branch: &Branch,
-    text: &str,
-) -> Result<bool, NoMemory>
-    requires { spec.AreTables modules.now forest.now tables.now }
-    ensures { IfOk result (λ bad. bad ≡ spec.is_bad_key modules.now forest.now k branch.now text.now) }
+fn is_bad_key(nodes: &Nodes, k: u32, branch: &Branch, text: &str) -> Result<bool, NoMemory>
+    ensures { IfOk result (λ bad. bad ≡ spec.is_bad_key nodes.now.modules.now nodes.now.forest.now k branch.now text.now) }
 {
-    let names = words_of(alloc, text)?;
-    let named = keys_named(alloc, modules, forest, tables, k, branch, &names)?;
-    are_bad_keys(alloc, modules, forest, tables, k, &named)
+    let named = keys_named(nodes, k, branch, text)?;
+    are_bad_keys(nodes, k, &named)
 }
 
-fn is_bad_unique(
-    alloc: Global,
-    modules: &Modules,
-    forest: &[Branch],
-    tables: &Tables,
-    k: u32,
-    branch: &Branch,
-    text: &str,
-) -> Result<bool, NoMemory>
-    requires { spec.AreTables modules.now forest.now tables.now }
-    ensures { IfOk result (λ bad. bad ≡ spec.is_bad_unique modules.now forest.now k branch.now text.now) }
+fn is_bad_unique(nodes: &Nodes, k: u32, branch: &Branch, text: &str) -> Result<bool, NoMemory>
+    ensures { IfOk result (λ bad. bad ≡ spec.is_bad_unique nodes.now.modules.now nodes.now.forest.now k branch.now text.now) }
 {
-    let names = words_of(alloc, text)?;
-    let named = uniques_named(alloc, modules, forest, tables, k, branch, &names)?;
+    let named = uniques_named(nodes, k, branch, text)?;
     Ok(is_missing(&named))
 }
 
@@ -327,92 +283,64 @@ pub(crate) fn with_bad(
 /// The least of this fault and that of a statement in the block of a list.
 fn with_sub(
     best: Option<Found>,
-    alloc: Global,
-    modules: &Modules,
-    forest: &[Branch],
-    tables: &Tables,
+    nodes: &Nodes,
     k: u32,
     branch: &Branch,
     sub: &Stmt,
 ) -> Result<Option<Found>, NoMemory>
-    requires { spec.AreTables modules.now forest.now tables.now }
-    ensures { IfOk result (λ found. found ≡ least best (spec.sub_faults modules.now forest.now k branch.now sub.now)) }
+    ensures { IfOk result (λ found. found ≡ least best (spec.sub_faults nodes.now.modules.now nodes.now.forest.now k branch.now sub.now)) }
 {
     if is_named(Keyword::Key, sub) {
-        let bad = is_bad_key(alloc, modules, forest, tables, k, branch, argument_of(sub))?;
+        let bad = is_bad_key(nodes, k, branch, argument_of(sub))?;
         return Ok(with_bad(best, bad, Cause::BadKey, branch.source, sub));
     }
     if is_named(Keyword::Unique, sub) {
-        let bad = is_bad_unique(alloc, modules, forest, tables, k, branch, argument_of(sub))?;
+        let bad = is_bad_unique(nodes, k, branch, argument_of(sub))?;
         return Ok(with_bad(best, bad, Cause::BadKey, branch.source, sub));
     }
     Ok(best)
 }
 
-fn is_under_state(modules: &Modules, forest: &[Branch], tables: &Tables, branch: &Branch) -> bool
-    requires { spec.AreTables modules.now forest.now tables.now }
-    ensures { result ≡ spec.is_under_state modules.now forest.now branch.now }
+fn is_under_state(nodes: &Nodes, branch: &Branch) -> bool
+    ensures { result ≡ spec.is_under_state nodes.now.modules.now nodes.now.forest.now branch.now }
 {
-    same_config(
-        config_at(modules, forest, &tables.configs, branch.parent),
-        Some(false),
-    )
+    same_config(config_above(nodes, branch.parent), Some(false))
 }
 
-fn with_config(
-    best: Option<Found>,
-    modules: &Modules,
-    forest: &[Branch],
-    tables: &Tables,
-    branch: &Branch,
-    sub: &Stmt,
-) -> Option<Found>
-    requires { spec.AreTables modules.now forest.now tables.now }
-    ensures { result ≡ least best (spec.config_fault modules.now forest.now branch.now sub.now) }
+fn with_config(best: Option<Found>, nodes: &Nodes, branch: &Branch, sub: &Stmt) -> Option<Found>
+    ensures { result ≡ least best (spec.config_fault nodes.now.modules.now nodes.now.forest.now branch.now sub.now) }
 {
     let bad = is_named(Keyword::Config, sub)
         && is_true(argument_of(sub))
-        && is_under_state(modules, forest, tables, branch);
+        && is_under_state(nodes, branch);
     with_bad(best, bad, Cause::ConfigUnderState, branch.source, sub)
 }
 
 fn with_list(
     best: Option<Found>,
-    alloc: Global,
-    modules: &Modules,
-    forest: &[Branch],
-    tables: &Tables,
+    nodes: &Nodes,
     k: u32,
     branch: &Branch,
     subs: &[Stmt],
 ) -> Result<Option<Found>, NoMemory>
-    requires { spec.AreTables modules.now forest.now tables.now }
-    ensures { IfOk result (λ found. found ≡ least best (spec.list_faults modules.now forest.now k branch.now subs.now)) }
+    ensures { IfOk result (λ found. found ≡ least best (spec.list_faults nodes.now.modules.now nodes.now.forest.now k branch.now subs.now)) }
 {
-    if !is_list(kind_of(modules, branch)) {
+    if !is_list(kind_of(nodes.modules, branch)) {
         return Ok(best);
     }
     let mut best = best;
     for sub in subs {
-        best = with_sub(best, alloc, modules, forest, tables, k, branch, sub)?;
+        best = with_sub(best, nodes, k, branch, sub)?;
     }
     Ok(best)
 }
 
-fn with_configs(
-    best: Option<Found>,
-    modules: &Modules,
-    forest: &[Branch],
-    tables: &Tables,
-    branch: &Branch,
-    subs: &[Stmt],
-) -> Option<Found>
-    requires { spec.AreTables modules.now forest.now tables.now }
-    ensures { result ≡ least best (spec.config_faults modules.now forest.now branch.now subs.now) }
+fn with_configs(best: Option<Found>, nodes: &Nodes, branch: &Branch, subs: &[Stmt]) -> Option<Found>
+    ensures { result ≡ least best (spec.config_faults nodes.now.modules.now nodes.now.forest.now branch.now subs.now) }
 {
     let mut best = best;
     for sub in subs {
-        best = with_config(best, modules, forest, tables, branch, sub);
+        best = with_config(best, nodes, branch, sub);
     }
     best
 }
@@ -429,34 +357,24 @@ pub(crate) fn block_of<'m>(modules: &'m Modules, branch: &Branch) -> &'m [Stmt]
 
 fn with_node(
     best: Option<Found>,
-    alloc: Global,
-    modules: &Modules,
-    forest: &[Branch],
-    tables: &Tables,
+    nodes: &Nodes,
     k: u32,
     branch: &Branch,
 ) -> Result<Option<Found>, NoMemory>
-    requires { spec.AreTables modules.now forest.now tables.now }
-    ensures { IfOk result (λ found. found ≡ least best (spec.node_faults modules.now forest.now k branch.now)) }
+    ensures { IfOk result (λ found. found ≡ least best (spec.node_faults nodes.now.modules.now nodes.now.forest.now k branch.now)) }
 {
-    let subs = block_of(modules, branch);
-    let best = with_list(best, alloc, modules, forest, tables, k, branch, subs)?;
-    Ok(with_configs(best, modules, forest, tables, branch, subs))
+    let subs = block_of(nodes.modules, branch);
+    let best = with_list(best, nodes, k, branch, subs)?;
+    Ok(with_configs(best, nodes, branch, subs))
 }
 
 /// The first fault of keys, unique leafs and configuration.
-pub(crate) fn lists_fault(
-    alloc: Global,
-    modules: &Modules,
-    forest: &[Branch],
-    tables: &Tables,
-) -> Result<Option<Found>, NoMemory>
-    requires { spec.AreTables modules.now forest.now tables.now }
-    ensures { IfOk result (λ found. found ≡ least None (spec.all_faults modules.now forest.now)) }
+pub(crate) fn lists_fault(nodes: &Nodes) -> Result<Option<Found>, NoMemory>
+    ensures { IfOk result (λ found. found ≡ least None (spec.all_faults nodes.now.modules.now nodes.now.forest.now)) }
 {
     let mut best = None;
-    for (k, branch) in forest.iter().enumerate() {
-        best = with_node(best, alloc, modules, forest, tables, k as u32, branch)?;
+    for (k, branch) in nodes.forest.iter().enumerate() {
+        best = with_node(best, nodes, k as u32, branch)?;
     }
     Ok(best)
 }

@@ -9,7 +9,6 @@ ghost use Rattle.sal_module.specs.Statements.{argument_of as argument};
 ghost use Rattle.sal_grouping.specs.Indexes.{lists};
 ghost use Rattle.sal_build.specs.Filled as fillings;
 ghost use Rattle.sal_build.specs.Leafrefs as leads;
-ghost use Rattle.sal_build.specs.Lists.{AreTables};
 ghost use Rattle.sal_build.specs.Build as spec;
 ghost use Rattle.sal_build.specs.Identities as identities;
 ghost use Rattle.sal_build.specs.Table.{infos_of};
@@ -20,9 +19,10 @@ use crate::append::append;
 use crate::fill::{filled_types, type_at};
 use crate::identities::{identity_fault, identity_infos};
 use crate::info::{infos_of as nodes_of, is_typed};
-use crate::leafrefs::{Led, led_of};
+use crate::leafrefs::{Targets, find_targets};
 use crate::lists::lists_fault;
-use crate::tables::{Tables, tables_of};
+use crate::nodes::Nodes;
+use crate::tables::tables_of;
 use crate::typed::{NodeTypes, leafrefs_of_nodes, node_types, own_types};
 use crate::types::{type_name_fault, type_other_fault};
 use sal_grouping::{Branch, Forest, expand};
@@ -96,70 +96,57 @@ fn names_of(alloc: Global, stmts: &[Stmt]) -> Result<Vec<Str>, NoMemory>
 
 /// The types of the nodes that have one, with what leafrefs lead to.
 fn types_in(
-    alloc: Global,
-    modules: &Modules,
-    forest: &[Branch],
+    nodes: &Nodes,
     typed: &NodeTypes,
     edges: &[Vec<usize>],
 ) -> Result<Vec<YangType>, NoMemory>
-    requires typed { AreTyped modules.now forest.now typed.now }
-    requires edges { lists edges.now ≡ leads.edges_of modules.now forest.now }
-    ensures { IfOk result (λ types. types.items ≡ leads.types_of modules.now forest.now) }
+    requires typed { AreTyped nodes.now.modules.now nodes.now.forest.now typed.now }
+    requires edges { lists edges.now ≡ leads.edges_of nodes.now.modules.now nodes.now.forest.now }
+    ensures { IfOk result (λ types. types.items ≡ leads.types_of nodes.now.modules.now nodes.now.forest.now) }
 {
-    let own = own_types(alloc, modules, typed, forest)?;
-    types_of(alloc, modules, forest, &own, edges)
+    let own = own_types(nodes.alloc, nodes.modules, typed, nodes.forest)?;
+    types_of(nodes.alloc, nodes.modules, nodes.forest, &own, edges)
 }
 
 /// The nodes and types of a table.
 #[derive(Drop)]
-struct Grown {
+struct NodeTable {
     nodes: Seq<NodeInfo>,
     types: Seq<YangType>,
 }
 
-fn node_table(
-    alloc: Global,
-    modules: &Modules,
-    forest: &[Branch],
-    typed: &NodeTypes,
-    edges: &[Vec<usize>],
-    tables: &Tables,
-) -> Result<Grown, NoMemory>
-    requires typed { AreTyped modules.now forest.now typed.now }
-    requires edges { lists edges.now ≡ leads.edges_of modules.now forest.now }
-    requires tables { AreTables modules.now forest.now tables.now }
-    ensures nodes { IfOk result (λ it. it.nodes ≡ infos_of modules.now forest.now) }
-    ensures types { IfOk result (λ it. it.types ≡ leads.types_of modules.now forest.now) }
+fn node_table(nodes: &Nodes, typed: &NodeTypes, edges: &[Vec<usize>]) -> Result<NodeTable, NoMemory>
+    requires typed { AreTyped nodes.now.modules.now nodes.now.forest.now typed.now }
+    requires edges { lists edges.now ≡ leads.edges_of nodes.now.modules.now nodes.now.forest.now }
+    ensures nodes { IfOk result (λ it. it.nodes ≡ infos_of nodes.now.modules.now nodes.now.forest.now) }
+    ensures types { IfOk result (λ it. it.types ≡ leads.types_of nodes.now.modules.now nodes.now.forest.now) }
 {
-    let types = types_in(alloc, modules, forest, typed, edges)?;
-    with_nodes(alloc, modules, forest, tables, types)
+    let types = types_in(nodes, typed, edges)?;
+    with_nodes(nodes, types)
 }
 
-fn with_nodes(
-    alloc: Global,
-    modules: &Modules,
-    forest: &[Branch],
-    tables: &Tables,
-    types: Vec<YangType>,
-) -> Result<Grown, NoMemory>
-    requires { AreTables modules.now forest.now tables.now }
-    ensures nodes { IfOk result (λ it. it.nodes ≡ infos_of modules.now forest.now) }
+fn with_nodes(nodes: &Nodes, types: Vec<YangType>) -> Result<NodeTable, NoMemory>
+    ensures nodes { IfOk result (λ it. it.nodes ≡ infos_of nodes.now.modules.now nodes.now.forest.now) }
     ensures types { IfOk result (λ it. it.types ≡ types.items) }
 {
-    let nodes = nodes_of(alloc, modules, forest, tables)?;
-    Ok(Grown {
-        nodes: Seq::from_items(nodes),
+    let infos = nodes_of(nodes)?;
+    Ok(NodeTable {
+        nodes: Seq::from_items(infos),
         types: Seq::from_items(types),
     })
 }
 
 /// The modules and identities of a table.
-struct Stated {
+struct ModuleTable {
     modules: Seq<Str>,
     identities: Seq<IdentityInfo>,
 }
 
-fn stated_of(alloc: Global, modules: &Modules, typedefs: &Typedefs) -> Result<Stated, NoMemory>
+fn module_table(
+    alloc: Global,
+    modules: &Modules,
+    typedefs: &Typedefs,
+) -> Result<ModuleTable, NoMemory>
     requires { typedefs.now ≡ modules.now }
     ensures modules { IfOk result (λ it. it.modules ≡ map argument modules.now) }
     ensures identities { IfOk result (λ it. it.identities ≡ identities.infos_of modules.now) }
@@ -173,43 +160,42 @@ fn with_identities(
     modules: &Modules,
     typedefs: &Typedefs,
     names: Vec<Str>,
-) -> Result<Stated, NoMemory>
+) -> Result<ModuleTable, NoMemory>
     requires { typedefs.now ≡ modules.now }
     ensures modules { IfOk result (λ it. it.modules ≡ names.items) }
     ensures identities { IfOk result (λ it. it.identities ≡ identities.infos_of modules.now) }
 {
     let identities = identity_infos(alloc, modules, typedefs)?;
-    Ok(Stated {
+    Ok(ModuleTable {
         modules: Seq::from_items(names),
         identities,
     })
 }
 
-/// The table of a forest.
+/// The table of these nodes.
 fn table_of(
-    alloc: Global,
-    modules: &Modules,
-    forest: &[Branch],
+    nodes: &Nodes,
     typedefs: &Typedefs,
     typed: &NodeTypes,
     edges: &[Vec<usize>],
-    tables: &Tables,
 ) -> Result<SchemaTable, NoMemory>
-    requires typedefs { typedefs.now ≡ modules.now }
-    requires typed { AreTyped modules.now forest.now typed.now }
-    requires edges { lists edges.now ≡ leads.edges_of modules.now forest.now }
-    requires tables { AreTables modules.now forest.now tables.now }
-    ensures { IfOk result (λ table. table ≡ spec.table_of modules.now forest.now) }
+    requires typedefs { typedefs.now ≡ nodes.now.modules.now }
+    requires typed { AreTyped nodes.now.modules.now nodes.now.forest.now typed.now }
+    requires edges { lists edges.now ≡ leads.edges_of nodes.now.modules.now nodes.now.forest.now }
+    ensures { IfOk result (λ table. table ≡ spec.table_of nodes.now.modules.now nodes.now.forest.now) }
 {
-    let grown = node_table(alloc, modules, forest, typed, edges, tables)?;
-    let stated = stated_of(alloc, modules, typedefs)?;
-    let Grown { nodes, types } = grown;
-    let Stated {
+    let of_nodes = node_table(nodes, typed, edges)?;
+    let of_modules = module_table(nodes.alloc, nodes.modules, typedefs)?;
+    let NodeTable {
+        nodes: infos,
+        types,
+    } = of_nodes;
+    let ModuleTable {
         modules,
         identities,
-    } = stated;
+    } = of_modules;
     Ok(SchemaTable {
-        nodes,
+        nodes: infos,
         types,
         modules,
         identities,
@@ -218,21 +204,25 @@ fn table_of(
 
 // ---- faults
 
-/// The first fault of the names of types, identities and leafrefs.
-fn name_fault(
+/// What a table is made from: modules, their typedefs and the forest of their nodes.
+#[derive(Drop)]
+struct Sources<'x, 'a> {
     alloc: Global,
-    modules: &Modules,
-    forest: &[Branch],
-    typedefs: &Typedefs,
-    of_leafrefs: Option<Found>,
-) -> Result<Option<Found>, NoMemory>
-    requires typedefs { typedefs.now ≡ modules.now }
-    requires of_leafrefs { of_leafrefs ≡ least None (leads.all_faults modules.now forest.now) }
-    ensures { IfOk result (λ found. found ≡ least None (spec.name_faults modules.now forest.now)) }
+    modules: &'a Modules,
+    typedefs: &'x Typedefs<'a>,
+    forest: &'x [Branch],
+    ghost few: { length forest.now ≤ 65536 },
+}
+
+/// The first fault of the names of types, identities and leafrefs.
+fn name_fault(sources: &Sources, of_leafrefs: Option<Found>) -> Result<Option<Found>, NoMemory>
+    requires typedefs { sources.now.typedefs.now ≡ sources.now.modules.now }
+    requires of_leafrefs { of_leafrefs ≡ least None (leads.all_faults sources.now.modules.now sources.now.forest.now) }
+    ensures { IfOk result (λ found. found ≡ least None (spec.name_faults sources.now.modules.now sources.now.forest.now)) }
 {
-    let best = type_name_fault(alloc, modules, typedefs)?;
-    let best = merged(best, identity_fault(alloc, modules, typedefs)?);
-    Ok(merged(best, of_leafrefs))
+    let best = type_name_fault(sources.alloc, sources.modules, sources.typedefs)?;
+    let more = identity_fault(sources.alloc, sources.modules, sources.typedefs)?;
+    Ok(merged(merged(best, more), of_leafrefs))
 }
 
 /// The fault as callers get it.
@@ -248,129 +238,115 @@ fn fault_in(alloc: Global, found: Found) -> BuildFault
 // What follows is made a part at a time, each function with one value of its own: several over early exits make a proof long.
 
 /// The table of a forest whose names and types are good, or the first fault of lists.
-fn judged_lists(
-    alloc: Global,
-    modules: &Modules,
-    forest: &[Branch],
+fn judge_lists(
+    nodes: &Nodes,
     typedefs: &Typedefs,
     typed: &NodeTypes,
     edges: &[Vec<usize>],
-    tables: &Tables,
 ) -> Result<SchemaTable, BuildFault>
-    requires typedefs { typedefs.now ≡ modules.now }
-    requires typed { AreTyped modules.now forest.now typed.now }
-    requires edges { lists edges.now ≡ leads.edges_of modules.now forest.now }
-    requires tables { AreTables modules.now forest.now tables.now }
-    requires names { least None (spec.name_faults modules.now forest.now) ≡ None }
-    requires types { least None (types.other_faults modules.now) ≡ None }
-    ensures { GivesUnless Fault.NoMemory (λ table. table) result (spec.judged modules.now forest.now) }
+    requires typedefs { typedefs.now ≡ nodes.now.modules.now }
+    requires typed { AreTyped nodes.now.modules.now nodes.now.forest.now typed.now }
+    requires edges { lists edges.now ≡ leads.edges_of nodes.now.modules.now nodes.now.forest.now }
+    requires names { least None (spec.name_faults nodes.now.modules.now nodes.now.forest.now) ≡ None }
+    requires types { least None (types.other_faults nodes.now.modules.now) ≡ None }
+    ensures { GivesUnless Fault.NoMemory (λ table. table) result (spec.judged nodes.now.modules.now nodes.now.forest.now) }
 {
-    if let Some(found) = lists_fault(alloc, modules, forest, tables)? {
-        return Err(fault_in(alloc, found));
+    if let Some(found) = lists_fault(nodes)? {
+        return Err(fault_in(nodes.alloc, found));
     }
-    Ok(table_of(alloc, modules, forest, typedefs, typed, edges, tables)?)
+    Ok(table_of(nodes, typedefs, typed, edges)?)
 }
 
 /// The table of a forest whose names are good, or the first other fault of types, then of lists.
-fn judged_apart_from_names(
-    alloc: Global,
-    modules: &Modules,
-    forest: &[Branch],
-    typedefs: &Typedefs,
+fn judge_types(
+    sources: &Sources,
     typed: &NodeTypes,
     edges: &[Vec<usize>],
 ) -> Result<SchemaTable, BuildFault>
-    requires few { length forest.now ≤ 65536 }
-    requires typedefs { typedefs.now ≡ modules.now }
-    requires typed { AreTyped modules.now forest.now typed.now }
-    requires edges { lists edges.now ≡ leads.edges_of modules.now forest.now }
-    requires names { least None (spec.name_faults modules.now forest.now) ≡ None }
-    ensures { GivesUnless Fault.NoMemory (λ table. table) result (spec.judged modules.now forest.now) }
+    requires typedefs { sources.now.typedefs.now ≡ sources.now.modules.now }
+    requires typed { AreTyped sources.now.modules.now sources.now.forest.now typed.now }
+    requires edges { lists edges.now ≡ leads.edges_of sources.now.modules.now sources.now.forest.now }
+    requires names { least None (spec.name_faults sources.now.modules.now sources.now.forest.now) ≡ None }
+    ensures { GivesUnless Fault.NoMemory (λ table. table) result (spec.judged sources.now.modules.now sources.now.forest.now) }
 {
-    if let Some(found) = type_other_fault(alloc, modules, typedefs)? {
-        return Err(fault_in(alloc, found));
+    if let Some(found) = type_other_fault(sources.alloc, sources.modules, sources.typedefs)? {
+        return Err(fault_in(sources.alloc, found));
     }
-    let tables = tables_of(alloc, modules, forest)?;
-    judged_lists(alloc, modules, forest, typedefs, typed, edges, &tables)
+    let tables = tables_of(sources.alloc, sources.modules, sources.forest)?;
+    let nodes = Nodes {
+        alloc: sources.alloc,
+        modules: sources.modules,
+        forest: sources.forest,
+        tables: &tables,
+    };
+    judge_lists(&nodes, sources.typedefs, typed, edges)
 }
 
 /// The table of a forest, or its first fault, by where its leafrefs lead.
-fn judged_by_edges(
-    alloc: Global,
-    modules: &Modules,
-    forest: &[Branch],
-    typedefs: &Typedefs,
+fn judge_names(
+    sources: &Sources,
     typed: &NodeTypes,
-    led: &Led,
+    targets: &Targets,
 ) -> Result<SchemaTable, BuildFault>
-    requires few { length forest.now ≤ 65536 }
-    requires typedefs { typedefs.now ≡ modules.now }
-    requires typed { AreTyped modules.now forest.now typed.now }
-    requires edges { lists led.now.edges.items ≡ leads.edges_of modules.now forest.now }
-    requires fault { led.now.fault ≡ least None (leads.all_faults modules.now forest.now) }
-    ensures { GivesUnless Fault.NoMemory (λ table. table) result (spec.judged modules.now forest.now) }
+    requires typedefs { sources.now.typedefs.now ≡ sources.now.modules.now }
+    requires typed { AreTyped sources.now.modules.now sources.now.forest.now typed.now }
+    requires edges { lists targets.now.edges.items ≡ leads.edges_of sources.now.modules.now sources.now.forest.now }
+    requires fault { targets.now.fault ≡ least None (leads.all_faults sources.now.modules.now sources.now.forest.now) }
+    ensures { GivesUnless Fault.NoMemory (λ table. table) result (spec.judged sources.now.modules.now sources.now.forest.now) }
 {
-    if let Some(found) = name_fault(alloc, modules, forest, typedefs, led.fault)? {
-        return Err(fault_in(alloc, found));
+    if let Some(found) = name_fault(sources, targets.fault)? {
+        return Err(fault_in(sources.alloc, found));
     }
-    judged_apart_from_names(alloc, modules, forest, typedefs, typed, &led.edges)
+    judge_types(sources, typed, &targets.edges)
 }
 
 /// Where the leafrefs of each node lead, and their first fault.
-fn led_in(
-    alloc: Global,
-    modules: &Modules,
-    forest: &[Branch],
-    typed: &NodeTypes,
-) -> Result<Led, NoMemory>
-    requires few { length forest.now ≤ 65536 }
-    requires typed { AreTyped modules.now forest.now typed.now }
-    ensures edges { IfOk result (λ led. lists led.edges.items ≡ leads.edges_of modules.now forest.now) }
-    ensures fault { IfOk result (λ led. led.fault ≡ least None (leads.all_faults modules.now forest.now)) }
+fn targets_in(sources: &Sources, typed: &NodeTypes) -> Result<Targets, NoMemory>
+    requires { AreTyped sources.now.modules.now sources.now.forest.now typed.now }
+    ensures edges { IfOk result (λ targets. lists targets.edges.items ≡ leads.edges_of sources.now.modules.now sources.now.forest.now) }
+    ensures fault { IfOk result (λ targets. targets.fault ≡ least None (leads.all_faults sources.now.modules.now sources.now.forest.now)) }
 {
-    let leafrefs = leafrefs_of_nodes(alloc, modules, typed, forest)?;
-    led_of(alloc, modules, forest, &leafrefs)
+    let leafrefs = leafrefs_of_nodes(sources.alloc, sources.modules, typed, sources.forest)?;
+    find_targets(sources.alloc, sources.modules, sources.forest, &leafrefs)
 }
 
 /// The table of a forest, or its first fault, by what the type statements of its nodes mean.
-fn judged_by_types(
-    alloc: Global,
-    modules: &Modules,
-    forest: &[Branch],
-    typedefs: &Typedefs,
-    typed: &NodeTypes,
-) -> Result<SchemaTable, BuildFault>
-    requires few { length forest.now ≤ 65536 }
-    requires typedefs { typedefs.now ≡ modules.now }
-    requires typed { AreTyped modules.now forest.now typed.now }
-    ensures { GivesUnless Fault.NoMemory (λ table. table) result (spec.judged modules.now forest.now) }
+fn judge_by_types(sources: &Sources, typed: &NodeTypes) -> Result<SchemaTable, BuildFault>
+    requires typedefs { sources.now.typedefs.now ≡ sources.now.modules.now }
+    requires typed { AreTyped sources.now.modules.now sources.now.forest.now typed.now }
+    ensures { GivesUnless Fault.NoMemory (λ table. table) result (spec.judged sources.now.modules.now sources.now.forest.now) }
 {
-    let led = led_in(alloc, modules, forest, typed)?;
-    judged_by_edges(alloc, modules, forest, typedefs, typed, &led)
+    let targets = targets_in(sources, typed)?;
+    judge_names(sources, typed, &targets)
 }
 
 /// The table of a forest, or its first fault, by its typedefs.
-fn judged_by_typedefs(
-    alloc: Global,
-    modules: &Modules,
-    forest: &[Branch],
-    typedefs: &Typedefs,
-) -> Result<SchemaTable, BuildFault>
-    requires few { length forest.now ≤ 65536 }
-    requires typedefs { typedefs.now ≡ modules.now }
-    ensures { GivesUnless Fault.NoMemory (λ table. table) result (spec.judged modules.now forest.now) }
+fn judge_by_typedefs(sources: &Sources) -> Result<SchemaTable, BuildFault>
+    requires { sources.now.typedefs.now ≡ sources.now.modules.now }
+    ensures { GivesUnless Fault.NoMemory (λ table. table) result (spec.judged sources.now.modules.now sources.now.forest.now) }
 {
-    let typed = node_types(alloc, modules, typedefs, forest)?;
-    judged_by_types(alloc, modules, forest, typedefs, &typed)
+    let typed = node_types(
+        sources.alloc,
+        sources.modules,
+        sources.typedefs,
+        sources.forest,
+    )?;
+    judge_by_types(sources, &typed)
 }
 
 /// The table of a forest, or the first fault of types, then of lists.
-fn judged(alloc: Global, modules: &Modules, forest: &Forest) -> Result<SchemaTable, BuildFault>
+fn judge(alloc: Global, modules: &Modules, forest: &Forest) -> Result<SchemaTable, BuildFault>
     requires { length forest.now ≤ 65536 }
     ensures { GivesUnless Fault.NoMemory (λ table. table) result (spec.judged modules.now forest.now) }
 {
     let typedefs = Typedefs::new(alloc, modules)?;
-    judged_by_typedefs(alloc, modules, forest.items(), &typedefs)
+    let sources = Sources {
+        alloc,
+        modules,
+        typedefs: &typedefs,
+        forest: forest.items(),
+    };
+    judge_by_typedefs(&sources)
 }
 
 /// The table of the schema of these modules, or their first fault.
@@ -384,7 +360,7 @@ pub fn table_of_modules(alloc: Global, stmts: &[Stmt]) -> Result<SchemaTable, Bu
 {
     let modules = check(alloc, stmts)?;
     let forest = expand(alloc, &modules)?;
-    judged(alloc, &modules, &forest)
+    judge(alloc, &modules, &forest)
 }
 
 /// The schema of these modules, or their first fault, as `table_of_modules` has it.

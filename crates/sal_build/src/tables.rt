@@ -2,7 +2,7 @@
 ghost use Rattle.std.specs.Prelude.{◌≤◌, IfOk, length};
 ghost use Rattle.sal_build.specs.Lists.{AreTables};
 
-use crate::child::{Found, children_of};
+use crate::child::{Children, children_of};
 use crate::inherited::{configs_of, data_nodes_of};
 use sal_grouping::Branch;
 use sal_module::Modules;
@@ -17,7 +17,7 @@ pub(crate) struct Tables {
     /// The node that data stand under where they stand under each node.
     pub data_nodes: Vec<Option<u32>>,
     /// The nodes by their parents and names.
-    pub children: Found,
+    pub children: Children,
 }
 
 /// The tables of a forest.

@@ -127,20 +127,27 @@ fn own_places(alloc: Global, all: &[Typing]) -> Result<Vec<Place>, NoMemory>
 
 // ---- one statement
 
-/// What a type statement in these blocks means, or the type without values where it has a fault.
-fn stated_type<'x, 'a>(
+/// A module whose statements are gone through, and the places of those that are kept.
+#[derive(Drop)]
+struct Keeper<'x, 'a> {
     alloc: Global,
     typedefs: &'x Typedefs<'a>,
+    wanted: &'x Places,
     number: u32,
-    around: &'x [Block<'a>],
+}
+
+/// What a type statement in these blocks means, or the type without values where it has a fault.
+fn stated_type<'j, 'x, 'a>(
+    keeper: &'j Keeper<'x, 'a>,
+    around: &'j [Block<'a>],
     stmt: Option<&'a Stmt>,
 ) -> Result<YangType, NoMemory>
-    ensures { IfOk result (λ ty. ty ≡ leafrefs.stated_type typedefs.now (option_map (site_in number around.now) (option_copied stmt.entry))) }
+    ensures { IfOk result (λ ty. ty ≡ leafrefs.stated_type keeper.now.typedefs.now (option_map (site_in keeper.now.number around.now) (option_copied stmt.entry))) }
 {
     let Some(stmt) = stmt else {
         return Ok(empty_type());
     };
-    let (fault, ty) = judge_at(alloc, typedefs, number, around, stmt)?;
+    let (fault, ty) = judge_at(keeper.alloc, keeper.typedefs, keeper.number, around, stmt)?;
     match fault {
         None => Ok(ty),
         Some(_found) => Ok(empty_type()),
@@ -148,60 +155,55 @@ fn stated_type<'x, 'a>(
 }
 
 /// The leafrefs among a type statement in these blocks and those that it rests on.
-fn stated_leafrefs<'x, 'a>(
-    alloc: Global,
-    typedefs: &'x Typedefs<'a>,
-    number: u32,
-    around: &'x [Block<'a>],
+fn stated_leafrefs<'j, 'x, 'a>(
+    keeper: &'j Keeper<'x, 'a>,
+    around: &'j [Block<'a>],
     stmt: Option<&'a Stmt>,
 ) -> Result<Vec<Leafref<'a>>, NoMemory>
-    ensures { IfOk result (λ all. map leafref_seen all.items ≡ map stmt_in (leafrefs.stated_leafrefs typedefs.now (option_map (site_in number around.now) (option_copied stmt.entry)))) }
+    ensures { IfOk result (λ all. map leafref_seen all.items
+        ≡ map stmt_in (leafrefs.stated_leafrefs keeper.now.typedefs.now (option_map (site_in keeper.now.number around.now) (option_copied stmt.entry)))) }
 {
     match stmt {
-        None => Ok(Vec::new(alloc)),
-        Some(stmt) => leafrefs_at(alloc, typedefs, number, around, stmt),
+        None => Ok(Vec::new(keeper.alloc)),
+        Some(stmt) => leafrefs_at(keeper.alloc, keeper.typedefs, keeper.number, around, stmt),
     }
 }
 
 /// What is kept of a statement, whose own block is the innermost of these.
-fn own_at<'x, 'a>(
-    alloc: Global,
-    typedefs: &'x Typedefs<'a>,
-    number: u32,
-    around: &'x [Block<'a>],
+fn own_at<'j, 'x, 'a>(
+    keeper: &'j Keeper<'x, 'a>,
+    around: &'j [Block<'a>],
     stmt: &'a Stmt,
 ) -> Result<Typing<'a>, NoMemory>
-    ensures { IfOk result (λ own. spec.own_of own ≡ spec.own_with typedefs.now (spec.place number (out-Stmt stmt.now).at)
-        (option_map (site_in number around.now) (find (is_named word.Type) (subs_of stmt.now)))) }
+    ensures { IfOk result (λ own. spec.own_of own ≡ spec.own_with keeper.now.typedefs.now (spec.place keeper.now.number (out-Stmt stmt.now).at)
+        (option_map (site_in keeper.now.number around.now) (find (is_named word.Type) (subs_of stmt.now)))) }
 {
     let sub = first_named(Keyword::Type, stmt.subs.items());
-    let ty = stated_type(alloc, typedefs, number, around, sub)?;
-    let leafrefs = stated_leafrefs(alloc, typedefs, number, around, sub)?;
+    let ty = stated_type(keeper, around, sub)?;
+    let leafrefs = stated_leafrefs(keeper, around, sub)?;
     Ok(Typing {
-        place: place_at(number, stmt),
+        place: place_at(keeper.number, stmt),
         ty,
         leafrefs,
     })
 }
 
 /// Keeps what is wanted of a statement in these blocks.
-fn push_here<'x, 'a>(
+fn push_here<'j, 'x, 'a>(
     all: &mut Vec<Typing<'a>>,
-    alloc: Global,
-    typedefs: &'x Typedefs<'a>,
-    wanted: &Places,
-    number: u32,
+    keeper: &'j Keeper<'x, 'a>,
     around: &mut Vec<Block<'a>>,
     stmt: &'a Stmt,
 ) -> Result<(), NoMemory>
-    ensures value { IfOk result (λ _. spec.owns all.new.items ≡ spec.owns all.old.items ++ spec.own_here wanted.now typedefs.now (site_in number around.old.items stmt.now)) }
+    ensures value { IfOk result (λ _. spec.owns all.new.items
+        ≡ spec.owns all.old.items ++ spec.own_here keeper.now.wanted.now keeper.now.typedefs.now (site_in keeper.now.number around.old.items stmt.now)) }
     ensures around { IfOk result (λ _. around.new.items ≡ around.old.items) }
 {
-    if !wanted.contains_key(&place_at(number, stmt)) {
+    if !keeper.wanted.contains_key(&place_at(keeper.number, stmt)) {
         return Ok(());
     }
-    append(around, Block::new(alloc, stmt)?)?;
-    let own = own_at(alloc, typedefs, number, around, stmt)?;
+    append(around, Block::new(keeper.alloc, stmt)?)?;
+    let own = own_at(keeper, around, stmt)?;
     append(all, own)?;
     around.pop();
     Ok(())
@@ -210,35 +212,24 @@ fn push_here<'x, 'a>(
 // ---- all statements
 
 /// Keeps what is wanted of a statement and of those in so many levels below it.
-fn push_stmt<'x, 'a>(
+fn push_stmt<'j, 'x, 'a>(
     all: &mut Vec<Typing<'a>>,
-    alloc: Global,
-    typedefs: &'x Typedefs<'a>,
-    wanted: &Places,
-    number: u32,
+    keeper: &'j Keeper<'x, 'a>,
     around: &mut Vec<Block<'a>>,
     levels: u32,
     stmt: &'a Stmt,
 ) -> Result<(), NoMemory>
-    ensures value { IfOk result (λ _. spec.owns all.new.items ≡ spec.owns all.old.items ++ spec.owns_in wanted.now levels typedefs.now (site_in number around.old.items stmt.now)) }
+    ensures value { IfOk result (λ _. spec.owns all.new.items
+        ≡ spec.owns all.old.items ++ spec.owns_in keeper.now.wanted.now levels keeper.now.typedefs.now (site_in keeper.now.number around.old.items stmt.now)) }
     ensures around { IfOk result (λ _. around.new.items ≡ around.old.items) }
 {
-    push_here(all, alloc, typedefs, wanted, number, around, stmt)?;
+    push_here(all, keeper, around, stmt)?;
     if levels == 0 {
         return Ok(());
     }
-    append(around, Block::new(alloc, stmt)?)?;
+    append(around, Block::new(keeper.alloc, stmt)?)?;
     for sub in stmt.subs.items() {
-        push_stmt(
-            all,
-            alloc,
-            typedefs,
-            wanted,
-            number,
-            around,
-            levels - 1,
-            sub,
-        )?;
+        push_stmt(all, keeper, around, levels - 1, sub)?;
     }
     around.pop();
     Ok(())
@@ -249,7 +240,7 @@ fn typings_of<'x, 'a>(
     alloc: Global,
     modules: &'a Modules,
     typedefs: &'x Typedefs<'a>,
-    wanted: &Places,
+    wanted: &'x Places,
 ) -> Result<Vec<Typing<'a>>, NoMemory>
     requires { typedefs.now ≡ modules.now }
     ensures { IfOk result (λ all. spec.owns all.items ≡ spec.owns_of wanted.now modules.now) }
@@ -258,16 +249,13 @@ fn typings_of<'x, 'a>(
     let mut all = Vec::new(alloc);
     let mut around = Vec::new(alloc);
     for (m, stmt) in stmts.iter().enumerate() {
-        push_stmt(
-            &mut all,
+        let keeper = Keeper {
             alloc,
             typedefs,
             wanted,
-            m as u32,
-            &mut around,
-            MAX_BLOCKS,
-            stmt,
-        )?;
+            number: m as u32,
+        };
+        push_stmt(&mut all, &keeper, &mut around, MAX_BLOCKS, stmt)?;
     }
     Ok(all)
 }

@@ -52,79 +52,71 @@ fn merge(best: Option<Found>, found: Option<Found>) -> Option<Found>
     }
 }
 
-fn fault_at<'x, 'a>(
+/// A module whose type statements are judged, and which of their faults are asked for.
+#[derive(Drop)]
+struct Judge<'x, 'a> {
     alloc: Global,
     typedefs: &'x Typedefs<'a>,
     asked: Asked,
     number: u32,
-    around: &'x [Block<'a>],
+}
+
+fn fault_at<'j, 'x, 'a>(
+    judge: &'j Judge<'x, 'a>,
+    around: &'j [Block<'a>],
     stmt: &'a Stmt,
 ) -> Result<Option<Found>, NoMemory>
-    ensures { IfOk result (λ found. found ≡ least None (spec.faults_at asked typedefs.now (site_in number around.now stmt.now))) }
+    ensures { IfOk result (λ found. found ≡ least None (spec.faults_at judge.now.asked judge.now.typedefs.now (site_in judge.now.number around.now stmt.now))) }
 {
-    match asked {
-        Asked::Names => name_fault_at(alloc, typedefs, number, around, stmt),
+    match judge.asked {
+        Asked::Names => name_fault_at(judge.alloc, judge.typedefs, judge.number, around, stmt),
         Asked::Others => {
-            let (found, _ty) = judge_at(alloc, typedefs, number, around, stmt)?;
+            let (found, _ty) = judge_at(judge.alloc, judge.typedefs, judge.number, around, stmt)?;
             Ok(found)
         }
     }
 }
 
 /// The least of this fault and those of a statement, where it is a `type`.
-fn with_here<'x, 'a>(
+fn with_here<'j, 'x, 'a>(
     best: Option<Found>,
-    alloc: Global,
-    typedefs: &'x Typedefs<'a>,
-    asked: Asked,
-    number: u32,
-    around: &'x [Block<'a>],
+    judge: &'j Judge<'x, 'a>,
+    around: &'j [Block<'a>],
     stmt: &'a Stmt,
 ) -> Result<Option<Found>, NoMemory>
-    ensures { IfOk result (λ it. it ≡ least best (spec.faults_here asked typedefs.now (site_in number around.now stmt.now))) }
+    ensures { IfOk result (λ it. it ≡ least best (spec.faults_here judge.now.asked judge.now.typedefs.now (site_in judge.now.number around.now stmt.now))) }
 {
     if !is_named(Keyword::Type, stmt) {
         return Ok(best);
     }
-    let found = fault_at(alloc, typedefs, asked, number, around, stmt)?;
+    let found = fault_at(judge, around, stmt)?;
     Ok(merge(best, found))
 }
 
 /// The least of this fault and those of the type statements among a statement and those in so many levels below it.
 ///
 /// The blocks are those around the statement, and are the same again afterwards.
-fn with_stmt<'x, 'a>(
+fn with_stmt<'j, 'x, 'a>(
     best: Option<Found>,
-    alloc: Global,
-    typedefs: &'x Typedefs<'a>,
-    asked: Asked,
-    number: u32,
+    judge: &'j Judge<'x, 'a>,
     around: &mut Vec<Block<'a>>,
     levels: u32,
     stmt: &'a Stmt,
 ) -> Result<Option<Found>, NoMemory>
-    ensures value { IfOk result (λ it. it ≡ least best (spec.faults_in asked levels typedefs.now (site_in number around.old.items stmt.now))) }
+    ensures value { IfOk result (λ it. it
+        ≡ least best (spec.faults_in judge.now.asked levels judge.now.typedefs.now (site_in judge.now.number around.old.items stmt.now))) }
     ensures around { IfOk result (λ _. around.new.items ≡ around.old.items) }
 {
     if !is_read(stmt) {
         return Ok(best);
     }
-    let mut best = with_here(best, alloc, typedefs, asked, number, around, stmt)?;
+    let mut best = with_here(best, judge, around, stmt)?;
     if levels == 0 {
         return Ok(best);
     }
-    append(around, Block::new(alloc, stmt)?)?;
+    append(around, Block::new(judge.alloc, stmt)?)?;
     for sub in stmt.subs.items() {
-        best = with_stmt(
-            best,
-            alloc,
-            typedefs,
-            asked,
-            number,
-            around,
-            levels - 1,
-            sub,
-        )?;
+        best = with_stmt(best, judge, around, levels - 1, sub)?;
     }
     around.pop();
     Ok(best)
@@ -144,16 +136,13 @@ fn type_fault<'x, 'a>(
     let mut around = Vec::new(alloc);
     let mut best = None;
     for (m, stmt) in stmts.iter().enumerate() {
-        best = with_stmt(
-            best,
+        let judge = Judge {
             alloc,
             typedefs,
             asked,
-            m as u32,
-            &mut around,
-            MAX_BLOCKS,
-            stmt,
-        )?;
+            number: m as u32,
+        };
+        best = with_stmt(best, &judge, &mut around, MAX_BLOCKS, stmt)?;
     }
     Ok(best)
 }

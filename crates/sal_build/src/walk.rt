@@ -6,9 +6,10 @@ ghost use Rattle.std.specs.BTreeMap.{get};
 ghost use Rattle.sal_build.specs.Inherited as inherited;
 ghost use Rattle.sal_build.specs.Leafrefs as spec;
 
-use crate::child::{Found, Key, data_children_of, find, local_name};
+use crate::child::{Children, Key, data_children_of, find, local_name, module_named};
 use crate::inherited::{data_nodes_of, data_over, data_parent};
 use crate::node::{kind_of, name_of};
+use crate::paths::Paths;
 use sal_grouping::Branch;
 use sal_module::Modules;
 use sal_schema::Kind;
@@ -23,7 +24,7 @@ pub(crate) struct Ways {
     /// The input, output or notification in which each node stands.
     pub messages: Vec<Option<u32>>,
     /// The nodes for data by the nodes that their data stand under, and their names.
-    pub children: Found,
+    pub children: Children,
 }
 
 fn message_in(kind: Kind, k: u32, over: Option<u32>) -> Option<u32>
@@ -65,48 +66,46 @@ pub(crate) fn ways_of(alloc: Global, modules: &Modules, forest: &[Branch]) -> Re
 
 // ---- up
 
-fn above_node(modules: &Modules, forest: &[Branch], ways: &Ways, branch: &Branch) -> Option<u32>
-    requires { spec.AreWays modules.now forest.now ways.now }
-    ensures { result ≡ spec.above_branch modules.now forest.now branch.now }
+fn above_node(paths: &Paths, branch: &Branch) -> Option<u32>
+    ensures { result ≡ spec.above_branch paths.now.modules.now paths.now.forest.now branch.now }
 {
-    if kind_of(modules, branch).is_message() {
+    if kind_of(paths.modules, branch).is_message() {
         None
     } else {
-        data_parent(modules, forest, &ways.data_nodes, branch.parent)
+        place_of(paths, branch)
     }
 }
 
-fn step_up(
-    modules: &Modules,
-    forest: &[Branch],
-    ways: &Ways,
-    place: Option<u32>,
-) -> Option<Option<u32>>
-    requires { spec.AreWays modules.now forest.now ways.now }
-    ensures { result ≡ spec.step_up modules.now forest.now place }
+/// The node that the data of a node stand under.
+fn place_of(paths: &Paths, branch: &Branch) -> Option<u32>
+    ensures { result ≡ inherited.data_parent paths.now.modules.now paths.now.forest.now branch.now.parent }
+{
+    data_parent(
+        paths.modules,
+        paths.forest,
+        &paths.ways.data_nodes,
+        branch.parent,
+    )
+}
+
+fn step_up(paths: &Paths, place: Option<u32>) -> Option<Option<u32>>
+    ensures { result ≡ spec.step_up paths.now.modules.now paths.now.forest.now place }
 {
     match place {
         None => None,
-        Some(n) => match forest.get(n as usize) {
+        Some(n) => match paths.forest.get(n as usize) {
             None => Some(None),
-            Some(branch) => Some(above_node(modules, forest, ways, branch)),
+            Some(branch) => Some(above_node(paths, branch)),
         },
     }
 }
 
-fn steps_up(
-    modules: &Modules,
-    forest: &[Branch],
-    ways: &Ways,
-    up: usize,
-    place: Option<u32>,
-) -> Option<Option<u32>>
-    requires { spec.AreWays modules.now forest.now ways.now }
-    ensures { result ≡ spec.steps_up up modules.now forest.now place }
+fn steps_up(paths: &Paths, up: usize, place: Option<u32>) -> Option<Option<u32>>
+    ensures { result ≡ spec.steps_up up paths.now.modules.now paths.now.forest.now place }
 {
     let mut place = place;
     for _i in 0..up {
-        match step_up(modules, forest, ways, place) {
+        match step_up(paths, place) {
             None => return None,
             Some(above) => place = above,
         }
@@ -114,24 +113,25 @@ fn steps_up(
     Some(place)
 }
 
-fn start_of(
-    modules: &Modules,
-    forest: &[Branch],
-    ways: &Ways,
-    place: Option<u32>,
-    up: usize,
-) -> Option<Option<u32>>
-    requires { spec.AreWays modules.now forest.now ways.now }
-    ensures { result ≡ spec.start_of modules.now forest.now place up }
+fn start_of(paths: &Paths, place: Option<u32>, up: usize) -> Option<Option<u32>>
+    ensures { result ≡ spec.start_of paths.now.modules.now paths.now.forest.now place up }
 {
     if up == 0 {
         Some(None)
     } else {
-        steps_up(modules, forest, ways, up - 1, place)
+        steps_up(paths, up - 1, place)
     }
 }
 
 // ---- down
+
+/// Where a path begins: the message in which its leaf stands, the leaf's module, and the module whose text has the path.
+#[derive(Clone, Copy)]
+struct Origin {
+    message: Option<u32>,
+    owner: u32,
+    source: u32,
+}
 
 /// The operation of a message.
 fn operation_of<'f>(forest: &'f [Branch], n: u32) -> Option<&'f Branch>
@@ -146,46 +146,41 @@ fn operation_of<'f>(forest: &'f [Branch], n: u32) -> Option<&'f Branch>
     }
 }
 
-fn is_operation(modules: &Modules, forest: &[Branch], module: u32, n: u32, name: &str) -> bool
-    ensures { result ≡ spec.is_operation modules.now forest.now «module» n name.now }
+fn is_operation(paths: &Paths, module: u32, n: u32, name: &str) -> bool
+    ensures { result ≡ spec.is_operation paths.now.modules.now paths.now.forest.now «module» n name.now }
 {
-    match operation_of(forest, n) {
+    match operation_of(paths.forest, n) {
         None => false,
-        Some(branch) => branch.module == module && name_of(modules, branch) == name,
+        Some(branch) => branch.module == module && name_of(paths.modules, branch) == name,
     }
 }
 
 fn data_child(
-    alloc: Global,
-    modules: &Modules,
-    forest: &[Branch],
-    ways: &Ways,
+    paths: &Paths,
     place: Option<u32>,
     module: u32,
     name: &str,
 ) -> Result<Option<u32>, NoMemory>
-    requires { spec.AreWays modules.now forest.now ways.now }
-    ensures { IfOk result (λ child. child ≡ spec.data_child modules.now forest.now place «module» name.now) }
+    ensures { IfOk result (λ child. child ≡ spec.data_child paths.now.modules.now paths.now.forest.now place «module» name.now) }
 {
     let key = Key {
         leaf: false,
         above: place,
         module,
-        name: Str::new(alloc, name)?,
+        name: Str::new(paths.alloc, name)?,
     };
-    Ok(find(&ways.children, key))
+    Ok(find(&paths.ways.children, key))
 }
 
 /// The own message, where a name at the top is that of its operation.
 fn own_message(
-    modules: &Modules,
-    forest: &[Branch],
+    paths: &Paths,
     own: Option<u32>,
     place: Option<u32>,
     module: u32,
     name: &str,
 ) -> Option<u32>
-    ensures { result ≡ spec.own_message modules.now forest.now own place «module» name.now }
+    ensures { result ≡ spec.own_message paths.now.modules.now paths.now.forest.now own place «module» name.now }
 {
     if place.is_some() {
         return None;
@@ -193,7 +188,7 @@ fn own_message(
     match own {
         None => None,
         Some(n) => {
-            if is_operation(modules, forest, module, n, name) {
+            if is_operation(paths, module, n, name) {
                 Some(n)
             } else {
                 None
@@ -203,90 +198,45 @@ fn own_message(
 }
 
 fn step_down(
-    alloc: Global,
-    modules: &Modules,
-    forest: &[Branch],
-    ways: &Ways,
+    paths: &Paths,
     own: Option<u32>,
     place: Option<u32>,
     module: u32,
     name: &str,
 ) -> Result<Option<u32>, NoMemory>
-    requires { spec.AreWays modules.now forest.now ways.now }
-    ensures { IfOk result (λ child. child ≡ spec.step_down modules.now forest.now own place «module» name.now) }
+    ensures { IfOk result (λ child. child ≡ spec.step_down paths.now.modules.now paths.now.forest.now own place «module» name.now) }
 {
-    match own_message(modules, forest, own, place, module, name) {
+    match own_message(paths, own, place, module, name) {
         Some(n) => Ok(Some(n)),
-        None => data_child(alloc, modules, forest, ways, place, module, name),
-    }
-}
-
-fn module_named(modules: &Modules, owner: u32, source: u32, text: &str) -> Option<u32>
-    ensures { result ≡ spec.module_named modules.now owner source text.now }
-{
-    match text.split_once(':') {
-        Some((prefix, _name)) => modules.imported(source, prefix),
-        None => Some(owner),
+        None => data_child(paths, place, module, name),
     }
 }
 
 fn named_below(
-    alloc: Global,
-    modules: &Modules,
-    forest: &[Branch],
-    ways: &Ways,
-    own: Option<u32>,
-    owner: u32,
-    source: u32,
+    paths: &Paths,
+    origin: Origin,
     place: Option<u32>,
     name: &str,
 ) -> Result<Option<u32>, NoMemory>
-    requires { spec.AreWays modules.now forest.now ways.now }
-    ensures { IfOk result (λ child. child ≡ spec.named_below modules.now forest.now own owner source place name.now) }
+    ensures { IfOk result (λ child. child ≡ spec.named_below paths.now.modules.now paths.now.forest.now origin.message origin.owner origin.source place name.now) }
 {
-    match module_named(modules, owner, source, name) {
+    match module_named(paths.modules, origin.owner, origin.source, name) {
         None => Ok(None),
-        Some(module) => step_down(
-            alloc,
-            modules,
-            forest,
-            ways,
-            own,
-            place,
-            module,
-            local_name(name),
-        ),
+        Some(module) => step_down(paths, origin.message, place, module, local_name(name)),
     }
 }
 
 fn steps_down(
-    alloc: Global,
-    modules: &Modules,
-    forest: &[Branch],
-    ways: &Ways,
-    own: Option<u32>,
-    owner: u32,
-    source: u32,
+    paths: &Paths,
+    origin: Origin,
     start: Option<u32>,
     names: &[Str],
 ) -> Result<Option<u32>, NoMemory>
-    requires { spec.AreWays modules.now forest.now ways.now }
-    ensures { IfOk result (λ node. node ≡ spec.steps_down modules.now forest.now own owner source start names.now) }
+    ensures { IfOk result (λ node. node ≡ spec.steps_down paths.now.modules.now paths.now.forest.now origin.message origin.owner origin.source start names.now) }
 {
     let mut place = start;
     for name in names {
-        let below = named_below(
-            alloc,
-            modules,
-            forest,
-            ways,
-            own,
-            owner,
-            source,
-            place,
-            name.as_str(),
-        )?;
-        match below {
+        match named_below(paths, origin, place, name.as_str())? {
             None => return Ok(None),
             Some(n) => place = Some(n),
         }
@@ -325,39 +275,28 @@ fn message_at(modules: &Modules, forest: &[Branch], messages: &[Option<u32>], k:
 
 /// The leaf or leaf-list to which a path leads from a leaf: it goes up so often, or begins at the top, and down by these names.
 pub(crate) fn end_of(
-    alloc: Global,
-    modules: &Modules,
-    forest: &[Branch],
-    ways: &Ways,
+    paths: &Paths,
     k: u32,
     branch: &Branch,
     source: u32,
     up: usize,
     names: &[Str],
 ) -> Result<Option<u32>, NoMemory>
-    requires { spec.AreWays modules.now forest.now ways.now }
-    ensures { IfOk result (λ node. node ≡ spec.end_of modules.now forest.now k branch.now source up names.now) }
+    ensures { IfOk result (λ node. node ≡ spec.end_of paths.now.modules.now paths.now.forest.now k branch.now source up names.now) }
 {
     if names.is_empty() {
         return Ok(None);
     }
-    let place = data_parent(modules, forest, &ways.data_nodes, branch.parent);
-    match start_of(modules, forest, ways, place, up) {
+    match start_of(paths, place_of(paths, branch), up) {
         None => Ok(None),
         Some(start) => {
-            let own = message_at(modules, forest, &ways.messages, k);
-            let node = steps_down(
-                alloc,
-                modules,
-                forest,
-                ways,
-                own,
-                branch.module,
+            let origin = Origin {
+                message: message_at(paths.modules, paths.forest, &paths.ways.messages, k),
+                owner: branch.module,
                 source,
-                start,
-                names,
-            )?;
-            Ok(typed_node(modules, forest, node))
+            };
+            let node = steps_down(paths, origin, start, names)?;
+            Ok(typed_node(paths.modules, paths.forest, node))
         }
     }
 }

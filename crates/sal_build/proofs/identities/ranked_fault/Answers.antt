@@ -8,5 +8,5 @@ pub loop-i-preserved : goal.loop-i-preserved
 loop-i-preserved c =
     let all = c.args.all.now in
     let i = c.loop-i.i in
-    fault-more all i c.index-all-i.result c.loop-i-test.true (search rules) (faults_of c.args.typedefs.now (lists c.args.edges.now)) None c.loop-i.best c.in_ok-best.best
+    fault-more all i c.index-all-i.result c.loop-i-test.true (search rules) (faults_of c.args.typedefs.now (lists c.args.circles.now.edges.now)) None c.loop-i.best c.in_ok-best.best
     c.loop-i.invariant c.in_ok-best.ensures

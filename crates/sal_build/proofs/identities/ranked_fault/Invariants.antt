@@ -7,4 +7,4 @@ use Rattle.sal_build.specs.Identities.{seen, faults_of}
 use Rattle.sal_build.proofs.identities.ranked_fault.Given as goal
 
 abbrev pub invariant-loop-i : goal.invariant-loop-i
-invariant-loop-i l = l.best ≡ least None (numbered (faults_of l.typedefs (lists l.edges)) 0 (take l.i (seen l.all)))
+invariant-loop-i l = l.best ≡ least None (numbered (faults_of l.typedefs (lists l.circles.edges.now)) 0 (take l.i (seen l.all)))

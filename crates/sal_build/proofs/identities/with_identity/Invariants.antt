@@ -8,4 +8,4 @@ use Rattle.sal_build.specs.Identities.{base_faults}
 use Rattle.sal_build.proofs.identities.with_identity.Given as goal
 
 abbrev pub invariant-loop-sub : goal.invariant-loop-sub
-invariant-loop-sub l = l.best ≡ least l.initial.best (flat_map (base_faults l.typedefs (lists l.edges) l.i l.module) (take l.sub-index (subs_of l.one)))
+invariant-loop-sub l = l.best ≡ least l.initial.best (flat_map (base_faults l.typedefs (lists l.circles.edges.now) l.i l.module) (take l.sub-index (subs_of l.one)))

@@ -6,13 +6,13 @@ use Rattle.sal_build.proofs.info.infos_of.Goals as goal
 
 pub after-types-requires : goal.after-types-requires
 after-types-requires c =
-    let few = types-few c.args.modules.now c.args.forest.now c.loop-k.k c.loop-k-test.true in
-    omega (arith, few, c.loop-k.invariant.types, c.requires.few)
+    let few = types-few c.args.nodes.now.modules.now c.args.nodes.now.forest.now c.loop-k.k c.loop-k-test.true in
+    omega (arith, few, c.loop-k.invariant.types, c.args.nodes.now.looked_up.few)
 
 pub loop-k-preserved : goal.loop-k-preserved
 loop-k-preserved c =
-    let stmts = c.args.modules.now in
-    let forest = c.args.forest.now in
+    let stmts = c.args.nodes.now.modules.now in
+    let forest = c.args.nodes.now.forest.now in
     let k = c.loop-k.k in
     let at = get_or_default forest k _ _ c.loop-k-test.true in
     let pushed = c.in_ok-append.ensures ∙ ap (λ i. c.loop-k.infos.items ++ i ∷ []) c.in_ok-info_of.ensures in

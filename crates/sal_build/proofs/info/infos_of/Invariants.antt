@@ -6,6 +6,6 @@ use Rattle.sal_build.proofs.info.infos_of.Given as goal
 abbrev pub invariant-loop-k : goal.invariant-loop-k
 invariant-loop-k l =
     record {
-      infos : infos_of l.modules l.forest ≡ l.infos.items ++ infos_from l.modules l.forest l.k (drop l.k l.forest);
-      types : l.types ≡ types_before l.modules l.forest l.k;
+      infos : infos_of l.nodes.modules.now l.nodes.forest.now ≡ l.infos.items ++ infos_from l.nodes.modules.now l.nodes.forest.now l.k (drop l.k l.nodes.forest.now);
+      types : l.types ≡ types_before l.nodes.modules.now l.nodes.forest.now l.k;
     }

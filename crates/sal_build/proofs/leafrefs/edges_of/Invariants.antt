@@ -6,4 +6,4 @@ use Rattle.sal_build.specs.Leafrefs.{targets_of}
 use Rattle.sal_build.proofs.leafrefs.edges_of.Given as goal
 
 abbrev pub invariant-loop-k : goal.invariant-loop-k
-invariant-loop-k l = lists l.edges.items ≡ numbered (λ k b. targets_of l.modules l.forest k b ∷ []) 0 (take l.k l.forest)
+invariant-loop-k l = lists l.edges.items ≡ numbered (λ k b. targets_of l.paths.modules.now l.paths.forest.now k b ∷ []) 0 (take l.k l.paths.forest.now)

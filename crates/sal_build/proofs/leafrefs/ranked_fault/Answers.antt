@@ -6,7 +6,7 @@ use Rattle.sal_build.proofs.leafrefs.ranked_fault.Goals as goal
 
 pub loop-k-preserved : goal.loop-k-preserved
 loop-k-preserved c =
-    let forest = c.args.forest.now in
-    fault-more c.args.modules.now forest c.loop-k.k _ (seen_all c.args.leafrefs.now) (seen c.leafrefs_at-own.result.now) c.loop-k-test.true
+    let forest = c.args.paths.now.forest.now in
+    fault-more c.args.paths.now.modules.now forest c.loop-k.k _ (seen_all c.args.leafrefs.now) (seen c.leafrefs_at-own.result.now) c.loop-k-test.true
     (get_or_default forest c.loop-k.k _ _ c.loop-k-test.true) c.requires.leafrefs c.leafrefs_at-own.ensures
-    (lists c.args.edges.now) c.loop-k.best c.in_ok-best.best c.loop-k.invariant c.in_ok-best.ensures
+    (lists c.args.circles.now.edges.now) c.loop-k.best c.in_ok-best.best c.loop-k.invariant c.in_ok-best.ensures

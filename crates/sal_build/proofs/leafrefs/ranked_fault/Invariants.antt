@@ -7,4 +7,4 @@ use Rattle.sal_build.specs.Leafrefs.{node_faults}
 use Rattle.sal_build.proofs.leafrefs.ranked_fault.Given as goal
 
 abbrev pub invariant-loop-k : goal.invariant-loop-k
-invariant-loop-k l = l.best ≡ least None (numbered (node_faults l.modules l.forest (lists l.edges)) 0 (take l.k l.forest))
+invariant-loop-k l = l.best ≡ least None (numbered (node_faults l.paths.modules.now l.paths.forest.now (lists l.circles.edges.now)) 0 (take l.k l.paths.forest.now))

@@ -7,4 +7,4 @@ use Rattle.sal_build.specs.Leafrefs.{seen, leafref_faults}
 use Rattle.sal_build.proofs.leafrefs.with_leafrefs.Given as goal
 
 abbrev pub invariant-loop-leafref : goal.invariant-loop-leafref
-invariant-loop-leafref l = l.best ≡ least l.initial.best (flat_map (leafref_faults l.modules l.forest (lists l.edges) l.k l.branch) (seen (take l.leafref-index l.leafrefs)))
+invariant-loop-leafref l = l.best ≡ least l.initial.best (flat_map (leafref_faults l.paths.modules.now l.paths.forest.now (lists l.circles.edges.now) l.k l.branch) (seen (take l.leafref-index l.leafrefs)))

@@ -5,4 +5,4 @@ use Rattle.sal_build.specs.Lists.{differs}
 use Rattle.sal_build.proofs.lists.any_differs.Given as goal
 
 abbrev pub invariant-loop-leaf : goal.invariant-loop-leaf
-invariant-loop-leaf l = list_any (differs l.modules l.forest l.k) l.leafs ≡ list_any (differs l.modules l.forest l.k) (drop l.leaf-index l.leafs)
+invariant-loop-leaf l = list_any (differs l.nodes.modules.now l.nodes.forest.now l.k) l.leafs ≡ list_any (differs l.nodes.modules.now l.nodes.forest.now l.k) (drop l.leaf-index l.leafs)

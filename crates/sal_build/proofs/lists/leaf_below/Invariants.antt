@@ -4,7 +4,7 @@ use Rattle.sal_build.specs.Lists.{leaf_below}
 use Rattle.sal_build.proofs.lists.leaf_below.Given as goal
 
 abbrev pub invariant-steps : goal.invariant-steps
-invariant-steps l = leaf_below l.modules l.forest l.branch l.initial.above l.steps ≡ leaf_below l.modules l.forest l.branch l.above l.rest
+invariant-steps l = leaf_below l.nodes.modules.now l.nodes.forest.now l.branch l.initial.above l.steps ≡ leaf_below l.nodes.modules.now l.nodes.forest.now l.branch l.above l.rest
 
 abbrev pub decreases-steps : goal.decreases-steps
 decreases-steps l = length l.rest

@@ -6,6 +6,6 @@ use Rattle.sal_build.proofs.lists.lists_fault.Goals as goal
 
 pub loop-k-preserved : goal.loop-k-preserved
 loop-k-preserved c =
-    let forest = c.args.forest.now in
-    least_more (node_faults c.args.modules.now forest) forest c.loop-k.k _ None c.loop-k.best c.in_ok-best.best c.loop-k-test.true
+    let forest = c.args.nodes.now.forest.now in
+    least_more (node_faults c.args.nodes.now.modules.now forest) forest c.loop-k.k _ None c.loop-k.best c.in_ok-best.best c.loop-k-test.true
     (get_or_default forest c.loop-k.k _ _ c.loop-k-test.true) c.loop-k.invariant c.in_ok-best.ensures

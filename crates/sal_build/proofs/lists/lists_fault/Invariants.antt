@@ -6,4 +6,4 @@ use Rattle.sal_build.specs.Lists.{node_faults}
 use Rattle.sal_build.proofs.lists.lists_fault.Given as goal
 
 abbrev pub invariant-loop-k : goal.invariant-loop-k
-invariant-loop-k l = l.best ≡ least None (numbered (node_faults l.modules l.forest) 0 (take l.k l.forest))
+invariant-loop-k l = l.best ≡ least None (numbered (node_faults l.nodes.modules.now l.nodes.forest.now) 0 (take l.k l.nodes.forest.now))

@@ -13,4 +13,4 @@ abbrev pub invariant-loop-sub : goal.invariant-loop-sub
 invariant-loop-sub l =
     (l.around.items ≡ l.initial.around.items)
     × (owns l.all.items ≡ owns l.initial.all.items
-    ++ flat_map (λ sub. owns_in l.wanted (l.levels - 1) l.typedefs (site_in l.number l.initial.around.items sub)) (take l.sub-index (subs_of l.stmt)))
+    ++ flat_map (λ sub. owns_in l.keeper.wanted.now (l.levels - 1) l.keeper.typedefs.now (site_in l.keeper.number l.initial.around.items sub)) (take l.sub-index (subs_of l.stmt)))

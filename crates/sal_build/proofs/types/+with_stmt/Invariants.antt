@@ -13,4 +13,4 @@ decreases-with_stmt l = l.levels
 abbrev pub invariant-loop-sub : goal.invariant-loop-sub
 invariant-loop-sub l =
     (l.around.items ≡ l.initial.around.items)
-    × (l.best ≡ least l.initial.best (flat_map (λ sub. faults_in l.asked (l.levels - 1) l.typedefs (site_in l.number l.initial.around.items sub)) (take l.sub-index (subs_of l.stmt))))
+    × (l.best ≡ least l.initial.best (flat_map (λ sub. faults_in l.judge.asked (l.levels - 1) l.judge.typedefs.now (site_in l.judge.number l.initial.around.items sub)) (take l.sub-index (subs_of l.stmt))))

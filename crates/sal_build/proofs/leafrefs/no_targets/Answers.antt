@@ -3,7 +3,7 @@ use Rattle.std.specs.List.{list_any}
 use Rattle.sal_module.specs.Faults.{least}
 use Rattle.sal_build.specs.Leafrefs.{is_some_reference, references_at, edges_of}
 use Rattle.sal_build.proofs.Nowhere.{no-edges, no-faults}
-use Rattle.sal_build.proofs.leafrefs.led_nowhere.Goals as goal
+use Rattle.sal_build.proofs.leafrefs.no_targets.Goals as goal
 
 pub returns-clause-edges : goal.returns-clause-edges
 returns-clause-edges c =

@@ -1,4 +1,5 @@
 pub mod Clashes
+pub mod Empty
 pub mod Following
 pub mod Keeping
 pub mod KeptLemmas

@@ -16,7 +16,7 @@
 //!
 //! | call | cost |
 //! |---|---|
-//! | `conflict`, for each put or delete that nothing covers | two searches for its path at the ends of each span, whatever commits lie between; no memory |
+//! | `conflict`, for each put or delete that nothing covers | two searches for its path at the ends of each span that has a commit, whatever commits lie between; no memory |
 //! | `conflict`, for each put and merge | one search in the base for each step above its path, and two in the newest tree where that finds a row |
 //! | the commit that a conflict names, where something stands at its path at the end of the span | one search for the path, and one by halves for the receipt |
 //! | the same, where nothing stands there | a look back through the commits of the span, at the operations of each and their rows |

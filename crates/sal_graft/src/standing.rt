@@ -3,12 +3,12 @@ ghost use Rattle.std.specs.Prelude.{◌≡◌, Some, is_some};
 ghost use Rattle.sal_types.specs.Tree.{cell, has};
 ghost use Rattle.sal_node.specs.Shape.{tree_at};
 ghost use Rattle.sal_tree.specs.Alike.{alike};
-ghost use Rattle.sal_tree.specs.Grow.{at, kid, present, IsSound};
+ghost use Rattle.sal_tree.specs.Grow.{at};
 ghost use Rattle.sal_tree.specs.Rows.{rows_of};
 ghost use Rattle.sal_graft.specs.Following.{filled};
 
 use sal_node::Node;
-use sal_tree::Root;
+use sal_tree::{Root, have_same_stamp, is_present, reached};
 use sal_types::Step;
 use std::sync::Arc;
 
@@ -16,10 +16,7 @@ use std::sync::Arc;
 pub(crate) fn stands(tree: &Root, steps: &[Step]) -> bool
     ensures { result ≡ has (rows_of tree.now) steps.now }
 {
-    match reached(Some(tree.node()), steps) {
-        None => false,
-        Some(node) => node.is_filled(),
-    }
+    is_present(reached(Some(tree.node()), steps))
 }
 
 /// Whether a row stands at the steps themselves.
@@ -36,17 +33,7 @@ pub(crate) fn has_cell(tree: &Root, steps: &[Step]) -> bool
 pub(crate) fn is_alike(before: &Root, after: &Root, steps: &[Step]) -> bool
     ensures { result ≡ alike (filled (at (Some before.now) steps.now)) (filled (at (Some after.now) steps.now)) }
 {
-    same_stamp(filled_at(before, steps), filled_at(after, steps))
-}
-
-fn same_stamp(before: Option<&Arc<Node>>, after: Option<&Arc<Node>>) -> bool
-    ensures { result ≡ alike (tree_at before.entry) (tree_at after.entry) }
-{
-    match (before, after) {
-        (None, None) => true,
-        (Some(one), Some(other)) => one.stamp() == other.stamp(),
-        _ => false,
-    }
+    have_same_stamp(filled_at(before, steps), filled_at(after, steps))
 }
 
 // The node that the steps lead to, where a row stands at it or below it.
@@ -76,26 +63,4 @@ fn is_celled(node: &Node) -> bool
     ensures { result ≡ is_some node.now.cell }
 {
     node.cell.is_some()
-}
-
-// The node that the steps lead to.
-fn reached<'a>(node: Option<&'a Arc<Node>>, steps: &[Step]) -> Option<&'a Arc<Node>>
-    requires { IsSound (tree_at node) }
-    ensures { tree_at result ≡ at (tree_at node.entry) steps.now }
-{
-    match steps {
-        [] => node,
-        [step, rest @ ..] => reached(child_of(node, step), rest),
-    }
-}
-
-fn child_of<'a>(node: Option<&'a Arc<Node>>, step: &Step) -> Option<&'a Arc<Node>>
-    requires { IsSound (tree_at node) }
-    ensures kid { tree_at result ≡ kid (tree_at node.entry) step.now }
-    ensures sound { IsSound (tree_at result) }
-{
-    match node {
-        None => None,
-        Some(node) => node.child(step),
-    }
 }

@@ -24,6 +24,7 @@ pub(crate) fn is_touched(before: &Root, store: Store, ops: &[Op], steps: &[Step]
 fn op_touches(before: &Root, op: &Op, steps: &[Step]) -> bool
     ensures { result ≡ op_touches (rows_of before.now) op.now steps.now }
 {
+    // For the proof alone: `node` says that the tree is whole.
     let _ = before.node();
     match &op.act {
         Act::Put(rows) => {

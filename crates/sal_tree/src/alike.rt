@@ -1,13 +1,11 @@
 //! What the stamps of two trees tell of a path.
 ghost use Rattle.std.specs.Prelude.{◌≡◌, Some};
-ghost use Rattle.sal_node.specs.Shape.{tree_at};
 ghost use Rattle.sal_tree.specs.Grow.{at};
 ghost use Rattle.sal_tree.specs.Alike.{alike};
 
+use crate::reach::have_same_stamp;
 use crate::root::Root;
-use sal_node::Node;
 use sal_types::Path;
-use std::sync::Arc;
 
 /// Whether the path is absent in both trees, or present in both with one stamp. It takes no memory.
 ///
@@ -15,15 +13,5 @@ use std::sync::Arc;
 pub fn is_alike(before: &Root, after: &Root, path: &Path) -> bool
     ensures { result ≡ alike (at (Some before.now) path.now) (at (Some after.now) path.now) }
 {
-    same_stamp(before.get(path), after.get(path))
-}
-
-fn same_stamp(before: Option<&Arc<Node>>, after: Option<&Arc<Node>>) -> bool
-    ensures { result ≡ alike (tree_at before.entry) (tree_at after.entry) }
-{
-    match (before, after) {
-        (None, None) => true,
-        (Some(one), Some(other)) => one.stamp() == other.stamp(),
-        _ => false,
-    }
+    have_same_stamp(before.get(path), after.get(path))
 }

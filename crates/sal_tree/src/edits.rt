@@ -31,6 +31,7 @@ impl Root {
         ensures rows { IfOk result (λ r. (s : Store) → rows_of r ≡ apply_ops (rows_of self.now) s (one_op s path.now (Put rows.now))) }
         ensures stamps { IfOk result (λ r. Follows (exactly stamp) (act_touches (rows_of self.now) path.now (Put rows.now)) self.now r) }
     {
+        // For the proof alone: `node` says that the tree is whole.
         let _ = self.node();
         if rows.items().is_empty() {
             let after = self.cleared(alloc, path, stamp)?;
@@ -55,7 +56,9 @@ impl Root {
         ensures rows { IfOk result (λ r. (s : Store) → rows_of r ≡ apply_ops (rows_of self.now) s (one_op s path.now (Merge rows.now))) }
         ensures stamps { IfOk result (λ r. Follows (exactly stamp) (act_touches (rows_of self.now) path.now (Merge rows.now)) self.now r) }
     {
+        // For the proof alone: `node` says that the tree is whole.
         let _ = self.node();
+        // The path stands in the contract alone.
         let _ = path;
         let after = self.with_rows(alloc, rows.items(), stamp)?;
         Ok(after)
@@ -70,6 +73,7 @@ impl Root {
         ensures rows { IfOk result (λ r. (s : Store) → rows_of r ≡ apply_ops (rows_of self.now) s (one_op s path.now Delete)) }
         ensures stamps { IfOk result (λ r. Follows (exactly stamp) (act_touches (rows_of self.now) path.now Delete) self.now r) }
     {
+        // For the proof alone: `node` says that the tree is whole.
         let _ = self.node();
         let after = self.cleared(alloc, path, stamp)?;
         Ok(after)
@@ -103,6 +107,7 @@ impl Root {
         ensures rows { IfOk result (λ r. (s : Store) → rows_of r ≡ apply_ops (rows_of self.now) s (one_op s path.now (Put rows.now))) }
         ensures stamps { IfOk result (λ r. Follows (exactly stamp) (act_touches (rows_of self.now) path.now (Put rows.now)) self.now r) }
     {
+        // For the proof alone: `node` says that the tree is whole.
         let _ = self.node();
         let steps = path.steps();
         let built = build(alloc, rows, steps.len(), stamp)?;

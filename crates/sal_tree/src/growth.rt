@@ -3,8 +3,9 @@ ghost use Rattle.std.specs.Prelude.{◌≡◌, Option, Some, None, T, IfOk, List
 ghost use Rattle.sal_types.specs.declared.value.Step.{Step};
 ghost use Rattle.sal_node.specs.Tree.{Tree, change, grove};
 ghost use Rattle.sal_node.specs.Shape.{tree_in, tree_at};
-ghost use Rattle.sal_tree.specs.Grow.{grow, kid, kids_in, cell_in, standing, IsSound};
+ghost use Rattle.sal_tree.specs.Grow.{grow, kids_in, cell_in, standing, IsSound};
 
+use crate::reach::child_of;
 use sal_node::Node;
 use sal_types::{NoMemory, Step};
 use std::alloc::Global;
@@ -28,18 +29,6 @@ pub(crate) fn grown(
             let node = replaced(alloc, old, step, child, stamp)?;
             Ok(node)
         }
-    }
-}
-
-/// The child at the step.
-pub(crate) fn child_of<'a>(old: Option<&'a Arc<Node>>, step: &Step) -> Option<&'a Arc<Node>>
-    requires { IsSound (tree_at old) }
-    ensures kid { tree_at result ≡ kid (tree_at old.entry) step.now }
-    ensures sound { IsSound (tree_at result) }
-{
-    match old {
-        None => None,
-        Some(node) => node.child(step),
     }
 }
 

@@ -6,6 +6,9 @@
 //! | `Pair` | the two trees of a domain, configuration and operational |
 //! | `Commit` | a commit of a domain: number, receipt, chain, operations, and the trees after it |
 //!
+//! `child_of`, `reached`, `is_present` and `have_same_stamp` are asked of nodes, for walks that go from node to node; `longer` is the
+//! path to a child.
+//!
 //! An edit makes a new tree, which shares every node that it does not touch. The nodes that it touches, by their rows or
 //! by rows that stood below them, have the stamp of the edit. So two trees of one history have one stamp at a path
 //! exactly where nothing between them touched it (`is_alike`), and then the nodes there are the same.
@@ -39,10 +42,13 @@ pub mod edits;
 pub mod examples;
 mod growth;
 pub mod listing;
+pub mod reach;
 pub mod root;
 pub mod under;
 
 pub use alike::is_alike;
 pub use commit::{Commit, Pair};
+pub use listing::longer;
+pub use reach::{child_of, have_same_stamp, is_present, reached};
 pub use root::Root;
 pub use under::lie_under;

@@ -27,6 +27,7 @@ impl Root {
         ensures rows { IfOk result (λ list. list.items ≡ under (rows_of self.now) path.now) }
         ensures order { IfOk result (λ list. IsAscending list.items) }
     {
+        // For the proof alone: `node` says that the tree is whole, and `steps` that a path is short.
         let _ = self.node();
         let _ = path.steps();
         let mut list = Vec::new(alloc);
@@ -67,8 +68,8 @@ fn list_cell(into: &mut Vec<Row>, node: &Node, path: &Path) -> Result<(), NoMemo
     }
 }
 
-// The path one step further down.
-fn longer(path: &Path, step: &Step) -> Result<Path, NoMemory>
+/// The path one step further down.
+pub fn longer(path: &Path, step: &Step) -> Result<Path, NoMemory>
     requires { length path.now < 32 }
     ensures { IfOk result (λ p. p ≡ path.now ++ step.now ∷ []) }
 {

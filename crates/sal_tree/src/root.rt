@@ -2,13 +2,13 @@
 ghost use Rattle.std.specs.Prelude.{◌≡◌, Some, IfOk};
 ghost use Rattle.sal_types.specs.Tree.{has};
 ghost use Rattle.sal_node.specs.Shape.{tree_at};
-ghost use Rattle.sal_tree.specs.Grow.{at, IsSound, blank, present};
+ghost use Rattle.sal_tree.specs.Grow.{at, blank, present};
 ghost use Rattle.sal_tree.specs.Rows.{rows_of};
 ghost use Rattle.sal_tree.specs.Whole.{IsWhole};
 
-use crate::growth::child_of;
+use crate::reach::reached;
 use sal_node::Node;
-use sal_types::{Duplicate, NoMemory, Path, Step};
+use sal_types::{Duplicate, NoMemory, Path};
 use std::alloc::Global;
 use std::marker::Model;
 use std::sync::Arc;
@@ -72,6 +72,7 @@ impl Root {
         ensures node { result ≡ present (at (Some self.now) path.now) }
         ensures rows { result ≡ has (rows_of self.now) path.now }
     {
+        // For the proof alone: `node` says that the tree is whole.
         let _ = self.node();
         match self.get(path) {
             None => false,
@@ -84,16 +85,5 @@ impl Duplicate for Root {
     fn copy(&self) -> Result<Root, NoMemory> {
         let node = Arc::try_clone(&self.node)?;
         Ok(Root { node })
-    }
-}
-
-// The node that the steps lead to.
-fn reached<'a>(node: Option<&'a Arc<Node>>, steps: &[Step]) -> Option<&'a Arc<Node>>
-    requires { IsSound (tree_at node) }
-    ensures { tree_at result ≡ at (tree_at node.entry) steps.now }
-{
-    match steps {
-        [] => node,
-        [step, rest @ ..] => reached(child_of(node, step), rest),
     }
 }

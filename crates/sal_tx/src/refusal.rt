@@ -4,7 +4,7 @@ ghost use Rattle.std.specs.Option.{option_copied};
 ghost use Rattle.sal_types.specs.Tree.{has};
 ghost use Rattle.sal_rows.specs.Apply.{rows_of_act};
 ghost use Rattle.sal_node.specs.Shape.{tree_at};
-ghost use Rattle.sal_tree.specs.Grow.{kid, present, IsSound};
+ghost use Rattle.sal_tree.specs.Grow.{IsSound};
 ghost use Rattle.sal_tree.specs.Rows.{rows_of};
 ghost use Rattle.sal_schema.specs.Fitting.{is_of_state, is_root};
 ghost use Rattle.sal_rules.specs.Refusals as spec;
@@ -15,7 +15,7 @@ use sal_node::Node;
 use sal_rows::{Act, Op};
 use sal_rules::TxFault;
 use sal_schema::Schema;
-use sal_tree::Root;
+use sal_tree::{Root, child_of, is_present};
 use sal_types::{Duplicate, Path, Row, Step, Store};
 use std::alloc::Global;
 use std::sync::Arc;
@@ -112,7 +112,7 @@ fn missing_below(schema: &Schema, node: Option<&Arc<Node>>, steps: &[Step]) -> O
                 return None;
             }
             let node = child_of(node, step);
-            if schema.has_mark(step) && !stands(node) {
+            if schema.has_mark(step) && !is_present(node) {
                 return Some(1);
             }
             match missing_below(schema, node, rest) {
@@ -129,26 +129,5 @@ fn is_empty(steps: &[Step]) -> bool
     match steps {
         [] => true,
         _ => false,
-    }
-}
-
-fn child_of<'a>(node: Option<&'a Arc<Node>>, step: &Step) -> Option<&'a Arc<Node>>
-    requires { IsSound (tree_at node) }
-    ensures child { tree_at result ≡ kid (tree_at node.entry) step.now }
-    ensures sound { IsSound (tree_at result) }
-{
-    match node {
-        None => None,
-        Some(node) => node.child(step),
-    }
-}
-
-// Whether a row stands at the node or below it.
-fn stands(node: Option<&Arc<Node>>) -> bool
-    ensures { result ≡ present (tree_at node.entry) }
-{
-    match node {
-        None => false,
-        Some(node) => node.is_filled(),
     }
 }

@@ -125,6 +125,7 @@ impl ReadTx {
         ensures rows { spec.rows_in self.now.base store ≡ apply_ops (spec.rows_in self.now.base store) store [] }
     {
         let tree = tree_of(&self.base, store);
+        // For the proof alone: `node` says that the tree is whole.
         let _ = tree.node();
         tree
     }
@@ -154,6 +155,7 @@ impl WriteTx {
         requires low { begun.place < 2 ^ 63 - 1 }
         ensures { IfOk result (λ tx. tx ≡ record { begun = begun; mode = mode; base = base; view = base; changes = [] }) }
     {
+        // For the proof alone: `node` says that the trees are whole.
         let _ = base.config.node();
         let _ = base.oper.node();
         let view = base.copy()?;
@@ -338,10 +340,12 @@ impl WriteTx {
         let stamp = self.parts.begun.place * 2 + 2;
         let tree = self.view_of(op.store);
         let base = tree_of(&self.parts.base, op.store);
+        // For the proof alone: `node` says that the trees are whole.
         let _ = base.node();
         let _ = tree.node();
         match written(alloc, self.schema(), tree, op, stamp) {
             Ok(next) => {
+                // For the proof alone: `node` says that the tree is whole.
                 let _ = next.node();
                 Ok(next)
             }

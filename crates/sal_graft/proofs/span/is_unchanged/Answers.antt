@@ -1,13 +1,19 @@
 -- The trees at the ends of the span are those of its commits.
-use Rattle.std.proofs.Common.{◌≡◌, Some, ap, sym, subst, ◌∙◌}
+use Rattle.std.proofs.Common.{rules, ◌≡◌, Some, ap, sym, subst, ◌∙◌}
 use Rattle.sal_node.specs.Tree.{Tree, IsGrove}
 use Rattle.sal_tree.specs.Alike.{alike}
 use Rattle.sal_tree.specs.Grow.{at}
 use Rattle.sal_tree.specs.declared.commit.Commit.{Commit}
 use Rattle.sal_graft.specs.Following.{filled}
-use Rattle.sal_graft.specs.Kept.{tree_in}
+use Rattle.sal_graft.specs.Kept.{opening_in, ops_of, tree_in}
+use Rattle.sal_graft.proofs.Empty.{unchanged-empty}
 use Rattle.sal_graft.proofs.Stamps.{unchanged-alike}
 use Rattle.sal_graft.proofs.span.is_unchanged.Goals as goal
+
+pub returns-then-span : goal.returns-then-span
+returns-then-span c =
+    let empty : c.args.span.from ≡ c.args.span.to = search rules in
+    sym (unchanged-empty (opening_in c.args.commits.now) (ops_of c.args.commits.now) c.args.store c.args.steps.now c.args.span empty)
 
 pub returns : goal.returns
 returns c =

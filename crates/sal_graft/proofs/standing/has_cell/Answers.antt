@@ -12,11 +12,11 @@ reached-requires c = subst (λ (t : Tree). IsGrove t.kids) (sym c.node.ensures.t
 
 pub returns-in-None : goal.returns-in-None
 returns-in-None c =
-    sym (ap (λ o. is_some (cell_in (tree_at o))) c.in-None.is) ∙ ap (λ o. is_some (cell_in o)) c.reached.ensures ∙ ap (λ (t : Tree). is_some (cell_in (at (Some t) c.args.steps.now))) c.node.ensures.tree
+    sym (ap (λ o. is_some (cell_in (tree_at o))) c.in-None.is) ∙ ap (λ o. is_some (cell_in o)) c.reached.ensures.node ∙ ap (λ (t : Tree). is_some (cell_in (at (Some t) c.args.steps.now))) c.node.ensures.tree
     ∙ sym (ap is_some (cell-rows_of c.args.tree.now c.node.ensures.whole.ordered c.args.steps.now))
 
 pub returns-in-Some : goal.returns-in-Some
 returns-in-Some c =
-    c.is_celled.ensures ∙ ap (λ (t : Tree). is_some t.cell) c.deref.ensures ∙ sym (ap (λ o. is_some (cell_in (tree_at o))) c.in-Some.is) ∙ ap (λ o. is_some (cell_in o)) c.reached.ensures
+    c.is_celled.ensures ∙ ap (λ (t : Tree). is_some t.cell) c.deref.ensures ∙ sym (ap (λ o. is_some (cell_in (tree_at o))) c.in-Some.is) ∙ ap (λ o. is_some (cell_in o)) c.reached.ensures.node
     ∙ ap (λ (t : Tree). is_some (cell_in (at (Some t) c.args.steps.now))) c.node.ensures.tree
     ∙ sym (ap is_some (cell-rows_of c.args.tree.now c.node.ensures.whole.ordered c.args.steps.now))

@@ -3,7 +3,7 @@ use Rattle.sal_node.specs.Tree.{Tree, IsGrove}
 use Rattle.sal_node.specs.Shape.{tree_at}
 use Rattle.sal_tree.specs.Grow.{IsSound}
 use Rattle.sal_tree.proofs.Laws.{grove-sorted, sound-kid}
-use Rattle.sal_graft.proofs.standing.child_of.Goals as goal
+use Rattle.sal_tree.proofs.reach.child_of.Goals as goal
 
 pub child-requires : goal.child-requires
 child-requires c = grove-sorted _ (subst (λ (t : Tree). IsGrove t.kids) (sym c.deref.ensures) (subst (λ o. IsSound (tree_at o)) c.in-Some.is c.requires))

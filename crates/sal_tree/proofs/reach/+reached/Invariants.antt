@@ -1,5 +1,5 @@
 use Rattle.std.proofs.Common.{length}
-use Rattle.sal_graft.proofs.standing.+reached.Given as goal
+use Rattle.sal_tree.proofs.reach.+reached.Given as goal
 
 abbrev pub decreases-reached : goal.decreases-reached
 decreases-reached l = length l.steps.now

@@ -1,12 +1,10 @@
-//! The tests of the broker's half: rows, nodes, trees, operations, rules of state data, decisions, mirrors and the hub.
+//! The tests of the broker's half: trees, decisions over long histories, and mirrors.
 #![tactic(auto)]
 
 #[cfg(test)]
-mod check;
-#[cfg(test)]
 mod commit;
 #[cfg(test)]
-mod hub;
+mod entries;
 #[cfg(test)]
 mod made;
 #[cfg(test)]
@@ -14,14 +12,8 @@ mod mirror;
 #[cfg(test)]
 mod near;
 #[cfg(test)]
-mod node;
-#[cfg(test)]
-mod operations;
-#[cfg(test)]
-mod rows;
+mod ops;
 #[cfg(test)]
 mod schemas;
-#[cfg(test)]
-mod texts;
 #[cfg(test)]
 mod tree;

@@ -1,20 +1,35 @@
-ghost use Rattle.std.specs.Prelude.{IfOk};
+ghost use Rattle.std.specs.Prelude.{◌+◌, ◌*◌, ◌≤◌, IfOk};
 ghost use Rattle.sal_graft.specs.Kept.{AreKept};
+ghost use Rattle.sal_commit.specs.Deciding.{IsFor};
+ghost use Rattle.sal_commit.specs.Stamps.{IsNewStamp};
 
-use crate::commit::{add_cells, opened, prepared, submission};
-use crate::texts::Words;
+use crate::commit::{opened, prepared, submission};
+use crate::entries::add_entries;
+use crate::ops::Wish;
+use crate::schemas::{Shape, leaf, list};
 use sal_commit::Domain;
 use sal_node::Child;
 use sal_tree::Root;
+use sal_tx::Submission;
 use sal_types::NoMemory;
 use std::alloc::Global;
 use std::test::Fail;
 
 // The list 0 with its key 1 and the leaf 2, as a load has it.
-const MODULE: &str =
-    "module load { namespace \"urn:load\"; prefix l; list cell { key k; leaf k { type uint32; } leaf v { type uint32; } } }";
+fn shapes() -> [Shape; 3] {
+    [list("cell", 1), leaf(0, "k", false), leaf(0, "v", false)]
+}
 
 // ---- the nodes of a tree
+
+fn add_children<'a>(
+    nodes: &mut Vec<&'a Child>,
+    alloc: Global,
+    child: &'a Child,
+) -> Result<(), NoMemory> {
+    nodes.append(&mut child.node.children(alloc)?)?;
+    Ok(())
+}
 
 // Adds all nodes below those that are listed, one level behind another.
 fn add_below(nodes: &mut Vec<&Child>, alloc: Global) -> Result<(), NoMemory> {
@@ -22,7 +37,7 @@ fn add_below(nodes: &mut Vec<&Child>, alloc: Global) -> Result<(), NoMemory> {
         let Some(&child) = nodes.get(place) else {
             return Ok(());
         };
-        nodes.append(&mut child.node.children(alloc)?)?;
+        add_children(nodes, alloc, child)?;
     }
     Ok(())
 }
@@ -51,19 +66,26 @@ fn many(alloc: Global) -> Result<Domain, Fail>
     ensures { IfOk result (λ d. AreKept d.commits.items) }
 {
     let mut rows = Vec::new(alloc);
-    add_cells(&mut rows, alloc, 10_000)?;
-    opened(alloc, MODULE, rows)
+    add_entries(&mut rows, alloc, 10_000)?;
+    opened(alloc, &shapes(), rows)
 }
 
-const ENTRY: Words<'static> = ("put", "0/#10000", "0/#10000 0/#10000/1=10000 0/#10000/2=0");
+// The nodes of the configuration after the submission.
+fn counted(alloc: Global, domain: &Domain, sub: &Submission) -> Result<[usize; 4], Fail>
+    requires given { IsFor domain.now sub.now }
+    requires small { sub.now.receipt ≤ 1000000 }
+    requires fresh { IsNewStamp domain.now.commits.items sub.now.receipt (sub.now.receipt * 2 + 1) }
+{
+    let prepared = prepared(alloc, domain, sub)?;
+    Ok(counts(alloc, &prepared.commit.trees.config)?)
+}
 
-// The nodes of the configuration after the entry is put.
+// Those after one entry more is put.
 fn put_in(alloc: Global, domain: &Domain) -> Result<[usize; 4], Fail>
     requires { AreKept domain.now.commits.items }
 {
-    let sub = submission(alloc, domain, ENTRY)?;
-    let prepared = prepared(alloc, domain, &sub)?;
-    Ok(counts(alloc, &prepared.commit.trees.config)?)
+    let sub = submission(alloc, domain, Wish::PutEntry(10_000))?;
+    counted(alloc, domain, &sub)
 }
 
 fn one_more(alloc: Global) -> Result<[usize; 4], Fail> {

@@ -1,6 +1,9 @@
-//! The tests of the turn lock: that its calls come back, on one thread and on two, and what the value then holds.
+//! The tests of what stands lowest: of the turn lock, that its calls come back, on one thread and on two, and what the value then holds; and of
+//! sources and sinks over readers and writers of std.
 #![tactic(auto)]
 
+#[cfg(test)]
+mod io;
 #[cfg(test)]
 mod seats;
 #[cfg(test)]

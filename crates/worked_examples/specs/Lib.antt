@@ -1,0 +1,12 @@
+pub mod Blocks
+pub mod ModuleCases
+pub mod NoStatements
+pub mod NodeCases
+pub mod OperationCases
+pub mod PathCases
+pub mod RangeCases
+pub mod Read
+pub mod ReplyCases
+pub mod TableCases
+pub mod Trees
+pub mod ValueCases

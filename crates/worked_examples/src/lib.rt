@@ -1,0 +1,31 @@
+//! Worked examples of definitions in lower crates, each proved by computation.
+//!
+//! | item | what it has |
+//! |---|---|
+//! | `statements` | texts of YANG and their statements, or their first fault |
+//! | `ranges` | texts of ranges |
+//! | `modules` | what is looked up in modules |
+//! | `tables` | tables of a schema, and others |
+//! | `paths`, `nodes`, `operations` | paths, nodes, rows and operations |
+//! | `values` | values as they are kept, and entries that lack a row |
+//! | `replies` | replies that no script brings about, in words |
+//!
+//! A function does nothing: its contract is the examples. By the contracts of the calls (`read_module`, `read_ranges`, `Modules::stmt`,
+//! `is_table`, `Path::cmp`, `Node::with_child`, `Mod::covered`, `read_data`, `report`) these answer what the definitions give.
+//!
+//! ```
+//! statements::texts_have_faults();
+//! ```
+//!
+//! Costs: none, since nothing here runs.
+#![tactic(auto)]
+
+pub mod modules;
+pub mod nodes;
+pub mod operations;
+pub mod paths;
+pub mod ranges;
+pub mod replies;
+pub mod statements;
+pub mod tables;
+pub mod values;

@@ -1,6 +1,8 @@
 //! All parts together: modules to the table of their schema, or to their first fault.
 ghost use Rattle.std.specs.Prelude.{◌≡◌, ◌≤◌, ◌++◌, ◌∷◌, [], List, None, IfOk, length, map, if◌then◌else◌};
+ghost use Rattle.std.specs.Coded.{codes};
 ghost use Rattle.sal_types.specs.Reading.{GivesUnless};
+ghost use Rattle.sal_stmt.specs.contracts.stmt.Stmt as e;
 ghost use Rattle.sal_stmt.specs.declared.stmt.Stmt.{Stmt as Statement};
 ghost use Rattle.sal_module.specs.declared.fault.BuildFault.{BuildFault as Fault};
 ghost use Rattle.sal_module.specs.declared.fault.Found.{Found as Hit};
@@ -212,12 +214,12 @@ struct Sources<'x, 'a> {
     typedefs: &'x Typedefs<'a>,
     forest: &'x [Branch],
     ghost few: { length forest.now ≤ 65536 },
+    ghost same: { typedefs.now ≡ modules.now } by { Prim.hlevel (codes, e.the_row.coded) },
 }
 
 /// The first fault of the names of types, identities and leafrefs.
 fn name_fault(sources: &Sources, of_leafrefs: Option<Found>) -> Result<Option<Found>, NoMemory>
-    requires typedefs { sources.now.typedefs.now ≡ sources.now.modules.now }
-    requires of_leafrefs { of_leafrefs ≡ least None (leads.all_faults sources.now.modules.now sources.now.forest.now) }
+    requires { of_leafrefs ≡ least None (leads.all_faults sources.now.modules.now sources.now.forest.now) }
     ensures { IfOk result (λ found. found ≡ least None (spec.name_faults sources.now.modules.now sources.now.forest.now)) }
 {
     let best = type_name_fault(sources.alloc, sources.modules, sources.typedefs)?;
@@ -263,7 +265,6 @@ fn judge_types(
     typed: &NodeTypes,
     edges: &[Vec<usize>],
 ) -> Result<SchemaTable, BuildFault>
-    requires typedefs { sources.now.typedefs.now ≡ sources.now.modules.now }
     requires typed { AreTyped sources.now.modules.now sources.now.forest.now typed.now }
     requires edges { lists edges.now ≡ leads.edges_of sources.now.modules.now sources.now.forest.now }
     requires names { least None (spec.name_faults sources.now.modules.now sources.now.forest.now) ≡ None }
@@ -288,7 +289,6 @@ fn judge_names(
     typed: &NodeTypes,
     targets: &Targets,
 ) -> Result<SchemaTable, BuildFault>
-    requires typedefs { sources.now.typedefs.now ≡ sources.now.modules.now }
     requires typed { AreTyped sources.now.modules.now sources.now.forest.now typed.now }
     requires edges { lists targets.now.edges.items ≡ leads.edges_of sources.now.modules.now sources.now.forest.now }
     requires fault { targets.now.fault ≡ least None (leads.all_faults sources.now.modules.now sources.now.forest.now) }
@@ -312,8 +312,7 @@ fn targets_in(sources: &Sources, typed: &NodeTypes) -> Result<Targets, NoMemory>
 
 /// The table of a forest, or its first fault, by what the type statements of its nodes mean.
 fn judge_by_types(sources: &Sources, typed: &NodeTypes) -> Result<SchemaTable, BuildFault>
-    requires typedefs { sources.now.typedefs.now ≡ sources.now.modules.now }
-    requires typed { AreTyped sources.now.modules.now sources.now.forest.now typed.now }
+    requires { AreTyped sources.now.modules.now sources.now.forest.now typed.now }
     ensures { GivesUnless Fault.NoMemory (λ table. table) result (spec.judged sources.now.modules.now sources.now.forest.now) }
 {
     let targets = targets_in(sources, typed)?;
@@ -322,7 +321,6 @@ fn judge_by_types(sources: &Sources, typed: &NodeTypes) -> Result<SchemaTable, B
 
 /// The table of a forest, or its first fault, by its typedefs.
 fn judge_by_typedefs(sources: &Sources) -> Result<SchemaTable, BuildFault>
-    requires { sources.now.typedefs.now ≡ sources.now.modules.now }
     ensures { GivesUnless Fault.NoMemory (λ table. table) result (spec.judged sources.now.modules.now sources.now.forest.now) }
 {
     let typed = node_types(

@@ -12,7 +12,7 @@ use Rattle.sal_typedefs.specs.declared.builtin.Builtin.{Builtin}
 use Rattle.sal_typedefs.specs.Builtins.{type_of}
 use Rattle.sal_typedefs.specs.Restrictions.{Base}
 use Rattle.sal_typedefs.specs.Types.{Judged, is_faulty, nothing}
-use Rattle.sal_typedefs.specs.Judgements.{merged, IsJudged, AreJudged, AllNumbers, base_by}
+use Rattle.sal_typedefs.specs.Judgements.{merged, IsJudged, AreJudged, AllNumbers, AllPositions, base_by}
 use Rattle.sal_typedefs.proofs.EntryLists.{least-two}
 
 -- ---- which counts
@@ -188,3 +188,9 @@ all-numbers [] [] are = tt
 all-numbers (d ∷ ds) (j ∷ js) are = (are.0.numbers, all-numbers ds js are.1)
 all-numbers [] (j ∷ js) are = tt
 all-numbers (d ∷ ds) [] are = absurd are
+
+pub all-positions : (ds : List Judgement) (js : List Judged) → AreJudged ds js → AllPositions ds
+all-positions [] [] are = tt
+all-positions (d ∷ ds) (j ∷ js) are = (are.0.positions, all-positions ds js are.1)
+all-positions [] (j ∷ js) are = tt
+all-positions (d ∷ ds) [] are = absurd are

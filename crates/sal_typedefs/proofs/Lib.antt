@@ -10,3 +10,6 @@ pub mod IdentityLists
 pub mod SpotLists
 pub mod PathLists
 pub mod PlainTypes
+pub mod PositionLists
+pub mod Pigeonhole
+pub mod EnumLists

@@ -11,7 +11,7 @@ use Rattle.sal_typedefs.specs.declared.judgement.Basis.{Basis}
 use Rattle.sal_restrict.specs.declared.yang_type.YangType.TheOpen.{YangType-F}
 use Rattle.sal_typedefs.specs.declared.builtin.Builtin.{Builtin}
 use Rattle.sal_typedefs.specs.Builtins.{type_of}
-use Rattle.sal_typedefs.specs.Restrictions.{Base, HasNumbers, with_digits, layer_of, absent_faults, sub_faults, list_faults}
+use Rattle.sal_typedefs.specs.Restrictions.{Base, HasNumbers, HasPositions, with_digits, layer_of, absent_faults, sub_faults, list_faults}
 use Rattle.sal_typedefs.specs.Types.{Judged, entries_in, restricted}
 
 -- the least of two faults: of equals the first
@@ -25,6 +25,7 @@ pub record IsJudged (d : Judgement) (j : Judged) : Type 0 where
   pub type : d.fault ≡ None → d.ty ≡ j.type
   pub entries : d.fault ≡ None → d.entries.items ≡ j.entries
   pub numbers : HasNumbers (out-YangType d.ty)
+  pub positions : HasPositions (out-YangType d.ty) d.entries.items
 
 abbrev pub AreJudged : List Judgement → List Judged → Type 0
 AreJudged [] [] = ⊤
@@ -63,3 +64,7 @@ base_by None below = first_base below
 abbrev pub AllNumbers : List Judgement → Type 0
 AllNumbers [] = ⊤
 AllNumbers (d ∷ ds) = HasNumbers (out-YangType d.ty) × AllNumbers ds
+
+abbrev pub AllPositions : List Judgement → Type 0
+AllPositions [] = ⊤
+AllPositions (d ∷ ds) = HasPositions (out-YangType d.ty) d.entries.items × AllPositions ds

@@ -1,5 +1,5 @@
 -- What a type statement may say of the type that it restricts (RFC 7950 sections 7.3.4 and 9).
-use Rattle.std.specs.Prelude.{ℕ, ◌<◌, ◌≤◌, ⊤, Bool, true, false, not, ◌&&◌, ◌||◌, ◌==◌, nat_lt, nat_le, List, [], ◌++◌, length, Option, Some, None, is_some, is_err, if◌then◌else◌}
+use Rattle.std.specs.Prelude.{◌≡◌, ℕ, ℤ, pos, ◌<◌, ◌≤◌, ◌≤ℤ◌, ⊤, All, Bool, true, false, not, ◌&&◌, ◌||◌, ◌==◌, nat_lt, nat_le, List, [], ◌++◌, length, Option, Some, None, is_some, is_err, if◌then◌else◌}
 use Rattle.std.specs.List.{flat_map, list_any}
 use Rattle.std.specs.Option.{option_to_list}
 use Rattle.sal_stmt.specs.declared.stmt.Stmt.{Stmt}
@@ -113,6 +113,19 @@ HasNumbers (YangType-F.Dec digits range) = (0 < length range) × (digits ≤ 18)
 HasNumbers (YangType-F.Text lengths patterns) = 0 < length lengths
 HasNumbers (YangType-F.Bin lengths) = 0 < length lengths
 HasNumbers t = ⊤
+
+-- bits whose numbers are positions: other types have none
+abbrev pub IsPosition : Entry → Type 0
+IsPosition e = (pos 0 ≤ℤ e.number) × (e.number ≤ℤ pos 63)
+
+abbrev pub HasPositions : Layer → List Entry → Type 0
+HasPositions (YangType-F.Bits names positions) entries = All IsPosition entries
+HasPositions t entries = ⊤
+
+-- an enumeration that names its values itself, and not more than 32 bits number
+abbrev pub HasPlaces : Bool → Layer → List Entry → Type 0
+HasPlaces itself (YangType-F.Enum names places) entries = itself ≡ true → length entries ≤ 4294967296
+HasPlaces itself t entries = ⊤
 
 -- ---- fraction digits
 

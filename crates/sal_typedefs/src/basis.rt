@@ -2,7 +2,7 @@
 ghost use Rattle.std.specs.Prelude.{◌≡◌, [], map, take, IfOk, Some, None, unwrap_or, if◌then◌else◌, is_some, true};
 ghost use Rattle.sal_restrict.specs.declared.yang_type.YangType.TheViews.{out-YangType};
 ghost use Rattle.sal_typedefs.specs.declared.judgement.Judgement.{Judgement as Kept};
-ghost use Rattle.sal_typedefs.specs.Restrictions.{HasNumbers};
+ghost use Rattle.sal_typedefs.specs.Restrictions.{HasNumbers, HasPositions};
 ghost use Rattle.sal_typedefs.specs.Builtins.{type_of};
 ghost use Rattle.sal_typedefs.specs.Judgements as spec;
 
@@ -30,6 +30,7 @@ pub(crate) fn types_of(alloc: Global, below: &[Judgement]) -> Result<Vec<YangTyp
 fn own_basis(alloc: Global, builtin: Builtin) -> Result<Basis, NoMemory>
     ensures value { IfOk result (λ b. spec.base_seen b ≡ record { type = type_of builtin; entries = []; itself = true }) }
     ensures numbers { IfOk result (λ b. HasNumbers (out-YangType b.ty)) }
+    ensures positions { IfOk result (λ b. HasPositions (out-YangType b.ty) b.entries.items) }
 {
     Ok(Basis {
         ty: builtin.bare(alloc)?,
@@ -60,6 +61,7 @@ pub(crate) fn with_entries(
 fn derived_basis(alloc: Global, below: &[Judgement]) -> Result<Basis, NoMemory>
     ensures value { IfOk result (λ b. spec.base_seen b ≡ spec.first_base below.now) }
     ensures numbers { spec.AllNumbers below.now → IfOk result (λ b. HasNumbers (out-YangType b.ty)) }
+    ensures positions { spec.AllPositions below.now → IfOk result (λ b. HasPositions (out-YangType b.ty) b.entries.items) }
 {
     match below.first() {
         None => Ok(Basis {
@@ -69,7 +71,8 @@ fn derived_basis(alloc: Global, below: &[Judgement]) -> Result<Basis, NoMemory>
         }),
         Some(judgement) => {
             let ty = judgement.ty.copy(alloc)?;
-            with_entries(alloc, ty, judgement.entries.as_slice(), false)
+            let basis = with_entries(alloc, ty, judgement.entries.as_slice(), false)?;
+            Ok(basis)
         }
     }
 }
@@ -82,6 +85,7 @@ pub(crate) fn basis_of(
 ) -> Result<Basis, NoMemory>
     ensures value { IfOk result (λ b. spec.base_seen b ≡ spec.base_by builtin below.now) }
     ensures numbers { spec.AllNumbers below.now → IfOk result (λ b. HasNumbers (out-YangType b.ty)) }
+    ensures positions { spec.AllPositions below.now → IfOk result (λ b. HasPositions (out-YangType b.ty) b.entries.items) }
 {
     match builtin {
         Some(builtin) => own_basis(alloc, builtin),

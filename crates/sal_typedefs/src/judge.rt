@@ -3,7 +3,7 @@ ghost use Rattle.std.specs.Prelude.{◌≡◌, ◌≤◌, None, IfOk};
 ghost use Rattle.sal_restrict.specs.declared.yang_type.YangType.TheViews.{out-YangType, roll-YangType};
 ghost use Rattle.sal_module.specs.Faults.{least};
 ghost use Rattle.sal_typedefs.specs.Restrictions as restrictions;
-ghost use Rattle.sal_typedefs.specs.Restrictions.{HasNumbers};
+ghost use Rattle.sal_typedefs.specs.Restrictions.{HasNumbers, HasPositions, HasPlaces};
 ghost use Rattle.sal_typedefs.specs.Types as types_spec;
 ghost use Rattle.sal_typedefs.specs.Judgements as spec;
 
@@ -23,6 +23,7 @@ use std::alloc::Global;
 pub(crate) fn faulty(alloc: Global, fault: Option<Found>) -> Judgement
     ensures fault { result.fault ≡ fault }
     ensures numbers { HasNumbers (out-YangType result.ty) }
+    ensures positions { HasPositions (out-YangType result.ty) result.entries.items }
 {
     Judgement {
         fault,
@@ -58,15 +59,19 @@ fn digits_layer(alloc: Global, basis: &Basis, stmt: &Stmt) -> Result<Basis, NoMe
     requires { restrictions.digits_of stmt.now ≤ 18 }
     ensures value { IfOk result (λ it. spec.base_seen it ≡ spec.with_layer (spec.base_seen basis.now) (restrictions.digits_of stmt.now)) }
     ensures numbers { IfOk result (λ it. HasNumbers (out-YangType basis.now.ty) → HasNumbers (out-YangType it.ty)) }
+    ensures positions { IfOk result (λ it. HasPositions (out-YangType basis.now.ty) basis.now.entries.items → HasPositions (out-YangType it.ty) it.entries.items) }
 {
     let ty = digits_type(alloc, &basis.ty, stmt)?;
-    with_entries(alloc, ty, basis.entries.as_slice(), basis.itself)
+    let layer = with_entries(alloc, ty, basis.entries.as_slice(), basis.itself)?;
+    Ok(layer)
 }
 
 impl<'x, 'a> Restriction<'x, 'a> {
     /// The type that the statement means, with these names.
     fn typed(&self, basis: &Basis, entries: &[Entry]) -> Result<YangType, NoMemory>
-        requires { HasNumbers (out-YangType basis.now.ty) }
+        requires numbers { HasNumbers (out-YangType basis.now.ty) }
+        requires positions { HasPositions (out-YangType basis.now.ty) entries.now }
+        requires places { HasPlaces basis.now.itself (out-YangType basis.now.ty) entries.now }
         ensures value { IfOk result (λ it. it
             ≡ roll-YangType (types_spec.restricted self.now.typedefs.now self.now.number (spec.base_seen basis.now) self.now.stmt.now self.now.types.now entries.now (out-YangType basis.now.ty))) }
         ensures numbers { IfOk result (λ it. HasNumbers (out-YangType it)) }
@@ -80,11 +85,13 @@ impl<'x, 'a> Restriction<'x, 'a> {
 
     /// The statement over a type that has its fraction digits.
     fn judge_layer(&self, best: Option<Found>, basis: &Basis) -> Result<Judgement, NoMemory>
-        requires { HasNumbers (out-YangType basis.now.ty) }
+        requires numbers { HasNumbers (out-YangType basis.now.ty) }
+        requires positions { HasPositions (out-YangType basis.now.ty) basis.now.entries.items }
         ensures fault { IfOk result (λ d. d.fault ≡ least best (spec.layer_faults (spec.base_seen basis.now) self.now.number self.now.stmt.now)) }
         ensures meant { IfOk result (λ d. d.fault ≡ None → d.ty ≡ spec.layer_meaning self.now.typedefs.now self.now.number (spec.base_seen basis.now) self.now.stmt.now self.now.types.now) }
         ensures entries { IfOk result (λ d. d.fault ≡ None → d.entries.items ≡ types_spec.entries_in (spec.base_seen basis.now) self.now.stmt.now (out-YangType basis.now.ty)) }
         ensures numbers { IfOk result (λ d. HasNumbers (out-YangType d.ty)) }
+        ensures positions { IfOk result (λ d. HasPositions (out-YangType d.ty) d.entries.items) }
     {
         let (number, stmt) = (self.number, self.stmt);
         let best = with_absent(best, &basis.ty, basis.itself, number, stmt);
@@ -105,11 +112,13 @@ impl<'x, 'a> Restriction<'x, 'a> {
     fn judge_digits(&self, best: Option<Found>, basis: &Basis) -> Result<Judgement, NoMemory>
         requires digits { restrictions.digits_of self.now.stmt.now ≤ 18 }
         requires numbers { HasNumbers (out-YangType basis.now.ty) }
+        requires positions { HasPositions (out-YangType basis.now.ty) basis.now.entries.items }
         ensures fault { IfOk result (λ d. d.fault ≡ least best (spec.layer_faults (spec.with_layer (spec.base_seen basis.now) (restrictions.digits_of self.now.stmt.now)) self.now.number self.now.stmt.now)) }
         ensures meant { IfOk result (λ d. d.fault ≡ None → d.ty ≡ spec.layer_meaning self.now.typedefs.now self.now.number (spec.with_layer (spec.base_seen basis.now) (restrictions.digits_of self.now.stmt.now)) self.now.stmt.now self.now.types.now) }
         ensures entries { IfOk result (λ d. d.fault ≡ None → d.entries.items
             ≡ types_spec.entries_in (spec.with_layer (spec.base_seen basis.now) (restrictions.digits_of self.now.stmt.now)) self.now.stmt.now (out-YangType (spec.with_layer (spec.base_seen basis.now) (restrictions.digits_of self.now.stmt.now)).type)) }
         ensures numbers { IfOk result (λ d. HasNumbers (out-YangType d.ty)) }
+        ensures positions { IfOk result (λ d. HasPositions (out-YangType d.ty) d.entries.items) }
     {
         let layer = digits_layer(self.alloc, basis, self.stmt)?;
         self.judge_layer(best, &layer)
@@ -117,11 +126,13 @@ impl<'x, 'a> Restriction<'x, 'a> {
 
     /// The statement over the type that it restricts.
     pub(crate) fn judge(&self, best: Option<Found>, basis: &Basis) -> Result<Judgement, NoMemory>
-        requires { HasNumbers (out-YangType basis.now.ty) }
+        requires numbers { HasNumbers (out-YangType basis.now.ty) }
+        requires positions { HasPositions (out-YangType basis.now.ty) basis.now.entries.items }
         ensures fault { IfOk result (λ d. d.fault ≡ least best (restrictions.restriction_faults (spec.base_seen basis.now) self.now.number self.now.stmt.now)) }
         ensures meant { IfOk result (λ d. d.fault ≡ None → d.ty ≡ spec.meaning_of self.now.typedefs.now self.now.number (spec.base_seen basis.now) self.now.stmt.now self.now.types.now) }
         ensures entries { IfOk result (λ d. d.fault ≡ None → d.entries.items ≡ types_spec.entries_in (spec.base_seen basis.now) self.now.stmt.now (restrictions.layer_of (spec.base_seen basis.now) self.now.stmt.now)) }
         ensures numbers { IfOk result (λ d. HasNumbers (out-YangType d.ty)) }
+        ensures positions { IfOk result (λ d. HasPositions (out-YangType d.ty) d.entries.items) }
     {
         if !is_decimal(basis) {
             return self.judge_layer(best, basis);

@@ -1,12 +1,12 @@
 //! One statement over the type that it restricts (RFC 7950 section 7.4).
-ghost use Rattle.std.specs.Prelude.{◌≡◌, ◌≤◌, ℕ, map, None, IfOk, if◌then◌else◌, true, false};
+ghost use Rattle.std.specs.Prelude.{◌≡◌, ◌≤◌, ℕ, length, map, None, IfOk, if◌then◌else◌, true, false};
 ghost use Rattle.std.specs.List.{enumerate_from};
 ghost use Rattle.sal_restrict.specs.declared.yang_type.YangType.TheOpen.{YangType-F};
 ghost use Rattle.sal_typedefs.specs.declared.entry.Entry.{Entry as Named};
 ghost use Rattle.sal_restrict.specs.declared.yang_type.YangType.TheViews.{out-YangType, roll-YangType};
 ghost use Rattle.sal_module.specs.Faults.{least};
 ghost use Rattle.sal_typedefs.specs.Restrictions as restrictions;
-ghost use Rattle.sal_typedefs.specs.Restrictions.{HasNumbers};
+ghost use Rattle.sal_typedefs.specs.Restrictions.{HasNumbers, HasPositions, HasPlaces};
 ghost use Rattle.sal_typedefs.specs.Entries.{entries_seen};
 ghost use Rattle.sal_typedefs.specs.Types as types_spec;
 ghost use Rattle.sal_typedefs.specs.Judgements as spec;
@@ -113,6 +113,7 @@ fn enum_type(
     itself: bool,
     entries: &[Entry],
 ) -> Result<YangType, NoMemory>
+    requires { itself ≡ true → length entries.now ≤ 4294967296 }
     ensures { IfOk result (λ it. out-YangType it
         ≡ YangType-F.Enum (types_spec.names_in entries.now) (if itself then map (λ (e : ℕ × Named). e.0) (enumerate_from 0 entries.now)
         else types_spec.places_of names.now places.now (types_spec.names_in entries.now))) }
@@ -143,7 +144,9 @@ pub(crate) struct Restriction<'x, 'a> {
 impl<'x, 'a> Restriction<'x, 'a> {
     /// The type that the statement means, where it lists names, or names bases or members.
     pub(crate) fn named_type(&self, basis: &Basis, entries: &[Entry]) -> Result<YangType, NoMemory>
-        requires { types_spec.IsPlain (out-YangType basis.now.ty) → ⊥ }
+        requires named { types_spec.IsPlain (out-YangType basis.now.ty) → ⊥ }
+        requires positions { HasPositions (out-YangType basis.now.ty) entries.now }
+        requires places { HasPlaces basis.now.itself (out-YangType basis.now.ty) entries.now }
         ensures value { IfOk result (λ it. it
             ≡ roll-YangType (types_spec.restricted self.now.typedefs.now self.now.number (spec.base_seen basis.now) self.now.stmt.now self.now.types.now entries.now (out-YangType basis.now.ty))) }
         ensures numbers { IfOk result (λ it. HasNumbers (out-YangType it)) }

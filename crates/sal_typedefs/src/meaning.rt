@@ -1,5 +1,5 @@
 //! Types that name things: enumerations, bits, identityrefs and unions (RFC 7950 sections 9.6, 9.7, 9.10 and 9.12).
-ghost use Rattle.std.specs.Prelude.{◌≡◌, ◌++◌, ◌∷◌, [], ℕ, ◌<◌, List, IfOk, map, filter, length, unwrap_or, unsigned_abs, slice_index};
+ghost use Rattle.std.specs.Prelude.{◌≡◌, ◌++◌, ◌∷◌, [], ℕ, ◌<◌, ◌≤◌, All, List, IfOk, map, filter, length, unwrap_or, unsigned_abs, slice_index};
 ghost use Rattle.std.specs.List.{flat_map, enumerate_from, position_from};
 ghost use Rattle.std.specs.Option.{option_to_list};
 ghost use Rattle.sal_restrict.specs.declared.yang_type.YangType.{YangType as Meant};
@@ -9,6 +9,7 @@ ghost use Rattle.sal_module.specs.Keywords.{same};
 ghost use Rattle.sal_module.specs.Statements.{all_named, argument_of, is_named};
 ghost use Rattle.sal_typedefs.specs.declared.entry.Entry.{Entry as Named};
 ghost use Rattle.sal_typedefs.specs.Scopes.{identity_of};
+ghost use Rattle.sal_typedefs.specs.Restrictions.{IsPosition};
 ghost use Rattle.sal_typedefs.specs.Types as spec;
 
 use crate::append::append;
@@ -31,6 +32,7 @@ pub(crate) fn names_in(alloc: Global, entries: &[Entry]) -> Result<Seq<Str>, NoM
     Ok(Seq::from_items(names))
 }
 
+/// The number of an identity. Past 32 bits it counts as want of memory: nothing else bounds how many identities there are.
 fn small(number: usize) -> Result<u32, NoMemory>
     ensures { IfOk result (λ n. n ≡ number) }
 {
@@ -40,13 +42,21 @@ fn small(number: usize) -> Result<u32, NoMemory>
     }
 }
 
+fn place(number: usize) -> u32
+    requires { number < 4294967296 }
+    ensures { result ≡ number }
+{
+    number as u32
+}
+
 /// The numbers of the names, in their order.
 pub(crate) fn own_places(alloc: Global, entries: &[Entry]) -> Result<Seq<u32>, NoMemory>
+    requires { length entries.now ≤ 4294967296 }
     ensures { IfOk result (λ places. places ≡ map (λ (e : ℕ × Named). e.0) (enumerate_from 0 entries.now)) }
 {
     let mut places = Vec::with_capacity(alloc, entries.len())?;
     for (i, entry) in entries.iter().enumerate() {
-        append(&mut places, small(i)?)?;
+        append(&mut places, place(i))?;
     }
     Ok(Seq::from_items(places))
 }
@@ -93,22 +103,24 @@ pub(crate) fn chosen_places(
     Ok(Seq::from_items(list))
 }
 
-fn tiny(number: i128) -> Result<u8, NoMemory>
-    ensures { IfOk result (λ n. n ≡ unsigned_abs number) }
+fn position_of(entry: &Entry) -> u8
+    requires { IsPosition entry.now }
+    ensures { result ≡ unsigned_abs entry.now.number }
 {
-    match u8::try_from(number) {
-        Ok(n) => Ok(n),
-        Err(_) => Err(NoMemory),
+    match u8::try_from(entry.number) {
+        Ok(n) => n,
+        Err(_) => unreachable!(),
     }
 }
 
 /// The positions of bits.
 pub(crate) fn positions(alloc: Global, entries: &[Entry]) -> Result<Seq<u8>, NoMemory>
+    requires { All IsPosition entries.now }
     ensures { IfOk result (λ it. it ≡ map (λ (e : Named). unsigned_abs e.number) entries.now) }
 {
     let mut list = Vec::with_capacity(alloc, entries.len())?;
     for entry in entries {
-        append(&mut list, tiny(entry.number)?)?;
+        append(&mut list, position_of(entry))?;
     }
     Ok(Seq::from_items(list))
 }

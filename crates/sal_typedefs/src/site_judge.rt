@@ -4,7 +4,7 @@ ghost use Rattle.sal_restrict.specs.declared.yang_type.YangType.TheViews.{out-Ya
 ghost use Rattle.sal_module.specs.Faults.{least};
 ghost use Rattle.sal_typedefs.specs.declared.judgement.Judgement.{Judgement as Kept};
 ghost use Rattle.sal_typedefs.specs.Restrictions as restrictions;
-ghost use Rattle.sal_typedefs.specs.Restrictions.{HasNumbers};
+ghost use Rattle.sal_typedefs.specs.Restrictions.{HasNumbers, HasPositions};
 ghost use Rattle.sal_typedefs.specs.Spots.{site_of};
 ghost use Rattle.sal_typedefs.specs.Types as types_spec;
 ghost use Rattle.sal_typedefs.specs.Types.{Judged};
@@ -32,11 +32,13 @@ fn judge_over(
     basis: &Basis,
     below: &[Judgement],
 ) -> Result<Judgement, NoMemory>
-    requires { HasNumbers (out-YangType basis.now.ty) }
+    requires numbers { HasNumbers (out-YangType basis.now.ty) }
+    requires positions { HasPositions (out-YangType basis.now.ty) basis.now.entries.items }
     ensures fault { IfOk result (λ d. d.fault ≡ least best (restrictions.restriction_faults (spec.base_seen basis.now) spot.now.module spot.now.stmt.now)) }
     ensures meant { IfOk result (λ d. d.fault ≡ None → d.ty ≡ spec.meaning_of typedefs.now spot.now.module (spec.base_seen basis.now) spot.now.stmt.now (map (λ (j : Kept). j.ty) below.now)) }
     ensures entries { IfOk result (λ d. d.fault ≡ None → d.entries.items ≡ types_spec.entries_in (spec.base_seen basis.now) spot.now.stmt.now (restrictions.layer_of (spec.base_seen basis.now) spot.now.stmt.now)) }
     ensures numbers { IfOk result (λ d. HasNumbers (out-YangType d.ty)) }
+    ensures positions { IfOk result (λ d. HasPositions (out-YangType d.ty) d.entries.items) }
 {
     let types = types_of(alloc, below)?;
     let restriction = Restriction {
@@ -56,7 +58,8 @@ pub(crate) fn judge_one(
     spot: &Spot,
     below: &[Judgement],
 ) -> Result<Judgement, NoMemory>
-    requires { spec.AllNumbers below.now }
+    requires numbers { spec.AllNumbers below.now }
+    requires positions { spec.AllPositions below.now }
     ensures { IfOk result (λ d. (judged : List Judged) → spec.AreJudged below.now judged
         → spec.IsJudged d (types_spec.judged typedefs.now (site_of spot.now) (types_spec.base_of (site_of spot.now) judged) judged)) }
 {

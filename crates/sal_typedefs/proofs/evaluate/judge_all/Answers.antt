@@ -1,20 +1,26 @@
 use Rattle.std.proofs.Common.{List, take, drop, map, sym, subst, arith}
 use Rattle.sal_typedefs.specs.declared.judgement.Judgement.{Judgement}
 use Rattle.sal_typedefs.specs.Walks.{node_of}
-use Rattle.sal_typedefs.specs.Judgements.{AreJudged, AllNumbers}
+use Rattle.sal_typedefs.specs.Judgements.{AreJudged, AllNumbers, AllPositions}
 use Rattle.sal_typedefs.specs.Runs.{run}
-use Rattle.sal_typedefs.proofs.LeastLists.{all-numbers}
+use Rattle.sal_typedefs.proofs.LeastLists.{all-numbers, all-positions}
 use Rattle.sal_typedefs.proofs.RunLists.{start-run, run-more}
 use Rattle.sal_typedefs.proofs.evaluate.judge_all.Goals as goal
 
 pub nodes-init : goal.nodes-init
 nodes-init c = (omega arith, start-run c.args.typedefs.now c.args.nodes.now c.new-done.result.items c.new-done.ensures.items)
 
-pub judge_one-requires : goal.judge_one-requires
-judge_one-requires c =
+pub judge_one-requires-clause-numbers : goal.judge_one-requires-clause-numbers
+judge_one-requires-clause-numbers c =
     let js = run c.args.typedefs.now (map node_of (drop c.nodes.n c.args.nodes.now)) in
     let taken = c.in_ok-below.ensures js c.nodes.invariant.1 in
     subst AllNumbers (sym c.as_slice.ensures.value) (all-numbers c.in_ok-below.below.items _ taken.0)
+
+pub judge_one-requires-clause-positions : goal.judge_one-requires-clause-positions
+judge_one-requires-clause-positions c =
+    let js = run c.args.typedefs.now (map node_of (drop c.nodes.n c.args.nodes.now)) in
+    let taken = c.in_ok-below.ensures js c.nodes.invariant.1 in
+    subst AllPositions (sym c.as_slice.ensures.value) (all-positions c.in_ok-below.below.items _ taken.0)
 
 pub nodes-preserved : goal.nodes-preserved
 nodes-preserved c =

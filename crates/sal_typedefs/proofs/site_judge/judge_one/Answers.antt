@@ -31,6 +31,7 @@ returns-then-is_faulty c judged are =
       type = λ none. absurd (stays-some best patterns some (sym fault ∙ none));
       entries = λ none. absurd (stays-some best patterns some (sym fault ∙ none));
       numbers = c.faulty.ensures.numbers;
+      positions = c.faulty.ensures.positions;
     }
 
 pub returns : goal.returns
@@ -63,4 +64,5 @@ returns c judged are =
           ∙ ap (λ (ts : List YangType). meaning_of modules m base stmt ts) types-are;
       entries = λ fine. c.in_ok-judgement.ensures.entries fine ∙ ap (λ (b : Base). entries_in b stmt (layer_of b stmt)) base-is;
       numbers = c.in_ok-judgement.ensures.numbers;
+      positions = c.in_ok-judgement.ensures.positions;
     }

@@ -1,9 +1,8 @@
-use Rattle.std.proofs.Common.{◌≡◌, ◌∙◌, ◌≤ℤ◌, FitsSigned, ◌+◌, ◌∷◌, [], length, rules, arith, subst, ap, true, sym}
+use Rattle.std.proofs.Common.{◌≡◌, ◌∙◌, ◌≤ℤ◌, FitsSigned, ◌+◌, ◌∷◌, [], length, rules, subst, ap, true, sym}
 use Rattle.std.specs.Prelude.{None}
 use Rattle.std.specs.Int.{w128}
 use Rattle.std.proofs.lemmas.Int.{to_z-of_z}
 use Rattle.std.proofs.lemmas.List.{length-append}
-use Rattle.sal_typedefs.specs.declared.entry.Entry.{Entry}
 use Rattle.sal_module.specs.Statements.{is_named, subs_of}
 use Rattle.sal_typedefs.specs.Entries.{item_of, bound, entry_of}
 use Rattle.sal_typedefs.proofs.EntryLists.{entries-more, faults-more}

@@ -9,14 +9,14 @@ use Rattle.sal_tree.specs.Grow.{kid}
 use Rattle.sal_check.specs.Near.{differs, is_among, is_fresh, is_new, leafs_of}
 use Rattle.sal_check.specs.Uniques.{cells_in, ways_in}
 use Rattle.sal_check.proofs.FreshCells.{known-other}
-use Rattle.sal_check.proofs.fresh.is_known.Goals as goal
+use Rattle.sal_check.proofs.fresh.Earlier.is_known.Goals as goal
 
 pub returns : goal.returns
 returns c xs holds =
     let node = c.args.child.now.node.value in
-    let ways = ways_in c.args.ways.now in
-    let stamps = c.args.stamps.now in
-    let o = tree_at c.args.before in
+    let ways = ways_in c.args.self.now.ways.now in
+    let stamps = c.args.self.now.stamps.now in
+    let o = tree_at c.args.self.now.list in
     let has : leafs_of ways (Some node) ≡ Some (cells_in c.in-Some.cells.items) =
     sym c.in_ok-cells.ensures ∙ ap (option_map (λ (v : Vec (Bor Cell) Global). cells_in v.items)) c.in-Some.is in
     let no : c.in_ok-is_fresh.field-0 ≡ false = search rules in

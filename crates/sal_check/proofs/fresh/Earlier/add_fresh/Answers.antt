@@ -9,12 +9,12 @@ use Rattle.sal_check.specs.Near.{differs, leafs_of}
 use Rattle.sal_check.specs.Uniques.{cells_in, all_cells_in, ways_in}
 use Rattle.sal_check.proofs.Combined.{all_cells_in-push}
 use Rattle.sal_check.proofs.FreshCells.{adds-new}
-use Rattle.sal_check.proofs.fresh.add_fresh.Goals as goal
+use Rattle.sal_check.proofs.fresh.Earlier.add_fresh.Goals as goal
 
 pub returns-in_ok-push : goal.returns-in_ok-push
 returns-in_ok-push c =
     let node = c.args.child.now.node.value in
-    let ways = ways_in c.args.ways.now in
+    let ways = ways_in c.args.self.now.ways.now in
     let old = leafs_of ways (tree_at c.args.before) in
     let has : leafs_of ways (Some node) ≡ Some (cells_in c.in-Some.cells.items) =
     sym c.in_ok-cells.ensures ∙ ap (option_map (λ (v : Vec (Bor Cell) Global). cells_in v.items)) c.in-Some.is in

@@ -11,7 +11,6 @@ ghost use Rattle.sal_rows.specs.declared.outcome.Rule.TheVariants.{MinElements, 
 
 use crate::climb::{context, way};
 use crate::fresh::repeats_freshly;
-use crate::reach::{kid, reached};
 use crate::rules::{has_minimum, is_demanded};
 use crate::spot::after_step;
 use crate::trail::longer;
@@ -19,6 +18,7 @@ use crate::walk::{Place, Walk, is_looked_at, rules_of};
 use sal_node::Node;
 use sal_rows::{Breach, Rule};
 use sal_schema::Schema;
+use sal_tree::{child_of, reached};
 use sal_types::{NoMemory, Step};
 use std::alloc::Global;
 use std::sync::Arc;
@@ -60,7 +60,7 @@ impl<'w> Near<'w> {
         if !self.walk.schema.kind(number).has_entries() {
             return false;
         }
-        is_kept(self.stamps, kid(Some(after), &Step::Node(number)))
+        is_kept(self.stamps, child_of(Some(after), &Step::Node(number)))
     }
 
     // Whether the list below a place is the one that stood there before, and so many entries were demanded then.
@@ -234,7 +234,7 @@ impl<'w> Near<'w> {
         let mut least = self.judge_place(before, place, least)?;
         let children = place.node.children_with(self.walk.alloc, self.stamps)?;
         for child in &children {
-            let old = kid(before, &child.step);
+            let old = child_of(before, &child.step);
             let below = longer(self.walk.alloc, place.trail, &child.step)?;
             let next = Place {
                 trail: &below,

@@ -15,11 +15,11 @@ ghost use Rattle.sal_check.specs.Uniques.{Holds, all_cells_in, cells_in, combina
 ghost use Rattle.sal_rows.specs.declared.outcome.Rule.TheVariants.{Unique};
 
 use crate::changed::{Near, is_new};
-use crate::reach::kid;
 use crate::unique::{cells_at, has_double, ways_to};
 use crate::walk::Place;
 use sal_node::{Child, Node};
 use sal_schema::Kind;
+use sal_tree::child_of;
 use sal_types::{Cell, NoMemory, Step};
 use std::alloc::Global;
 use std::collections::BTreeSet;
@@ -62,7 +62,7 @@ fn agree(
     ensures { IfOk result (λ b. b ≡ spec.agree_freshly near.now.stamps.now (map (contexts.way_in_entry near.now.walk.schema.now) leafs.now) (trees.kid (Some before.now.value) (Toward number)) (trees.kids_in (trees.kid (Some node.now.value) (Toward number)))) }
 {
     let step = Step::Node(number);
-    let Some(list) = kid(Some(node), &step) else {
+    let Some(list) = child_of(Some(node), &step) else {
         return Ok(false);
     };
     let ways = ways_to(near.walk.alloc, near.walk.schema, leafs)?;
@@ -70,7 +70,7 @@ fn agree(
         alloc: near.walk.alloc,
         stamps: near.stamps,
         ways: &ways,
-        list: kid(Some(before), &step),
+        list: child_of(Some(before), &step),
     };
     earlier.agree(list)
 }
@@ -121,7 +121,7 @@ impl<'e> Earlier<'e> {
         let mut found = Vec::new(self.alloc);
         let children = list.children_with(self.alloc, self.stamps)?;
         for child in &children {
-            self.add_fresh(&mut found, kid(self.list, &child.step), child)?;
+            self.add_fresh(&mut found, child_of(self.list, &child.step), child)?;
         }
         Ok(found)
     }
@@ -227,7 +227,7 @@ impl<'e> Earlier<'e> {
         if !is_new(self.stamps, &child.node) {
             return Ok(false);
         }
-        self.differ(kid(self.list, &child.step), cells)
+        self.differ(child_of(self.list, &child.step), cells)
     }
 }
 

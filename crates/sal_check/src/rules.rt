@@ -10,10 +10,11 @@ ghost use Rattle.sal_rules.specs.Rules as spec;
 ghost use Rattle.sal_rows.specs.declared.outcome.Rule.TheVariants.{Mandatory, MinElements, MaxElements, Unique, TwoCases};
 
 use crate::climb::{context, stand, way};
-use crate::reach::{count, is_present, kid, reached};
+use crate::entries::count;
 use crate::walk::{Place, Walk};
 use sal_node::Node;
 use sal_schema::{Kind, Schema};
+use sal_tree::{child_of, is_present, reached};
 use sal_types::{NoMemory, Step};
 use std::sync::Arc;
 
@@ -29,7 +30,7 @@ fn is_there(schema: &Schema, node: Option<&Arc<Node>>, number: u32, deep: u32) -
         return false;
     }
     if !schema.kind(number).is_choice_or_case() {
-        return is_present(kid(node, &Step::Node(number)));
+        return is_present(child_of(node, &Step::Node(number)));
     }
     for child in schema.children(Some(number)) {
         if is_there(schema, node, *child, deep - 1) {
@@ -63,7 +64,7 @@ pub(crate) fn is_demanded(
     match context {
         None => match way {
             [] => false,
-            [container, ..] => is_present(kid(node, container)),
+            [container, ..] => is_present(child_of(node, container)),
         },
         Some(context) => !is_case(schema.kind(context)) || stands(schema, node, context),
     }
@@ -133,7 +134,7 @@ pub(crate) fn has_too_few(walk: &Walk, place: &Place, number: u32) -> Result<boo
     if !is_demanded(schema, Some(place.node), &way, context(schema, number)) {
         return Ok(false);
     }
-    let list = kid(reached(Some(place.node), &way), &Step::Node(number));
+    let list = child_of(reached(Some(place.node), &way), &Step::Node(number));
     let entries = count(walk.alloc, list)?;
     Ok(entries < schema.min_elements(number) as usize)
 }
@@ -151,7 +152,7 @@ pub(crate) fn has_too_many(walk: &Walk, place: &Place, number: u32) -> Result<bo
     let Some(most) = schema.max_elements(number) else {
         return Ok(false);
     };
-    let entries = count(walk.alloc, kid(Some(place.node), &Step::Node(number)))?;
+    let entries = count(walk.alloc, child_of(Some(place.node), &Step::Node(number)))?;
     Ok(entries > most as usize)
 }
 

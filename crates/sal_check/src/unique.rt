@@ -14,10 +14,10 @@ ghost use Rattle.sal_check.specs.Uniques.{cells_in, all_cells_in, ways_in, combi
 ghost use Rattle.sal_rows.specs.declared.outcome.Rule.TheVariants.{Unique};
 
 use crate::climb::way_in_entry;
-use crate::reach::{kid, reached};
 use crate::walk::{Place, Walk};
 use sal_node::{Child, Node};
 use sal_schema::{Kind, Schema};
+use sal_tree::{child_of, reached};
 use sal_types::{Cell, NoMemory, Step};
 use std::alloc::Global;
 use std::collections::BTreeSet;
@@ -137,7 +137,7 @@ fn agree(walk: &Walk, node: &Arc<Node>, number: u32, leafs: &[u32]) -> Result<bo
     ensures { IfOk result (λ b. b ≡ spec.has_double (spec.combinations walk.now.schema.now (seen_in (Some node.now.value)) number leafs.now)) }
 {
     let ways = ways_to(walk.alloc, walk.schema, leafs)?;
-    let found = combinations(walk.alloc, kid(Some(node), &Step::Node(number)), &ways)?;
+    let found = combinations(walk.alloc, child_of(Some(node), &Step::Node(number)), &ways)?;
     has_double(walk.alloc, &found)
 }
 

@@ -15,6 +15,6 @@ returns c =
     let ways = ap ways_in c.deref.ensures.value ∙ c.in_ok-ways.ensures in
     let same : all_cells_in c.deref-2.result.now ≡ combinations table (seen_in o) c.args.number c.args.leafs.now =
     ap all_cells_in c.deref-2.ensures.value ∙ c.in_ok-found.ensures
-    ∙ (λ k. all_combinations (ways k) (kids_in (c.kid.ensures.kid k)))
+    ∙ (λ k. all_combinations (ways k) (kids_in (c.child_of.ensures.kid k)))
     ∙ sym (combinations-seen table o c.args.number c.args.leafs.now c.requires) in
     subst (λ l. IfOk c.has_double.result (λ b. b ≡ has_double l)) same c.has_double.ensures

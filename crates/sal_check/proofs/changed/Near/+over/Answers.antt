@@ -16,7 +16,7 @@ over-requires t c =
     let same : seen c.deref-child-items.result.now ≡ made_by stamps (pairs node.kids) = ap seen c.deref-child-items.ensures.value ∙ c.in_ok-children.ensures ∙ ap (λ (t : Tree). made_by stamps (pairs t.kids)) c.deref.ensures in
     let h = light-made stamps node.kids c.deref-child-items.result.now c.loop-child.child-index c.child-item.result same c.loop-child-test.true c.child-item.is in
     let sound = sound-made stamps node.kids c.deref-child-items.result.now c.loop-child.child-index c.child-item.result c.requires.sound same c.loop-child-test.true c.child-item.is in
-    (omega (arith, h, c.decreases), (c.kid-old.ensures.sound, sound))
+    (omega (arith, h, c.decreases), (c.child_of-old.ensures.sound, sound))
 
 pub loop-child-preserved : goal.loop-child-preserved
 loop-child-preserved t c =
@@ -27,7 +27,7 @@ loop-child-preserved t c =
     let o = tree_at c.args.before in
     let below = ap steps_in c.deref-in-loop-child.ensures.value ∙ c.in_ok-below.ensures in
     near-more stamps walk.schema.now walk.store (steps_in place.trail.now) place.spot o c.deref-child-items.result.now c.loop-child.child-index c.child-item.result c.in_ok-least.least c.loop-child.least c.in_ok-least-2.least c.loop-child-test.true c.child-item.is c.loop-child.invariant
-    (c.in_ok-least-2.ensures ∙ (λ k. fold keep c.loop-child.least (near stamps walk.schema.now walk.store (below k) (c.after_step.ensures k) (c.kid-old.ensures.kid k) e.node.value)))
+    (c.in_ok-least-2.ensures ∙ (λ k. fold keep c.loop-child.least (near stamps walk.schema.now walk.store (below k) (c.after_step.ensures k) (c.child_of-old.ensures.kid k) e.node.value)))
 
 pub returns : goal.returns
 returns t c =

@@ -2,7 +2,7 @@
 use Rattle.std.proofs.Common.{◌≡◌, ◌≤◌, length, take}
 use Rattle.sal_node.specs.Shape.{seen}
 use Rattle.sal_check.specs.Nodes.{own_steps}
-use Rattle.sal_check.proofs.reach.count.Given as goal
+use Rattle.sal_check.proofs.entries.count.Given as goal
 
 abbrev pub invariant-loop-child : goal.invariant-loop-child
 invariant-loop-child l = record {

@@ -2,7 +2,7 @@ use Rattle.std.proofs.Common.{◌≡◌, ◌+◌, refl, ap, ◌∙◌, arith}
 use Rattle.sal_node.specs.Tree.{Tree, pairs}
 use Rattle.sal_node.specs.Shape.{seen, tree_at}
 use Rattle.sal_check.proofs.Counted.{count-more, count-all}
-use Rattle.sal_check.proofs.reach.count.Goals as goal
+use Rattle.sal_check.proofs.entries.count.Goals as goal
 
 pub loop-child-preserved : goal.loop-child-preserved
 loop-child-preserved c = record {

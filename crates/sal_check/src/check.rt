@@ -3,12 +3,11 @@ ghost use Rattle.std.specs.Prelude.{◌≡◌, IfOk, None};
 ghost use Rattle.sal_tree.specs.Rows.{rows_of};
 ghost use Rattle.sal_rules.specs.Breaches.{breach};
 ghost use Rattle.sal_check.specs.Near.{Keeps};
-ghost use Rattle.sal_check.specs.Nodes.{AreJudged};
 
-use crate::changed::walk_changed;
+use crate::changed::Near;
 use crate::lists::Lists;
 use crate::plan::Plan;
-use crate::walk::walk;
+use crate::walk::{Place, Walk};
 use sal_rows::Breach;
 use sal_rules::Spot;
 use sal_schema::Schema;
@@ -29,7 +28,8 @@ pub fn check_all(
     ensures { IfOk result (λ r. r ≡ breach schema.now store (rows_of root.now)) }
 {
     let lists = Lists::of(alloc, schema)?;
-    whole(alloc, schema, &lists, store, root)
+    let walk = Walk::new(alloc, schema, &lists, store);
+    whole(&walk, root)
 }
 
 /// The same, by the plan of the schema.
@@ -41,7 +41,8 @@ pub fn check_by(
 ) -> Result<Option<Breach>, NoMemory>
     ensures { IfOk result (λ r. r ≡ breach plan.now.schema.value store (rows_of root.now)) }
 {
-    whole(alloc, &plan.schema, &plan.lists, store, root)
+    let walk = Walk::new(alloc, &plan.schema, &plan.lists, store);
+    whole(&walk, root)
 }
 
 /// The breach of a tree, as `check_all` has it, where the tree before it has none and the tree was made of that one by
@@ -61,15 +62,9 @@ pub fn check_near(
     requires keeps { Keeps stamps.now before.now after.now }
     ensures { IfOk result (λ r. r ≡ breach plan.now.schema.value store (rows_of after.now)) }
 {
-    near(
-        alloc,
-        &plan.schema,
-        &plan.lists,
-        store,
-        before,
-        after,
-        stamps,
-    )
+    let walk = Walk::new(alloc, &plan.schema, &plan.lists, store);
+    let near = Near { walk, stamps };
+    changed(&near, before, after)
 }
 
 const ROOT: Spot = Spot {
@@ -77,45 +72,27 @@ const ROOT: Spot = Spot {
     wants_entry: false,
 };
 
-fn whole(
-    alloc: Global,
-    schema: &Schema,
-    lists: &Lists,
-    store: Store,
-    root: &Root,
-) -> Result<Option<Breach>, NoMemory>
-    requires lists { AreJudged schema.now lists.now.lists.items }
-    ensures { IfOk result (λ r. r ≡ breach schema.now store (rows_of root.now)) }
+fn whole(walk: &Walk, root: &Root) -> Result<Option<Breach>, NoMemory>
+    ensures { IfOk result (λ r. r ≡ breach walk.now.schema.now walk.now.store (rows_of root.now)) }
 {
-    walk(alloc, schema, lists, store, &[], ROOT, root.node(), None)
+    let place = Place {
+        trail: &[],
+        spot: ROOT,
+        node: root.node(),
+    };
+    walk.over(&place, None)
 }
 
-fn near(
-    alloc: Global,
-    schema: &Schema,
-    lists: &Lists,
-    store: Store,
-    before: &Root,
-    after: &Root,
-    stamps: &[u64],
-) -> Result<Option<Breach>, NoMemory>
-    requires lists { AreJudged schema.now lists.now.lists.items }
-    requires kept { breach schema.now store (rows_of before.now) ≡ None }
-    requires keeps { Keeps stamps.now before.now after.now }
-    ensures { IfOk result (λ r. r ≡ breach schema.now store (rows_of after.now)) }
+fn changed(near: &Near, before: &Root, after: &Root) -> Result<Option<Breach>, NoMemory>
+    requires kept { breach near.now.walk.schema.now near.now.walk.store (rows_of before.now) ≡ None }
+    requires keeps { Keeps near.now.stamps.now before.now after.now }
+    ensures { IfOk result (λ r. r ≡ breach near.now.walk.schema.now near.now.walk.store (rows_of after.now)) }
 {
     let old = before.node();
-    let node = after.node();
-    walk_changed(
-        alloc,
-        schema,
-        lists,
-        store,
-        stamps,
-        &[],
-        ROOT,
-        Some(old),
-        node,
-        None,
-    )
+    let place = Place {
+        trail: &[],
+        spot: ROOT,
+        node: after.node(),
+    };
+    near.over(Some(old), &place, None)
 }

@@ -45,6 +45,7 @@ fn data_node(schema: &Schema, node: u32) -> Option<u32>
     requires { node < length schema.now.nodes }
     ensures { result ≡ data_node schema.now (Some node) }
 {
+    // For the proof alone: `len` says that a schema has a table that may be one.
     let _ = schema.len();
     if schema.kind(node).is_choice_or_case() {
         schema.data_parent(node)

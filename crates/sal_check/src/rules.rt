@@ -1,6 +1,7 @@
 //! The rules of one node, judged at a place of a tree.
 ghost use Rattle.std.specs.Prelude.{◌≡◌, ◌<◌, ◌≤◌, ◌||◌, length, IfSome, IfOk, Option, Some, if◌then◌else◌};
 ghost use Rattle.sal_node.specs.Shape.{tree_at};
+ghost use Rattle.sal_node.specs.Tree.{IsGrove};
 ghost use Rattle.sal_schema.specs.Kinds as kinds;
 ghost use Rattle.sal_schema.specs.Table.{is_kind};
 ghost use Rattle.sal_tree.specs.Grow.{IsSound};
@@ -9,11 +10,12 @@ ghost use Rattle.sal_rules.specs.Rules as spec;
 ghost use Rattle.sal_rows.specs.declared.outcome.Rule.TheVariants.{Mandatory, MinElements, MaxElements, Unique, TwoCases};
 
 use crate::climb::{context, stand, way};
-use crate::reach::{count, is_present, kid, reached};
+use crate::entries::count;
+use crate::walk::{Place, Walk};
 use sal_node::Node;
 use sal_schema::{Kind, Schema};
+use sal_tree::{child_of, is_present, reached};
 use sal_types::{NoMemory, Step};
-use std::alloc::Global;
 use std::sync::Arc;
 
 // ---- what stands at a place
@@ -28,7 +30,7 @@ fn is_there(schema: &Schema, node: Option<&Arc<Node>>, number: u32, deep: u32) -
         return false;
     }
     if !schema.kind(number).is_choice_or_case() {
-        return is_present(kid(node, &Step::Node(number)));
+        return is_present(child_of(node, &Step::Node(number)));
     }
     for child in schema.children(Some(number)) {
         if is_there(schema, node, *child, deep - 1) {
@@ -62,7 +64,7 @@ pub(crate) fn is_demanded(
     match context {
         None => match way {
             [] => false,
-            [container, ..] => is_present(kid(node, container)),
+            [container, ..] => is_present(child_of(node, container)),
         },
         Some(context) => !is_case(schema.kind(context)) || stands(schema, node, context),
     }
@@ -103,69 +105,54 @@ pub(crate) fn has_minimum(schema: &Schema, number: u32) -> bool
 // ---- the rules
 
 /// Whether a mandatory leaf is absent, or no node of a mandatory choice is there.
-pub(crate) fn is_missing(
-    alloc: Global,
-    schema: &Schema,
-    node: Option<&Arc<Node>>,
-    at: Option<u32>,
-    number: u32,
-) -> Result<bool, NoMemory>
-    requires sound { IsSound (tree_at node) }
-    requires number { number < length schema.now.nodes }
-    ensures { IfOk result (λ b. b ≡ spec.broken schema.now (seen_in (tree_at node.entry)) at (Mandatory number)) }
+pub(crate) fn is_missing(walk: &Walk, place: &Place, number: u32) -> Result<bool, NoMemory>
+    requires sound { IsGrove place.now.node.now.value.kids }
+    requires number { number < length walk.now.schema.now.nodes }
+    ensures { IfOk result (λ b. b ≡ spec.broken walk.now.schema.now (seen_in (Some place.now.node.now.value)) place.now.spot.node (Mandatory number)) }
 {
-    if !is_required(schema, number) || stand(schema, number) != at {
+    let schema = walk.schema;
+    if !is_required(schema, number) || stand(schema, number) != place.spot.node {
         return Ok(false);
     }
-    let way = way(alloc, schema, number)?;
-    if !is_demanded(schema, node, &way, context(schema, number)) {
-        return Ok(false);
-    }
-    Ok(!stands(schema, reached(node, &way), number))
+    let way = way(walk.alloc, schema, number)?;
+    let demanded = is_demanded(schema, Some(place.node), &way, context(schema, number));
+    let there = stands(schema, reached(Some(place.node), &way), number);
+    Ok(demanded && !there)
 }
 
 /// Whether a list or leaf-list has too few entries.
-pub(crate) fn has_too_few(
-    alloc: Global,
-    schema: &Schema,
-    node: Option<&Arc<Node>>,
-    at: Option<u32>,
-    number: u32,
-) -> Result<bool, NoMemory>
-    requires sound { IsSound (tree_at node) }
-    requires number { number < length schema.now.nodes }
-    ensures { IfOk result (λ b. b ≡ spec.broken schema.now (seen_in (tree_at node.entry)) at (MinElements number)) }
+pub(crate) fn has_too_few(walk: &Walk, place: &Place, number: u32) -> Result<bool, NoMemory>
+    requires sound { IsGrove place.now.node.now.value.kids }
+    requires number { number < length walk.now.schema.now.nodes }
+    ensures { IfOk result (λ b. b ≡ spec.broken walk.now.schema.now (seen_in (Some place.now.node.now.value)) place.now.spot.node (MinElements number)) }
 {
-    if !has_minimum(schema, number) || stand(schema, number) != at {
+    let schema = walk.schema;
+    if !has_minimum(schema, number) || stand(schema, number) != place.spot.node {
         return Ok(false);
     }
-    let way = way(alloc, schema, number)?;
-    if !is_demanded(schema, node, &way, context(schema, number)) {
+    let way = way(walk.alloc, schema, number)?;
+    if !is_demanded(schema, Some(place.node), &way, context(schema, number)) {
         return Ok(false);
     }
-    let entries = count(alloc, kid(reached(node, &way), &Step::Node(number)))?;
+    let list = child_of(reached(Some(place.node), &way), &Step::Node(number));
+    let entries = count(walk.alloc, list)?;
     Ok(entries < schema.min_elements(number) as usize)
 }
 
 /// Whether a list or leaf-list has too many entries.
-pub(crate) fn has_too_many(
-    alloc: Global,
-    schema: &Schema,
-    node: Option<&Arc<Node>>,
-    at: Option<u32>,
-    number: u32,
-) -> Result<bool, NoMemory>
-    requires sound { IsSound (tree_at node) }
-    requires number { number < length schema.now.nodes }
-    ensures { IfOk result (λ b. b ≡ spec.broken schema.now (seen_in (tree_at node.entry)) at (MaxElements number)) }
+pub(crate) fn has_too_many(walk: &Walk, place: &Place, number: u32) -> Result<bool, NoMemory>
+    requires sound { IsGrove place.now.node.now.value.kids }
+    requires number { number < length walk.now.schema.now.nodes }
+    ensures { IfOk result (λ b. b ≡ spec.broken walk.now.schema.now (seen_in (Some place.now.node.now.value)) place.now.spot.node (MaxElements number)) }
 {
-    if !schema.kind(number).has_entries() || schema.data_parent(number) != at {
+    let schema = walk.schema;
+    if !schema.kind(number).has_entries() || schema.data_parent(number) != place.spot.node {
         return Ok(false);
     }
     let Some(most) = schema.max_elements(number) else {
         return Ok(false);
     };
-    let entries = count(alloc, kid(node, &Step::Node(number)))?;
+    let entries = count(walk.alloc, child_of(Some(place.node), &Step::Node(number)))?;
     Ok(entries > most as usize)
 }
 
@@ -179,22 +166,18 @@ fn one_if_there(schema: &Schema, node: Option<&Arc<Node>>, number: u32) -> usize
 }
 
 /// Whether nodes of two cases of a choice are there.
-pub(crate) fn has_two_cases(
-    schema: &Schema,
-    node: Option<&Arc<Node>>,
-    at: Option<u32>,
-    number: u32,
-) -> bool
-    requires sound { IsSound (tree_at node) }
-    requires number { number < length schema.now.nodes }
-    ensures { result ≡ spec.broken schema.now (seen_in (tree_at node.entry)) at (TwoCases number) }
+pub(crate) fn has_two_cases(walk: &Walk, place: &Place, number: u32) -> bool
+    requires sound { IsGrove place.now.node.now.value.kids }
+    requires number { number < length walk.now.schema.now.nodes }
+    ensures { result ≡ spec.broken walk.now.schema.now (seen_in (Some place.now.node.now.value)) place.now.spot.node (TwoCases number) }
 {
-    if schema.kind(number) != Kind::Choice || schema.data_parent(number) != at {
+    let schema = walk.schema;
+    if schema.kind(number) != Kind::Choice || schema.data_parent(number) != place.spot.node {
         return false;
     }
     let mut present = 0;
     for case in schema.children(Some(number)) {
-        present += one_if_there(schema, node, *case);
+        present += one_if_there(schema, Some(place.node), *case);
     }
     present >= 2
 }

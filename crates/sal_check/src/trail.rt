@@ -39,6 +39,7 @@ fn path_of(alloc: Global, trail: &[&Step]) -> Result<Option<Path>, NoMemory>
             Err(PathFault::TooDeep) => return Ok(None),
         }
     }
+    // For the proof alone: `steps` says that a path is short.
     let _ = path.steps();
     Ok(Some(path))
 }

@@ -14,9 +14,10 @@ ghost use Rattle.sal_check.specs.Uniques.{cells_in, all_cells_in, ways_in, combi
 ghost use Rattle.sal_rows.specs.declared.outcome.Rule.TheVariants.{Unique};
 
 use crate::climb::way_in_entry;
-use crate::reach::{kid, reached};
+use crate::walk::{Place, Walk};
 use sal_node::{Child, Node};
 use sal_schema::{Kind, Schema};
+use sal_tree::{child_of, reached};
 use sal_types::{Cell, NoMemory, Step};
 use std::alloc::Global;
 use std::collections::BTreeSet;
@@ -131,38 +132,27 @@ pub(crate) fn ways_to(
 }
 
 // Whether two entries of a list agree in these leafs.
-fn agree(
-    alloc: Global,
-    schema: &Schema,
-    node: Option<&Arc<Node>>,
-    number: u32,
-    leafs: &[u32],
-) -> Result<bool, NoMemory>
-    requires sound { IsSound (tree_at node) }
-    ensures { IfOk result (λ b. b ≡ spec.has_double (spec.combinations schema.now (seen_in (tree_at node.entry)) number leafs.now)) }
+fn agree(walk: &Walk, node: &Arc<Node>, number: u32, leafs: &[u32]) -> Result<bool, NoMemory>
+    requires { IsGrove node.now.value.kids }
+    ensures { IfOk result (λ b. b ≡ spec.has_double (spec.combinations walk.now.schema.now (seen_in (Some node.now.value)) number leafs.now)) }
 {
-    let ways = ways_to(alloc, schema, leafs)?;
-    let found = combinations(alloc, kid(node, &Step::Node(number)), &ways)?;
-    has_double(alloc, &found)
+    let ways = ways_to(walk.alloc, walk.schema, leafs)?;
+    let found = combinations(walk.alloc, child_of(Some(node), &Step::Node(number)), &ways)?;
+    has_double(walk.alloc, &found)
 }
 
 /// Whether two entries of a list agree in all leafs of one of its `unique` statements.
-pub(crate) fn repeats(
-    alloc: Global,
-    schema: &Schema,
-    node: Option<&Arc<Node>>,
-    at: Option<u32>,
-    number: u32,
-) -> Result<bool, NoMemory>
-    requires sound { IsSound (tree_at node) }
-    requires number { number < length schema.now.nodes }
-    ensures { IfOk result (λ b. b ≡ spec.broken schema.now (seen_in (tree_at node.entry)) at (Unique number)) }
+pub(crate) fn repeats(walk: &Walk, place: &Place, number: u32) -> Result<bool, NoMemory>
+    requires sound { IsGrove place.now.node.now.value.kids }
+    requires number { number < length walk.now.schema.now.nodes }
+    ensures { IfOk result (λ b. b ≡ spec.broken walk.now.schema.now (seen_in (Some place.now.node.now.value)) place.now.spot.node (Unique number)) }
 {
-    if schema.kind(number) != Kind::List || schema.data_parent(number) != at {
+    let schema = walk.schema;
+    if schema.kind(number) != Kind::List || schema.data_parent(number) != place.spot.node {
         return Ok(false);
     }
     for leafs in schema.uniques(number) {
-        if agree(alloc, schema, node, number, leafs.items())? {
+        if agree(walk, place.node, number, leafs.items())? {
             return Ok(true);
         }
     }

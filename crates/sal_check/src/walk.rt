@@ -1,10 +1,8 @@
 //! The walk over a tree.
 ghost use Rattle.std.specs.Prelude.{◌≡◌, ◌<◌, length, IfOk, Some};
-ghost use Rattle.std.specs.List.{fold, flat_map};
-ghost use Rattle.sal_node.specs.Shape.{tree_at};
+ghost use Rattle.std.specs.List.{All, fold, flat_map};
 ghost use Rattle.sal_node.specs.Tree.{IsGrove};
 ghost use Rattle.sal_schema.specs.Table.{config_of};
-ghost use Rattle.sal_tree.specs.Grow.{IsSound};
 ghost use Rattle.sal_rules.specs.Breaches as spec;
 ghost use Rattle.sal_check.specs.Near as near;
 ghost use Rattle.sal_check.specs.Nodes.{seen_in, steps_in, found, found_at, AreJudged};
@@ -23,6 +21,24 @@ use sal_schema::Schema;
 use sal_types::{NoMemory, Step, Store};
 use std::alloc::Global;
 use std::sync::Arc;
+
+/// What a walk over a tree goes by: a schema, the nodes that are judged at each place, and the store of the tree.
+#[derive(Drop)]
+pub(crate) struct Walk<'a> {
+    pub(crate) alloc: Global,
+    pub(crate) schema: &'a Schema,
+    pub(crate) lists: &'a Lists,
+    pub(crate) store: Store,
+    ghost judged: { AreJudged schema.now lists.now.lists.items },
+}
+
+/// A place of a tree: the steps from the root to it, what it stands at, and its node.
+#[derive(Drop)]
+pub(crate) struct Place<'t, 'a> {
+    pub(crate) trail: &'t [&'a Step],
+    pub(crate) spot: Spot,
+    pub(crate) node: &'a Arc<Node>,
+}
 
 /// Whether the rules of the node are looked at in the store.
 pub(crate) fn is_looked_at(schema: &Schema, store: Store, number: u32) -> bool
@@ -47,189 +63,138 @@ fn node_of_rule(rule: Rule) -> u32
     }
 }
 
-fn is_broken(
-    alloc: Global,
-    schema: &Schema,
-    node: Option<&Arc<Node>>,
-    at: Option<u32>,
-    rule: Rule,
-) -> Result<bool, NoMemory>
-    requires sound { IsSound (tree_at node) }
-    requires number { spec.node_of_rule rule < length schema.now.nodes }
-    ensures { IfOk result (λ b. b ≡ broken schema.now (seen_in (tree_at node.entry)) at rule) }
+/// The rules that may be stated at a node.
+pub(crate) fn rules_of(number: u32) -> [Rule; 5]
+    ensures rules { result ≡ spec.rules_of number }
+    ensures node { All (λ rule. spec.node_of_rule rule ≡ number) result }
 {
-    match rule {
-        Rule::Mandatory(number) => is_missing(alloc, schema, node, at, number),
-        Rule::MinElements(number) => has_too_few(alloc, schema, node, at, number),
-        Rule::MaxElements(number) => has_too_many(alloc, schema, node, at, number),
-        Rule::Unique(number) => repeats(alloc, schema, node, at, number),
-        Rule::TwoCases(number) => Ok(has_two_cases(schema, node, at, number)),
-    }
-}
-
-/// The least breach with that of one rule.
-pub(crate) fn judge(
-    alloc: Global,
-    schema: &Schema,
-    store: Store,
-    trail: &[&Step],
-    node: &Arc<Node>,
-    at: Option<u32>,
-    rule: Rule,
-    least: Option<Breach>,
-) -> Result<Option<Breach>, NoMemory>
-    requires sound { IsGrove node.now.value.kids }
-    requires number { spec.node_of_rule rule < length schema.now.nodes }
-    ensures { IfOk result (λ r. r ≡ fold spec.keep least (spec.breach_of schema.now store (steps_in trail.now) (seen_in (Some node.now.value)) at rule)) }
-{
-    if !is_looked_at(schema, store, node_of_rule(rule)) {
-        return Ok(least);
-    }
-    if !is_broken(alloc, schema, Some(node), at, rule)? {
-        return Ok(least);
-    }
-    with_breach(alloc, schema, trail, rule, least)
-}
-
-/// The least breach with that of a rule that is broken at the end of the trail, unless the path is too long.
-pub(crate) fn with_breach(
-    alloc: Global,
-    schema: &Schema,
-    trail: &[&Step],
-    rule: Rule,
-    least: Option<Breach>,
-) -> Result<Option<Breach>, NoMemory>
-    requires { spec.node_of_rule rule < length schema.now.nodes }
-    ensures { IfOk result (λ r. r ≡ fold spec.keep least (near.breach_there schema.now (steps_in trail.now) rule)) }
-{
-    match place_of(alloc, schema, trail, rule)? {
-        None => Ok(least),
-        Some(path) => Ok(keep(least, Breach { path, rule })),
-    }
-}
-
-// The least breach with those of one node.
-fn judge_node(
-    alloc: Global,
-    schema: &Schema,
-    store: Store,
-    trail: &[&Step],
-    node: &Arc<Node>,
-    at: Option<u32>,
-    number: u32,
-    least: Option<Breach>,
-) -> Result<Option<Breach>, NoMemory>
-    requires sound { IsGrove node.now.value.kids }
-    requires number { number < length schema.now.nodes }
-    ensures { IfOk result (λ r. r ≡ fold spec.keep least (flat_map (spec.breach_of schema.now store (steps_in trail.now) (seen_in (Some node.now.value)) at) (spec.rules_of number))) }
-{
-    let first = judge(
-        alloc,
-        schema,
-        store,
-        trail,
-        node,
-        at,
+    [
         Rule::Mandatory(number),
-        least,
-    )?;
-    let second = judge(
-        alloc,
-        schema,
-        store,
-        trail,
-        node,
-        at,
         Rule::MinElements(number),
-        first,
-    )?;
-    let third = judge(
-        alloc,
-        schema,
-        store,
-        trail,
-        node,
-        at,
         Rule::MaxElements(number),
-        second,
-    )?;
-    let fourth = judge(
-        alloc,
-        schema,
-        store,
-        trail,
-        node,
-        at,
         Rule::Unique(number),
-        third,
-    )?;
-    judge(
-        alloc,
-        schema,
-        store,
-        trail,
-        node,
-        at,
         Rule::TwoCases(number),
-        fourth,
-    )
+    ]
 }
 
-// The least breach with those of one place.
-fn judge_place(
-    alloc: Global,
-    schema: &Schema,
-    lists: &Lists,
-    store: Store,
-    trail: &[&Step],
-    spot: Spot,
-    node: &Arc<Node>,
-    least: Option<Breach>,
-) -> Result<Option<Breach>, NoMemory>
-    requires sound { IsGrove node.now.value.kids }
-    requires lists { AreJudged schema.now lists.now.lists.items }
-    ensures { IfOk result (λ r. r ≡ fold spec.keep least (found_at schema.now store (steps_in trail.now) spot node.now.value)) }
-{
-    if spot.wants_entry {
-        return Ok(least);
-    }
-    let mut least = least;
-    for number in lists.judged(schema, spot.node) {
-        least = judge_node(alloc, schema, store, trail, node, spot.node, *number, least)?;
-    }
-    Ok(least)
-}
-
-/// The least breach with those at a node and below it.
-pub(crate) fn walk<'a>(
-    alloc: Global,
-    schema: &Schema,
-    lists: &Lists,
-    store: Store,
-    trail: &[&'a Step],
-    spot: Spot,
-    node: &'a Arc<Node>,
-    least: Option<Breach>,
-) -> Result<Option<Breach>, NoMemory>
-    requires sound { IsGrove node.now.value.kids }
-    requires lists { AreJudged schema.now lists.now.lists.items }
-    ensures { IfOk result (λ r. r ≡ fold spec.keep least (found schema.now store (steps_in trail.now) spot node.now.value)) }
-{
-    let mut least = judge_place(alloc, schema, lists, store, trail, spot, node, least)?;
-    let children = node.children(alloc)?;
-    for child in &children {
-        let below = longer(alloc, trail, &child.step)?;
-        let next = after_step(schema, spot, &child.step);
-        least = walk(
+impl<'w> Walk<'w> {
+    /// A walk over the trees of a store.
+    pub(crate) fn new(alloc: Global, schema: &'w Schema, lists: &'w Lists, store: Store) -> Walk<'w>
+        requires { AreJudged schema.now lists.now.lists.items }
+        ensures schema { result.schema.now ≡ schema.entry.now }
+        ensures store { result.store ≡ store }
+    {
+        Walk {
             alloc,
             schema,
             lists,
             store,
-            &below,
-            next,
-            &child.node,
-            least,
-        )?;
+        }
     }
-    Ok(least)
+
+    fn is_broken(&self, place: &Place, rule: Rule) -> Result<bool, NoMemory>
+        requires sound { IsGrove place.now.node.now.value.kids }
+        requires number { spec.node_of_rule rule < length self.now.schema.now.nodes }
+        ensures { IfOk result (λ b. b ≡ broken self.now.schema.now (seen_in (Some place.now.node.now.value)) place.now.spot.node rule) }
+    {
+        match rule {
+            Rule::Mandatory(number) => is_missing(self, place, number),
+            Rule::MinElements(number) => has_too_few(self, place, number),
+            Rule::MaxElements(number) => has_too_many(self, place, number),
+            Rule::Unique(number) => repeats(self, place, number),
+            Rule::TwoCases(number) => Ok(has_two_cases(self, place, number)),
+        }
+    }
+
+    /// The least breach with that of one rule.
+    pub(crate) fn judge(
+        &self,
+        place: &Place,
+        rule: Rule,
+        least: Option<Breach>,
+    ) -> Result<Option<Breach>, NoMemory>
+        requires sound { IsGrove place.now.node.now.value.kids }
+        requires number { spec.node_of_rule rule < length self.now.schema.now.nodes }
+        ensures { IfOk result (λ r. r ≡ fold spec.keep least (spec.breach_of self.now.schema.now self.now.store (steps_in place.now.trail.now) (seen_in (Some place.now.node.now.value)) place.now.spot.node rule)) }
+    {
+        if !is_looked_at(self.schema, self.store, node_of_rule(rule)) {
+            return Ok(least);
+        }
+        if !self.is_broken(place, rule)? {
+            return Ok(least);
+        }
+        self.with_breach(place, rule, least)
+    }
+
+    /// The least breach with that of a rule that is broken at the place, unless the path is too long.
+    pub(crate) fn with_breach(
+        &self,
+        place: &Place,
+        rule: Rule,
+        least: Option<Breach>,
+    ) -> Result<Option<Breach>, NoMemory>
+        requires { spec.node_of_rule rule < length self.now.schema.now.nodes }
+        ensures { IfOk result (λ r. r ≡ fold spec.keep least (near.breach_there self.now.schema.now (steps_in place.now.trail.now) rule)) }
+    {
+        match place_of(self.alloc, self.schema, place.trail, rule)? {
+            None => Ok(least),
+            Some(path) => Ok(keep(least, Breach { path, rule })),
+        }
+    }
+
+    // The least breach with those of one node.
+    fn judge_node(
+        &self,
+        place: &Place,
+        number: u32,
+        least: Option<Breach>,
+    ) -> Result<Option<Breach>, NoMemory>
+        requires sound { IsGrove place.now.node.now.value.kids }
+        requires number { number < length self.now.schema.now.nodes }
+        ensures { IfOk result (λ r. r ≡ fold spec.keep least (flat_map (spec.breach_of self.now.schema.now self.now.store (steps_in place.now.trail.now) (seen_in (Some place.now.node.now.value)) place.now.spot.node) (spec.rules_of number))) }
+    {
+        let mut least = least;
+        for rule in rules_of(number) {
+            least = self.judge(place, rule, least)?;
+        }
+        Ok(least)
+    }
+
+    // The least breach with those of one place.
+    fn judge_place(&self, place: &Place, least: Option<Breach>) -> Result<Option<Breach>, NoMemory>
+        requires { IsGrove place.now.node.now.value.kids }
+        ensures { IfOk result (λ r. r ≡ fold spec.keep least (found_at self.now.schema.now self.now.store (steps_in place.now.trail.now) place.now.spot place.now.node.now.value)) }
+    {
+        if place.spot.wants_entry {
+            return Ok(least);
+        }
+        let mut least = least;
+        for number in self.lists.judged(self.schema, place.spot.node) {
+            least = self.judge_node(place, *number, least)?;
+        }
+        Ok(least)
+    }
+
+    /// The least breach with those at a place and below it.
+    pub(crate) fn over(
+        &self,
+        place: &Place,
+        least: Option<Breach>,
+    ) -> Result<Option<Breach>, NoMemory>
+        requires { IsGrove place.now.node.now.value.kids }
+        ensures { IfOk result (λ r. r ≡ fold spec.keep least (found self.now.schema.now self.now.store (steps_in place.now.trail.now) place.now.spot place.now.node.now.value)) }
+    {
+        let mut least = self.judge_place(place, least)?;
+        let children = place.node.children(self.alloc)?;
+        for child in &children {
+            let below = longer(self.alloc, place.trail, &child.step)?;
+            let next = Place {
+                trail: &below,
+                spot: after_step(self.schema, place.spot, &child.step),
+                node: &child.node,
+            };
+            least = self.over(&next, least)?;
+        }
+        Ok(least)
+    }
 }

@@ -11,8 +11,8 @@ use Rattle.sal_check.proofs.check.whole.Goals as goal
 
 pub returns : goal.returns
 returns c =
-    let table = c.args.schema.now in
-    let store = c.args.store in
+    let table = c.args.walk.now.schema.now in
+    let store = c.args.walk.now.store in
     let same : fold keep None (found table store [] root_spot c.node.result.now.value) ≡ breach table store (rows_of c.args.root.now) =
     ap (λ (t : Tree). fold keep None (found table store [] root_spot t)) c.node.ensures.tree ∙ breach-found table store c.args.root.now c.node.ensures.whole.ordered in
-    subst (λ o. IfOk c.walk.result (λ r. r ≡ o)) same c.walk.ensures
+    subst (λ o. IfOk c.over.result (λ r. r ≡ o)) same c.over.ensures

@@ -8,4 +8,4 @@ use Rattle.sal_check.specs.Near.{agree_freshly}
 use Rattle.sal_check.proofs.fresh.repeats_freshly.Given as goal
 
 abbrev pub invariant-loop-leafs : goal.invariant-loop-leafs
-invariant-loop-leafs l = list_any (λ leafs. agree_freshly l.stamps (map (way_in_entry l.schema) leafs) (kid (Some l.before.value) (Node l.number)) (kids_in (kid (Some l.node.value) (Node l.number)))) (take l.leafs-index l.leafs-items) ≡ false
+invariant-loop-leafs l = list_any (λ leafs. agree_freshly l.near.stamps.now (map (way_in_entry l.near.walk.schema.now) leafs) (kid (Some l.before.value) (Node l.number)) (kids_in (kid (Some l.place.node.now.value) (Node l.number)))) (take l.leafs-index l.leafs-items) ≡ false

@@ -23,7 +23,7 @@ returns-then-not-is_choice_or_case t c =
     let see = seen_in (tree_at c.args.node) in
     let n = c.args.number in
     let none : is_choice_or_case c.kind.result ≡ false = search rules in
-    c.is_present.ensures ∙ ap present c.kid.ensures.kid
+    c.is_present.ensures ∙ ap present c.child_of.ensures.kid
     ∙ sym (there-step table see c.args.deep n (omega (arith, c.if-deep-eq0.false)) ∙ ap (λ b. cond b (list_any (is_there table see (c.args.deep - 1)) (children_of table (Some n))) (see.has (Node n ∷ []))) (kind_says is_choice_or_case table n c.kind.result c.kind.ensures ∙ none))
 
 pub returns-then-is_there : goal.returns-then-is_there

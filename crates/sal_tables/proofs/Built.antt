@@ -1,16 +1,15 @@
 -- What each pass found of modules that have a table.
-use Rattle.std.proofs.Common.{◌≡◌, ℕ, ◌≤◌, Bool, true, false, nat_lt, List, [], ◌∷◌, length, map, Option, Some, None, is_some, Result, Ok, Err, refl, sym, ap, ◌∙◌, inl, inr, arith}
+use Rattle.std.proofs.Common.{◌≡◌, ◌≤◌, true, false, nat_lt, List, [], ◌∷◌, length, map, Option, Some, None, is_some, Result, Ok, Err, refl, sym, ap, ◌∙◌, inl, inr, arith}
 use Rattle.std.proofs.lemmas.Bool.{cases_Bool}
 use Rattle.std.proofs.lemmas.Bool.Decides.{nat_tests}
 use Rattle.sal_types.specs.Reading.{◌>>=◌}
 use Rattle.sal_stmt.specs.declared.stmt.Stmt.{Stmt}
-use Rattle.sal_module.specs.declared.fault.BuildFault.{BuildFault}
 use Rattle.sal_module.specs.declared.fault.Found.{Found}
-use Rattle.sal_module.specs.Faults.{least, better, is_before, fault_of}
+use Rattle.sal_module.specs.Faults.{least, is_before}
 use Rattle.sal_module.specs.Imports.{graph_faults}
 use Rattle.sal_module.specs.Modules.{check, answer, first_of_two, first_fault}
 use Rattle.sal_module.specs.Profile.{profile_faults}
-use Rattle.sal_grouping.proofs.Parts.{TreeNode, TreeRow}
+use Rattle.sal_grouping.proofs.Parts.{TreeNode}
 use Rattle.sal_grouping.specs.declared.forest.Branch.{Branch}
 use Rattle.sal_grouping.specs.Augments.{Progress, target_faults}
 use Rattle.sal_grouping.specs.Children.{child_faults}

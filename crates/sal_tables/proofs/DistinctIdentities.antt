@@ -1,30 +1,27 @@
 -- No two identities of one module have one name.
-use Rattle.std.proofs.Common.{◌≡◌, ℕ, zero, suc, ◌+◌, ◌<◌, ◌≤◌, Bool, true, false, not, ◌&&◌, ◌==◌, nat_lt, IsTrue, List, [], ◌∷◌, ◌++◌, fold, map, take, length, Option, Some, None, refl, sym, ap, ◌∙◌, subst, inl, inr, arith, append_assoc, append-nil, length-append}
-use Rattle.std.specs.Prelude.{◌||◌, is_none, if◌then◌else◌}
+use Rattle.std.proofs.Common.{◌≡◌, ℕ, zero, suc, ◌+◌, Bool, true, false, not, ◌&&◌, ◌==◌, nat_lt, IsTrue, List, [], ◌∷◌, ◌++◌, fold, take, length, Option, Some, None, refl, sym, ap, ◌∙◌, subst, inl, inr, arith, append_assoc, append-nil, length-append}
+use Rattle.std.specs.Prelude.{◌||◌, is_none}
 use Rattle.std.specs.List.{list_all, list_any, flat_map, enumerate_from, position_from}
 use Rattle.std.proofs.lemmas.Bool.{cases_Bool}
 use Rattle.std.proofs.lemmas.Bool.Decides.{nat_tests}
-use Rattle.sal_stmt.specs.declared.stmt.Stmt.{Stmt, out-Stmt}
+use Rattle.sal_stmt.specs.declared.stmt.Stmt.{Stmt}
 use Rattle.sal_module.specs.declared.keyword.Keyword.{Keyword}
 use Rattle.sal_module.specs.declared.keyword.Keyword.TheVariants as word
-use Rattle.sal_module.specs.declared.fault.Cause.TheVariants.{DoubleNode}
-use Rattle.sal_module.specs.declared.fault.Found.{Found}
 use Rattle.sal_module.specs.Keywords.{same, same_keyword, word_of, keyword_of}
 use Rattle.sal_module.specs.Keywords as keywords
 use Rattle.sal_module.specs.Profile.{module_faults}
 use Rattle.sal_module.specs.Statements.{is_named, subs_of, argument_of}
 use Rattle.sal_grouping.proofs.Parts.{TreeRow}
-use Rattle.sal_grouping.specs.Names.{at_row, double_faults, row_faults, name_faults}
-use Rattle.sal_grouping.specs.Rows.{part_of, part_among, row_of, with_row, with_rows, rows_of, is_block, is_number, defines, first_defined, first_of}
+use Rattle.sal_grouping.specs.Names.{double_faults, row_faults, name_faults}
+use Rattle.sal_grouping.specs.Rows.{part_of, part_among, row_of, with_row, with_rows, rows_of, is_block, is_number, defines, first_of}
 use Rattle.sal_schema.specs.declared.names.Named.{Named}
-use Rattle.sal_schema.specs.declared.table.IdentityInfo.{IdentityInfo}
 use Rattle.sal_schema.specs.declared.table.SchemaTable.{SchemaTable}
 use Rattle.sal_schema.specs.Names.{is_called, are_distinct, named, name_of_parts, identity_at, identity_names}
 use Rattle.sal_schema.specs.Table.{each_from, all_from}
-use Rattle.sal_schema.proofs.Conjuncts.{and_first, and_second, or_first, or_second}
-use Rattle.sal_build.specs.Identities.{Identity, identity_here, identities_in, identities_of, edges_of, info_of, infos_from}
+use Rattle.sal_schema.proofs.Conjuncts.{and_first, and_second}
+use Rattle.sal_build.specs.Identities.{Identity, identity_here, identities_in, identities_of, edges_of, infos_from}
 use Rattle.sal_tables.specs.Laws.{IdentityNamesDiffer}
-use Rattle.sal_tables.proofs.Built.{IsBuilt, IsChecked, IsExpanded, built_ok}
+use Rattle.sal_tables.proofs.Built.{built_ok}
 use Rattle.sal_tables.proofs.Distinct.{called-same, same-itself, false-is, true-is, pairs, are_apart, distinct-pairs}
 use Rattle.sal_build.proofs.LeafWord.{same-text}
 use Rattle.sal_tables.proofs.NamedModules.{rule-named}

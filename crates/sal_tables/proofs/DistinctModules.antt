@@ -1,17 +1,16 @@
 -- No two modules have one name.
-use Rattle.std.proofs.Common.{◌≡◌, ℕ, ◌+◌, Bool, true, false, not, IsTrue, List, [], ◌∷◌, ◌++◌, map, take, Option, None, refl, sym, ap, ◌∙◌, subst, inl, inr}
+use Rattle.std.proofs.Common.{◌≡◌, ℕ, ◌+◌, true, false, not, IsTrue, List, [], ◌∷◌, ◌++◌, map, take, None, refl, sym, ap, ◌∙◌, subst, inl, inr}
 use Rattle.std.specs.List.{list_any, flat_map, enumerate_from}
 use Rattle.std.proofs.lemmas.Bool.{cases_Bool}
 use Rattle.sal_stmt.specs.declared.stmt.Stmt.{Stmt}
 use Rattle.sal_module.specs.Imports.{has_name, name_faults, prefix_faults, given_faults, import_faults, imports_of, prefix_of}
 use Rattle.sal_module.specs.Keywords.{same}
 use Rattle.sal_module.specs.Statements.{argument_of}
-use Rattle.sal_schema.specs.declared.names.Named.{Named}
 use Rattle.sal_schema.specs.declared.table.SchemaTable.{SchemaTable}
 use Rattle.sal_schema.specs.Names.{is_called, are_distinct, named, name_of_parts, module_at, module_names}
 use Rattle.sal_schema.specs.Table.{each_from, all_from}
 use Rattle.sal_tables.specs.Laws.{ModuleNamesDiffer}
-use Rattle.sal_tables.proofs.Built.{IsBuilt, IsChecked, built_ok}
+use Rattle.sal_tables.proofs.Built.{built_ok}
 use Rattle.sal_tables.proofs.Distinct.{called-same, same-itself, false-is, true-is, pairs, are_apart, distinct-pairs}
 use Rattle.sal_tables.proofs.Quiet.{both, front-nil}
 

@@ -24,7 +24,7 @@ use Rattle.sal_tables.specs.Laws.{TypesAreFlat, is_sized, is_flat}
 use Rattle.sal_build.specs.Leafrefs as leafrefs
 use Rattle.sal_build.specs.Leafrefs.{stated_type, own_types, edges_of}
 use Rattle.sal_build.specs.Nodes.{kind_of}
-use Rattle.sal_tables.proofs.Built.{IsBuilt, built_ok, forest_of}
+use Rattle.sal_tables.proofs.Built.{built_ok, forest_of}
 use Rattle.sal_build.proofs.Fillings.{type-zero, type-suc}
 use Rattle.sal_tables.proofs.Quiet.{both, all-joined, all-map}
 use Rattle.sal_tables.proofs.Shapes.{all-flat}

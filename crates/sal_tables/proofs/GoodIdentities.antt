@@ -1,28 +1,24 @@
 -- The identities of a table that modules have.
-use Rattle.std.proofs.Common.{◌≡◌, ℕ, zero, suc, ◌+◌, ◌-◌, ◌<◌, ◌≤◌, Bool, true, false, not, ◌&&◌, ◌==◌, nat_lt, IsTrue, List, [], ◌∷◌, ◌++◌, filter, map, take, length, get_or, Option, Some, None, refl, sym, ap, ◌∙◌, subst, inl, inr, arith, append_assoc, length-append}
-use Rattle.std.specs.Prelude.{◌||◌, option_map, option_and_then, is_none, if◌then◌else◌}
+use Rattle.std.proofs.Common.{◌≡◌, ℕ, zero, suc, ◌+◌, ◌-◌, ◌<◌, Bool, true, not, ◌&&◌, ◌==◌, nat_lt, IsTrue, List, [], ◌∷◌, ◌++◌, filter, map, take, length, get_or, Option, Some, None, refl, sym, ap, ◌∙◌, subst, inl, inr, arith, append_assoc, length-append}
+use Rattle.std.specs.Prelude.{◌||◌, option_map, option_and_then}
 use Rattle.std.specs.List.{list_all, flat_map, enumerate_from, slice_get, sum_by, position_from}
 use Rattle.std.specs.Option.{option_to_list}
 use Rattle.std.proofs.lemmas.Bool.{cases_Bool}
 use Rattle.std.proofs.lemmas.Bool.Decides.{nat_tests}
 use Rattle.std.proofs.lemmas.List.{length-map}
 use Rattle.std.proofs.lemmas.List.Sums.{sum_by_more_le, sum_by-cons}
-use Rattle.sal_stmt.specs.declared.stmt.Stmt.{Stmt, out-Stmt}
+use Rattle.sal_stmt.specs.declared.stmt.Stmt.{Stmt}
 use Rattle.sal_module.specs.declared.keyword.Keyword.{Keyword}
 use Rattle.sal_module.specs.declared.keyword.Keyword.TheVariants as word
 use Rattle.sal_module.specs.declared.argument.Form.TheVariants.{Identifier}
-use Rattle.sal_module.specs.declared.fault.Cause.TheVariants.{UnknownName, NameCycle}
-use Rattle.sal_module.specs.declared.fault.Found.{Found}
 use Rattle.sal_module.specs.Imports.{reaches}
 use Rattle.sal_module.specs.Keywords.{same, word_of, keyword_of}
 use Rattle.sal_module.specs.Keywords as keywords
-use Rattle.sal_module.specs.Profile.{is_prefixed, allows, is_judged, level_faults, tree_faults, module_faults, at_stmt}
+use Rattle.sal_module.specs.Profile.{is_prefixed, allows, is_judged, level_faults, tree_faults, module_faults}
 use Rattle.sal_module.specs.Statements.{is_named, subs_of, argument_of}
 use Rattle.sal_module.specs.Table.{rule_of, rule_at}
 use Rattle.sal_module.specs.Table as table
 use Rattle.sal_module.proofs.Levels.{tree_faults-more, below}
-use Rattle.sal_grouping.specs.Names.{reaches_home}
-use Rattle.sal_schema.specs.declared.table.IdentityInfo.{IdentityInfo}
 use Rattle.sal_schema.specs.declared.table.SchemaTable.{SchemaTable}
 use Rattle.sal_schema.specs.Table.{all_from, is_among}
 use Rattle.sal_schema.specs.Valid as valid
@@ -36,7 +32,7 @@ use Rattle.sal_build.specs.Identities.{Identity, identity_here, identities_in, i
 use Rattle.sal_tables.specs.Laws.{IdentitiesAreGood}
 use Rattle.sal_grouping.specs.declared.forest.Branch.{Branch}
 use Rattle.sal_build.specs.Types as types
-use Rattle.sal_tables.proofs.Built.{IsBuilt, IsChecked, built_ok, forest_of}
+use Rattle.sal_tables.proofs.Built.{built_ok, forest_of}
 use Rattle.sal_tables.proofs.Grown.{position-below}
 use Rattle.sal_tables.proofs.NamedModules.{rule-named, good-argument, identifier-given}
 use Rattle.sal_tables.proofs.Quiet.{both, front-nil, all-joined, flat-quiet, numbered-flat, from-quiet}
@@ -125,7 +121,7 @@ module _ (stmts : List Stmt) where
             both (is_there (sum_by many (take k stmts) + j)) true test refl
       ] refl
 
-  base-there : (m : ℕ) (name : List ℕ) → IsTrue (list_all is_there (option_to_list (identity_of stmts m name)))
+  pub base-there : (m : ℕ) (name : List ℕ) → IsTrue (list_all is_there (option_to_list (identity_of stmts m name)))
   base-there m name = elim (module_of stmts m name) as (λ f. IsTrue (list_all is_there (option_to_list (option_and_then (λ k. option_and_then (identity_in stmts (local name) k) (slice_get stmts k)) f)))) [
     | None ↦ refl
     | Some k ↦

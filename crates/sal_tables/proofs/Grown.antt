@@ -1,22 +1,22 @@
 -- What holds of each node of the whole tree, augments carried out.
-use Rattle.std.proofs.Common.{◌≡◌, ℕ, zero, suc, ◌+◌, ◌*◌, ◌<◌, ◌≤◌, Bool, true, false, ◌&&◌, ◌==◌, nat_lt, IsTrue, List, [], ◌∷◌, ◌++◌, fold, map, length, take, Option, Some, None, refl, sym, ap, ◌∙◌, subst, inl, inr, arith, length-append}
-use Rattle.std.specs.Prelude.{◌||◌, option_and_then, option_map, is_none, if◌then◌else◌}
-use Rattle.std.specs.List.{list_all, flat_map, slice_get, position_from, enumerate_from}
+use Rattle.std.proofs.Common.{◌≡◌, ℕ, zero, suc, ◌+◌, ◌*◌, ◌<◌, ◌≤◌, Bool, true, ◌==◌, nat_lt, IsTrue, List, [], ◌∷◌, fold, length, Option, Some, None, refl, ap, subst, inl, inr, arith}
+use Rattle.std.specs.Prelude.{option_and_then, is_none}
+use Rattle.std.specs.List.{list_all, slice_get, position_from, enumerate_from}
 use Rattle.std.proofs.lemmas.Bool.{cases_Bool}
 use Rattle.std.proofs.lemmas.Bool.Decides.{nat_tests}
 use Rattle.sal_stmt.specs.declared.stmt.Stmt.{Stmt}
 use Rattle.sal_module.specs.Statements.{subs_of}
 use Rattle.sal_module.specs.declared.keyword.Keyword.{Keyword}
 use Rattle.sal_grouping.proofs.Parts.{TreeNode, TreeRow}
-use Rattle.sal_grouping.specs.Augments.{Progress, kind_of, can_hold, has_nodes, is_child, child_of, follow, carried_to, carried_at, carried, after_try, tried, round, rounds, augments_of, augmented}
+use Rattle.sal_grouping.specs.Augments.{Progress, kind_of, can_hold, has_nodes, is_child, child_of, follow, carried_to, carried_at, carried, after_try, tried, round, rounds, augments_of}
 use Rattle.sal_grouping.specs.Expand.{built}
 use Rattle.sal_grouping.specs.Groupings.{Step, path_of, named_of}
-use Rattle.sal_grouping.specs.Growth.{Seed, node_of, grown, seeds_in, module_grown, trees_until, trees_of}
+use Rattle.sal_grouping.specs.Growth.{Seed, node_of, grown, seeds_in, trees_until, trees_of}
 use Rattle.sal_grouping.specs.Rows.{part_of, row_of, with_row, with_rows, rows_of, top_of}
 use Rattle.sal_schema.specs.Table.{all_from}
 use Rattle.sal_schema.proofs.Conjuncts.{and_first, and_second}
 use Rattle.sal_tables.proofs.Quiet.{both}
-use Rattle.sal_tables.proofs.Shapes.{is_before, fits, grow-good, seeds-fit, from-last, all-joined}
+use Rattle.sal_tables.proofs.Shapes.{is_before, fits, grow-good, seeds-fit, all-joined}
 
 -- ---- rows are of modules that are there
 

@@ -1,7 +1,7 @@
 -- What holds of each node of a table that modules have.
-use Rattle.std.proofs.Common.{◌≡◌, ℕ, zero, suc, ◌+◌, ◌<◌, Bool, true, false, IsTrue, List, [], ◌∷◌, ◌++◌, length, Option, Some, None, refl, sym, ap, ◌∙◌, inl, inr, arith, append_assoc, length-append}
+use Rattle.std.proofs.Common.{◌≡◌, ℕ, ◌+◌, Bool, IsTrue, List, [], ◌∷◌, ◌++◌, length, refl, sym, ◌∙◌, inl, inr, arith, append_assoc, length-append}
 use Rattle.std.proofs.lemmas.Bool.{cases_Bool}
-use Rattle.std.specs.List.{list_all, slice_get}
+use Rattle.std.specs.List.{list_all}
 use Rattle.sal_stmt.specs.declared.stmt.Stmt.{Stmt}
 use Rattle.sal_grouping.specs.declared.forest.Branch.{Branch}
 use Rattle.sal_schema.specs.declared.table.NodeInfo.{NodeInfo}
@@ -9,7 +9,7 @@ use Rattle.sal_schema.specs.Kinds.{has_type}
 use Rattle.sal_schema.specs.Table.{all_from}
 use Rattle.sal_schema.specs.Valid.{has_its_type}
 use Rattle.sal_build.specs.Nodes.{kind_of}
-use Rattle.sal_build.specs.Table.{info_of, infos_from, infos_of}
+use Rattle.sal_build.specs.Table.{info_of, infos_from}
 use Rattle.sal_tables.proofs.Quiet.{both}
 
 module _ (stmts : List Stmt) (forest : List Branch) where

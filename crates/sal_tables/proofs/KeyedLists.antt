@@ -33,11 +33,11 @@ use Rattle.sal_build.specs.Lists.{keys_named, given, has_none, is_missing, diffe
 use Rattle.sal_build.specs.Lists as lists
 use Rattle.sal_build.specs.Nodes.{kind_among, kind_in, kind_of, has}
 use Rattle.sal_build.specs.Table.{infos_from}
-use Rattle.sal_tables.proofs.Built.{IsBuilt, IsChecked, built_ok, forest_of, nodes_of}
+use Rattle.sal_tables.proofs.Built.{built_ok, forest_of, nodes_of}
 use Rattle.sal_tables.proofs.Grown.{built-good}
 use Rattle.sal_build.proofs.LeafWord.{same-text}
 use Rattle.sal_tables.proofs.NamedNodes.{rule_given, rule-by, none-fits}
-use Rattle.sal_tables.proofs.OwnStatements.{IsOwn, AreOwn, own-rows, not-extension, block-quiet}
+use Rattle.sal_tables.proofs.OwnStatements.{AreOwn, own-rows, not-extension, block-quiet}
 use Rattle.sal_tables.proofs.Quiet.{both, front-nil}
 use Rattle.sal_tables.proofs.Shapes.{is_seed}
 

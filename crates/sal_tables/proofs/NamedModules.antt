@@ -1,5 +1,5 @@
 -- Modules are named by identifiers: the profile says so.
-use Rattle.std.proofs.Common.{◌≡◌, ℕ, Bool, true, false, ◌&&◌, not, IsTrue, List, [], ◌∷◌, ◌++◌, Option, Some, None, refl, sym, ap, ◌∙◌, inl, inr, subst}
+use Rattle.std.proofs.Common.{◌≡◌, ℕ, true, false, not, IsTrue, List, [], ◌∷◌, ◌++◌, Option, Some, None, refl, sym, ap, ◌∙◌, inl, inr, subst}
 use Rattle.std.proofs.lemmas.Bool.{cases_Bool}
 use Rattle.std.specs.List.{list_all}
 use Rattle.sal_stmt.specs.declared.stmt.Stmt.{Stmt, out-Stmt}
@@ -8,23 +8,21 @@ use Rattle.sal_module.specs.declared.keyword.Keyword.{Keyword}
 use Rattle.sal_module.specs.declared.keyword.Keyword.TheVariants as word
 use Rattle.sal_module.specs.declared.argument.Form.{Form}
 use Rattle.sal_module.specs.declared.argument.Form.TheVariants.{Identifier}
-use Rattle.sal_module.specs.declared.fault.Found.{Found}
 use Rattle.sal_module.specs.Arguments.{is_bad_argument}
 use Rattle.sal_module.specs.Keywords.{word_of, keyword_of}
 use Rattle.sal_module.specs.Keywords as keywords
 use Rattle.sal_module.specs.Table.{Rule, rule_of, rule_at}
 use Rattle.sal_module.specs.Table as table
-use Rattle.sal_module.specs.Profile.{level_faults, tree_faults, module_faults, argument_faults, left_out_faults, block_faults, profile_faults, is_left_out_word, at_stmt}
+use Rattle.sal_module.specs.Profile.{level_faults, tree_faults, module_faults, argument_faults, left_out_faults}
 use Rattle.sal_module.specs.Statements.{is_named, argument_of}
 use Rattle.sal_module.proofs.Levels.{tree_faults-more}
 use Rattle.sal_schema.specs.declared.table.SchemaTable.{SchemaTable}
 use Rattle.sal_schema.specs.Valid as valid
 use Rattle.sal_schema.proofs.Conjuncts.{and_first, and_second}
 use Rattle.sal_grouping.proofs.IndexLists.{not-false}
-use Rattle.sal_build.specs.Build.{build}
 use Rattle.sal_tables.specs.Laws.{ModulesAreNamed}
 use Rattle.sal_build.proofs.LeafWord.{same-text}
-use Rattle.sal_tables.proofs.Built.{IsBuilt, IsChecked, built_ok}
+use Rattle.sal_tables.proofs.Built.{built_ok}
 use Rattle.sal_tables.proofs.Quiet.{both, front-nil, numbered-quiet, all-map}
 
 -- ---- identifiers

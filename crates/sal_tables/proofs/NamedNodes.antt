@@ -27,10 +27,10 @@ use Rattle.sal_schema.proofs.Conjuncts.{and_first, and_second}
 use Rattle.sal_tables.specs.Laws.{NodesAreNamed}
 use Rattle.sal_build.specs.Nodes.{kind_among, kind_in, argument_in, name_in, name_of, has}
 use Rattle.sal_build.specs.Table.{infos_from}
-use Rattle.sal_tables.proofs.Built.{IsBuilt, IsChecked, built_ok, forest_of, nodes_of}
+use Rattle.sal_tables.proofs.Built.{built_ok, forest_of, nodes_of}
 use Rattle.sal_tables.proofs.Grown.{built-good}
 use Rattle.sal_tables.proofs.NamedModules.{good-argument, identifier-given}
-use Rattle.sal_tables.proofs.OwnStatements.{IsOwn, AreOwn, own-rows}
+use Rattle.sal_tables.proofs.OwnStatements.{AreOwn, own-rows}
 use Rattle.sal_tables.proofs.Quiet.{both}
 use Rattle.sal_tables.proofs.Shapes.{is_shape, is_seed}
 

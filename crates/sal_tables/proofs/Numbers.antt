@@ -1,7 +1,7 @@
 -- The numbers of parents, modules and types in a table that modules have are those of a node before, a module and a type.
-use Rattle.std.proofs.Common.{◌≡◌, ℕ, zero, suc, ◌+◌, ◌^◌, ◌<◌, ◌≤◌, Bool, true, false, ◌&&◌, nat_lt, IsTrue, List, [], ◌∷◌, ◌++◌, map, filter, take, length, Option, Some, None, refl, sym, ap, ◌∙◌, subst, inl, inr, arith, length-append}
+use Rattle.std.proofs.Common.{◌≡◌, ℕ, zero, suc, ◌+◌, ◌^◌, ◌<◌, ◌≤◌, Bool, true, ◌&&◌, nat_lt, IsTrue, List, [], ◌∷◌, ◌++◌, map, filter, take, length, Option, refl, ap, ◌∙◌, subst, inl, inr, arith}
 use Rattle.std.specs.Prelude.{if◌then◌else◌}
-use Rattle.std.specs.List.{list_all, flat_map, slice_get, enumerate_from}
+use Rattle.std.specs.List.{flat_map, enumerate_from}
 use Rattle.std.specs.Option.{option_map_or}
 use Rattle.std.proofs.lemmas.Bool.{cases_Bool}
 use Rattle.std.proofs.lemmas.Bool.Decides.{nat_tests}
@@ -12,8 +12,7 @@ use Rattle.sal_grouping.proofs.Parts.{TreeNode, TreeRow}
 use Rattle.sal_grouping.specs.declared.forest.Branch.{Branch}
 use Rattle.sal_grouping.specs.Expand.{branch_of}
 use Rattle.sal_grouping.specs.Growth.{Seed, node_of}
-use Rattle.sal_grouping.specs.Rows.{rows_of, keyword_at}
-use Rattle.sal_schema.specs.declared.table.NodeInfo.{NodeInfo}
+use Rattle.sal_grouping.specs.Rows.{rows_of}
 use Rattle.sal_schema.specs.declared.table.SchemaTable.{SchemaTable}
 use Rattle.sal_schema.specs.Kinds.{has_type}
 use Rattle.sal_schema.specs.Table.{all_from}
@@ -21,14 +20,14 @@ use Rattle.sal_schema.specs.Valid.{has_numbers}
 use Rattle.sal_schema.proofs.Conjuncts.{and_first, and_second}
 use Rattle.sal_build.specs.Build.{table_of}
 use Rattle.sal_tables.specs.Laws.{NumbersAreThere, TablesAreSmall}
-use Rattle.sal_build.specs.Leafrefs.{types_of, node_type}
+use Rattle.sal_build.specs.Leafrefs.{node_type}
 use Rattle.sal_build.specs.Nodes.{kind_of}
 use Rattle.sal_build.specs.Table.{is_typed, types_before, info_of, infos_from}
-use Rattle.sal_tables.proofs.Built.{IsBuilt, IsChecked, IsExpanded, built_ok, forest_of, nodes_of}
+use Rattle.sal_tables.proofs.Built.{built_ok, forest_of, nodes_of}
 use Rattle.sal_tables.proofs.Grown.{built-good}
 use Rattle.sal_tables.proofs.InfoLists.{infos-numbered}
 use Rattle.sal_tables.proofs.Quiet.{both}
-use Rattle.sal_tables.proofs.Shapes.{is_before, is_shape, fits}
+use Rattle.sal_tables.proofs.Shapes.{is_before}
 
 -- ---- counts
 

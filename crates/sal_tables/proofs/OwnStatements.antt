@@ -1,5 +1,5 @@
 -- Where statements stand in the order of the text, the statement at the place of a row is its own, and the profile found nothing there.
-use Rattle.std.proofs.Common.{◌≡◌, ℕ, zero, suc, ◌+◌, ◌-◌, ◌<◌, ◌≤◌, Bool, true, false, not, ◌&&◌, ◌==◌, nat_lt, IsTrue, List, [], ◌∷◌, ◌++◌, fold, length, Option, Some, None, refl, sym, ap, ◌∙◌, subst, inl, inr, arith, append_assoc, length-append}
+use Rattle.std.proofs.Common.{◌≡◌, ℕ, zero, suc, ◌+◌, ◌-◌, ◌<◌, ◌≤◌, true, false, not, ◌&&◌, ◌==◌, nat_lt, IsTrue, List, [], ◌∷◌, ◌++◌, fold, length, Option, Some, None, refl, sym, ap, ◌∙◌, subst, inl, inr, arith, append_assoc, length-append}
 use Rattle.std.specs.Prelude.{option_and_then, is_none, if◌then◌else◌}
 use Rattle.std.specs.List.{list_all, flat_map, enumerate_from, slice_get}
 use Rattle.std.proofs.lemmas.Bool.{cases_Bool}
@@ -11,7 +11,7 @@ use Rattle.sal_module.specs.Keywords.{Word, same, word_of, keyword_of, keyword_a
 use Rattle.sal_module.specs.Modules.{stmt_at}
 use Rattle.sal_module.specs.Places.{find_first, find_at, start_or, all_before, is_in_order}
 use Rattle.sal_module.specs.Profile.{is_prefixed, allows, is_judged, sub_faults, argument_faults, left_out_faults, entry_faults, type_faults, block_faults, level_faults, tree_faults, module_faults}
-use Rattle.sal_module.specs.Statements.{is_named, subs_of}
+use Rattle.sal_module.specs.Statements.{is_named, subs_of, argument_of}
 use Rattle.sal_module.specs.Table.{rule_of}
 use Rattle.sal_module.proofs.Levels.{tree_faults-last, tree_faults-more, below}
 use Rattle.sal_module.proofs.Order.{find_at-any, find_first-left, find_first-right}
@@ -62,14 +62,14 @@ block-quiet m stmt plain e =
     let (fronts, block) = front-nil (argument_faults m stmt rule ++ left_out_faults m stmt) _ e in
     rw plain at block
 
-subs-quiet : (m : ℕ) (stmt : Stmt) → is_named word.Extension stmt ≡ false → level_faults m stmt ≡ [] → flat_map (sub_faults m stmt (rule_of (out-Stmt stmt).keyword)) (subs_of stmt) ≡ []
+pub subs-quiet : (m : ℕ) (stmt : Stmt) → is_named word.Extension stmt ≡ false → level_faults m stmt ≡ [] → flat_map (sub_faults m stmt (rule_of (out-Stmt stmt).keyword)) (subs_of stmt) ≡ []
 subs-quiet m stmt plain e =
     let rule = rule_of (out-Stmt stmt).keyword in
     let (front, types) = front-nil (flat_map (entry_faults m stmt) rule.entries ++ flat_map (sub_faults m stmt rule) (subs_of stmt)) (type_faults m stmt) (block-quiet m stmt plain e) in
     let (entries, subs) = front-nil (flat_map (entry_faults m stmt) rule.entries) (flat_map (sub_faults m stmt rule) (subs_of stmt)) front in
     subs
 
-sub-judged : (m : ℕ) (parent sub : Stmt) → is_named word.Extension parent ≡ false → is_none (part_of sub) ≡ false → sub_faults m parent (rule_of (out-Stmt parent).keyword) sub ≡ [] → is_judged parent sub ≡ true
+pub sub-judged : (m : ℕ) (parent sub : Stmt) → is_named word.Extension parent ≡ false → is_none (part_of sub) ≡ false → sub_faults m parent (rule_of (out-Stmt parent).keyword) sub ≡ [] → is_judged parent sub ≡ true
 sub-judged m parent sub plain part e =
     elim (part_of sub) as (λ p. part_of sub ≡ p → is_none p ≡ false → is_judged parent sub ≡ true) [
       | None ↦ λ at no. absurd (let wrong : true ≡ false = no in cc)
@@ -122,6 +122,7 @@ pub record IsOwn (stmts : List Stmt) (row : TreeRow) : Type 0 where
   pub found : stmt_at stmts row.module row.at ≡ Some stmt
   pub keyword : keyword_of (out-Stmt stmt).keyword ≡ Some row.keyword
   pub part : is_none (part_of stmt) ≡ false
+  pub name : argument_of stmt ≡ row.name
   pub good : level_faults row.module stmt ≡ []
 
 abbrev pub AreOwn : List Stmt → List TreeRow → Type 0
@@ -147,6 +148,7 @@ module _ (stmts : List Stmt) (m : ℕ) where
         found = finds (out-Stmt stmt).at stmt (find_at-any levels (out-Stmt stmt).at stmt here);
         keyword = part-is (keyword_of (out-Stmt stmt).keyword) keyword e;
         part = ap is_none e;
+        name = refl;
         good = good refl;
       })
 
@@ -186,11 +188,11 @@ module _ (stmts : List Stmt) (m : ℕ) where
 
 -- ---- of all modules
 
-module-quiet : (m : ℕ) (stmt : Stmt) → module_faults m stmt ≡ [] → tree_faults m 64 stmt ≡ []
+pub module-quiet : (m : ℕ) (stmt : Stmt) → module_faults m stmt ≡ [] → tree_faults m 64 stmt ≡ []
 unfolding module_faults
 module-quiet m stmt e = elim (cases_Bool (is_named word.Module stmt)) [ inl t ↦ rw t at e | inr f ↦ (let no = rw f at e in cc) ]
 
-middle-got : {X : Type 0} (done rest : List X) (x : X) (n : ℕ) → n ≡ length done → slice_get (done ++ x ∷ rest) n ≡ Some x
+pub middle-got : {X : Type 0} (done rest : List X) (x : X) (n : ℕ) → n ≡ length done → slice_get (done ++ x ∷ rest) n ≡ Some x
 middle-got [] rest x n e = let none : n ≡ 0 = omega arith in rw none refl
 middle-got (y ∷ done) rest x zero e = absurd (omega arith)
 middle-got (y ∷ done) rest x (suc n) e = middle-got done rest x n (omega arith)

@@ -1,17 +1,16 @@
 -- What holds of each node of the tree, from one to the next.
-use Rattle.std.proofs.Common.{◌≡◌, ℕ, zero, suc, ◌+◌, ◌*◌, ◌<◌, ◌≤◌, Bool, true, false, ◌&&◌, nat_lt, IsTrue, List, [], ◌∷◌, ◌++◌, fold, map, length, Option, Some, None, refl, sym, ap, ◌∙◌, subst, inl, inr, arith, length-append}
-use Rattle.std.specs.Prelude.{◌||◌, find, option_map, unwrap_or, if◌then◌else◌}
-use Rattle.std.specs.List.{list_all, flat_map, slice_get}
+use Rattle.std.proofs.Common.{◌≡◌, ℕ, zero, suc, ◌+◌, ◌<◌, ◌≤◌, Bool, true, false, nat_lt, IsTrue, List, [], ◌∷◌, ◌++◌, fold, map, length, Option, Some, None, refl, sym, ap, ◌∙◌, subst, inl, inr, arith, length-append}
+use Rattle.std.specs.Prelude.{find}
+use Rattle.std.specs.List.{list_all, flat_map}
 use Rattle.std.specs.Option.{option_map_or}
 use Rattle.std.proofs.lemmas.Bool.{cases_Bool}
 use Rattle.std.proofs.lemmas.Bool.Decides.{nat_tests}
-use Rattle.sal_stmt.specs.declared.stmt.Stmt.{Stmt}
 use Rattle.sal_module.specs.declared.keyword.Keyword.{Keyword}
 use Rattle.sal_module.specs.declared.keyword.Keyword.TheVariants.{Choice, Case, Rpc, Input, Output}
 use Rattle.sal_grouping.proofs.Parts.{TreeNode, TreeRow}
 use Rattle.sal_grouping.specs.declared.forest.Implied.{Implied}
 use Rattle.sal_grouping.specs.declared.forest.Implied.TheVariants as implied
-use Rattle.sal_grouping.specs.Growth.{Seed, is_node, used_by, nodes_at, nodes_within, nodes_in, plain, in_choice, param_or, param, params, seeds_in, below_row, below, node_of, grow, grown}
+use Rattle.sal_grouping.specs.Growth.{Seed, is_node, used_by, nodes_at, nodes_within, nodes_in, plain, in_choice, param_or, param, seeds_in, below_row, below, node_of, grow}
 use Rattle.sal_grouping.specs.Frames.{with_seed}
 use Rattle.sal_grouping.specs.Rows.{inside, keyword_at, is_keyword}
 use Rattle.sal_schema.specs.Table.{all_from}
@@ -130,7 +129,7 @@ module _ (rows : List TreeRow) (named : List (Option ℕ)) where
 abbrev pub is_before : ℕ → Option ℕ → Bool
 is_before k parent = option_map_or (λ p. nat_lt p k) parent true
 
-before-more : (m k : ℕ) (parent : Option ℕ) → m ≤ k → IsTrue (is_before m parent) → IsTrue (is_before k parent)
+pub before-more : (m k : ℕ) (parent : Option ℕ) → m ≤ k → IsTrue (is_before m parent) → IsTrue (is_before k parent)
 before-more m k None less h = refl
 before-more m k (Some p) less h = grind (arith, nat_tests)
 

@@ -4,7 +4,7 @@ use Rattle.std.specs.List.{list_all}
 use Rattle.sal_schema.specs.declared.table.SchemaTable.{SchemaTable}
 use Rattle.sal_schema.specs.Valid.{has_its_type}
 use Rattle.sal_tables.specs.Laws.{LeafsAreTyped}
-use Rattle.sal_tables.proofs.Built.{IsBuilt, built_ok, forest_of}
+use Rattle.sal_tables.proofs.Built.{built_ok, forest_of}
 use Rattle.sal_tables.proofs.InfoLists.{infos-all, node-typed}
 
 pub leafs_are_typed : LeafsAreTyped

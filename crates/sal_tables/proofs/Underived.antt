@@ -1,13 +1,12 @@
 -- What identities are derived from: identities that are there, and none from itself.
-use Rattle.std.proofs.Common.{◌≡◌, ℕ, zero, suc, ◌+◌, ◌<◌, Bool, true, false, not, ◌&&◌, ◌==◌, IsTrue, List, [], ◌∷◌, ◌++◌, fold, length, get_or, Option, Some, None, refl, sym, ap, ◌∙◌, subst, inl, inr, arith}
-use Rattle.std.specs.Prelude.{◌||◌, if◌then◌else◌}
+use Rattle.std.proofs.Common.{◌≡◌, ℕ, zero, suc, Bool, true, false, not, ◌==◌, IsTrue, List, [], ◌∷◌, ◌++◌, fold, get_or, refl, inl, inr}
+use Rattle.std.specs.Prelude.{◌||◌}
 use Rattle.std.specs.List.{list_all, list_any, flat_map}
 use Rattle.std.proofs.lemmas.Bool.{cases_Bool}
 use Rattle.sal_module.specs.Imports.{reaches}
 use Rattle.sal_schema.specs.Table.{is_among}
 use Rattle.sal_schema.proofs.Conjuncts.{and_first, and_second, or_first, or_second}
-use Rattle.sal_build.specs.Identities.{with_number, once, joined, derived, derived_from}
-use Rattle.sal_build.proofs.Derivations.{derived-zero}
+use Rattle.sal_build.specs.Identities.{with_number, once, joined, derived}
 use Rattle.sal_tables.proofs.Quiet.{both, all-joined}
 
 module _ (test : ℕ → Bool) where

@@ -1,24 +1,23 @@
 -- The leafs that lists name by `unique` and `key`.
-use Rattle.std.proofs.Common.{◌≡◌, ℕ, zero, suc, ◌+◌, ◌-◌, ◌<◌, ◌≤◌, Bool, true, false, not, cond, ◌&&◌, ◌==◌, nat_lt, nat_eq, IsTrue, List, [], ◌∷◌, ◌++◌, map, length, Option, Some, None, refl, sym, ap, ◌∙◌, subst, inl, inr, arith, length-append}
-use Rattle.std.specs.Prelude.{IfSome, option_map, option_and_then, if◌then◌else◌}
+use Rattle.std.proofs.Common.{◌≡◌, ℕ, zero, suc, ◌+◌, ◌<◌, Bool, true, false, cond, ◌&&◌, nat_lt, nat_eq, IsTrue, List, [], ◌∷◌, ◌++◌, map, length, Option, Some, None, refl, sym, ap, ◌∙◌, subst, inl, inr, arith}
+use Rattle.std.specs.Prelude.{IfSome, option_map, option_and_then}
 use Rattle.std.specs.List.{list_all, flat_map, slice_get, position_from}
 use Rattle.std.specs.Option.{option_map_or, option_to_list}
-use Rattle.std.specs.Ordering.{is_eq, nat_cmp}
 use Rattle.std.specs.declared.cmp.Ordering.TheVariants.{Equal}
 use Rattle.std.specs.Cmp.{Equal-is}
 use Rattle.std.specs.FinMap.{nat_cmp-IsAntisymmetric}
 use Rattle.std.proofs.lemmas.Bool.{cases_Bool}
 use Rattle.std.proofs.lemmas.Bool.Decides.{nat_tests}
-use Rattle.sal_types.specs.Order.{then-first, then-second}
+use Rattle.sal_types.specs.Order.{then-first}
 use Rattle.sal_stmt.specs.declared.stmt.Stmt.{Stmt}
 use Rattle.sal_module.specs.declared.keyword.Keyword.TheVariants as word
-use Rattle.sal_module.specs.Statements.{is_named, subs_of, argument_of}
+use Rattle.sal_module.specs.Statements.{is_named, argument_of}
 use Rattle.sal_grouping.specs.declared.forest.Branch.{Branch}
 use Rattle.sal_schema.specs.declared.kind.Kind.{Kind}
 use Rattle.sal_schema.specs.declared.table.NodeInfo.{NodeInfo}
 use Rattle.sal_schema.specs.declared.table.SchemaTable.{SchemaTable}
 use Rattle.sal_schema.specs.Kinds.{is_leaf, is_list}
-use Rattle.sal_schema.specs.Table.{all_from, is_same, is_kind, kind_of, parent_of, closest, list_above}
+use Rattle.sal_schema.specs.Table.{all_from, is_same, is_kind, parent_of, closest, list_above}
 use Rattle.sal_schema.specs.Valid.{has_its_uniques}
 use Rattle.sal_schema.proofs.Conjuncts.{and_first, and_second}
 use Rattle.sal_schema.proofs.Facts.{closest-None, closest-Some, lower, slice_get_some}
@@ -29,7 +28,7 @@ use Rattle.sal_tables.specs.Laws.{UniquesAreBelow, KeysAreInside}
 use Rattle.sal_build.specs.Lists.{is_list_at, unless_list, given, leaf_below, unique_leaf, uniques_named, uniques_in, uniques_of, key_leaf, keys_named, keys_in, keys_of, block_of, own_stmt, words_of, steps_of}
 use Rattle.sal_build.specs.Nodes as nodes
 use Rattle.sal_build.specs.Table.{info_of, infos_from}
-use Rattle.sal_tables.proofs.Built.{IsBuilt, built_ok, forest_of}
+use Rattle.sal_tables.proofs.Built.{built_ok, forest_of}
 use Rattle.sal_tables.proofs.InfoLists.{infos-numbered}
 use Rattle.sal_tables.proofs.Numbers.{infos-length, is_placed_branch, forest-placed}
 use Rattle.sal_tables.proofs.Quiet.{both, all-joined}
@@ -98,12 +97,12 @@ module _ (stmts : List Stmt) (forest : List Branch) where
 
 -- ---- a node of the table
 
-info-got : (stmts : List Stmt) (forest : List Branch) (i n : ℕ) (rest : List Branch) (b : Branch) → slice_get rest n ≡ Some b → slice_get (infos_from stmts forest i rest) n ≡ Some (info_of stmts forest (i + n) b)
+pub info-got : (stmts : List Stmt) (forest : List Branch) (i n : ℕ) (rest : List Branch) (b : Branch) → slice_get rest n ≡ Some b → slice_get (infos_from stmts forest i rest) n ≡ Some (info_of stmts forest (i + n) b)
 info-got stmts forest i n [] b e = cc
 info-got stmts forest i zero (x ∷ rest) b e = let is : x ≡ b = cc in let here : i + 0 ≡ i = omega arith in rw here (ap (λ y. Some (info_of stmts forest i y)) is)
 info-got stmts forest i (suc n) (x ∷ rest) b e = let there : i + suc n ≡ i + 1 + n = omega arith in rw there (info-got stmts forest (i + 1) n rest b e)
 
-at-place : {X : Type 0} (test : ℕ → X → Bool) (i n : ℕ) (xs : List X) (x : X) → IsTrue (all_from test i xs) → slice_get xs n ≡ Some x → IsTrue (test (i + n) x)
+pub at-place : {X : Type 0} (test : ℕ → X → Bool) (i n : ℕ) (xs : List X) (x : X) → IsTrue (all_from test i xs) → slice_get xs n ≡ Some x → IsTrue (test (i + n) x)
 at-place test i n [] x h e = cc
 at-place test i zero (y ∷ xs) x h e = let is : y ≡ x = cc in let here : i + 0 ≡ i = omega arith in rw here (subst (λ z. IsTrue (test i z)) is (and_first (test i y) (all_from test (i + 1) xs) h))
 at-place test i (suc n) (y ∷ xs) x h e = let there : i + suc n ≡ i + 1 + n = omega arith in rw there (at-place test (i + 1) n xs x (and_second (test i y) (all_from test (i + 1) xs) h) e)

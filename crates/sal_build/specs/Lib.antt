@@ -10,5 +10,4 @@ pub mod Types
 pub mod Leafrefs
 pub mod Typed
 pub mod Build
-pub mod Laws
 pub mod Examples

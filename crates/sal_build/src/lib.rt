@@ -30,7 +30,6 @@ mod fill;
 mod identities;
 mod info;
 mod inherited;
-pub mod laws;
 mod leafrefs;
 mod lists;
 mod node;

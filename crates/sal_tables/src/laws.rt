@@ -1,0 +1,105 @@
+//! Laws of the definitions: the table that modules have is one of a schema. A call does nothing: its clause is the law.
+ghost use Rattle.sal_tables.specs.Laws.{CallNamesDiffer, CallsStandAtTheTop, DataNamesDiffer, IdentitiesAreGood, IdentityNamesDiffer, KeysAreInside, KeysAreThere, LeafsAreTyped, ModuleNamesDiffer, ModulesAreNamed, NamesArePlaced, NodesAreNamed, NodesStandRight, NumbersAreThere, ReadIsInOrder, TablesAreSmall, TablesAreTables, TypesAreBounded, TypesAreFlat, UniquesAreBelow};
+
+/// The statements of a text of fewer than 2 ^ 32 bytes stand in its order: each before those in its block, and these before the next one.
+pub fn what_is_read_is_in_order()
+    ensures { ReadIsInOrder }
+{}
+
+/// Each module is named by an identifier.
+pub fn modules_are_named()
+    ensures { ModulesAreNamed }
+{}
+
+/// Leafs and leaf-lists have a type, and no other node has one.
+pub fn leafs_are_typed()
+    ensures { LeafsAreTyped }
+{}
+
+/// There are fewer than 2 ^ 32 nodes, types and modules.
+pub fn tables_are_small()
+    ensures { TablesAreSmall }
+{}
+
+/// The numbers of parent, module and type of a node are those of a node before it, a module and a type.
+pub fn numbers_are_there()
+    ensures { NumbersAreThere }
+{}
+
+/// Each name stands for one module.
+pub fn module_names_differ()
+    ensures { ModuleNamesDiffer }
+{}
+
+/// Each identity is named by an identifier, in a module that is there; what it is derived from are other identities.
+pub fn identities_are_good()
+    ensures { IdentitiesAreGood }
+{}
+
+/// The leafs of a `unique` are leafs below their list with no list between.
+pub fn uniques_are_below()
+    ensures { UniquesAreBelow }
+{}
+
+/// The keys of a node are leafs that are its children.
+pub fn keys_are_inside()
+    ensures { KeysAreInside }
+{}
+
+/// Each name stands for one identity of a module.
+pub fn identity_names_differ()
+    ensures { IdentityNamesDiffer }
+{}
+
+/// Where the statements of each module stand in the order of its text, each node is named by an identifier.
+pub fn nodes_are_named()
+    ensures { NodesAreNamed }
+{}
+
+/// And just lists have keys: at least one, and none stands twice.
+pub fn keys_are_there()
+    ensures { KeysAreThere }
+{}
+
+/// Integers have 8, 16, 32 or 64 bits, and no member of a union is a union.
+pub fn types_are_flat()
+    ensures { TypesAreFlat }
+{}
+
+/// Integers have 8, 16, 32 or 64 bits and decimals 1 to 18 digits, and their ranges lie within the bits; the bases of an identityref are identities; no
+/// leafref is left, and no member of a union is a union.
+pub fn types_are_bounded()
+    ensures { TypesAreBounded }
+{}
+
+/// The names of an enumeration or of bits are distinct, and so are as many places; those of bits lie below 64.
+pub fn names_are_placed()
+    ensures { NamesArePlaced }
+{}
+
+/// Where the statements of each module stand in the order of its text, each name stands for one node for data below each parent, looked for through
+/// choices and cases.
+pub fn data_names_differ()
+    ensures { DataNamesDiffer }
+{}
+
+/// And each name of a module stands for one RPC, and for one notification.
+pub fn call_names_differ()
+    ensures { CallNamesDiffer }
+{}
+
+/// RPCs and notifications stand at the top.
+pub fn calls_stand_at_the_top()
+    ensures { CallsStandAtTheTop }
+{}
+
+/// And leafs and leaf-lists have no children, the children of choices are cases, those of RPCs inputs and outputs, and these stand nowhere else.
+pub fn nodes_stand_right()
+    ensures { NodesStandRight }
+{}
+
+/// Where the statements of each module stand in the order of its text, the table is one of a schema, but for three things that no law gives: that there are
+/// fewer than 2 ^ 32 identities, that unions have members, and that bits are named by identifiers.
+pub fn tables_are_tables()
+    ensures { TablesAreTables }
+{}

@@ -1,12 +1,15 @@
-ghost use Rattle.std.specs.Prelude.{◌≡◌, ◌-◌, ◌<◌, ◌^◌, IfOk};
+ghost use Rattle.std.specs.Prelude.{◌≡◌, ◌-◌, ◌<◌, ◌^◌, IfOk, IsTrue};
+ghost use Rattle.sal_hub.specs.Openings.{IsClosedDevice};
 ghost use Rattle.sal_hub.specs.Tokens.{IsBegun};
 
 use crate::schemas::device;
+use sal_data::fits_rows;
+use sal_history::Device;
 use sal_hub::{Hub, MAX_ENTRIES, laws};
 use sal_rows::{CallFault, Mode, Rows};
 use sal_tree::Pair;
 use sal_tx::{Begun, Tx, WriteTx};
-use sal_types::{Duplicate, NoMemory};
+use sal_types::{Duplicate, NoMemory, Path};
 use std::alloc::Global;
 use std::sync::Arc;
 use std::test::Fail;
@@ -15,8 +18,22 @@ const NO_NODES: &str = "module nothing { namespace 'urn:nothing'; prefix n; }";
 
 // A hub over one empty domain.
 fn hub(alloc: Global) -> Result<Hub, Fail> {
-    let devices = vec![in alloc; device(alloc, NO_NODES, Rows::new(alloc))?]?;
+    let device = device(alloc, NO_NODES, Rows::new(alloc))?;
+    if !is_closed(alloc, &device) {
+        return Err("an opening that does not fit".into());
+    }
+    let devices = vec![in alloc; device]?;
     Ok(Hub::open(alloc, devices)?)
+}
+
+// Whether both opening trees fit at the root.
+fn is_closed(alloc: Global, device: &Device) -> bool
+    ensures { IsTrue result → IsClosedDevice device.now }
+{
+    let root = Path::root(alloc);
+    let opening = &device.opening;
+    fits_rows(&device.schema, &root, &opening.config)
+        && fits_rows(&device.schema, &root, &opening.oper)
 }
 
 // ---- a transaction on the fields of a submitted one

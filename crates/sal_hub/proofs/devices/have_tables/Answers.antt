@@ -1,5 +1,5 @@
 -- One device more has such a table.
-use Rattle.std.proofs.Common.{rules, ◌<◌, ◌≤◌, length, ◌∙◌, subst, arith}
+use Rattle.std.proofs.Common.{rules, ◌<◌, ◌≤◌, length, ◌∙◌, subst}
 use Rattle.std.proofs.lemmas.List.{get_or_default}
 use Rattle.std.proofs.lemmas.List.Elements.{All-from_all_within, AllWithin-more, AllWithin-none, AllWithin-upto}
 use Rattle.sal_schema.specs.Valid.{IsTable}

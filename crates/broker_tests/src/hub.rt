@@ -1,5 +1,5 @@
-ghost use Rattle.std.specs.Prelude.{◌≡◌, ◌-◌, ◌<◌, ◌^◌, IfOk, IsTrue};
-ghost use Rattle.sal_hub.specs.Openings.{IsClosedDevice};
+ghost use Rattle.std.specs.Prelude.{◌≡◌, ◌&&◌, ◌-◌, ◌<◌, ◌^◌, IfOk};
+ghost use Rattle.sal_schema.specs.Fitting.{is_closed};
 ghost use Rattle.sal_hub.specs.Tokens.{IsBegun};
 
 use crate::schemas::device;
@@ -19,7 +19,7 @@ const NO_NODES: &str = "module nothing { namespace 'urn:nothing'; prefix n; }";
 // A hub over one empty domain.
 fn hub(alloc: Global) -> Result<Hub, Fail> {
     let device = device(alloc, NO_NODES, Rows::new(alloc))?;
-    if !is_closed(alloc, &device) {
+    if !are_closed(alloc, &device) {
         return Err("an opening that does not fit".into());
     }
     let devices = vec![in alloc; device]?;
@@ -27,13 +27,12 @@ fn hub(alloc: Global) -> Result<Hub, Fail> {
 }
 
 // Whether both opening trees fit at the root.
-fn is_closed(alloc: Global, device: &Device) -> bool
-    ensures { IsTrue result → IsClosedDevice device.now }
+fn are_closed(alloc: Global, device: &Device) -> bool
+    ensures { result ≡ (is_closed device.now.schema.value device.now.opening.config && is_closed device.now.schema.value device.now.opening.oper) }
 {
     let root = Path::root(alloc);
-    let opening = &device.opening;
-    fits_rows(&device.schema, &root, &opening.config)
-        && fits_rows(&device.schema, &root, &opening.oper)
+    fits_rows(&device.schema, &root, &device.opening.config)
+        && fits_rows(&device.schema, &root, &device.opening.oper)
 }
 
 // ---- a transaction on the fields of a submitted one

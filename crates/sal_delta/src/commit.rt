@@ -30,6 +30,7 @@ pub fn changes_by(alloc: Global, commit: &StoreCommit, path: &Path) -> Result<Ch
     requires made { rows_of commit.now.after.now ≡ apply_ops (rows_of commit.now.before.now) commit.now.store commit.now.ops.now }
     ensures { IfOk result (λ l. l ≡ changes_under (rows_of commit.now.before.now) (rows_of commit.now.after.now) path.now) }
 {
+    // For the proof alone: `node` says that the trees are whole.
     let _ = commit.before.node();
     let _ = commit.after.node();
     if is_alike(commit.before, commit.after, path) {
@@ -140,6 +141,7 @@ fn add_of_row(
 fn add_at(into: &mut Vec<Change>, commit: &StoreCommit, path: &Path) -> Result<(), NoMemory>
     ensures { OnOk result (into.new.items ≡ into.old.items ++ found_at (rows_of commit.now.before.now) (rows_of commit.now.after.now) path.now) }
 {
+    // For the proof alone: `node` says that the trees are whole.
     let _ = commit.before.node();
     let _ = commit.after.node();
     note_cells(into, path, commit.before.get(path), commit.after.get(path))?;

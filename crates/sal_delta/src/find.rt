@@ -28,6 +28,7 @@ pub fn changes(
 {
     let mut list = Vec::new(alloc);
     add_changes(&mut list, before, after, path)?;
+    // For the proof alone: `node` says that the trees are whole.
     let _ = before.node();
     let _ = after.node();
     Ok(Seq::from_items(list))
@@ -43,6 +44,7 @@ pub(crate) fn add_changes(
     requires { Agree before.now after.now }
     ensures { OnOk result (into.new.items ≡ into.old.items ++ changes_under (rows_of before.now) (rows_of after.now) path.now) }
 {
+    // For the proof alone: `node` says that the trees are whole, and `steps` that a path is short.
     let _ = before.node();
     let _ = after.node();
     let _ = path.steps();

@@ -43,6 +43,7 @@ pub fn kind_at(
 fn by_rows(path: &Path, before: &Root, after: &Root) -> CandidateKind
     ensures { result ≡ kind_by_cells (cell (rows_of before.now) path.now) (cell (rows_of after.now) path.now) }
 {
+    // For the proof alone: `node` says that the trees are whole.
     let _ = before.node();
     let _ = after.node();
     by_nodes(before.get(path), after.get(path))

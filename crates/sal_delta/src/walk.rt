@@ -1,5 +1,5 @@
 //! The changes between two nodes.
-ghost use Rattle.std.specs.Prelude.{◌≡◌, ◌+◌, ◌<◌, ◌≤◌, [], ◌∷◌, ◌++◌, length, Option, Some, None, IfOk, OnOk};
+ghost use Rattle.std.specs.Prelude.{◌≡◌, ◌++◌, length, Option, Some, None, IfOk, OnOk};
 ghost use Rattle.sal_types.specs.declared.value.Cell.{Cell};
 ghost use Rattle.sal_node.specs.Shape.{tree_at};
 ghost use Rattle.sal_tree.specs.Grow.{cell_in};
@@ -11,7 +11,8 @@ ghost use Rattle.sal_delta.specs.Spots.{Stands, AgreeFrom};
 use crate::compare::{Place, differing};
 use sal_node::{Node, copy_cell};
 use sal_rows::Change;
-use sal_types::{Cell, Duplicate, NoMemory, Path, PathFault, Step};
+use sal_tree::longer;
+use sal_types::{Cell, Duplicate, NoMemory, Path};
 use std::sync::Arc;
 
 /// Puts the changes between two nodes at the path, and below them, at the end.
@@ -91,19 +92,5 @@ pub(crate) fn is_same(before: &Option<Cell>, after: &Option<Cell>) -> bool
         (None, None) => true,
         (Some(before), Some(after)) => before.cmp(after).is_eq(),
         _ => false,
-    }
-}
-
-// The path one step further down.
-fn longer(path: &Path, step: &Step) -> Result<Path, NoMemory>
-    requires { length path.now < 32 }
-    ensures { IfOk result (λ p. p ≡ path.now ++ step.now ∷ []) }
-{
-    let mut below = path.copy()?;
-    let step = step.copy()?;
-    match below.push(step) {
-        Ok(()) => Ok(below),
-        Err(PathFault::NoMemory) => Err(NoMemory),
-        Err(PathFault::TooDeep) => unreachable!(),
     }
 }

@@ -5,7 +5,7 @@ ghost use Rattle.sal_history.specs.declared.call.Entry.{Entry};
 ghost use Rattle.sal_turn.specs.Entries.{entries_by};
 ghost use Rattle.sal_turn.specs.Lists.{In};
 ghost use Rattle.sal_turn.specs.Views.{AnswersFor, SameRights, both, newcomer, opener};
-ghost use Rattle.sal_hub.specs.Openings.{IsFaultOf, fault_of, world_of};
+ghost use Rattle.sal_hub.specs.Openings.{AreClosedDevices, IsFaultOf, fault_of, world_of};
 ghost use Rattle.sal_broker.specs.Seats.{client_of, inside, known};
 ghost use Rattle.sal_broker.specs.Tokens.{TokensStay};
 ghost use Rattle.sal_broker.specs.Turns.{OneMoreAtMost, TurnOf};
@@ -40,10 +40,12 @@ impl Model for Sal {
 }
 
 impl Sal {
-    /// A broker without calls over the devices, of which the first is the controller's own domain, and its opening seat.
+    /// A broker without calls over the devices, of which the first is the controller's own domain, and its opening seat. The
+    /// opening trees of each fit at the root by its schema (`Hub::open`).
     pub fn open(alloc: Global, devices: Vec<Device>) -> Result<(Sal, Seat), OpenFault>
         requires some { 1 ≤ length devices.items }
         requires few { length devices.items ≤ 64 }
+        requires closed { AreClosedDevices devices.items }
         ensures { MatchResult result (λ r. (fault_of (world_of devices.items) ≡ None) × (r.1.lock ≡ r.0) × (r.1.view ≡ opener 65535 (world_of devices.items))) (IsFaultOf (world_of devices.items)) }
     {
         let hub = Hub::open(alloc, devices)?;

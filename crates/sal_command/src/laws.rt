@@ -9,8 +9,8 @@ pub fn loads_are_prepared()
 {}
 
 /// The openings of a script's domains are closed by their schemas, where the script is prepared: what is read at the root of a
-/// tree is whole. So a hub over them stays closed (`Hub::stays_closed`). It is owed of the values that they are JSON as a text
-/// can have it, as those of a script that was read are. A call does nothing.
+/// tree is whole. So a hub is opened over them, and stays closed (`Hub::stays_closed`). It is owed of the values that they are
+/// JSON as a text can have it, as those of a script are. A call does nothing.
 pub fn openings_are_closed()
     ensures { WorldsAreSound }
 {

@@ -1,11 +1,13 @@
 //! The opening trees of a script: their data, and why a hub is not opened over them.
-ghost use Rattle.std.specs.Prelude.{◌≡◌, ◌<◌, ◌≤◌, ◌++◌, [], ◌∷◌, Err, IfOk, Some, codes, decimal, length, slice_get};
+ghost use Rattle.std.specs.Prelude.{◌≡◌, ◌<◌, ◌≤◌, ◌++◌, [], ◌∷◌, All, Err, IfOk, Some, codes, decimal, length, slice_get};
 ghost use Rattle.serde_json.specs.View.{view};
-ghost use Rattle.sal_hub.specs.Openings.{fault_of, world_of};
+ghost use Rattle.sal_schema.specs.Valid.{IsTable};
+ghost use Rattle.sal_hub.specs.Openings.{AreClosedDevices, fault_of, world_of};
 ghost use Rattle.sal_script.specs.Play.{table_in, tables_of};
 ghost use Rattle.sal_script.specs.Reading.{parts};
 ghost use Rattle.sal_script.specs.Report.{breach_text, data_fault_text, path_text, store_text};
 ghost use Rattle.sal_command.specs.Each.{each_from};
+ghost use Rattle.sal_command.specs.Openings.{OpenSound};
 ghost use Rattle.sal_command.specs.Scripted as spec;
 
 use crate::domains::{ScriptDomain, domain_at, domain_count};
@@ -45,8 +47,35 @@ pub(crate) fn hub_over(
     ensures tables { IfOk result (λ hub. readers.now ≡ tables_of hub.world) }
     ensures fresh { IfOk result (λ hub. hub.log ≡ []) }
 {
+    are_sound(script, schemas);
     let devices = devices_of(alloc, script, schemas, readers)?;
     hub_of(alloc, readers, devices)
+}
+
+// Does nothing; its contract is that the opening trees of the script are closed by these schemas, as far as their data reads.
+fn are_sound(script: &Script, schemas: &[Arc<Schema>])
+    requires { length schemas.now ≡ length (spec.domains_of (parts script.now)) }
+    ensures { OpenSound (spec.domains_of (parts script.now)) (spec.tables_in schemas.now) }
+{
+    have_tables(schemas);
+    sal_value::laws::json_is_tested();
+    sal_data::laws::rows_that_were_read_are_whole();
+}
+
+// Does nothing; its contract is what the types of the schemas keep.
+fn have_tables(schemas: &[Arc<Schema>])
+    ensures { All IsTable (spec.tables_in schemas.now) }
+{
+    for i in 0..schemas.len() {
+        has_table(&schemas[i]);
+    }
+}
+
+// Does nothing; its contract is what the type of the schema keeps.
+fn has_table(schema: &Schema)
+    ensures { IsTable schema.now }
+{
+    let _ = schema.len();
 }
 
 // The devices with their opening trees.
@@ -170,6 +199,7 @@ fn store_word(store: Store) -> &'static str
 fn hub_of(alloc: Global, readers: &Readers, devices: Vec<Device>) -> Result<Hub, Status>
     requires some { 1 ≤ length devices.items }
     requires few { length devices.items ≤ 64 }
+    requires closed { AreClosedDevices devices.items }
     requires tables { readers.now ≡ tables_of (world_of devices.items) }
     ensures world { spec.Comes (λ hub. hub.world) (spec.opened (world_of devices.items)) result }
     ensures fresh { IfOk result (λ hub. hub.log ≡ []) }

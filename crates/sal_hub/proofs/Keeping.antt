@@ -13,7 +13,7 @@ use Rattle.sal_history.specs.World.{Domain}
 use Rattle.sal_history.specs.History.{Answered, chain_domains, commits, decided_by, history, is_live, is_spent, opened_chain, outcomes, reply_to, sent_by, sents, spends}
 use Rattle.sal_history.specs.Services.{mount_call}
 use Rattle.sal_history.specs.Submissions.{Sent, done_chains, done_ops}
-use Rattle.sal_closed.specs.Logs.{AreSentLawful, IsSentLawful}
+use Rattle.sal_closed.specs.Logs.{AreSentLawful, AreSound, IsSentLawful}
 use Rattle.sal_hub.specs.Current.{IsCurrent, answers}
 use Rattle.sal_hub.specs.Journals.{mark_at}
 use Rattle.sal_hub.specs.CommitReceipts.{commit_receipts}
@@ -105,6 +105,7 @@ module _ (log : List Entry) (marks : List Bool) (line : Line) (was : IsCurrent l
         ∙ (λ i. length (chain_domains (history (sym same i) (log ++ e ∷ []))));
     live = λ n. live n ∙ (λ i. is_live (sym same i) (history (sym same i) (log ++ e ∷ [])) n);
     lawful = subst (λ (w : List Domain). AreSentLawful w (history w (log ++ e ∷ []))) (sym same) (lawful-push adds.1);
+    openings = subst AreSound (sym same) was.openings;
   }
 
   -- a call that is none on mounts, and submits, decides, spends and opens nothing

@@ -1,11 +1,14 @@
 -- The domains that devices open, and what is refused.
 use Rattle.std.proofs.Common.{◌≡◌, ℕ, zero, suc, ◌+◌, ◌<◌, ◌≤◌, Bool, true, false, not, ◌&&◌, ◌||◌, nat_eq, List, [], ◌∷◌, length, map, Option, None, Some, refl, ap, sym, ◌∙◌, subst, arith, inl, inr, ◌⊎◌}
-use Rattle.std.specs.Prelude.{slice_get}
+use Rattle.std.specs.Prelude.{All, slice_get}
+use Rattle.std.specs.List.{AllByRecursion}
 use Rattle.std.specs.Option.{option_map, option_or}
 use Rattle.std.proofs.lemmas.Bool.Decides.{nat_tests}
-use Rattle.std.proofs.lemmas.Option.{same_Some}
+use Rattle.std.proofs.lemmas.List.Elements.{recursion_from_All}
+use Rattle.std.proofs.lemmas.Option.{none-some, same_Some}
 use Rattle.sal_types.specs.declared.value.Store.{Store}
 use Rattle.sal_types.specs.declared.value.Store.TheVariants.{Config, Oper}
+use Rattle.sal_schema.specs.Valid.{IsTable}
 use Rattle.sal_rules.specs.Breaches.{breach}
 use Rattle.sal_rows.specs.declared.outcome.Breach.{Breach}
 use Rattle.sal_tree.specs.declared.commit.Commit.{Commit}
@@ -15,6 +18,7 @@ use Rattle.sal_commit.specs.declared.fault.DomainFault.TheVariants.{Broken as Br
 use Rattle.sal_commit.specs.Opening.{fault_of as domain_fault}
 use Rattle.sal_history.specs.declared.opening.Device.{Device}
 use Rattle.sal_history.specs.World as world
+use Rattle.sal_closed.specs.Logs.{AreSound, IsSound}
 use Rattle.sal_hub.specs.declared.opening.OpenFault.{OpenFault}
 use Rattle.sal_hub.specs.declared.opening.OpenFault.TheVariants.{Broken, NotConfig, NoMemory}
 use Rattle.sal_hub.specs.declared.pipeline.Pipeline.{Pipeline}
@@ -23,7 +27,7 @@ use Rattle.sal_hub.specs.Failures.{noted_in}
 use Rattle.sal_hub.specs.Journals.{Noted}
 use Rattle.sal_hub.specs.Lines.{AllKept, Line, Shown, is_live_in, line_of, shown, world_in}
 use Rattle.sal_hub.specs.Opened.{shown_from, shown_of}
-use Rattle.sal_hub.specs.Openings.{domain_of, numbered, opening_fault, state_row, world_of}
+use Rattle.sal_hub.specs.Openings.{AreClosedDevices, domain_of, numbered, opening_fault, state_row, world_of}
 
 -- ---- one device
 
@@ -89,12 +93,22 @@ live_first k [] some = absurd (omega (arith, some))
 live_first zero (device ∷ devices) some = refl
 live_first (suc k) (device ∷ devices) some = let other : nat_eq (suc k) 0 ≡ false = grind (arith, nat_tests) in live_later 1 devices k (omega arith) ∙ sym other
 
+-- what devices with closed opening trees open has sound openings, as each table is one of a schema
+sound_openings : (devices : List Device) → AllByRecursion (λ (d : Device). IsTable d.schema.value) devices → AreClosedDevices devices → AreSound (world_of devices)
+sound_openings [] tables closed k domain at = absurd (none-some domain at)
+sound_openings (device ∷ devices) tables closed zero domain at =
+    subst IsSound (same_Some (domain_of device) domain at) (record { table = tables.0; config = closed.0.config; oper = closed.0.oper })
+sound_openings (device ∷ devices) tables closed (suc k) domain at = sound_openings devices tables.1 closed.1 k domain at
+
+pub are_sound : (devices : List Device) → All (λ (d : Device). IsTable d.schema.value) devices → AreClosedDevices devices → AreSound (world_of devices)
+are_sound devices tables closed = sound_openings devices (recursion_from_All (λ (d : Device). IsTable d.schema.value) devices tables) closed
+
 or_none : (b : Bool) → b ≡ (b || (false && not false))
 or_none true = refl
 or_none false = refl
 
-pub opened_kept : (devices : List Device) (p : Pipeline) (journal : Noted) → 1 ≤ length devices → AllKept p.domains.items → map shown p.domains.items ≡ shown_from 0 devices → p.gone ≡ 0 → p.waiting.items ≡ [] → p.outcomes.items ≡ [] → p.failures.items ≡ [] → journal ≡ record { log = []; marks = [] } → IsKept journal p
-opened_kept devices p journal some kept are zeroth none undecided unopened empty =
+pub opened_kept : (devices : List Device) (p : Pipeline) (journal : Noted) → 1 ≤ length devices → AreSound (world_of devices) → AllKept p.domains.items → map shown p.domains.items ≡ shown_from 0 devices → p.gone ≡ 0 → p.waiting.items ≡ [] → p.outcomes.items ≡ [] → p.failures.items ≡ [] → journal ≡ record { log = []; marks = [] } → IsKept journal p
+opened_kept devices p journal some sound kept are zeroth none undecided unopened empty =
     let line : Line = record { domains = shown_from 0 devices; gone = 0; waiting = []; outcomes = []; failures = [] } in
     let start : IsCurrent [] [] line = record {
       sound = record {
@@ -112,6 +126,7 @@ opened_kept devices p journal some kept are zeroth none undecided unopened empty
       chains = refl;
       live = λ n. live_first n devices some ∙ or_none (nat_eq n 0);
       lawful = λ i s at. cc;
+      openings = subst AreSound (sym (world-shown 0 devices)) sound;
     } in
     let same : ◌≡◌ {A = Line} line (line_of p) = λ i. record { domains = sym are i; gone = sym zeroth i; waiting = sym none i; outcomes = sym undecided i; failures = sym unopened i } in
     record {

@@ -2,7 +2,7 @@
 use Rattle.std.specs.Prelude.{◌≡◌, ℕ, Bool, List, length}
 use Rattle.sal_history.specs.declared.call.Entry.{Entry}
 use Rattle.sal_history.specs.History.{Answered, chain_domains, history, is_live, is_spent, outcomes, sents}
-use Rattle.sal_closed.specs.Logs.{AreSentLawful}
+use Rattle.sal_closed.specs.Logs.{AreSentLawful, AreSound}
 use Rattle.sal_hub.specs.declared.pipeline.Pipeline.{Pipeline}
 use Rattle.sal_hub.specs.Journals.{Noted, mark_at}
 use Rattle.sal_hub.specs.Known.{Known}
@@ -12,8 +12,8 @@ use Rattle.sal_hub.specs.Lines.{AllKept, IsSound, Line, is_live_in, line_of, wor
 abbrev pub answers : List Entry → Line → List Answered
 answers log line = history (world_in line.domains) log
 
--- The submissions, the outcomes, the commits, the marks, the chains that failed and the domains that are live are the log's, and
--- the operations of each submission are lawful over what its transaction stands on.
+-- The submissions, the outcomes, the commits, the marks, the chains that failed and the domains that are live are the log's; the
+-- operations of each submission are lawful over what its transaction stands on, and the opening trees of each domain are closed.
 pub record IsCurrent (log : List Entry) (noted : List Bool) (line : Line) : Type 0 where
   pub sound : IsSound (sents (answers log line)) line
   pub outcomes : line.outcomes ≡ outcomes (answers log line)
@@ -21,6 +21,7 @@ pub record IsCurrent (log : List Entry) (noted : List Bool) (line : Line) : Type
   pub chains : length line.failures ≡ length (chain_domains (answers log line))
   pub live : (domain : ℕ) → is_live_in line.domains domain ≡ is_live (world_in line.domains) (answers log line) domain
   pub lawful : AreSentLawful (world_in line.domains) (answers log line)
+  pub openings : AreSound (world_in line.domains)
 
 pub record IsKept (journal : Noted) (p : Pipeline) : Type 0 where
   pub kept : AllKept p.domains.items

@@ -1,13 +1,14 @@
 -- Which opening trees are refused, and why: the first device counts, and of a device state data in its configuration, then
 -- a breach of its configuration, then one of its operational tree.
-use Rattle.std.specs.Prelude.{◌≡◌, ◌⊎◌, ℕ, ◌+◌, List, [], ◌∷◌, find, map, Option, None, Some}
+use Rattle.std.specs.Prelude.{◌≡◌, ◌⊎◌, ℕ, ◌+◌, IsTrue, List, [], ◌∷◌, find, map, Option, None, Some}
+use Rattle.std.specs.List.{AllByRecursion}
 use Rattle.std.specs.Option.{option_map, option_or}
 use Rattle.sal_types.specs.declared.value.Store.{Store}
 use Rattle.sal_types.specs.declared.value.Store.TheVariants.{Config, Oper}
 use Rattle.sal_types.specs.declared.value.Step.{Step}
 use Rattle.sal_types.specs.declared.row.Row.{Row}
 use Rattle.sal_schema.specs.declared.table.SchemaTable.{SchemaTable}
-use Rattle.sal_schema.specs.Fitting.{is_of_state}
+use Rattle.sal_schema.specs.Fitting.{is_closed, is_of_state}
 use Rattle.sal_rules.specs.Breaches.{breach}
 use Rattle.sal_history.specs.declared.opening.Device.{Device}
 use Rattle.sal_history.specs.World.{Domain, tree_of_opening}
@@ -22,6 +23,14 @@ domain_of device = record { table = device.schema.value; opening = device.openin
 
 abbrev pub world_of : List Device → List Domain
 world_of devices = map domain_of devices
+
+-- both opening trees of a device fit at the root by its schema, and so are closed by it
+pub record IsClosedDevice (device : Device) : Type 0 where
+  pub config : IsTrue (is_closed device.schema.value device.opening.config)
+  pub oper : IsTrue (is_closed device.schema.value device.opening.oper)
+
+abbrev pub AreClosedDevices : List Device → Type 0
+AreClosedDevices devices = AllByRecursion IsClosedDevice devices
 
 -- the path of the first row of a state node
 abbrev pub state_row : SchemaTable → List Row → Option (List Step)

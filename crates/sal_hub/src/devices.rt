@@ -1,7 +1,9 @@
 //! The domains that devices open.
-ghost use Rattle.std.specs.Prelude.{◌≡◌, ◌⊎◌, ◌≤◌, ◌∷◌, ◌++◌, [], None, Some, IfOk, OnOk, MatchResult, find, length, map};
+ghost use Rattle.std.specs.Prelude.{◌≡◌, ◌⊎◌, ◌≤◌, ◌∷◌, ◌++◌, [], None, Some, All, IfOk, OnOk, MatchResult, find, length, map};
 ghost use Rattle.std.specs.Option.{option_copied, option_map};
 ghost use Rattle.sal_schema.specs.Fitting.{is_of_state};
+ghost use Rattle.sal_schema.specs.Valid.{IsTable};
+ghost use Rattle.sal_history.specs.declared.opening.Device.{Device as Told};
 ghost use Rattle.sal_graft.specs.Kept.{AreKept};
 ghost use Rattle.sal_hub.specs.declared.opening.OpenFault.TheVariants.{NotConfig, NoMemory as Refused};
 ghost use Rattle.sal_hub.specs.Lines.{AllKept, shown};
@@ -27,6 +29,22 @@ pub(crate) fn open_all(alloc: Global, devices: &[Device]) -> Result<Vec<Domain>,
         open_next(alloc, &mut domains, i as u32, &devices[i])?;
     }
     Ok(domains)
+}
+
+/// Does nothing; its contract is what the types of the schemas keep.
+pub(crate) fn have_tables(devices: &[Device])
+    ensures { All (λ (d : Told). IsTable d.schema.value) devices.now }
+{
+    for i in 0..devices.len() {
+        has_table(&devices[i]);
+    }
+}
+
+// Does nothing; its contract is what the type of the schema keeps.
+fn has_table(device: &Device)
+    ensures { IsTable device.now.schema.value }
+{
+    let _ = device.schema.len();
 }
 
 // Opens one more domain, behind those that are open.

@@ -15,14 +15,14 @@ ghost use Rattle.sal_hub.specs.Domains.{AreDomains};
 ghost use Rattle.sal_hub.specs.Known.{entry_of};
 ghost use Rattle.sal_hub.specs.Listeners.{IsMade, listener_reply};
 ghost use Rattle.sal_hub.specs.Marks.{has_mark};
-ghost use Rattle.sal_hub.specs.Openings.{IsFaultOf, fault_of, world_of};
+ghost use Rattle.sal_hub.specs.Openings.{AreClosedDevices, IsFaultOf, fault_of, world_of};
 ghost use Rattle.sal_hub.specs.Seen.{LooksOnce, pump_reply, seen_reply};
 ghost use Rattle.sal_hub.specs.Tokens.{IsBegun, IsChain, IsFresh, IsGiven, IsListener, IsToken, begun_of};
 
 use crate::chain::Chain;
 use crate::chain_calls::{chain_begin, close_chain, open_chain};
 use crate::chains::{Chains, note};
-use crate::devices::open_all;
+use crate::devices::{have_tables, open_all};
 use crate::journal::Journal;
 use crate::listener::ListenerId;
 use crate::listener_calls::Ask;
@@ -94,12 +94,16 @@ fn place_of(tx: &Tx) -> u64
 }
 
 impl Hub {
-    /// A hub without calls over the devices, of which the first is the controller's own domain.
+    /// A hub without calls over the devices, of which the first is the controller's own domain. The opening trees of each fit
+    /// at the root by its schema, as what was read there does, and as `fits_rows` of `sal_data` tests; so all committed trees
+    /// do (`stays_closed`).
     pub fn open(alloc: Global, devices: Vec<Device>) -> Result<Hub, OpenFault>
         requires some { 1 ≤ length devices.items }
         requires few { length devices.items ≤ 64 }
+        requires closed { AreClosedDevices devices.items }
         ensures { MatchResult result (λ hub. (fault_of (world_of devices.items) ≡ None) × (hub ≡ record { world = world_of devices.items; log = [] })) (IsFaultOf (world_of devices.items)) }
     {
+        have_tables(&devices);
         let domains = open_all(alloc, &devices)?;
         let mounts = Mounts::new(alloc, devices.len() as u32);
         let pipeline = Pipeline {

@@ -3,7 +3,7 @@
 //! | item | what it is |
 //! |---|---|
 //! | `Hub` | the domains and the log; a contract sees the opening trees and the log alone, `Known` |
-//! | `Hub::open` | a hub over some devices, unless an opening tree is refused (`OpenFault`); each device has its domain, the first is the controller's own |
+//! | `Hub::open` | a hub over some devices, whose opening trees fit at the root, unless one is refused (`OpenFault`); each device has its domain, the first is the controller's own |
 //! | `Hub::begin`, `submit`, `cancel`, `settle`, `pump` | the shared calls: each makes one entry of the log and is answered as the log gives |
 //! | `Hub::open_chain`, `chain_begin`, `close_chain` | the same, of transaction chains (MD-SAL `DOMTransactionChain`) |
 //! | `Hub::listen`, `take`, `unlisten` | the same, of listeners (MD-SAL `DOMDataTreeChangeListener`): what stands at a path, and then what each commit changed there |
@@ -13,7 +13,7 @@
 //! | `Hub::mark`, `after`, `has_mark` | the same, of marks, by which clients can tell each other how far they are; and a look that makes no entry |
 //! | `Receipt`, `Chain`, `ListenerId`, `CallId` | the tokens of a submission, of a chain, of a listener and of a request |
 //! | `Seen` | what a look for a mark finds |
-//! | `Hub::stays_closed` | does nothing: its contract is the law that committed trees are closed by their schemas, where the openings are |
+//! | `Hub::stays_closed` | does nothing: its contract is the law that committed trees are closed by their schemas |
 //! | `laws` | a function that does nothing, with a law of the tokens as its contract |
 //!
 //! Each call tests first that the log has room, then takes all memory that it needs, and changes what is seen last and all at
@@ -26,7 +26,7 @@
 //!
 //! What is kept beside the log is tied to it by `specs/Current`: the submissions that wait, the outcomes, the marks of spent
 //! transactions and the flags of live domains are those of the answered log, and each submission is lawful over what its
-//! transaction stands on (`sal_closed`); `specs/Lines` says that the commits of each
+//! transaction stands on (`sal_closed`), from opening trees that are closed; `specs/Lines` says that the commits of each
 //! domain, and the receipts by which chains failed, are those that the outcomes tell. What is kept of chains is tied to the log by
 //! `specs/Chains`, what is kept of listeners by `specs/Listeners`, the marks that were left by `specs/Marks`, and what each
 //! service keeps of its calls by `specs/Services`; `specs/Whole` has them all.

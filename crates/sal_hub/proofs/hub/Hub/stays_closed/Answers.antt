@@ -1,7 +1,7 @@
--- The submissions of the log are lawful, by what the hub keeps.
+-- The openings are closed and the submissions of the log are lawful, by what the hub keeps.
 use Rattle.std.proofs.Common.{subst}
 use Rattle.sal_history.specs.History.{history}
-use Rattle.sal_closed.specs.Logs.{AreSound, IsClosedLog}
+use Rattle.sal_closed.specs.Logs.{IsClosedLog}
 use Rattle.sal_hub.specs.Known.{Known}
 use Rattle.sal_hub.specs.Lines.{line_of, world_in}
 use Rattle.sal_hub.proofs.hub.Hub.stays_closed.Goals as goal
@@ -10,5 +10,6 @@ pub returns : goal.returns
 returns c =
     let journal = c.self.inside.journal in
     let p = c.self.inside.pipeline in
-    subst (λ (known : Known). AreSound known.world → IsClosedLog known.world (history known.world known.log)) c.self.view_is
-    (λ sound. c.committed_trees_are_closed.ensures (world_in (line_of p).domains) journal.log sound c.self.invariant.kept.current.lawful)
+    let current = c.self.invariant.kept.current in
+    subst (λ (known : Known). IsClosedLog known.world (history known.world known.log)) c.self.view_is
+    (c.committed_trees_are_closed.ensures (world_in (line_of p).domains) journal.log current.openings current.lawful)

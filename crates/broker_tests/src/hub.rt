@@ -1,12 +1,15 @@
-ghost use Rattle.std.specs.Prelude.{◌≡◌, ◌-◌, ◌<◌, ◌^◌, IfOk};
+ghost use Rattle.std.specs.Prelude.{◌≡◌, ◌&&◌, ◌-◌, ◌<◌, ◌^◌, IfOk};
+ghost use Rattle.sal_schema.specs.Fitting.{is_closed};
 ghost use Rattle.sal_hub.specs.Tokens.{IsBegun};
 
 use crate::schemas::device;
+use sal_data::fits_rows;
+use sal_history::Device;
 use sal_hub::{Hub, MAX_ENTRIES, laws};
 use sal_rows::{CallFault, Mode, Rows};
 use sal_tree::Pair;
 use sal_tx::{Begun, Tx, WriteTx};
-use sal_types::{Duplicate, NoMemory};
+use sal_types::{Duplicate, NoMemory, Path};
 use std::alloc::Global;
 use std::sync::Arc;
 use std::test::Fail;
@@ -15,8 +18,21 @@ const NO_NODES: &str = "module nothing { namespace 'urn:nothing'; prefix n; }";
 
 // A hub over one empty domain.
 fn hub(alloc: Global) -> Result<Hub, Fail> {
-    let devices = vec![in alloc; device(alloc, NO_NODES, Rows::new(alloc))?]?;
+    let device = device(alloc, NO_NODES, Rows::new(alloc))?;
+    if !are_closed(alloc, &device) {
+        return Err("an opening that does not fit".into());
+    }
+    let devices = vec![in alloc; device]?;
     Ok(Hub::open(alloc, devices)?)
+}
+
+// Whether both opening trees fit at the root.
+fn are_closed(alloc: Global, device: &Device) -> bool
+    ensures { result ≡ (is_closed device.now.schema.value device.now.opening.config && is_closed device.now.schema.value device.now.opening.oper) }
+{
+    let root = Path::root(alloc);
+    fits_rows(&device.schema, &root, &device.opening.config)
+        && fits_rows(&device.schema, &root, &device.opening.oper)
 }
 
 // ---- a transaction on the fields of a submitted one

@@ -1,4 +1,7 @@
 //! The domain that the applications share: a YANG module, and trees without data.
+ghost use Rattle.std.specs.Prelude.{IfOk};
+ghost use Rattle.sal_hub.specs.Openings.{IsClosedDevice};
+
 use sal_build::build;
 use sal_history::{Device, Opening};
 use sal_rows::Rows;
@@ -21,8 +24,10 @@ pub(crate) fn schema(alloc: Global) -> anyhow::Result<Schema> {
     Ok(build(alloc, &modules)?)
 }
 
-/// The domain over the schema, before the first commit.
-pub(crate) fn device(alloc: Global, schema: Schema) -> anyhow::Result<Device> {
+/// The domain over the schema, before the first commit. It has no data, so that its trees fit.
+pub(crate) fn device(alloc: Global, schema: Schema) -> anyhow::Result<Device>
+    ensures { IfOk result IsClosedDevice }
+{
     let opening = Opening {
         config: Rows::new(alloc),
         oper: Rows::new(alloc),

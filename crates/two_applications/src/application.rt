@@ -66,11 +66,32 @@ fn try_once<R: Wait>(
     requires { seat.old.lock ≡ sal.now }
     ensures { Keeps sal.now seat.old seat.new }
 {
-    let mut tx = begin(rt, alloc, sal, seat)?;
-    let last = counter.last(alloc, &tx)?;
-    counter.put(alloc, &mut tx, last.saturating_add(1))?;
+    let tx = counted_up(rt, alloc, sal, seat, counter)?;
     let receipt = submit(rt, alloc, sal, seat, tx)?;
-    match sal.settle(rt, alloc, seat, receipt)? {
+    let outcome = sal.settle(rt, alloc, seat, receipt)?;
+    is_done(&outcome)
+}
+
+// A transaction that puts the number behind the last one.
+fn counted_up<R: Wait>(
+    rt: &R,
+    alloc: Global,
+    sal: &Sal,
+    seat: &mut Seat,
+    counter: &Counter,
+) -> anyhow::Result<WriteTx>
+    requires { seat.old.lock ≡ sal.now }
+    ensures same { Keeps sal.now seat.old seat.new }
+    ensures token { IfOk result (λ tx. IsBegun (known seat.new.view) tx.begun tx.base) }
+{
+    let mut tx = begin(rt, alloc, sal, seat)?;
+    counter.count_up(alloc, &mut tx)?;
+    Ok(tx)
+}
+
+// Whether the transaction was committed, and not in conflict with another one.
+fn is_done(outcome: &Outcome) -> anyhow::Result<bool> {
+    match outcome {
         Outcome::Done { .. } => Ok(true),
         Outcome::Conflict { .. } => Ok(false),
         Outcome::Invalid { .. } => bail!("a rule of the schema is broken"),

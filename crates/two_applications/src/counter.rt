@@ -28,22 +28,31 @@ impl Counter {
         Ok(Counter { path })
     }
 
-    /// The last number given, as the transaction sees it.
-    pub(crate) fn last(&self, alloc: Global, tx: &WriteTx) -> anyhow::Result<u64> {
+    /// Puts the number behind the last one given, as the transaction sees it.
+    pub(crate) fn count_up(&self, alloc: Global, tx: &mut WriteTx) -> anyhow::Result<()>
+        ensures begun { tx.new.begun ≡ tx.old.begun }
+        ensures base { tx.new.base ≡ tx.old.base }
+    {
+        let last = self.last(alloc, tx)?;
+        self.put(alloc, tx, last.saturating_add(1))
+    }
+
+    // The last number given.
+    fn last(&self, alloc: Global, tx: &WriteTx) -> anyhow::Result<u64> {
         let rows = tx.read(alloc, Store::Config, &self.path)?;
         Ok(number_in(&rows))
     }
 
-    /// Puts the last number given.
-    pub(crate) fn put(&self, alloc: Global, tx: &mut WriteTx, number: u64) -> anyhow::Result<()>
+    // Puts the last number given.
+    fn put(&self, alloc: Global, tx: &mut WriteTx, number: u64) -> anyhow::Result<()>
         ensures begun { tx.new.begun ≡ tx.old.begun }
         ensures base { tx.new.base ≡ tx.old.base }
     {
-        let path = self.path.copy()?;
         let rows = self.rows(alloc, number)?;
-        if !is_for_schema(tx.schema(), &path, &rows) {
+        if !is_for_schema(tx.schema(), &self.path, &rows) {
             bail!("{number} is no number of a tunnel");
         }
+        let path = self.path.copy()?;
         Ok(tx.put(alloc, Store::Config, path, rows)?)
     }
 

@@ -1,6 +1,7 @@
 -- A fault on the way is the fault of all.
 use Rattle.std.proofs.Common.{◌≡◌, Result, Ok, Err, ap, sym, ◌∙◌, subst, refl}
 use Rattle.std.specs.Prelude.{IfOk}
+use Rattle.std.specs.Result.{IsErrAnd}
 use Rattle.sal_types.specs.declared.memory.NoMemory.{NoMemory as Wanting}
 use Rattle.sal_types.specs.Reading.{◌>>=◌}
 use Rattle.sal_script.specs.declared.reply.StepRefusal.{StepRefusal}
@@ -35,3 +36,8 @@ if_refused NoMemory (Err wanting) P is so = tt
 pub if_ok : {T E : Type 0} (r : Result T E) (P Q : T → Type 0) → ((x : T) → P x → Q x) → IfOk r P → IfOk r Q
 if_ok (Ok x) P Q f p = f x p
 if_ok (Err e) P Q f p = tt
+
+-- what a fault that is handed on leaves
+pub err_so : {X E : Type 0} (P : Result X E → Type 0) (result : Result X E) (e : E) → IsErrAnd result (λ d. d ≡ e) → P (Err e) → P result
+err_so P (Ok x) e is holds = absurd is
+err_so {X} {E} P (Err d) e is holds = subst (λ (f : E). P (Err f)) (sym is) holds

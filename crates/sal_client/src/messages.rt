@@ -57,6 +57,13 @@ fn known(found: Option<u32>) -> Result<u32, StepFault>
     }
 }
 
+// The RPC of this name, or why there is none.
+fn rpc_of(schema: &Schema, name: &str) -> Result<u32, StepFault>
+    ensures { Reads result (if_known (spec.rpc_called schema.now name.now)) }
+{
+    known(rpc_called(schema, name))
+}
+
 /// The notification of this name, or why there is none.
 pub(crate) fn note_of(schema: &Schema, name: &str) -> Result<u32, StepFault>
     ensures { Reads result (if_known (spec.note_called schema.now name.now)) }
@@ -149,7 +156,7 @@ pub(crate) fn service_of(
 ) -> Result<Service, StepFault>
     ensures { IsService reader.now name.now text.now result }
 {
-    let rpc = known(rpc_called(reader.schema(), name.as_str()))?;
+    let rpc = rpc_of(reader.schema(), name.as_str())?;
     let context = context_of(alloc, reader, text)?;
     Ok(Service {
         name: Snapshot::of(name),

@@ -1,5 +1,5 @@
 -- The context that is given.
-use Rattle.std.proofs.Common.{List, Option, Some, Ok, sym, subst}
+use Rattle.std.proofs.Common.{Some, Ok, sym, subst}
 use Rattle.sal_script.specs.Services.{context_of, path_of}
 use Rattle.sal_client.specs.Faults.{Reads, Refuses}
 use Rattle.sal_client.proofs.Faults.{err_so, refuses_on}

@@ -1,5 +1,5 @@
 -- The rows of the input were read, or why they were not.
-use Rattle.std.proofs.Common.{ap, refl, sym, ◌∙◌, subst}
+use Rattle.std.proofs.Common.{subst}
 use Rattle.serde_json.specs.View.{view}
 use Rattle.sal_script.specs.Services.{rows_of}
 use Rattle.sal_client.specs.Asked.{IsAsk}

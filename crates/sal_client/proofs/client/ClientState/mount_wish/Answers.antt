@@ -1,12 +1,12 @@
 -- The path of the mount.
-use Rattle.std.proofs.Common.{Ok, ap, refl, sym, ◌∙◌, subst}
+use Rattle.std.proofs.Common.{Ok, refl, subst}
 use Rattle.sal_history.specs.declared.call.Call.TheVariants as made
 use Rattle.sal_script.specs.Moves as asked
 use Rattle.sal_script.specs.Play.{table_in}
 use Rattle.sal_script.specs.Services as services
 use Rattle.sal_client.specs.Faults.{Refuses}
 use Rattle.sal_client.specs.Wishes.{Wants}
-use Rattle.sal_client.proofs.Faults.{err_so, refuses_behind, refuses_on}
+use Rattle.sal_client.proofs.Faults.{err_so, refuses_on}
 use Rattle.sal_client.proofs.Wanted.{refused_by}
 use Rattle.sal_client.proofs.client.ClientState.mount_wish.Goals as goal
 

@@ -15,7 +15,7 @@ use crate::calls::{called, refused_call};
 use crate::client::{ClientState, refused};
 use crate::fault::StepFault;
 use crate::follower::Follower;
-use crate::operations::path_of;
+use crate::messages::path_at;
 use crate::readers::Readers;
 use crate::slots::{Slots, fill_slot, filled, look_at, take_slot};
 use crate::wish::{RunFault, Target, Wish};
@@ -87,7 +87,7 @@ pub(crate) fn target_of(
     let Some(reader) = readers.of_domain(domain) else {
         return Err(StepFault::Refused(StepRefusal::NoDevice));
     };
-    let path = path_of(alloc, reader, text.as_str())?;
+    let path = path_at(alloc, reader, text)?;
     Ok(Target {
         domain,
         store,

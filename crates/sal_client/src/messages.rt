@@ -58,17 +58,17 @@ fn known(found: Option<u32>) -> Result<u32, StepFault>
 }
 
 // The RPC of this name, or why there is none.
-fn rpc_of(schema: &Schema, name: &str) -> Result<u32, StepFault>
+fn rpc_of(schema: &Schema, name: &Str) -> Result<u32, StepFault>
     ensures { Reads result (if_known (spec.rpc_called schema.now name.now)) }
 {
-    known(rpc_called(schema, name))
+    known(rpc_called(schema, name.as_str()))
 }
 
 /// The notification of this name, or why there is none.
-pub(crate) fn note_of(schema: &Schema, name: &str) -> Result<u32, StepFault>
+pub(crate) fn note_of(schema: &Schema, name: &Str) -> Result<u32, StepFault>
     ensures { Reads result (if_known (spec.note_called schema.now name.now)) }
 {
-    known(note_called(schema, name))
+    known(note_called(schema, name.as_str()))
 }
 
 // The child of the RPC at the index, and the RPC itself where it has no such child.
@@ -156,7 +156,7 @@ pub(crate) fn service_of(
 ) -> Result<Service, StepFault>
     ensures { IsService reader.now name.now text.now result }
 {
-    let rpc = rpc_of(reader.schema(), name.as_str())?;
+    let rpc = rpc_of(reader.schema(), name)?;
     let context = context_of(alloc, reader, text)?;
     Ok(Service {
         name: Snapshot::of(name),

@@ -45,7 +45,7 @@ impl ClientState {
     pub(crate) fn subscribe_wish(&self, readers: &Readers, name: &Str) -> Result<Wish, StepFault>
         ensures { Wants readers.now self.now (Subscribe name.now) result }
     {
-        let note = note_of(readers.own().schema(), name.as_str())?;
+        let note = note_of(readers.own().schema(), name)?;
         Ok(Wish::Note(NoteWish::Subscribe {
             name: Snapshot::of(name),
             note,
@@ -63,7 +63,7 @@ impl ClientState {
         ensures { Wants readers.now self.now (Offer name.now (view value.now)) result }
     {
         let reader = readers.own();
-        let note = note_of(reader.schema(), name.as_str())?;
+        let note = note_of(reader.schema(), name)?;
         let rows = rows_under(alloc, reader, note, value)?;
         Ok(Wish::Note(NoteWish::Offer {
             name: Snapshot::of(name),

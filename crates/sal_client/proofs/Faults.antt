@@ -23,7 +23,7 @@ refuses_behind NoMemory read x f here is = tt
 
 -- the refusal, where it is one
 pub refuses_is : {X : Type 0} (fault : StepFault) (refusal : StepRefusal) (read : Result X StepRefusal) → fault ≡ Refused refusal → Refuses fault read → read ≡ Err refusal
-refuses_is {X} fault refusal read e is = subst (λ (f : StepFault). Refuses {X} f read) e is
+refuses_is fault refusal read e is = subst (λ (f : StepFault). Refuses f read) e is
 
 -- what holds of the reply to each refusal holds of the reply to the fault
 pub if_refused : (fault : StepFault) (result : Result StepReply Wanting) (P : StepReply → Type 0) → IsRefusal fault result → ((refusal : StepRefusal) → fault ≡ Refused refusal → P (reply.Refused refusal)) → IfOk result P

@@ -109,7 +109,7 @@ module _ (tables : List SchemaTable) (c : ClientState) where
   pub wants_if : {X : Type 0} (step : Move) (wish : Wish) (slot : Option X) (result : Result Wish StepFault) → result ≡ wish_if wish slot → (slot ≡ None → (known : Known) → meet tables known.world known.log client step ≡ refused EmptySlot client)
       → (IsSome slot → (step ≡ move_by wish) × CanMake wish c × ReadBy tables wish) → Wants tables c step result
   wants_if step wish None result is none some = subst (Wants tables c step) (sym is) (none refl)
-  wants_if step wish (Some x) result is none some = subst (Wants tables c step) (sym is) (some tt)
+  wants_if step wish (Some x) result is none some = subst (Wants tables c step) (sym is) (some refl)
 
   provided : (name : List ℕ) (text : Option (List ℕ)) (read : Result Service StepFault) → IsService table name text read → Wants tables c (asked.Provide name text) (wished (λ (s : Service). Rpc (rpcs.Provide s)) read)
   provided name text (Ok s) has = (

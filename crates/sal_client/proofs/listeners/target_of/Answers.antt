@@ -1,18 +1,15 @@
 -- The domain, and then the path.
 use Rattle.std.proofs.Common.{sym, ap, refl, ◌∙◌, subst}
 use Rattle.sal_pathtext.specs.Read.{read_path}
-use Rattle.sal_script.specs.Play.{no_table, table_in}
+use Rattle.sal_script.specs.Play.{table_in}
 use Rattle.sal_script.specs.Services.{path_or}
 use Rattle.std.specs.Prelude.{unwrap_or, ◌≡◌}
 use Rattle.sal_client.specs.Faults.{Refuses}
 use Rattle.sal_client.specs.Targets.{IsTarget}
 use Rattle.sal_client.proofs.Faults.{err_so}
 use Rattle.sal_client.proofs.Reading.{path_ok}
-use Rattle.sal_client.proofs.Wanted.{no_domain, no_path}
+use Rattle.sal_client.proofs.Wanted.{no_path}
 use Rattle.sal_client.proofs.listeners.target_of.Goals as goal
-
-pub returns-in-None : goal.returns-in-None
-returns-in-None c = no_domain c.args.readers.now c.args.domain c.args.text.now (sym c.in-None.ensures.has)
 
 pub returns-in_err-path : goal.returns-in_err-path
 returns-in_err-path c =
@@ -20,7 +17,7 @@ returns-in_err-path c =
     let domain = c.args.domain in
     let text = c.args.text.now in
     let e = c.in_err-path.field-0.0 in
-    let table : c.in-Some.reader.now ≡ table_in tables domain = ap (λ o. unwrap_or o no_table) c.in-Some.ensures.reader in
+    let table : c.in-Some.reader.now ≡ table_in tables domain = ap (λ o. unwrap_or o _) c.in-Some.ensures.reader in
     err_so (IsTarget tables domain c.args.store text) _ e c.from_residual.ensures.1
     (no_path tables domain text e (sym c.in-Some.ensures.has) (subst (λ t. Refuses e (path_or (read_path t text))) table c.in_err-path.ensures))
 
@@ -29,5 +26,5 @@ returns c =
     let tables = c.args.readers.now in
     let domain = c.args.domain in
     let text = c.args.text.now in
-    let table : c.in-Some.reader.now ≡ table_in tables domain = ap (λ o. unwrap_or o no_table) c.in-Some.ensures.reader in
-    (refl, refl, refl, ap (λ t. read_path t text) (sym table) ∙ path_ok (read_path c.in-Some.reader.now text) c.in_ok-path.path c.in_ok-path.ensures, sym c.in-Some.ensures.has)
+    let table : c.in-Some.reader.now ≡ table_in tables domain = ap (λ o. unwrap_or o _) c.in-Some.ensures.reader in
+    (refl, refl, c.of.ensures, ap (λ t. read_path t text) (sym table) ∙ path_ok (read_path c.in-Some.reader.now text) c.in_ok-path.path c.in_ok-path.ensures, sym c.in-Some.ensures.has)

@@ -1,5 +1,5 @@
 -- The RPC, and then its context.
-use Rattle.std.proofs.Common.{◌≡◌, Ok, ap, refl, sym, ◌∙◌, subst}
+use Rattle.std.proofs.Common.{◌≡◌, Ok, ap, sym, ◌∙◌, subst}
 use Rattle.sal_script.specs.Messages.{rpc_called}
 use Rattle.sal_script.specs.Services.{if_known}
 use Rattle.sal_client.specs.Asked.{IsService}
@@ -28,4 +28,4 @@ returns c =
     let table = c.args.reader.now in
     let name = c.args.name.now in
     let rpc : if_known (rpc_called table name) ≡ Ok c.in_ok-rpc.rpc = ap (λ t. if_known (rpc_called t name)) (sym c.schema.ensures) ∙ c.in_ok-rpc.ensures in
-    (refl, refl, service_reads table name c.args.text.now c.in_ok-rpc.rpc c.in_ok-context.context rpc c.in_ok-context.ensures)
+    (c.of.ensures, c.of-2.ensures, service_reads table name c.args.text.now c.in_ok-rpc.rpc c.in_ok-context.context rpc c.in_ok-context.ensures)

@@ -21,4 +21,4 @@ returns c =
     let table = c.args.reader.now in
     let value = view c.args.value.now in
     let node = c.input_of-node.ensures ∙ ap (λ t. input_of t c.args.service.rpc) c.schema.ensures in
-    (refl, refl, ap (λ n. rows_of table n value) (sym node) ∙ c.in_ok-input.ensures)
+    (refl, ap view c.of.ensures, ap (λ n. rows_of table n value) (sym node) ∙ c.in_ok-input.ensures)

@@ -4,11 +4,8 @@ use Rattle.serde_json.specs.View.{view}
 use Rattle.sal_script.specs.Moves.{Answer}
 use Rattle.sal_client.specs.Wishes.{Wants}
 use Rattle.sal_client.proofs.Faults.{err_so}
-use Rattle.sal_client.proofs.Wanted.{no_answer, wants_answer}
+use Rattle.sal_client.proofs.Wanted.{wants_answer}
 use Rattle.sal_client.proofs.client.ClientState.answer_wish.Goals as goal
-
-pub returns-in-None : goal.returns-in-None
-returns-in-None c = no_answer c.args.readers.now c.args.self.now c.args.slot (view c.args.value.now) (sym c.in-None.ensures)
 
 pub returns-in_err-answer : goal.returns-in_err-answer
 returns-in_err-answer c =

@@ -22,7 +22,8 @@ returns-in-Empty c =
     let deed = deed_of c.args.act in
     let tables = c.args.readers.now in
     let old = c.args.self.now in
-    only_answers tables old (write_move place.slot place.store place.text.now deed) _ c.requires.schema (writes_nowhere tables old place.slot place.store place.text.now deed (sym c.standing.ensures ∙ c.in-Empty.is))
+    let step = write_move place.slot place.store place.text.now deed in
+    subst (λ r. IsAnswered tables old step r old) (sym c.refused.ensures) (only_answers tables old step _ c.requires.schema (writes_nowhere tables old place.slot place.store place.text.now deed (sym c.standing.ensures ∙ c.in-Empty.is)))
 
 pub returns-in-ReadOnly : goal.returns-in-ReadOnly
 returns-in-ReadOnly c =
@@ -30,7 +31,8 @@ returns-in-ReadOnly c =
     let deed = deed_of c.args.act in
     let tables = c.args.readers.now in
     let old = c.args.self.now in
-    only_answers tables old (write_move place.slot place.store place.text.now deed) _ c.requires.schema (writes_nothing tables old place.slot place.store place.text.now deed (sym c.standing.ensures ∙ c.in-ReadOnly.is))
+    let step = write_move place.slot place.store place.text.now deed in
+    subst (λ r. IsAnswered tables old step r old) (sym c.refused-in-ReadOnly.ensures) (only_answers tables old step _ c.requires.schema (writes_nothing tables old place.slot place.store place.text.now deed (sym c.standing.ensures ∙ c.in-ReadOnly.is)))
 
 pub returns-in-Ok : goal.returns-in-Ok
 returns-in-Ok c =

@@ -10,4 +10,4 @@ returns-in_err-path-in-Some c =
     let table = c.args.reader.now in
     let e = c.in_err-path-in-Some.field-0.0 in
     err_so (λ r. Reads r (context_of table c.args.context.now)) _ e c.from_residual.ensures.1
-    (subst (λ o. Refuses e (context_of table o)) (sym c.in-Some.is) (refuses_on e (path_of table c.in-Some.text.now) (λ path. Ok (Some path)) c.in_err-path-in-Some.ensures))
+    (subst (λ o. Refuses e (context_of table o)) (sym c.in-Some.is) (refuses_on e (path_of table c.in-Some.text) (λ path. Ok (Some path)) c.in_err-path-in-Some.ensures))

@@ -2,14 +2,10 @@
 use Rattle.std.proofs.Common.{sym, subst}
 use Rattle.sal_script.specs.Moves.{Mirror}
 use Rattle.sal_client.specs.Meeting.{Answers}
-use Rattle.sal_client.proofs.Faults.{if_ok}
-use Rattle.sal_client.proofs.Looking.{mirrors, mirrors_nothing}
+use Rattle.sal_client.proofs.Looking.{mirrors_nothing}
 use Rattle.sal_client.proofs.client.ClientState.mirror.Goals as goal
 
 pub returns-in-None : goal.returns-in-None
 returns-in-None c =
     let client = c.args.self.now in
     subst (λ r. Answers c.args.readers.now client (Mirror c.args.slot) r client) (sym c.refused.ensures) (mirrors_nothing c.args.readers.now client c.args.slot (sym c.in-None.ensures))
-
-pub returns : goal.returns
-returns c = if_ok c.shown.result _ _ (λ r. mirrors c.args.readers.now c.args.self.now c.args.slot c.in-Some.follower.now r (sym c.in-Some.ensures)) c.shown.ensures

@@ -1,6 +1,5 @@
 -- How each kind of step is answered.
-use Rattle.std.proofs.Common.{◌≡◌, ℕ, List, [], length, Option, None, Some, Result, Ok, Err, inl, inr, refl, ap, sym, ◌∙◌, subst}
-use Rattle.std.specs.Prelude.{IfErr, IfOk}
+use Rattle.std.proofs.Common.{◌≡◌, ℕ, List, [], length, Option, None, Some, Result, Ok, Err, inl, refl, ap, sym, ◌∙◌, subst}
 use Rattle.sal_types.specs.declared.value.Store.{Store}
 use Rattle.sal_types.specs.declared.value.Step.{Step}
 use Rattle.sal_rows.specs.declared.op.Op.{Op}
@@ -24,7 +23,7 @@ use Rattle.sal_script.specs.Moves.{Move}
 use Rattle.sal_script.specs.declared.reply.StepReply.{StepReply}
 use Rattle.sal_script.specs.declared.reply.StepReply.TheVariants.{Called}
 use Rattle.sal_script.specs.declared.reply.StepRefusal.{StepRefusal}
-use Rattle.sal_script.specs.Play.{Client, Deed, Meeting, Open, Opened, Slots, act_of, cancel, domain_in, keep, keep_begun, meet, refused, set_slot, shared, submit, submit_in, tables_of, write_at, write_in, write_op}
+use Rattle.sal_script.specs.Play.{Client, Deed, Meeting, Open, Opened, Slots, act_of, cancel, domain_in, keep, keep_begun, meet, refused, set_slot, shared, submit, submit_in, write_at, write_in, write_op}
 use Rattle.sal_hub.specs.Answers.{Fails, Made}
 use Rattle.sal_hub.specs.Known.{Known, entry_of}
 use Rattle.sal_hub.specs.Tokens.{IsFresh}
@@ -32,9 +31,8 @@ use Rattle.sal_client.specs.declared.client.Standing.TheVariants.{Writable}
 use Rattle.sal_client.specs.declared.wish.RunFault.{RunFault}
 use Rattle.sal_client.specs.declared.wish.RunFault.TheVariants as stop
 use Rattle.sal_client.specs.Clients.{Calls, IsWithin, open_of, standing_in, standing_of}
-use Rattle.sal_client.specs.Deeds.{op_at, op_by}
-use Rattle.sal_client.specs.declared.wish.Wish.{Wish}
-use Rattle.sal_client.specs.Wishes.{GrowsAtMost, IsStop, Makes, ReadBy, Stops, move_by}
+use Rattle.sal_client.specs.Operations.{op_at, op_by}
+use Rattle.sal_client.specs.Wishes.{IsStop, Stops}
 
 -- ---- shared calls
 
@@ -70,21 +68,6 @@ made_refused old new e TxSpent fails full memory = fails
 pub stopped : (old new : Known) (e : Entry) (fault : CallFault) (stop : RunFault) → Fails old new e fault → IsStop fault stop → Stops e.client old new stop
 stopped old new e fault stop.HistoryFull fails is = subst (Fails old new e) is fails
 stopped old new e fault stop.NoMemory fails is = inl (subst (Fails old new e) is fails)
-
--- a call that was made for a wish
-pub for_wish : (result : Result StepReply RunFault) (c : ℕ) (known known' : Known) (old new : Client) (wish : Wish) (step : Move) → move_by wish ≡ step → IfOk result (λ r. (tables : List SchemaTable) → Makes tables r c known old step known' new) → IfOk result (λ r. (tables : List SchemaTable) → ReadBy tables wish → Makes tables r c known old (move_by wish) known' new)
-for_wish (Ok r) c known known' old new wish step is made = λ tables read. subst (λ (m : Move). Makes tables r c known old m known' new) (sym is) (made tables)
-for_wish (Err why) c known known' old new wish step is made = tt
-
--- a call leaves at most one entry
-pub grows_by : (result : Result StepReply RunFault) (c : ℕ) (known known' : Known) (old new : Client) (step : Move) → IfOk result (λ r. (tables : List SchemaTable) → Makes tables r c known old step known' new) → IfErr result (Stops c known known') → GrowsAtMost c known known'
-grows_by (Ok r) c known known' old new step made stops = let (call, called) = made (tables_of known.world) in inr (entry_of known c call, refl, called.entry)
-grows_by (Err stop.HistoryFull) c known known' old new step made stops = inl stops.1
-grows_by (Err stop.NoMemory) c known known' old new step made stops = stops
-
--- memory ran out behind a call that was made
-pub made_in_vain : (old new : Known) (e : Entry) (answer : Reply) → Made old new e answer → Stops e.client old new stop.NoMemory
-made_in_vain old new e answer made = inr (e, refl, made.log)
 
 -- ---- begin
 

@@ -1,5 +1,5 @@
--- Readers of the schemas up to one.
-use Rattle.std.proofs.Common.{◌≡◌, ℕ, zero, suc, ◌+◌, ◌<◌, Bool, true, false, ◌||◌, List, [], ◌∷◌, ◌++◌, length, take, get_or, ap, sym, ◌∙◌, arith}
+-- Readers of the schemas up to one, which may be the first that has none.
+use Rattle.std.proofs.Common.{◌≡◌, ℕ, zero, suc, ◌+◌, ◌<◌, Bool, true, false, ◌||◌, List, [], ◌∷◌, ◌++◌, length, take, get_or, Some, ap, sym, ◌∙◌, arith}
 use Rattle.std.specs.Prelude.{slice_get}
 use Rattle.std.specs.declared.alloc.Global.{Global}
 use Rattle.std.specs.declared.sync.Arc.{Arc}
@@ -8,7 +8,9 @@ use Rattle.std.specs.Option.{option_map_or}
 use Rattle.std.proofs.lemmas.Bool.{or_left, or_right}
 use Rattle.std.proofs.lemmas.List.{take_more}
 use Rattle.sal_schema.specs.declared.table.SchemaTable.{SchemaTable}
-use Rattle.sal_client.specs.Malformed.{shared_tables}
+use Rattle.sal_client.specs.declared.readers.ReadersFault.{ReadersFault}
+use Rattle.sal_client.specs.declared.readers.ReadersFault.TheVariants.{Pattern, NoMemory}
+use Rattle.sal_client.specs.Malformed.{is_malformed, shared_tables, IsFirstMalformed, IsMalformed}
 
 -- one that a number names is one of all
 pub any_named : {X : Type 0} (test : X → Bool) (xs : List X) (k : ℕ) → option_map_or test (slice_get xs k) false ≡ true → list_any test xs ≡ true
@@ -34,3 +36,15 @@ none_more test (y ∷ xs) x none one = by (test y) (λ e. none_more test xs x e 
     by : (b : Bool) → (list_any test xs ≡ false → list_any test (xs ++ x ∷ []) ≡ false) → (b || list_any test xs) ≡ false → (b || list_any test (xs ++ x ∷ [])) ≡ false
     by true rest e = e
     by false rest e = rest e
+
+-- the first schema that has no reader
+table_got : (schemas : List (Arc SchemaTable Global)) (i : ℕ) (s : Arc SchemaTable Global) → i < length schemas → s ≡ get_or schemas i s → slice_get (shared_tables schemas) i ≡ Some s.value
+table_got [] i s h at = absurd (omega arith)
+table_got (x ∷ schemas) zero s h at = ap (λ (y : Arc SchemaTable Global). Some y.value) (sym at)
+table_got (x ∷ schemas) (suc i) s h at = table_got schemas i s (omega arith) at
+
+pub first_malformed : (schemas : List (Arc SchemaTable Global)) (i : ℕ) (s : Arc SchemaTable Global) (fault : ReadersFault) → i < length schemas → s ≡ get_or schemas i s → IsMalformed i s.value fault → list_any is_malformed (take i (shared_tables schemas)) ≡ false → IsFirstMalformed (shared_tables schemas) fault
+first_malformed schemas i s (Pattern device) h at is none =
+    let there : slice_get (shared_tables schemas) device ≡ Some s.value = ap (slice_get (shared_tables schemas)) is.0 ∙ table_got schemas i s h at in
+    (ap (λ o. option_map_or is_malformed o false) there ∙ is.1, ap (λ k. list_any is_malformed (take k (shared_tables schemas))) is.0 ∙ none)
+first_malformed schemas i s NoMemory h at is none = tt

@@ -19,7 +19,7 @@ use Rattle.sal_script.specs.JsonScripts.{is_json_deed}
 use Rattle.sal_script.specs.Laws.{WritesAreForSchema}
 use Rattle.sal_script.specs.Moves.{move_of, moves_of, clients_of}
 use Rattle.sal_script.specs.Play.{Deed, act_of}
-use Rattle.sal_client.specs.Deeds.{op_at, op_by}
+use Rattle.sal_client.specs.Operations.{op_at, op_by}
 
 pub json_at : (steps : List ScriptStep) (i : ℕ) (step : ScriptStep) → list_all is_json_move (moves_of steps) ≡ true → i < length steps → step ≡ get_or steps i step → is_json_move (move_of step) ≡ true
 json_at [] i step are h at = absurd (omega arith)

@@ -1,10 +1,14 @@
 pub mod Answers
 pub mod Asked
 pub mod Clients
-pub mod Deeds
+pub mod Faults
 pub mod Followers
 pub mod Leaving
+pub mod Looks
 pub mod Malformed
+pub mod Meeting
+pub mod Operations
 pub mod Runs
 pub mod Slots
+pub mod Targets
 pub mod Wishes

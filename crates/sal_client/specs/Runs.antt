@@ -1,18 +1,19 @@
 -- A client's run, as the definitions have it.
 use Rattle.std.specs.List.{list_all}
-use Rattle.std.specs.Prelude.{IsTrue, ◌≡◌, ℕ, ◌+◌, ◌≤◌, ◌<◌, Bool, true, false, List, [], ◌∷◌, length, drop, map, Option, None, Some, Result, Ok, Err, slice_index_or}
+use Rattle.std.specs.Prelude.{IsTrue, ◌≡◌, ℕ, ◌+◌, ◌≤◌, ◌<◌, Bool, true, false, List, [], ◌∷◌, length, drop, map, Option, None, Some, Result, Ok, Err, ⊤, slice_index_or}
 use Rattle.sal_history.specs.World.{Domain}
 use Rattle.sal_history.specs.declared.call.Entry.{Entry}
 use Rattle.sal_schema.specs.declared.table.SchemaTable.{SchemaTable}
 use Rattle.sal_script.specs.declared.reply.StepReply.{StepReply}
 use Rattle.sal_script.specs.declared.script.ScriptStep.{ScriptStep}
 use Rattle.sal_script.specs.JsonMoves.{is_json_move}
-use Rattle.sal_script.specs.Moves.{Move, moves_of}
-use Rattle.sal_script.specs.Play.{Client, Played, Run, Stand, arrive, ended, go, replies_of, turn}
-use Rattle.sal_hub.specs.Known.{Known, more}
+use Rattle.sal_script.specs.Moves.{Move, clients_of, moves_of}
+use Rattle.sal_script.specs.Play.{Client, Played, Run, Stand, arrive, ended, go, play_from, replies_of, start, turn}
+use Rattle.sal_hub.specs.Known.{Known}
 use Rattle.sal_client.specs.declared.run.ClientRun.{ClientRun as CodeRun}
 use Rattle.sal_client.specs.declared.simulation.Played.{Played as CodePlayed}
 use Rattle.sal_client.specs.declared.simulation.PlayFault.{PlayFault}
+use Rattle.sal_client.specs.declared.simulation.Simulation.{Simulation}
 use Rattle.sal_client.specs.declared.simulation.PlayFault.TheVariants.{BadOrder, NoMemory}
 use Rattle.sal_client.specs.declared.wish.Wish.{Wish}
 use Rattle.sal_client.specs.Clients.{client_of, Everywhere, IsSound}
@@ -102,3 +103,15 @@ abbrev pub PlaysAs : List Domain → Result CodePlayed PlayFault → Result Play
 PlaysAs world (Ok p) played = (played ≡ Ok (record { log = p.hub.log; replies = p.replies })) × (p.hub.world ≡ world)
 PlaysAs world (Err (BadOrder index)) played = played ≡ Err index
 PlaysAs world (Err NoMemory) played = Unit {0}
+
+-- the clients at their beginning, over the hub
+abbrev pub Begins : Known → List (List ScriptStep) → Result Simulation PlayFault → Type 0
+Begins known ps (Ok s) = (s.hub ≡ known) × AreRuns s.hub ps s.runs.items × (stand_of ps s.hub.log s.runs.items ≡ start (clients_of ps))
+Begins known ps (Err why) = why ≡ NoMemory
+
+-- an order was played: what it comes to is what its end comes to from there; or why it was not
+abbrev pub Follows : List SchemaTable → List (List ScriptStep) → List ℕ → Known → List CodeRun → Known → List CodeRun → Result ⊤ PlayFault → Type 0
+Follows tables ps order known rs known' rs' (Ok done) =
+    (known'.world ≡ known.world) × AreRuns known' ps rs'
+    × (play_from tables known.world (length order) (stand_of ps known'.log rs') [] ≡ play_from tables known.world 0 (stand_of ps known.log rs) order)
+Follows tables ps order known rs known' rs' (Err why) = PlaysAs known.world (Err why) (play_from tables known.world 0 (stand_of ps known.log rs) order)

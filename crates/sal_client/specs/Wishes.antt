@@ -11,13 +11,15 @@ use Rattle.sal_pathtext.specs.Read.{read_path}
 use Rattle.sal_script.specs.Moves as asked
 use Rattle.sal_script.specs.Moves.{Move}
 use Rattle.sal_script.specs.declared.reply.StepReply.{StepReply}
-use Rattle.sal_script.specs.declared.reply.StepRefusal.{StepRefusal}
+use Rattle.sal_script.specs.declared.reply.StepRefusal.TheVariants.{EmptySlot}
 use Rattle.sal_script.specs.Play.{Client, has_domain, local, meet, refused, replied, table_in}
 use Rattle.sal_script.specs.Services as services
 use Rattle.sal_hub.specs.Answers.{limit}
 use Rattle.sal_hub.specs.Known.{Known, more}
 use Rattle.sal_client.specs.declared.client.ClientState.{ClientState}
 use Rattle.sal_client.specs.declared.client.Standing.TheVariants.{Empty, Writable}
+use Rattle.sal_client.specs.declared.fault.StepFault.{StepFault}
+use Rattle.sal_client.specs.declared.fault.StepFault.TheVariants.{Refused, NoMemory as Wanting}
 use Rattle.sal_client.specs.declared.wish.RunFault.{RunFault}
 use Rattle.sal_client.specs.declared.wish.RunFault.TheVariants.{HistoryFull, NoMemory}
 use Rattle.sal_client.specs.declared.wish.Wish.{Wish}
@@ -118,10 +120,25 @@ ReadBy tables (Note wish) = NoteReadBy (table_in tables 0) wish
 ReadBy tables (Mount wish) = MountReadBy (table_in tables 0) wish
 ReadBy tables wish = Unit {0}
 
--- the step asks for this call, or is refused over whatever log
-abbrev pub Wants : List SchemaTable → ClientState → Move → Result Wish StepRefusal → Type 0
+-- the wish, where the slot that it needs is filled
+abbrev pub wish_if : {X : Type 0} → Wish → Option X → Result Wish StepFault
+wish_if wish None = Err (Refused EmptySlot)
+wish_if wish (Some x) = Ok wish
+
+-- the wish for what was read
+abbrev pub wished : {X : Type 0} → (X → Wish) → Result X StepFault → Result Wish StepFault
+wished wish (Ok x) = Ok (wish x)
+wished wish (Err why) = Err why
+
+-- the step is refused over whatever log; nothing is said of want of memory
+abbrev pub IsRefused : List SchemaTable → ClientState → Move → StepFault → Type 0
+IsRefused tables c step (Refused refusal) = (known : Known) → meet tables known.world known.log (client_of c) step ≡ refused refusal (client_of c)
+IsRefused tables c step Wanting = Unit {0}
+
+-- the step asks for this call, or is refused
+abbrev pub Wants : List SchemaTable → ClientState → Move → Result Wish StepFault → Type 0
 Wants tables c step (Ok wish) = (step ≡ move_by wish) × CanMake wish c × ReadBy tables wish
-Wants tables c step (Err refusal) = (known : Known) → meet tables known.world known.log (client_of c) step ≡ refused refusal (client_of c)
+Wants tables c step (Err why) = IsRefused tables c step why
 
 -- The client answered the step by itself, and the reply is among its replies; or the step asks for a call, and nothing has
 -- changed.

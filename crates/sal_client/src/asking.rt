@@ -1,20 +1,33 @@
 //! From a step to the shared call that it asks for, and from that call to its answer.
-ghost use Rattle.std.specs.Prelude.{◌≡◌, IfOk, false, true};
-ghost use Rattle.sal_script.specs.Moves.{ChainBegin, Cancel, CloseChain, Settle, Submit, move_of};
+ghost use Rattle.std.specs.Prelude.{◌≡◌, false, true};
+ghost use Rattle.sal_script.specs.Moves.{Cancel, Submit, move_of};
 ghost use Rattle.sal_client.specs.Clients.{is_local, is_service};
+ghost use Rattle.sal_client.specs.Slots.{held};
+ghost use Rattle.sal_client.specs.Wishes.{wish_if};
 
 use crate::client::{ClientState, Standing};
+use crate::fault::StepFault;
+use crate::listeners::{listen_wish, target_of};
+use crate::messages::service_of;
 use crate::mounts::MountWish;
 use crate::notes::NoteWish;
 use crate::readers::Readers;
-use crate::rpcs::RpcWish;
-use crate::slots::look_at;
+use crate::rpcs::{RpcWish, ask_by, invoke_wish, provide_wish, withdraw_wish};
+use crate::slots::{Slots, look_at};
 use crate::wish::{RunFault, Wish};
 use sal_hub::Hub;
-use sal_rows::Mode;
 use sal_script::{ScriptStep, StepRefusal, StepReply};
-use sal_types::NoMemory;
 use std::alloc::Global;
+
+// The wish, where the slot holds what its call takes.
+fn if_filled<T>(slots: &Slots<T>, slot: u8, wish: Wish) -> Result<Wish, StepFault>
+    ensures { result ≡ wish_if wish (held slots.now slot) }
+{
+    match look_at(slots, slot) {
+        None => Err(StepFault::Refused(StepRefusal::EmptySlot)),
+        Some(_) => Ok(wish),
+    }
+}
 
 impl ClientState {
     ghost use Rattle.sal_client.specs.Clients.{IsSound};
@@ -27,38 +40,56 @@ impl ClientState {
         alloc: Global,
         readers: &Readers,
         step: &ScriptStep,
-    ) -> Result<Result<Wish, StepRefusal>, NoMemory>
+    ) -> Result<Wish, StepFault>
         requires shared { is_local (move_of step.now) ≡ false }
-        ensures { IfOk result (Wants readers.now self.now (move_of step.now)) }
+        ensures { Wants readers.now self.now (move_of step.now) result }
     {
         match step {
-            ScriptStep::Begin { slot, domain, mode } => Ok(Ok(Wish::Begin {
+            ScriptStep::Begin { slot, domain, mode } => Ok(Wish::Begin {
                 slot: *slot,
                 domain: *domain,
                 mode: *mode,
-            })),
-            ScriptStep::Submit { slot } => Ok(self.submit_wish(readers, *slot)),
-            ScriptStep::Cancel { slot } => Ok(self.cancel_wish(readers, *slot)),
-            ScriptStep::Settle { slot } => Ok(self.settle_wish(readers, *slot)),
-            ScriptStep::OpenChain { chain, domain } => Ok(Ok(Wish::OpenChain {
+            }),
+            ScriptStep::Submit { slot } => self.submit_wish(readers, *slot),
+            ScriptStep::Cancel { slot } => self.cancel_wish(readers, *slot),
+            ScriptStep::Settle { slot } => {
+                if_filled(&self.receipts, *slot, Wish::Settle { slot: *slot })
+            }
+            ScriptStep::OpenChain { chain, domain } => Ok(Wish::OpenChain {
                 chain: *chain,
                 domain: *domain,
-            })),
-            ScriptStep::ChainBegin { chain, slot, mode } => {
-                Ok(self.chain_begin_wish(readers, *chain, *slot, *mode))
+            }),
+            ScriptStep::ChainBegin { chain, slot, mode } => if_filled(
+                &self.chains,
+                *chain,
+                Wish::ChainBegin {
+                    chain: *chain,
+                    slot: *slot,
+                    mode: *mode,
+                },
+            ),
+            ScriptStep::CloseChain { chain } => {
+                if_filled(&self.chains, *chain, Wish::CloseChain { chain: *chain })
             }
-            ScriptStep::CloseChain { chain } => Ok(self.close_chain_wish(readers, *chain)),
-            ScriptStep::Pump => Ok(Ok(Wish::Pump)),
+            ScriptStep::Pump => Ok(Wish::Pump),
             ScriptStep::Listen {
                 listener,
                 domain,
                 store,
                 path,
-            } => self.listen_wish(alloc, readers, *listener, *domain, *store, path),
-            ScriptStep::Take { listener } => Ok(self.take_wish(readers, *listener)),
-            ScriptStep::Unlisten { listener } => Ok(self.unlisten_wish(readers, *listener)),
-            ScriptStep::Mark { mark } => Ok(Ok(Wish::Mark { mark: *mark })),
-            ScriptStep::After { mark } => Ok(Ok(Wish::After { mark: *mark })),
+            } => listen_wish(*listener, target_of(alloc, readers, *domain, *store, path)),
+            ScriptStep::Take { listener } => {
+                if_filled(&self.listeners, *listener, Wish::Take { slot: *listener })
+            }
+            ScriptStep::Unlisten { listener } => {
+                if_filled(
+                    &self.listeners,
+                    *listener,
+                    Wish::Unlisten { slot: *listener },
+                )
+            }
+            ScriptStep::Mark { mark } => Ok(Wish::Mark { mark: *mark }),
+            ScriptStep::After { mark } => Ok(Wish::After { mark: *mark }),
             _ => self.service_wish(alloc, readers, step),
         }
     }
@@ -69,34 +100,40 @@ impl ClientState {
         alloc: Global,
         readers: &Readers,
         step: &ScriptStep,
-    ) -> Result<Result<Wish, StepRefusal>, NoMemory>
+    ) -> Result<Wish, StepFault>
         requires service { is_service (move_of step.now) ≡ true }
-        ensures { IfOk result (Wants readers.now self.now (move_of step.now)) }
+        ensures { Wants readers.now self.now (move_of step.now) result }
     {
         match step {
-            ScriptStep::Provide { rpc, context } => self.provide_wish(alloc, readers, rpc, context),
+            ScriptStep::Provide { rpc, context } => {
+                provide_wish(service_of(alloc, readers.own(), rpc, context))
+            }
             ScriptStep::Withdraw { rpc, context } => {
-                self.withdraw_wish(alloc, readers, rpc, context)
+                withdraw_wish(service_of(alloc, readers.own(), rpc, context))
             }
             ScriptStep::Invoke {
                 call,
                 rpc,
                 context,
                 input,
-            } => self.invoke_wish(alloc, readers, *call, rpc, context, input),
+            } => invoke_wish(*call, ask_by(alloc, readers.own(), rpc, context, input)),
             ScriptStep::NextCall { request } => {
-                Ok(Ok(Wish::Rpc(RpcWish::NextCall { slot: *request })))
+                Ok(Wish::Rpc(RpcWish::NextCall { slot: *request }))
             }
             ScriptStep::Answer { request, output } => {
                 self.answer_wish(alloc, readers, *request, output)
             }
-            ScriptStep::Collect { call } => Ok(self.collect_wish(readers, *call)),
-            ScriptStep::Subscribe { note } => Ok(self.subscribe_wish(readers, note)),
+            ScriptStep::Collect { call } => if_filled(
+                &self.invoked,
+                *call,
+                Wish::Rpc(RpcWish::Collect { slot: *call }),
+            ),
+            ScriptStep::Subscribe { note } => self.subscribe_wish(readers, note),
             ScriptStep::Offer { note, value } => self.offer_wish(alloc, readers, note, value),
-            ScriptStep::TakeNotes => Ok(Ok(Wish::Note(NoteWish::TakeNotes))),
+            ScriptStep::TakeNotes => Ok(Wish::Note(NoteWish::TakeNotes)),
             ScriptStep::Mount { device, path } => self.mount_wish(alloc, readers, *device, path),
             ScriptStep::Unmount { domain } => {
-                Ok(Ok(Wish::Mount(MountWish::Unmount { domain: *domain })))
+                Ok(Wish::Mount(MountWish::Unmount { domain: *domain }))
             }
             ScriptStep::MountAt { path } => self.mount_at_wish(alloc, readers, path),
             _ => unreachable!(),
@@ -104,59 +141,23 @@ impl ClientState {
     }
 
     // To submit the slot's transaction, where it may write.
-    fn submit_wish(&self, readers: &Readers, slot: u8) -> Result<Wish, StepRefusal>
+    fn submit_wish(&self, readers: &Readers, slot: u8) -> Result<Wish, StepFault>
         ensures { Wants readers.now self.now (Submit slot) result }
     {
         match self.standing(slot) {
-            Standing::Empty => Err(StepRefusal::EmptySlot),
-            Standing::ReadOnly => Err(StepRefusal::ReadOnly),
+            Standing::Empty => Err(StepFault::Refused(StepRefusal::EmptySlot)),
+            Standing::ReadOnly => Err(StepFault::Refused(StepRefusal::ReadOnly)),
             Standing::Writable => Ok(Wish::Submit { slot }),
         }
     }
 
     // To give up the slot's transaction, where there is one.
-    fn cancel_wish(&self, readers: &Readers, slot: u8) -> Result<Wish, StepRefusal>
+    fn cancel_wish(&self, readers: &Readers, slot: u8) -> Result<Wish, StepFault>
         ensures { Wants readers.now self.now (Cancel slot) result }
     {
         match self.standing(slot) {
-            Standing::Empty => Err(StepRefusal::EmptySlot),
+            Standing::Empty => Err(StepFault::Refused(StepRefusal::EmptySlot)),
             _ => Ok(Wish::Cancel { slot }),
-        }
-    }
-
-    // To settle the receipt in the slot, where there is one.
-    fn settle_wish(&self, readers: &Readers, slot: u8) -> Result<Wish, StepRefusal>
-        ensures { Wants readers.now self.now (Settle slot) result }
-    {
-        match look_at(&self.receipts, slot) {
-            None => Err(StepRefusal::EmptySlot),
-            Some(_) => Ok(Wish::Settle { slot }),
-        }
-    }
-
-    // To begin the next transaction of the chain in the chain slot, where there is one.
-    fn chain_begin_wish(
-        &self,
-        readers: &Readers,
-        chain: u8,
-        slot: u8,
-        mode: Mode,
-    ) -> Result<Wish, StepRefusal>
-        ensures { Wants readers.now self.now (ChainBegin chain slot mode) result }
-    {
-        match look_at(&self.chains, chain) {
-            None => Err(StepRefusal::EmptySlot),
-            Some(_) => Ok(Wish::ChainBegin { chain, slot, mode }),
-        }
-    }
-
-    // To close the chain in the chain slot, where there is one.
-    fn close_chain_wish(&self, readers: &Readers, chain: u8) -> Result<Wish, StepRefusal>
-        ensures { Wants readers.now self.now (CloseChain chain) result }
-    {
-        match look_at(&self.chains, chain) {
-            None => Err(StepRefusal::EmptySlot),
-            Some(_) => Ok(Wish::CloseChain { chain }),
         }
     }
 

@@ -8,7 +8,7 @@ ghost use Rattle.sal_client.specs.declared.wish.Wish.TheVariants.{Begin, Submit,
 
 use crate::answers::{answer_to, settled};
 use crate::client::{ClientState, Standing};
-use crate::slots::{fill_slot, look_at, take_slot};
+use crate::slots::{fill_slot, filled, take_slot};
 use crate::wish::RunFault;
 use sal_history::Reply;
 use sal_hub::{Hub, laws};
@@ -142,12 +142,8 @@ impl ClientState {
         ensures { Leaves (Settle slot) hub.old self.now hub.new self.now result }
     {
         laws::tokens_last();
-        match look_at(&self.receipts, slot) {
-            None => unreachable!(),
-            Some(receipt) => {
-                let domain = receipt.domain();
-                answer_to(settled(domain, hub.settle(alloc, self.number, *receipt)))
-            }
-        }
+        let receipt = filled(&self.receipts, slot);
+        let domain = receipt.domain();
+        answer_to(settled(domain, hub.settle(alloc, self.number, *receipt)))
     }
 }

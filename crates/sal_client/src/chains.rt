@@ -7,7 +7,7 @@ ghost use Rattle.sal_client.specs.declared.wish.Wish.TheVariants.{OpenChain, Cha
 use crate::answers::{accepted, answer_to};
 use crate::calls::{begun, called, refused_call};
 use crate::client::ClientState;
-use crate::slots::{fill_slot, look_at};
+use crate::slots::{fill_slot, filled};
 use crate::wish::RunFault;
 use sal_history::Reply;
 use sal_hub::{Hub, laws};
@@ -54,16 +54,14 @@ impl ClientState {
         ensures { Leaves (ChainBegin from slot mode) hub.old self.old hub.new self.new result }
     {
         laws::tokens_last();
-        match look_at(&self.chains, from) {
-            None => unreachable!(),
-            Some(chain) => match hub.chain_begin(alloc, self.number, chain, mode) {
-                Ok(tx) => {
-                    let reply = begun(&tx);
-                    fill_slot(&mut self.transactions, slot, tx)?;
-                    Ok(called(reply))
-                }
-                Err(fault) => refused_call(fault),
-            },
+        let chain = filled(&self.chains, from);
+        match hub.chain_begin(alloc, self.number, chain, mode) {
+            Ok(tx) => {
+                let reply = begun(&tx);
+                fill_slot(&mut self.transactions, slot, tx)?;
+                Ok(called(reply))
+            }
+            Err(fault) => refused_call(fault),
         }
     }
 
@@ -79,9 +77,7 @@ impl ClientState {
         ensures { Leaves (CloseChain slot) hub.old self.now hub.new self.now result }
     {
         laws::tokens_last();
-        match look_at(&self.chains, slot) {
-            None => unreachable!(),
-            Some(chain) => answer_to(accepted(hub.close_chain(alloc, self.number, chain))),
-        }
+        let chain = filled(&self.chains, slot);
+        answer_to(accepted(hub.close_chain(alloc, self.number, chain)))
     }
 }

@@ -5,11 +5,12 @@ ghost use Rattle.sal_schema.specs.declared.table.SchemaTable.{SchemaTable};
 ghost use Rattle.sal_client.specs.Clients.{is_local, standing_in};
 ghost use Rattle.sal_script.specs.JsonMoves.{is_json_move};
 ghost use Rattle.sal_script.specs.Moves.{move_of};
-ghost use Rattle.sal_script.specs.Play.{local, new_client};
-ghost use Rattle.sal_script.specs.Play as play_spec;
+ghost use Rattle.sal_script.specs.Play.{new_client};
 
-use crate::deed::Deed;
+use crate::fault::{StepFault, refusal_reply};
 use crate::follower::Follower;
+use crate::looks::Look;
+use crate::operations::{JsonAct, place_at};
 use crate::readers::Readers;
 use crate::rpcs::Invocation;
 use crate::slots::{Slots, empty_slots, look_at};
@@ -78,9 +79,9 @@ fn standing_of(tx: &Tx) -> Standing
 }
 
 impl ClientState {
-    ghost use Rattle.sal_client.specs.Clients.{client_of, opened, Everywhere, HasSchema, IsSound, Same, StaysSound};
+    ghost use Rattle.sal_client.specs.Clients.{client_of, opened, HasSchema, IsSound};
     ghost use Rattle.sal_client.specs.Clients as spec;
-    ghost use Rattle.sal_client.specs.Wishes.{Meets};
+    ghost use Rattle.sal_client.specs.Meeting.{IsAnswered, IsMet, IsRefusedBy, IsReplied};
     ghost use Rattle.sal_hub.specs.Known.{Known};
 
     /// A client at its beginning.
@@ -122,22 +123,35 @@ impl ClientState {
     ) -> Result<Option<Wish>, NoMemory>
         requires schema { HasSchema readers.now self.old }
         requires json { IsTrue (is_json_move (move_of step.now)) }
-        ensures meets { IfOk result (λ wish. Meets readers.now self.old (move_of step.now) wish self.new) }
-        ensures sound { OnOk result (StaysSound self.old self.new) }
-        ensures schema { OnOk result (HasSchema readers.now self.new) }
-        ensures number { OnOk result (self.new.number ≡ self.old.number) }
+        ensures { IfOk result (λ wish. IsMet readers.now self.old (move_of step.now) wish self.new) }
     {
         if is_local(step) {
             self.answer(alloc, readers, step)?;
             return Ok(None);
         }
-        match self.wish_of(alloc, readers, step)? {
+        match self.wish_of(alloc, readers, step) {
             Ok(wish) => Ok(Some(wish)),
-            Err(refusal) => {
-                self.replies.push(refused(refusal))?;
+            Err(fault) => {
+                self.refuse(fault)?;
                 Ok(None)
             }
         }
+    }
+
+    /// Adds the reply to the client's.
+    pub(crate) fn keep(&mut self, reply: StepReply) -> Result<(), NoMemory>
+        ensures { OnOk result (IsReplied reply self.old self.new) }
+    {
+        self.replies.push(reply)?;
+        Ok(())
+    }
+
+    // Refuses a step, unless memory ran out.
+    fn refuse(&mut self, fault: StepFault) -> Result<(), NoMemory>
+        ensures { OnOk result (IsRefusedBy fault self.old self.new) }
+    {
+        let reply = refusal_reply(fault)?;
+        self.keep(reply)
     }
 
     // Answers a write or a look in one of the client's transactions, or a look at the rows of a listener.
@@ -150,14 +164,10 @@ impl ClientState {
         requires schema { HasSchema readers.now self.old }
         requires json { IsTrue (is_json_move (move_of step.now)) }
         requires local { is_local (move_of step.now) ≡ true }
-        ensures meets { OnOk result (Meets readers.now self.old (move_of step.now) None self.new) }
-        ensures sound { OnOk result (StaysSound self.old self.new) }
-        ensures schema { OnOk result (HasSchema readers.now self.new) }
-        ensures number { OnOk result (self.new.number ≡ self.old.number) }
+        ensures { OnOk result (IsMet readers.now self.old (move_of step.now) None self.new) }
     {
         let reply = self.meet_local(alloc, readers, step)?;
-        self.replies.push(reply)?;
-        Ok(())
+        self.keep(reply)
     }
 
     // The same; the reply is not yet among the replies.
@@ -170,10 +180,7 @@ impl ClientState {
         requires schema { HasSchema readers.now self.old }
         requires json { IsTrue (is_json_move (move_of step.now)) }
         requires local { is_local (move_of step.now) ≡ true }
-        ensures answers { IfOk result (λ r. Everywhere readers.now self.old (λ known. play_spec.meet readers.now known.world known.log (client_of self.old) (move_of step.now) ≡ local r (client_of self.new))) }
-        ensures sound { OnOk result (StaysSound self.old self.new) }
-        ensures schema { OnOk result (HasSchema readers.now self.new) }
-        ensures same { OnOk result (Same self.old self.new) }
+        ensures { IfOk result (λ r. IsAnswered readers.now self.old (move_of step.now) r self.new) }
     {
         match step {
             ScriptStep::Put {
@@ -181,28 +188,34 @@ impl ClientState {
                 store,
                 path,
                 value,
-            } => {
-                let deed = Deed::Put(value);
-                self.write(alloc, readers, *slot, *store, path.as_str(), deed)
-            }
+            } => self.write(
+                alloc,
+                readers,
+                place_at(*slot, *store, path),
+                JsonAct::Put(value),
+            ),
             ScriptStep::Merge {
                 slot,
                 store,
                 path,
                 value,
-            } => {
-                let deed = Deed::Merge(value);
-                self.write(alloc, readers, *slot, *store, path.as_str(), deed)
-            }
-            ScriptStep::Delete { slot, store, path } => {
-                let deed = Deed::Delete;
-                self.write(alloc, readers, *slot, *store, path.as_str(), deed)
-            }
+            } => self.write(
+                alloc,
+                readers,
+                place_at(*slot, *store, path),
+                JsonAct::Merge(value),
+            ),
+            ScriptStep::Delete { slot, store, path } => self.write(
+                alloc,
+                readers,
+                place_at(*slot, *store, path),
+                JsonAct::Delete,
+            ),
             ScriptStep::Read { slot, store, path } => {
-                self.read(alloc, readers, *slot, *store, path.as_str())
+                self.look(alloc, readers, place_at(*slot, *store, path), Look::Read)
             }
             ScriptStep::Exists { slot, store, path } => {
-                self.exists(alloc, readers, *slot, *store, path.as_str())
+                self.look(alloc, readers, place_at(*slot, *store, path), Look::Exists)
             }
             ScriptStep::Mirror { listener } => self.mirror(readers, *listener),
             _ => unreachable!(),

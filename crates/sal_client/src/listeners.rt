@@ -1,22 +1,23 @@
 //! The steps of a client for its listeners.
 ghost use Rattle.std.specs.Prelude.{◌≡◌, Some, IfOk, IsSome, OnOk};
-ghost use Rattle.sal_rows.specs.declared.batch.Batch.{Batch as Told};
-ghost use Rattle.sal_script.specs.Moves.{Listen, Take, Unlisten};
-ghost use Rattle.sal_script.specs.Play.{local, set_slot};
-ghost use Rattle.sal_script.specs.Play as play_spec;
+ghost use Rattle.sal_script.specs.Moves.{Mirror};
+ghost use Rattle.sal_script.specs.Play.{set_slot};
 ghost use Rattle.sal_client.specs.Followers.{Advances};
 ghost use Rattle.sal_client.specs.Leaving.{Leaves};
 ghost use Rattle.sal_client.specs.Slots.{held};
+ghost use Rattle.sal_client.specs.Targets.{IsTarget};
+ghost use Rattle.sal_client.specs.Wishes.{wished};
 ghost use Rattle.sal_client.specs.declared.follower.Follower.{Follower as Kept};
 ghost use Rattle.sal_client.specs.declared.wish.Wish.TheVariants.{Listen as ListenCall, Take as TakeCall, Unlisten as UnlistenCall};
 
 use crate::answers::{accepted, answer_to};
 use crate::calls::{called, refused_call};
 use crate::client::{ClientState, refused};
-use crate::deed::path_of;
+use crate::fault::StepFault;
 use crate::follower::Follower;
+use crate::messages::path_at;
 use crate::readers::Readers;
-use crate::slots::{Slots, fill_slot, look_at, take_slot};
+use crate::slots::{Slots, fill_slot, filled, look_at, take_slot};
 use crate::wish::{RunFault, Target, Wish};
 use sal_history::Reply;
 use sal_hub::{Hub, ListenerId, laws};
@@ -73,58 +74,41 @@ fn advance_in(
     }
 }
 
+/// To what a client wants to listen, where the script has the domain and the text is a path; or why it can't.
+pub(crate) fn target_of(
+    alloc: Global,
+    readers: &Readers,
+    domain: u32,
+    store: Store,
+    text: &Str,
+) -> Result<Target, StepFault>
+    ensures { IsTarget readers.now domain store text.now result }
+{
+    let Some(reader) = readers.of_domain(domain) else {
+        return Err(StepFault::Refused(StepRefusal::NoDevice));
+    };
+    let path = path_at(alloc, reader, text)?;
+    Ok(Target {
+        domain,
+        store,
+        text: Snapshot::of(text),
+        path,
+    })
+}
+
+/// To listen there; the listener goes into the slot.
+pub(crate) fn listen_wish(slot: u8, read: Result<Target, StepFault>) -> Result<Wish, StepFault>
+    ensures { result ≡ wished (λ target. ListenCall slot target) read }
+{
+    match read {
+        Ok(target) => Ok(Wish::Listen { slot, target }),
+        Err(fault) => Err(fault),
+    }
+}
+
 impl ClientState {
-    ghost use Rattle.sal_client.specs.Clients.{client_of, listeners_in, Everywhere, IsSound};
-    ghost use Rattle.sal_client.specs.Wishes.{Wants};
-
-    /// To listen at the path of the text, where the script has the domain and the text is a path.
-    pub(crate) fn listen_wish(
-        &self,
-        alloc: Global,
-        readers: &Readers,
-        slot: u8,
-        domain: u32,
-        store: Store,
-        text: &Str,
-    ) -> Result<Result<Wish, StepRefusal>, NoMemory>
-        ensures { IfOk result (Wants readers.now self.now (Listen slot domain store text.now)) }
-    {
-        let Some(reader) = readers.of_domain(domain) else {
-            return Ok(Err(StepRefusal::NoDevice));
-        };
-        match path_of(alloc, reader, text.as_str())? {
-            Ok(path) => {
-                let target = Target {
-                    domain,
-                    store,
-                    text: Snapshot::of(text),
-                    path,
-                };
-                Ok(Ok(Wish::Listen { slot, target }))
-            }
-            Err(refusal) => Ok(Err(refusal)),
-        }
-    }
-
-    /// To take for the listener in the slot, where there is one.
-    pub(crate) fn take_wish(&self, readers: &Readers, slot: u8) -> Result<Wish, StepRefusal>
-        ensures { Wants readers.now self.now (Take slot) result }
-    {
-        match look_at(&self.listeners, slot) {
-            None => Err(StepRefusal::EmptySlot),
-            Some(_) => Ok(Wish::Take { slot }),
-        }
-    }
-
-    /// To remove the listener in the slot, where there is one.
-    pub(crate) fn unlisten_wish(&self, readers: &Readers, slot: u8) -> Result<Wish, StepRefusal>
-        ensures { Wants readers.now self.now (Unlisten slot) result }
-    {
-        match look_at(&self.listeners, slot) {
-            None => Err(StepRefusal::EmptySlot),
-            Some(_) => Ok(Wish::Unlisten { slot }),
-        }
-    }
+    ghost use Rattle.sal_client.specs.Clients.{IsSound};
+    ghost use Rattle.sal_client.specs.Meeting.{Answers};
 
     /// Listens there; the listener goes into the slot.
     pub(crate) fn listen(
@@ -166,10 +150,7 @@ impl ClientState {
         ensures { Leaves (TakeCall slot) hub.old self.old hub.new self.new result }
     {
         laws::tokens_last();
-        let Some(follower) = look_at(&self.listeners, slot) else {
-            unreachable!()
-        };
-        let id = follower.id;
+        let id = filled(&self.listeners, slot).id;
         match hub.take(alloc, self.number, id) {
             Ok(batch) => {
                 advance_in(alloc, &mut self.listeners, slot, &batch)?;
@@ -192,15 +173,13 @@ impl ClientState {
         ensures { Leaves (UnlistenCall slot) hub.old self.now hub.new self.now result }
     {
         laws::tokens_last();
-        match look_at(&self.listeners, slot) {
-            None => unreachable!(),
-            Some(follower) => { answer_to(accepted(hub.unlisten(alloc, self.number, follower.id))) }
-        }
+        let follower = filled(&self.listeners, slot);
+        answer_to(accepted(hub.unlisten(alloc, self.number, follower.id)))
     }
 
     /// Shows the rows that follow the listener in the slot.
     pub(crate) fn mirror(&self, readers: &Readers, slot: u8) -> Result<StepReply, NoMemory>
-        ensures { IfOk result (λ r. Everywhere readers.now self.now (λ known. play_spec.mirror known.world known.log (client_of self.now) (listeners_in self.now slot) ≡ local r (client_of self.now))) }
+        ensures { IfOk result (λ r. Answers readers.now self.now (Mirror slot) r self.now) }
     {
         match look_at(&self.listeners, slot) {
             None => Ok(refused(StepRefusal::EmptySlot)),

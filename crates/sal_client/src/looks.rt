@@ -1,20 +1,26 @@
 //! Looks into what a transaction sees.
 ghost use Rattle.std.specs.Prelude.{◌≡◌, IfOk};
-ghost use Rattle.sal_types.specs.Tree.{has, under};
-ghost use Rattle.sal_rows.specs.Apply.{apply_ops};
-ghost use Rattle.sal_tx.specs.Views.{rows_in};
-ghost use Rattle.sal_hub.specs.Tokens.{base_of, begun_of, mode_of, ops_of};
-ghost use Rattle.sal_script.specs.Play.{Client, local};
-ghost use Rattle.sal_script.specs.Play as play_spec;
+ghost use Rattle.sal_hub.specs.Tokens.{begun_of};
+ghost use Rattle.sal_client.specs.Looks.{IsSeen, look_move};
 
 use crate::client::{ClientState, refused};
-use crate::deed::path_of;
+use crate::fault::refusal_reply;
+use crate::operations::{Place, path_of};
 use crate::readers::Readers;
 use crate::slots::look_at;
 use sal_script::{StepRefusal, StepReply};
 use sal_tx::{Tx, TxFault, WriteOnly};
 use sal_types::{NoMemory, Path, Store};
 use std::alloc::Global;
+
+/// What a look asks for.
+#[derive(Clone, Copy)]
+pub(crate) enum Look {
+    /// The rows at a path and below it.
+    Read,
+    /// Whether there are any.
+    Exists,
+}
 
 /// The domain of a transaction.
 pub(crate) fn domain_of(tx: &Tx) -> u32
@@ -38,7 +44,7 @@ fn only_writes(domain: u32) -> StepReply
 
 // What a transaction sees at the path and below it.
 fn rows_seen(alloc: Global, tx: &Tx, store: Store, path: Path) -> Result<StepReply, NoMemory>
-    ensures { IfOk result (λ r. (client : Client) → play_spec.look_in (begun_of tx.now).domain (mode_of tx.now) (StepReply.Read (begun_of tx.now).domain path (under (apply_ops (rows_in (base_of tx.now) store) store (ops_of tx.now)) path)) client ≡ local r client) }
+    ensures { IfOk result (IsSeen tx.now store path Look.Read) }
 {
     let domain = domain_of(tx);
     match tx {
@@ -57,7 +63,7 @@ fn rows_seen(alloc: Global, tx: &Tx, store: Store, path: Path) -> Result<StepRep
 
 // Whether a transaction sees something at the path or below it.
 fn found_seen(tx: &Tx, store: Store, path: &Path) -> StepReply
-    ensures { (client : Client) → play_spec.look_in (begun_of tx.now).domain (mode_of tx.now) (StepReply.Exists (has (apply_ops (rows_in (base_of tx.now) store) store (ops_of tx.now)) path.now)) client ≡ local result client }
+    ensures { IsSeen tx.now store path.now Look.Exists result }
 {
     match tx {
         Tx::Read(tx) => StepReply::Exists {
@@ -70,50 +76,36 @@ fn found_seen(tx: &Tx, store: Store, path: &Path) -> StepReply
     }
 }
 
-impl ClientState {
-    ghost use Rattle.sal_client.specs.Clients.{client_of, opened, Everywhere, HasSchema};
-
-    /// Reads what the slot's transaction sees at the path and below it.
-    pub(crate) fn read(
-        &self,
-        alloc: Global,
-        readers: &Readers,
-        slot: u8,
-        store: Store,
-        text: &str,
-    ) -> Result<StepReply, NoMemory>
-        requires { HasSchema readers.now self.now }
-        ensures { IfOk result (λ r. Everywhere readers.now self.now (λ known. play_spec.look_with readers.now known.world known.log play_spec.rows_read store text.now (client_of self.now) (opened self.now slot) ≡ local r (client_of self.now))) }
-    {
-        match look_at(&self.transactions, slot) {
-            None => Ok(refused(StepRefusal::EmptySlot)),
-            Some(tx) => match path_of(alloc, readers.reader(domain_of(tx)), text)? {
-                Ok(path) => {
-                    let reply = rows_seen(alloc, tx, store, path)?;
-                    Ok(reply)
-                }
-                Err(refusal) => Ok(refused(refusal)),
-            },
-        }
+// What a look at the path shows of what a transaction sees.
+fn seen(alloc: Global, tx: &Tx, store: Store, path: Path, look: Look) -> Result<StepReply, NoMemory>
+    ensures { IfOk result (IsSeen tx.now store path look) }
+{
+    match look {
+        Look::Read => rows_seen(alloc, tx, store, path),
+        Look::Exists => Ok(found_seen(tx, store, &path)),
     }
+}
 
-    /// Whether the slot's transaction sees something at the path or below it.
-    pub(crate) fn exists(
+impl ClientState {
+    ghost use Rattle.sal_client.specs.Clients.{HasSchema};
+    ghost use Rattle.sal_client.specs.Meeting.{Answers};
+
+    /// Looks at the path of the text in what the slot's transaction sees.
+    pub(crate) fn look(
         &self,
         alloc: Global,
         readers: &Readers,
-        slot: u8,
-        store: Store,
-        text: &str,
+        place: Place,
+        look: Look,
     ) -> Result<StepReply, NoMemory>
         requires { HasSchema readers.now self.now }
-        ensures { IfOk result (λ r. Everywhere readers.now self.now (λ known. play_spec.look_with readers.now known.world known.log play_spec.found store text.now (client_of self.now) (opened self.now slot) ≡ local r (client_of self.now))) }
+        ensures { IfOk result (λ r. Answers readers.now self.now (look_move place.entry.slot place.entry.store place.entry.text.now look) r self.now) }
     {
-        match look_at(&self.transactions, slot) {
+        match look_at(&self.transactions, place.slot) {
             None => Ok(refused(StepRefusal::EmptySlot)),
-            Some(tx) => match path_of(alloc, readers.reader(domain_of(tx)), text)? {
-                Ok(path) => Ok(found_seen(tx, store, &path)),
-                Err(refusal) => Ok(refused(refusal)),
+            Some(tx) => match path_of(alloc, readers.reader(domain_of(tx)), place.text) {
+                Ok(path) => seen(alloc, tx, place.store, path, look),
+                Err(fault) => refusal_reply(fault),
             },
         }
     }

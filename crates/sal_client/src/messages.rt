@@ -5,8 +5,10 @@ ghost use Rattle.sal_schema.specs.Table.{children_of};
 ghost use Rattle.sal_script.specs.Messages as spec;
 ghost use Rattle.sal_script.specs.Services.{context_of, if_known, path_of, rows_of};
 ghost use Rattle.sal_client.specs.Asked.{IsService};
+ghost use Rattle.sal_client.specs.Faults.{Reads};
 
-use crate::deed;
+use crate::fault::StepFault;
+use crate::operations;
 use crate::reader::Reader;
 use sal_rows::Rows;
 use sal_schema::Schema;
@@ -46,20 +48,27 @@ fn note_called(schema: &Schema, name: &str) -> Option<u32>
 }
 
 // The node of an RPC or of a notification, or why there is none.
-fn known(found: Option<u32>) -> Result<u32, StepRefusal>
-    ensures { result ≡ if_known found }
+fn known(found: Option<u32>) -> Result<u32, StepFault>
+    ensures { Reads result (if_known found) }
 {
     match found {
         Some(node) => Ok(node),
-        None => Err(StepRefusal::UnknownName),
+        None => Err(StepFault::Refused(StepRefusal::UnknownName)),
     }
 }
 
-/// The notification of this name, or why there is none.
-pub(crate) fn note_of(schema: &Schema, name: &str) -> Result<u32, StepRefusal>
-    ensures { result ≡ if_known (spec.note_called schema.now name.now) }
+// The RPC of this name, or why there is none.
+fn rpc_of(schema: &Schema, name: &Str) -> Result<u32, StepFault>
+    ensures { Reads result (if_known (spec.rpc_called schema.now name.now)) }
 {
-    known(note_called(schema, name))
+    known(rpc_called(schema, name.as_str()))
+}
+
+/// The notification of this name, or why there is none.
+pub(crate) fn note_of(schema: &Schema, name: &Str) -> Result<u32, StepFault>
+    ensures { Reads result (if_known (spec.note_called schema.now name.now)) }
+{
+    known(note_called(schema, name.as_str()))
 }
 
 // The child of the RPC at the index, and the RPC itself where it has no such child.
@@ -107,25 +116,18 @@ pub(crate) fn rows_under(
     reader: &Reader,
     node: u32,
     value: &Value,
-) -> Result<Result<Rows, StepRefusal>, NoMemory>
-    ensures { IfOk result (λ made. made ≡ rows_of reader.now node (view value.now)) }
+) -> Result<Rows, StepFault>
+    ensures { Reads result (rows_of reader.now node (view value.now)) }
 {
     let path = message_at(alloc, node)?;
-    match deed::rows_of(alloc, reader, &path, value)? {
-        Ok(rows) => Ok(Ok(rows)),
-        Err(fault) => Ok(Err(StepRefusal::BadData { domain: 0, fault })),
-    }
+    operations::rows_of(alloc, reader, 0, &path, value)
 }
 
 /// The path that the text stands for, or why it stands for none.
-pub(crate) fn path_at(
-    alloc: Global,
-    reader: &Reader,
-    text: &Str,
-) -> Result<Result<Path, StepRefusal>, NoMemory>
-    ensures { IfOk result (λ made. made ≡ path_of reader.now text.now) }
+pub(crate) fn path_at(alloc: Global, reader: &Reader, text: &Str) -> Result<Path, StepFault>
+    ensures { Reads result (path_of reader.now text.now) }
 {
-    deed::path_of(alloc, reader, text.as_str())
+    operations::path_of(alloc, reader, text.as_str())
 }
 
 // The context of an RPC, if it is given, or why the text is none.
@@ -133,15 +135,15 @@ fn context_of(
     alloc: Global,
     reader: &Reader,
     context: &Option<Str>,
-) -> Result<Result<Option<Path>, StepRefusal>, NoMemory>
-    ensures { IfOk result (λ made. made ≡ context_of reader.now context.now) }
+) -> Result<Option<Path>, StepFault>
+    ensures { Reads result (context_of reader.now context.now) }
 {
     match context {
-        None => Ok(Ok(None)),
-        Some(text) => match path_at(alloc, reader, text)? {
-            Ok(path) => Ok(Ok(Some(path))),
-            Err(refusal) => Ok(Err(refusal)),
-        },
+        None => Ok(None),
+        Some(text) => {
+            let path = path_at(alloc, reader, text)?;
+            Ok(Some(path))
+        }
     }
 }
 
@@ -151,20 +153,15 @@ pub(crate) fn service_of(
     reader: &Reader,
     name: &Str,
     text: &Option<Str>,
-) -> Result<Result<Service, StepRefusal>, NoMemory>
-    ensures { IfOk result (IsService reader.now name.now text.now) }
+) -> Result<Service, StepFault>
+    ensures { IsService reader.now name.now text.now result }
 {
-    let rpc = match known(rpc_called(reader.schema(), name.as_str())) {
-        Ok(rpc) => rpc,
-        Err(refusal) => return Ok(Err(refusal)),
-    };
-    match context_of(alloc, reader, text)? {
-        Ok(context) => Ok(Ok(Service {
-            name: Snapshot::of(name),
-            text: Snapshot::of(text),
-            rpc,
-            context,
-        })),
-        Err(refusal) => Ok(Err(refusal)),
-    }
+    let rpc = rpc_of(reader.schema(), name)?;
+    let context = context_of(alloc, reader, text)?;
+    Ok(Service {
+        name: Snapshot::of(name),
+        text: Snapshot::of(text),
+        rpc,
+        context,
+    })
 }

@@ -1,17 +1,17 @@
 //! The steps of a client for mounts.
-ghost use Rattle.std.specs.Prelude.{◌≡◌, IfOk};
 ghost use Rattle.sal_script.specs.Moves.{Mount, MountAt};
 ghost use Rattle.sal_client.specs.Leaving.{Leaves};
 ghost use Rattle.sal_client.specs.declared.wish.Wish.TheVariants.{Mount as MountCall};
 
 use crate::answers::{accepted, answer_to, mounted};
 use crate::client::ClientState;
+use crate::fault::StepFault;
 use crate::messages::path_at;
 use crate::readers::Readers;
 use crate::wish::{RunFault, Wish};
 use sal_hub::{Hub, laws};
-use sal_script::{StepRefusal, StepReply};
-use sal_types::{NoMemory, Path, Str};
+use sal_script::StepReply;
+use sal_types::{Path, Str};
 use std::alloc::Global;
 use std::snapshot::Snapshot;
 
@@ -46,17 +46,15 @@ impl ClientState {
         readers: &Readers,
         device: u32,
         text: &Str,
-    ) -> Result<Result<Wish, StepRefusal>, NoMemory>
-        ensures { IfOk result (Wants readers.now self.now (Mount device text.now)) }
+    ) -> Result<Wish, StepFault>
+        ensures { Wants readers.now self.now (Mount device text.now) result }
     {
-        match path_at(alloc, readers.own(), text)? {
-            Ok(path) => Ok(Ok(Wish::Mount(MountWish::Mount {
-                device,
-                text: Snapshot::of(text),
-                path,
-            }))),
-            Err(refusal) => Ok(Err(refusal)),
-        }
+        let path = path_at(alloc, readers.own(), text)?;
+        Ok(Wish::Mount(MountWish::Mount {
+            device,
+            text: Snapshot::of(text),
+            path,
+        }))
     }
 
     /// To ask which domain is mounted at the path of the text, where it is one.
@@ -65,16 +63,14 @@ impl ClientState {
         alloc: Global,
         readers: &Readers,
         text: &Str,
-    ) -> Result<Result<Wish, StepRefusal>, NoMemory>
-        ensures { IfOk result (Wants readers.now self.now (MountAt text.now)) }
+    ) -> Result<Wish, StepFault>
+        ensures { Wants readers.now self.now (MountAt text.now) result }
     {
-        match path_at(alloc, readers.own(), text)? {
-            Ok(path) => Ok(Ok(Wish::Mount(MountWish::MountAt {
-                text: Snapshot::of(text),
-                path,
-            }))),
-            Err(refusal) => Ok(Err(refusal)),
-        }
+        let path = path_at(alloc, readers.own(), text)?;
+        Ok(Wish::Mount(MountWish::MountAt {
+            text: Snapshot::of(text),
+            path,
+        }))
     }
 
     /// Makes the call for mounts. It changes no slot.

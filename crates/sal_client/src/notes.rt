@@ -1,5 +1,4 @@
 //! The steps of a client for notifications.
-ghost use Rattle.std.specs.Prelude.{◌≡◌, IfOk};
 ghost use Rattle.serde_json.specs.View.{view};
 ghost use Rattle.sal_script.specs.Moves.{Subscribe, Offer};
 ghost use Rattle.sal_client.specs.Leaving.{Leaves};
@@ -7,13 +6,14 @@ ghost use Rattle.sal_client.specs.declared.wish.Wish.TheVariants.{Note as NoteCa
 
 use crate::answers::{accepted, answer_to, notes, offered};
 use crate::client::ClientState;
+use crate::fault::StepFault;
 use crate::messages::{note_of, rows_under};
 use crate::readers::Readers;
 use crate::wish::{RunFault, Wish};
 use sal_hub::{Hub, laws};
 use sal_rows::Rows;
-use sal_script::{StepRefusal, StepReply};
-use sal_types::{NoMemory, Str};
+use sal_script::StepReply;
+use sal_types::Str;
 use serde_json::Value;
 use std::alloc::Global;
 use std::snapshot::Snapshot;
@@ -42,16 +42,14 @@ impl ClientState {
     ghost use Rattle.sal_client.specs.Wishes.{Wants};
 
     /// To subscribe to the notification of this name, where there is one.
-    pub(crate) fn subscribe_wish(&self, readers: &Readers, name: &Str) -> Result<Wish, StepRefusal>
+    pub(crate) fn subscribe_wish(&self, readers: &Readers, name: &Str) -> Result<Wish, StepFault>
         ensures { Wants readers.now self.now (Subscribe name.now) result }
     {
-        match note_of(readers.own().schema(), name.as_str()) {
-            Ok(note) => Ok(Wish::Note(NoteWish::Subscribe {
-                name: Snapshot::of(name),
-                note,
-            })),
-            Err(refusal) => Err(refusal),
-        }
+        let note = note_of(readers.own().schema(), name)?;
+        Ok(Wish::Note(NoteWish::Subscribe {
+            name: Snapshot::of(name),
+            note,
+        }))
     }
 
     /// To offer the notification of this name, where the value is data of it.
@@ -61,23 +59,18 @@ impl ClientState {
         readers: &Readers,
         name: &Str,
         value: &Value,
-    ) -> Result<Result<Wish, StepRefusal>, NoMemory>
-        ensures { IfOk result (Wants readers.now self.now (Offer name.now (view value.now))) }
+    ) -> Result<Wish, StepFault>
+        ensures { Wants readers.now self.now (Offer name.now (view value.now)) result }
     {
         let reader = readers.own();
-        let note = match note_of(reader.schema(), name.as_str()) {
-            Ok(note) => note,
-            Err(refusal) => return Ok(Err(refusal)),
-        };
-        match rows_under(alloc, reader, note, value)? {
-            Ok(rows) => Ok(Ok(Wish::Note(NoteWish::Offer {
-                name: Snapshot::of(name),
-                value: Snapshot::of(value),
-                note,
-                rows,
-            }))),
-            Err(refusal) => Ok(Err(refusal)),
-        }
+        let note = note_of(reader.schema(), name)?;
+        let rows = rows_under(alloc, reader, note, value)?;
+        Ok(Wish::Note(NoteWish::Offer {
+            name: Snapshot::of(name),
+            value: Snapshot::of(value),
+            note,
+            rows,
+        }))
     }
 
     /// Makes the call for notifications. It changes no slot.

@@ -81,6 +81,24 @@ fn add(alloc: Global, list: &mut Vec<Reader>, schema: &Arc<Schema>) -> Result<()
     }
 }
 
+// Adds the readers of all devices.
+fn add_all(
+    alloc: Global,
+    list: &mut Vec<Reader>,
+    schemas: &[Arc<Schema>],
+) -> Result<(), ReadersFault>
+    requires none { list.old.items ≡ [] }
+    requires few { length schemas.now ≤ 64 }
+    ensures tables { OnOk result (list.new.items ≡ shared_tables schemas.now) }
+    ensures formed { OnOk result (list_any is_malformed list.new.items ≡ false) }
+    ensures refused { IfErr result (IsFirstMalformed (shared_tables schemas.now)) }
+{
+    for schema in schemas {
+        add(alloc, list, schema)?;
+    }
+    Ok(())
+}
+
 impl Readers {
     /// Readers of these schemas, of which the first is that of the controller's own domain.
     pub fn of(alloc: Global, schemas: &[Arc<Schema>]) -> Result<Readers, ReadersFault>
@@ -91,9 +109,7 @@ impl Readers {
         ensures refused { IfErr result (IsFirstMalformed (shared_tables schemas.now)) }
     {
         let mut list = Vec::new(alloc);
-        for schema in schemas {
-            add(alloc, &mut list, schema)?;
-        }
+        add_all(alloc, &mut list, schemas)?;
         Ok(Readers { list })
     }
 

@@ -12,7 +12,7 @@ use crate::calls::{called, refused_call};
 use crate::client::ClientState;
 use crate::messages::Service;
 use crate::rpcs::{Answer, Ask, Invocation, RpcWish};
-use crate::slots::{Slots, fill_slot, look_at};
+use crate::slots::{Slots, fill_slot, filled};
 use crate::wish::RunFault;
 use sal_history::Reply;
 use sal_hub::{Hub, laws};
@@ -99,10 +99,8 @@ impl ClientState {
         ensures { Leaves (RpcCall (Collect slot)) hub.old self.now hub.new self.now result }
     {
         laws::tokens_last();
-        match look_at(&self.invoked, slot) {
-            None => unreachable!(),
-            Some(id) => answer_to(output(id.rpc(), hub.collect(alloc, self.number, *id))),
-        }
+        let id = filled(&self.invoked, slot);
+        answer_to(output(id.rpc(), hub.collect(alloc, self.number, *id)))
     }
 
     /// Makes the call for RPCs, and keeps what its answer leaves in the slots.

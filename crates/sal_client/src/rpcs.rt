@@ -1,10 +1,14 @@
 //! The steps of a client for RPCs, up to the calls that they ask for.
-ghost use Rattle.std.specs.Prelude.{◌≡◌, IfOk};
+ghost use Rattle.std.specs.Prelude.{◌≡◌};
 ghost use Rattle.serde_json.specs.View.{view};
-ghost use Rattle.sal_script.specs.Moves.{Provide, Withdraw, Invoke, Answer as Answers, Collect};
-ghost use Rattle.sal_client.specs.Asked.{IsAsk, IsAnswerTo};
+ghost use Rattle.sal_script.specs.Moves.{Answer as Answers};
+ghost use Rattle.sal_client.specs.Asked.{IsAsk, IsAskBy, IsAnswerTo};
+ghost use Rattle.sal_client.specs.Wishes.{wished};
+ghost use Rattle.sal_client.specs.declared.rpcs.RpcWish.TheVariants.{Invoke, Provide, Withdraw};
+ghost use Rattle.sal_client.specs.declared.wish.Wish.TheVariants.{Rpc};
 
 use crate::client::ClientState;
+use crate::fault::StepFault;
 use crate::messages::{Service, input_of, output_of, rows_under, service_of};
 use crate::reader::Reader;
 use crate::readers::Readers;
@@ -12,7 +16,7 @@ use crate::slots::look_at;
 use crate::wish::Wish;
 use sal_rows::Rows;
 use sal_script::StepRefusal;
-use sal_types::{NoMemory, Str};
+use sal_types::Str;
 use serde_json::Value;
 use std::alloc::Global;
 use std::snapshot::Snapshot;
@@ -57,24 +61,31 @@ pub enum RpcWish {
     Collect { slot: u8 },
 }
 
-// The request with this input, or why the value is none.
-fn ask_of(
-    alloc: Global,
-    reader: &Reader,
-    service: Service,
-    value: &Value,
-) -> Result<Result<Ask, StepRefusal>, NoMemory>
-    ensures { IfOk result (IsAsk reader.now service (view value.now)) }
+// The request of the service with this input, or why the value is none.
+fn ask_of(alloc: Global, reader: &Reader, service: Service, value: &Value) -> Result<Ask, StepFault>
+    ensures { IsAsk reader.now service (view value.now) result }
 {
     let node = input_of(reader.schema(), service.rpc);
-    match rows_under(alloc, reader, node, value)? {
-        Ok(input) => Ok(Ok(Ask {
-            service,
-            value: Snapshot::of(value),
-            input,
-        })),
-        Err(refusal) => Ok(Err(refusal)),
-    }
+    let input = rows_under(alloc, reader, node, value)?;
+    Ok(Ask {
+        service,
+        value: Snapshot::of(value),
+        input,
+    })
+}
+
+/// The request of the RPC of this name in the context of the text with this input, or why there is none.
+pub(crate) fn ask_by(
+    alloc: Global,
+    reader: &Reader,
+    name: &Str,
+    text: &Option<Str>,
+    value: &Value,
+) -> Result<Ask, StepFault>
+    ensures { IsAskBy reader.now name.now text.now (view value.now) result }
+{
+    let service = service_of(alloc, reader, name, text)?;
+    ask_of(alloc, reader, service, value)
 }
 
 // The answer to the request with this output, or why the value is none.
@@ -83,77 +94,50 @@ fn answer_of(
     reader: &Reader,
     request: Invocation,
     value: &Value,
-) -> Result<Result<Answer, StepRefusal>, NoMemory>
-    ensures { IfOk result (IsAnswerTo reader.now request (view value.now)) }
+) -> Result<Answer, StepFault>
+    ensures { IsAnswerTo reader.now request (view value.now) result }
 {
     let node = output_of(reader.schema(), request.rpc);
-    match rows_under(alloc, reader, node, value)? {
-        Ok(output) => Ok(Ok(Answer {
-            request,
-            value: Snapshot::of(value),
-            output,
-        })),
-        Err(refusal) => Ok(Err(refusal)),
+    let output = rows_under(alloc, reader, node, value)?;
+    Ok(Answer {
+        request,
+        value: Snapshot::of(value),
+        output,
+    })
+}
+
+/// To provide the service that was read.
+pub(crate) fn provide_wish(read: Result<Service, StepFault>) -> Result<Wish, StepFault>
+    ensures { result ≡ wished (λ service. Rpc (Provide service)) read }
+{
+    match read {
+        Ok(service) => Ok(Wish::Rpc(RpcWish::Provide { service })),
+        Err(fault) => Err(fault),
+    }
+}
+
+/// To provide it no more.
+pub(crate) fn withdraw_wish(read: Result<Service, StepFault>) -> Result<Wish, StepFault>
+    ensures { result ≡ wished (λ service. Rpc (Withdraw service)) read }
+{
+    match read {
+        Ok(service) => Ok(Wish::Rpc(RpcWish::Withdraw { service })),
+        Err(fault) => Err(fault),
+    }
+}
+
+/// To make the request that was read; its id goes into the slot.
+pub(crate) fn invoke_wish(slot: u8, read: Result<Ask, StepFault>) -> Result<Wish, StepFault>
+    ensures { result ≡ wished (λ ask. Rpc (Invoke slot ask)) read }
+{
+    match read {
+        Ok(ask) => Ok(Wish::Rpc(RpcWish::Invoke { slot, ask })),
+        Err(fault) => Err(fault),
     }
 }
 
 impl ClientState {
     ghost use Rattle.sal_client.specs.Wishes.{Wants};
-
-    /// To provide the RPC of this name, where there is one and the text is a path.
-    pub(crate) fn provide_wish(
-        &self,
-        alloc: Global,
-        readers: &Readers,
-        rpc: &Str,
-        context: &Option<Str>,
-    ) -> Result<Result<Wish, StepRefusal>, NoMemory>
-        ensures { IfOk result (Wants readers.now self.now (Provide rpc.now context.now)) }
-    {
-        match service_of(alloc, readers.own(), rpc, context)? {
-            Ok(service) => Ok(Ok(Wish::Rpc(RpcWish::Provide { service }))),
-            Err(refusal) => Ok(Err(refusal)),
-        }
-    }
-
-    /// To provide it no more.
-    pub(crate) fn withdraw_wish(
-        &self,
-        alloc: Global,
-        readers: &Readers,
-        rpc: &Str,
-        context: &Option<Str>,
-    ) -> Result<Result<Wish, StepRefusal>, NoMemory>
-        ensures { IfOk result (Wants readers.now self.now (Withdraw rpc.now context.now)) }
-    {
-        match service_of(alloc, readers.own(), rpc, context)? {
-            Ok(service) => Ok(Ok(Wish::Rpc(RpcWish::Withdraw { service }))),
-            Err(refusal) => Ok(Err(refusal)),
-        }
-    }
-
-    /// To make a request of the RPC of this name, where the value is its input.
-    pub(crate) fn invoke_wish(
-        &self,
-        alloc: Global,
-        readers: &Readers,
-        slot: u8,
-        rpc: &Str,
-        context: &Option<Str>,
-        value: &Value,
-    ) -> Result<Result<Wish, StepRefusal>, NoMemory>
-        ensures { IfOk result (Wants readers.now self.now (Invoke slot rpc.now context.now (view value.now))) }
-    {
-        let reader = readers.own();
-        let service = match service_of(alloc, reader, rpc, context)? {
-            Ok(service) => service,
-            Err(refusal) => return Ok(Err(refusal)),
-        };
-        match ask_of(alloc, reader, service, value)? {
-            Ok(ask) => Ok(Ok(Wish::Rpc(RpcWish::Invoke { slot, ask }))),
-            Err(refusal) => Ok(Err(refusal)),
-        }
-    }
 
     /// To answer the request in the slot, where there is one and the value is an output of its RPC.
     pub(crate) fn answer_wish(
@@ -162,26 +146,13 @@ impl ClientState {
         readers: &Readers,
         slot: u8,
         value: &Value,
-    ) -> Result<Result<Wish, StepRefusal>, NoMemory>
-        ensures { IfOk result (Wants readers.now self.now (Answers slot (view value.now))) }
+    ) -> Result<Wish, StepFault>
+        ensures { Wants readers.now self.now (Answers slot (view value.now)) result }
     {
         let Some(request) = look_at(&self.handed, slot) else {
-            return Ok(Err(StepRefusal::EmptySlot));
+            return Err(StepFault::Refused(StepRefusal::EmptySlot));
         };
-        let request = *request;
-        match answer_of(alloc, readers.own(), request, value)? {
-            Ok(answer) => Ok(Ok(Wish::Rpc(RpcWish::Answer { slot, answer }))),
-            Err(refusal) => Ok(Err(refusal)),
-        }
-    }
-
-    /// To ask for the answer to the request in the slot, where there is one.
-    pub(crate) fn collect_wish(&self, readers: &Readers, slot: u8) -> Result<Wish, StepRefusal>
-        ensures { Wants readers.now self.now (Collect slot) result }
-    {
-        match look_at(&self.invoked, slot) {
-            None => Err(StepRefusal::EmptySlot),
-            Some(_) => Ok(Wish::Rpc(RpcWish::Collect { slot })),
-        }
+        let answer = answer_of(alloc, readers.own(), *request, value)?;
+        Ok(Wish::Rpc(RpcWish::Answer { slot, answer }))
     }
 }

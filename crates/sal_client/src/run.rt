@@ -98,7 +98,7 @@ impl ClientRun {
         ensures stops { IfErr result (Stops self.old.client.number hub.old hub.new) }
     {
         let reply = self.client.call(alloc, hub, wish)?;
-        self.client.replies.push(reply)?;
+        self.client.keep(reply)?;
         Ok(())
     }
 

@@ -1,12 +1,12 @@
 //! A script played in an order, on one thread.
-ghost use Rattle.std.specs.Prelude.{◌≡◌, ◌+◌, ◌<◌, List, [], ◌∷◌, ◌++◌, IfOk, OnOk, IsTrue, length, map};
+ghost use Rattle.std.specs.Prelude.{◌≡◌, ◌<◌, [], IfOk, IsTrue, map};
 ghost use Rattle.sal_script.specs.Limits.{within_limits};
 ghost use Rattle.sal_script.specs.Play.{tables_of};
 ghost use Rattle.sal_hub.specs.Known.{Known};
 ghost use Rattle.sal_script.specs.JsonMoves.{have_json_moves};
 ghost use Rattle.sal_script.specs.Moves.{clients_of};
 ghost use Rattle.sal_script.specs.Play as play_spec;
-ghost use Rattle.sal_client.specs.Runs.{replies_in, runs_of, stand_of, AreRuns, Ends, PlaysAs, Turns};
+ghost use Rattle.sal_client.specs.Runs.{replies_in, stand_of, AreRuns, Begins, Ends, Follows, PlaysAs, Turns};
 
 use crate::readers::Readers;
 use crate::run::ClientRun;
@@ -87,6 +87,29 @@ impl Simulation {
         Ok(made)
     }
 
+    // Plays the numbers of the order, one after another.
+    fn follow<G: Gate>(
+        &mut self,
+        alloc: Global,
+        readers: &Readers,
+        programs: &[Program],
+        order: &[u32],
+        gate: &G,
+    ) -> Result<(), PlayFault>
+        requires runs { AreRuns self.old.hub programs.now self.old.runs.items }
+        requires tables { readers.now ≡ tables_of self.old.hub.world }
+        ensures { Follows readers.now programs.now order.now self.old.hub self.old.runs.items self.new.hub self.new.runs.items result }
+    {
+        for i in 0..order.len() {
+            match self.turn(alloc, readers, programs, order[i], gate) {
+                Ok(true) => {}
+                Ok(false) => return Err(PlayFault::BadOrder { index: i as u64 }),
+                Err(NoMemory) => return Err(PlayFault::NoMemory),
+            }
+        }
+        Ok(())
+    }
+
     // Lets each client answer the steps that are left: false where one has a shared call left.
     fn finish<G: Gate>(
         &mut self,
@@ -109,6 +132,19 @@ impl Simulation {
     }
 }
 
+// The hub, with clients at their beginning.
+fn beginning(alloc: Global, hub: Hub, programs: &[Program]) -> Result<Simulation, PlayFault>
+    requires limits { IsTrue (within_limits programs.now) }
+    requires json { IsTrue (have_json_moves (clients_of programs.now)) }
+    requires fresh { hub.log ≡ [] }
+    ensures { Begins hub programs.now result }
+{
+    match new_runs(alloc, programs) {
+        Ok(runs) => Ok(Simulation { hub, runs }),
+        Err(NoMemory) => Err(PlayFault::NoMemory),
+    }
+}
+
 /// Plays the script in its order over a hub without calls, whose domains have the readers' schemas. The gate is passed
 /// before each step.
 pub fn play<G: Gate>(
@@ -124,18 +160,8 @@ pub fn play<G: Gate>(
 {
     let programs = script.clients.items();
     let order = script.order.items();
-    let runs = match new_runs(alloc, programs) {
-        Ok(runs) => runs,
-        Err(NoMemory) => return Err(PlayFault::NoMemory),
-    };
-    let mut simulation = Simulation { hub, runs };
-    for i in 0..order.len() {
-        match simulation.turn(alloc, readers, programs, order[i], gate) {
-            Ok(true) => {}
-            Ok(false) => return Err(PlayFault::BadOrder { index: i as u64 }),
-            Err(NoMemory) => return Err(PlayFault::NoMemory),
-        }
-    }
+    let mut simulation = beginning(alloc, hub, programs)?;
+    simulation.follow(alloc, readers, programs, order, gate)?;
     end(
         alloc,
         readers,

@@ -1,5 +1,5 @@
 //! A client's slots: its own places for transactions, for receipts and for chains.
-ghost use Rattle.std.specs.Prelude.{◌≡◌, None, Some, OnOk};
+ghost use Rattle.std.specs.Prelude.{◌≡◌, None, Some, IsSome, OnOk};
 ghost use Rattle.std.specs.Option.{option_copied};
 ghost use Rattle.sal_script.specs.Play.{set_slot};
 ghost use Rattle.sal_client.specs.Slots.{held};
@@ -32,6 +32,17 @@ pub fn fill_slot<T: Drop>(slots: &mut Slots<T>, slot: u8, value: T) -> Result<()
 {
     slots.insert(slot, value)?;
     Ok(())
+}
+
+/// What the slot holds, which is filled.
+pub fn filled<T>(slots: &Slots<T>, slot: u8) -> &T
+    requires { IsSome (held slots.now slot) }
+    ensures { held slots.now slot ≡ Some result.now }
+{
+    match look_at(slots, slot) {
+        Some(value) => value,
+        None => unreachable!(),
+    }
 }
 
 /// What the slot holds.

@@ -1,20 +1,20 @@
 //! Writes in a client's transaction.
-ghost use Rattle.std.specs.Prelude.{◌≡◌, Some, IfOk, OnOk, IsTrue, MatchResult, ⊤};
+ghost use Rattle.std.specs.Prelude.{◌≡◌, Some, IfOk, IsTrue, MatchResult, ⊤};
 ghost use Rattle.sal_script.specs.JsonScripts.{is_json_deed};
-ghost use Rattle.sal_script.specs.Play.{Client, Open, accept_unless, local, table_in};
-ghost use Rattle.sal_script.specs.Play as play_spec;
+ghost use Rattle.sal_script.specs.Play.{Open, table_in};
 ghost use Rattle.sal_rules.specs.Writes.{IsForSchema};
-ghost use Rattle.sal_client.specs.Deeds.{deed_of};
+ghost use Rattle.sal_client.specs.Operations.{deed_of, write_move};
 
 use crate::client::{ClientState, Standing, refused};
-use crate::deed::{Deed, Spot, op_of};
+use crate::fault::refusal_reply;
 use crate::looks::domain_of;
+use crate::operations::{JsonAct, Place, op_of};
 use crate::readers::Readers;
 use crate::slots::{fill_slot, look_at, take_slot};
 use sal_rows::Op;
 use sal_script::{StepRefusal, StepReply, laws};
 use sal_tx::{Tx, TxFault};
-use sal_types::{NoMemory, Store};
+use sal_types::NoMemory;
 use std::alloc::Global;
 
 // The reply to a write that the transaction of the domain answered so.
@@ -30,7 +30,8 @@ fn reply_to(domain: u32, answer: Result<(), TxFault>) -> Result<StepReply, NoMem
 }
 
 impl ClientState {
-    ghost use Rattle.sal_client.specs.Clients.{client_of, domain_of, opened, standing_of, Everywhere, HasSchema, Same, StaysSound};
+    ghost use Rattle.sal_client.specs.Clients.{domain_of, opened, standing_of, HasSchema};
+    ghost use Rattle.sal_client.specs.Meeting.{IsAnswered, IsWritten};
 
     // The domain of the slot's transaction; 0 of an empty slot.
     fn domain_in(&self, slot: u8) -> u32
@@ -47,37 +48,26 @@ impl ClientState {
         &mut self,
         alloc: Global,
         readers: &Readers,
-        slot: u8,
-        store: Store,
-        text: &str,
-        deed: Deed,
+        place: Place,
+        act: JsonAct,
     ) -> Result<StepReply, NoMemory>
         requires schema { HasSchema readers.now self.old }
-        requires json { IsTrue (is_json_deed (deed_of deed)) }
-        ensures answers { IfOk result (λ r. Everywhere readers.now self.old (λ known. play_spec.write_with readers.now known.world known.log slot store text.now (deed_of deed.entry) (client_of self.old) (opened self.old slot) ≡ local r (client_of self.new))) }
-        ensures sound { OnOk result (StaysSound self.old self.new) }
-        ensures schema { OnOk result (HasSchema readers.now self.new) }
-        ensures same { OnOk result (Same self.old self.new) }
+        requires json { IsTrue (is_json_deed (deed_of act)) }
+        ensures { IfOk result (λ r. IsAnswered readers.now self.old (write_move place.entry.slot place.entry.store place.entry.text.now (deed_of act.entry)) r self.new) }
     {
-        match self.standing(slot) {
+        match self.standing(place.slot) {
             Standing::Empty => Ok(refused(StepRefusal::EmptySlot)),
             Standing::ReadOnly => Ok(refused(StepRefusal::ReadOnly)),
             Standing::Writable => {
-                let domain = self.domain_in(slot);
+                let domain = self.domain_in(place.slot);
                 let reader = readers.reader(domain);
-                let spot = Spot {
-                    domain,
-                    store,
-                    text,
-                };
-                match op_of(alloc, reader, spot, deed)? {
+                match op_of(alloc, reader, domain, place, act) {
                     Ok(op) => {
                         laws::writes_are_for_schema();
                         let _count = reader.schema().len();
-                        let reply = self.write_op(alloc, readers, slot, op)?;
-                        Ok(reply)
+                        self.write_op(alloc, readers, place.slot, op)
                     }
-                    Err(refusal) => Ok(refused(refusal)),
+                    Err(fault) => refusal_reply(fault),
                 }
             }
         }
@@ -94,10 +84,7 @@ impl ClientState {
         requires schema { HasSchema readers.now self.old }
         requires for_schema { (tx : Open) → opened self.old slot ≡ Some tx → IsForSchema (table_in readers.now tx.domain) op }
         requires writable { standing_of (opened self.old slot) ≡ Standing.Writable }
-        ensures answers { IfOk result (λ r. Everywhere readers.now self.old (λ known. (tx : Open) → opened self.old slot ≡ Some tx → play_spec.write_op (table_in readers.now tx.domain) known.world known.log slot op tx (client_of self.old) ≡ local r (client_of self.new))) }
-        ensures sound { OnOk result (StaysSound self.old self.new) }
-        ensures schema { OnOk result (HasSchema readers.now self.new) }
-        ensures same { OnOk result (Same self.old self.new) }
+        ensures { IfOk result (λ r. IsWritten readers.now self.old slot op r self.new) }
     {
         match take_slot(&mut self.transactions, slot) {
             Some(Tx::Write(taken)) => {

@@ -1,5 +1,5 @@
 -- A number past the nodes has no children.
-use Rattle.std.proofs.Common.{◌≡◌, List, ℕ, Some, ap, sym, arith}
+use Rattle.std.proofs.Common.{List, ℕ, ap, sym, arith}
 use Rattle.std.specs.Prelude.{slice_get, unwrap_or}
 use Rattle.sal_client.proofs.Childless.{childless}
 use Rattle.sal_client.proofs.messages.child_at.Goals as goal

@@ -11,7 +11,7 @@ use Rattle.sal_client.proofs.Places.{seen-filled}
 use Rattle.sal_client.proofs.Domains.{begun_live, live_within}
 use Rattle.sal_client.proofs.Soundness.{IsSound-filled}
 use Rattle.sal_client.proofs.Answering.{in_world, kept_begun}
-use Rattle.sal_client.proofs.Leaving.{leaves_in_vain, leaves_made, leaves_refused, sound_behind}
+use Rattle.sal_client.proofs.Leaving.{leaves_made, leaves_refused, sound_behind}
 use Rattle.sal_client.proofs.client.ClientState.begin.Goals as goal
 
 pub returns-in_ok-fill_slot-in-Ok : goal.returns-in_ok-fill_slot-in-Ok

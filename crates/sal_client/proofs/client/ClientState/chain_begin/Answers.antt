@@ -17,19 +17,19 @@ use Rattle.sal_client.proofs.Leaving.{leaves_made, leaves_refused, sound_behind}
 use Rattle.sal_client.proofs.client.ClientState.chain_begin.Goals as goal
 
 pub chain_begin-requires : goal.chain_begin-requires
-chain_begin-requires c = record { token = c.requires.sound.chains c.args.from c.in-Some.chain.now (sym c.in-Some.ensures) }
+chain_begin-requires c = record { token = c.requires.sound.chains c.args.from c.filled-chain.result.now c.filled-chain.ensures }
 
 pub returns-in_ok-fill_slot-in-Ok : goal.returns-in_ok-fill_slot-in-Ok
 returns-in_ok-fill_slot-in-Ok c =
     let old = c.args.self.now in
     let known = c.args.hub.now in
-    let chain = c.in-Some.chain.now in
+    let chain = c.filled-chain.result.now in
     let tx = c.in-Ok.tx in
     let wish = ChainBegin c.args.from c.args.slot c.args.mode in
     let call = ChainBeginCall chain.id c.args.mode in
     let made = c.in-Ok.ensures.answer in
     let last = c.tokens_last.ensures in
-    let found : held old.chains c.args.from ≡ Some chain = sym c.in-Some.ensures in
+    let found : held old.chains c.args.from ≡ Some chain = c.filled-chain.ensures in
     let filled = seen-filled open_of (held old.transactions) (held c.fill_slot.new.slots) c.args.slot tx c.in_ok-fill_slot-in-Ok.ensures in
     let answered = history known.world known.log in
     let live = chained_live known.world answered chain.id _ (begun_of tx).base_commit _ (begun_of tx).on made.reply in
@@ -46,10 +46,10 @@ returns-in_ok-fill_slot-in-Ok c =
 pub returns-in-Err : goal.returns-in-Err
 returns-in-Err c =
     let old = c.args.self.now in
-    let chain = c.in-Some.chain.now in
+    let chain = c.filled-chain.result.now in
     let wish = ChainBegin c.args.from c.args.slot c.args.mode in
     let call = ChainBeginCall chain.id c.args.mode in
     let last = c.tokens_last.ensures in
-    let found : held old.chains c.args.from ≡ Some chain = sym c.in-Some.ensures in
+    let found : held old.chains c.args.from ≡ Some chain = c.filled-chain.ensures in
     leaves_refused wish c.args.hub.now c.chain_begin.new.self old call old (record { number = refl; replies = refl }) (λ tables read. ap (λ o. chain_begin c.args.mode (client_of old) (option_map chain_of o)) found) c.in-Err.fault c.refused_call.result
     c.in-Err.ensures.answer c.refused_call.ensures refl (λ made. sound_behind wish c.args.hub.now c.chain_begin.new.self old call (last.begun, last.given, last.opened, last.called) refl _ made c.requires.sound)

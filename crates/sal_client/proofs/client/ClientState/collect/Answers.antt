@@ -1,5 +1,5 @@
 -- A collection changes no slot.
-use Rattle.std.proofs.Common.{◌≡◌, Some, refl, ap, sym, ◌∙◌, subst}
+use Rattle.std.proofs.Common.{◌≡◌, Some, refl, ap, ◌∙◌, subst}
 use Rattle.std.specs.Option.{option_map}
 use Rattle.sal_history.specs.declared.call.Call.TheVariants.{Collect as CollectCall}
 use Rattle.sal_script.specs.Play.{ask}
@@ -14,13 +14,13 @@ use Rattle.sal_client.proofs.Leaving.{leaves_slots}
 use Rattle.sal_client.proofs.client.ClientState.collect.Goals as goal
 
 pub collect-requires : goal.collect-requires
-collect-requires c = record { token = c.requires.sound.invoked c.args.slot c.in-Some.id.now (sym c.in-Some.ensures) }
+collect-requires c = record { token = c.requires.sound.invoked c.args.slot c.filled-id.result.now c.filled-id.ensures }
 
 pub returns : goal.returns
 returns c =
     let client = c.args.self.now in
-    let id = c.in-Some.id.now in
-    let found : held client.invoked c.args.slot ≡ Some id = sym c.in-Some.ensures in
+    let id = c.filled-id.result.now in
+    let found : held client.invoked c.args.slot ≡ Some id = c.filled-id.ensures in
     let last = c.tokens_last.ensures in
     leaves_slots (Rpc (Collect c.args.slot)) c.args.hub.now c.collect.new.self client (CollectCall id.number) (last.begun, last.given, last.opened, last.called) refl c.requires.sound
     (λ tables read. ap (λ o. ask (collect (option_map request_of o)) (client_of client)) found) (λ r. refl) (collect_reply id.rpc) c.collect.result c.answer_to.result c.collect.ensures.answer

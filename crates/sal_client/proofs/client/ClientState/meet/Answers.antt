@@ -1,13 +1,10 @@
--- The refusal is one more of the client's replies.
-use Rattle.std.proofs.Common.{Err, ap, sym, ◌∙◌, subst}
+-- A local step is answered, and another asks for a call or is refused.
 use Rattle.sal_script.specs.Moves.{move_of}
-use Rattle.sal_script.specs.Play.{local}
-use Rattle.sal_client.specs.Clients.{client_of}
-use Rattle.sal_client.specs.Wishes.{Wants}
+use Rattle.sal_client.proofs.Meeting.{met_refused, met_wish}
 use Rattle.sal_client.proofs.client.ClientState.meet.Goals as goal
 
-pub returns-in_ok-push-in-Err-clause-meets : goal.returns-in_ok-push-in-Err-clause-meets
-returns-in_ok-push-in-Err-clause-meets c known is of =
-    let client = client_of c.args.self.now in
-    let wants = subst (Wants c.args.readers.now c.args.self.now (move_of c.args.step.now)) c.in-Err.is c.in_ok-wish.ensures in
-    (c.refused.result, client, wants known ∙ ap (λ r. local r client) (sym c.refused.ensures), λ i. record client { replies = c.in_ok-push-in-Err.ensures.items i })
+pub returns-in-Ok : goal.returns-in-Ok
+returns-in-Ok c = met_wish c.args.readers.now c.args.self.now (move_of c.args.step.now) c.in-Ok.wish c.requires.schema c.in-Ok.ensures
+
+pub returns-in_ok-refuse-in-Err : goal.returns-in_ok-refuse-in-Err
+returns-in_ok-refuse-in-Err c = met_refused c.args.readers.now c.args.self.now (move_of c.args.step.now) c.in-Err.fault c.refuse.new.self c.requires.schema c.in-Err.ensures c.in_ok-refuse-in-Err.ensures

@@ -1,5 +1,5 @@
 -- The listener's rows come to where the batch ends.
-use Rattle.std.proofs.Common.{◌≡◌, ◌∙◌, Some, ap, refl, sym}
+use Rattle.std.proofs.Common.{◌≡◌, ◌∙◌, Some, ap, refl}
 use Rattle.sal_history.specs.declared.call.Call.TheVariants.{Take as TakeCall}
 use Rattle.sal_history.specs.declared.reply.Reply.TheVariants.{Batch}
 use Rattle.sal_script.specs.declared.reply.StepReply.TheVariants.{Called}
@@ -13,15 +13,15 @@ use Rattle.sal_client.proofs.client.ClientState.take.Goals as goal
 pub take-requires : goal.take-requires
 take-requires c =
     let old = c.args.self.now in
-    let f = c.in-Some.follower.now in
-    record { token = token_of c.args.hub.now old.number f (c.requires.sound.listeners c.args.slot f (sym c.in-Some.ensures)) }
+    let f = c.filled.result.now in
+    record { token = token_of c.args.hub.now old.number f (c.requires.sound.listeners c.args.slot f c.filled.ensures) }
 
 pub returns-in_ok-advance_in-in-Ok : goal.returns-in_ok-advance_in-in-Ok
 returns-in_ok-advance_in-in-Ok c =
     let old = c.args.self.now in
     let known = c.args.hub.now in
-    let f = c.in-Some.follower.now in
-    let found : held old.listeners c.args.slot ≡ Some f = sym c.in-Some.ensures in
+    let f = c.filled.result.now in
+    let found : held old.listeners c.args.slot ≡ Some f = c.filled.ensures in
     let (g, goes, filled) = c.in_ok-advance_in-in-Ok.ensures f found in
     let last = c.tokens_last.ensures in
     leaves_made (Take c.args.slot) known c.take.new.self old (TakeCall f.id.number) _ (record { number = refl; replies = refl }) (λ tables read. met_take tables known old c.args.slot f found) _ c.called.result c.in-Ok.ensures.answer
@@ -32,8 +32,8 @@ pub returns-in-Err : goal.returns-in-Err
 returns-in-Err c =
     let old = c.args.self.now in
     let known = c.args.hub.now in
-    let f = c.in-Some.follower.now in
-    let found : held old.listeners c.args.slot ≡ Some f = sym c.in-Some.ensures in
+    let f = c.filled.result.now in
+    let found : held old.listeners c.args.slot ≡ Some f = c.filled.ensures in
     let last = c.tokens_last.ensures in
     leaves_refused (Take c.args.slot) known c.take.new.self old (TakeCall f.id.number) old (record { number = refl; replies = refl }) (λ tables read. met_take tables known old c.args.slot f found) c.in-Err.fault c.refused_call.result c.in-Err.ensures.answer c.refused_call.ensures refl
     (λ made. sound_refused (last.begun, last.given, last.opened, last.called) known c.take.new.self old f.id.number c.in-Err.fault c.requires.sound made)

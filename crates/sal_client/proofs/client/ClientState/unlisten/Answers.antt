@@ -1,5 +1,5 @@
 -- A removal changes no slot.
-use Rattle.std.proofs.Common.{◌≡◌, Some, refl, ap, sym, subst}
+use Rattle.std.proofs.Common.{◌≡◌, Some, refl, ap, subst}
 use Rattle.std.specs.Option.{option_map}
 use Rattle.sal_history.specs.declared.call.Call.TheVariants.{Unlisten as UnlistenCall}
 use Rattle.sal_history.specs.declared.reply.Reply.TheVariants.{Accepted}
@@ -15,14 +15,14 @@ use Rattle.sal_client.proofs.client.ClientState.unlisten.Goals as goal
 
 pub unlisten-requires : goal.unlisten-requires
 unlisten-requires c =
-    let f = c.in-Some.follower.now in
-    record { token = token_of c.args.hub.now c.args.self.now.number f (c.requires.sound.listeners c.args.slot f (sym c.in-Some.ensures)) }
+    let f = c.filled-follower.result.now in
+    record { token = token_of c.args.hub.now c.args.self.now.number f (c.requires.sound.listeners c.args.slot f c.filled-follower.ensures) }
 
 pub returns : goal.returns
 returns c =
     let client = c.args.self.now in
-    let f = c.in-Some.follower.now in
-    let found : held client.listeners c.args.slot ≡ Some f = sym c.in-Some.ensures in
+    let f = c.filled-follower.result.now in
+    let found : held client.listeners c.args.slot ≡ Some f = c.filled-follower.ensures in
     let last = c.tokens_last.ensures in
     leaves_slots (Unlisten c.args.slot) c.args.hub.now c.unlisten.new.self client (UnlistenCall f.id.number) (last.begun, last.given, last.opened, last.called) refl c.requires.sound
     (λ tables read. ap (λ o. unlisten (client_of client) (option_map listener_of o)) found) (λ r. refl) (λ _. Accepted) c.unlisten.result c.answer_to.result c.unlisten.ensures.answer

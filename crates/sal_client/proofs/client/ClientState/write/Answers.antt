@@ -1,44 +1,68 @@
 -- The operation that was read is written in the slot's transaction.
-use Rattle.std.proofs.Common.{◌≡◌, ◌∙◌, Ok, Some, refl, ap, sym, subst}
-use Rattle.sal_schema.specs.declared.table.SchemaTable.{SchemaTable}
+use Rattle.std.proofs.Common.{◌∙◌, ap, refl, sym, subst}
 use Rattle.sal_schema.specs.Valid.{IsTable}
 use Rattle.sal_pathtext.specs.Read.{read_path}
-use Rattle.sal_script.specs.Play.{Open, table_in, write_with}
-use Rattle.sal_rules.specs.Writes.{IsForSchema}
-use Rattle.sal_client.specs.declared.client.Standing.TheVariants.{Writable}
-use Rattle.sal_client.specs.Clients.{client_of, domain_of, opened, standing_of}
-use Rattle.sal_client.specs.Deeds.{deed_of, op_by}
-use Rattle.sal_client.proofs.Answering.{opened_some, write-writable}
+use Rattle.sal_script.specs.Play.{table_in}
+use Rattle.sal_client.specs.Clients.{domain_of}
+use Rattle.sal_client.specs.Meeting.{IsAnswered}
+use Rattle.sal_client.specs.Operations.{deed_of, op_by, write_move}
+use Rattle.sal_client.proofs.Faults.{if_ok, if_refused, refuses_is}
+use Rattle.sal_client.proofs.Meeting.{only_answers}
 use Rattle.sal_client.proofs.Places.{opened_within}
 use Rattle.sal_client.proofs.Values.{op_for_schema}
+use Rattle.sal_client.proofs.Written.{read_for, writes_badly, writes_nothing, writes_nowhere, writes_there}
 use Rattle.sal_client.proofs.client.ClientState.write.Goals as goal
 
 pub reader-reader-requires : goal.reader-reader-requires
-reader-reader-requires c = opened_within c.args.readers.now c.args.self.now c.args.slot c.domain_in-domain.result c.domain_in-domain.ensures c.requires.schema
+reader-reader-requires c = opened_within c.args.readers.now c.args.self.now c.args.place.slot c.domain_in-domain.result c.domain_in-domain.ensures c.requires.schema
 
-pub returns-in_ok-reply-in-Ok-clause-answers : goal.returns-in_ok-reply-in-Ok-clause-answers
-returns-in_ok-reply-in-Ok-clause-answers c known is of =
-    let old = c.args.self.now in
+pub returns-in-Empty : goal.returns-in-Empty
+returns-in-Empty c =
+    let place = c.args.place in
+    let deed = deed_of c.args.act in
     let tables = c.args.readers.now in
-    let stands : standing_of (opened old c.args.slot) ≡ Writable = sym c.standing.ensures ∙ c.in-Writable.is in
-    let some = opened_some (opened old c.args.slot) stands in
-    let tx : Open = some.0 in
-    let text = c.args.text.now in
-    let domain = c.domain_in-domain.ensures ∙ ap domain_of some.1 in
-    let table = c.reader-reader.ensures ∙ ap (table_in tables) domain in
-    let made : Ok c.in-Ok.op ≡ op_by (table_in tables tx.domain) tx.domain c.args.store (deed_of c.args.deed) (read_path (table_in tables tx.domain) text) =
-    sym c.in-Ok.is ∙ c.in_ok-op-in-Writable.ensures ∙ (λ i. op_by (table i) (domain i) c.args.store (deed_of c.args.deed) (read_path (table i) text)) in
-    ap (write_with tables known.world known.log c.args.slot c.args.store text (deed_of c.args.deed) (client_of old)) some.1
-    ∙ write-writable (table_in tables tx.domain) known.world known.log tx.mode c.args.slot c.args.store text (deed_of c.args.deed) tx (client_of old) (read_path (table_in tables tx.domain) text) (Ok c.in-Ok.op) some.2 refl made
-    ∙ c.in_ok-reply-in-Ok.ensures.answers known is of tx some.1
+    let old = c.args.self.now in
+    let step = write_move place.slot place.store place.text.now deed in
+    subst (λ r. IsAnswered tables old step r old) (sym c.refused.ensures) (only_answers tables old step _ c.requires.schema (writes_nowhere tables old place.slot place.store place.text.now deed (sym c.standing.ensures ∙ c.in-Empty.is)))
+
+pub returns-in-ReadOnly : goal.returns-in-ReadOnly
+returns-in-ReadOnly c =
+    let place = c.args.place in
+    let deed = deed_of c.args.act in
+    let tables = c.args.readers.now in
+    let old = c.args.self.now in
+    let step = write_move place.slot place.store place.text.now deed in
+    subst (λ r. IsAnswered tables old step r old) (sym c.refused-in-ReadOnly.ensures) (only_answers tables old step _ c.requires.schema (writes_nothing tables old place.slot place.store place.text.now deed (sym c.standing.ensures ∙ c.in-ReadOnly.is)))
+
+pub returns-in-Ok : goal.returns-in-Ok
+returns-in-Ok c =
+    let place = c.args.place in
+    let deed = deed_of c.args.act in
+    let tables = c.args.readers.now in
+    let old = c.args.self.now in
+    if_ok c.write_op.result _ _ (λ r. writes_there tables old place.slot place.store place.text.now deed c.domain_in-domain.result c.reader-reader.result.now
+    (sym c.standing.ensures ∙ c.in-Writable.is) c.domain_in-domain.ensures c.reader-reader.ensures _ c.in-Ok.ensures c.in-Ok.op r c.write_op.new.self refl) c.write_op.ensures
+
+pub returns-in-Err : goal.returns-in-Err
+returns-in-Err c =
+    let place = c.args.place in
+    let deed = deed_of c.args.act in
+    let tables = c.args.readers.now in
+    let old = c.args.self.now in
+    let own = c.reader-reader.result.now in
+    let step = write_move place.slot place.store place.text.now deed in
+    let read = op_by own c.domain_in-domain.result place.store deed (read_path own place.text.now) in
+    if_refused c.in-Err.fault c.refusal_reply.result (λ r. IsAnswered tables old step r old) c.refusal_reply.ensures
+    (λ refusal is. only_answers tables old step _ c.requires.schema (writes_badly tables old place.slot place.store place.text.now deed c.domain_in-domain.result own
+    (sym c.standing.ensures ∙ c.in-Writable.is) c.domain_in-domain.ensures c.reader-reader.ensures read refl refusal (refuses_is c.in-Err.fault refusal read is c.in-Err.ensures)))
 
 pub write_op-requires-clause-for_schema : goal.write_op-requires-clause-for_schema
 write_op-requires-clause-for_schema c tx at =
+    let place = c.args.place in
+    let deed = deed_of c.args.act in
     let tables = c.args.readers.now in
-    let text = c.args.text.now in
-    let domain = c.domain_in-domain.ensures ∙ ap domain_of at in
-    let table = c.reader-reader.ensures ∙ ap (table_in tables) domain in
-    let made : Ok c.in-Ok.op ≡ op_by (table_in tables tx.domain) tx.domain c.args.store (deed_of c.args.deed) (read_path (table_in tables tx.domain) text) =
-    sym c.in-Ok.is ∙ c.in_ok-op-in-Writable.ensures ∙ (λ i. op_by (table i) (domain i) c.args.store (deed_of c.args.deed) (read_path (table i) text)) in
+    let made = read_for tables c.args.self.now place.slot place.store place.text.now deed c.domain_in-domain.result c.reader-reader.result.now
+    (sym c.standing.ensures ∙ c.in-Writable.is) c.domain_in-domain.ensures c.reader-reader.ensures _ c.in-Ok.ensures tx at in
+    let table = c.reader-reader.ensures ∙ ap (table_in tables) (c.domain_in-domain.ensures ∙ ap domain_of at) in
     let good : IsTable (table_in tables tx.domain) = subst IsTable (c.schema.ensures ∙ table) c.len-count.ensures.table in
-    op_for_schema c.writes_are_for_schema.ensures (table_in tables tx.domain) good tx.domain c.args.store text (deed_of c.args.deed) c.requires.json c.in-Ok.op made
+    op_for_schema c.writes_are_for_schema.ensures (table_in tables tx.domain) good tx.domain place.store place.text.now deed c.requires.json c.in-Ok.op made

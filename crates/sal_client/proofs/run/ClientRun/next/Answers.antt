@@ -41,3 +41,15 @@ returns-in-Some-clause-comes g c =
       asks.2,
       omega (arith, was.from),
     )
+
+pub returns-in-Some-clause-sound : goal.returns-in-Some-clause-sound
+returns-in-Some-clause-sound g c =
+    let was = c.loop-i.invariant.sound in
+    let met = c.in_ok-met.ensures.sound in
+    record { steady = λ known is. met.steady known (was.steady known is); sound = λ known is. met.sound known (was.sound known is) }
+
+pub returns-in-Some-clause-number : goal.returns-in-Some-clause-number
+returns-in-Some-clause-number g c = c.in_ok-met.ensures.number ∙ c.loop-i.invariant.number
+
+pub returns-in-Some-clause-program : goal.returns-in-Some-clause-program
+returns-in-Some-clause-program g c = record { within = omega arith; short = c.loop-i.invariant.program.short; json = c.loop-i.invariant.program.json }

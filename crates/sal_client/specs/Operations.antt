@@ -1,4 +1,4 @@
--- What a client makes of texts and values, or why it makes nothing.
+-- What a client makes of the texts and the values of a write, or why it makes nothing.
 use Rattle.std.specs.Prelude.{ℕ, List, Result, Ok, Err}
 use Rattle.serde_json.specs.View.{view}
 use Rattle.sal_types.specs.declared.value.Store.{Store}
@@ -10,15 +10,28 @@ use Rattle.sal_pathtext.specs.declared.fault.PathTextFault.{PathTextFault}
 use Rattle.sal_data.specs.declared.fault.DataFault.{DataFault}
 use Rattle.sal_script.specs.declared.reply.StepRefusal.{StepRefusal}
 use Rattle.sal_script.specs.declared.reply.StepRefusal.TheVariants.{BadPath, BadData}
+use Rattle.sal_script.specs.Moves as asked
+use Rattle.sal_script.specs.Moves.{Move}
 use Rattle.sal_script.specs.Play.{Deed, putting, merging, deleting, act_of, op_of}
-use Rattle.sal_client.specs.declared.deed.Deed.{Deed as Told}
-use Rattle.sal_client.specs.declared.deed.Deed.TheVariants as told
+use Rattle.sal_client.specs.declared.operations.JsonAct.{JsonAct}
+use Rattle.sal_client.specs.declared.operations.JsonAct.TheVariants.{Put, Merge, Delete}
 
 -- what a write does, with the JSON data of its value
-abbrev pub deed_of : Told → Deed
-deed_of (told.Put value) = putting (view value.now)
-deed_of (told.Merge value) = merging (view value.now)
-deed_of told.Delete = deleting
+abbrev pub deed_of : JsonAct → Deed
+deed_of (Put value) = putting (view value.now)
+deed_of (Merge value) = merging (view value.now)
+deed_of Delete = deleting
+
+-- the step that writes so
+abbrev pub write_move : ℕ → Store → List ℕ → Deed → Move
+write_move slot store text (putting value) = asked.Put slot store text value
+write_move slot store text (merging value) = asked.Merge slot store text value
+write_move slot store text deleting = asked.Delete slot store text
+
+-- what was read of a value for a domain
+abbrev pub good_data : {X : Type 0} → ℕ → Result X DataFault → Result X StepRefusal
+good_data domain (Ok x) = Ok x
+good_data domain (Err fault) = Err (BadData domain fault)
 
 -- the operation at a path of the domain, where its act was read so
 abbrev pub op_at : ℕ → Store → List Step → Result Act DataFault → Result Op StepRefusal

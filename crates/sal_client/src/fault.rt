@@ -1,0 +1,34 @@
+//! Why a step goes no further.
+ghost use Rattle.sal_client.specs.Faults.{IsRefusal};
+
+use crate::client::refused;
+use sal_script::{StepRefusal, StepReply};
+use sal_types::NoMemory;
+
+/// Why a client goes no further with a step: it refuses it, or memory ran out.
+#[derive(Drop)]
+pub(crate) enum StepFault {
+    Refused(StepRefusal),
+    NoMemory,
+}
+
+impl From<NoMemory> for StepFault {
+    ghost use Rattle.std.specs.Prelude.{◌≡◌};
+    ghost use Rattle.sal_client.specs.declared.fault.StepFault.TheVariants.{NoMemory as Wanting};
+
+    ghost from_gives = { λ _ e. e ≡ Wanting };
+
+    fn from(_refused: NoMemory) -> StepFault {
+        StepFault::NoMemory
+    }
+}
+
+/// The reply to a step that is refused.
+pub(crate) fn refusal_reply(fault: StepFault) -> Result<StepReply, NoMemory>
+    ensures { IsRefusal fault result }
+{
+    match fault {
+        StepFault::Refused(refusal) => Ok(refused(refusal)),
+        StepFault::NoMemory => Err(NoMemory),
+    }
+}

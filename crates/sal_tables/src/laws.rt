@@ -1,5 +1,7 @@
 //! Laws of the definitions: the table that modules have is one of a schema. A call does nothing: its clause is the law.
-ghost use Rattle.sal_tables.specs.Laws.{CallNamesDiffer, CallsStandAtTheTop, DataNamesDiffer, IdentitiesAreGood, IdentityNamesDiffer, KeysAreInside, KeysAreThere, LeafsAreTyped, ModuleNamesDiffer, ModulesAreNamed, NamesArePlaced, NodesAreNamed, NodesStandRight, NumbersAreThere, ReadIsInOrder, TablesAreSmall, TablesAreTables, TypesAreBounded, TypesAreFlat, UniquesAreBelow};
+ghost use Rattle.std.specs.Prelude.{◌≡◌, true, false, codes, [], ◌∷◌};
+ghost use Rattle.sal_restrict.specs.declared.yang_type.YangType.TheOpen.{YangType-F};
+ghost use Rattle.sal_tables.specs.Laws.{is_bounded, is_finished, is_placed, CallNamesDiffer, CallsStandAtTheTop, DataNamesDiffer, IdentitiesAreGood, IdentityNamesDiffer, KeysAreInside, KeysAreThere, LeafsAreTyped, ModuleNamesDiffer, ModulesAreNamed, NamesArePlaced, NodesAreNamed, NodesStandRight, NumbersAreThere, ReadIsInOrder, TablesAreSmall, TablesAreTables, TypesAreBounded, TypesAreFlat, UniquesAreBelow};
 
 /// The statements of a text of fewer than 2 ^ 32 bytes stand in its order: each before those in its block, and these before the next one.
 pub fn what_is_read_is_in_order()
@@ -102,4 +104,21 @@ pub fn nodes_stand_right()
 /// fewer than 2 ^ 32 identities, that unions have members, and that bits are named by identifiers.
 pub fn tables_are_tables()
     ensures { TablesAreTables }
+{}
+
+/// Types that the tests of the laws let pass, and types that they refuse.
+pub fn examples_of_types()
+    ensures width { is_bounded 0 (YangType-F.Int 8 true []) ≡ true }
+    ensures no_width { is_bounded 0 (YangType-F.Int 9 true []) ≡ false }
+    ensures digits { is_bounded 0 (YangType-F.Dec 18 []) ≡ true }
+    ensures no_digits { is_bounded 0 (YangType-F.Dec 0 []) ≡ false }
+    ensures base { is_bounded 2 (YangType-F.Ident (1 ∷ [])) ≡ true }
+    ensures no_base { is_bounded 2 (YangType-F.Ident (2 ∷ [])) ≡ false }
+    ensures places { is_placed (YangType-F.Enum (codes "up" ∷ codes "down" ∷ []) (0 ∷ 7 ∷ [])) ≡ true }
+    ensures one_place { is_placed (YangType-F.Enum (codes "up" ∷ codes "down" ∷ []) (7 ∷ 7 ∷ [])) ≡ false }
+    ensures last_bit { is_placed (YangType-F.Bits (codes "a" ∷ []) (63 ∷ [])) ≡ true }
+    ensures no_bit { is_placed (YangType-F.Bits (codes "a" ∷ []) (64 ∷ [])) ≡ false }
+    ensures spelled { is_finished (YangType-F.Bits (codes "a-1" ∷ []) (0 ∷ [])) ≡ true }
+    ensures not_spelled { is_finished (YangType-F.Bits (codes "1-a" ∷ []) (0 ∷ [])) ≡ false }
+    ensures no_members { is_finished (YangType-F.Union []) ≡ false }
 {}

@@ -17,10 +17,8 @@ use crate::trail::longer;
 use crate::walk::{Place, Walk, is_looked_at, rules_of};
 use sal_node::Node;
 use sal_rows::{Breach, Rule};
-use sal_schema::Schema;
 use sal_tree::{child_of, reached};
 use sal_types::{NoMemory, Step};
-use std::alloc::Global;
 use std::sync::Arc;
 
 /// What a walk over two trees goes by: what one over the second of them does, and the stamps that the change gave.

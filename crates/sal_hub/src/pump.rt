@@ -1,10 +1,8 @@
-//! Settles and pumps.
+//! Pumps: the first submission that waits is decided.
 ghost use Rattle.std.specs.Prelude.{◌≡◌, ◌+◌, ◌<◌, IfOk, IfSome, Some, length, slice_get};
 ghost use Rattle.std.specs.Option.{option_map};
 ghost use Rattle.sal_tx.specs.declared.tx.Submission.{Submission as Sent};
-ghost use Rattle.sal_rows.specs.declared.outcome.Outcome.{Outcome as Decided};
-ghost use Rattle.sal_history.specs.declared.call.Call.TheVariants.{Pump, Settle};
-ghost use Rattle.sal_history.specs.declared.reply.Reply.TheVariants.{Settled};
+ghost use Rattle.sal_history.specs.declared.call.Call.TheVariants.{Pump};
 ghost use Rattle.sal_hub.specs.Answers.{Calls, limit};
 ghost use Rattle.sal_hub.specs.Current.{IsKept, known_of};
 ghost use Rattle.sal_hub.specs.Known.{entry_of};
@@ -20,28 +18,6 @@ use sal_tx::Submission;
 use sal_types::NoMemory;
 use std::alloc::Global;
 use std::collections::VecDeque;
-
-/// Decides what is pending, up to and including the receipt, adds the entry, and answers the outcome.
-pub(crate) fn settle(
-    alloc: Global,
-    pipeline: &mut Pipeline,
-    journal: &mut Journal,
-    client: u32,
-    receipt: Receipt,
-) -> Result<Outcome, CallFault>
-    requires kept { IsKept journal.old pipeline.old }
-    requires room { length journal.old.log < limit }
-    requires given { IsGiven (known_of journal.old pipeline.old) receipt }
-    ensures kept { IsKept journal.new pipeline.new }
-    ensures answer { Calls (known_of journal.old pipeline.old) (known_of journal.new pipeline.new) (entry_of (known_of journal.old pipeline.old) client (Settle receipt.number)) (λ (o : Decided). Settled receipt.domain o) result }
-{
-    let number = receipt.number();
-    let call = Call::Settle { receipt: number };
-    match pipeline.settle(alloc, journal, client, call, number as usize) {
-        Ok(outcome) => Ok(outcome),
-        Err(NoMemory) => Err(CallFault::NoMemory),
-    }
-}
 
 /// Decides the first receipt that is pending, if any, adds the entry, and answers the receipt with its outcome.
 pub(crate) fn pump(

@@ -11,7 +11,7 @@ use Rattle.sal_hub.specs.Current.{answers}
 use Rattle.sal_hub.specs.Lines.{AreDecided, line_of}
 use Rattle.sal_hub.proofs.Beginning.{made_now}
 use Rattle.sal_hub.proofs.Settling.{few, idle_kept, idle_reply, pumped_given, pumped_kept, pumped_made}
-use Rattle.sal_hub.proofs.settle.pump.Goals as goal
+use Rattle.sal_hub.proofs.pump.pump.Goals as goal
 
 pub returns-in-Ok-clause-kept : goal.returns-in-Ok-clause-kept
 returns-in-Ok-clause-kept c =

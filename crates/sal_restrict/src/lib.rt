@@ -7,6 +7,8 @@
 //! | `Pattern` | the text of a pattern, and whether values must not match it |
 //! | `read_ranges` | the range that a text writes within another one, which may only be narrower |
 //! | `RangeFault` | why a text gives no range |
+//! | `decimal`, `is_digits`, `small` | the number that digits write, whether all are digits, and a number with its sign |
+//! | `front`, `behind` | the first bytes of a text, and those behind them |
 //!
 //! A contract sees `Ranges` as the list of its parts. `specs/RangeTexts.antt` says what a text means: it is cut at `|` and
 //! `..`, and each bound is a number of any size. `specs/Ranges.antt` says what it is to hold numbers.
@@ -26,6 +28,7 @@
 
 mod bound;
 mod covers;
+mod digits;
 mod fault;
 mod range_text;
 mod ranges;
@@ -34,7 +37,9 @@ mod vectors;
 mod words;
 mod yang_type;
 
+pub use digits::{decimal, is_digits, small};
 pub use fault::RangeFault;
 pub use range_text::read_ranges;
 pub use ranges::{Part, Ranges};
+pub use words::{behind, front};
 pub use yang_type::{Pattern, YangType};

@@ -20,7 +20,7 @@ use Rattle.sal_rows.specs.declared.outcome.CallFault.TheVariants.{NoDomain}
 use Rattle.sal_rows.specs.declared.outcome.Outcome.{Outcome}
 use Rattle.sal_rows.specs.declared.outcome.Outcome.TheVariants.{ChainFailed as FailedBy, Conflict, Done, Invalid, Unmounted}
 use Rattle.sal_rows.specs.Apply.{apply_ops, checks_path}
-use Rattle.sal_rows.specs.Clash.{clash, clash_from, op_clash, parent_clash, path_clash, lost_parent, tip, needs_parents as clash_needs}
+use Rattle.sal_rows.specs.Clash.{clash, clash_from, op_clash, parent_clash, path_clash, lost_parent, tip, needs_parents}
 use Rattle.sal_rows.specs.PathClash.{Difference, difference, is_covered}
 use Rattle.sal_rows.specs.Commits.{next_tree, tree_after}
 use Rattle.sal_rows.specs.Spans.{spans}
@@ -146,7 +146,7 @@ module _ (opening : Store → List Row) (cs : List (List Op)) (base : Store → 
   at_op : (earlier : List Op) (op : Op) → IsAt (length earlier) (op_clash opening cs base pieces earlier op)
   at_op earlier op =
       at_or (length earlier) (parent_clash opening cs base pieces earlier op) (path_clash opening cs pieces earlier op)
-      (at_if (length earlier) (clash_needs op.act) (option_map (lost_clash opening cs pieces earlier op) (lost_parent opening cs base earlier op.store op.path))
+      (at_if (length earlier) (needs_parents op.act) (option_map (lost_clash opening cs pieces earlier op) (lost_parent opening cs base earlier op.store op.path))
       (at_map (length earlier) (lost_clash opening cs pieces earlier op) (lost_parent opening cs base earlier op.store op.path) (λ d. refl)))
       (at_if (length earlier) (checks_path op.act && not (is_covered earlier op.store op.path)) (option_map (path_found earlier op) (difference opening cs op.store pieces op.path))
       (at_map (length earlier) (path_found earlier op) (difference opening cs op.store pieces op.path) (λ x. refl)))

@@ -5,7 +5,7 @@ ghost use Rattle.std.specs.Char.{is_ascii_digit};
 ghost use Rattle.sal_restrict.specs.Bounds as spec;
 ghost use Rattle.sal_restrict.specs.Readings.{without_zeros, size_of, IsNormal, number_of, IsRead, IsLarge, AreOrdered};
 
-use crate::digits::{decimal, is_digits, small};
+use crate::decimals::{decimal, is_digits, small};
 use crate::ranges::Part;
 use crate::words::place_of;
 use std::cmp::Ordering;

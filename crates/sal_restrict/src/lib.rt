@@ -28,7 +28,7 @@
 
 mod bound;
 mod covers;
-mod digits;
+mod decimals;
 mod fault;
 mod range_text;
 mod ranges;
@@ -37,7 +37,7 @@ mod vectors;
 mod words;
 mod yang_type;
 
-pub use digits::{decimal, is_digits, small};
+pub use decimals::{decimal, is_digits, small};
 pub use fault::RangeFault;
 pub use range_text::read_ranges;
 pub use ranges::{Part, Ranges};

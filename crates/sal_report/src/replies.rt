@@ -13,7 +13,7 @@ use sal_history::Reply;
 use sal_rows::{CallFault, Outcome};
 use sal_schema::Schema;
 use sal_script::{StepRefusal, StepReply};
-use sal_types::{NoMemory, Path};
+use sal_types::NoMemory;
 use std::alloc::Global;
 
 // The reply to a step.

@@ -5,6 +5,7 @@
 //! | `YangType` | a type with its restrictions, as a schema holds it |
 //! | `Ranges`, `Part` | ascending, disjoint parts of the whole numbers; one part, from its lowest to its highest number |
 //! | `Pattern` | the text of a pattern, and whether values must not match it |
+//! | `whole_text` | the pattern that a text matches where all of it matches this one |
 //! | `read_ranges` | the range that a text writes within another one, which may only be narrower |
 //! | `RangeFault` | why a text gives no range |
 //! | `decimal`, `is_digits`, `small` | the number that digits write, whether all are digits, and a number with its sign |
@@ -34,6 +35,7 @@ mod range_text;
 mod ranges;
 mod span;
 mod vectors;
+mod whole_texts;
 mod words;
 mod yang_type;
 
@@ -41,5 +43,6 @@ pub use decimals::{decimal, is_digits, small};
 pub use fault::RangeFault;
 pub use range_text::read_ranges;
 pub use ranges::{Part, Ranges};
+pub use whole_texts::whole_text;
 pub use words::{behind, front};
 pub use yang_type::{Pattern, YangType};

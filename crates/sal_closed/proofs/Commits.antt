@@ -26,6 +26,7 @@ use Rattle.sal_rows.specs.Commits.{next_tree, tree_after}
 use Rattle.sal_rows.specs.Spans.{spans}
 use Rattle.sal_schema.specs.Fitting.{is_closed}
 use Rattle.sal_schema.specs.Valid.{IsTable}
+use Rattle.sal_schema.proofs.ShownTables.{shown}
 use Rattle.sal_history.specs.declared.call.Call.{Call}
 use Rattle.sal_history.specs.declared.call.Call.TheVariants.{Begin, ChainBegin, Pump, Settle, Submit}
 use Rattle.sal_history.specs.declared.call.Entry.{Entry}
@@ -67,19 +68,7 @@ sents-now answered now =
 -- ---- tables and openings
 
 no_table-IsTable : IsTable no_table
-no_table-IsTable = record {
-  small = record { nodes = omega arith; types = omega arith; modules = omega arith; identities = omega arith };
-  numbers = refl;
-  places = refl;
-  names = refl;
-  leaf_types = refl;
-  keys = refl;
-  uniques = refl;
-  module_names = refl;
-  identities = refl;
-  types = refl;
-  distinct = record { modules = refl; identities = refl; rpcs = refl; notifications = refl; data_nodes = refl };
-}
+no_table-IsTable = shown no_table (record { nodes = omega arith; types = omega arith; modules = omega arith; identities = omega arith }) refl refl
 
 table_is : (world : List Domain) (number : ℕ) → AreSound world → IsTable (table_of world number)
 table_is [] number sound = no_table-IsTable

@@ -12,6 +12,7 @@ use Rattle.std.proofs.lemmas.Option.{none-some, same_Some, option_and_then_some,
 use Rattle.sal_types.specs.declared.value.Store.{Store}
 use Rattle.sal_types.specs.declared.value.Store.TheVariants.{Config, Oper}
 use Rattle.sal_types.specs.declared.row.Row.{Row}
+use Rattle.sal_types.proofs.Lists.{last_or_before}
 use Rattle.sal_rows.specs.declared.clash.Clash.{Clash}
 use Rattle.sal_rows.specs.declared.clash.Span.{Span}
 use Rattle.sal_rows.specs.declared.op.Op.{Op}
@@ -43,17 +44,6 @@ use Rattle.sal_closed.specs.Logs.{AreSentLawful, AreSound}
 use Rattle.sal_closed.proofs.Closing.{lawful_keeps_closed, lost_clash, without_conflict_stays_closed}
 
 -- ---- lists
-
--- what stands in a list with one more at its end
-last_or_before : {X : Type 0} (xs : List X) (y z : X) (i : ℕ) → slice_get (xs ++ y ∷ []) i ≡ Some z → (slice_get xs i ≡ Some z) ⊎ ((i ≡ length xs) × (y ≡ z))
-last_or_before [] y z zero e = inr (refl, same_Some y z e)
-last_or_before [] y z (suc i) e = cc
-last_or_before (x ∷ xs) y z zero e = inl e
-last_or_before (x ∷ xs) y z (suc i) e =
-    elim (last_or_before xs y z i e) [
-      | inl old ↦ inl old
-      | inr w ↦ inr (ap suc w.0, w.1)
-    ]
 
 front_stays : {X : Type 0} (xs ys : List X) (i : ℕ) (x : X) → slice_get xs i ≡ Some x → slice_get (xs ++ ys) i ≡ Some x
 front_stays [] ys i x e = absurd (none-some x e)

@@ -2,7 +2,7 @@
 use Rattle.std.proofs.Common.{◌≡◌, ◌+◌, ◌-◌, subst, arith}
 use Rattle.std.proofs.lemmas.Str.{IsCharBoundary-after_ascii}
 use Rattle.std.specs.Str.{IsCharBoundary}
-use Rattle.sal_build.proofs.words.tail.Goals as goal
+use Rattle.sal_types.proofs.cuts.tail.Goals as goal
 
 pub range_from-requires : goal.range_from-requires
 range_from-requires c _ =

@@ -5,7 +5,7 @@ use Rattle.std.specs.List.{list_any}
 use Rattle.std.proofs.lemmas.Grind.{common_steps}
 use Rattle.std.proofs.lemmas.List.{take_more, map-append}
 use Rattle.sal_module.specs.Imports.{is_step}
-use Rattle.sal_grouping.proofs.reach.round.Goals as goal
+use Rattle.sal_module.proofs.reach.round.Goals as goal
 
 pub loop-out-preserved : goal.loop-out-preserved
 loop-out-preserved c =

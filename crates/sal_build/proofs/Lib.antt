@@ -6,6 +6,7 @@ pub mod Infos
 pub mod Climbs
 pub mod Derivations
 pub mod Seen
+pub mod SmallBases
 pub mod Ranked
 pub mod Fillings
 pub mod Leading

@@ -1,5 +1,5 @@
 -- Identities and what they are derived from (RFC 7950 section 7.18).
-use Rattle.std.specs.Prelude.{ℕ, zero, suc, ◌+◌, ◌==◌, List, [], ◌∷◌, ◌++◌, map, fold, length, Option, Some, is_none, slice_index_or, if◌then◌else◌}
+use Rattle.std.specs.Prelude.{ℕ, zero, suc, ◌+◌, ◌<◌, ◌^◌, ◌==◌, All, List, [], ◌∷◌, ◌++◌, map, fold, length, Option, Some, is_none, slice_index_or, if◌then◌else◌}
 use Rattle.std.specs.List.{flat_map, list_any, enumerate_from}
 use Rattle.std.specs.Option.{option_to_list}
 use Rattle.sal_stmt.specs.declared.stmt.Stmt.{Stmt}
@@ -91,6 +91,10 @@ abbrev pub all_faults : List Stmt → List Found
 all_faults stmts = flat_map (λ (entry : ℕ × Identity). faults_of stmts (edges_of stmts) entry.0 entry.1) (enumerate_from 0 (identities_of stmts))
 
 -- ---- what the code has
+
+-- Each list has numbers of 32 bits.
+abbrev pub AreSmall : List (List ℕ) → Type 0
+AreSmall edges = (i : ℕ) → All (λ k. k < 2 ^ 32) (slice_index_or edges i [])
 
 -- statements with their modules
 abbrev pub seen : List (ℕ × Bor Stmt) → List Identity

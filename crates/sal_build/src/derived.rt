@@ -1,5 +1,5 @@
 //! What identities are derived from.
-ghost use Rattle.std.specs.Prelude.{◌≡◌, ◌∷◌, ◌<◌, ℕ, [], fold, length, IfOk, OnOk, slice_index_or, if◌then◌else◌, ◌==◌};
+ghost use Rattle.std.specs.Prelude.{◌≡◌, ◌∷◌, ◌<◌, ◌^◌, ℕ, [], All, fold, length, IfOk, OnOk, slice_index_or, if◌then◌else◌, ◌==◌};
 ghost use Rattle.std.specs.List.{list_any};
 ghost use Rattle.sal_grouping.specs.Indexes.{lists};
 ghost use Rattle.sal_build.specs.Orders.{rows, IsOrdered};
@@ -43,19 +43,16 @@ fn row_at(all: &[Vec<u32>], k: usize) -> &[u32]
 
 /// A base, and what it is derived from.
 fn add_with(out: &mut Vec<u32>, base: usize, above: &[u32]) -> Result<(), NoMemory>
+    requires { base < 2 ^ 32 }
     ensures { IfOk result (λ _. out.new.items ≡ fold spec.with_number out.old.items (base ∷ above.now)) }
 {
-    match u32::try_from(base) {
-        Err(_) => Err(NoMemory),
-        Ok(number) => {
-            add(out, number)?;
-            add_all(out, above)
-        }
-    }
+    add(out, base as u32)?;
+    add_all(out, above)
 }
 
 /// Bases, each with what it is derived from.
 fn joined(alloc: Global, all: &[Vec<u32>], bases: &[usize]) -> Result<Vec<u32>, NoMemory>
+    requires { All (λ b. b < 2 ^ 32) bases.now }
     ensures { IfOk result (λ row. row.items ≡ spec.joined (λ b. slice_index_or (rows all.now) b []) bases.now) }
 {
     let mut out = Vec::new(alloc);
@@ -72,7 +69,8 @@ fn place_row(
     edges: &[Vec<usize>],
     i: usize,
 ) -> Result<(), NoMemory>
-    requires { length (rows all.old.items) ≡ length (lists edges.now) }
+    requires count { length (rows all.old.items) ≡ length (lists edges.now) }
+    requires small { spec.AreSmall (lists edges.now) }
     ensures count { IfOk result (λ _. length (rows all.new.items) ≡ length (rows all.old.items)) }
     ensures each { IfOk result (λ _. (k : ℕ) → k < length (lists edges.now) → slice_index_or (rows all.new.items) k [] ≡
         (if i == k then spec.joined (λ b. slice_index_or (rows all.old.items) b []) (slice_index_or (lists edges.now) k []) else slice_index_or (rows all.old.items) k [])) }
@@ -96,7 +94,8 @@ fn empty_rows(alloc: Global, count: usize) -> Result<Vec<Vec<u32>>, NoMemory>
 
 /// What each identity is derived from, by an order in which its bases stand before it.
 fn derived_by(alloc: Global, edges: &[Vec<usize>], order: &Order) -> Result<Vec<Vec<u32>>, NoMemory>
-    requires { IsOrdered (lists edges.now) order.now.ranks.items order.now.order.items }
+    requires order { IsOrdered (lists edges.now) order.now.ranks.items order.now.order.items }
+    requires small { spec.AreSmall (lists edges.now) }
     ensures count { IfOk result (λ all. length (rows all.items) ≡ length (lists edges.now)) }
     ensures each { IfOk result (λ all. (k : ℕ) → k < length (lists edges.now) → slice_index_or (rows all.items) k [] ≡ spec.derived_from (lists edges.now) k) }
 {
@@ -115,6 +114,7 @@ fn derived_in(
     steps: usize,
     i: usize,
 ) -> Result<Vec<u32>, NoMemory>
+    requires { spec.AreSmall (lists edges.now) }
     ensures { IfOk result (λ row. row.items ≡ spec.derived steps (lists edges.now) i) }
 {
     let mut out = Vec::new(alloc);
@@ -130,6 +130,7 @@ fn derived_in(
 
 /// What each is derived from, however the edges lead.
 fn derived_slowly(alloc: Global, edges: &[Vec<usize>]) -> Result<Vec<Vec<u32>>, NoMemory>
+    requires { spec.AreSmall (lists edges.now) }
     ensures count { IfOk result (λ all. length (rows all.items) ≡ length (lists edges.now)) }
     ensures each { IfOk result (λ all. (k : ℕ) → k < length (lists edges.now) → slice_index_or (rows all.items) k [] ≡ spec.derived_from (lists edges.now) k) }
 {
@@ -145,6 +146,7 @@ fn derived_slowly(alloc: Global, edges: &[Vec<usize>]) -> Result<Vec<Vec<u32>>, 
 /// Each is gone through once, after its bases. Where a way leads into a cycle, which is a fault that stands before this, each
 /// way is gone along by itself.
 pub(crate) fn derived_of(alloc: Global, edges: &[Vec<usize>]) -> Result<Vec<Vec<u32>>, NoMemory>
+    requires { spec.AreSmall (lists edges.now) }
     ensures count { IfOk result (λ all. length (rows all.items) ≡ length (lists edges.now)) }
     ensures each { IfOk result (λ all. (k : ℕ) → k < length (lists edges.now) → slice_index_or (rows all.items) k [] ≡ spec.derived_from (lists edges.now) k) }
 {

@@ -230,7 +230,8 @@ pub(crate) fn infos_of(
     all: &[Identity],
     edges: &[Vec<usize>],
 ) -> Result<Vec<IdentityInfo>, NoMemory>
-    requires { length (lists edges.now) ≡ length all.now }
+    requires count { length (lists edges.now) ≡ length all.now }
+    requires small { spec.AreSmall (lists edges.now) }
     ensures { IfOk result (λ infos. infos.items ≡ spec.infos_from (lists edges.now) 0 (spec.seen all.now)) }
 {
     let derived = derived_of(alloc, edges)?;
@@ -271,6 +272,7 @@ pub(crate) fn identity_infos(
     requires { typedefs.now ≡ modules.now }
     ensures { IfOk result (λ infos. infos ≡ spec.infos_of modules.now) }
 {
+    typedefs.are_counted();
     let all = identities_of(alloc, modules.items())?;
     let edges = edges_of(alloc, typedefs, &all)?;
     Ok(Seq::from_items(infos_of(alloc, &all, &edges)?))

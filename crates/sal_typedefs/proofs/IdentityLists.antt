@@ -72,12 +72,12 @@ numbered-in stmts i stmt next map h is count are e q =
 
 -- ---- look-ups
 
-none-past : {X : Type 0} (xs : List X) (k : ℕ) → slice_get xs k ≡ None → length xs ≤ k
+pub none-past : {X : Type 0} (xs : List X) (k : ℕ) → slice_get xs k ≡ None → length xs ≤ k
 none-past [] k e = omega arith
 none-past (x ∷ xs) zero e = cc
 none-past (x ∷ xs) (suc k) e = omega (arith, none-past xs k e)
 
-got-at : {X : Type 0} (xs : List X) (k : ℕ) (x : X) → slice_get xs k ≡ Some x → x ≡ get_or xs k x
+pub got-at : {X : Type 0} (xs : List X) (k : ℕ) (x : X) → slice_get xs k ≡ Some x → x ≡ get_or xs k x
 got-at [] k x e = cc
 got-at (y ∷ xs) zero x e = cc
 got-at (y ∷ xs) (suc k) x e = got-at xs k x e

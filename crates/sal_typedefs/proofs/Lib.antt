@@ -8,6 +8,7 @@ pub mod EntryLists
 pub mod WalkLists
 pub mod IdentityLists
 pub mod SpotLists
+pub mod IdentityNumbers
 pub mod PathLists
 pub mod PlainTypes
 pub mod PositionLists

@@ -1,5 +1,5 @@
 -- What look-ups in all modules stand on.
-use Rattle.std.specs.Prelude.{◌≡◌, ℕ, ◌<◌, ◌+◌, Bool, ◌&&◌, List, length, filter, option_map, slice_index_or}
+use Rattle.std.specs.Prelude.{◌≡◌, ℕ, ◌<◌, ◌+◌, ◌^◌, Bool, ◌&&◌, List, length, filter, option_map, slice_index_or}
 use Rattle.std.specs.List.{position_from}
 use Rattle.std.specs.BTreeMap.{get_by_text}
 use Rattle.sal_stmt.specs.declared.stmt.Stmt.{Stmt}
@@ -26,8 +26,9 @@ pub record AreIdentities (modules : List Stmt) (names : List Numbers) : Type 0 w
   pub count : length names ≡ length modules
   pub each : (m : ℕ) (d : Numbers) (e : Stmt) → m < length modules → (q : List ℕ) → get_by_text (slice_index_or names m d) q ≡ identity_in modules q m (slice_index_or modules m e)
 
--- the block of each module, the identities, and how many steps a way has at most
+-- the block of each module, the identities, and how many steps a way has at most: fewer than 2^32, as there are so few statements
 pub record AreReady (modules blocks : List Stmt) (maps : List Numbers) (count : ℕ) : Type 0 where
   pub tops : blocks ≡ modules
   pub names : AreIdentities modules maps
   pub steps : count ≡ steps_of modules
+  pub few : steps_of modules < 2 ^ 32

@@ -32,16 +32,6 @@ pub(crate) fn names_in(alloc: Global, entries: &[Entry]) -> Result<Seq<Str>, NoM
     Ok(Seq::from_items(names))
 }
 
-/// The number of an identity. Past 32 bits it counts as want of memory: nothing else bounds how many identities there are.
-fn small(number: usize) -> Result<u32, NoMemory>
-    ensures { IfOk result (λ n. n ≡ number) }
-{
-    match u32::try_from(number) {
-        Ok(n) => Ok(n),
-        Err(_) => Err(NoMemory),
-    }
-}
-
 fn place(number: usize) -> u32
     requires { number < 4294967296 }
     ensures { result ≡ number }
@@ -141,7 +131,7 @@ fn push_base(
     match typedefs.identity_of(number, argument_of(sub)) {
         None => Ok(()),
         Some(k) => {
-            append(bases, small(k)?)?;
+            append(bases, place(k))?;
             Ok(())
         }
     }

@@ -1,5 +1,5 @@
 //! What look-ups in all modules stand on.
-ghost use Rattle.std.specs.Prelude.{◌≡◌, ◌∷◌, [], IfOk, option_map};
+ghost use Rattle.std.specs.Prelude.{◌≡◌, ◌<◌, ◌^◌, ◌∷◌, [], IfOk, IfSome, option_map};
 ghost use Rattle.std.specs.List.{slice_get};
 ghost use Rattle.sal_stmt.specs.declared.stmt.Stmt.{Stmt as Statement};
 ghost use Rattle.std.specs.Borrow.{Bor};
@@ -19,7 +19,8 @@ use sal_types::NoMemory;
 use std::alloc::Global;
 use std::marker::Model;
 
-/// Modules with the typedefs at their tops and their identities, by name. They are seen as the list of their statements.
+/// Modules with the typedefs at their tops and their identities, by name. They are seen as the list of their statements, of which
+/// there are fewer than 2^32.
 #[derive(Drop)]
 pub struct Typedefs<'a> {
     modules: &'a Modules,
@@ -69,6 +70,7 @@ impl<'a> Typedefs<'a> {
     /// The look-ups of these modules. It takes time and memory linear in their statements, and the logarithm of a block's
     /// typedefs for each.
     pub fn new(alloc: Global, modules: &'a Modules) -> Result<Typedefs<'a>, NoMemory>
+        requires { steps_of modules.now < 2 ^ 32 }
         ensures { IfOk result (λ typedefs. typedefs ≡ modules.now) }
     {
         let stmts = modules.items();
@@ -90,6 +92,13 @@ impl<'a> Typedefs<'a> {
         self.steps
     }
 
+    /// The modules have fewer than 2^32 statements. A call does nothing: its clause is the law.
+    pub fn are_counted(&self)
+        ensures { steps_of self.now < 2 ^ 32 }
+    {
+        let _ = &self.modules;
+    }
+
     /// The module whose names a name stands for in a module.
     pub(crate) fn module_of(&self, number: u32, name: &str) -> Option<u32>
         ensures { result ≡ spec.module_of self.now number name.now }
@@ -108,13 +117,21 @@ impl<'a> Typedefs<'a> {
         Some(&self.tops[k..k + 1])
     }
 
-    /// The number of the identity that a name stands for in a module.
-    pub fn identity_of(&self, number: u32, name: &str) -> Option<usize>
+    fn found(&self, number: u32, name: &str) -> Option<usize>
         ensures { result ≡ spec.identity_of self.now number name.now }
     {
         match module_of(self.modules, number, name) {
             None => None,
             Some(m) => number_in(&self.identities, m, local(name)),
         }
+    }
+
+    /// The number of the identity that a name stands for in a module.
+    pub fn identity_of(&self, number: u32, name: &str) -> Option<usize>
+        ensures value { result ≡ spec.identity_of self.now number name.now }
+        ensures small { IfSome result (λ k. k < 2 ^ 32) }
+    {
+        self.are_counted();
+        self.found(number, name)
     }
 }

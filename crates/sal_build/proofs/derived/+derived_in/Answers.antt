@@ -1,5 +1,6 @@
-use Rattle.std.proofs.Common.{◌≡◌, ◌∙◌, ◌-◌, ◌<◌, take, sym, ap, arith}
+use Rattle.std.proofs.Common.{◌≡◌, ◌∙◌, ◌-◌, ◌<◌, ◌^◌, ℕ, All, take, sym, ap, subst, arith}
 use Rattle.std.proofs.lemmas.List.{take_all}
+use Rattle.std.proofs.lemmas.List.Elements.{All-get_or}
 use Rattle.sal_grouping.specs.Indexes.{lists}
 use Rattle.sal_build.specs.Identities.{derived, joined}
 use Rattle.sal_build.proofs.Derivations.{derived-zero, derived-some}
@@ -18,3 +19,10 @@ returns t c =
     let some : 0 < a.steps = omega (arith, c.if-steps-eq0.false) in
     let whole : take c.loop-base.base-index bases ≡ bases = take_all c.loop-base.base-index bases c.loop-base-test.false in
     c.loop-base.invariant ∙ ap (joined (derived (a.steps - 1) edges)) (whole ∙ c.out_of-base-items.ensures) ∙ sym (derived-some edges a.steps a.i some)
+
+pub add_with-requires : goal.add_with-requires
+add_with-requires t c =
+    let P : ℕ → Type 0 = λ b. b < 2 ^ 32 in
+    let bases = c.out_of-base-items.result.now in
+    let all : All P bases = subst (All P) (sym c.out_of-base-items.ensures) (c.requires c.args.i) in
+    subst P (sym c.base-item.is) (All-get_or P bases c.loop-base.base-index c.base-item.result c.loop-base-test.true all)

@@ -11,10 +11,10 @@ loop-r-preserved c =
     let order = c.args.order.now in
     record {
       count = c.in_ok-place_row.ensures.count ∙ c.loop-r.invariant.count;
-      known = ranked-more edges order.ranks.items order.order.items c.requires (rows c.loop-r.all.items) (rows c.place_row.new.all.items) c.loop-r.r c.stands_at-i.result (rw c.deref.ensures.value at c.stands_at-i.ensures ∙ ap (λ n. get_or order.order.items c.loop-r.r n) (sym (lists-length c.args.edges.now))) c.loop-r.invariant.known c.in_ok-place_row.ensures.each;
+      known = ranked-more edges order.ranks.items order.order.items c.requires.order (rows c.loop-r.all.items) (rows c.place_row.new.all.items) c.loop-r.r c.stands_at-i.result (rw c.deref.ensures.value at c.stands_at-i.ensures ∙ ap (λ n. get_or order.order.items c.loop-r.r n) (sym (lists-length c.args.edges.now))) c.loop-r.invariant.known c.in_ok-place_row.ensures.each;
     }
 
 pub returns-clause-each : goal.returns-clause-each
 returns-clause-each c k h =
-    let under = low (lists c.args.edges.now) c.args.order.now.ranks.items c.args.order.now.order.items c.requires k h in
-    c.loop-r.invariant.known k h (omega (arith, under, c.requires.count))
+    let under = low (lists c.args.edges.now) c.args.order.now.ranks.items c.args.order.now.order.items c.requires.order k h in
+    c.loop-r.invariant.known k h (omega (arith, under, c.requires.order.count))

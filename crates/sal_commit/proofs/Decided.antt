@@ -49,6 +49,17 @@ refused-ready failed d e sub t fault outcome same is none at (inr w) =
     let it : outcome ≡ w.0 = cc in
     ap (λ o. option_or o (breached d sub)) none ∙ (λ i. breached (sym is i) (sym same i)) ∙ w.2 ∙ ap Some (sym it)
 
+-- what is refused by one of these has the first as its outcome
+first-refused : (gone clash breach : Option Outcome) (o last : Outcome) → option_or (option_or gone clash) breach ≡ Some o → o ≡ unwrap_or gone (unwrap_or (option_or clash breach) last)
+first-refused None None None o last e = cc
+first-refused None None (Some x) o last e = cc
+first-refused None (Some x) breach o last e = cc
+first-refused (Some x) clash breach o last e = cc
+
+pub decide-refused : (failed : Option ℕ) (d : Domain) (sub : Submission) (o : Outcome) → option_or (refused failed d sub) (breached d sub) ≡ Some o → o ≡ decide failed d sub
+decide-refused None d sub o e = first-refused (gone d) (conflict d sub) (breached d sub) o (Done (length (ops_of d.commits.items) + 1)) e
+decide-refused (Some receipt) d sub o e = cc
+
 -- what is refused by nothing is done
 undecided : (gone clash breach : Option Outcome) (n : ℕ) → option_or (option_or gone clash) breach ≡ None → unwrap_or gone (unwrap_or (option_or clash breach) (Done n)) ≡ Done n
 undecided None clash breach n none = ap (λ o. unwrap_or o (Done n)) none

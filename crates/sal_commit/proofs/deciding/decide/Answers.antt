@@ -3,8 +3,14 @@ use Rattle.sal_tree.specs.declared.commit.Commit.{Commit}
 use Rattle.sal_commit.specs.Deciding.{Decides}
 use Rattle.sal_commit.specs.Domains.{IsSame}
 use Rattle.sal_commit.specs.Stamps.{CanFollow}
-use Rattle.sal_commit.proofs.Decided.{IsMade, IsSame-trans, decide-done, Decides-done, made-ready, next-sound, refused-ready}
+use Rattle.sal_commit.proofs.Decided.{IsSame-trans, decide-done, decide-refused, Decides-done, made-ready, next-sound, refused-ready}
 use Rattle.sal_commit.proofs.deciding.decide.Goals as goal
+
+pub returns-in-Err-Invalid-clause-outcome : goal.returns-in-Err-Invalid-clause-outcome
+returns-in-Err-Invalid-clause-outcome c =
+    decide-refused c.args.failed c.args.domain.now c.args.sub.now c.in-Err-Invalid.outcome
+    (refused-ready c.args.failed c.args.domain.now c.in-Ok.ready.domain.now c.args.sub.now c.in-Ok.ready.sub.now c.in-Err-Invalid.field-0 c.in-Err-Invalid.outcome
+    c.in-Ok.ensures.0 c.in-Ok.ensures.1 c.in-Ok.ensures.2 c.in-Err-Invalid.field-0-is c.in-Err-Invalid.ensures.outcome)
 
 pub publish-requires-clause-sound : goal.publish-requires-clause-sound
 publish-requires-clause-sound c =

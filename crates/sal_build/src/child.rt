@@ -1,7 +1,6 @@
 //! Nodes by their names below other nodes.
 ghost use Rattle.std.specs.Prelude.{◌≡◌, ◌<◌, ◌≤◌, Some, None, IfOk, length, slice_index_or, if◌then◌else◌};
 ghost use Rattle.std.specs.BTreeMap.{get};
-ghost use Rattle.sal_grouping.specs.declared.forest.Branch.{Branch as Knot};
 ghost use Rattle.sal_build.specs.declared.child.Key.{Key as Name};
 ghost use Rattle.sal_build.specs.Inherited.{AreInherited, with_data_node};
 ghost use Rattle.sal_build.specs.Children as spec;

@@ -1,5 +1,5 @@
 //! What a node has from the one above it.
-ghost use Rattle.std.specs.Prelude.{◌≡◌, ℕ, ◌≤◌, List, Some, None, true, IfOk, length, slice_index_or};
+ghost use Rattle.std.specs.Prelude.{◌≡◌, ◌≤◌, Some, None, true, IfOk, length, slice_index_or};
 ghost use Rattle.std.specs.Option.{option_copied};
 ghost use Rattle.sal_build.specs.Inherited as spec;
 ghost use Rattle.sal_build.specs.Nodes as nodes;

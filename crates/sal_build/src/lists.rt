@@ -1,10 +1,7 @@
 //! Keys and unique leafs of lists, and configuration under state data.
-ghost use Rattle.std.specs.Prelude.{◌≡◌, ◌++◌, ◌<◌, [], None, IfOk, map, length, nat_eq, if◌then◌else◌};
-ghost use Rattle.std.specs.List.{flat_map, list_any};
-ghost use Rattle.std.specs.Option.{option_copied};
-ghost use Rattle.sal_stmt.specs.declared.stmt.Stmt.TheViews.{out-Stmt};
+ghost use Rattle.std.specs.Prelude.{◌≡◌, ◌<◌, [], None, IfOk, map, nat_eq, if◌then◌else◌};
+ghost use Rattle.std.specs.List.{list_any};
 ghost use Rattle.sal_module.specs.Faults.{least};
-ghost use Rattle.sal_module.specs.Statements.{argument_of as argument};
 ghost use Rattle.sal_build.specs.Inherited as inherited;
 ghost use Rattle.sal_build.specs.Lists as spec;
 

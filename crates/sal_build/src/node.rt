@@ -1,9 +1,7 @@
 //! What the statement of a node says of it.
-ghost use Rattle.std.specs.Prelude.{◌≡◌, None, codes, is_some, min, if◌then◌else◌};
+ghost use Rattle.std.specs.Prelude.{◌≡◌, None, codes, is_some, if◌then◌else◌};
 ghost use Rattle.std.specs.Option.{option_copied};
-ghost use Rattle.sal_stmt.specs.declared.stmt.Stmt.{Stmt as Statement};
 ghost use Rattle.sal_stmt.specs.declared.stmt.Stmt.TheViews.{out-Stmt};
-ghost use Rattle.sal_module.specs.Arguments.{decimal};
 ghost use Rattle.sal_module.specs.Keywords as keywords;
 ghost use Rattle.sal_module.specs.Keywords.{same};
 ghost use Rattle.sal_build.specs.Nodes as spec;

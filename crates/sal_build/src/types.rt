@@ -1,5 +1,5 @@
 //! The first fault of type statements.
-ghost use Rattle.std.specs.Prelude.{◌≡◌, ◌||◌, ◌∷◌, [], None, IfOk, codes};
+ghost use Rattle.std.specs.Prelude.{◌≡◌, ◌||◌, None, IfOk, codes};
 ghost use Rattle.sal_stmt.specs.declared.stmt.Stmt.TheViews.{out-Stmt};
 ghost use Rattle.sal_module.specs.Faults.{least};
 ghost use Rattle.sal_module.specs.Keywords.{same};

@@ -1,5 +1,5 @@
 //! The domains of a script: the controller's own and its devices, with their schemas and what reads by them.
-ghost use Rattle.std.specs.Prelude.{◌≡◌, ◌+◌, ◌<◌, ◌≤◌, Err, IfOk, IsTrue, Some, codes, length, slice_get};
+ghost use Rattle.std.specs.Prelude.{◌≡◌, ◌+◌, ◌<◌, ◌≤◌, Err, IfOk, IsTrue, Some, length, slice_get};
 ghost use Rattle.sal_script.specs.Limits.{are_short};
 ghost use Rattle.sal_script.specs.Reading.{parts};
 ghost use Rattle.sal_command.specs.Each.{each_from};

@@ -1,8 +1,8 @@
 //! The opening trees of a script: their data, and why a hub is not opened over them.
-ghost use Rattle.std.specs.Prelude.{◌≡◌, ◌<◌, ◌≤◌, ◌++◌, [], ◌∷◌, All, Err, IfOk, Some, codes, decimal, length, slice_get};
+ghost use Rattle.std.specs.Prelude.{◌≡◌, ◌<◌, ◌≤◌, ◌++◌, [], ◌∷◌, All, Err, IfOk, Some, codes, decimal, length};
 ghost use Rattle.serde_json.specs.View.{view};
 ghost use Rattle.sal_schema.specs.Valid.{IsTable};
-ghost use Rattle.sal_hub.specs.Openings.{AreClosedDevices, fault_of, world_of};
+ghost use Rattle.sal_hub.specs.Openings.{AreClosedDevices, world_of};
 ghost use Rattle.sal_script.specs.Play.{table_in, tables_of};
 ghost use Rattle.sal_script.specs.Reading.{parts};
 ghost use Rattle.sal_script.specs.Report.{breach_text, data_fault_text, path_text, store_text};

@@ -1,5 +1,5 @@
 //! How the command ends.
-ghost use Rattle.std.specs.Prelude.{◌≡◌, IfOk, OnOk, ◌++◌, string_bytes};
+ghost use Rattle.std.specs.Prelude.{◌≡◌, IfOk};
 ghost use Rattle.sal_command.specs.Statuses.{line_of, number_of};
 
 use sal_types::{NoMemory, Str};

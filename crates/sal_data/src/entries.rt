@@ -3,7 +3,6 @@ ghost use Rattle.std.specs.Prelude.{◌≡◌, ◌≤◌, ◌∷◌, ◌++◌, [
 ghost use Rattle.serde_json.specs.View.{view, items_view, members_view};
 ghost use Rattle.sal_types.specs.declared.value.Cell.TheVariants.{Mark};
 ghost use Rattle.sal_types.specs.Reading.{GivesUnless};
-ghost use Rattle.sal_schema.specs.Table.{keys_of};
 ghost use Rattle.sal_data.specs.Read as spec;
 ghost use Rattle.sal_data.specs.Walked.{HaveSame, new_entry};
 

@@ -1,13 +1,10 @@
 //! Which rows are data of a schema at a path.
 ghost use Rattle.std.specs.Prelude.{◌≡◌, ◌≤◌, ◌∷◌, ◌++◌, ◌||◌, [], Some, true, not, is_some, length};
 ghost use Rattle.std.specs.List.{common_prefix_len};
-ghost use Rattle.std.specs.Option.{option_map_or};
 ghost use Rattle.sal_types.specs.declared.value.Step.TheVariants.{Node};
 ghost use Rattle.sal_types.specs.declared.value.Cell.TheVariants.{Leaf};
 ghost use Rattle.sal_types.specs.Prefix.{is_prefix};
 ghost use Rattle.sal_types.specs.Tree.{IsAscending, cell};
-ghost use Rattle.sal_schema.specs.Table.{keys_of};
-ghost use Rattle.sal_schema.specs.Paths.{last_step, node_of};
 ghost use Rattle.sal_schema.specs.Fitting as spec;
 ghost use Rattle.sal_data.specs.Read.{same_step};
 

@@ -1,5 +1,5 @@
 //! The walk over a JSON value, which appends rows in the order of the text.
-ghost use Rattle.std.specs.Prelude.{◌≡◌, [], Err, if◌then◌else◌};
+ghost use Rattle.std.specs.Prelude.{[], Err, if◌then◌else◌};
 ghost use Rattle.serde_json.specs.View.{view, items_view, members_view};
 ghost use Rattle.sal_types.specs.Reading.{GivesUnless};
 ghost use Rattle.sal_schema.specs.Kinds as kinds;

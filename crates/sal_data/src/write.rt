@@ -1,6 +1,6 @@
 //! Rows written as a JSON value.
 ghost use Rattle.std.specs.Prelude.{◌≡◌, ◌+◌, ◌*◌, ◌≤◌, ◌++◌, [], Some, IfOk, OnOk, map, option_map};
-ghost use Rattle.serde_json.specs.Data.{array, object};
+ghost use Rattle.serde_json.specs.Data.{array};
 ghost use Rattle.serde_json.specs.View.{view, members_view, items_of};
 ghost use Rattle.sal_types.specs.declared.value.Step.TheVariants.{Item};
 ghost use Rattle.sal_schema.specs.Paths.{last_step};

@@ -2,7 +2,7 @@
 ghost use Rattle.std.specs.Prelude.{◌≡◌, ◌++◌, List, None, IfOk, OnOk, if◌then◌else◌};
 ghost use Rattle.sal_types.specs.declared.value.Step.{Step};
 ghost use Rattle.sal_types.specs.Prefix.{is_prefix};
-ghost use Rattle.sal_types.specs.Tree.{cell, under};
+ghost use Rattle.sal_types.specs.Tree.{cell};
 ghost use Rattle.sal_tree.specs.Follows.{Agree};
 ghost use Rattle.sal_tree.specs.Rows.{rows_of};
 ghost use Rattle.sal_rows.specs.Changes.{changes_under, change_at, differing};

@@ -1,6 +1,6 @@
 //! How the node at a path changed.
 ghost use Rattle.std.specs.Prelude.{◌≡◌, Some};
-ghost use Rattle.sal_types.specs.Tree.{cell, has};
+ghost use Rattle.sal_types.specs.Tree.{cell};
 ghost use Rattle.sal_node.specs.Shape.{tree_at};
 ghost use Rattle.sal_tree.specs.Grow.{cell_in};
 ghost use Rattle.sal_tree.specs.Rows.{rows_of};

@@ -8,7 +8,7 @@ ghost use Rattle.sal_rows.specs.Changes.{same_cell};
 ghost use Rattle.sal_delta.specs.Merge.{merge, rows_at, moved};
 ghost use Rattle.sal_delta.specs.Spots.{Stands, AgreeFrom};
 
-use crate::compare::{Place, differing};
+use crate::compare::differing;
 use sal_node::{Node, copy_cell};
 use sal_rows::Change;
 use sal_tree::longer;

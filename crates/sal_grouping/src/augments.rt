@@ -1,10 +1,8 @@
 //! Augments, carried out in rounds.
-ghost use Rattle.std.specs.Prelude.{◌≡◌, ◌<◌, ◌≤◌, ◌+◌, ◌++◌, IfOk, IfSome, IfNone, IsSome, None, Some, MatchOption, true, false, length, option_and_then, take};
-ghost use Rattle.std.specs.List.{list_any, slice_get};
+ghost use Rattle.std.specs.Prelude.{◌≡◌, ◌<◌, ◌≤◌, ◌+◌, ◌++◌, IfOk, IfSome, IfNone, IsSome, None, Some, true, false, length, option_and_then};
+ghost use Rattle.std.specs.List.{slice_get};
 ghost use Rattle.sal_module.specs.Faults.{least};
 ghost use Rattle.sal_grouping.specs.Rows as rows_spec;
-ghost use Rattle.sal_grouping.specs.Groupings as groupings_spec;
-ghost use Rattle.sal_grouping.specs.Growth as growth;
 ghost use Rattle.sal_grouping.specs.Plan.{IsPlan};
 ghost use Rattle.sal_grouping.specs.Augments as spec;
 ghost use Rattle.sal_grouping.specs.Tried.{Tells};

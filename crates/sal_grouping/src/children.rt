@@ -1,9 +1,8 @@
 //! Nodes of one name where names differ.
-ghost use Rattle.std.specs.Prelude.{◌≡◌, ◌+◌, [], None, Some, true, IfOk, is_none, take, length, if◌then◌else◌};
+ghost use Rattle.std.specs.Prelude.{◌≡◌, ◌+◌, [], None, Some, true, IfOk, is_none, take, if◌then◌else◌};
 ghost use Rattle.std.specs.List.{slice_get};
 ghost use Rattle.std.specs.BTreeMap.{get};
 ghost use Rattle.sal_module.specs.Faults.{least};
-ghost use Rattle.sal_grouping.specs.Augments as augments;
 ghost use Rattle.sal_grouping.specs.declared.children.Key.{Key as Knot};
 ghost use Rattle.sal_grouping.specs.Indexes.{with_first};
 ghost use Rattle.sal_grouping.specs.Children as spec;

@@ -1,9 +1,8 @@
 //! The tree of nodes, numbered depth first, as it grows.
-ghost use Rattle.std.specs.Prelude.{◌≡◌, ◌<◌, ◌≤◌, ◌+◌, ◌++◌, ◌*◌, ℕ, List, Option, Some, find, map, length, IfOk, true, false, MatchBool, MatchOption};
+ghost use Rattle.std.specs.Prelude.{◌≡◌, ◌<◌, ◌≤◌, ◌+◌, ◌*◌, ℕ, List, Option, Some, find, map, length, IfOk, true, false, MatchOption};
 ghost use Rattle.sal_grouping.specs.declared.node.Node.{Node as Knot};
 ghost use Rattle.sal_grouping.specs.Rows as rows_spec;
 ghost use Rattle.sal_grouping.specs.Growth as growth;
-ghost use Rattle.sal_grouping.specs.Indexes.{lists};
 ghost use Rattle.sal_grouping.specs.Plan.{IsPlan};
 ghost use Rattle.sal_grouping.specs.Frames as spec;
 

@@ -1,5 +1,5 @@
 //! Tables beside the list of statements: what stands in each block, and the first definition of each name there.
-ghost use Rattle.std.specs.Prelude.{◌≡◌, ◌<◌, ◌++◌, ◌∷◌, [], ℕ, List, IfOk, Some, None, length, slice_index_or};
+ghost use Rattle.std.specs.Prelude.{◌≡◌, ◌<◌, ◌++◌, [], ℕ, List, IfOk, Some, None, length, slice_index_or};
 ghost use Rattle.std.specs.BTreeMap.{get_by_text};
 ghost use Rattle.sal_module.specs.Keywords.{same};
 ghost use Rattle.sal_grouping.specs.Rows as rows_spec;

@@ -1,5 +1,5 @@
 //! Which grouping a `uses` names.
-ghost use Rattle.std.specs.Prelude.{◌≡◌, ◌++◌, ℕ, List, IfOk, length};
+ghost use Rattle.std.specs.Prelude.{◌≡◌};
 ghost use Rattle.sal_module.specs.declared.keyword.Keyword.TheVariants as word;
 ghost use Rattle.sal_grouping.specs.Rows as rows_spec;
 ghost use Rattle.sal_grouping.specs.Indexes as index;

@@ -1,9 +1,8 @@
 //! The faults of names: of groupings and prefixes that nothing defines, of groupings that use themselves, of double definitions.
-ghost use Rattle.std.specs.Prelude.{◌≡◌, ◌==◌, ◌||◌, ◌<◌, ◌^◌, ◌++◌, ℕ, [], length, map, drop, is_none, Some, None, IfOk, IfSome, slice_index_or, if◌then◌else◌};
+ghost use Rattle.std.specs.Prelude.{◌≡◌, ◌==◌, ◌<◌, ◌++◌, [], length, map, is_none, Some, None, IfOk, IfSome, if◌then◌else◌};
 ghost use Rattle.std.specs.List.{list_any, slice_split};
 ghost use Rattle.sal_module.specs.declared.keyword.Keyword.TheVariants as word;
 ghost use Rattle.sal_module.specs.Faults.{least};
-ghost use Rattle.sal_module.specs.Profile.{at_place};
 ghost use Rattle.sal_grouping.specs.Rows as rows_spec;
 ghost use Rattle.sal_grouping.specs.Indexes as index;
 ghost use Rattle.sal_grouping.specs.Groupings as groupings_spec;

@@ -1,5 +1,5 @@
 //! The nodes of a block, with `uses` carried out.
-ghost use Rattle.std.specs.Prelude.{◌≡◌, ◌<◌, ◌≤◌, ◌+◌, ◌++◌, ◌^◌, ℕ, List, Option, IfOk, IfSome, MatchOption, length};
+ghost use Rattle.std.specs.Prelude.{◌≡◌, ◌<◌, ◌+◌, ◌++◌, ◌^◌, ℕ, List, Option, IfOk, IfSome, MatchOption, length};
 ghost use Rattle.std.specs.List.{slice_get};
 ghost use Rattle.sal_grouping.specs.declared.rows.Row.{Row as Statement};
 ghost use Rattle.sal_grouping.specs.Rows as rows_spec;

@@ -1,7 +1,6 @@
 //! What the tree grows by: the statements of each block, the groupings that they name, and which blocks have no nodes.
-ghost use Rattle.std.specs.Prelude.{◌≡◌, ◌<◌, ◌&&◌, ℕ, not, false, None, IfOk, IsTrue, length, map, unwrap_or, slice_index_or};
+ghost use Rattle.std.specs.Prelude.{◌≡◌, ◌<◌, ◌&&◌, false, None, IfOk, IsTrue, unwrap_or, slice_index_or};
 ghost use Rattle.std.specs.List.{list_all, slice_get};
-ghost use Rattle.sal_module.specs.declared.keyword.Keyword.TheVariants as word;
 ghost use Rattle.sal_grouping.specs.Rows as rows_spec;
 ghost use Rattle.sal_grouping.specs.Groupings as groupings_spec;
 ghost use Rattle.sal_grouping.specs.Growth as growth;

@@ -1,7 +1,5 @@
 //! The statements that shape the tree, in one list over all modules.
-ghost use Rattle.std.specs.Prelude.{◌≡◌, ◌<◌, ◌≤◌, ◌++◌, ◌∷◌, [], ℕ, IfOk, length, take, slice_index_or};
-ghost use Rattle.sal_stmt.specs.declared.stmt.Stmt.{Stmt as Statement};
-ghost use Rattle.sal_module.specs.declared.keyword.Keyword.{Keyword as Word};
+ghost use Rattle.std.specs.Prelude.{◌≡◌, ◌<◌, ◌++◌, ◌∷◌, [], ℕ, IfOk, length, slice_index_or};
 ghost use Rattle.sal_grouping.specs.Rows as spec;
 
 use sal_module::{Keyword, argument_of, keyword_of};

@@ -1,5 +1,5 @@
 //! The nodes of all modules, without augments.
-ghost use Rattle.std.specs.Prelude.{◌≡◌, ◌<◌, ◌≤◌, IfOk, None, MatchOption, true, false, length, map};
+ghost use Rattle.std.specs.Prelude.{◌≡◌, ◌<◌, ◌≤◌, IfOk, None, MatchOption, true, false, length};
 ghost use Rattle.sal_grouping.specs.Rows as rows_spec;
 ghost use Rattle.sal_grouping.specs.Growth as growth;
 ghost use Rattle.sal_grouping.specs.Indexes.{AreTops};

@@ -8,7 +8,7 @@ ghost use Rattle.sal_rows.specs.declared.outcome.CallFault.TheVariants.{ChainClo
 ghost use Rattle.sal_rows.specs.declared.outcome.ClashKind.TheVariants.{Created};
 ghost use Rattle.sal_rows.specs.declared.outcome.Outcome.TheVariants.{Done, Conflict, ChainFailed as FailedBy};
 ghost use Rattle.sal_rows.specs.Spans.{spans};
-ghost use Rattle.sal_history.specs.declared.call.Call.TheVariants.{After, Cancel, CloseChain, Mark, OpenChain, Pump, Settle, Submit};
+ghost use Rattle.sal_history.specs.declared.call.Call.TheVariants.{After, Cancel, CloseChain, Mark, OpenChain, Pump, Submit};
 ghost use Rattle.sal_history.specs.declared.reply.Reply.TheVariants.{Accepted, Begun, Chain, Decided, Found, Late, Nothing, Receipt, Refused, Settled};
 ghost use Rattle.sal_history.specs.Examples.{a, b, begin, by, leaf, opened, put, replies, decisions};
 ghost use Rattle.sal_history.specs.History.{base_tree, newest_tree};

@@ -1,7 +1,7 @@
 //! Examples, computed from the definitions.
-ghost use Rattle.std.specs.Prelude.{◌≡◌, ◌∷◌, [], pos, negsuc, true, codes};
-ghost use Rattle.serde_json.specs.Data.{null, number, string, array, unsigned, float, no_items, item};
-ghost use Rattle.sal_types.specs.declared.value.Atom.TheVariants.{Signed, Unsigned, Dec, Text, Bool, Enum, Bits, Bin, Ident, Empty};
+ghost use Rattle.std.specs.Prelude.{◌≡◌, ◌∷◌, [], pos, negsuc, codes};
+ghost use Rattle.serde_json.specs.Data.{null, number, string, array, unsigned, no_items, item};
+ghost use Rattle.sal_types.specs.declared.value.Atom.TheVariants.{Signed, Unsigned, Dec, Text, Enum, Bits, Bin, Ident, Empty};
 ghost use Rattle.sal_json.specs.Examples as example;
 
 use crate::fault::ScalarFault;

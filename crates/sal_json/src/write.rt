@@ -1,5 +1,5 @@
 //! Values written as JSON values and as key texts.
-ghost use Rattle.std.specs.Prelude.{◌≡◌, ◌<◌, IfOk, length, string_bytes};
+ghost use Rattle.std.specs.Prelude.{◌≡◌, ◌<◌, IfOk, length};
 ghost use Rattle.serde_json.specs.View.{view};
 ghost use Rattle.serde_json.specs.Data.{string, array, item, null, no_items};
 ghost use Rattle.sal_restrict.specs.declared.yang_type.YangType.{out-YangType};

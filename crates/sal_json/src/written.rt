@@ -1,5 +1,5 @@
 //! Texts of values.
-ghost use Rattle.std.specs.Prelude.{◌≡◌, ◌||◌, ◌==◌, position, ◌<◌, ◌++◌, ◌∷◌, [], IfOk, OnOk, length, string_bytes, slice_index_or, option_map, if◌then◌else◌, decimal};
+ghost use Rattle.std.specs.Prelude.{◌≡◌, ◌||◌, ◌==◌, position, ◌<◌, ◌++◌, ◌∷◌, [], IfOk, OnOk, string_bytes, slice_index_or, option_map, if◌then◌else◌, decimal};
 ghost use Rattle.std.specs.Fmt.{signed_decimal};
 ghost use Rattle.std.specs.List.{slice_get};
 ghost use Rattle.base64.specs.Engines.{standard};

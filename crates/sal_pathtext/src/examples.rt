@@ -1,6 +1,6 @@
 //! Examples, computed from the definitions.
 ghost use Rattle.std.specs.Prelude.{◌≡◌, ◌∷◌, ◌++◌, [], Ok, Err, codes};
-ghost use Rattle.sal_types.specs.declared.value.Step.TheVariants.{Node, Key, Item};
+ghost use Rattle.sal_types.specs.declared.value.Step.TheVariants.{Node, Item};
 ghost use Rattle.sal_pathtext.specs.Examples as example;
 ghost use Rattle.sal_pathtext.specs.Read.{read_path};
 

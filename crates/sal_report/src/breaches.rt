@@ -1,5 +1,5 @@
 //! Structural rules that are broken, and paths, in words.
-ghost use Rattle.std.specs.Prelude.{◌≡◌, ◌∷◌, ◌++◌, IfOk, OnOk, string_bytes};
+ghost use Rattle.std.specs.Prelude.{◌≡◌, ◌++◌, IfOk, OnOk, string_bytes};
 ghost use Rattle.sal_script.specs.MessageData.{node_text};
 ghost use Rattle.sal_script.specs.Report as spec;
 

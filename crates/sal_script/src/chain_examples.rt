@@ -1,7 +1,6 @@
 //! Worked examples of chains, pumps and marks in scripts. Each function does nothing; its contract says what the definitions
 //! give, and the proof computes it.
 ghost use Rattle.std.specs.Prelude.{◌≡◌, [], ◌∷◌, Ok, Err, codes};
-ghost use Rattle.sal_types.specs.declared.value.Store.TheVariants.{Config};
 ghost use Rattle.sal_rows.specs.declared.outcome.CallFault.TheVariants.{ChainClosed, ChainFailed, PreviousOpen};
 ghost use Rattle.sal_rows.specs.declared.outcome.Outcome.TheVariants.{Done, ChainFailed as FailedBy};
 ghost use Rattle.sal_rows.specs.declared.outcome.Mode.TheVariants.{Ro};

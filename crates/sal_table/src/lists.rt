@@ -1,8 +1,6 @@
 //! Keys and unique leafs of lists.
 ghost use Rattle.std.specs.Prelude.{◌≡◌, ◌&&◌, Some, IfOk};
 ghost use Rattle.std.specs.List.{list_all};
-ghost use Rattle.sal_schema.specs.Kinds as kinds;
-ghost use Rattle.sal_schema.specs.Table.{is_kind, is_same, parent_of as above, list_above as closest_list};
 ghost use Rattle.sal_schema.specs.Valid as spec;
 ghost use Rattle.sal_table.specs.Whole.{is_key_leaf, is_unique_leaf};
 

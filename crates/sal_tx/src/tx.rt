@@ -1,8 +1,8 @@
 //! Transactions.
-ghost use Rattle.std.specs.Prelude.{◌≡◌, ◌≢◌, ◌⊎◌, ◌↔◌, ◌+◌, ◌*◌, ◌-◌, ◌<◌, ◌^◌, ◌∷◌, ◌++◌, [], None, Some, IsTrue, IsFalse, IfOk, OnOk, OnErr, MatchResult};
+ghost use Rattle.std.specs.Prelude.{◌≡◌, ◌≢◌, ◌⊎◌, ◌↔◌, ◌+◌, ◌*◌, ◌-◌, ◌<◌, ◌^◌, [], Some, IsTrue, IfOk, OnErr, MatchResult};
 ghost use Rattle.sal_types.specs.declared.value.Store.{Store};
 ghost use Rattle.sal_types.specs.Tree.{has, under};
-ghost use Rattle.sal_rows.specs.Apply.{rows_of_act, apply_ops};
+ghost use Rattle.sal_rows.specs.Apply.{apply_ops};
 ghost use Rattle.sal_rows.specs.declared.op.Act.TheVariants.{Put as SetAll, Merge as SetSome, Delete as ClearAll};
 ghost use Rattle.sal_tx.specs.Views as spec;
 ghost use Rattle.sal_rules.specs.Writes.{IsForSchema};

@@ -1,5 +1,5 @@
 //! What a type statement restricts: a built-in type, or that of the typedef that it names.
-ghost use Rattle.std.specs.Prelude.{◌≡◌, [], map, take, IfOk, Some, None, unwrap_or, if◌then◌else◌, is_some, true};
+ghost use Rattle.std.specs.Prelude.{◌≡◌, [], map, IfOk, Some, None, true};
 ghost use Rattle.sal_restrict.specs.declared.yang_type.YangType.TheViews.{out-YangType};
 ghost use Rattle.sal_typedefs.specs.declared.judgement.Judgement.{Judgement as Kept};
 ghost use Rattle.sal_typedefs.specs.Restrictions.{HasNumbers, HasPositions};

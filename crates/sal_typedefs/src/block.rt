@@ -1,11 +1,11 @@
 //! Blocks of statements, with their typedefs by name.
-ghost use Rattle.std.specs.Prelude.{◌≡◌, ◌<◌, ◌≤◌, ◌^◌, ℕ, List, IfOk, IfSome, find, option_map, reverse, length};
+ghost use Rattle.std.specs.Prelude.{◌≡◌, ◌<◌, ℕ, List, IfOk, find};
 ghost use Rattle.std.specs.Option.{option_copied};
 ghost use Rattle.std.specs.List.{slice_get};
 ghost use Rattle.std.specs.BTreeMap.{get_by_text};
 ghost use Rattle.sal_module.specs.Keywords.{same};
 ghost use Rattle.sal_module.specs.Statements.{subs_of};
-ghost use Rattle.sal_typedefs.specs.Scopes.{is_typedef_of, closest};
+ghost use Rattle.sal_typedefs.specs.Scopes.{is_typedef_of};
 ghost use Rattle.sal_typedefs.specs.Blocks as spec;
 
 use sal_module::{Keyword, argument_of, is_named};

@@ -1,5 +1,5 @@
 //! The built-in types (RFC 7950 section 4.2.4).
-ghost use Rattle.std.specs.Prelude.{◌≡◌, ◌-◌, ◌+◌, ◌∷◌, [], ◌≤◌, ◌≤ℤ◌, IfOk, map, pos, neg_ℤ};
+ghost use Rattle.std.specs.Prelude.{◌≡◌, ◌-◌, ◌∷◌, [], ◌≤◌, ◌≤ℤ◌, IfOk, map, pos, neg_ℤ};
 ghost use Rattle.sal_typedefs.specs.Builtins as spec;
 ghost use Rattle.sal_restrict.specs.declared.yang_type.YangType.TheViews.{out-YangType};
 ghost use Rattle.sal_typedefs.specs.Builtins.{bits_of};

@@ -1,5 +1,5 @@
 //! All names of an enumeration or of bits (RFC 7950 sections 9.6 and 9.7).
-ghost use Rattle.std.specs.Prelude.{◌≡◌, ◌≤ℤ◌, ◌+◌, ◌∷◌, ◌++◌, [], length, Some, None, IfOk, filter, if◌then◌else◌};
+ghost use Rattle.std.specs.Prelude.{◌≡◌, ◌≤ℤ◌, ◌+◌, ◌∷◌, ◌++◌, [], length, Some, None, IfOk, if◌then◌else◌};
 ghost use Rattle.sal_module.specs.declared.fault.Cause.TheVariants.{BadRestriction};
 ghost use Rattle.sal_module.specs.Faults.{least};
 ghost use Rattle.sal_module.specs.Profile.{at_stmt};

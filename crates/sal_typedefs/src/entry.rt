@@ -1,7 +1,5 @@
 //! A name of an enumeration or of bits, with its number (RFC 7950 sections 9.6 and 9.7).
-ghost use Rattle.std.specs.Prelude.{◌≡◌, ◌+◌, ◌^◌, ◌≤◌, ◌≤ℤ◌, min, not, pos, find, option_map, IfOk, IfSome, length};
-ghost use Rattle.std.specs.Option.{option_copied};
-ghost use Rattle.sal_module.specs.Arguments.{decimal};
+ghost use Rattle.std.specs.Prelude.{pos};
 
 use sal_types::Str;
 

@@ -1,5 +1,5 @@
 //! The faults of one type statement (RFC 7950 section 9).
-ghost use Rattle.std.specs.Prelude.{◌≡◌, ◌-◌, ◌^◌, min, IfOk, Some, None, if◌then◌else◌};
+ghost use Rattle.std.specs.Prelude.{◌≡◌, ◌-◌, min, IfOk, Some};
 ghost use Rattle.std.specs.List.{flat_map};
 ghost use Rattle.sal_restrict.specs.declared.yang_type.YangType.TheViews.{out-YangType};
 ghost use Rattle.sal_stmt.specs.declared.stmt.Stmt.TheViews.{out-Stmt};

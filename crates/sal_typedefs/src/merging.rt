@@ -1,5 +1,5 @@
 //! The least of two faults.
-ghost use Rattle.std.specs.Prelude.{◌≡◌, [], List, is_some, None};
+ghost use Rattle.std.specs.Prelude.{◌≡◌, List, is_some, None};
 ghost use Rattle.std.specs.List.{flat_map, list_any};
 ghost use Rattle.sal_module.specs.Faults.{least};
 ghost use Rattle.sal_typedefs.specs.Types.{Judged, is_faulty as is_bad};

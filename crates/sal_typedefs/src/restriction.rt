@@ -1,5 +1,5 @@
 //! Which restrictions may stand on a type (RFC 7950 section 9).
-ghost use Rattle.std.specs.Prelude.{◌≡◌, ◌<◌, ◌≤◌, length, option_map, IfOk, IfSome, is_some};
+ghost use Rattle.std.specs.Prelude.{◌≡◌, ◌<◌, ◌≤◌, length, option_map, IfOk, IfSome};
 ghost use Rattle.sal_restrict.specs.declared.yang_type.YangType.TheViews.{out-YangType};
 ghost use Rattle.sal_typedefs.specs.Restrictions as spec;
 ghost use Rattle.sal_typedefs.specs.Restrictions.{HasNumbers, unlisted};

@@ -1,11 +1,10 @@
 //! Type statements with the blocks around them.
-ghost use Rattle.std.specs.Prelude.{◌≡◌, ◌≤◌, IfOk, IfSome, map, option_map, reverse, length};
+ghost use Rattle.std.specs.Prelude.{◌≡◌, ◌≤◌, IfOk, IfSome, option_map, reverse, length};
 ghost use Rattle.sal_typedefs.specs.Scopes as scopes;
 ghost use Rattle.sal_typedefs.specs.Spots as spec;
 
 use crate::append::append;
 use crate::block::{Block, typedef_among};
-use sal_module::{Keyword, is_named};
 use sal_stmt::Stmt;
 use sal_types::NoMemory;
 use std::alloc::Global;

@@ -216,12 +216,7 @@ fn differs(nodes: &Nodes, k: u32, leaf: u32) -> bool
 fn any_differs(nodes: &Nodes, k: u32, leafs: &[u32]) -> bool
     ensures { result ≡ list_any (spec.differs nodes.now.modules.now nodes.now.forest.now k) leafs.now }
 {
-    for leaf in leafs {
-        if differs(nodes, k, *leaf) {
-            return true;
-        }
-    }
-    false
+    leafs.iter().any(|leaf| differs(nodes, k, *leaf))
 }
 
 fn are_bad_keys(nodes: &Nodes, k: u32, named: &[Option<u32>]) -> Result<bool, NoMemory>

@@ -22,12 +22,7 @@ fn is_key_leaf(table: &SchemaTable, list: u32, leaf: u32) -> bool
 fn are_key_leafs(table: &SchemaTable, list: u32, leafs: &[u32]) -> bool
     ensures { result ≡ list_all (is_key_leaf table.now list) leafs.now }
 {
-    for leaf in leafs {
-        if !is_key_leaf(table, list, *leaf) {
-            return false;
-        }
-    }
-    true
+    leafs.iter().all(|leaf| is_key_leaf(table, list, *leaf))
 }
 
 /// Whether just a list has keys: at least one, each another leaf that is its child.
@@ -56,12 +51,7 @@ fn is_unique_leaf(table: &SchemaTable, list: u32, leaf: u32) -> bool
 fn are_unique_leafs(table: &SchemaTable, list: u32, leafs: &[u32]) -> bool
     ensures { result ≡ list_all (is_unique_leaf table.now list) leafs.now }
 {
-    for leaf in leafs {
-        if !is_unique_leaf(table, list, *leaf) {
-            return false;
-        }
-    }
-    true
+    leafs.iter().all(|leaf| is_unique_leaf(table, list, *leaf))
 }
 
 /// Whether the leafs of each `unique` are leafs below the node with no list between.

@@ -37,10 +37,5 @@ pub(crate) fn is_identifier(text: &Str) -> bool
 pub(crate) fn are_identifiers(texts: &[Str]) -> bool
     ensures { result ≡ list_all spec.is_identifier texts.now }
 {
-    for text in texts {
-        if !is_identifier(text) {
-            return false;
-        }
-    }
-    true
+    texts.iter().all(|text| is_identifier(text))
 }

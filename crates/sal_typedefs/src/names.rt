@@ -94,12 +94,9 @@ fn with_bases<'x, 'a>(
 fn has_unknown(typedefs: &Typedefs, number: u32, names: &[Str]) -> bool
     ensures { result ≡ list_any (λ name. is_none (module_of typedefs.now number name)) names.now }
 {
-    for name in names {
-        if typedefs.module_of(number, name.as_str()).is_none() {
-            return true;
-        }
-    }
-    false
+    names
+        .iter()
+        .any(|name| typedefs.module_of(number, name.as_str()).is_none())
 }
 
 /// The least of this fault and that of an unknown prefix in the path of a leafref.

@@ -122,12 +122,7 @@ fn is_step(step: &str) -> bool
 fn are_steps(steps: &[Str]) -> bool
     ensures { result ≡ list_all spec.is_step steps.now }
 {
-    for step in steps {
-        if !is_step(step.as_str()) {
-            return false;
-        }
-    }
-    true
+    steps.iter().all(|step| is_step(step.as_str()))
 }
 
 fn names_in(alloc: Global, steps: &[Str]) -> Result<Vec<Str>, NoMemory>

@@ -10,11 +10,12 @@ use crate::child::child_named;
 use crate::inherited::config_at;
 use crate::node::{is_true, kind_of, own_stmt};
 use crate::nodes::Nodes;
-use crate::words::{steps_of, words_of};
+use crate::words::words_of;
 use sal_grouping::Branch;
 use sal_module::{Cause, Found, Keyword, Modules, argument_of, better, is_named};
 use sal_schema::Kind;
 use sal_stmt::Stmt;
+use sal_typedefs::between_slashes;
 use sal_types::{NoMemory, Str};
 use std::alloc::Global;
 
@@ -112,7 +113,7 @@ fn leaf_below(
 fn unique_leaf(nodes: &Nodes, k: u32, branch: &Branch, name: &str) -> Result<Option<u32>, NoMemory>
     ensures { IfOk result (λ leaf. leaf ≡ spec.unique_leaf nodes.now.modules.now nodes.now.forest.now k branch.now name.now) }
 {
-    let steps = steps_of(nodes.alloc, name)?;
+    let steps = between_slashes(nodes.alloc, name)?;
     leaf_below(nodes, branch, k, &steps)
 }
 

@@ -61,23 +61,3 @@ pub(crate) fn words_of(alloc: Global, text: &str) -> Result<Vec<Str>, NoMemory>
         }
     }
 }
-
-/// The steps of a name, with a `/` between them.
-pub(crate) fn steps_of(alloc: Global, word: &str) -> Result<Vec<Str>, NoMemory>
-    ensures { IfOk result (λ steps. steps.items ≡ spec.steps_of word.now) }
-{
-    let mut steps = Vec::new(alloc);
-    let mut rest = word;
-    'steps: loop {
-        match rest.split_once('/') {
-            None => {
-                append(&mut steps, Str::new(alloc, rest)?)?;
-                return Ok(steps);
-            }
-            Some((step, more)) => {
-                append(&mut steps, Str::new(alloc, step)?)?;
-                rest = more;
-            }
-        }
-    }
-}

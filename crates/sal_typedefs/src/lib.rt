@@ -8,6 +8,7 @@
 //! | `judge_at` | what such a statement means, or the first fault of restrictions and patterns in it and in those that it rests on |
 //! | `leafrefs_at`, `Leafref` | the leafrefs among such a statement and those that it rests on |
 //! | `path_names`, `count_up` | the names in a leafref's path, and how many steps it goes up before them |
+//! | `between_slashes` | what stands between the slashes of a text |
 //! | `is_malformed` | whether the grammar of `regex` reads no pattern from a text |
 //!
 //! `specs/Types.antt` has the meaning of a statement: its type, or the first fault in it and in those that it rests on.
@@ -69,6 +70,6 @@ pub use block::Block;
 pub use evaluate::judge_at;
 pub use leafrefs::{Leafref, leafrefs_at};
 pub use names::name_fault_at;
-pub use path::{count_up, path_names};
+pub use path::{between_slashes, count_up, path_names};
 pub use pattern::is_malformed;
 pub use typedefs::Typedefs;

@@ -45,8 +45,8 @@ fn without_predicates(alloc: Global, path: &str) -> Result<Option<String>, NoMem
     }
 }
 
-/// What stands between the slashes of a text.
-fn steps_of(alloc: Global, text: &str) -> Result<Vec<Str>, NoMemory>
+/// What stands between the slashes of a text. It takes time and memory linear in the text.
+pub fn between_slashes(alloc: Global, text: &str) -> Result<Vec<Str>, NoMemory>
     ensures { IfOk result (λ steps. steps.items ≡ slice_split (λ c. c == 47) text.now) }
 {
     let mut steps = Vec::new(alloc);
@@ -155,7 +155,7 @@ pub fn path_names(alloc: Global, text: &str) -> Result<Vec<Str>, NoMemory>
     match without_predicates(alloc, text)? {
         None => Ok(Vec::new(alloc)),
         Some(path) => {
-            let steps = steps_of(alloc, path.as_str())?;
+            let steps = between_slashes(alloc, path.as_str())?;
             names_of(alloc, steps.as_slice())
         }
     }

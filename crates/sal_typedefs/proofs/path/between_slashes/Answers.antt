@@ -1,6 +1,6 @@
 use Rattle.std.proofs.Common.{◌≡◌, ◌∙◌, rules, [], ◌∷◌, ◌++◌, sym, ap, append_assoc}
 use Rattle.sal_typedefs.proofs.PathLists.{steps, steps-whole, steps-parts}
-use Rattle.sal_typedefs.proofs.path.steps_of.Goals as goal
+use Rattle.sal_typedefs.proofs.path.between_slashes.Goals as goal
 
 pub returns-in-None : goal.returns-in-None
 returns-in-None c =

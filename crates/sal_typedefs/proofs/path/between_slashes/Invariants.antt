@@ -3,7 +3,7 @@ use Rattle.std.proofs.Common.{◌≡◌, ◌++◌, length}
 use denote.Text.{Utf8}
 use denote.Shadow.{shadow}
 use Rattle.sal_typedefs.proofs.PathLists.{steps}
-use Rattle.sal_typedefs.proofs.path.steps_of.Given as goal
+use Rattle.sal_typedefs.proofs.path.between_slashes.Given as goal
 
 abbrev pub invariant-steps : goal.invariant-steps
 invariant-steps l =

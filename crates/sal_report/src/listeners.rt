@@ -47,23 +47,23 @@ pub(crate) fn push_mirror(
     alloc: Global,
     text: &mut String,
     version: u64,
-    data: DataAt,
+    found: DataAt,
 ) -> Result<(), NoMemory>
-    ensures { OnOk result (string_bytes text.new ≡ string_bytes text.old ++ (codes "mirror" ++ (spec.number version ++ spec.listened_text data.schema.now data.path.now data.rows.now))) }
+    ensures { OnOk result (string_bytes text.new ≡ string_bytes text.old ++ (codes "mirror" ++ (spec.number version ++ spec.listened_text found.schema.now found.path.now found.rows.now))) }
 {
     push_numbered(text, "mirror", version)?;
-    push_listened(alloc, text, data)
+    push_listened(alloc, text, found)
 }
 
 // A space, and the rows at a path that is listened to.
-fn push_listened(alloc: Global, text: &mut String, data: DataAt) -> Result<(), NoMemory>
-    ensures { OnOk result (string_bytes text.new ≡ string_bytes text.old ++ spec.listened_text data.schema.now data.path.now data.rows.now) }
+fn push_listened(alloc: Global, text: &mut String, found: DataAt) -> Result<(), NoMemory>
+    ensures { OnOk result (string_bytes text.new ≡ string_bytes text.old ++ spec.listened_text found.schema.now found.path.now found.rows.now) }
 {
-    match (data.path.steps(), data.rows.items()) {
+    match (found.path.steps(), found.rows.items()) {
         ([_, ..], []) => push_word(text, " absent"),
         _ => {
             text.push(' ')?;
-            push_data(alloc, text, data)
+            push_data(alloc, text, found)
         }
     }
 }

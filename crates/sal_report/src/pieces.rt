@@ -107,9 +107,9 @@ pub(crate) fn data_at<'a>(schema: &'a Schema, path: &'a Path, rows: &'a Rows) ->
 }
 
 // The rows at a path and below it, as JSON.
-pub(crate) fn push_data(alloc: Global, text: &mut String, data: DataAt) -> Result<(), NoMemory>
-    ensures { OnOk result (string_bytes text.new ≡ string_bytes text.old ++ compact_text (write_data data.schema.now data.path.now data.rows.now)) }
+pub(crate) fn push_data(alloc: Global, text: &mut String, found: DataAt) -> Result<(), NoMemory>
+    ensures { OnOk result (string_bytes text.new ≡ string_bytes text.old ++ compact_text (write_data found.schema.now found.path.now found.rows.now)) }
 {
-    let value = write_data(alloc, data.schema, data.path, data.rows)?;
+    let value = write_data(alloc, found.schema, found.path, found.rows)?;
     push_value(alloc, text, &value)
 }

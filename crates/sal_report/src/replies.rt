@@ -210,14 +210,14 @@ fn push_refusal(
 }
 
 // What a read found at a path.
-fn push_rows(alloc: Global, text: &mut String, data: DataAt) -> Result<(), NoMemory>
-    ensures { OnOk result (string_bytes text.new ≡ string_bytes text.old ++ spec.rows_text data.schema.now data.path.now data.rows.now) }
+fn push_rows(alloc: Global, text: &mut String, found: DataAt) -> Result<(), NoMemory>
+    ensures { OnOk result (string_bytes text.new ≡ string_bytes text.old ++ spec.rows_text found.schema.now found.path.now found.rows.now) }
 {
-    match (data.path.steps(), data.rows.items()) {
+    match (found.path.steps(), found.rows.items()) {
         ([_, ..], []) => push_word(text, "absent"),
         _ => {
             text.push_str("data ")?;
-            push_data(alloc, text, data)
+            push_data(alloc, text, found)
         }
     }
 }

@@ -8,6 +8,7 @@ use Rattle.sal_history.specs.declared.call.Call.TheVariants.{Settle}
 use Rattle.sal_history.specs.declared.reply.Reply.TheVariants.{Settled}
 use Rattle.sal_history.specs.History.{sents}
 use Rattle.sal_history.specs.Submissions.{Sent}
+use Rattle.sal_hub.specs.Answers.{Made}
 use Rattle.sal_hub.specs.Current.{answers, known_of}
 use Rattle.sal_hub.specs.Journals.{jotted}
 use Rattle.sal_hub.specs.Known.{entry_of}
@@ -71,3 +72,19 @@ invariant_of-self-in-Err c =
     (entry_of (known_of j p) c.args.client (Settle c.args.receipt.number)) (λ m. refl) (λ (o : Outcome). Settled c.args.receipt.domain o) (Err NoMemory) refl refl
     (unsettled_known j c.settle.new.journal p c.settle.new.self back.same back.journal)
     (λ r. refl) (λ r id. refl) (λ r id. refl) (λ r. refl)
+
+pub returns-in-Ok-clause-answer : goal.returns-in-Ok-clause-answer
+returns-in-Ok-clause-answer c =
+    let j = c.self.inside.journal in
+    let p = c.self.inside.pipeline in
+    let receipt = c.args.receipt in
+    let done = c.in-Ok.ensures in
+    let all : List Sent = sents (answers j.log (line_of p)) in
+    let log : c.settle.new.journal.log ≡ jotted j.log c.args.client (Settle receipt.number) = done.log ∙ ap (λ n. jotted j.log c.args.client (Settle n)) c.number-number.ensures in
+    let decided : AreDecided all (line_of p) (receipt.number - length p.outcomes.items) (line_of c.settle.new.self) =
+    subst (λ n. AreDecided all (line_of p) (n - length p.outcomes.items) (line_of c.settle.new.self)) c.number-number.ensures (done.decided all c.self.invariant.kept.current.sound) in
+    let at : slice_get c.settle.new.self.outcomes.items (receipt.number - 1) ≡ Some c.in-Ok.outcome = subst (λ n. slice_get c.settle.new.self.outcomes.items (n - 1) ≡ Some c.in-Ok.outcome) c.number-number.ensures done.outcome in
+    let token : IsGiven (known_of j p) receipt = subst (λ k. IsGiven k receipt) (sym c.self.view_is) c.requires.given in
+    let room : length j.log < 1000000 = grind (arith, common_steps) in
+    subst (λ k. Made k (known_of c.settle.new.journal c.settle.new.self) (entry_of k c.args.client (Settle receipt.number)) (Settled receipt.domain c.in-Ok.outcome)) c.self.view_is
+    (settled_made j c.settle.new.journal p c.settle.new.self c.self.invariant.kept c.args.client receipt log decided c.in-Ok.outcome room token at)

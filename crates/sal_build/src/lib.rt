@@ -45,4 +45,4 @@ mod walk;
 mod words;
 
 pub use child::Key;
-pub use schema::{build, table_of_modules};
+pub use schema::table_of_modules;

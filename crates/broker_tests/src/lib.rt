@@ -1,4 +1,4 @@
-//! The tests of the broker's half: trees, decisions over long histories, and mirrors.
+//! The tests of the broker's half: trees, and decisions over long histories.
 #![tactic(auto)]
 
 #[cfg(test)]
@@ -7,8 +7,6 @@ mod commit;
 mod entries;
 #[cfg(test)]
 mod made;
-#[cfg(test)]
-mod mirror;
 #[cfg(test)]
 mod near;
 #[cfg(test)]

@@ -1,11 +1,11 @@
 //! Texts of names.
-ghost use Rattle.std.specs.Prelude.{◌≡◌, ◌+◌, ◌-◌, ◌<◌, ◌≤◌, ◌++◌, ◌∷◌, [], length, take, drop, filter, not, slice_index, IfOk, MatchOption};
+ghost use Rattle.std.specs.Prelude.{◌≡◌, ◌+◌, ◌-◌, ◌<◌, ◌≤◌, ◌++◌, ◌∷◌, [], length, filter, not, slice_index, IfOk, MatchOption};
 ghost use Rattle.std.specs.List.{prefix_len};
 ghost use Rattle.sal_stmt.specs.Words.{is_blank as is_blank_byte, is_empty};
 ghost use Rattle.sal_build.specs.Lists as spec;
 
 use crate::append::append;
-use sal_types::{NoMemory, Str};
+use sal_types::{NoMemory, Str, front, tail};
 use std::alloc::Global;
 
 fn is_blank(c: u8) -> bool
@@ -30,25 +30,6 @@ fn blank_at(text: &str) -> Option<usize>
 {
     let len = word_len(text);
     if len < text.len() { Some(len) } else { None }
-}
-
-/// What stands before an ASCII byte.
-fn front(text: &str, i: usize) -> &str
-    requires there { i < length text.now }
-    requires ascii { slice_index text.now i < 128 }
-    ensures { result.now ≡ take i text.now }
-{
-    &text[..i]
-}
-
-/// What follows the first bytes, of which the last is ASCII.
-fn tail(text: &str, n: usize) -> &str
-    requires some { 0 < n }
-    requires there { n ≤ length text.now }
-    requires ascii { slice_index text.now (n - 1) < 128 }
-    ensures { result.now ≡ drop n text.now }
-{
-    &text[n..]
 }
 
 /// The word goes behind these, if it has a byte.

@@ -7,8 +7,8 @@ use Rattle.sal_types.specs.declared.value.Step.TheVariants.{Node}
 use Rattle.sal_types.specs.declared.value.Cell.{Cell}
 use Rattle.sal_types.specs.declared.row.Row.{Row}
 use Rattle.sal_types.specs.Tree.{under}
-use Rattle.sal_node.specs.Tree.{Tree, Forest, bare, grown}
-use Rattle.sal_tree.specs.Grow.{at, kid, kids_in}
+use Rattle.sal_node.specs.Tree.{Tree, Forest, IsGrove, bare, grown}
+use Rattle.sal_tree.specs.Grow.{IsSound, at, kid, kids_in}
 use Rattle.sal_schema.specs.declared.table.SchemaTable.{SchemaTable}
 use Rattle.sal_schema.specs.Kinds.{has_entries, is_list}
 use Rattle.sal_schema.specs.Table.{is_kind, is_same, data_parent, uniques_of}
@@ -47,6 +47,10 @@ RepeatsNearAChange =
     → under before (place ++ Node n ∷ []) ≢ under after (place ++ Node n ∷ [])
 
 -- ---- the walk over both trees
+
+-- the children of what stood at a place, if anything did, and of what stands there, and of all below, are in order
+abbrev pub AreGroves : Option Tree → Tree → Type 0
+AreGroves before t = IsSound before × IsGrove t.kids
 
 -- whether the stamp is one of those that the change gave
 abbrev pub is_new : List ℕ → ℕ → Bool

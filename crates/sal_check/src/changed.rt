@@ -3,7 +3,6 @@ ghost use Rattle.std.specs.Prelude.{◌≡◌, ◌<◌, length, IfOk, Some};
 ghost use Rattle.std.specs.List.{fold, flat_map};
 ghost use Rattle.sal_node.specs.Shape.{tree_at};
 ghost use Rattle.sal_node.specs.Tree.{IsGrove};
-ghost use Rattle.sal_tree.specs.Grow.{IsSound};
 ghost use Rattle.sal_rules.specs.Breaches as breaches;
 ghost use Rattle.sal_check.specs.Near as spec;
 ghost use Rattle.sal_check.specs.Nodes.{steps_in};
@@ -17,10 +16,8 @@ use crate::trail::longer;
 use crate::walk::{Place, Walk, is_looked_at, rules_of};
 use sal_node::Node;
 use sal_rows::{Breach, Rule};
-use sal_schema::Schema;
 use sal_tree::{child_of, reached};
 use sal_types::{NoMemory, Step};
-use std::alloc::Global;
 use std::sync::Arc;
 
 /// What a walk over two trees goes by: what one over the second of them does, and the stamps that the change gave.
@@ -94,8 +91,7 @@ impl<'w> Near<'w> {
         node: &Arc<Node>,
         rule: Rule,
     ) -> Result<bool, NoMemory>
-        requires before { IsSound (tree_at before) }
-        requires sound { IsGrove node.now.value.kids }
+        requires trees { spec.AreGroves (tree_at before) node.now.value }
         requires number { breaches.node_of_rule rule < length self.now.walk.schema.now.nodes }
         ensures { IfOk result (λ b. b ≡ spec.is_settled self.now.stamps.now self.now.walk.schema.now (tree_at before.entry) (Some node.now.value) rule) }
     {
@@ -118,8 +114,7 @@ impl<'w> Near<'w> {
         rule: Rule,
         least: Option<Breach>,
     ) -> Result<Option<Breach>, NoMemory>
-        requires before { IsSound (tree_at before) }
-        requires sound { IsGrove place.now.node.now.value.kids }
+        requires trees { spec.AreGroves (tree_at before) place.now.node.now.value }
         requires number { breaches.node_of_rule rule < length self.now.walk.schema.now.nodes }
         ensures { IfOk result (λ r. r ≡ fold breaches.keep least (spec.near_of self.now.stamps.now self.now.walk.schema.now self.now.walk.store (steps_in place.now.trail.now) (tree_at before.entry) place.now.node.now.value place.now.spot.node rule)) }
     {
@@ -184,8 +179,7 @@ impl<'w> Near<'w> {
         number: u32,
         least: Option<Breach>,
     ) -> Result<Option<Breach>, NoMemory>
-        requires before { IsSound (tree_at before) }
-        requires sound { IsGrove place.now.node.now.value.kids }
+        requires trees { spec.AreGroves (tree_at before) place.now.node.now.value }
         requires number { number < length self.now.walk.schema.now.nodes }
         ensures { IfOk result (λ r. r ≡ fold breaches.keep least (flat_map (spec.near_of self.now.stamps.now self.now.walk.schema.now self.now.walk.store (steps_in place.now.trail.now) (tree_at before.entry) place.now.node.now.value place.now.spot.node) (breaches.rules_of number))) }
     {
@@ -203,8 +197,7 @@ impl<'w> Near<'w> {
         place: &Place,
         least: Option<Breach>,
     ) -> Result<Option<Breach>, NoMemory>
-        requires before { IsSound (tree_at before) }
-        requires sound { IsGrove place.now.node.now.value.kids }
+        requires { spec.AreGroves (tree_at before) place.now.node.now.value }
         ensures { IfOk result (λ r. r ≡ fold breaches.keep least (spec.near_at self.now.stamps.now self.now.walk.schema.now self.now.walk.store (steps_in place.now.trail.now) place.now.spot (tree_at before.entry) place.now.node.now.value)) }
     {
         if place.spot.wants_entry {
@@ -224,8 +217,7 @@ impl<'w> Near<'w> {
         place: &Place,
         least: Option<Breach>,
     ) -> Result<Option<Breach>, NoMemory>
-        requires before { IsSound (tree_at before) }
-        requires sound { IsGrove place.now.node.now.value.kids }
+        requires { spec.AreGroves (tree_at before) place.now.node.now.value }
         ensures { IfOk result (λ r. r ≡ fold breaches.keep least (spec.near self.now.stamps.now self.now.walk.schema.now self.now.walk.store (steps_in place.now.trail.now) place.now.spot (tree_at before.entry) place.now.node.now.value)) }
     {
         if !is_new(self.stamps, place.node) {

@@ -2,7 +2,7 @@
 ghost use Rattle.std.specs.Prelude.{◌≡◌, ◌<◌, ◌∷◌, length, IfSome, IfOk, OnOk, Some, if◌then◌else◌};
 ghost use Rattle.sal_types.specs.declared.value.Step.TheVariants.{Node};
 ghost use Rattle.sal_schema.specs.Kinds as kinds;
-ghost use Rattle.sal_schema.specs.Table.{is_kind, data_node};
+ghost use Rattle.sal_schema.specs.Table.{data_node};
 ghost use Rattle.sal_rules.specs.Contexts as spec;
 
 use sal_schema::{Kind, Schema};

@@ -1,12 +1,12 @@
 //! Which nodes of a schema are judged at which places: a list for each place's node.
-ghost use Rattle.std.specs.Prelude.{◌≡◌, ◌<◌, ◌+◌, ◌||◌, ◌++◌, ◌∷◌, [], ℕ, length, IfOk, IfSome, OnOk, nat_eq, slice_index_or, if◌then◌else◌};
+ghost use Rattle.std.specs.Prelude.{◌≡◌, ◌<◌, ◌+◌, ◌||◌, ◌++◌, ◌∷◌, [], ℕ, length, IfOk, OnOk, nat_eq, slice_index_or, if◌then◌else◌};
 ghost use Rattle.std.specs.List.{All};
 ghost use Rattle.std.specs.declared.alloc.Global.{Global as Heap};
 ghost use Rattle.std.specs.declared.vec.Vec.{Vec as Vector};
-ghost use Rattle.sal_check.specs.Nodes.{slot, judged, judged_in, AreJudged};
+ghost use Rattle.sal_check.specs.Nodes.{slot, judged, AreJudged};
 
 use crate::climb::stand;
-use sal_schema::Schema;
+use sal_schema::{Schema, add_to_list, empty_lists};
 use sal_types::NoMemory;
 use std::alloc::Global;
 
@@ -14,26 +14,6 @@ use std::alloc::Global;
 #[derive(Drop)]
 pub(crate) struct Lists {
     pub(crate) lists: Vec<Vec<u32>>,
-}
-
-fn empty_lists(alloc: Global, count: usize) -> Result<Vec<Vec<u32>>, NoMemory>
-    ensures count { IfOk result (λ lists. length lists.items ≡ count) }
-    ensures empty { IfOk result (λ lists. (k : ℕ) (d : Vector ℕ Heap) → k < count → (slice_index_or lists.items k d).items ≡ []) }
-{
-    let mut lists = Vec::with_capacity(alloc, count)?;
-    for made in 0..count {
-        lists.push(Vec::new(alloc))?;
-    }
-    Ok(lists)
-}
-
-fn add_to(lists: &mut Vec<Vec<u32>>, at: usize, number: u32) -> Result<(), NoMemory>
-    requires { at < length lists.old.items }
-    ensures count { OnOk result (length lists.new.items ≡ length lists.old.items) }
-    ensures added { OnOk result ((k : ℕ) (d : Vector ℕ Heap) → k < length lists.old.items → (slice_index_or lists.new.items k d).items ≡ (slice_index_or lists.old.items k d).items ++ (if nat_eq at k then number ∷ [] else [])) }
-{
-    lists[at].push(number)?;
-    Ok(())
 }
 
 // Puts the number into two lists, or once where they are the same.
@@ -48,9 +28,9 @@ fn add_to_both(
     ensures count { OnOk result (length lists.new.items ≡ length lists.old.items) }
     ensures added { OnOk result ((k : ℕ) (d : Vector ℕ Heap) → k < length lists.old.items → (slice_index_or lists.new.items k d).items ≡ (slice_index_or lists.old.items k d).items ++ (if nat_eq at k || nat_eq other k then number ∷ [] else [])) }
 {
-    add_to(lists, at, number)?;
+    add_to_list(lists, at, number)?;
     if other != at {
-        add_to(lists, other, number)?;
+        add_to_list(lists, other, number)?;
     }
     Ok(())
 }

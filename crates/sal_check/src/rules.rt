@@ -7,7 +7,7 @@ ghost use Rattle.sal_schema.specs.Table.{is_kind};
 ghost use Rattle.sal_tree.specs.Grow.{IsSound};
 ghost use Rattle.sal_check.specs.Nodes.{seen_in};
 ghost use Rattle.sal_rules.specs.Rules as spec;
-ghost use Rattle.sal_rows.specs.declared.outcome.Rule.TheVariants.{Mandatory, MinElements, MaxElements, Unique, TwoCases};
+ghost use Rattle.sal_rows.specs.declared.outcome.Rule.TheVariants.{Mandatory, MinElements, MaxElements, TwoCases};
 
 use crate::climb::{context, stand, way};
 use crate::entries::count;

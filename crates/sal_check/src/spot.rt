@@ -1,5 +1,5 @@
 //! What a place of a tree stands at.
-ghost use Rattle.std.specs.Prelude.{◌≡◌, ◌<◌, length, IfSome, Some};
+ghost use Rattle.std.specs.Prelude.{◌≡◌, ◌<◌, Some};
 ghost use Rattle.sal_schema.specs.Table.{is_kind};
 ghost use Rattle.sal_schema.specs.Kinds as kinds;
 ghost use Rattle.sal_rules.specs.Places as spec;

@@ -1,6 +1,5 @@
 //! Entries of a list that agree in the leafs of a `unique` statement (RFC 7950 section 7.8.3).
 ghost use Rattle.std.specs.Prelude.{◌≡◌, ◌<◌, ◌++◌, length, map, Some, IfOk, OnOk};
-ghost use Rattle.std.specs.List.{list_any};
 ghost use Rattle.std.specs.Option.{option_map};
 ghost use Rattle.sal_node.specs.Shape.{tree_at};
 ghost use Rattle.sal_node.specs.Tree.{IsGrove};

@@ -2,7 +2,6 @@
 ghost use Rattle.std.specs.Prelude.{◌≡◌, ◌<◌, length, IfOk, Some};
 ghost use Rattle.std.specs.List.{All, fold, flat_map};
 ghost use Rattle.sal_node.specs.Tree.{IsGrove};
-ghost use Rattle.sal_schema.specs.Table.{config_of};
 ghost use Rattle.sal_rules.specs.Breaches as spec;
 ghost use Rattle.sal_check.specs.Near as near;
 ghost use Rattle.sal_check.specs.Nodes.{seen_in, steps_in, found, found_at, AreJudged};

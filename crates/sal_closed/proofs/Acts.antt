@@ -20,7 +20,7 @@ use Rattle.sal_schema.specs.Fitting.{has_mark, is_whole_at, is_in_message, is_ro
 use Rattle.sal_schema.specs.Paths.{last_step}
 use Rattle.sal_schema.specs.Table.{is_among}
 use Rattle.sal_schema.specs.Valid.{IsTable}
-use Rattle.sal_rules.specs.Refusals.{needs_parents}
+use Rattle.sal_rows.specs.Clash.{needs_parents}
 use Rattle.sal_closed.proofs.Fronts.{same_step, front_itself, front_through, either_front, front_of_more, last_step-end}
 use Rattle.sal_closed.proofs.Standing.{nothing, stands_below}
 use Rattle.sal_closed.proofs.Wholes.{Fits, AllFit, leafs_at, unmarked-whole, same_whole, more_whole, among-key}

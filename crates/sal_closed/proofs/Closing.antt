@@ -15,7 +15,7 @@ use Rattle.sal_rows.specs.declared.op.Op.{Op}
 use Rattle.sal_rows.specs.declared.outcome.ClashKind.TheVariants.{Deleted}
 use Rattle.sal_rows.specs.Apply.{same_store, last_setting, cell_by, apply_ops, rows_of_act}
 use Rattle.sal_rows.specs.Clash.{clash_from, op_clash, parent_clash, path_clash, lost_parent, is_lost, tip, last_touch_over}
-use Rattle.sal_rows.specs.Clash.{needs_parents as clash_needs}
+use Rattle.sal_rows.specs.Clash.{needs_parents}
 use Rattle.sal_rows.proofs.Applied.{cell-apply_ops, IsAscending-apply_ops}
 use Rattle.sal_schema.specs.declared.table.SchemaTable.{SchemaTable}
 use Rattle.sal_schema.specs.Fitting.{has_mark, fits, is_key_leaf, is_root}
@@ -23,7 +23,7 @@ use Rattle.sal_schema.specs.Paths.{last_step}
 use Rattle.sal_schema.specs.Valid.{IsTable}
 use Rattle.sal_rules.specs.declared.fault.TxFault.{TxFault}
 use Rattle.sal_rules.specs.declared.fault.TxFault.TheVariants.{RootPath, KeyLeaf, NotConfig, ParentMissing}
-use Rattle.sal_rules.specs.Refusals.{missing_parent, missing_of, needs_parents, not_config, or_else, when, refusal}
+use Rattle.sal_rules.specs.Refusals.{missing_parent, missing_of, not_config, or_else, when, refusal}
 use Rattle.sal_rules.specs.Writes.{IsForSchema}
 use Rattle.sal_closed.specs.Laws.{LawfulKeepsClosed, WithoutConflictStaysClosed}
 use Rattle.sal_closed.specs.Lawful.{AreLawful}
@@ -161,7 +161,7 @@ module _ (table : SchemaTable) (good : IsTable table) (opening : Store → List 
       no_map (lost_clash opening commits spans earlier op) (lost_parent opening commits base earlier op.store op.path)
       (by op.act needs (none_first (parent_clash opening commits base spans earlier op) (path_clash opening commits spans earlier op) none))
     where
-      by : (act : Act) → needs_parents act ≡ true → (if clash_needs act then option_map (lost_clash opening commits spans earlier op) (lost_parent opening commits base earlier op.store op.path) else None) ≡ None
+      by : (act : Act) → needs_parents act ≡ true → (if needs_parents act then option_map (lost_clash opening commits spans earlier op) (lost_parent opening commits base earlier op.store op.path) else None) ≡ None
           → option_map (lost_clash opening commits spans earlier op) (lost_parent opening commits base earlier op.store op.path) ≡ None
       by (Put rows) needs e = e
       by (Merge rows) needs e = e

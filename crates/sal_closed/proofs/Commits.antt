@@ -12,6 +12,7 @@ use Rattle.std.proofs.lemmas.Option.{none-some, same_Some, option_and_then_some,
 use Rattle.sal_types.specs.declared.value.Store.{Store}
 use Rattle.sal_types.specs.declared.value.Store.TheVariants.{Config, Oper}
 use Rattle.sal_types.specs.declared.row.Row.{Row}
+use Rattle.sal_types.proofs.Lists.{last_or_before}
 use Rattle.sal_rows.specs.declared.clash.Clash.{Clash}
 use Rattle.sal_rows.specs.declared.clash.Span.{Span}
 use Rattle.sal_rows.specs.declared.op.Op.{Op}
@@ -20,12 +21,13 @@ use Rattle.sal_rows.specs.declared.outcome.CallFault.TheVariants.{NoDomain}
 use Rattle.sal_rows.specs.declared.outcome.Outcome.{Outcome}
 use Rattle.sal_rows.specs.declared.outcome.Outcome.TheVariants.{ChainFailed as FailedBy, Conflict, Done, Invalid, Unmounted}
 use Rattle.sal_rows.specs.Apply.{apply_ops, checks_path}
-use Rattle.sal_rows.specs.Clash.{clash, clash_from, op_clash, parent_clash, path_clash, lost_parent, tip, needs_parents as clash_needs}
+use Rattle.sal_rows.specs.Clash.{clash, clash_from, op_clash, parent_clash, path_clash, lost_parent, tip, needs_parents}
 use Rattle.sal_rows.specs.PathClash.{Difference, difference, is_covered}
 use Rattle.sal_rows.specs.Commits.{next_tree, tree_after}
 use Rattle.sal_rows.specs.Spans.{spans}
 use Rattle.sal_schema.specs.Fitting.{is_closed}
 use Rattle.sal_schema.specs.Valid.{IsTable}
+use Rattle.sal_schema.proofs.ShownTables.{shown}
 use Rattle.sal_history.specs.declared.call.Call.{Call}
 use Rattle.sal_history.specs.declared.call.Call.TheVariants.{Begin, ChainBegin, Pump, Settle, Submit}
 use Rattle.sal_history.specs.declared.call.Entry.{Entry}
@@ -43,17 +45,6 @@ use Rattle.sal_closed.proofs.Closing.{lawful_keeps_closed, lost_clash, without_c
 
 -- ---- lists
 
--- what stands in a list with one more at its end
-last_or_before : {X : Type 0} (xs : List X) (y z : X) (i : ℕ) → slice_get (xs ++ y ∷ []) i ≡ Some z → (slice_get xs i ≡ Some z) ⊎ ((i ≡ length xs) × (y ≡ z))
-last_or_before [] y z zero e = inr (refl, same_Some y z e)
-last_or_before [] y z (suc i) e = cc
-last_or_before (x ∷ xs) y z zero e = inl e
-last_or_before (x ∷ xs) y z (suc i) e =
-    elim (last_or_before xs y z i e) [
-      | inl old ↦ inl old
-      | inr w ↦ inr (ap suc w.0, w.1)
-    ]
-
 front_stays : {X : Type 0} (xs ys : List X) (i : ℕ) (x : X) → slice_get xs i ≡ Some x → slice_get (xs ++ ys) i ≡ Some x
 front_stays [] ys i x e = absurd (none-some x e)
 front_stays (y ∷ xs) ys zero x e = e
@@ -67,19 +58,7 @@ sents-now answered now =
 -- ---- tables and openings
 
 no_table-IsTable : IsTable no_table
-no_table-IsTable = record {
-  small = record { nodes = omega arith; types = omega arith; modules = omega arith; identities = omega arith };
-  numbers = refl;
-  places = refl;
-  names = refl;
-  leaf_types = refl;
-  keys = refl;
-  uniques = refl;
-  module_names = refl;
-  identities = refl;
-  types = refl;
-  distinct = record { modules = refl; identities = refl; rpcs = refl; notifications = refl; data_nodes = refl };
-}
+no_table-IsTable = shown no_table (record { nodes = omega arith; types = omega arith; modules = omega arith; identities = omega arith }) refl refl
 
 table_is : (world : List Domain) (number : ℕ) → AreSound world → IsTable (table_of world number)
 table_is [] number sound = no_table-IsTable
@@ -146,7 +125,7 @@ module _ (opening : Store → List Row) (cs : List (List Op)) (base : Store → 
   at_op : (earlier : List Op) (op : Op) → IsAt (length earlier) (op_clash opening cs base pieces earlier op)
   at_op earlier op =
       at_or (length earlier) (parent_clash opening cs base pieces earlier op) (path_clash opening cs pieces earlier op)
-      (at_if (length earlier) (clash_needs op.act) (option_map (lost_clash opening cs pieces earlier op) (lost_parent opening cs base earlier op.store op.path))
+      (at_if (length earlier) (needs_parents op.act) (option_map (lost_clash opening cs pieces earlier op) (lost_parent opening cs base earlier op.store op.path))
       (at_map (length earlier) (lost_clash opening cs pieces earlier op) (lost_parent opening cs base earlier op.store op.path) (λ d. refl)))
       (at_if (length earlier) (checks_path op.act && not (is_covered earlier op.store op.path)) (option_map (path_found earlier op) (difference opening cs op.store pieces op.path))
       (at_map (length earlier) (path_found earlier op) (difference opening cs op.store pieces op.path) (λ x. refl)))

@@ -1,9 +1,7 @@
 -- Rows of a list and the cells that it has.
-use Rattle.std.proofs.Common.{◌≡◌, Bool, true, false, ◌||◌, cond, List, [], ◌∷◌, ◌++◌, Option, Some, None, refl, sym, ap, ◌∙◌, if◌then◌else◌}
+use Rattle.std.proofs.Common.{◌≡◌, Bool, true, false, ◌||◌, List, [], ◌∷◌, ◌++◌, Option, Some, None, refl, sym, ap, ◌∙◌, if◌then◌else◌}
 use Rattle.std.specs.Prelude.{is_some}
 use Rattle.std.specs.List.{list_all}
-use Rattle.std.specs.Ordering.{is_eq, is_lt}
-use Rattle.std.specs.declared.cmp.Ordering.TheVariants.{Less, Equal, Greater}
 use Rattle.std.specs.Cmp.{first_so, second_so}
 use Rattle.std.specs.FinMap.{is_sorted}
 use Rattle.std.specs.FinMap.Entries.{below_all}
@@ -20,7 +18,7 @@ use Rattle.sal_types.proofs.Trees.{same_tree}
 use Rattle.sal_rows.specs.declared.op.Op.{Op}
 use Rattle.sal_rows.specs.Apply.{same_store, act_setting, cell_by, setting, apply_ops}
 use Rattle.sal_rows.proofs.Applied.{cell_after_push, cell-apply_ops, IsAscending-apply_ops, setting-same, setting-other}
-use Rattle.sal_rows.proofs.Cells.{same_path, path_eq-itself}
+use Rattle.sal_rows.proofs.Cells.{same_path, path_eq-itself, cell_before}
 use Rattle.sal_rows.proofs.Untouched.{no_cell}
 
 pub nothing : {X : Type 0} {x : X} → None ≡ Some x → ⊥
@@ -31,17 +29,6 @@ some_there None e = cc
 some_there (Some x) e = (x, refl)
 
 -- ---- rows and cells
-
--- a path before all rows has no cell
-cell_before : (p : List Step) (rows : List Row) → below_all path_cmp p (entries rows) ≡ true → cell rows p ≡ None
-cell_before p [] h = refl
-cell_before p (x ∷ rows) h =
-    let rest = cell_before p rows (second_so (is_lt (path_cmp p x.path)) _ h) in
-    elim (path_cmp p x.path) as (λ o. is_lt o ≡ true → cond (is_eq o) (Some x.cell) (cell rows p) ≡ None) [
-      | Less ↦ λ _. rest
-      | Equal ↦ λ e. cc
-      | Greater ↦ λ _. rest
-    ] (first_so _ (below_all path_cmp p (entries rows)) h)
 
 -- what holds of each row holds at each cell
 pub at_cell : (t : Row → Bool) (rows : List Row) (r : List Step) (c : Cell) → list_all t rows ≡ true → cell rows r ≡ Some c → t (record { path = r; cell = c }) ≡ true

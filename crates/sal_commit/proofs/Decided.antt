@@ -19,11 +19,8 @@ use Rattle.sal_graft.proofs.KeptLemmas.{length-ops_of, tip-kept}
 use Rattle.sal_graft.proofs.Keeping.{AreKept-push, chains_of-push, opening_in-push, ops_of-push}
 use Rattle.sal_tx.specs.declared.tx.Submission.{Submission}
 use Rattle.sal_commit.specs.declared.domain.Domain.{Domain}
-use Rattle.sal_commit.specs.declared.phases.Prepared.{Prepared}
 use Rattle.sal_commit.specs.declared.phases.PreFault.{PreFault}
 use Rattle.sal_commit.specs.declared.phases.PreFault.TheVariants.{Invalid, NoMemory}
-use Rattle.sal_commit.specs.declared.deciding.Attempt.TheVariants.{Made, Refused}
-use Rattle.sal_commit.specs.Attempts.{IsAttempt}
 use Rattle.sal_commit.specs.Domains.{IsSame}
 use Rattle.sal_commit.specs.Deciding.{IsNext, Decides, breached, conflict, decide, gone, invalid, refused}
 use Rattle.sal_commit.specs.Sound.{BreakNone}
@@ -31,19 +28,23 @@ use Rattle.sal_commit.specs.Stamps.{CanFollow, receipts_of}
 
 -- ---- canCommit and preCommit
 
+-- what is made of a submission that nothing refuses
+abbrev pub IsMade : Option ℕ → Domain → Submission → Commit → Type 0
+IsMade failed d sub c = (option_or (refused failed d sub) (breached d sub) ≡ None) × IsNext d sub c × CanFollow d.commits.items c
+
 -- the domain and the submission go through unchanged
-pub prepare-made : (failed : Option ℕ) (d e : Domain) (sub t : Submission) (p : Prepared) → t ≡ sub → e ≡ d → refused failed d sub ≡ None → IsNext e t p.commit × (breached e t ≡ None)
-    → CanFollow e.commits.items p.commit → IsAttempt failed d sub (Made p)
-prepare-made failed d e sub t p same is none next follows = (
+pub made-ready : (failed : Option ℕ) (d e : Domain) (sub t : Submission) (c : Commit) → t ≡ sub → e ≡ d → refused failed d sub ≡ None → IsNext e t c × (breached e t ≡ None)
+    → CanFollow e.commits.items c → IsMade failed d sub c
+made-ready failed d e sub t c same is none next follows = (
   ap (λ o. option_or o (breached d sub)) none ∙ (λ i. breached (sym is i) (sym same i)) ∙ next.1,
-  subst (λ x. IsNext d x p.commit) same (subst (λ x. IsNext x t p.commit) is next.0),
-  subst (λ (x : Domain). CanFollow x.commits.items p.commit) is follows,
+  subst (λ x. IsNext d x c) same (subst (λ x. IsNext x t c) is next.0),
+  subst (λ (x : Domain). CanFollow x.commits.items c) is follows,
 )
 
-pub prepare-refused : (failed : Option ℕ) (d e : Domain) (sub t : Submission) (fault : PreFault) (outcome : Outcome) → t ≡ sub → e ≡ d → refused failed d sub ≡ None → fault ≡ Invalid outcome
-    → (fault ≡ NoMemory) ⊎ ((o : Outcome) × (fault ≡ Invalid o) × (breached e t ≡ Some o)) → IsAttempt failed d sub (Refused outcome)
-prepare-refused failed d e sub t fault outcome same is none at (inl w) = let full : Invalid outcome ≡ NoMemory = sym at ∙ w in cc
-prepare-refused failed d e sub t fault outcome same is none at (inr w) =
+pub refused-ready : (failed : Option ℕ) (d e : Domain) (sub t : Submission) (fault : PreFault) (outcome : Outcome) → t ≡ sub → e ≡ d → refused failed d sub ≡ None → fault ≡ Invalid outcome
+    → (fault ≡ NoMemory) ⊎ ((o : Outcome) × (fault ≡ Invalid o) × (breached e t ≡ Some o)) → option_or (refused failed d sub) (breached d sub) ≡ Some outcome
+refused-ready failed d e sub t fault outcome same is none at (inl w) = let full : Invalid outcome ≡ NoMemory = sym at ∙ w in cc
+refused-ready failed d e sub t fault outcome same is none at (inr w) =
     let one : Invalid outcome ≡ Invalid w.0 = sym at ∙ w.1 in
     let it : outcome ≡ w.0 = cc in
     ap (λ o. option_or o (breached d sub)) none ∙ (λ i. breached (sym is i) (sym same i)) ∙ w.2 ∙ ap Some (sym it)

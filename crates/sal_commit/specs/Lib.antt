@@ -1,4 +1,3 @@
-pub mod Attempts
 pub mod Deciding
 pub mod Domains
 pub mod Opening

@@ -1,8 +1,7 @@
 //! The conflict of a submission with the foreign commits after its base, as an outcome.
-ghost use Rattle.std.specs.Prelude.{◌≡◌, IfOk};
+ghost use Rattle.std.specs.Prelude.{◌≡◌, IfOk, slice_get};
+ghost use Rattle.std.specs.Option.{option_map};
 ghost use Rattle.sal_history.specs.Outcome as outcome;
-ghost use Rattle.sal_rows.specs.Clash.{clash};
-ghost use Rattle.sal_graft.specs.Kept.{opening_in, ops_of, rows_in};
 ghost use Rattle.sal_commit.specs.Deciding as spec;
 
 use crate::domain::Domain;
@@ -21,24 +20,23 @@ pub(crate) fn conflict_in(
     requires { spec.IsFor domain.now sub.now }
     ensures { IfOk result (λ o. o ≡ spec.conflict domain.now sub.now) }
 {
-    let Some(found) = clash_in(alloc, sub, domain)? else {
-        return Ok(None);
-    };
-    let Some(op) = sub.changes.ops().get(found.op) else {
-        return Ok(None);
-    };
-    let refused = conflict_of(alloc, found, op)?;
-    Ok(Some(refused))
-}
-
-// The first clash of the submission with the foreign commits after its base.
-fn clash_in(alloc: Global, sub: &Submission, domain: &Domain) -> Result<Option<Clash>, NoMemory>
-    requires { spec.IsFor domain.now sub.now }
-    ensures { IfOk result (λ o. o ≡ clash (opening_in domain.now.commits.items) (ops_of domain.now.commits.items) (rows_in sub.now.base) (spec.spans_of domain.now sub.now) sub.now.changes) }
-{
     let spans = foreign_spans(alloc, sub.base_commit, sub.chain, &domain.commits)?;
     let found = conflict(sub.changes.lookups(), &sub.base, &spans, &domain.commits);
-    Ok(found)
+    match found {
+        None => Ok(None),
+        Some(clash) => named(alloc, sub.changes.ops(), clash),
+    }
+}
+
+// The outcome that names the clash of one of the operations.
+fn named(alloc: Global, ops: &[Op], clash: Clash) -> Result<Option<Outcome>, NoMemory>
+    ensures { IfOk result (λ o. o ≡ option_map (outcome.conflict_of clash) (slice_get ops.now clash.op)) }
+{
+    let Some(op) = ops.get(clash.op) else {
+        return Ok(None);
+    };
+    let refused = conflict_of(alloc, clash, op)?;
+    Ok(Some(refused))
 }
 
 // A clash of the operation, named by its store and its place.

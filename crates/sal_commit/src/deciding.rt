@@ -3,10 +3,9 @@ ghost use Rattle.std.specs.Prelude.{◌≡◌, IfOk, OnErr};
 ghost use Rattle.sal_commit.specs.Deciding as spec;
 ghost use Rattle.sal_commit.specs.Domains.{IsSame};
 ghost use Rattle.sal_commit.specs.Stamps.{IsNewStamp};
-ghost use Rattle.sal_commit.specs.Attempts.{IsAttempt};
 
 use crate::domain::Domain;
-use crate::phases::{CanFault, PreFault, Prepared, can, pre, publish};
+use crate::phases::{CanFault, PreFault, can, pre, publish};
 use sal_rows::Outcome;
 use sal_tx::Submission;
 use sal_types::NoMemory;
@@ -30,41 +29,16 @@ pub fn decide(
     ensures same { OnErr result (IsSame domain.old domain.new) }
     ensures commits { OnErr result (domain.new.commits.items ≡ domain.old.commits.items) }
 {
-    let prepared = match prepare(alloc, sub, domain, failed, fresh)? {
-        Attempt::Refused { outcome } => return Ok(outcome),
-        Attempt::Made { prepared } => prepared,
+    let ready = match can(alloc, sub, domain, failed) {
+        Ok(ready) => ready,
+        Err(CanFault::Refused { outcome }) => return Ok(outcome),
+        Err(CanFault::NoMemory) => return Err(NoMemory),
+    };
+    let prepared = match pre(alloc, ready, fresh) {
+        Ok(prepared) => prepared,
+        Err(PreFault::Invalid { outcome }) => return Ok(outcome),
+        Err(PreFault::NoMemory) => return Err(NoMemory),
     };
     domain.reserve()?;
     Ok(publish(prepared, domain))
-}
-
-// What canCommit and preCommit come to.
-#[derive(Drop)]
-enum Attempt {
-    Refused { outcome: Outcome },
-    Made { prepared: Prepared },
-}
-
-// canCommit and preCommit. The domain does not change.
-fn prepare(
-    alloc: Global,
-    sub: &Submission,
-    domain: &Domain,
-    failed: Option<u64>,
-    fresh: u64,
-) -> Result<Attempt, NoMemory>
-    requires given { spec.IsFor domain.now sub.now }
-    requires fresh { IsNewStamp domain.now.commits.items sub.now.receipt fresh }
-    ensures { IfOk result (IsAttempt failed domain.now sub.now) }
-{
-    let ready = match can(alloc, sub, domain, failed) {
-        Ok(ready) => ready,
-        Err(CanFault::Refused { outcome }) => return Ok(Attempt::Refused { outcome }),
-        Err(CanFault::NoMemory) => return Err(NoMemory),
-    };
-    match pre(alloc, ready, fresh) {
-        Ok(prepared) => Ok(Attempt::Made { prepared }),
-        Err(PreFault::Invalid { outcome }) => Ok(Attempt::Refused { outcome }),
-        Err(PreFault::NoMemory) => Err(NoMemory),
-    }
 }

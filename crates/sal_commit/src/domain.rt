@@ -1,5 +1,5 @@
 //! A domain with its commits.
-ghost use Rattle.std.specs.Prelude.{◌≡◌, ◌+◌, ◌<◌, [], ◌∷◌, None, IfOk, MatchResult, OnOk, length, take};
+ghost use Rattle.std.specs.Prelude.{◌≡◌, ◌+◌, ◌<◌, [], ◌∷◌, None, IfOk, MatchResult, OnOk, take};
 ghost use Rattle.std.specs.Coded.{codes};
 ghost use Rattle.sal_node.specs.Code.{tree_code};
 ghost use Rattle.sal_graft.specs.Following.{AreFollowing};

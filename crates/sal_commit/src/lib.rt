@@ -18,8 +18,7 @@
 //!
 //! `specs/` says which commits break no rule and what a change keeps of the newest trees (`Sound`), which stamp a new
 //! commit gives and what may stand behind others (`Stamps`), what opens a domain
-//! (`Opening`), what stays of one (`Domains`), what each phase gives and what a decision leaves (`Deciding`), and what `can`
-//! and `pre` come to together (`Attempts`).
+//! (`Opening`), what stays of one (`Domains`), and what each phase gives and what a decision leaves (`Deciding`).
 //!
 //! ```
 //! let outcome = decide(alloc, &submission, &mut domain, None, fresh)?;

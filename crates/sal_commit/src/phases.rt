@@ -2,7 +2,6 @@
 ghost use Rattle.std.specs.Prelude.{◌≡◌, ◌⊎◌, ◌+◌, ◌∷◌, [], ◌++◌, None, Some, IfOk, MatchResult, length};
 ghost use Rattle.sal_rows.specs.declared.outcome.Outcome.TheVariants.{Done};
 ghost use Rattle.sal_rows.specs.declared.outcome.Outcome.{Outcome as Decided};
-ghost use Rattle.sal_graft.specs.Kept.{AreKept};
 ghost use Rattle.sal_commit.specs.Deciding as spec;
 ghost use Rattle.sal_commit.specs.Domains.{IsSame, is_roomy};
 ghost use Rattle.sal_commit.specs.Sound.{BreakNone};

@@ -2,7 +2,7 @@
 use Rattle.std.proofs.Common.{◌≡◌, ℕ, zero, suc, ◌<◌, true, false, List, [], ◌∷◌, length, get_or, Some, None, refl, ap, sym, ◌∙◌, arith, inl, inr}
 use Rattle.std.specs.Prelude.{if◌then◌else◌}
 use Rattle.std.specs.List.Sorted.{IsPartitionPoint}
-use Rattle.std.specs.Ordering.{is_lt, is_eq, ordering_reverse}
+use Rattle.std.specs.Ordering.{is_eq}
 use Rattle.std.specs.declared.cmp.Ordering.TheVariants.{Less, Equal, Greater}
 use Rattle.std.specs.Cmp.{first_so, second_so, tied_back}
 use Rattle.std.specs.FinMap.{is_sorted}
@@ -12,19 +12,7 @@ use Rattle.sal_types.specs.declared.value.Step.{Step}
 use Rattle.sal_types.specs.declared.row.Row.{Row}
 use Rattle.sal_types.specs.Order.{path_cmp, path_eq, path_cmp-IsTotalOrder, path_cmp-IsAntisymmetric}
 use Rattle.sal_types.specs.Tree.{entries, cell}
-use Rattle.sal_data.proofs.Fronts.{less}
-
--- one path before another stands so from both sides
-turned : (x y : List Step) → path_cmp x y ≡ Less → path_cmp y x ≡ Greater
-turned x y e = path_cmp-IsTotalOrder.antisymm y x ∙ ap ordering_reverse e
-
-back : (x y : List Step) → path_cmp x y ≡ Greater → path_cmp y x ≡ Less
-back x y e = path_cmp-IsTotalOrder.antisymm y x ∙ ap ordering_reverse e
-
-above_each : (p : List Step) (rows : List Row) (i : ℕ) (d : Row) → below_all path_cmp p (entries rows) ≡ true → i < length rows → path_cmp p (get_or rows i d).path ≡ Less
-above_each p [] i d below inside = absurd (omega arith)
-above_each p (x ∷ rows) zero d below inside = less _ (first_so (is_lt (path_cmp p x.path)) _ below)
-above_each p (x ∷ rows) (suc i) d below inside = above_each p rows i d (second_so (is_lt (path_cmp p x.path)) _ below) (omega arith)
+use Rattle.sal_rows.proofs.Found.{turned, back, above_each}
 
 apart_cell : (rows : List Row) (q : List Step) → ((k : ℕ) (d : Row) → k < length rows → path_eq q (get_or rows k d).path ≡ false) → cell rows q ≡ None
 apart_cell [] q apart = refl

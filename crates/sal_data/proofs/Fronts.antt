@@ -5,7 +5,7 @@ use Rattle.std.specs.FinMap.Entries.{below_all}
 use Rattle.std.specs.List.{slice_get}
 use Rattle.std.specs.Ordering.{is_lt, ordering_then}
 use Rattle.std.specs.declared.cmp.Ordering.{Ordering}
-use Rattle.std.specs.declared.cmp.Ordering.TheVariants.{Less, Equal, Greater}
+use Rattle.std.specs.declared.cmp.Ordering.TheVariants.{Less, Equal}
 use Rattle.std.specs.Cmp.{tied_itself}
 use Rattle.std.proofs.lemmas.Bool.{and_parts}
 use Rattle.sal_types.specs.declared.value.Cell.{Cell}
@@ -16,6 +16,7 @@ use Rattle.sal_types.specs.Prefix.{is_prefix}
 use Rattle.sal_types.proofs.Prefixes.{IsPrefix-from_test, is_prefix-append}
 use Rattle.sal_types.specs.Tree.{cell, entries, IsAscending}
 use Rattle.sal_rows.proofs.Cells.{same_path, path_eq-itself}
+pub use Rattle.sal_rows.proofs.Found.{less}
 use Rattle.sal_data.proofs.Listed.{In}
 
 -- ---- behind a prefix
@@ -46,11 +47,6 @@ longer_prefix a b s h =
     ap (λ x. is_prefix a (x ++ s ∷ [])) is ∙ ap (is_prefix a) (append_assoc a r (s ∷ [])) ∙ is_prefix-append a (r ++ s ∷ [])
 
 -- ---- rows that rise
-
-pub less : (o : Ordering) → is_lt o ≡ true → o ≡ Less
-less Less e = refl
-less Equal e = cc
-less Greater e = cc
 
 -- each row stands before all that follow
 abbrev pub Rises : List Row → Type 0

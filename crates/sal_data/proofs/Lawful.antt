@@ -19,7 +19,7 @@ use Rattle.sal_schema.specs.Paths.{may_follow, fits_path, last_step, node_of}
 use Rattle.sal_schema.specs.Table.{is_kind, is_data_child}
 use Rattle.sal_schema.specs.Valid.{IsTable}
 use Rattle.sal_schema.specs.Values.{is_of_node}
-use Rattle.sal_table.proofs.Childless.{no_child}
+use Rattle.sal_schema.proofs.Childless.{no_child}
 use Rattle.sal_data.specs.Laws.{IsWhole, IsReadable, HasReadable, step_values}
 use Rattle.sal_data.proofs.Listed.{In, In-map, list_all-In, All-In}
 use Rattle.sal_data.proofs.Fronts.{In-cell}

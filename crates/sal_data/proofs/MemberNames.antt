@@ -1,9 +1,9 @@
 -- The name of a member means its node again.
-use Rattle.std.proofs.Common.{◌≡◌, ℕ, suc, ◌+◌, true, false, List, [], ◌∷◌, ◌++◌, length, take, drop, Option, Some, None, Ok, Err, if◌then◌else◌, refl, sym, ap, ◌∙◌, arith, inl, inr}
+use Rattle.std.proofs.Common.{◌≡◌, ℕ, ◌+◌, true, false, List, [], ◌∷◌, ◌++◌, take, drop, Option, Some, None, Ok, Err, if◌then◌else◌, sym, ap, ◌∙◌, inl, inr}
 use Rattle.std.specs.Prelude.{option_and_then}
 use Rattle.std.specs.Option.{option_map_or}
-use Rattle.std.specs.List.{list_any, position_or_len, before_first, after_first}
-use Rattle.std.proofs.lemmas.Bool.{cases_Bool, or_right, or_parts, not-false}
+use Rattle.std.specs.List.{before_first, after_first}
+use Rattle.std.proofs.lemmas.Bool.{cases_Bool, not-false}
 use Rattle.std.proofs.lemmas.Option.{same_Some}
 use Rattle.sal_types.specs.declared.value.Step.{Step}
 use Rattle.sal_schema.specs.declared.table.SchemaTable.{SchemaTable}
@@ -13,30 +13,8 @@ use Rattle.sal_schema.specs.Valid.{IsTable}
 use Rattle.sal_table.specs.Lookups.{own_module}
 use Rattle.sal_table.proofs.Children.{IsChild, child, module_name-is, module_of-is, name_of-is, child_of-name, own_module-is, same-is}
 use Rattle.sal_json.specs.Named.{is_colon}
-use Rattle.sal_json.proofs.IdentTexts.{no_colon}
+use Rattle.sal_json.proofs.IdentTexts.{no_colon, colon-at, take-front, drop-front, colon-there}
 use Rattle.sal_data.specs.Members.{is_qualified, member_name, if_qualified, qualified_child, plain_child, child_called, name_fault, member_node}
-
--- ---- a text with a colon
-
-module _ (b : List ℕ) where
-  colon-at : (a : List ℕ) → list_any is_colon a ≡ false → position_or_len is_colon (a ++ 58 ∷ b) ≡ length a
-  colon-at [] none = refl
-  colon-at (c ∷ a) none =
-      let (here, rest) = or_parts (is_colon c) (list_any is_colon a) none in
-      let more = colon-at a rest in
-      rw here (omega arith)
-
-  take-front : (a : List ℕ) → take (length a) (a ++ 58 ∷ b) ≡ a
-  take-front [] = refl
-  take-front (c ∷ a) = ap (λ t. c ∷ t) (take-front a)
-
-  drop-front : (a : List ℕ) → drop (length a + 1) (a ++ 58 ∷ b) ≡ b
-  drop-front [] = refl
-  drop-front (c ∷ a) = let more : suc (length a) + 1 ≡ suc (length a + 1) = omega arith in rw more (drop-front a)
-
-  colon-there : (a : List ℕ) → list_any is_colon (a ++ 58 ∷ b) ≡ true
-  colon-there [] = refl
-  colon-there (c ∷ a) = or_right _ _ (colon-there a)
 
 -- ---- members
 

@@ -13,7 +13,7 @@ use crate::span::{changed_span, kind_over, tree_of};
 use crate::standing::{has_cell, stands};
 use crate::touched::is_set;
 use sal_mod::Mod;
-use sal_rows::{Act, Clash, ClashKind, Op, Span};
+use sal_rows::{Clash, ClashKind, Op, Span};
 use sal_tree::{Commit, Pair, Root};
 use sal_types::{Step, Store};
 
@@ -71,7 +71,7 @@ fn parent_clash(
     requires spans { All (IsSpanOf commits.now) spans.now }
     ensures { result ≡ spec.parent_clash (opening_in commits.now) (ops_of commits.now) (rows_in base.now) spans.now earlier.now op.now }
 {
-    if !needs_parents(&op.act) {
+    if !op.act.needs_parents() {
         return None;
     }
     let base = tree_of(base, op.store);
@@ -88,16 +88,6 @@ fn parent_clash(
                 commit,
             })
         }
-    }
-}
-
-fn needs_parents(act: &Act) -> bool
-    ensures { result ≡ spec.needs_parents act.now }
-{
-    match act {
-        Act::Put(_) => true,
-        Act::Merge(_) => true,
-        Act::Delete => false,
     }
 }
 

@@ -1,23 +1,18 @@
 -- Tables beside the list of statements, from one statement to the next.
-use Rattle.std.proofs.Common.{◌≡◌, ◌≢◌, ℕ, zero, suc, ◌+◌, ◌<◌, ◌==◌, ◌&&◌, List, [], ◌∷◌, ◌++◌, length, take, get_or, Bool, true, false, not, Option, Some, None, is_some, if◌then◌else◌, refl, ◌∙◌, sym, ap, inl, inr, arith, get_or-set_other, get_or-set_same, append-nil}
+use Rattle.std.proofs.Common.{◌≡◌, ◌≢◌, ℕ, zero, suc, ◌+◌, ◌<◌, ◌==◌, ◌&&◌, List, [], ◌∷◌, ◌++◌, length, take, get_or, Bool, true, false, not, Some, if◌then◌else◌, refl, ◌∙◌, sym, ap, inl, inr, arith, get_or-set_other, get_or-set_same, append-nil}
 use Rattle.std.proofs.Math.ListN.{set}
-use Rattle.std.specs.Prelude.{String, Vec}
+use Rattle.std.specs.Prelude.{Vec}
 use Rattle.std.specs.declared.alloc.Global.{Global}
-use Rattle.std.specs.BTreeMap.{UpdatesBy, get_by_text}
-use Rattle.std.specs.String.{string_bytes, string_cmp}
-use Rattle.std.specs.Str.{bytes_eq}
-use Rattle.std.specs.Cmp.Lexicographic.{slice_cmp}
-use Rattle.std.specs.Ordering.{nat_cmp}
+use Rattle.std.specs.BTreeMap.{get_by_text}
 use Rattle.std.proofs.lemmas.Bool.{cases_Bool}
 use Rattle.std.proofs.lemmas.List.{get_or_default}
 use Rattle.std.proofs.lemmas.Bool.Decides.{nat_tests}
-use Rattle.std.proofs.lemmas.Slice.Eq.{bytes_eq-Decides}
-use Rattle.std.proofs.lemmas.Map.Text.{btree_map_updates_text}
 use Rattle.sal_module.specs.declared.keyword.Keyword.{Keyword}
 use Rattle.sal_module.specs.Keywords.{same, same_keyword}
 use Rattle.sal_grouping.specs.declared.rows.Row.{Row}
 use Rattle.sal_grouping.specs.Rows.{is_inside, all_inside, defines, first_defined}
 use Rattle.sal_grouping.specs.Indexes.{Names, with_first, picked, lists}
+pub use Rattle.sal_module.proofs.Firsts.{with_first-miss, first-put}
 use Rattle.sal_grouping.proofs.Places.{numbered-take, position_from-take}
 
 -- ---- lists
@@ -69,23 +64,6 @@ inside-take rows i row h is b =
     ∙ ap (λ (r : Row). all_inside (take i rows) b ++ picked b r.around (Some i)) (sym is)
 
 -- ---- names
-
-pub with_first-miss : (found : Option ℕ) (k : ℕ) → with_first found false k ≡ found
-with_first-miss (Some j) k = refl
-with_first-miss None k = refl
-
-pub first-put : (old new : Names) (key : String Global) (k : ℕ) → UpdatesBy string_cmp (λ s. slice_cmp nat_cmp (string_bytes key) (string_bytes s)) old new (Some k)
-    → (name : List ℕ) → string_bytes key ≡ name → is_some (get_by_text old name) ≡ false → (q : List ℕ) → get_by_text new q ≡ with_first (get_by_text old q) (same name q) k
-first-put old new key k updates name is unknown q =
-    let here : get_by_text new q ≡ (if bytes_eq name q then Some k else get_by_text old q) =
-    btree_map_updates_text (string_bytes key) old new (Some k) updates q ∙ ap (λ n. if bytes_eq n q then Some k else get_by_text old q) is in
-    elim (cases_Bool (same name q)) [
-      | inl e ↦
-          let that : name ≡ q = (bytes_eq-Decides name q).0 e in
-          let none : is_some (get_by_text old q) ≡ false = ap (λ n. is_some (get_by_text old n)) (sym that) ∙ unknown in
-          here ∙ rw (e, none) refl
-      | inr e ↦ here ∙ rw e (sym (with_first-miss (get_by_text old q) k))
-    ]
 
 no-block : (a c : Bool) → ((a && false) && c) ≡ false
 no-block true c = refl

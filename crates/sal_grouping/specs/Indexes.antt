@@ -1,9 +1,10 @@
 -- What the tables beside the list of statements hold.
-use Rattle.std.specs.Prelude.{◌≡◌, ℕ, ◌<◌, Bool, List, [], map, length, Option, Some, None, is_some, slice_index_or, if◌then◌else◌, String, Vec}
+use Rattle.std.specs.Prelude.{◌≡◌, ℕ, ◌<◌, List, [], map, length, Option, slice_index_or, if◌then◌else◌, String, Vec}
 use Rattle.std.specs.declared.alloc.Global.{Global}
 use Rattle.std.specs.BTreeMap.{BTreeMap, get_by_text}
 use Rattle.sal_stmt.specs.declared.stmt.Stmt.{Stmt}
 use Rattle.sal_module.specs.declared.keyword.Keyword.{Keyword}
+pub use Rattle.sal_module.specs.Firsts.{with_first}
 use Rattle.sal_grouping.specs.declared.rows.Row.{Row}
 use Rattle.sal_grouping.specs.Rows.{top_of, option_list, is_block, all_inside, first_defined}
 
@@ -14,10 +15,6 @@ lists all = map (λ (v : Vec ℕ Global). v.items) all
 -- the numbers of names
 abbrev pub Names : Type 0
 Names = BTreeMap (String Global) ℕ
-
--- the one that stands first counts
-abbrev pub with_first : Option ℕ → Bool → ℕ → Option ℕ
-with_first found hit k = if is_some found then found else if hit then Some k else None
 
 -- a value in the list of its key
 abbrev pub picked : ℕ → Option ℕ → Option ℕ → List ℕ

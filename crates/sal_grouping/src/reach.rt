@@ -1,11 +1,12 @@
 //! Which groupings use themselves.
-ghost use Rattle.std.specs.Prelude.{◌≡◌, ◌==◌, ◌||◌, ◌<◌, ◌≤◌, nat_le, ℕ, [], false, map, length, IfOk, IfSome, IsTrue, slice_index_or, vec_len};
-ghost use Rattle.std.specs.List.{list_any, list_all};
+ghost use Rattle.std.specs.Prelude.{◌≡◌, ◌==◌, ◌||◌, ◌<◌, nat_le, [], false, length, IfOk, IfSome, IsTrue, slice_index_or};
+ghost use Rattle.std.specs.List.{list_all};
 ghost use Rattle.sal_module.specs.Imports as imports;
 ghost use Rattle.sal_grouping.specs.Indexes.{lists};
 ghost use Rattle.sal_grouping.specs.Reach as spec;
 
 use crate::index::{empty_lists, pick};
+use sal_module::{is_marked, reaching};
 use sal_types::NoMemory;
 use std::alloc::Global;
 
@@ -113,56 +114,6 @@ fn is_ranked(edges: &[Vec<usize>], ranks: &[usize]) -> bool
         }
     }
     true
-}
-
-// ---- rounds
-
-fn is_marked(marks: &[bool], k: usize) -> bool
-    ensures { result ≡ slice_index_or marks.now k false }
-{
-    marks.get(k).copied().unwrap_or(false)
-}
-
-fn goes(marks: &[bool], out: &[usize], target: usize) -> bool
-    ensures { result ≡ list_any (λ k. imports.is_step marks.now target k) out.now }
-{
-    out.iter().any(|k| *k == target || is_marked(marks, *k))
-}
-
-/// Which groupings name the target or one that is marked.
-fn round(
-    alloc: Global,
-    edges: &[Vec<usize>],
-    marks: &[bool],
-    target: usize,
-) -> Result<Vec<bool>, NoMemory>
-    ensures { IfOk result (λ v. v.items ≡ map (λ out. list_any (λ k. imports.is_step marks.now target k) out.items) edges.now) }
-{
-    let mut next = Vec::with_capacity(alloc, edges.len())?;
-    for out in edges {
-        next.push(goes(marks, out.as_slice(), target))?;
-    }
-    Ok(next)
-}
-
-/// Which groupings reach the target within so many names and one more. It ends once a round marks no more.
-fn reaching(
-    alloc: Global,
-    edges: &[Vec<usize>],
-    target: usize,
-    rounds: usize,
-) -> Result<Vec<bool>, NoMemory>
-    ensures { IfOk result (λ v. v.items ≡ map (imports.reaches (lists edges.now) rounds target) (lists edges.now)) }
-{
-    let mut marks = round(alloc, edges, &[], target)?;
-    for _i in 0..rounds {
-        let next = round(alloc, edges, marks.as_slice(), target)?;
-        if next.as_slice() == marks.as_slice() {
-            return Ok(marks);
-        }
-        marks = next;
-    }
-    Ok(marks)
 }
 
 // ---- together

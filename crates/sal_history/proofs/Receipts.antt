@@ -11,6 +11,7 @@ use Rattle.sal_types.specs.declared.value.Store.{Store}
 use Rattle.sal_types.specs.declared.value.Step.{Step}
 use Rattle.sal_types.specs.declared.row.Row.{Row}
 use Rattle.sal_types.specs.Tree.{cell}
+pub use Rattle.sal_types.proofs.Lists.{last_or_before}
 use Rattle.sal_rows.specs.declared.outcome.ClashKind.{ClashKind}
 use Rattle.sal_rows.specs.declared.outcome.Outcome.{Outcome}
 use Rattle.sal_rows.specs.declared.outcome.Outcome.TheVariants.{Conflict, Done}
@@ -25,17 +26,6 @@ use Rattle.sal_history.proofs.Decisions.{IsWithinOwn, named_within, numbered, un
 use Rattle.sal_history.proofs.Waiting.{added, done-more, done-next, failing-more, failing-next, fails, waiting, waiting-more, waiting-next, waiting_none}
 
 -- ---- lists
-
--- what stands in a list with one more at its end
-pub last_or_before : {X : Type 0} (xs : List X) (y z : X) (i : ℕ) → slice_get (xs ++ y ∷ []) i ≡ Some z → (slice_get xs i ≡ Some z) ⊎ ((i ≡ length xs) × (y ≡ z))
-last_or_before [] y z zero e = inr (refl, same_Some y z e)
-last_or_before [] y z (suc i) e = cc
-last_or_before (x ∷ xs) y z zero e = inl e
-last_or_before (x ∷ xs) y z (suc i) e =
-    elim (last_or_before xs y z i e) [
-      | inl old ↦ inl old
-      | inr w ↦ inr (ap suc w.0, w.1)
-    ]
 
 get-take : {X : Type 0} (n : ℕ) (xs : List X) (i : ℕ) → i < n → slice_get (take n xs) i ≡ slice_get xs i
 get-take zero xs i lt = absurd (omega (arith, lt))

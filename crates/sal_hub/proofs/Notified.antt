@@ -1,5 +1,6 @@
 -- The calls on notifications among those of the log: what a call leaves, and what it is answered.
-use Rattle.std.proofs.Common.{◌≡◌, ℕ, ◌<◌, true, List, [], ◌∷◌, ◌++◌, length, Option, None, Some, refl, ap, sym, ◌∙◌, subst}
+use Rattle.std.proofs.Common.{◌≡◌, ℕ, suc, ◌<◌, ◌≤◌, true, List, [], ◌∷◌, ◌++◌, length, Option, None, Some, arith, refl, ap, sym, ◌∙◌, subst}
+use Rattle.std.specs.List.{cons_option}
 use Rattle.std.specs.Option.{option_to_list}
 use Rattle.sal_note.specs.declared.call.NoteCall.{NoteCall}
 use Rattle.sal_note.specs.declared.call.NoteCall.TheVariants as notes
@@ -8,7 +9,7 @@ use Rattle.sal_note.specs.declared.call.NoteFault.TheVariants as faults
 use Rattle.sal_note.specs.declared.call.NoteReply.{NoteReply}
 use Rattle.sal_note.specs.declared.call.NoteReply.TheVariants as replies
 use Rattle.sal_note.specs.Answers as queued
-use Rattle.sal_note.specs.Boxes.{Boxes, IsOf}
+use Rattle.sal_note.specs.Boxes.{Boxes, HasRoom, IsOf, clients_in}
 use Rattle.sal_note.specs.Queues.{Asked}
 use Rattle.sal_history.specs.declared.call.Call.{Call}
 use Rattle.sal_history.specs.declared.call.Call.TheVariants.{Offer, Subscribe, TakeNotes}
@@ -18,13 +19,14 @@ use Rattle.sal_history.specs.World.{Domain}
 use Rattle.sal_history.specs.History.{Answered, entries_of, history, reply_to}
 use Rattle.sal_history.specs.Services.{by_notes, mount_call, note_asked, note_calls, note_fault, note_reply}
 use Rattle.sal_hub.specs.declared.pipeline.Pipeline.{Pipeline}
-use Rattle.sal_hub.specs.Answers.{Fails, Made}
+use Rattle.sal_note.proofs.Counted.{subscribers-are-callers}
+use Rattle.sal_hub.specs.Answers.{Fails, Made, limit}
 use Rattle.sal_hub.specs.Current.{IsKept, known_of}
 use Rattle.sal_hub.specs.Journals.{Noted, jotted, mark_at, taken_back}
 use Rattle.sal_hub.specs.Known.{Known, entry_of}
 use Rattle.sal_hub.specs.Notified.{AreNoted, left_by}
 use Rattle.sal_hub.proofs.Beginning.{made_now, quiet_kept}
-use Rattle.sal_hub.proofs.Histories.{note-push}
+use Rattle.sal_hub.proofs.Histories.{length-history, note-push}
 use Rattle.sal_hub.proofs.Served.{is_serving, serving_undecided, serving_unopened, serving_unsent, serving_unspent}
 
 -- ---- the calls on notifications, as shared calls
@@ -52,6 +54,28 @@ unmounting c = refl
 serving : (c : NoteCall) → is_serving (shared c) ≡ true
 serving (notes.Subscribe note) = refl
 serving c = refl
+
+-- ---- how many subscribe
+
+few-calls : (answered : List Answered) → length (note_calls answered) ≤ length answered
+few-calls [] = omega arith
+few-calls (a ∷ answered) =
+    let rest = few-calls answered in
+    elim (note_asked a.entry.client a.entry.call) as (λ o. length (cons_option o (note_calls answered)) ≤ suc (length answered)) [
+      | None ↦ omega (arith, rest)
+      | Some call ↦ omega (arith, rest)
+    ]
+
+-- fewer than the entries that a log may have
+pub has_room : (j : Noted) (p : Pipeline) (b : Boxes) → AreNoted (known_of j p) b → length j.log < limit → HasRoom b.subscribed
+has_room j p b noted room note =
+    let world = (known_of j p).world in
+    let asked = note_calls (history world j.log) in
+    let here : length (clients_in b.subscribed note) ≤ length asked = subst (λ (cs : List ℕ). length cs ≤ length asked) (sym (noted.subscribed note)) (subscribers-are-callers asked note) in
+    let calls = few-calls (history world j.log) in
+    let long = length-history world j.log in
+    let below : length j.log < 1000000 = room in
+    omega (arith, here, calls, long, below)
 
 -- ---- a call of a client
 

@@ -20,7 +20,7 @@ use Rattle.sal_hub.specs.Answers.{Made}
 use Rattle.sal_hub.specs.Current.{IsCurrent, IsKept, answers, known_of}
 use Rattle.sal_hub.specs.Journals.{Noted, jotted, mark_at}
 use Rattle.sal_hub.specs.Known.{Known, more}
-use Rattle.sal_hub.specs.Lines.{AllKept, AreDecided, is_live_in, line_of, sent_of, world_in}
+use Rattle.sal_hub.specs.Lines.{AllKept, AreDecided, Line, is_live_in, line_of, sent_of, world_in}
 use Rattle.sal_hub.specs.Tokens.{IsGiven}
 use Rattle.sal_hub.proofs.Beginning.{quiet_kept}
 use Rattle.sal_hub.proofs.Deciding.{sent_at}
@@ -140,6 +140,17 @@ module _ (journal journal' : Noted) (p p' : Pipeline) (is : IsKept journal p) (c
       ap (λ (os : List Outcome). slice_get os (n - 1)) ((λ i. sym is.current.outcomes i ++ now_decided i) ∙ sym decided.outcomes) ∙ at in
       decided_made journal journal' p p' is client (Settle n) (n - length p.outcomes.items) log decided (Settled receipt.domain o) room
       ((λ i. settled (here i) (outcome i)) ∙ ap (λ d. Settled d o) of_domain)
+
+-- where nothing was decided, all is as it was
+pub unsettled_kept : (journal journal' : Noted) (p p' : Pipeline) → IsKept journal p → AllKept p'.domains.items → line_of p' ≡ line_of p → journal' ≡ journal → IsKept journal' p'
+unsettled_kept journal journal' p p' is kept same undone = record {
+  kept = kept;
+  current = subst (λ (l : Line). IsCurrent journal'.log journal'.marks l) (sym same) (subst (λ (j : Noted). IsCurrent j.log j.marks (line_of p)) (sym undone) is.current);
+  let_go = ap (λ (l : Line). l.gone) same ∙ is.let_go ∙ sym (ap (λ (l : Line). length l.outcomes) same);
+}
+
+pub unsettled_known : (journal journal' : Noted) (p p' : Pipeline) → line_of p' ≡ line_of p → journal' ≡ journal → known_of journal' p' ≡ known_of journal p
+unsettled_known journal journal' p p' same undone = λ i. record { world = world_in (same i).domains; log = (undone i).log }
 
 -- ---- pump
 

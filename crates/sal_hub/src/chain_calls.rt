@@ -29,6 +29,14 @@ use sal_tx::Tx;
 use sal_types::NoMemory;
 use std::alloc::Global;
 
+/// What a client asks for: the next transaction of the chain, in the mode.
+#[derive(Clone, Copy)]
+pub(crate) struct NextAsk {
+    pub(crate) client: u32,
+    pub(crate) chain: Chain,
+    pub(crate) mode: Mode,
+}
+
 /// Opens a chain over the domain, unless that is refused, and adds the entry.
 pub(crate) fn open_chain(
     pipeline: &mut Pipeline,
@@ -90,27 +98,26 @@ pub(crate) fn chain_begin(
     pipeline: &Pipeline,
     journal: &mut Journal,
     chains: &mut Chains,
-    client: u32,
-    chain: &Chain,
-    mode: Mode,
+    ask: NextAsk,
 ) -> Result<Tx, CallFault>
     requires kept { IsKept journal.old pipeline.now }
     requires chains { AreChains (known_of journal.old pipeline.now) chains.old }
     requires room { length journal.old.log < limit }
-    requires token { IsChain (known_of journal.old pipeline.now) chain.now }
+    requires token { IsChain (known_of journal.old pipeline.now) ask.chain }
     ensures kept { IsKept journal.new pipeline.now }
     ensures chains { AreChains (known_of journal.new pipeline.now) chains.new }
-    ensures answer { Calls (known_of journal.old pipeline.now) (known_of journal.new pipeline.now) (entry_of (known_of journal.old pipeline.now) client (ChainBegin chain.now.id mode)) (λ (tx : Token). Answered (begun_of tx).base_commit (begun_of tx).on) result }
+    ensures answer { Calls (known_of journal.old pipeline.now) (known_of journal.new pipeline.now) (entry_of (known_of journal.old pipeline.now) ask.client (ChainBegin ask.chain.id ask.mode)) (λ (tx : Token). Answered (begun_of tx).base_commit (begun_of tx).on) result }
     ensures token { IfOk result (IsToken (known_of journal.new pipeline.now)) }
-    ensures fresh { IfOk result (IsFresh (known_of journal.old pipeline.now) chain.now.domain (Some chain.now.id) mode) }
+    ensures fresh { IfOk result (IsFresh (known_of journal.old pipeline.now) ask.chain.domain (Some ask.chain.id) ask.mode) }
 {
-    let id = chain.id();
-    match refusal(pipeline, journal, chains, chain) {
-        Some(fault) => match journal.add(client, Call::ChainBegin { chain: id, mode }) {
+    let chain = ask.chain.id();
+    let mode = ask.mode;
+    match refusal(pipeline, journal, chains, &ask.chain) {
+        Some(fault) => match journal.add(ask.client, Call::ChainBegin { chain, mode }) {
             Ok(()) => Err(fault),
             Err(NoMemory) => Err(CallFault::NoMemory),
         },
-        None => match begin_next(alloc, pipeline, journal, chains, client, chain, mode) {
+        None => match begin_next(alloc, pipeline, journal, chains, ask) {
             Ok(tx) => Ok(tx),
             Err(NoMemory) => Err(CallFault::NoMemory),
         },
@@ -178,27 +185,26 @@ fn begin_next(
     pipeline: &Pipeline,
     journal: &mut Journal,
     chains: &mut Chains,
-    client: u32,
-    chain: &Chain,
-    mode: Mode,
+    ask: NextAsk,
 ) -> Result<Tx, NoMemory>
     requires kept { IsKept journal.old pipeline.now }
     requires chains { AreChains (known_of journal.old pipeline.now) chains.old }
     requires room { length journal.old.log < limit }
-    requires token { IsChain (known_of journal.old pipeline.now) chain.now }
-    requires allowed { chain_refusal (world_in (line_of pipeline.now).domains) (answers journal.old.log (line_of pipeline.now)) chain.now.id ≡ None }
+    requires token { IsChain (known_of journal.old pipeline.now) ask.chain }
+    requires allowed { chain_refusal (world_in (line_of pipeline.now).domains) (answers journal.old.log (line_of pipeline.now)) ask.chain.id ≡ None }
     ensures kept { IsKept journal.new pipeline.now }
     ensures chains { AreChains (known_of journal.new pipeline.now) chains.new }
-    ensures answer { IfOk result (λ tx. Made (known_of journal.old pipeline.now) (known_of journal.new pipeline.now) (entry_of (known_of journal.old pipeline.now) client (ChainBegin chain.now.id mode)) (Answered (begun_of tx).base_commit (begun_of tx).on)) }
+    ensures answer { IfOk result (λ tx. Made (known_of journal.old pipeline.now) (known_of journal.new pipeline.now) (entry_of (known_of journal.old pipeline.now) ask.client (ChainBegin ask.chain.id ask.mode)) (Answered (begun_of tx).base_commit (begun_of tx).on)) }
     ensures token { IfOk result (IsToken (known_of journal.new pipeline.now)) }
-    ensures fresh { IfOk result (IsFresh (known_of journal.old pipeline.now) chain.now.domain (Some chain.now.id) mode) }
+    ensures fresh { IfOk result (IsFresh (known_of journal.old pipeline.now) ask.chain.domain (Some ask.chain.id) ask.mode) }
     ensures err { OnErr result (journal.new ≡ journal.old) }
 {
+    let chain = ask.chain;
     let member = Some(chain.id());
     let wish = Wish {
-        client,
+        client: ask.client,
         chain: member,
-        mode,
+        mode: ask.mode,
     };
     let domain = &pipeline.domains[chain.domain() as usize];
     let sent = chains.sent[chain.id() as usize - 1];

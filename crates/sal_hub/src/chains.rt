@@ -1,5 +1,5 @@
 //! What is kept of chains.
-ghost use Rattle.std.specs.Prelude.{◌≡◌, ◌-◌, [], Some, OnErr, OnOk, length, set};
+ghost use Rattle.std.specs.Prelude.{◌≡◌, ◌-◌, [], Some, OnOk, length};
 ghost use Rattle.sal_hub.specs.Chains as spec;
 ghost use Rattle.sal_hub.specs.Failures.{IsWithin, noted_with};
 

@@ -20,7 +20,7 @@ ghost use Rattle.sal_hub.specs.Seen.{LooksOnce, pump_reply, seen_reply};
 ghost use Rattle.sal_hub.specs.Tokens.{IsBegun, IsChain, IsFresh, IsGiven, IsListener, IsToken, begun_of};
 
 use crate::chain::Chain;
-use crate::chain_calls::{chain_begin, close_chain, open_chain};
+use crate::chain_calls::{NextAsk, chain_begin, close_chain, open_chain};
 use crate::chains::{Chains, note};
 use crate::devices::{have_tables, open_all};
 use crate::journal::Journal;
@@ -30,10 +30,10 @@ use crate::listeners::Listeners;
 use crate::marks::{Marks, leave};
 use crate::opening::OpenFault;
 use crate::pipeline::Pipeline;
+use crate::pump::pump;
 use crate::receipt::Receipt;
 use crate::seen::Seen;
 use crate::services::Services;
-use crate::settle::{pump, settle};
 use crate::start::{begin, last_commit};
 use crate::submit::submit;
 use sal_commit::Domain;
@@ -257,13 +257,15 @@ impl Hub {
         if self.journal.is_full() {
             return Err(CallFault::HistoryFull);
         }
-        settle(
-            alloc,
-            &mut self.pipeline,
-            &mut self.journal,
-            client,
-            receipt,
-        )
+        let number = receipt.number();
+        let call = Call::Settle { receipt: number };
+        match self
+            .pipeline
+            .settle(alloc, &mut self.journal, client, call, number as usize)
+        {
+            Ok(outcome) => Ok(outcome),
+            Err(NoMemory) => Err(CallFault::NoMemory),
+        }
     }
 
     /// Decides the first receipt that is pending, and answers it with its outcome; none where no receipt is pending. Where
@@ -322,14 +324,17 @@ impl Hub {
         if self.journal.is_full() {
             return Err(CallFault::HistoryFull);
         }
+        let ask = NextAsk {
+            client,
+            chain: *chain,
+            mode,
+        };
         chain_begin(
             alloc,
             &self.pipeline,
             &mut self.journal,
             &mut self.chains,
-            client,
-            chain,
-            mode,
+            ask,
         )
     }
 

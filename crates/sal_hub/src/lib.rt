@@ -90,12 +90,12 @@ mod mount_calls;
 mod note_calls;
 mod opening;
 mod pipeline;
+mod pump;
 mod receipt;
 mod rpc_calls;
 mod seen;
 mod service_calls;
 mod services;
-mod settle;
 mod start;
 mod submit;
 

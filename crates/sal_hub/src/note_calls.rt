@@ -17,6 +17,14 @@ use sal_rows::{CallFault, Rows};
 use sal_types::{Duplicate, NoMemory};
 use std::alloc::Global;
 
+/// What a client offers: the notification, with its rows.
+#[derive(Drop)]
+pub(crate) struct Offering {
+    pub(crate) client: u32,
+    pub(crate) note: u32,
+    pub(crate) rows: Rows,
+}
+
 /// Subscribes the client to the notification, and adds the entry.
 pub(crate) fn subscribe(
     alloc: Global,
@@ -49,22 +57,20 @@ pub(crate) fn offer(
     pipeline: &Pipeline,
     journal: &mut Journal,
     notes: &mut Notes,
-    client: u32,
-    note: u32,
-    rows: Rows,
+    offering: Offering,
 ) -> Result<u32, CallFault>
     requires kept { IsKept journal.old pipeline.now }
     requires noted { AreNoted (known_of journal.old pipeline.now) notes.old }
     requires room { length journal.old.log < limit }
     ensures kept { IsKept journal.new pipeline.now }
     ensures noted { AreNoted (known_of journal.new pipeline.now) notes.new }
-    ensures answer { Calls (known_of journal.old pipeline.now) (known_of journal.new pipeline.now) (entry_of (known_of journal.old pipeline.now) client (Offer note rows)) (λ (count : ℕ). Offered count) result }
+    ensures answer { Calls (known_of journal.old pipeline.now) (known_of journal.new pipeline.now) (entry_of (known_of journal.old pipeline.now) offering.client (Offer offering.note offering.rows)) (λ (count : ℕ). Offered count) result }
 {
-    match enter_offer(journal, client, note, &rows) {
+    match enter_offer(journal, &offering) {
         Ok(()) => {}
         Err(NoMemory) => return Err(CallFault::NoMemory),
     }
-    match notes.offer(alloc, client, note, rows) {
+    match notes.offer(alloc, offering.client, offering.note, offering.rows) {
         Ok(count) => Ok(count),
         Err(fault) => Err(failed(journal, fault)),
     }
@@ -116,13 +122,14 @@ fn failed(journal: &mut Journal, fault: NoteFault) -> CallFault
 }
 
 // Adds the entry of an offer.
-fn enter_offer(journal: &mut Journal, client: u32, note: u32, rows: &Rows) -> Result<(), NoMemory>
+fn enter_offer(journal: &mut Journal, offering: &Offering) -> Result<(), NoMemory>
     requires { length journal.old.log < limit }
-    ensures log { OnOk result (journal.new.log ≡ jotted journal.old.log client (Offer note rows.now)) }
+    ensures log { OnOk result (journal.new.log ≡ jotted journal.old.log offering.now.client (Offer offering.now.note offering.now.rows)) }
     ensures marks { OnOk result ((k : ℕ) → mark_at journal.new.marks k ≡ mark_at journal.old.marks k) }
     ensures undo { OnOk result (taken_back journal.new ≡ journal.old) }
     ensures err { OnErr result (journal.new ≡ journal.old) }
 {
-    let rows = rows.copy()?;
-    journal.add(client, Call::Offer { note, rows })
+    let rows = offering.rows.copy()?;
+    let note = offering.note;
+    journal.add(offering.client, Call::Offer { note, rows })
 }

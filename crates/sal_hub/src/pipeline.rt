@@ -1,5 +1,5 @@
 //! The domains with their commits, the submissions that wait, and the outcomes.
-ghost use Rattle.std.specs.Prelude.{◌≡◌, ℕ, ◌+◌, ◌-◌, ◌<◌, ◌≤◌, [], ◌∷◌, ◌++◌, false, true, IfOk, MatchOption, OnErr, OnOk, Some, drop, length, map, slice_get, take};
+ghost use Rattle.std.specs.Prelude.{◌≡◌, ℕ, ◌+◌, ◌-◌, ◌<◌, ◌≤◌, false, true, IfOk, MatchOption, OnErr, OnOk, Some, drop, length, map, slice_get, take};
 ghost use Rattle.sal_graft.specs.Kept.{AreKept};
 ghost use Rattle.sal_hub.specs.Answers.{limit};
 ghost use Rattle.sal_hub.specs.Failures as failing;
@@ -89,21 +89,24 @@ impl Pipeline {
         Ok(())
     }
 
-    // Decides the next submissions, up to `upto` in all. Where memory is wanting, some may be decided.
-    fn decide_upto(&mut self, alloc: Global, upto: usize) -> Result<(), NoMemory>
+    // Decides the next submissions, up to `upto` in all, and answers the outcome of the last of these. Where memory is wanting,
+    // some may be decided.
+    fn decide_upto(&mut self, alloc: Global, upto: usize) -> Result<Outcome, NoMemory>
         requires kept { AllKept self.old.domains.items }
         requires sound { HasSents (line_of self.old) }
+        requires some { 0 < upto }
         requires given { upto ≤ self.old.gone + length self.old.waiting.items }
         requires few { self.old.gone + length self.old.waiting.items ≤ limit }
         ensures kept { AllKept self.new.domains.items }
-        ensures ok { OnOk result (Decides (line_of self.old) (upto - length self.old.outcomes.items) (line_of self.new)) }
-        ensures reached { OnOk result (upto ≤ length self.new.outcomes.items) }
+        ensures outcome { IfOk result (λ o. slice_get self.new.outcomes.items (upto - 1) ≡ Some o) }
+        ensures decided { OnOk result (Decides (line_of self.old) (upto - length self.old.outcomes.items) (line_of self.new)) }
         ensures grown { HasGrown (line_of self.old) (line_of self.new) }
     {
         for index in self.outcomes.len()..upto {
             self.decide_one(alloc, index)?;
         }
-        Ok(())
+        let outcome = outcome_at(&self.outcomes, upto - 1)?;
+        Ok(outcome)
     }
 
     /// Takes back what came behind so many outcomes, and so many commits of each domain. It takes no memory.
@@ -120,36 +123,6 @@ impl Pipeline {
         cut_domains(&mut self.domains, counts);
         cut_failures(&mut self.failures, outcomes as u64);
         self.outcomes.truncate(outcomes);
-    }
-
-    // Decides what is pending up to the receipt, adds the entry of the call, and answers the outcome. Where memory is
-    // wanting, some may be decided, and no entry was added.
-    fn settle_some(
-        &mut self,
-        alloc: Global,
-        journal: &mut Journal,
-        client: u32,
-        call: Call,
-        receipt: usize,
-    ) -> Result<Outcome, NoMemory>
-        requires kept { AllKept self.old.domains.items }
-        requires sound { HasSents (line_of self.old) }
-        requires some { 0 < receipt }
-        requires given { receipt ≤ self.old.gone + length self.old.waiting.items }
-        requires few { self.old.gone + length self.old.waiting.items ≤ limit }
-        requires room { length journal.old.log < limit }
-        ensures kept { AllKept self.new.domains.items }
-        ensures outcome { IfOk result (λ o. slice_get self.new.outcomes.items (receipt - 1) ≡ Some o) }
-        ensures decided { OnOk result (Decides (line_of self.old) (receipt - length self.old.outcomes.items) (line_of self.new)) }
-        ensures grown { HasGrown (line_of self.old) (line_of self.new) }
-        ensures log { OnOk result (journal.new.log ≡ jotted journal.old.log client call) }
-        ensures marks { OnOk result ((k : ℕ) → mark_at journal.new.marks k ≡ mark_at journal.old.marks k) }
-        ensures journal { OnErr result (journal.new ≡ journal.old) }
-    {
-        self.decide_upto(alloc, receipt)?;
-        let outcome = outcome_at(&self.outcomes, receipt - 1)?;
-        journal.add(client, call)?;
-        Ok(outcome)
     }
 
     /// Decides what is pending up to the receipt, adds the entry of the call, and answers the outcome. What is decided is let
@@ -179,12 +152,14 @@ impl Pipeline {
     {
         let outcomes = self.outcomes.len();
         let counts = counts_of(alloc, &self.domains)?;
-        match self.settle_some(alloc, journal, client, call, receipt) {
+        journal.add(client, call)?;
+        match self.decide_upto(alloc, receipt) {
             Ok(outcome) => {
                 let_go(&mut self.waiting, &mut self.gone, self.outcomes.len());
                 Ok(outcome)
             }
             Err(NoMemory) => {
+                journal.take_back();
                 self.cut_back(outcomes, &counts);
                 Err(NoMemory)
             }

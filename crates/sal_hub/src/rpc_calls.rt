@@ -20,27 +20,42 @@ use sal_rpc::{Request, Router, RpcFault};
 use sal_types::{Duplicate, NoMemory, Path};
 use std::alloc::Global;
 
-/// Registers the client for the RPC in the context, unless that is refused, and adds the entry.
+/// Who answers, or no longer answers, which RPC, in the context, or without one.
+#[derive(Drop)]
+pub(crate) struct Registration {
+    pub(crate) client: u32,
+    pub(crate) rpc: u32,
+    pub(crate) context: Option<Path>,
+}
+
+/// What a client asks of an RPC, in the context, or without one.
+#[derive(Drop)]
+pub(crate) struct RpcAsk {
+    pub(crate) client: u32,
+    pub(crate) rpc: u32,
+    pub(crate) context: Option<Path>,
+    pub(crate) input: Rows,
+}
+
+/// Registers the client for the RPC, unless that is refused, and adds the entry.
 pub(crate) fn provide(
     pipeline: &Pipeline,
     journal: &mut Journal,
     router: &mut Router,
-    client: u32,
-    rpc: u32,
-    context: Option<Path>,
+    registration: Registration,
 ) -> Result<(), CallFault>
     requires kept { IsKept journal.old pipeline.now }
     requires routed { AreRouted (known_of journal.old pipeline.now) router.old }
     requires room { length journal.old.log < limit }
     ensures kept { IsKept journal.new pipeline.now }
     ensures routed { AreRouted (known_of journal.new pipeline.now) router.new }
-    ensures answer { Calls (known_of journal.old pipeline.now) (known_of journal.new pipeline.now) (entry_of (known_of journal.old pipeline.now) client (Provide rpc context)) (λ _. Accepted) result }
+    ensures answer { Calls (known_of journal.old pipeline.now) (known_of journal.new pipeline.now) (entry_of (known_of journal.old pipeline.now) registration.client (Provide registration.rpc registration.context)) (λ _. Accepted) result }
 {
-    match enter_provide(journal, client, rpc, &context) {
+    match enter_provide(journal, &registration) {
         Ok(()) => {}
         Err(NoMemory) => return Err(CallFault::NoMemory),
     }
-    match router.provide(client, rpc, context) {
+    match router.provide(registration.client, registration.rpc, registration.context) {
         Ok(()) => Ok(()),
         Err(fault) => Err(failed(journal, fault)),
     }
@@ -51,22 +66,20 @@ pub(crate) fn withdraw(
     pipeline: &Pipeline,
     journal: &mut Journal,
     router: &mut Router,
-    client: u32,
-    rpc: u32,
-    context: Option<Path>,
+    registration: Registration,
 ) -> Result<(), CallFault>
     requires kept { IsKept journal.old pipeline.now }
     requires routed { AreRouted (known_of journal.old pipeline.now) router.old }
     requires room { length journal.old.log < limit }
     ensures kept { IsKept journal.new pipeline.now }
     ensures routed { AreRouted (known_of journal.new pipeline.now) router.new }
-    ensures answer { Calls (known_of journal.old pipeline.now) (known_of journal.new pipeline.now) (entry_of (known_of journal.old pipeline.now) client (Withdraw rpc context)) (λ _. Accepted) result }
+    ensures answer { Calls (known_of journal.old pipeline.now) (known_of journal.new pipeline.now) (entry_of (known_of journal.old pipeline.now) registration.client (Withdraw registration.rpc registration.context)) (λ _. Accepted) result }
 {
-    match enter_withdraw(journal, client, rpc, &context) {
+    match enter_withdraw(journal, &registration) {
         Ok(()) => {}
         Err(NoMemory) => return Err(CallFault::NoMemory),
     }
-    match router.withdraw(client, rpc, context) {
+    match router.withdraw(registration.client, registration.rpc, registration.context) {
         Ok(()) => Ok(()),
         Err(fault) => Err(rpc_fault(fault)),
     }
@@ -78,25 +91,23 @@ pub(crate) fn invoke(
     pipeline: &Pipeline,
     journal: &mut Journal,
     router: &mut Router,
-    client: u32,
-    rpc: u32,
-    context: Option<Path>,
-    input: Rows,
+    ask: RpcAsk,
 ) -> Result<CallId, CallFault>
     requires kept { IsKept journal.old pipeline.now }
     requires routed { AreRouted (known_of journal.old pipeline.now) router.old }
     requires room { length journal.old.log < limit }
     ensures kept { IsKept journal.new pipeline.now }
     ensures routed { AreRouted (known_of journal.new pipeline.now) router.new }
-    ensures answer { Calls (known_of journal.old pipeline.now) (known_of journal.new pipeline.now) (entry_of (known_of journal.old pipeline.now) client (Invoke rpc context input)) (λ (id : Given). CallMade id.number) result }
+    ensures answer { Calls (known_of journal.old pipeline.now) (known_of journal.new pipeline.now) (entry_of (known_of journal.old pipeline.now) ask.client (Invoke ask.rpc ask.context ask.input)) (λ (id : Given). CallMade id.number) result }
     ensures given { IfOk result (IsCall (known_of journal.new pipeline.now)) }
-    ensures rpc { IfOk result (λ id. id.rpc ≡ rpc) }
+    ensures rpc { IfOk result (λ id. id.rpc ≡ ask.rpc) }
 {
-    match enter_invoke(journal, client, rpc, &context, &input) {
+    match enter_invoke(journal, &ask) {
         Ok(()) => {}
         Err(NoMemory) => return Err(CallFault::NoMemory),
     }
-    match router.invoke(alloc, client, rpc, context, input) {
+    let rpc = ask.rpc;
+    match router.invoke(alloc, ask.client, rpc, ask.context, ask.input) {
         Ok(number) => Ok(CallId::of(number, rpc)),
         Err(fault) => Err(failed(journal, fault)),
     }
@@ -212,62 +223,47 @@ fn copied(context: &Option<Path>) -> Result<Option<Path>, NoMemory>
 }
 
 // Adds the entry of a registration.
-fn enter_provide(
-    journal: &mut Journal,
-    client: u32,
-    rpc: u32,
-    context: &Option<Path>,
-) -> Result<(), NoMemory>
+fn enter_provide(journal: &mut Journal, registration: &Registration) -> Result<(), NoMemory>
     requires { length journal.old.log < limit }
-    ensures log { OnOk result (journal.new.log ≡ jotted journal.old.log client (Provide rpc context.now)) }
+    ensures log { OnOk result (journal.new.log ≡ jotted journal.old.log registration.now.client (Provide registration.now.rpc registration.now.context)) }
     ensures marks { OnOk result ((k : ℕ) → mark_at journal.new.marks k ≡ mark_at journal.old.marks k) }
     ensures undo { OnOk result (taken_back journal.new ≡ journal.old) }
     ensures err { OnErr result (journal.new ≡ journal.old) }
 {
-    let context = copied(context)?;
-    journal.add(client, Call::Provide { rpc, context })
+    let context = copied(&registration.context)?;
+    let rpc = registration.rpc;
+    journal.add(registration.client, Call::Provide { rpc, context })
 }
 
 // Adds the entry of the end of a registration.
-fn enter_withdraw(
-    journal: &mut Journal,
-    client: u32,
-    rpc: u32,
-    context: &Option<Path>,
-) -> Result<(), NoMemory>
+fn enter_withdraw(journal: &mut Journal, registration: &Registration) -> Result<(), NoMemory>
     requires { length journal.old.log < limit }
-    ensures log { OnOk result (journal.new.log ≡ jotted journal.old.log client (Withdraw rpc context.now)) }
+    ensures log { OnOk result (journal.new.log ≡ jotted journal.old.log registration.now.client (Withdraw registration.now.rpc registration.now.context)) }
     ensures marks { OnOk result ((k : ℕ) → mark_at journal.new.marks k ≡ mark_at journal.old.marks k) }
     ensures err { OnErr result (journal.new ≡ journal.old) }
 {
-    let context = copied(context)?;
-    journal.add(client, Call::Withdraw { rpc, context })
+    let context = copied(&registration.context)?;
+    let rpc = registration.rpc;
+    journal.add(registration.client, Call::Withdraw { rpc, context })
 }
 
 // Adds the entry of a request.
-fn enter_invoke(
-    journal: &mut Journal,
-    client: u32,
-    rpc: u32,
-    context: &Option<Path>,
-    input: &Rows,
-) -> Result<(), NoMemory>
+fn enter_invoke(journal: &mut Journal, ask: &RpcAsk) -> Result<(), NoMemory>
     requires { length journal.old.log < limit }
-    ensures log { OnOk result (journal.new.log ≡ jotted journal.old.log client (Invoke rpc context.now input.now)) }
+    ensures log { OnOk result (journal.new.log ≡ jotted journal.old.log ask.now.client (Invoke ask.now.rpc ask.now.context ask.now.input)) }
     ensures marks { OnOk result ((k : ℕ) → mark_at journal.new.marks k ≡ mark_at journal.old.marks k) }
     ensures undo { OnOk result (taken_back journal.new ≡ journal.old) }
     ensures err { OnErr result (journal.new ≡ journal.old) }
 {
-    let context = copied(context)?;
-    let input = input.copy()?;
-    journal.add(
-        client,
-        Call::Invoke {
-            rpc,
-            context,
-            input,
-        },
-    )
+    let rpc = ask.rpc;
+    let context = copied(&ask.context)?;
+    let input = ask.input.copy()?;
+    let call = Call::Invoke {
+        rpc,
+        context,
+        input,
+    };
+    journal.add(ask.client, call)
 }
 
 // Adds the entry of an answer.

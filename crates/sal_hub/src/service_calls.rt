@@ -10,8 +10,8 @@ ghost use Rattle.sal_hub.specs.Tokens.{IsCall};
 
 use crate::call_id::CallId;
 use crate::hub::Hub;
-use crate::note_calls::{offer, subscribe, take_notes};
-use crate::rpc_calls::{answer, collect, invoke, next_call, provide, withdraw};
+use crate::note_calls::{Offering, offer, subscribe, take_notes};
+use crate::rpc_calls::{Registration, RpcAsk, answer, collect, invoke, next_call, provide, withdraw};
 use sal_note::NoteList;
 use sal_rows::{CallFault, Rows};
 use sal_rpc::Request;
@@ -32,13 +32,16 @@ impl Hub {
         if self.journal.is_full() {
             return Err(CallFault::HistoryFull);
         }
+        let registration = Registration {
+            client,
+            rpc,
+            context,
+        };
         provide(
             &self.pipeline,
             &mut self.journal,
             &mut self.services.router,
-            client,
-            rpc,
-            context,
+            registration,
         )
     }
 
@@ -55,13 +58,16 @@ impl Hub {
         if self.journal.is_full() {
             return Err(CallFault::HistoryFull);
         }
+        let registration = Registration {
+            client,
+            rpc,
+            context,
+        };
         withdraw(
             &self.pipeline,
             &mut self.journal,
             &mut self.services.router,
-            client,
-            rpc,
-            context,
+            registration,
         )
     }
 
@@ -81,15 +87,18 @@ impl Hub {
         if self.journal.is_full() {
             return Err(CallFault::HistoryFull);
         }
+        let ask = RpcAsk {
+            client,
+            rpc,
+            context,
+            input,
+        };
         invoke(
             alloc,
             &self.pipeline,
             &mut self.journal,
             &mut self.services.router,
-            client,
-            rpc,
-            context,
-            input,
+            ask,
         )
     }
 
@@ -183,14 +192,13 @@ impl Hub {
         if self.journal.is_full() {
             return Err(CallFault::HistoryFull);
         }
+        let offering = Offering { client, note, rows };
         offer(
             alloc,
             &self.pipeline,
             &mut self.journal,
             &mut self.services.notes,
-            client,
-            note,
-            rows,
+            offering,
         )
     }
 

@@ -10,7 +10,8 @@ use Rattle.regex_syntax.specs.declared.error.ErrorKind.TheVariants.{OutOfMemory,
 use Rattle.regex_hir.specs.Re.{Re}
 use Rattle.regex_hir.specs.Meaning.{meaning}
 use Rattle.regex_hir.specs.declared.hir.Hir.{Hir}
-use Rattle.sal_json.specs.Patterns.{whole_text, is_refused, is_malformed}
+use Rattle.sal_restrict.specs.WholeTexts.{whole_text}
+use Rattle.sal_json.specs.Patterns.{is_refused, is_malformed}
 
 within_limit : (depth : ℕ) → depth ≤ 250 → nat_lt 250 depth ≡ false
 within_limit depth h = grind (arith, nat_tests)

@@ -46,22 +46,22 @@ or_parts true b e = cc
 or_parts false b e = (refl, e)
 
 module _ (b : List ℕ) where
-  colon-at : (a : List ℕ) → list_any is_colon a ≡ false → position_or_len is_colon (a ++ 58 ∷ b) ≡ length a
+  pub colon-at : (a : List ℕ) → list_any is_colon a ≡ false → position_or_len is_colon (a ++ 58 ∷ b) ≡ length a
   colon-at [] none = refl
   colon-at (c ∷ a) none =
       let (here, rest) = or_parts (is_colon c) (list_any is_colon a) none in
       let more = colon-at a rest in
       rw here (omega arith)
 
-  take-front : (a : List ℕ) → take (length a) (a ++ 58 ∷ b) ≡ a
+  pub take-front : (a : List ℕ) → take (length a) (a ++ 58 ∷ b) ≡ a
   take-front [] = refl
   take-front (c ∷ a) = ap (λ t. c ∷ t) (take-front a)
 
-  drop-front : (a : List ℕ) → drop (length a + 1) (a ++ 58 ∷ b) ≡ b
+  pub drop-front : (a : List ℕ) → drop (length a + 1) (a ++ 58 ∷ b) ≡ b
   drop-front [] = refl
   drop-front (c ∷ a) = let more : suc (length a) + 1 ≡ suc (length a + 1) = omega arith in rw more (drop-front a)
 
-  colon-there : (a : List ℕ) → list_any is_colon (a ++ 58 ∷ b) ≡ true
+  pub colon-there : (a : List ℕ) → list_any is_colon (a ++ 58 ∷ b) ≡ true
   colon-there [] = refl
   colon-there (c ∷ a) = or_right _ _ (colon-there a)
 

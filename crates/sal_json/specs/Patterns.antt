@@ -1,5 +1,5 @@
 -- Patterns of texts (RFC 7950 section 9.4.5), in the grammar of `regex`. A pattern is matched with the whole text.
-use Rattle.std.specs.Prelude.{◌≡◌, MatchOption, ℕ, Bool, true, false, not, nat_lt, List, [], ◌∷◌, ◌++◌, map, Option, Some, None, is_some, chars, codes, if◌then◌else◌}
+use Rattle.std.specs.Prelude.{◌≡◌, MatchOption, ℕ, Bool, true, false, not, nat_lt, List, [], ◌∷◌, map, Option, Some, None, is_some, chars, if◌then◌else◌}
 use Rattle.std.specs.List.{list_any, slice_get}
 use Rattle.std.specs.Option.{option_map_or}
 use Rattle.regex_syntax.specs.Verdict.{default_config}
@@ -7,6 +7,7 @@ use Rattle.regex_syntax.specs.Grammar.{Names, read}
 use Rattle.regex_syntax.specs.Brackets.{Nested}
 use Rattle.regex_hir.specs.Re.{Re}
 use Rattle.regex_hir.specs.Find.{find_str}
+use Rattle.sal_restrict.specs.WholeTexts.{whole_text}
 use Rattle.sal_restrict.specs.declared.yang_type.Pattern.{Pattern}
 use Rattle.sal_restrict.specs.declared.yang_type.YangType.{YangType, out-YangType}
 use Rattle.sal_restrict.specs.declared.yang_type.YangType.TheOpen.{YangType-F}
@@ -16,10 +17,6 @@ use Rattle.sal_json.specs.declared.fault.PatternsFault.TheVariants.{Refused, NoM
 
 abbrev pub Text : Type 0
 Text = List ℕ
-
--- the pattern that a text matches where all of it matches this one
-abbrev pub whole_text : Text → Text
-whole_text p = codes "\\A(?:" ++ (p ++ codes ")\\z")
 
 -- what the grammar reads is found in the text
 abbrev pub is_found : Option (Nested Re × Names) → Text → Bool

@@ -1,11 +1,12 @@
 //! Values that are names: enums, bits and identities.
-ghost use Rattle.std.specs.Prelude.{◌≡◌, ◌≤◌, ◌<◌, length, not, ◌==◌, nat_lt, option_map, position, IsTrue, IfSome, map};
-ghost use Rattle.std.specs.List.{list_all, prefix_len, position_or_len};
+ghost use Rattle.std.specs.Prelude.{◌≡◌, ◌<◌, length, ◌==◌, nat_lt, position, IsTrue};
+ghost use Rattle.std.specs.List.{list_all};
 ghost use Rattle.sal_schema.specs.Values.{has_bit, takes_identity};
 ghost use Rattle.sal_json.specs.Named as spec;
 
 use crate::fault::ScalarFault;
-use crate::texts::{behind, front, place_of};
+use crate::texts::place_of;
+use sal_restrict::{behind, front};
 use sal_schema::Schema;
 use sal_types::{Atom, Str};
 

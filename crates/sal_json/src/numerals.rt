@@ -1,42 +1,15 @@
 //! Numbers from texts.
-ghost use Rattle.std.specs.Prelude.{◌≡◌, ℕ, true, false, ◌^◌, ◌-◌, ◌*◌, ◌+◌, ◌≤◌, ◌<◌, min, length, SomeIff, FitsSigned, IsTrue};
-ghost use Rattle.std.specs.Int.{w128};
-ghost use Rattle.std.specs.List.{list_all};
-ghost use Rattle.std.specs.Char.{is_ascii_digit};
+ghost use Rattle.std.specs.Prelude.{◌≡◌, ℕ, true, false, ◌^◌, ◌-◌, ◌*◌, ◌≤◌, ◌<◌, min, length};
 ghost use Rattle.sal_restrict.specs.Bounds.{decimal, signed, units};
 ghost use Rattle.sal_json.specs.Numerals as spec;
 
 use crate::fault::ScalarFault;
 use crate::texts::{
-    after_first, all_zeros, before_first, begins_with_zero, behind, front, has_byte, has_minus,
-    is_digits, without_minus, without_sign,
+    after_first, all_zeros, before_first, begins_with_zero, has_byte, has_minus, without_minus,
+    without_sign,
 };
-use sal_restrict::Ranges;
+use sal_restrict::{Ranges, behind, decimal, front, is_digits, small};
 use sal_types::Atom;
-
-/// The number that these digits write, or 2^128 - 1 where it is greater.
-fn decimal(text: &[u8]) -> u128
-    ensures { result ≡ min (decimal text.now) (2 ^ 128 - 1) }
-{
-    let mut number: u128 = 0;
-    for digit in text {
-        number = number
-            .saturating_mul(10)
-            .saturating_add(u128::from(digit.saturating_sub(b'0')));
-    }
-    number
-}
-
-/// The number with this sign, where 128 bits hold it.
-fn small(negative: bool, size: u128) -> Option<i128>
-    ensures { SomeIff result (FitsSigned w128 (signed negative size)) (signed negative size) }
-{
-    if negative {
-        0i128.checked_sub_unsigned(size)
-    } else {
-        0i128.checked_add_unsigned(size)
-    }
-}
 
 fn is_in_64(number: i128) -> bool
     ensures { result ≡ spec.is_in_64 number }

@@ -1,12 +1,11 @@
 //! The patterns of a schema, compiled.
-ghost use Rattle.std.specs.Prelude.{◌≡◌, ◌++◌, ◌∷◌, [], ◌<◌, IfOk, OnOk, IfErr, IfSome, MatchOption, IsTrue, Some, true, false, not, map, length, string_bytes};
+ghost use Rattle.std.specs.Prelude.{◌≡◌, ◌++◌, ◌∷◌, [], ◌<◌, IfOk, OnOk, IfErr, IfSome, MatchOption, Some, true, false, not, map, length};
 ghost use Rattle.std.specs.List.{slice_get, list_all, list_any};
-ghost use Rattle.sal_restrict.specs.declared.yang_type.YangType.{out-YangType};
 ghost use Rattle.sal_json.specs.Patterns as spec;
 
 use crate::fault::PatternsFault;
 use regex::{Error, Regex};
-use sal_restrict::{Pattern, YangType};
+use sal_restrict::{Pattern, YangType, whole_text};
 use sal_schema::Schema;
 use sal_types::{NoMemory, Seq};
 use std::alloc::Global;
@@ -28,15 +27,6 @@ impl Model for Whole {
     ghost view = { λ a. regex_source a.regex };
 
     ghost invariant = { λ a. (regex_config a.regex ≡ default_config) × IsReadFromSource a.regex };
-}
-
-fn whole_text(alloc: Global, text: &str) -> Result<String, NoMemory>
-    ensures { IfOk result (λ whole. string_bytes whole ≡ spec.whole_text text.now) }
-{
-    let mut whole = String::from_str(alloc, "\\A(?:")?;
-    whole.push_str(text)?;
-    whole.push_str(")\\z")?;
-    Ok(whole)
 }
 
 impl Whole {

@@ -72,13 +72,13 @@ fn own_json(
     }
 }
 
-/// The value of a member of a union. A union with more members than a place can tell does not fit in memory.
-fn member_value(place: usize, atom: Atom) -> Result<Value, ScalarFault>
-    ensures { GivesUnless ScalarFault.NoMemory (λ value. value) result (Ok (spec.value_of place atom)) }
+/// The value of the member of a union that stands at this place.
+fn member_value(place: usize, atom: Atom) -> Value
+    ensures { result ≡ spec.value_of place atom }
 {
-    match u32::try_from(place) {
-        Ok(member) => Ok(Value { member, atom }),
-        Err(_) => Err(ScalarFault::NoMemory),
+    Value {
+        member: place as u64,
+        atom,
     }
 }
 
@@ -97,7 +97,7 @@ fn union_text(
 {
     for i in 0..members.len() {
         match own_text(alloc, schema, module, &members[i], wholes[i].items(), text)? {
-            Some(atom) => return member_value(i, atom),
+            Some(atom) => return Ok(member_value(i, atom)),
             None => {}
         }
     }
@@ -119,7 +119,7 @@ fn union_json(
 {
     for i in 0..members.len() {
         match own_json(alloc, schema, module, &members[i], wholes[i].items(), json)? {
-            Some(atom) => return member_value(i, atom),
+            Some(atom) => return Ok(member_value(i, atom)),
             None => {}
         }
     }

@@ -1,27 +1,9 @@
 //! Small words on the bytes of texts.
-ghost use Rattle.std.specs.Prelude.{◌≡◌, ◌≤◌, ◌<◌, ◌+◌, length, take, drop, not, ◌==◌, slice_index};
-ghost use Rattle.std.specs.List.{list_all, list_any, prefix_len, position_or_len, before_first, after_first};
-ghost use Rattle.std.specs.Char.{is_ascii_digit};
-ghost use Rattle.sal_restrict.specs.Bounds.{is_digits};
+ghost use Rattle.std.specs.Prelude.{◌≡◌, ◌≤◌, ◌<◌, ◌+◌, length, ◌==◌};
+ghost use Rattle.std.specs.List.{list_all, list_any, position_or_len, before_first, after_first};
 ghost use Rattle.sal_json.specs.Numerals as spec;
 
-/// The first bytes of a text.
-#[inline]
-pub(crate) fn front(text: &[u8], len: usize) -> &[u8]
-    requires { len ≤ length text.now }
-    ensures { result.now ≡ take len text.now }
-{
-    &text[..len]
-}
-
-/// What stands behind the first bytes.
-#[inline]
-pub(crate) fn behind(text: &[u8], len: usize) -> &[u8]
-    requires { len ≤ length text.now }
-    ensures { result.now ≡ drop len text.now }
-{
-    &text[len..]
-}
+use sal_restrict::{behind, front};
 
 pub(crate) fn has_minus(text: &[u8]) -> bool
     ensures { result ≡ spec.has_minus text.now }
@@ -60,18 +42,6 @@ pub(crate) fn begins_with_zero(text: &[u8]) -> bool
         [b'0', ..] => true,
         _ => false,
     }
-}
-
-pub(crate) fn is_digits(text: &[u8]) -> bool
-    ensures { result ≡ is_digits text.now }
-{
-    !text.is_empty() && all_digits(text)
-}
-
-fn all_digits(text: &[u8]) -> bool
-    ensures { result ≡ list_all is_ascii_digit text.now }
-{
-    text.iter().all(|c| c.is_ascii_digit())
 }
 
 pub(crate) fn all_zeros(text: &[u8]) -> bool

@@ -248,14 +248,14 @@ pub(crate) fn atom_text(
     }
 }
 
-fn member_at(members: &[YangType], member: u32) -> Option<&YangType>
+fn member_at(members: &[YangType], member: u64) -> Option<&YangType>
     ensures { option_map (λ t. t.now) result ≡ slice_get members.now member }
 {
     members.get(member as usize)
 }
 
 /// The type that a value is of: that of its member of a union, or the type itself.
-pub(crate) fn type_for(ty: &YangType, member: u32) -> Option<&YangType>
+pub(crate) fn type_for(ty: &YangType, member: u64) -> Option<&YangType>
     ensures { option_map (λ t. out-YangType t.now) result ≡ spec.layer_for (out-YangType ty.now) member }
 {
     match ty {

@@ -8,6 +8,7 @@ use Rattle.sal_restrict.specs.declared.yang_type.YangType.TheViews.{out-roll-Yan
 use Rattle.sal_schema.specs.Paths.{fits_path}
 use Rattle.sal_schema.specs.Table.{closest}
 use Rattle.sal_schema.specs.Valid.{IsTable}
+use Rattle.sal_schema.proofs.ShownTables.{shown}
 use Rattle.sal_json.specs.Read.{type_text_scalar}
 use Rattle.sal_json.proofs.WholeTexts.{digits_of-digits}
 use Rattle.sal_pathtext.specs.Laws.{IsDataPath, IsReadable}
@@ -22,19 +23,7 @@ use Rattle.sal_loads.proofs.ReadNumbers.{as_text, below_64, in_range}
 
 table_is : IsTable table
 unfolding closest
-table_is = record {
-  small = record { nodes = omega arith; types = omega arith; modules = omega arith; identities = omega arith };
-  numbers = refl;
-  places = refl;
-  names = refl;
-  leaf_types = refl;
-  keys = refl;
-  uniques = refl;
-  module_names = refl;
-  identities = refl;
-  types = simp out-roll-YangType;
-  distinct = record { modules = refl; identities = refl; rpcs = refl; notifications = refl; data_nodes = refl };
-}
+table_is = shown table (record { nodes = omega arith; types = omega arith; modules = omega arith; identities = omega arith }) refl (simp out-roll-YangType)
 
 key_text-is : (n : ℕ) → value_text table 1 (number n) ≡ decimal n
 key_text-is n = simp out-roll-YangType refl

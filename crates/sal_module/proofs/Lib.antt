@@ -6,3 +6,4 @@ pub mod Rounds
 pub mod NamedPrefixes
 pub mod Order
 pub mod Named
+pub mod Firsts

@@ -9,3 +9,4 @@ pub mod Imports
 pub mod Places
 pub mod Modules
 pub mod Examples
+pub mod Firsts

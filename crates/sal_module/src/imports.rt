@@ -1,13 +1,13 @@
 //! Modules by their names, and what they import.
-ghost use Rattle.std.specs.Prelude.{◌≡◌, ◌==◌, ◌^◌, ◌<◌, ◌≤◌, false, map, take, length, IfOk, IfSome, slice_index_or};
+ghost use Rattle.std.specs.Prelude.{◌≡◌, ◌==◌, ◌^◌, ◌<◌, ◌≤◌, length, IfOk, IfSome};
 ghost use Rattle.std.specs.List.{list_any, flat_map};
 ghost use Rattle.sal_module.specs.Faults.{least};
-ghost use Rattle.sal_module.specs.Statements as statements;
 ghost use Rattle.sal_module.specs.Imports as spec;
 
-use crate::fault::{Cause, Found, better};
+use crate::fault::{Cause, Found};
 use crate::keyword::Keyword;
 use crate::profile::with_fault;
+use crate::reach::{is_marked, reaching};
 use crate::statement::{argument_of, first_named, is_named};
 use sal_stmt::Stmt;
 use sal_types::NoMemory;
@@ -84,13 +84,13 @@ pub(crate) fn with_all_given(
     best
 }
 
-fn has_number(out: &[u32], number: u32) -> bool
+fn has_number(out: &[usize], number: usize) -> bool
     ensures { result ≡ list_any (λ j. j == number) out.now }
 {
     out.iter().any(|k| *k == number)
 }
 
-fn push_new(out: &mut Vec<u32>, place: Option<u32>) -> Result<(), NoMemory>
+fn push_new(out: &mut Vec<usize>, place: Option<usize>) -> Result<(), NoMemory>
     ensures { IfOk result (λ _. out.new.items ≡ spec.with_new out.old.items place) }
 {
     if let Some(number) = place {
@@ -102,21 +102,19 @@ fn push_new(out: &mut Vec<u32>, place: Option<u32>) -> Result<(), NoMemory>
 }
 
 /// The modules that a module imports, each once.
-fn imported_modules(alloc: Global, stmts: &[Stmt], stmt: &Stmt) -> Result<Vec<u32>, NoMemory>
-    requires { length stmts.now < 2 ^ 32 }
+fn imported_modules(alloc: Global, stmts: &[Stmt], stmt: &Stmt) -> Result<Vec<usize>, NoMemory>
     ensures { IfOk result (λ out. out.items ≡ spec.imported_modules stmts.now (spec.imports_of stmt.now)) }
 {
     let mut out = Vec::new(alloc);
     for sub in stmt.subs.items() {
         if is_named(Keyword::Import, sub) {
-            push_new(&mut out, place_of(stmts, argument_of(sub)))?;
+            push_new(&mut out, position_of(stmts, argument_of(sub)))?;
         }
     }
     Ok(out)
 }
 
-pub(crate) fn edges_of(alloc: Global, stmts: &[Stmt]) -> Result<Vec<Vec<u32>>, NoMemory>
-    requires { length stmts.now < 2 ^ 32 }
+pub(crate) fn edges_of(alloc: Global, stmts: &[Stmt]) -> Result<Vec<Vec<usize>>, NoMemory>
     ensures { IfOk result (λ edges. spec.plain edges.items ≡ spec.edges_of stmts.now) }
 {
     let mut edges = Vec::with_capacity(alloc, stmts.len())?;
@@ -126,63 +124,19 @@ pub(crate) fn edges_of(alloc: Global, stmts: &[Stmt]) -> Result<Vec<Vec<u32>>, N
     Ok(edges)
 }
 
-fn is_marked(marks: &[bool], k: u32) -> bool
-    ensures { result ≡ slice_index_or marks.now k false }
-{
-    marks.get(k as usize).copied().unwrap_or(false)
-}
-
-fn goes(marks: &[bool], out: &[u32], target: u32) -> bool
-    ensures { result ≡ list_any (λ k. spec.is_step marks.now target k) out.now }
-{
-    out.iter().any(|k| *k == target || is_marked(marks, *k))
-}
-
-/// Which modules import the target or one that is marked.
-fn round(
-    alloc: Global,
-    edges: &[Vec<u32>],
-    marks: &[bool],
-    target: u32,
-) -> Result<Vec<bool>, NoMemory>
-    ensures { IfOk result (λ v. v.items ≡ map (λ out. list_any (λ k. spec.is_step marks.now target k) out.items) edges.now) }
-{
-    let mut next = Vec::with_capacity(alloc, edges.len())?;
-    for out in edges {
-        next.push(goes(marks, out.as_slice(), target))?;
-    }
-    Ok(next)
-}
-
-/// Which modules reach the target within so many imports and one more.
-fn reaching(
-    alloc: Global,
-    edges: &[Vec<u32>],
-    target: u32,
-    rounds: u32,
-) -> Result<Vec<bool>, NoMemory>
-    ensures { IfOk result (λ v. v.items ≡ map (spec.reaches (spec.plain edges.now) rounds target) (spec.plain edges.now)) }
-{
-    let mut marks = round(alloc, edges, &[], target)?;
-    for _ in 0..rounds {
-        marks = round(alloc, edges, marks.as_slice(), target)?;
-    }
-    Ok(marks)
-}
-
 /// The least of this fault and that of a module that reaches itself, at its first import.
 pub(crate) fn with_cycle(
     best: Option<Found>,
     alloc: Global,
-    edges: &[Vec<u32>],
+    edges: &[Vec<usize>],
     number: u32,
     stmt: &Stmt,
 ) -> Result<Option<Found>, NoMemory>
     ensures { IfOk result (λ found. found ≡ least best
         (spec.cycle_faults (spec.is_in_cycle (spec.plain edges.now) number) number (spec.first_import stmt.now))) }
 {
-    let marks = reaching(alloc, edges, number, 64)?;
-    let in_cycle = is_marked(marks.as_slice(), number);
+    let marks = reaching(alloc, edges, number as usize, 64)?;
+    let in_cycle = is_marked(marks.as_slice(), number as usize);
     Ok(with_first(best, in_cycle, number, stmt))
 }
 

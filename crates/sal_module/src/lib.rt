@@ -8,6 +8,7 @@
 //! | `Cause`, `Found`, `better` | what is wrong, where, and which of two faults counts: for the later passes |
 //! | `Keyword`, `keyword_of` | the keywords of the profile, and their words |
 //! | `TABLE`, `Rule`, `Row`, `Entry`, `Often`, `Form` | the profile itself: what may stand in each statement |
+//! | `reaching`, `is_marked` | which items of a list reach another one, where each names some of them |
 //! | `is_named`, `argument_of`, `first_named`, `has_named`, `value_of` | statements by their keywords |
 //!
 //! The profile is the part of YANG (RFC 7950) that the broker takes: `src/table.rt` is its table, in the groups of the
@@ -38,6 +39,7 @@ mod modules;
 mod places;
 mod prefixes;
 mod profile;
+mod reach;
 mod statement;
 mod table;
 mod vectors;
@@ -46,5 +48,6 @@ pub use argument::{Form, has_form, is_whole};
 pub use fault::{BuildFault, Cause, Found, What, better};
 pub use keyword::{Keyword, WORDS, keyword_of};
 pub use modules::{Modules, check};
+pub use reach::{is_marked, reaching};
 pub use statement::{argument_of, first_named, has_named, is_named, value_of};
 pub use table::{Entry, LEFT_OUT, Often, Row, Rule, TABLE};

@@ -74,7 +74,7 @@ fn with_imports(
     best: Option<Found>,
     alloc: Global,
     stmts: &[Stmt],
-    edges: &[Vec<u32>],
+    edges: &[Vec<usize>],
     number: u32,
     stmt: &Stmt,
 ) -> Result<(Prefixes, Option<Found>), NoMemory>

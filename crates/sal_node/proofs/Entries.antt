@@ -1,5 +1,5 @@
 -- Entries in the order of their steps: the one at a step, and the list with another one there.
-use Rattle.std.proofs.Common.{◌≡◌, suc, ◌+◌, ◌≤◌, Bool, true, false, List, [], ◌∷◌, ◌++◌, ◌&&◌, length, take, Option, Some, None, refl, ap, sym, ◌∙◌, subst, cond, arith}
+use Rattle.std.proofs.Common.{◌≡◌, suc, ◌+◌, ◌≤◌, true, false, List, [], ◌∷◌, ◌++◌, length, take, Option, Some, None, refl, ap, sym, ◌∙◌, subst, cond, arith}
 use Rattle.std.specs.Prelude.{T}
 use Rattle.std.specs.Ordering.{is_gt, is_lt, is_eq, eq_by_cmp, ordering_reverse}
 use Rattle.std.specs.declared.cmp.Ordering.{Ordering}
@@ -8,6 +8,7 @@ use Rattle.std.specs.FinMap.{find, put, is_sorted}
 use Rattle.std.specs.FinMap.Entries.{below_all, by_order}
 use Rattle.sal_types.specs.declared.value.Step.{Step}
 use Rattle.sal_types.specs.Order.{step_cmp, step_cmp-IsTotalOrder, step_cmp-IsAntisymmetric}
+pub use Rattle.sal_types.proofs.TrueParts.{first, second, both}
 use Rattle.sal_node.specs.Tree.{Tree, Forest, bare, grown, pairs, grove, cut, change, place, after, one_of}
 
 abbrev Entries : Type 0
@@ -22,18 +23,6 @@ pub less : (o : Ordering) → T (is_lt o) → o ≡ Less
 less Less h = refl
 less Equal h = absurd h
 less Greater h = absurd h
-
-pub first : (a b : Bool) → T (a && b) → T a
-first true b h = tt
-first false b h = h
-
-pub second : (a b : Bool) → T (a && b) → T b
-second true b h = h
-second false b h = absurd h
-
-pub both : (a b : Bool) → T a → T b → T (a && b)
-both true b g h = h
-both false b g h = g
 
 pub turn : (x y : Step) → step_cmp x y ≡ Less → step_cmp y x ≡ Greater
 turn x y e = step_cmp-IsTotalOrder.antisymm y x ∙ ap ordering_reverse e

@@ -1,5 +1,5 @@
 -- What is kept of the calls on notifications, by number.
-use Rattle.std.specs.Prelude.{◌≡◌, ℕ, ◌-◌, ◌<◌, ◌^◌, true, List, [], ◌∷◌, ◌++◌, Option, Some, None, length, nat_eq, nat_le, slice_get, take, is_some}
+use Rattle.std.specs.Prelude.{◌≡◌, ℕ, ◌+◌, ◌-◌, ◌<◌, ◌^◌, true, List, [], ◌∷◌, ◌++◌, Option, Some, None, length, nat_eq, nat_le, slice_get, take, is_some}
 use Rattle.std.specs.BTreeMap.{is_at}
 use Rattle.std.specs.List.{filter, fold, list_any}
 use Rattle.std.specs.Map.{lookup, set_value}
@@ -28,6 +28,10 @@ pub record IsKept (made : List Made) (b : Boxes) : Type 0 where
   pub subscribed : (note : ℕ) → clients_in b.subscribed note ≡ subscribers made note
   pub queued : (client : ℕ) → queue_in b.queues client ≡ queue made client
   pub each : (note client : ℕ) → list_any (nat_eq client) (clients_in b.subscribed note) ≡ true → is_some (box_in b.queues client) ≡ true
+
+-- one subscriber more of any notification can still be told by a number of 32 bits
+abbrev pub HasRoom : List (ℕ × List ℕ) → Type 0
+HasRoom subscribed = (note : ℕ) → length (clients_in subscribed note) + 1 < 2 ^ 32
 
 abbrev pub IsOf : List Asked → Boxes → Type 0
 IsOf calls b = IsKept (made_of calls) b

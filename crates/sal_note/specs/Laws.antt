@@ -1,11 +1,11 @@
 -- What holds whatever the calls before were.
-use Rattle.std.specs.Prelude.{◌≡◌, ℕ, List, [], ◌∷◌, ◌++◌, if◌then◌else◌, nat_eq}
+use Rattle.std.specs.Prelude.{◌≡◌, ℕ, ◌≤◌, List, length, [], ◌∷◌, ◌++◌, if◌then◌else◌, nat_eq}
 use Rattle.std.specs.List.{list_any}
 use Rattle.sal_types.specs.declared.row.Row.{Row}
 use Rattle.sal_note.specs.declared.call.NoteCall.TheVariants.{Offer}
 use Rattle.sal_note.specs.declared.call.NoteFault.{NoteFault}
 use Rattle.sal_note.specs.declared.call.NoteReply.TheVariants.{Offered, Refused}
-use Rattle.sal_note.specs.Queues.{Made, make, queue, reply_to, subscribers}
+use Rattle.sal_note.specs.Queues.{Asked, Made, made_of, make, queue, reply_to, subscribers}
 
 -- a good offer stands once, and last, in the queue of each subscriber, and in no other
 abbrev pub OfferedToEach : Type 0
@@ -16,3 +16,7 @@ OfferedToEach = (made : List Made) (client note count : ℕ) (rows : List Row) �
 abbrev pub RefusedToAll : Type 0
 RefusedToAll = (made : List Made) (client note : ℕ) (rows : List Row) (fault : NoteFault) → reply_to made client (Offer note rows) ≡ Refused fault
     → (c : ℕ) → queue (make made (record { client = client; call = Offer note rows })) c ≡ queue made c
+
+-- Of any notification there are no more subscribers than calls were made.
+abbrev pub SubscribersAreCallers : Type 0
+SubscribersAreCallers = (calls : List Asked) (note : ℕ) → length (subscribers (made_of calls) note) ≤ length calls

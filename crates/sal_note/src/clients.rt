@@ -1,5 +1,5 @@
 //! The subscribers of a notification.
-ghost use Rattle.std.specs.Prelude.{◌≡◌, ◌<◌, ◌≤◌, ◌^◌, [], ◌∷◌, length, nat_le, OnErr, OnOk, IfOk};
+ghost use Rattle.std.specs.Prelude.{◌≡◌, ◌+◌, ◌<◌, ◌≤◌, ◌^◌, [], ◌∷◌, length, nat_le, OnErr, OnOk, IfOk};
 ghost use Rattle.std.specs.List.{position};
 ghost use Rattle.sal_note.specs.Clients.{first_from, stands_at};
 ghost use Rattle.sal_note.specs.Boxes.{Ascend};
@@ -45,17 +45,15 @@ impl Clients {
         &self.list
     }
 
-    /// Adds the client, if it is not one of them. No room for one more is want of memory, too.
+    /// Adds the client, if it is not one of them.
     pub(crate) fn add(&mut self, client: u32) -> Result<(), NoMemory>
+        requires { length self.old + 1 < 2 ^ 32 }
         ensures ok { OnOk result (self.new ≡ with_client client self.old) }
         ensures err { OnErr result (self.new ≡ self.old) }
     {
         let at = first_from(&self.list, client);
         if stands_at(&self.list, at, client) {
             return Ok(());
-        }
-        if self.list.len() >= u32::MAX as usize {
-            return Err(NoMemory);
         }
         self.list.insert(at, client)?;
         Ok(())

@@ -6,7 +6,7 @@ ghost use Rattle.sal_note.specs.declared.call.NoteCall.TheVariants.{Subscribe, O
 ghost use Rattle.sal_note.specs.declared.call.NoteReply.TheVariants.{Accepted, Offered, Notes as Gives};
 ghost use Rattle.sal_note.specs.Answers.{Answers, Makes};
 ghost use Rattle.sal_note.specs.Boxes as spec;
-ghost use Rattle.sal_note.specs.Boxes.{Ascend, IsOf, box_in, clients_in, give_one, given, queue_in, take_one, taken_back};
+ghost use Rattle.sal_note.specs.Boxes.{Ascend, HasRoom, IsOf, box_in, clients_in, give_one, given, queue_in, take_one, taken_back};
 ghost use Rattle.sal_note.specs.Queues.{with_client};
 
 use crate::call::{Note, NoteFault, NoteList};
@@ -47,8 +47,10 @@ impl Notes {
         }
     }
 
-    /// Subscribes the client to the notification. Who is subscribed stays so.
+    /// Subscribes the client to the notification. Who is subscribed stays so. How many subscribe stays a number of 32 bits: a hub's log
+    /// has fewer calls than that (`subscribers_are_callers`).
     pub fn subscribe(&mut self, alloc: Global, client: u32, note: u32) -> Result<(), NoteFault>
+        requires { HasRoom self.old.subscribed }
         ensures { Answers self.old self.new client (Subscribe note) (λ _. Accepted) result }
     {
         match subscribe(alloc, &mut self.subscribed, &mut self.queues, client, note) {
@@ -95,6 +97,7 @@ fn subscribe(
     client: u32,
     note: u32,
 ) -> Result<(), NoMemory>
+    requires room { HasRoom subscribed.old.entries }
     ensures clients { OnOk result ((n : ℕ) → clients_in subscribed.new.entries n ≡ (if nat_eq note n then with_client client (clients_in subscribed.old.entries n) else clients_in subscribed.old.entries n)) }
     ensures queues { OnOk result ((c : ℕ) → queue_in queues.new.entries c ≡ queue_in queues.old.entries c) }
     ensures boxes { OnOk result ((c : ℕ) → is_some (box_in queues.new.entries c) ≡ (if nat_eq client c then true else is_some (box_in queues.old.entries c))) }
@@ -119,6 +122,7 @@ fn add(
     client: u32,
     note: u32,
 ) -> Result<(), NoMemory>
+    requires room { HasRoom subscribed.old.entries }
     ensures ok { OnOk result ((n : ℕ) → clients_in subscribed.new.entries n ≡ (if nat_eq note n then with_client client (clients_in subscribed.old.entries n) else clients_in subscribed.old.entries n)) }
     ensures err { OnErr result (subscribed.new.entries ≡ subscribed.old.entries) }
 {

@@ -12,7 +12,7 @@ use Rattle.sal_schema.specs.Kinds.{is_list, has_entries, has_type, is_message}
 use Rattle.sal_schema.specs.Paths.{may_follow, may_pick, step_fits, after_step, fits_from, fits_path}
 use Rattle.sal_schema.specs.Table.{is_kind, kind_of, is_data_child}
 use Rattle.sal_schema.specs.Valid.{IsTable}
-use Rattle.sal_table.proofs.Childless.{no_child}
+use Rattle.sal_schema.proofs.Childless.{no_child}
 use Rattle.sal_json.proofs.Chosen.{same_ok}
 use Rattle.sal_pathtext.specs.declared.fault.PathTextFault.{PathTextFault}
 use Rattle.sal_pathtext.specs.declared.fault.PathTextFault.TheVariants.{BadText, BadPredicate, UnknownNode, TooDeep}

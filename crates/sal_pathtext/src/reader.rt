@@ -11,11 +11,11 @@ use crate::fault::PathTextFault;
 use crate::given::Given;
 use crate::here::Here;
 use crate::nodes::{dot_meant, entry_given, key_meant, meant, not_given, value_of};
-use crate::words::{after_blanks, bad_text, closed, first, name, place, said, tail};
+use crate::words::{after_blanks, bad_text, closed, first, name, place, said};
 use sal_json::{Patterns, ScalarFault};
 use sal_schema::Schema;
 use sal_table::lookups::{has_entries, is_list};
-use sal_types::{NoMemory, Step, Value};
+use sal_types::{NoMemory, Step, Value, tail};
 use std::alloc::Global;
 
 /// The whole text, and what its names and values are read by.

@@ -1,12 +1,13 @@
 //! The words of a path text: names, blanks and texts in quotes.
-ghost use Rattle.std.specs.Prelude.{◌≡◌, ◌+◌, ◌-◌, ◌<◌, ◌≤◌, length, take, drop, slice_index, not, ◌==◌, option_map, string_bytes, IfOk, MatchResult};
-ghost use Rattle.std.specs.List.{prefix_len, list_any};
+ghost use Rattle.std.specs.Prelude.{◌≡◌, ◌+◌, ◌-◌, ◌<◌, ◌≤◌, length, take, drop, not, ◌==◌, option_map, string_bytes, IfOk};
+ghost use Rattle.std.specs.List.{prefix_len};
 ghost use Rattle.sal_schema.specs.Valid.{starts_identifier as starts, goes_on as goes};
 ghost use Rattle.sal_pathtext.specs.Words as spec;
 ghost use Rattle.sal_pathtext.specs.Read.{Gives};
 
 use crate::fault::PathTextFault;
-use std::alloc::{AllocError, Global};
+use sal_types::{front, tail};
+use std::alloc::Global;
 
 /// The first byte, or 0 at the end.
 #[inline]
@@ -15,28 +16,6 @@ pub(crate) fn first(s: &str) -> u8
 {
     let bytes = s.as_bytes();
     if bytes.is_empty() { 0 } else { bytes[0] }
-}
-
-/// What follows the first `n` bytes, of which the last is ASCII.
-#[inline]
-pub(crate) fn tail(s: &str, n: usize) -> &str
-    requires some { 0 < n }
-    requires there { n ≤ length s.now }
-    requires ascii { slice_index s.now (n - 1) < 128 }
-    ensures rest { result.now ≡ drop n s.now }
-    ensures shorter { length result.now + n ≡ length s.now }
-{
-    &s[n..]
-}
-
-/// What stands before an ASCII byte.
-#[inline]
-pub(crate) fn front(s: &str, i: usize) -> &str
-    requires there { i < length s.now }
-    requires ascii { slice_index s.now i < 128 }
-    ensures { result.now ≡ take i s.now }
-{
-    &s[..i]
 }
 
 /// How many bytes of the whole text stand before what is still to read.

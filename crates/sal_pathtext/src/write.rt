@@ -5,10 +5,10 @@ ghost use Rattle.sal_schema.specs.Table.{keys_of};
 ghost use Rattle.sal_pathtext.specs.Written as spec;
 
 use crate::nodes::value_text;
-use crate::words::{front, place_of, tail};
+use crate::words::place_of;
 use sal_schema::Schema;
 use sal_table::lookups::{keys_at, name_at, own_module, push_full_name};
-use sal_types::{NoMemory, Path, Step, Str, Value};
+use sal_types::{NoMemory, Path, Step, Str, Value, front, tail};
 use std::alloc::{AllocError, Global};
 
 /// Appends the text with each single quote twice.

@@ -5,8 +5,8 @@ ghost use Rattle.sal_script.specs.BatchData.{batch_data};
 ghost use Rattle.sal_script.specs.Report as spec;
 
 use crate::arrays::push_array;
-use crate::pieces::{push_data, push_number, push_numbered, push_word};
-use sal_rows::{Batch, Opened, Rows};
+use crate::pieces::{DataAt, data_at, push_data, push_number, push_numbered, push_word};
+use sal_rows::{Batch, Opened};
 use sal_schema::Schema;
 use sal_types::{NoMemory, Path};
 use std::alloc::Global;
@@ -24,7 +24,7 @@ pub(crate) fn push_listener(
 {
     push_numbered(text, "listener", id)?;
     push_number(text, opened.version)?;
-    push_listened(alloc, text, schema, path, &opened.rows)
+    push_listened(alloc, text, data_at(schema, path, &opened.rows))
 }
 
 // What changed for a listener.
@@ -46,32 +46,24 @@ pub(crate) fn push_batch(
 pub(crate) fn push_mirror(
     alloc: Global,
     text: &mut String,
-    schema: &Schema,
-    path: &Path,
     version: u64,
-    rows: &Rows,
+    data: DataAt,
 ) -> Result<(), NoMemory>
-    ensures { OnOk result (string_bytes text.new ≡ string_bytes text.old ++ (codes "mirror" ++ (spec.number version ++ spec.listened_text schema.now path.now rows.now))) }
+    ensures { OnOk result (string_bytes text.new ≡ string_bytes text.old ++ (codes "mirror" ++ (spec.number version ++ spec.listened_text data.schema.now data.path.now data.rows.now))) }
 {
     push_numbered(text, "mirror", version)?;
-    push_listened(alloc, text, schema, path, rows)
+    push_listened(alloc, text, data)
 }
 
 // A space, and the rows at a path that is listened to.
-fn push_listened(
-    alloc: Global,
-    text: &mut String,
-    schema: &Schema,
-    path: &Path,
-    rows: &Rows,
-) -> Result<(), NoMemory>
-    ensures { OnOk result (string_bytes text.new ≡ string_bytes text.old ++ spec.listened_text schema.now path.now rows.now) }
+fn push_listened(alloc: Global, text: &mut String, data: DataAt) -> Result<(), NoMemory>
+    ensures { OnOk result (string_bytes text.new ≡ string_bytes text.old ++ spec.listened_text data.schema.now data.path.now data.rows.now) }
 {
-    match (path.steps(), rows.items()) {
+    match (data.path.steps(), data.rows.items()) {
         ([_, ..], []) => push_word(text, " absent"),
         _ => {
             text.push(' ')?;
-            push_data(alloc, text, schema, path, rows)
+            push_data(alloc, text, data)
         }
     }
 }

@@ -5,3 +5,4 @@ pub mod Bounds
 pub mod RangeTexts
 pub mod Readings
 pub mod Examples
+pub mod WholeTexts

@@ -1,11 +1,11 @@
 //! The bounds of ranges, of any size.
-ghost use Rattle.std.specs.Prelude.{◌≡◌, ℕ, SomeIff, FitsSigned, ◌+◌, ◌-◌, ◌*◌, ◌<◌, ◌≤◌, ◌^◌, nat_lt, nat_le, int_lt, ◌&&◌, ◌==◌, min, length, option_map, IfSome, IsTrue, Some, None, if◌then◌else◌};
+ghost use Rattle.std.specs.Prelude.{◌≡◌, ℕ, ◌+◌, ◌-◌, ◌*◌, ◌<◌, ◌≤◌, ◌^◌, nat_lt, nat_le, int_lt, ◌&&◌, ◌==◌, min, length, option_map, IfSome, IsTrue, Some, None, if◌then◌else◌};
 ghost use Rattle.std.specs.List.{list_all, prefix_len};
 ghost use Rattle.std.specs.Char.{is_ascii_digit};
-ghost use Rattle.std.specs.Int.{w128};
 ghost use Rattle.sal_restrict.specs.Bounds as spec;
 ghost use Rattle.sal_restrict.specs.Readings.{without_zeros, size_of, IsNormal, number_of, IsRead, IsLarge, AreOrdered};
 
+use crate::decimals::{decimal, is_digits, small};
 use crate::ranges::Part;
 use crate::words::place_of;
 use std::cmp::Ordering;
@@ -35,31 +35,6 @@ pub(crate) fn scale_of(digits: u8) -> u128
     ensures { result ≡ 10 ^ digits }
 {
     10u128.pow(u32::from(digits))
-}
-
-/// The number that these digits write, or 2^128 - 1 where it is greater.
-fn decimal(text: &[u8]) -> u128
-    ensures { result ≡ min (spec.decimal text.now) (2 ^ 128 - 1) }
-{
-    let mut number: u128 = 0;
-    for digit in text {
-        number = number
-            .saturating_mul(10)
-            .saturating_add(u128::from(digit.saturating_sub(b'0')));
-    }
-    number
-}
-
-fn is_digits(text: &[u8]) -> bool
-    ensures { result ≡ spec.is_digits text.now }
-{
-    !text.is_empty() && all_digits(text)
-}
-
-fn all_digits(text: &[u8]) -> bool
-    ensures { result ≡ list_all is_ascii_digit text.now }
-{
-    text.iter().all(|c| c.is_ascii_digit())
 }
 
 fn zeros(text: &[u8]) -> usize
@@ -118,17 +93,6 @@ fn fraction_of(further: &[u8], digits: u8) -> u128
     ensures less { result < 10 ^ digits }
 {
     decimal(further).saturating_mul(scale_of(digits - further.len() as u8))
-}
-
-/// The number with this sign, where 128 bits hold it.
-fn small(negative: bool, size: u128) -> Option<i128>
-    ensures { SomeIff result (FitsSigned w128 (spec.signed negative size)) (spec.signed negative size) }
-{
-    if negative {
-        0i128.checked_sub_unsigned(size)
-    } else {
-        0i128.checked_add_unsigned(size)
-    }
 }
 
 /// How many units the number has, or 2^128 - 1 where it has more.

@@ -5,8 +5,11 @@
 //! | `YangType` | a type with its restrictions, as a schema holds it |
 //! | `Ranges`, `Part` | ascending, disjoint parts of the whole numbers; one part, from its lowest to its highest number |
 //! | `Pattern` | the text of a pattern, and whether values must not match it |
+//! | `whole_text` | the pattern that a text matches where all of it matches this one |
 //! | `read_ranges` | the range that a text writes within another one, which may only be narrower |
 //! | `RangeFault` | why a text gives no range |
+//! | `decimal`, `is_digits`, `small` | the number that digits write, whether all are digits, and a number with its sign |
+//! | `front`, `behind` | the first bytes of a text, and those behind them |
 //!
 //! A contract sees `Ranges` as the list of its parts. `specs/RangeTexts.antt` says what a text means: it is cut at `|` and
 //! `..`, and each bound is a number of any size. `specs/Ranges.antt` says what it is to hold numbers.
@@ -26,15 +29,20 @@
 
 mod bound;
 mod covers;
+mod decimals;
 mod fault;
 mod range_text;
 mod ranges;
 mod span;
 mod vectors;
+mod whole_texts;
 mod words;
 mod yang_type;
 
+pub use decimals::{decimal, is_digits, small};
 pub use fault::RangeFault;
 pub use range_text::read_ranges;
 pub use ranges::{Part, Ranges};
+pub use whole_texts::whole_text;
+pub use words::{behind, front};
 pub use yang_type::{Pattern, YangType};

@@ -25,7 +25,7 @@ fn blanks_behind(text: &[u8]) -> usize
 
 /// The first bytes of a text.
 #[inline]
-pub(crate) fn front(text: &[u8], len: usize) -> &[u8]
+pub fn front(text: &[u8], len: usize) -> &[u8]
     requires { len ≤ length text.now }
     ensures { result.now ≡ take len text.now }
 {
@@ -34,7 +34,7 @@ pub(crate) fn front(text: &[u8], len: usize) -> &[u8]
 
 /// What stands behind the first bytes.
 #[inline]
-pub(crate) fn behind(text: &[u8], len: usize) -> &[u8]
+pub fn behind(text: &[u8], len: usize) -> &[u8]
     requires { len ≤ length text.now }
     ensures { result.now ≡ drop len text.now }
 {

@@ -1,6 +1,6 @@
 -- What the changes between two trees say of each path, and their order.
 use Rattle.std.proofs.Common.{◌≡◌, Bool, true, false, List, [], ◌∷◌, Option, Some, None, map, refl, ap, sym, ◌∙◌, cond, if◌then◌else◌}
-use Rattle.std.specs.Prelude.{T, not, is_some, ◌&&◌}
+use Rattle.std.specs.Prelude.{T, not, is_some}
 use Rattle.std.specs.List.{filter, fold}
 use Rattle.std.specs.Option.{option_or}
 use Rattle.std.specs.Ordering.{is_lt}
@@ -13,22 +13,11 @@ use Rattle.sal_types.specs.Order.{path_cmp, path_eq, path_cmp-IsTotalOrder, path
 use Rattle.sal_types.specs.Prefix.{is_prefix}
 use Rattle.sal_types.specs.Tree.{cell, under, entries, IsAscending}
 use Rattle.sal_types.proofs.Trees.{T-from_IsTrue}
+pub use Rattle.sal_types.proofs.TrueParts.{first, second, both}
 use Rattle.sal_rows.specs.Edits.{set_row}
 use Rattle.sal_rows.specs.declared.change.Change.{Change}
 use Rattle.sal_rows.specs.Changes.{same_cell, compared, changes, changes_under, change_at, differing}
 use Rattle.sal_rows.proofs.Cells.{same_path, IsAscending-set_row, cell-set_rows, cell-filter, IsAscending-filter}
-
-pub first : (a b : Bool) → T (a && b) → T a
-first true b h = tt
-first false b h = h
-
-pub second : (a b : Bool) → T (a && b) → T b
-second true b h = h
-second false b h = absurd h
-
-pub both : (a b : Bool) → T a → T b → T (a && b)
-both true b g h = h
-both false b g h = g
 
 abbrev Rising : List Row → Type 0
 Rising rows = T (is_sorted path_cmp (entries rows))

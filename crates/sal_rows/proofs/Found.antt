@@ -17,19 +17,19 @@ use Rattle.sal_types.specs.Tree.{entries, IsAscending}
 use Rattle.sal_rows.specs.Edits.{set_row}
 use Rattle.sal_rows.specs.Search.{Parted, IsFound}
 
-less : (o : Ordering) → is_lt o ≡ true → o ≡ Less
+pub less : (o : Ordering) → is_lt o ≡ true → o ≡ Less
 less Less e = refl
 less Equal e = cc
 less Greater e = cc
 
 -- one path before another stands so from both sides
-turned : (x y : List Step) → path_cmp x y ≡ Less → path_cmp y x ≡ Greater
+pub turned : (x y : List Step) → path_cmp x y ≡ Less → path_cmp y x ≡ Greater
 turned x y e = path_cmp-IsTotalOrder.antisymm y x ∙ ap ordering_reverse e
 
-back : (x y : List Step) → path_cmp x y ≡ Greater → path_cmp y x ≡ Less
+pub back : (x y : List Step) → path_cmp x y ≡ Greater → path_cmp y x ≡ Less
 back x y e = path_cmp-IsTotalOrder.antisymm y x ∙ ap ordering_reverse e
 
-above_each : (p : List Step) (rows : List Row) (i : ℕ) (d : Row) → below_all path_cmp p (entries rows) ≡ true → i < length rows → path_cmp p (get_or rows i d).path ≡ Less
+pub above_each : (p : List Step) (rows : List Row) (i : ℕ) (d : Row) → below_all path_cmp p (entries rows) ≡ true → i < length rows → path_cmp p (get_or rows i d).path ≡ Less
 above_each p [] i d below inside = absurd (omega arith)
 above_each p (x ∷ rows) zero d below inside = less _ (first_so (is_lt (path_cmp p x.path)) _ below)
 above_each p (x ∷ rows) (suc i) d below inside = above_each p rows i d (second_so (is_lt (path_cmp p x.path)) _ below) (omega arith)

@@ -1,14 +1,13 @@
 -- Why a write is refused.
-use Rattle.std.specs.Prelude.{Bool, true, false, not, ◌&&◌, List, [], ◌∷◌, map, find, Option, None, Some, option_map, if◌then◌else◌}
+use Rattle.std.specs.Prelude.{Bool, not, ◌&&◌, List, [], ◌∷◌, map, find, Option, None, Some, option_map, if◌then◌else◌}
 use Rattle.sal_types.specs.declared.value.Store.{Store}
 use Rattle.sal_types.specs.declared.value.Store.TheVariants.{Config, Oper}
 use Rattle.sal_types.specs.declared.value.Step.{Step}
 use Rattle.sal_types.specs.declared.row.Row.{Row}
 use Rattle.sal_types.specs.Tree.{has}
-use Rattle.sal_rows.specs.declared.op.Act.{Act}
-use Rattle.sal_rows.specs.declared.op.Act.TheVariants.{Put, Merge, Delete}
 use Rattle.sal_rows.specs.declared.op.Op.{Op}
 use Rattle.sal_rows.specs.Apply.{rows_of_act}
+use Rattle.sal_rows.specs.Clash.{needs_parents}
 use Rattle.sal_schema.specs.declared.table.SchemaTable.{SchemaTable}
 use Rattle.sal_schema.specs.Fitting.{has_mark, is_root, is_key_leaf, is_of_state}
 use Rattle.sal_schema.specs.Paths.{last_step}
@@ -26,12 +25,6 @@ above (step ∷ next ∷ path) = (step ∷ []) ∷ map (λ q. step ∷ q) (above
 -- the outermost list entry or presence container above the path at which nothing stands
 abbrev pub missing_parent : SchemaTable → List Row → List Step → Option (List Step)
 missing_parent table tree path = find (λ q. has_mark table (last_step q) && not (has tree q)) (above path)
-
--- a put and a merge need their parents
-abbrev pub needs_parents : Act → Bool
-needs_parents (Put rows) = true
-needs_parents (Merge rows) = true
-needs_parents Delete = false
 
 abbrev pub missing_of : SchemaTable → List Row → Op → Option (List Step)
 missing_of table tree op = if needs_parents op.act then missing_parent table tree op.path else None

@@ -4,51 +4,16 @@ use Rattle.sal_restrict.specs.declared.yang_type.YangType.TheViews.{out-roll-Yan
 use Rattle.sal_schema.specs.Examples as example
 use Rattle.sal_schema.specs.Table.{closest}
 use Rattle.sal_schema.specs.Valid.{IsTable}
+use Rattle.sal_schema.proofs.ShownTables.{shown}
 
 pub topology-IsTable : IsTable example.topology
 unfolding closest
-topology-IsTable = record {
-  small = record { nodes = omega arith; types = omega arith; modules = omega arith; identities = omega arith };
-  numbers = refl;
-  places = refl;
-  names = refl;
-  leaf_types = refl;
-  keys = refl;
-  uniques = refl;
-  module_names = refl;
-  identities = refl;
-  types = simp out-roll-YangType;
-  distinct = record { modules = refl; identities = refl; rpcs = refl; notifications = refl; data_nodes = refl };
-}
+topology-IsTable = shown example.topology (record { nodes = omega arith; types = omega arith; modules = omega arith; identities = omega arith }) refl (simp out-roll-YangType)
 
 pub mixed-IsTable : IsTable example.mixed
 unfolding closest
-mixed-IsTable = record {
-  small = record { nodes = omega arith; types = omega arith; modules = omega arith; identities = omega arith };
-  numbers = refl;
-  places = refl;
-  names = refl;
-  leaf_types = refl;
-  keys = refl;
-  uniques = refl;
-  module_names = refl;
-  identities = refl;
-  types = simp out-roll-YangType;
-  distinct = record { modules = refl; identities = refl; rpcs = refl; notifications = refl; data_nodes = refl };
-}
+mixed-IsTable = shown example.mixed (record { nodes = omega arith; types = omega arith; modules = omega arith; identities = omega arith }) refl (simp out-roll-YangType)
 
 pub messages-IsTable : IsTable example.messages
 unfolding closest
-messages-IsTable = record {
-  small = record { nodes = omega arith; types = omega arith; modules = omega arith; identities = omega arith };
-  numbers = refl;
-  places = refl;
-  names = refl;
-  leaf_types = refl;
-  keys = refl;
-  uniques = refl;
-  module_names = refl;
-  identities = refl;
-  types = simp out-roll-YangType;
-  distinct = record { modules = refl; identities = refl; rpcs = refl; notifications = refl; data_nodes = refl };
-}
+messages-IsTable = shown example.messages (record { nodes = omega arith; types = omega arith; modules = omega arith; identities = omega arith }) refl (simp out-roll-YangType)

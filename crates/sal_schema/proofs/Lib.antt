@@ -5,3 +5,5 @@ pub mod Facts
 pub mod Above
 pub mod Below
 pub mod ExampleTables
+pub mod ShownTables
+pub mod Childless

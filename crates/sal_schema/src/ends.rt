@@ -1,8 +1,7 @@
 //! What stands at the end of a path, by its node's kind.
 ghost use Rattle.std.specs.Prelude.{◌≡◌, Some};
-ghost use Rattle.std.specs.Option.{option_copied};
 ghost use Rattle.sal_schema.specs.Fitting as spec;
-ghost use Rattle.sal_schema.specs.Paths.{last_step, node_of};
+ghost use Rattle.sal_schema.specs.Paths.{node_of};
 ghost use Rattle.sal_schema.specs.Table.{is_state};
 
 use crate::kind::Kind;

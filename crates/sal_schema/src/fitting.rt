@@ -1,5 +1,5 @@
 //! Which paths fit a schema.
-ghost use Rattle.std.specs.Prelude.{◌≡◌, ◌<◌, length, IfSome};
+ghost use Rattle.std.specs.Prelude.{◌≡◌, ◌<◌, length};
 ghost use Rattle.sal_schema.specs.Table as table;
 ghost use Rattle.sal_schema.specs.Paths as spec;
 ghost use Rattle.sal_schema.specs.Values.{is_of_node};

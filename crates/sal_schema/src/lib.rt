@@ -6,6 +6,7 @@
 //! | `SchemaTable`, `NodeInfo`, `IdentityInfo` | the table as data: nodes, types, modules and identities by their numbers |
 //! | `Kind` | what a node is: a container, a list, a leaf-list, a leaf, a choice, a case, or a part of an RPC or notification |
 //! | `Leafs` | a list of numbers |
+//! | `empty_lists`, `add_to_list` | lists of numbers, one for each place |
 //!
 //! `specs/` has what a table says of a node (`Table`) and of a name (`Names`), which tables are tables of a schema
 //! (`Valid`), which values are of a type (`Values`), which paths and rows fit (`Paths`, `Fitting`), and the table's text
@@ -34,6 +35,7 @@ mod examples;
 mod fitting;
 mod indexes;
 mod kind;
+mod lists;
 mod names;
 mod parts;
 mod schema;
@@ -42,5 +44,6 @@ mod text;
 mod values;
 
 pub use kind::Kind;
+pub use lists::{add_to_list, empty_lists};
 pub use schema::Schema;
 pub use table::{IdentityInfo, Leafs, NodeInfo, SchemaTable};

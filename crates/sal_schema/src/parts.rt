@@ -1,13 +1,12 @@
 //! What stands below and above each node of a table, and the names of its parts, as lists.
-ghost use Rattle.std.specs.Prelude.{◌≡◌, ℕ, ◌<◌, ◌≤◌, ◌^◌, ◌∷◌, [], ◌++◌, None, IfOk, IfSome, OnOk, IsTrue, length, map, take, nat_eq, slice_index_or, if◌then◌else◌};
-ghost use Rattle.std.specs.declared.alloc.Global.{Global as Heap};
-ghost use Rattle.std.specs.declared.vec.Vec.{Vec as Vector};
+ghost use Rattle.std.specs.Prelude.{◌≡◌, ◌<◌, ◌≤◌, ◌^◌, None, IfOk, IfSome, length};
 ghost use Rattle.sal_schema.specs.Indexed as indexed;
 ghost use Rattle.sal_schema.specs.Names as spec;
 ghost use Rattle.sal_schema.specs.Table.{children_in, each_from};
 ghost use Rattle.sal_schema.specs.Valid.{IsTable};
 
 use crate::kind::Kind;
+use crate::lists::{add_to_list, empty_lists};
 use crate::names::{Name, Named};
 use crate::table::{IdentityInfo, NodeInfo, SchemaTable};
 use sal_types::{Duplicate, NoMemory, Str};
@@ -18,26 +17,6 @@ use std::alloc::Global;
 pub(crate) struct Children {
     pub(crate) top: Vec<u32>,
     pub(crate) below: Vec<Vec<u32>>,
-}
-
-fn empty_lists(alloc: Global, count: usize) -> Result<Vec<Vec<u32>>, NoMemory>
-    ensures count { IfOk result (λ lists. length lists.items ≡ count) }
-    ensures empty { IfOk result (λ lists. (k : ℕ) (d : Vector ℕ Heap) → k < count → (slice_index_or lists.items k d).items ≡ []) }
-{
-    let mut lists = Vec::with_capacity(alloc, count)?;
-    for made in 0..count {
-        lists.push(Vec::new(alloc))?;
-    }
-    Ok(lists)
-}
-
-fn add_to(lists: &mut Vec<Vec<u32>>, at: usize, number: u32) -> Result<(), NoMemory>
-    requires { at < length lists.old.items }
-    ensures count { OnOk result (length lists.new.items ≡ length lists.old.items) }
-    ensures added { OnOk result ((k : ℕ) (d : Vector ℕ Heap) → k < length lists.old.items → (slice_index_or lists.new.items k d).items ≡ (slice_index_or lists.old.items k d).items ++ (if nat_eq at k then number ∷ [] else [])) }
-{
-    lists[at].push(number)?;
-    Ok(())
 }
 
 /// The children of each node, in order.
@@ -53,7 +32,7 @@ pub(crate) fn children_of(alloc: Global, table: &SchemaTable) -> Result<Children
     for (i, node) in nodes.iter().enumerate() {
         match node.parent {
             None => top.push(i as u32)?,
-            Some(parent) => add_to(&mut below, parent as usize, i as u32)?,
+            Some(parent) => add_to_list(&mut below, parent as usize, i as u32)?,
         }
     }
     Ok(Children { top, below })

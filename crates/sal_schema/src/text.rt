@@ -1,5 +1,5 @@
 //! The text of a table.
-ghost use Rattle.std.specs.Prelude.{◌≡◌, ◌∷◌, ◌++◌, IfOk, OnOk, string_bytes};
+ghost use Rattle.std.specs.Prelude.{◌≡◌, ◌++◌, IfOk, OnOk, string_bytes};
 ghost use Rattle.std.specs.Fmt.{decimal};
 ghost use Rattle.sal_schema.specs.Table.{module_name, name_of};
 ghost use Rattle.sal_schema.specs.Text as spec;

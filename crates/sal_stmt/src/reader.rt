@@ -7,9 +7,9 @@ ghost use Rattle.sal_stmt.specs.Text.{Gives, Head};
 
 use crate::bytes::{byte_at, is_keyword, split_word};
 use crate::fault::StmtFault;
-use crate::source::{Source, tail};
+use crate::source::Source;
 use crate::stmt::Stmt;
-use sal_types::{Seq, Str};
+use sal_types::{Seq, Str, tail};
 use std::alloc::Global;
 
 /// How many blocks may be open at once.

@@ -18,7 +18,7 @@ use Rattle.sal_schema.proofs.Facts.{slice_get_some, slice_get_there, module_is_t
 use Rattle.sal_schema.proofs.Numbered.{list_all-at}
 use Rattle.sal_schema.proofs.Searched.{lookup-Finds}
 use Rattle.sal_table.specs.Lookups.{own_module}
-use Rattle.sal_table.proofs.Childless.{same-some}
+use Rattle.sal_schema.proofs.Childless.{same-some}
 
 pub same-is : (o parent : Option ℕ) → is_same o parent ≡ true → o ≡ parent
 same-is None None e = refl

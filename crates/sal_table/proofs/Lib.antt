@@ -1,4 +1,3 @@
-pub mod Childless
 pub mod Children
 mod Climbs
 mod Doubles

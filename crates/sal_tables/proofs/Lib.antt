@@ -12,6 +12,7 @@ pub mod Underived
 pub mod GoodIdentities
 pub mod Uniques
 pub mod DistinctIdentities
+pub mod OwnPlaces
 pub mod OwnStatements
 pub mod NamedNodes
 pub mod KeyedLists
@@ -32,5 +33,9 @@ pub mod DistinctCalls
 pub mod TopCalls
 pub mod LinkedNodes
 pub mod RightPlaces
+pub mod CountedIdentities
+pub mod SoundTypes
+pub mod SpelledBits
 pub mod WholeTables
 pub mod OrderedTexts
+pub mod ReadableTexts

@@ -1,7 +1,6 @@
 //! Why a write is refused.
 ghost use Rattle.std.specs.Prelude.{◌≡◌, ◌⊎◌, ◌≤◌, None, Some, IfSome, MatchResult, option_map, find, take, length};
 ghost use Rattle.std.specs.Option.{option_copied};
-ghost use Rattle.sal_types.specs.Tree.{has};
 ghost use Rattle.sal_rows.specs.Apply.{rows_of_act};
 ghost use Rattle.sal_node.specs.Shape.{tree_at};
 ghost use Rattle.sal_tree.specs.Grow.{IsSound};
@@ -12,7 +11,7 @@ ghost use Rattle.sal_tx.specs.Walk as walk;
 
 use crate::steps::first_steps;
 use sal_node::Node;
-use sal_rows::{Act, Op};
+use sal_rows::Op;
 use sal_rules::TxFault;
 use sal_schema::Schema;
 use sal_tree::{Root, child_of, is_present};
@@ -75,20 +74,10 @@ fn missing(schema: &Schema, tree: &Root, op: &Op) -> Option<usize>
     ensures parent { option_map (λ d. take d op.now.path) result ≡ spec.missing_of schema.now (rows_of tree.now) op.now }
     ensures short { IfSome result (λ d. d ≤ length op.now.path) }
 {
-    if needs_parents(&op.act) {
+    if op.act.needs_parents() {
         missing_parent(schema, tree, &op.path)
     } else {
         None
-    }
-}
-
-fn needs_parents(act: &Act) -> bool
-    ensures { result ≡ spec.needs_parents act.now }
-{
-    match act {
-        Act::Put(_) => true,
-        Act::Merge(_) => true,
-        Act::Delete => false,
     }
 }
 

@@ -1,43 +1,13 @@
 -- Typedefs by name, from one statement to the next.
-use Rattle.std.proofs.Common.{◌≡◌, ℕ, suc, ◌+◌, ◌-◌, ◌<◌, ◌≤◌, List, [], ◌∷◌, ◌++◌, length, take, get_or, Bool, false, Option, Some, None, is_some, if◌then◌else◌, refl, ◌∙◌, sym, ap, inl, inr, arith}
-use Rattle.std.specs.Prelude.{String, find, option_and_then}
-use Rattle.std.specs.declared.alloc.Global.{Global}
+use Rattle.std.proofs.Common.{◌≡◌, ℕ, suc, ◌+◌, ◌-◌, ◌<◌, ◌≤◌, List, [], ◌∷◌, length, take, get_or, Bool, Option, Some, None, refl, ◌∙◌, sym, ap, inl, inr, arith}
+use Rattle.std.specs.Prelude.{find, option_and_then}
 use Rattle.std.specs.List.{position_from, slice_get}
-use Rattle.std.specs.BTreeMap.{UpdatesBy, get_by_text}
-use Rattle.std.specs.String.{string_bytes, string_cmp}
-use Rattle.std.specs.Str.{bytes_eq}
-use Rattle.std.specs.Cmp.Lexicographic.{slice_cmp}
-use Rattle.std.specs.Ordering.{nat_cmp}
 use Rattle.std.proofs.lemmas.Bool.{cases_Bool}
 use Rattle.std.proofs.lemmas.List.{take_more, length-take}
-use Rattle.std.proofs.lemmas.Slice.Eq.{bytes_eq-Decides}
-use Rattle.std.proofs.lemmas.Map.Text.{btree_map_updates_text}
 use Rattle.sal_module.specs.Keywords.{same}
-use Rattle.sal_typedefs.specs.Blocks.{Numbers, with_first}
-
-pub with_first-miss : (found : Option ℕ) (k : ℕ) → with_first found false k ≡ found
-with_first-miss (Some j) k = refl
-with_first-miss None k = refl
-
-pub first-put : (old new : Numbers) (key : String Global) (k : ℕ) → UpdatesBy string_cmp (λ s. slice_cmp nat_cmp (string_bytes key) (string_bytes s)) old new (Some k)
-    → (name : List ℕ) → string_bytes key ≡ name → is_some (get_by_text old name) ≡ false → (q : List ℕ) → get_by_text new q ≡ with_first (get_by_text old q) (same name q) k
-first-put old new key k updates name is unknown q =
-    let here : get_by_text new q ≡ (if bytes_eq name q then Some k else get_by_text old q) =
-    btree_map_updates_text (string_bytes key) old new (Some k) updates q ∙ ap (λ n. if bytes_eq n q then Some k else get_by_text old q) is in
-    elim (cases_Bool (same name q)) [
-      | inl e ↦
-          let that : name ≡ q = (bytes_eq-Decides name q).0 e in
-          let none : is_some (get_by_text old q) ≡ false = ap (λ n. is_some (get_by_text old n)) (sym that) ∙ unknown in
-          here ∙ rw (e, none) refl
-      | inr e ↦ here ∙ rw e (sym (with_first-miss (get_by_text old q) k))
-    ]
-
-pub position_from-last : {X : Type 0} (p : X → Bool) (n : ℕ) (xs : List X) (x : X)
-    → position_from p n (xs ++ x ∷ []) ≡ (if is_some (position_from p n xs) then position_from p n xs else if p x then Some (n + length xs) else None)
-position_from-last p n [] x = let here : n + 0 ≡ n = omega arith in rw here refl
-position_from-last p n (y ∷ ys) x =
-    let there : n + 1 + length ys ≡ n + length (y ∷ ys) = omega arith in
-    elim (cases_Bool (p y)) [ inl e ↦ rw e refl | inr e ↦ rw e (position_from-last p (n + 1) ys x ∙ rw there refl) ]
+use Rattle.sal_types.proofs.Lists.{position_from-last}
+pub use Rattle.sal_module.proofs.Firsts.{first-put}
+use Rattle.sal_typedefs.specs.Blocks.{with_first}
 
 pub position_from-take : {X : Type 0} (p : X → Bool) (xs : List X) (i : ℕ) (d : X) → i < length xs
     → position_from p 0 (take (i + 1) xs) ≡ with_first (position_from p 0 (take i xs)) (p (get_or xs i d)) i

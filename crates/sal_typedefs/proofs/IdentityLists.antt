@@ -1,10 +1,10 @@
 -- Identities by number, from one statement to the next.
-use Rattle.std.proofs.Common.{◌≡◌, ℕ, zero, suc, ◌+◌, ◌-◌, ◌<◌, ◌≤◌, List, [], ◌∷◌, ◌++◌, length, take, drop, get_or, Bool, true, false, Option, Some, None, is_some, option_map, filter, if◌then◌else◌, refl, ◌∙◌, sym, ap, subst, inl, inr, arith, append-nil}
+use Rattle.std.proofs.Common.{◌≡◌, ℕ, zero, suc, ◌+◌, ◌-◌, ◌<◌, ◌≤◌, List, [], ◌∷◌, ◌++◌, length, take, drop, get_or, Bool, true, false, Option, Some, None, is_some, option_map, filter, if◌then◌else◌, refl, ◌∙◌, sym, ap, inl, inr, arith, append-nil}
 use Rattle.std.specs.Prelude.{option_and_then}
 use Rattle.std.specs.List.{position_from, slice_get, sum_by}
 use Rattle.std.specs.BTreeMap.{get_by_text}
-use Rattle.std.proofs.lemmas.Bool.{cases_Bool, cases_lt}
-use Rattle.std.proofs.lemmas.List.{get_or_append_left, get_or-append_right, take_more, drop_more, get_or_read}
+use Rattle.std.proofs.lemmas.Bool.{cases_Bool}
+use Rattle.std.proofs.lemmas.List.{take_more, drop_more, get_or_read}
 use Rattle.sal_stmt.specs.declared.stmt.Stmt.{Stmt}
 use Rattle.sal_module.specs.declared.keyword.Keyword.TheVariants as word
 use Rattle.sal_module.specs.Keywords.{same}
@@ -12,7 +12,8 @@ use Rattle.sal_module.specs.Statements.{is_named, argument_of, subs_of}
 use Rattle.sal_typedefs.specs.Scopes.{identity_in, identities_of}
 use Rattle.sal_typedefs.specs.Blocks.{Numbers, with_first}
 use Rattle.sal_typedefs.specs.Ready.{identities_among, is_identity_of, AreNumbered, AreIdentities}
-use Rattle.sal_typedefs.proofs.BlockLists.{position_from-last, with_first-miss}
+use Rattle.sal_types.proofs.Lists.{position_from-last}
+use Rattle.sal_module.proofs.Firsts.{with_first-miss}
 
 -- ---- those among statements
 
@@ -62,18 +63,6 @@ next-more start subs i x old new h is so_far put =
     omega (arith, so_far, put, count)
 
 -- ---- those of modules
-
-pub table-holds : {X : Type 0} (P : ℕ → X → Type 0) (xs : List X) (i : ℕ) (x : X) → length xs ≡ i → P i x → ((m : ℕ) (d : X) → m < i → P m (get_or xs m d))
-    → (m : ℕ) (d : X) → m < i + 1 → P m (get_or (xs ++ x ∷ []) m d)
-table-holds {X} P xs i x count is so_far m d h = elim (cases_lt m (length xs)) [
-  | inl before ↦ subst (P m) (sym (get_or_append_left xs (x ∷ []) d m before)) (so_far m d (omega arith))
-  | inr after ↦
-      let last : i ≡ m = omega arith in
-      let place : m - length xs ≡ 0 = omega arith in
-      let got : get_or (xs ++ x ∷ []) m d ≡ x = get_or-append_right xs (x ∷ []) (length xs) m d refl after ∙ rw place refl in
-      let Q : ℕ → Type 0 = λ n. P n x in
-      subst (P m) (sym got) (subst Q last is)
-]
 
 pub numbered-in : (stmts : List Stmt) (i : ℕ) (stmt : Stmt) (next : ℕ) (map : Numbers) → i < length stmts → stmt ≡ get_or stmts i stmt
     → next ≡ sum_by (λ one. length (identities_of one)) (take i stmts) → AreNumbered next (subs_of stmt) map → (e : Stmt) (q : List ℕ) → get_by_text map q ≡ identity_in stmts q i (get_or stmts i e)

@@ -1,13 +1,10 @@
 -- Patterns that the grammar of `regex` does not read.
-use Rattle.std.specs.Prelude.{ℕ, Bool, true, nat_lt, List, ◌++◌, Option, Some, None, chars, codes}
+use Rattle.std.specs.Prelude.{ℕ, Bool, true, nat_lt, List, Option, Some, None, chars}
 use Rattle.regex_syntax.specs.Verdict.{default_config}
 use Rattle.regex_syntax.specs.Grammar.{Names, read}
 use Rattle.regex_syntax.specs.Brackets.{Nested}
 use Rattle.regex_hir.specs.Re.{Re}
-
--- the pattern of a whole text
-abbrev pub whole_text : List ℕ → List ℕ
-whole_text t = codes "\\A(?:" ++ (t ++ codes ")\\z")
+use Rattle.sal_restrict.specs.WholeTexts.{whole_text}
 
 -- the grammar reads nothing, or what it reads is nested too deeply
 abbrev pub is_refused : Option (Nested Re × Names) → Bool

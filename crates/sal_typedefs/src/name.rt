@@ -1,9 +1,10 @@
 //! Names with a prefix or without one (RFC 7950 sections 6.2 and 6.4.1).
-ghost use Rattle.std.specs.Prelude.{◌≡◌, ◌+◌, ◌-◌, ◌<◌, ◌≤◌, length, take, drop, slice_index, MatchOption};
+ghost use Rattle.std.specs.Prelude.{◌≡◌, ◌+◌, ◌-◌, ◌<◌, ◌≤◌, length, slice_index, MatchOption};
 ghost use Rattle.sal_stmt.specs.Words.{colon_at};
 ghost use Rattle.sal_typedefs.specs.Scopes as spec;
 
 use sal_module::Modules;
+use sal_types::{front, tail};
 
 /// How many bytes stand before the first colon, or how many there are where none stands.
 fn len_to_colon(name: &str) -> usize
@@ -19,25 +20,6 @@ fn colon_at(name: &str) -> Option<usize>
 {
     let len = len_to_colon(name);
     if len < name.len() { Some(len) } else { None }
-}
-
-/// What stands before an ASCII byte.
-fn front(name: &str, i: usize) -> &str
-    requires there { i < length name.now }
-    requires ascii { slice_index name.now i < 128 }
-    ensures { result.now ≡ take i name.now }
-{
-    &name[..i]
-}
-
-/// What follows the first bytes, of which the last is ASCII.
-fn tail(name: &str, n: usize) -> &str
-    requires some { 0 < n }
-    requires there { n ≤ length name.now }
-    requires ascii { slice_index name.now (n - 1) < 128 }
-    ensures { result.now ≡ drop n name.now }
-{
-    &name[n..]
 }
 
 /// A name without its prefix.

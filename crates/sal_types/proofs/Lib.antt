@@ -1,3 +1,5 @@
 pub mod Prefixes
 pub mod Readers
 pub mod Trees
+pub mod Lists
+pub mod TrueParts

@@ -7,6 +7,7 @@
 //! | `Step`, `Path` | one step of a path; a path, of at most 32 steps |
 //! | `Cell`, `Row` | what stands at a path: a mark or a leaf's value; a cell at its path |
 //! | `Seq`, `Str`, `Bytes`, `Keys` | a list, a text, bytes and key values, as larger types hold them |
+//! | `front`, `tail` | what stands before an ASCII byte of a text, and behind one |
 //! | `NoMemory`, `Duplicate` | want of memory; a value of which a second one can be made |
 //! | `Exact` | an order in which `Equal` means the same value |
 //!
@@ -22,6 +23,7 @@
 //! Costs: a push is constant on average; a comparison, a prefix test and a copy are linear in the steps and texts.
 #![tactic(auto)]
 
+pub mod cuts;
 pub mod exact;
 pub mod memory;
 pub mod path;
@@ -30,6 +32,7 @@ pub mod seq;
 pub mod text;
 pub mod value;
 
+pub use cuts::{front, tail};
 pub use exact::{Exact, is_same};
 pub use memory::{Duplicate, NoMemory};
 pub use path::{MAX_STEPS, Path, PathFault};

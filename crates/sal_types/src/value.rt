@@ -34,7 +34,7 @@ pub enum Atom {
 /// A leaf's value. `member` is the place of its type in a union, and 0 otherwise.
 #[derive(Debug, Drop, PartialEq, Eq, PartialOrd, Ord)]
 pub struct Value {
-    pub member: u32,
+    pub member: u64,
     pub atom: Atom,
 }
 

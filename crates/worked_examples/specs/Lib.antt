@@ -1,4 +1,5 @@
 pub mod Blocks
+pub mod BoxCases
 pub mod ModuleCases
 pub mod NoStatements
 pub mod NodeCases

@@ -12,5 +12,5 @@ words-preserved c =
     let less : word_len rest < length rest = omega (arith, at) in
     record {
       text = search rules;
-      words = c.words.invariant.words ∙ words-more c.words.words.items _ rest _ _ less (c.front.ensures ∙ ap (λ n. take n rest) at) (c.tail-rest.ensures ∙ ap (λ n. drop (n + 1) rest) at) c.in_ok-push_word-in-Some.ensures;
+      words = c.words.invariant.words ∙ words-more c.words.words.items _ rest _ _ less (c.front.ensures ∙ ap (λ n. take n rest) at) (c.tail-rest.ensures.rest ∙ ap (λ n. drop (n + 1) rest) at) c.in_ok-push_word-in-Some.ensures;
     }

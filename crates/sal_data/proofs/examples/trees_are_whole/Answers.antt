@@ -7,6 +7,7 @@ use Rattle.serde_json.specs.Data.{string}
 use Rattle.sal_restrict.specs.declared.yang_type.YangType.TheViews.{out-roll-YangType}
 use Rattle.sal_schema.specs.Table.{closest}
 use Rattle.sal_schema.specs.Valid.{IsTable}
+use Rattle.sal_schema.proofs.ShownTables.{shown}
 use Rattle.sal_json.specs.Laws.{HasBytes}
 use Rattle.sal_json.specs.Read.{type_scalar, own_json}
 use Rattle.sal_data.specs.Examples as example
@@ -17,19 +18,7 @@ use Rattle.sal_data.proofs.examples.trees_are_whole.Goals as goal
 
 table-IsTable : IsTable example.table
 unfolding closest
-table-IsTable = record {
-  small = record { nodes = omega arith; types = omega arith; modules = omega arith; identities = omega arith };
-  numbers = refl;
-  places = refl;
-  names = refl;
-  leaf_types = refl;
-  keys = refl;
-  uniques = refl;
-  module_names = refl;
-  identities = refl;
-  types = simp out-roll-YangType;
-  distinct = record { modules = refl; identities = refl; rpcs = refl; notifications = refl; data_nodes = refl };
-}
+table-IsTable = shown example.table (record { nodes = omega arith; types = omega arith; modules = omega arith; identities = omega arith }) refl (simp out-roll-YangType)
 
 -- a text of one byte
 byte : (c : ℕ) → c < 256 → HasBytes (string (c ∷ []))

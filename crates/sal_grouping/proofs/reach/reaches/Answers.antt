@@ -1,7 +1,8 @@
 use Rattle.std.proofs.Common.{◌≡◌, ◌∙◌, ◌==◌, false, length, get_or, sym, ap, arith}
 use Rattle.std.proofs.lemmas.Bool.Decides.{nat_tests}
 use Rattle.sal_grouping.specs.Indexes.{lists}
-use Rattle.sal_grouping.proofs.Rounds.{marked-at, unreached-below}
+use Rattle.sal_module.proofs.Rounds.{marked-at}
+use Rattle.sal_grouping.proofs.Rounds.{unreached-below}
 use Rattle.sal_grouping.proofs.reach.reaches.Goals as goal
 
 pub returns-then-is_below : goal.returns-then-is_below

@@ -6,8 +6,11 @@ use Rattle.sal_history.specs.declared.call.Call.TheVariants.{Subscribe}
 use Rattle.sal_hub.specs.Answers.{Fails}
 use Rattle.sal_hub.specs.Current.{known_of}
 use Rattle.sal_hub.specs.Known.{entry_of}
-use Rattle.sal_hub.proofs.Notified.{entered_answer, entered_kept, entered_noted, failed_call}
+use Rattle.sal_hub.proofs.Notified.{entered_answer, entered_kept, entered_noted, failed_call, has_room}
 use Rattle.sal_hub.proofs.note_calls.subscribe.Goals as goal
+
+pub subscribe-requires : goal.subscribe-requires
+subscribe-requires c = has_room c.args.journal.now c.args.pipeline.now c.args.notes.now c.requires.noted c.requires.room
 
 pub returns-in-Ok-subscribe-clause-kept : goal.returns-in-Ok-subscribe-clause-kept
 returns-in-Ok-subscribe-clause-kept c = entered_kept c.args.journal.now c.add.new.self c.args.pipeline.now c.requires.kept c.args.client (notes.Subscribe c.args.note) c.in-Ok.ensures.log c.in-Ok.ensures.marks

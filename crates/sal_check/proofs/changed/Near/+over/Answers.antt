@@ -15,7 +15,7 @@ over-requires t c =
     let node = c.args.place.now.node.now.value in
     let same : seen c.deref-child-items.result.now ≡ made_by stamps (pairs node.kids) = ap seen c.deref-child-items.ensures.value ∙ c.in_ok-children.ensures ∙ ap (λ (t : Tree). made_by stamps (pairs t.kids)) c.deref.ensures in
     let h = light-made stamps node.kids c.deref-child-items.result.now c.loop-child.child-index c.child-item.result same c.loop-child-test.true c.child-item.is in
-    let sound = sound-made stamps node.kids c.deref-child-items.result.now c.loop-child.child-index c.child-item.result c.requires.sound same c.loop-child-test.true c.child-item.is in
+    let sound = sound-made stamps node.kids c.deref-child-items.result.now c.loop-child.child-index c.child-item.result c.requires.1 same c.loop-child-test.true c.child-item.is in
     (omega (arith, h, c.decreases), (c.child_of-old.ensures.sound, sound))
 
 pub loop-child-preserved : goal.loop-child-preserved

@@ -38,8 +38,8 @@ loop-index-preserved c =
       grown = HasGrown-then (line_of c.args.self.now) (line_of c.loop-index.self) (line_of c.decide_one.new.self) c.loop-index.invariant.grown c.in_ok-decide_one.ensures.grown;
     }
 
-pub returns-clause-ok : goal.returns-clause-ok
-returns-clause-ok c =
+pub returns-clause-decided : goal.returns-clause-decided
+returns-clause-decided c =
     let start = length c.args.self.now.outcomes.items in
     let all : c.loop-index.index - start ≡ c.args.upto - start = omega (arith, c.loop-index-test.false, c.loop-index.invariant.bound) in
     subst (λ k. Decides (line_of c.args.self.now) k (line_of c.loop-index.self)) all c.loop-index.invariant.decided

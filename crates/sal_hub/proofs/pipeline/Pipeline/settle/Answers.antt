@@ -11,12 +11,12 @@ use Rattle.sal_hub.proofs.pipeline.Pipeline.settle.Goals as goal
 pub cut_back-requires-clause-long : goal.cut_back-requires-clause-long
 cut_back-requires-clause-long c =
     let counts : c.in_ok-counts.counts.items ≡ counts_of (map shown c.args.self.now.domains.items) = c.in_ok-counts.ensures ∙ ap (λ (ds : List Domain). counts_of (map shown ds)) c.deref.ensures.value in
-    ap length c.deref-in-Err.ensures.value ∙ as_many c.args.self.now c.settle_some.new.self c.requires.kept c.in-Err.ensures.grown c.in_ok-counts.counts.items counts
+    ap length c.deref-in-Err.ensures.value ∙ as_many c.args.self.now c.decide_upto.new.self c.requires.kept c.in-Err.ensures.grown c.in_ok-counts.counts.items counts
 
 pub returns-clause-same : goal.returns-clause-same
 returns-clause-same c =
     let old = c.args.self.now in
-    let new = c.settle_some.new.self in
+    let new = c.decide_upto.new.self in
     let counts : c.in_ok-counts.counts.items ≡ counts_of (map shown old.domains.items) = c.in_ok-counts.ensures ∙ ap (λ (ds : List Domain). counts_of (map shown ds)) c.deref.ensures.value in
     let cut : map shown c.cut_back.new.self.domains.items ≡ cut_all (map shown new.domains.items) c.in_ok-counts.counts.items =
     c.cut_back.ensures.domains ∙ ap (cut_all (map shown new.domains.items)) c.deref-in-Err.ensures.value in
@@ -29,7 +29,7 @@ returns-clause-same c =
 pub returns-in-Ok-clause-decided : goal.returns-in-Ok-clause-decided
 returns-in-Ok-clause-decided c = λ ss sound.
     let old = c.args.self.now in
-    let new = c.settle_some.new.self in
+    let new = c.decide_upto.new.self in
     let count : c.len.result ≡ length new.outcomes.items = grind (arith, common_steps) in
     let gone : c.let_go.new.gone ≡ length new.outcomes.items = c.let_go.ensures.gone ∙ count in
     let waits : c.let_go.new.waiting.items ≡ drop (length new.outcomes.items - new.gone) new.waiting.items = c.let_go.ensures.waiting ∙ ap (λ n. drop (n - new.gone) new.waiting.items) count in

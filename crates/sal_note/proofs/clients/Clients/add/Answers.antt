@@ -1,4 +1,4 @@
-use Rattle.std.proofs.Common.{◌≡◌, ◌≤◌, ◌+◌, true, false, List, ℕ, length, arith, ap, sym, ◌∙◌, subst}
+use Rattle.std.proofs.Common.{◌≡◌, ◌<◌, ◌≤◌, ◌+◌, ◌^◌, true, false, List, ℕ, length, arith, ap, sym, ◌∙◌, subst}
 use Rattle.std.specs.List.{insert}
 use Rattle.sal_note.specs.Boxes.{AreClients}
 use Rattle.sal_note.specs.Clients.{first_from, stands_at}
@@ -23,10 +23,11 @@ added c =
 pub invariant_of-self-2 : goal.invariant_of-self-2
 invariant_of-self-2 c =
     let items : List ℕ = c.self.inside.list.items in
+    let room : length items + 1 < 2 ^ 32 = subst (λ (cs : List ℕ). length cs + 1 < 2 ^ 32) (sym c.self.view_is) c.requires in
     let longer : length (with_client c.args.client items) ≤ length items + 1 = length-with c.args.client items in
     subst AreClients (sym (added c)) (record {
       ascend = ascend-with c.args.client items c.self.invariant.ascend;
-      few = omega (arith, longer, c.len.ensures, c.if-len.false);
+      few = omega (arith, longer, room);
     })
 
 pub returns-clause-ok : goal.returns-clause-ok

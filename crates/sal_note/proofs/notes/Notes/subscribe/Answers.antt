@@ -4,10 +4,13 @@ use Rattle.sal_note.specs.declared.call.NoteCall.TheVariants.{Subscribe}
 use Rattle.sal_note.specs.declared.call.NoteFault.{NoteFault}
 use Rattle.sal_note.specs.declared.call.NoteReply.TheVariants.{Accepted}
 use Rattle.sal_note.specs.Answers.{Answers, Makes}
-use Rattle.sal_note.specs.Boxes.{Boxes}
+use Rattle.sal_note.specs.Boxes.{Boxes, HasRoom}
 use Rattle.sal_note.proofs.Kept.{subscribe_made}
 use Rattle.sal_note.proofs.notes.Notes.subscribe.Goals as goal
 use Rattle.sal_note.proofs.notes.Notes.subscribe.Goals.{in-Ok, in-Err}
+
+pub subscribe-requires : goal.subscribe-requires
+subscribe-requires c = subst (λ (b : Boxes). HasRoom b.subscribed) (sym c.self.view_is) c.requires
 
 pub returns : goal.returns
 returns c =

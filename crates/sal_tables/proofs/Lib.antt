@@ -39,3 +39,4 @@ pub mod SpelledBits
 pub mod WholeTables
 pub mod OrderedTexts
 pub mod ReadableTexts
+pub mod Counted

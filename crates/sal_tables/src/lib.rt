@@ -16,3 +16,6 @@
 #![tactic(auto)]
 
 pub mod laws;
+mod schema;
+
+pub use schema::build;

@@ -1,5 +1,5 @@
 -- Readable statements are fewer than 2 ^ 32.
-use Rattle.std.proofs.Common.{ℕ, ◌<◌, ◌^◌, nat_lt, IsTrue, List}
+use Rattle.std.proofs.Common.{◌<◌, ◌^◌, nat_lt, IsTrue, List}
 use Rattle.std.specs.List.{list_all}
 use Rattle.sal_stmt.specs.declared.stmt.Stmt.{Stmt}
 use Rattle.sal_schema.proofs.Conjuncts.{and_second}

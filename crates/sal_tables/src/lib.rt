@@ -6,14 +6,15 @@
 //! | `laws` | functions that do nothing, each with a law as its contract |
 //!
 //! A law says of all statements that have a table by the definition `build` of `sal_build`, or of those that are as they are read from texts
-//! (`specs/Readable`), that a part of `IsTable` holds of that table (`specs/Laws`). `tables_are_tables` puts them together.
+//! (`specs/Readable`), that a part of `IsTable` holds of that table (`specs/Laws`). `tables_are_tables` puts them together, and
+//! `build` stands on it: nothing tests the table.
 //!
 //! ```
 //! let schema = build(alloc, &stmts)?;
 //! let text = schema.text(alloc)?; // a line for each node
 //! ```
 //!
-//! Costs: `build` costs what `table_of_modules` of `sal_build` and `schema_of` of `sal_table` cost. A law costs nothing.
+//! Costs: `build` costs what `table_of_modules` of `sal_build` and `Schema::from_table` cost. A law costs nothing.
 #![tactic(auto)]
 
 pub mod laws;

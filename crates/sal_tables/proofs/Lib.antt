@@ -25,6 +25,11 @@ pub mod BoundedTypes
 pub mod Differing
 pub mod ListedNames
 pub mod PlacedNames
+pub mod Members
+pub mod ReadSites
+pub mod ShortWays
+pub mod OwnSites
+pub mod UnionMembers
 pub mod DistinctNodes
 pub mod HeldRows
 pub mod LoneCalls

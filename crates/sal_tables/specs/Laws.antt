@@ -15,6 +15,7 @@ use Rattle.sal_schema.specs.Kinds.{is_leaf, is_list, is_rpc, is_notification}
 use Rattle.sal_schema.specs.Table.{all_from, is_kind, is_same, parent_of}
 use Rattle.sal_schema.specs.Valid.{IsTable, is_identifier, agree, all_differ, is_empty, is_width, lie_in_bits, are_named, has_its_type, has_numbers, has_its_uniques, stands_right, is_good_identity}
 use Rattle.sal_build.specs.Build.{build}
+use Rattle.sal_tables.specs.Readable.{are_readable}
 
 -- What is read from a text of fewer than 2 ^ 32 bytes stands in its order: each statement before those in its block, and these before the next one.
 abbrev pub ReadIsInOrder : Type 0
@@ -113,6 +114,15 @@ is_placed layer = true
 -- Enumerations and bits have distinct names, and as many distinct places.
 abbrev pub NamesArePlaced : Type 0
 NamesArePlaced = (stmts : List Stmt) (table : SchemaTable) → build stmts ≡ Ok table → IsTrue (list_all (λ ty. of_each is_placed (out-YangType ty)) table.types)
+
+-- a union has a member
+abbrev pub has_members : YangType-F YangType → Truth
+has_members (YangType-F.Union members) = not (is_empty members)
+has_members layer = true
+
+-- Where the statements are as they are read from texts, unions have members.
+abbrev pub UnionsHaveMembers : Type 0
+UnionsHaveMembers = (stmts : List Stmt) (table : SchemaTable) → IsTrue (are_readable stmts) → build stmts ≡ Ok table → IsTrue (list_all (λ ty. has_members (out-YangType ty)) table.types)
 
 -- Where the statements of each module stand in the order of its text, below each parent, looked for through choices and cases, each name stands for one node for data.
 abbrev pub DataNamesDiffer : Type 0

@@ -1,7 +1,7 @@
 //! Laws of the definitions: the table that modules have is one of a schema. A call does nothing: its clause is the law.
 ghost use Rattle.std.specs.Prelude.{◌≡◌, true, false, codes, [], ◌∷◌};
 ghost use Rattle.sal_restrict.specs.declared.yang_type.YangType.TheOpen.{YangType-F};
-ghost use Rattle.sal_tables.specs.Laws.{is_bounded, is_finished, is_placed, CallNamesDiffer, CallsStandAtTheTop, DataNamesDiffer, IdentitiesAreGood, IdentityNamesDiffer, KeysAreInside, KeysAreThere, LeafsAreTyped, ModuleNamesDiffer, ModulesAreNamed, NamesArePlaced, NodesAreNamed, NodesStandRight, NumbersAreThere, ReadIsInOrder, TablesAreSmall, TablesAreTables, TypesAreBounded, TypesAreFlat, UniquesAreBelow};
+ghost use Rattle.sal_tables.specs.Laws.{is_bounded, is_finished, is_placed, CallNamesDiffer, CallsStandAtTheTop, DataNamesDiffer, IdentitiesAreGood, IdentityNamesDiffer, KeysAreInside, KeysAreThere, LeafsAreTyped, ModuleNamesDiffer, ModulesAreNamed, NamesArePlaced, NodesAreNamed, NodesStandRight, NumbersAreThere, ReadIsInOrder, TablesAreSmall, TablesAreTables, TypesAreBounded, TypesAreFlat, UnionsHaveMembers, UniquesAreBelow};
 
 /// The statements of a text of fewer than 2 ^ 32 bytes stand in its order: each before those in its block, and these before the next one.
 pub fn what_is_read_is_in_order()
@@ -77,6 +77,11 @@ pub fn types_are_bounded()
 /// The names of an enumeration or of bits are distinct, and so are as many places; those of bits lie below 64.
 pub fn names_are_placed()
     ensures { NamesArePlaced }
+{}
+
+/// Where the statements are as they are read from texts, unions have members.
+pub fn unions_have_members()
+    ensures { UnionsHaveMembers }
 {}
 
 /// Where the statements of each module stand in the order of its text, each name stands for one node for data below each parent, looked for through

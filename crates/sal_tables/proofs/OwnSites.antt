@@ -138,7 +138,7 @@ pub record HasSite (stmts : List Stmt) (row : TreeRow) : Type 0 where
   pub site : Site
   pub found : site_at stmts row.module row.at ≡ Some site
   pub read : IsReadSite stmts site
-  pub open : IsTrue (is_read site.stmt)
+  pub opened : IsTrue (is_read site.stmt)
 
 abbrev pub HaveSites : List Stmt → List TreeRow → Type 0
 HaveSites stmts rows = (k : ℕ) (row : TreeRow) → slice_get rows k ≡ Some row → HasSite stmts row
@@ -168,7 +168,7 @@ module _ (stmts : List Stmt) (shallow : IsTrue (list_all (is_shallow 64) stmts))
         site = site;
         found = finds (place_of site) site (way-any levels site);
         read = read;
-        open = part-read site.stmt keyword e;
+        opened = part-read site.stmt keyword e;
       })
 
   fold-sites : (levels : ℕ) (site : Site) (around : Option ℕ)
@@ -193,10 +193,10 @@ module _ (stmts : List Stmt) (shallow : IsTrue (list_all (is_shallow 64) stmts))
       → HaveSites stmts (if is_none p then rows else fold (λ below sub. with_rows levels site.module (Some (length rows)) below sub) (with_row site.module around rows site.stmt p) (subs_of site.stmt))) [
         | None ↦ λ e. have
         | Some keyword ↦ λ e.
-            let open = part-read site.stmt keyword e in
+            let opened = part-read site.stmt keyword e in
             let apart : Differ ((out-Stmt site.stmt).at ∷ flat_map (places levels) (subs_of site.stmt)) = subst Differ (places-suc levels site.stmt) differ in
             fold-sites levels site (Some (length rows)) (λ front sub inner own found. more-sites levels (Some (length rows)) front (within site sub) inner own found)
-            (with_row site.module around rows site.stmt (Some keyword)) (subs_of site.stmt) (λ sub i. inner-read stmts shallow site sub read open i)
+            (with_row site.module around rows site.stmt (Some keyword)) (subs_of site.stmt) (λ sub i. inner-read stmts shallow site sub read opened i)
             (differ-rest (out-Stmt site.stmt).at (flat_map (places levels) (subs_of site.stmt)) apart) (λ at s found. finds at s (way-inside levels at site s differ found))
             (row-site (suc levels) around rows site (Some keyword) e read finds have)
       ] refl

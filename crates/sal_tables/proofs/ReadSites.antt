@@ -66,13 +66,13 @@ pub record IsReadSite (stmts : List Stmt) (site : Site) : Type 0 where
   pub levels : ℕ
   pub at : IsAt stmts levels site.module site.stmt site.around
 
+none-left : {X : Type 0} (xs : List X) → IsTrue (is_empty xs) → xs ≡ []
+none-left [] e = refl
+none-left (x ∷ xs) e = let more : (length (x ∷ xs) == 0) ≡ false = grind (arith, nat_tests) in absurd (let no : true ≡ false = sym e ∙ more in cc)
+
 shallow-none : (stmt : Stmt) → IsTrue (is_shallow 0 stmt) → subs_of stmt ≡ []
 unfolding is_shallow
-shallow-none stmt h = none (subs_of stmt) h
-  where
-    none : {X : Type 0} (xs : List X) → IsTrue (is_empty xs) → xs ≡ []
-    none [] e = refl
-    none (x ∷ xs) e = cc
+shallow-none stmt h = none-left (subs_of stmt) h
 
 shallow-more : (levels : ℕ) (stmt : Stmt) → IsTrue (is_shallow (suc levels) stmt) → IsTrue (list_all (is_shallow levels) (subs_of stmt))
 unfolding is_shallow
@@ -105,15 +105,15 @@ module _ (stmts : List Stmt) (shallow : IsTrue (list_all (is_shallow 64) stmts))
   shallow-at levels m stmt (block ∷ outer) at = all-in (is_shallow levels) (subs_of block) stmt (shallow-more levels block (shallow-at (suc levels) m block outer at.2)) at.0
 
   inner-at : (levels : ℕ) (site : Site) (sub : Stmt) → IsAt stmts levels site.module site.stmt site.around → IsTrue (is_read site.stmt) → In sub (subs_of site.stmt) → IsReadSite stmts (within site sub)
-  inner-at zero site sub at open inside =
+  inner-at zero site sub at opened inside =
       let none = shallow-none site.stmt (shallow-at 0 site.module site.stmt site.around at) in
       let no : In sub [] = subst (λ (xs : List Stmt). In sub xs) none inside in
       absurd no
-  inner-at (suc levels) site sub at open inside = record { levels = levels; at = (inside, open, at) }
+  inner-at (suc levels) site sub at opened inside = record { levels = levels; at = (inside, opened, at) }
 
   -- what stands in a statement that means something
   pub inner-read : (site : Site) (sub : Stmt) → IsReadSite stmts site → IsTrue (is_read site.stmt) → In sub (subs_of site.stmt) → IsReadSite stmts (within site sub)
-  inner-read site sub read open inside = inner-at read.levels site sub read.at open inside
+  inner-read site sub read opened inside = inner-at read.levels site sub read.at opened inside
 
   found-typedef : (m : ℕ) (name : List ℕ) (blocks : List Stmt) (typedef : Site) → AreBlocks stmts m blocks → closest m name blocks ≡ Some typedef → IsTypedef stmts typedef
   found-typedef m name [] typedef are e = cc
@@ -121,9 +121,10 @@ module _ (stmts : List Stmt) (shallow : IsTrue (list_all (is_shallow 64) stmts))
       let first = find (is_typedef_of name) (subs_of block) in
       elim first as (λ f. first ≡ f → (if is_some f then option_map (λ stmt. record { «module» = m; stmt = stmt; around = block ∷ outer }) f else closest m name outer) ≡ Some typedef → IsTypedef stmts typedef) [
         | None ↦ λ at e. found-typedef m name outer typedef are.2 e
-        | Some stmt ↦ λ at e.
+        | Some stmt ↦ λ at made_so.
             let here = found-in (is_typedef_of name) (subs_of block) stmt at in
             let made : Site = record { «module» = m; stmt = stmt; around = block ∷ outer } in
+            let same_site : Some made ≡ Some typedef = made_so in
             let is : made ≡ typedef = cc in
             subst (IsTypedef stmts) is (record {
               read = inner-read (record { «module» = m; stmt = block; around = outer }) stmt are.1 are.0 here.0;
@@ -169,14 +170,15 @@ module _ (stmts : List Stmt) (shallow : IsTrue (list_all (is_shallow 64) stmts))
 
 types-here : (levels : ℕ) (site : Site) → IsTrue (is_read site.stmt) → is_named word.Type site.stmt ≡ true → In site (types_in levels site)
 unfolding types_in
-types-here zero site open named = rw (open, named) (inl refl)
-types-here (suc levels) site open named = rw (open, named) (inl refl)
+types-here zero site opened named = let read : is_read site.stmt ≡ true = opened in rw (read, named) (inl refl)
+types-here (suc levels) site opened named = let read : is_read site.stmt ≡ true = opened in rw (read, named) (inl refl)
 
 types-inside : (levels : ℕ) (site : Site) (sub : Stmt) (x : Site) → IsTrue (is_read site.stmt) → In sub (subs_of site.stmt) → In x (types_in levels (within site sub)) → In x (types_in (suc levels) site)
 unfolding types_in
-types-inside levels site sub x open inside i =
+types-inside levels site sub x opened inside i =
     let all = λ (sub : Stmt). types_in levels (within site sub) in
-    rw open (In-back x (type_here site) (flat_map all (subs_of site.stmt)) (In-flat all (subs_of site.stmt) sub x inside i))
+    let read : is_read site.stmt ≡ true = opened in
+    rw read (In-back x (type_here site) (flat_map all (subs_of site.stmt)) (In-flat all (subs_of site.stmt) sub x inside i))
 
 types-at : (stmts : List Stmt) (levels m : ℕ) (stmt : Stmt) (around : List Stmt) → IsAt stmts levels m stmt around → (x : Site) → In x (types_in levels (record { «module» = m; stmt = stmt; around = around })) → In x (types_of stmts)
 types-at stmts levels m stmt [] at x i =

@@ -8,15 +8,15 @@ use Rattle.std.proofs.lemmas.Bool.Decides.{nat_tests}
 use Rattle.sal_stmt.specs.declared.stmt.Stmt.{Stmt, out-Stmt}
 use Rattle.sal_module.specs.declared.keyword.Keyword.TheVariants as word
 use Rattle.sal_module.specs.Keywords.{same}
-use Rattle.sal_module.specs.Profile.{profile_faults}
+use Rattle.sal_module.specs.declared.fault.Cause.TheVariants.{UnknownName}
+use Rattle.sal_module.specs.Profile.{profile_faults, at_stmt}
 use Rattle.sal_module.specs.Statements.{is_named, subs_of, all_named}
 use Rattle.sal_typedefs.specs.Names.{name_of, is_builtin, target, types_in, rests_on, under, steps_of, is_of, typedef_around, goes_in_circle, unknown_faults, cycle_faults, base_faults, path_faults}
 use Rattle.sal_typedefs.specs.Names as names
-use Rattle.sal_typedefs.specs.Scopes.{Site, within, place_of, is_same}
+use Rattle.sal_typedefs.specs.Scopes.{Site, within, place_of, is_same, typedef_of}
 use Rattle.sal_typedefs.proofs.Pigeonhole.{pigeonhole}
-use Rattle.sal_build.specs.Types.{is_read, types_of, faults_at}
+use Rattle.sal_build.specs.Types.{is_read, types_of}
 use Rattle.sal_build.specs.Types as types
-use Rattle.sal_build.specs.declared.types.Asked.TheVariants as asked
 use Rattle.sal_tables.specs.Readable.{is_shallow}
 use Rattle.sal_tables.proofs.Members.{In, In-flat, IsNumbered, numbered, any-in, quiet-in, first-kept}
 use Rattle.sal_tables.proofs.Quiet.{both, front-nil}
@@ -88,6 +88,10 @@ module _ (stmts : List Stmt) where
   walk-under (suc n) (suc k) site e goes =
       inr (In-flat (under n stmts) (rests_on stmts site) (next stmts site) (walk stmts k (next stmts site)) (first-in site (rests_on stmts site) goes.0) (walk-under n k (next stmts site) (omega (arith, e)) goes.1))
 
+first-none : (site : Site) (sites : List Site) → is_some_site sites ≡ false → first_or site sites ≡ site
+first-none site [] e = refl
+first-none site (first ∷ sites) e = absurd (other-wrong e)
+
 -- ---- one step
 
 -- the next is the first type in a statement
@@ -113,7 +117,7 @@ first-across site typedef (sub ∷ kept) e h =
 -- or in the typedef that it names
 pub record GoesAcross (stmts : List Stmt) (site : Site) : Type 0 where
   pub typedef : Site
-  pub names : target stmts site ≡ Some typedef
+  pub means : target stmts site ≡ Some typedef
   pub first : IsFirst (next stmts site) typedef
 
 module _ (stmts : List Stmt) where
@@ -126,13 +130,14 @@ module _ (stmts : List Stmt) where
   goes-across : (site : Site) → is_builtin site ≡ false → moves stmts site ≡ true → GoesAcross stmts site
   goes-across site other e =
       let firsts = λ (typedef : Site). take 1 (types_in typedef) in
-      let some : is_some_site (flat_map firsts (option_to_list (target stmts site))) ≡ true = rw other at e in
-      let there : rests_on stmts site ≡ flat_map firsts (option_to_list (target stmts site)) = rw other refl in
-      elim (target stmts site) as (λ o. target stmts site ≡ o → is_some_site (flat_map firsts (option_to_list o)) ≡ true → rests_on stmts site ≡ flat_map firsts (option_to_list o) → GoesAcross stmts site) [
-        | None ↦ λ at h is. absurd (wrong h)
-        | Some typedef ↦ λ at h is. record {
+      let found = typedef_of stmts site (name_of site) in
+      let some : is_some_site (flat_map firsts (option_to_list found)) ≡ true = rw other at e in
+      let there : rests_on stmts site ≡ flat_map firsts (option_to_list found) = rw other refl in
+      elim found as (λ o. found ≡ o → is_some_site (flat_map firsts (option_to_list o)) ≡ true → rests_on stmts site ≡ flat_map firsts (option_to_list o) → GoesAcross stmts site) [
+        | None ↦ λ here h is. absurd (wrong h)
+        | Some typedef ↦ λ here h is. record {
             typedef = typedef;
-            names = at;
+            means = rw other here;
             first = subst (λ (sites : List Site). IsFirst (first_or site sites) typedef) (sym is) (first-across site typedef (all_named word.Type typedef.stmt) refl h);
           }
       ] refl some there
@@ -141,15 +146,11 @@ module _ (stmts : List Stmt) where
 
 module _ (stmts : List Stmt) (shallow : IsTrue (list_all (is_shallow 64) stmts)) (profile : profile_faults stmts ≡ []) (quiet : types.name_faults stmts ≡ []) where
   first-typed : (site around : Site) → IsReadSite stmts around → IsTrue (is_read around.stmt) → IsFirst site around → IsTyped stmts site
-  first-typed site around read open first =
-      subst (IsTyped stmts) (sym first.is) (record { read = inner-read stmts shallow around first.sub read open first.inside; named = first.named })
+  first-typed site around read opened first =
+      subst (IsTyped stmts) (sym first.is) (record { read = inner-read stmts shallow around first.sub read opened first.inside; named = first.named })
 
   stays : (site : Site) → moves stmts site ≡ false → next stmts site ≡ site
-  stays site e = none (rests_on stmts site) e
-    where
-      none : {s : Site} (sites : List Site) → is_some_site sites ≡ false → first_or s sites ≡ s
-      none [] h = refl
-      none (x ∷ sites) h = absurd (other-wrong h)
+  stays site e = first-none site (rests_on stmts site) e
 
   typed-next : (site : Site) → IsTyped stmts site → IsTyped stmts (next stmts site)
   typed-next site typed = elim (cases_Bool (moves stmts site)) [
@@ -157,7 +158,7 @@ module _ (stmts : List Stmt) (shallow : IsTrue (list_all (is_shallow 64) stmts))
       | inl t ↦ first-typed (next stmts site) site typed.read (type-read site.stmt typed.named) (goes-down stmts site t some)
       | inr f ↦
           (let across = goes-across stmts site f some in
-          let typedef = target-read stmts shallow profile site across.typedef typed.read across.names in
+          let typedef = target-read stmts shallow profile site across.typedef typed.read across.means in
           first-typed (next stmts site) across.typedef typedef.read (typedef-read across.typedef.stmt typedef.named) across.first)
     ]
     | inr none ↦ subst (IsTyped stmts) (sym (stays site none)) typed
@@ -170,7 +171,7 @@ module _ (stmts : List Stmt) (shallow : IsTrue (list_all (is_shallow 64) stmts))
   -- ---- names without faults
 
   named-well : (site : Site) → IsTyped stmts site → names.name_faults (steps_of stmts) stmts site ≡ []
-  named-well site typed = quiet-in (faults_at asked.Names stmts) (types_of stmts) site quiet (typed-in stmts site typed)
+  named-well site typed = quiet-in (λ (s : Site). names.name_faults (steps_of stmts) stmts s) (types_of stmts) site quiet (typed-in stmts site typed)
 
   known : (site : Site) → IsTyped stmts site → is_builtin site ≡ false → is_some (target stmts site) ≡ true
   known site typed other =
@@ -178,10 +179,9 @@ module _ (stmts : List Stmt) (shallow : IsTrue (list_all (is_shallow 64) stmts))
       let (front, paths) = front-nil (unknown_faults stmts site ++ cycle_faults steps stmts site ++ base_faults stmts site) (path_faults stmts site) (named-well site typed) in
       let (fronts, bases) = front-nil (unknown_faults stmts site ++ cycle_faults steps stmts site) (base_faults stmts site) front in
       let (unknown, cycles) = front-nil (unknown_faults stmts site) (cycle_faults steps stmts site) fronts in
-      elim (target stmts site) as (λ o. target stmts site ≡ o → is_some o ≡ true) [
-        | None ↦ λ at. (let no = rw (other, at) at unknown in cc)
-        | Some typedef ↦ λ at. refl
-      ] refl
+      let found = typedef_of stmts site (name_of site) in
+      let none_unknown : (if is_none found then at_stmt UnknownName site.module site.stmt else []) ≡ [] = rw other at unknown in
+      rw other (elim found as (λ o. (if is_none o then at_stmt UnknownName site.module site.stmt else []) ≡ [] → is_some o ≡ true) [ None ↦ λ no. cc | Some typedef ↦ λ yes. refl ] none_unknown)
 
   no-circle : (site : Site) → IsTyped stmts site → goes_in_circle (steps_of stmts) stmts site ≡ true → ⊥
   no-circle site typed circle =
@@ -214,12 +214,9 @@ module _ (stmts : List Stmt) (shallow : IsTrue (list_all (is_shallow 64) stmts))
 
     meets : (q : ℕ) (t : Site) → q ≤ steps_of stmts → IsTyped stmts t → typedef_around t ≡ Some typedef.stmt → t.module ≡ typedef.module → Goes stmts q t → walk stmts q t ≡ site → ⊥
     meets zero t few typed around modules goes back = elim (cases_Bool (is_builtin t)) [
-      | inl b ↦ (let mine : target stmts t ≡ Some typedef = ap (target stmts) back ∙ names_it in let no = rw b at mine in absurd (nothing no))
+      | inl b ↦ (let mine : target stmts t ≡ Some typedef = ap (target stmts) back ∙ names_it in let no = rw b at mine in cc)
       | inr f ↦ comes-back 0 t few typed f around modules goes back
     ]
-      where
-        nothing : ◌≡◌ {A = Option Site} None (Some typedef) → ⊥
-        nothing e = cc
     meets (suc q) t few typed around modules goes back = elim (cases_Bool (is_builtin t)) [
       | inl b ↦
           (let down = goes-down stmts t b goes.0 in
@@ -234,7 +231,7 @@ module _ (stmts : List Stmt) (shallow : IsTrue (list_all (is_shallow 64) stmts))
   -- Downwards alone a way does not come back; and where it goes across, the typedef rests on itself.
   turns : (site : Site) (p q : ℕ) (t : Site) → suc p ≤ steps_of stmts → IsTyped stmts t → Goes stmts (suc p) t → walk stmts (suc p) t ≡ t → walk stmts q t ≡ site
       → q + length t.around ≡ suc p + length site.around → ⊥
-  turns site p zero t few typed goes round back deep = omega (arith, deep, ap (λ (s : Site). length s.around) back)
+  turns site p zero t few typed goes round back deep = let same_depth : length t.around ≡ length site.around = ap (λ (s : Site). length s.around) back in omega (arith, deep, same_depth)
   turns site p (suc q) t few typed goes round back deep = elim (cases_Bool (is_builtin t)) [
     | inl b ↦
         (let down = goes-down stmts t b goes.0 in
@@ -243,11 +240,11 @@ module _ (stmts : List Stmt) (shallow : IsTrue (list_all (is_shallow 64) stmts))
         turns site p q (next stmts t) few (typed-next t typed) (goes-last stmts p (next stmts t) goes.1 last) (walk-next stmts (suc p) t ∙ ap (next stmts) round) back (omega (arith, deep, longer)))
     | inr f ↦
         (let across = goes-across stmts t f goes.0 in
-        let typedef = target-read stmts shallow profile t across.typedef typed.read across.names in
+        let typedef = target-read stmts shallow profile t across.typedef typed.read across.means in
         let inside : typedef_around (within across.typedef across.first.sub) ≡ Some across.typedef.stmt = rw typedef.named refl in
         let around : typedef_around (next stmts t) ≡ Some across.typedef.stmt = ap typedef_around across.first.is ∙ inside in
         let kept : (next stmts t).module ≡ across.typedef.module = ap (λ (s : Site). s.module) across.first.is in
-        meets t across.typedef across.names p (next stmts t) (omega (arith, few)) (typed-next t typed) around kept goes.1 round)
+        meets t across.typedef across.means p (next stmts t) (omega (arith, few)) (typed-next t typed) around kept goes.1 round)
   ]
 
   -- ---- no way is longer

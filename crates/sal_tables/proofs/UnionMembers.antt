@@ -1,9 +1,10 @@
 -- Unions have members: a type statement says so, a way of them ends before the steps do, and targets have types of the same kind.
-use Rattle.std.proofs.Common.{◌≡◌, ℕ, zero, suc, ◌+◌, Bool, true, false, not, ◌&&◌, ◌||◌, IsTrue, List, [], ◌∷◌, ◌++◌, filter, map, drop, length, Option, Some, None, refl, sym, ap, subst, ◌∙◌, inl, inr}
+use Rattle.std.proofs.Common.{◌≡◌, ℕ, zero, suc, ◌+◌, Bool, true, false, not, ◌&&◌, ◌||◌, ◌==◌, IsTrue, List, [], ◌∷◌, ◌++◌, filter, map, drop, length, Option, Some, None, refl, sym, ap, subst, ◌∙◌, inl, inr, arith}
 use Rattle.std.specs.Prelude.{⊤, ◌^◌, nat_lt, option_map, option_and_then, is_some, find, unwrap_or, if◌then◌else◌, codes}
 use Rattle.std.specs.List.{list_all, list_any, flat_map, enumerate_from, slice_get}
 use Rattle.std.specs.Option.{option_to_list}
 use Rattle.std.proofs.lemmas.Bool.{cases_Bool}
+use Rattle.std.proofs.lemmas.Bool.Decides.{nat_tests}
 use Rattle.sal_stmt.specs.declared.stmt.Stmt.{Stmt}
 use Rattle.sal_module.specs.declared.keyword.Keyword.{Keyword}
 use Rattle.sal_module.specs.declared.keyword.Keyword.TheVariants as word
@@ -17,9 +18,7 @@ use Rattle.sal_typedefs.specs.Builtins.{Name, names, builtin_of, builtin_among, 
 use Rattle.sal_typedefs.specs.Names.{name_of, is_builtin, types_in, rests_on, steps_of}
 use Rattle.sal_typedefs.specs.Restrictions.{Base, Layer, is_decimal, digits_of, with_digits, layer_of, absent_faults, restriction_faults}
 use Rattle.sal_typedefs.specs.Scopes.{Site, within, site_at}
-use Rattle.sal_typedefs.specs.declared.entry.Entry.{Entry}
-use Rattle.sal_typedefs.specs.declared.entry.Numbering.TheVariants.{Enums, Bits}
-use Rattle.sal_typedefs.specs.Types.{members_of, entries_in, takes_all, restricted, Judged, nothing, is_faulty, base_of, judged, judge, judge_last, judgement}
+use Rattle.sal_typedefs.specs.Types.{members_of, entries_in, restricted, Judged, nothing, is_faulty, base_of, judged, judge, judge_last, judgement}
 use Rattle.sal_grouping.specs.declared.forest.Branch.{Branch}
 use Rattle.sal_grouping.proofs.Parts.{TreeNode, TreeRow}
 use Rattle.sal_grouping.specs.Expand.{branch_of, source_of, place_of}
@@ -41,6 +40,7 @@ use Rattle.sal_build.proofs.Fillings.{type-zero, type-suc}
 use Rattle.sal_build.proofs.LeafWord.{same-text}
 use Rattle.sal_tables.specs.Laws.{UnionsHaveMembers, has_members}
 use Rattle.sal_tables.specs.Readable.{is_shallow, has_own_places, is_readable, are_readable}
+use Rattle.sal_tables.proofs.Entries.{TypeEntry}
 use Rattle.sal_tables.proofs.Built.{built_ok, forest_of, nodes_of}
 use Rattle.sal_tables.proofs.Grown.{built-good}
 use Rattle.sal_tables.proofs.Members.{found-in}
@@ -63,7 +63,7 @@ other-wrong e = cc
 
 none-left : {X : Type 0} (xs : List X) → not (is_empty xs) ≡ false → xs ≡ []
 none-left [] e = refl
-none-left (x ∷ xs) e = cc
+none-left (x ∷ xs) e = let more : (length (x ∷ xs) == 0) ≡ false = grind (arith, nat_tests) in let no : true ≡ false = rw more at e in absurd (other-wrong no)
 
 rolled : (layer : Layer) → IsTrue (has_members layer) → IsTrue (has_some (roll-YangType layer))
 rolled layer h = rw out-roll-YangType h
@@ -96,14 +96,14 @@ members-none t (YangType-F.Leafref path) e = cc
 
 -- what makes a union without members
 record IsBare (base : Base) (below : List YangType) (layer : Layer) : Type 0 where
-  union : is_union layer ≡ true
+  is_one : is_union layer ≡ true
   inside : base.itself ≡ true → all_members below ≡ []
   derived : base.itself ≡ false → has_members layer ≡ false
 
-restricted-bare : (modules : List Stmt) (m : ℕ) (base : Base) (stmt : Stmt) (below : List YangType) (entries : List Entry) (layer : Layer)
+restricted-bare : (modules : List Stmt) (m : ℕ) (base : Base) (stmt : Stmt) (below : List YangType) (entries : List TypeEntry) (layer : Layer)
     → has_members (restricted modules m base stmt below entries layer) ≡ false → IsBare base below layer
 restricted-bare modules m base stmt below entries (YangType-F.Union members) e = record {
-  union = refl;
+  is_one = refl;
   inside = λ t. none-left (all_members below) (rw t at e);
   derived = λ f. rw f at e;
 }
@@ -111,8 +111,8 @@ restricted-bare modules m base stmt below entries (YangType-F.Int bits signed ra
 restricted-bare modules m base stmt below entries (YangType-F.Dec digits range) e = absurd (other-wrong e)
 restricted-bare modules m base stmt below entries (YangType-F.Text length patterns) e = absurd (other-wrong e)
 restricted-bare modules m base stmt below entries YangType-F.Bool e = absurd (other-wrong e)
-restricted-bare modules m base stmt below entries (YangType-F.Enum names places) e = elim (cases_Bool (takes_all Enums base stmt)) [ inl t ↦ absurd (other-wrong (rw t at e)) | inr f ↦ absurd (other-wrong (rw f at e)) ]
-restricted-bare modules m base stmt below entries (YangType-F.Bits names positions) e = elim (cases_Bool (takes_all Bits base stmt)) [ inl t ↦ absurd (other-wrong (rw t at e)) | inr f ↦ absurd (other-wrong (rw f at e)) ]
+restricted-bare modules m base stmt below entries (YangType-F.Enum names places) e = elim (cases_Bool (not base.itself && not (list_any (is_named word.Enum) (subs_of stmt)))) [ inl t ↦ absurd (other-wrong (rw t at e)) | inr f ↦ absurd (other-wrong (rw f at e)) ]
+restricted-bare modules m base stmt below entries (YangType-F.Bits names positions) e = elim (cases_Bool (not base.itself && not (list_any (is_named word.Bit) (subs_of stmt)))) [ inl t ↦ absurd (other-wrong (rw t at e)) | inr f ↦ absurd (other-wrong (rw f at e)) ]
 restricted-bare modules m base stmt below entries (YangType-F.Bin length) e = absurd (other-wrong e)
 restricted-bare modules m base stmt below entries (YangType-F.Ident bases) e = absurd (other-wrong e)
 restricted-bare modules m base stmt below entries YangType-F.Empty e = absurd (other-wrong e)
@@ -159,11 +159,11 @@ union-text : (n : Name) (text : List ℕ) → IsTrue (is_union_name n) → is_un
 union-text n text good union here = let named : same n.0 (codes "union") ≡ true = rw union at good in ap (λ t. same t (codes "union")) (sym (same-text n.0 text here)) ∙ named
 
 union-among : (all : List Name) (text : List ℕ) → IsTrue (list_all is_union_name all) → is_union (out-YangType (unwrap_or (option_map type_of (builtin_among all text)) nothing.type)) ≡ true → same text (codes "union") ≡ true
-union-among [] text good e = let no : false ≡ true = rw out-roll-YangType at e in absurd (wrong no)
+union-among [] text good e = let none : is_union (out-YangType nothing.type) ≡ false = ap is_union (out-roll-YangType YangType-F.Empty) in absurd (wrong (sym none ∙ e))
 union-among (n ∷ all) text good e = elim (cases_Bool (same n.0 text)) [
   | inl t ↦
       (let here : is_union (out-YangType (type_of n.1)) ≡ true = rw t at e in
-      let union : is_union (bare n.1) ≡ true = rw out-roll-YangType at here in
+      let union : is_union (bare n.1) ≡ true = sym (ap is_union (out-roll-YangType (bare n.1))) ∙ here in
       union-text n text (and_first (is_union_name n) (list_all is_union_name all) good) union t)
   | inr f ↦ union-among all text (and_second (is_union_name n) (list_all is_union_name all) good) (rw f at e)
 ]
@@ -208,9 +208,10 @@ module _ (modules : List Stmt) where
       let layer = layer_of base site.stmt in
       let inner = map (λ (j : Judged). j.type) below in
       let (under, own) = judged-quiet modules site base below quiet in
-      let bare : has_members (restricted modules site.module base site.stmt inner (entries_in base site.stmt layer) layer) ≡ false = rw out-roll-YangType at e in
-      let made = restricted-bare modules site.module base site.stmt inner (entries_in base site.stmt layer) layer bare in
-      let union : is_union (out-YangType base.type) ≡ true = sym (layer-union base site.stmt) ∙ made.union in
+      let meant = restricted modules site.module base site.stmt inner (entries_in base site.stmt layer) layer in
+      let none_left : has_members meant ≡ false = sym (ap has_members (out-roll-YangType meant)) ∙ e in
+      let made = restricted-bare modules site.module base site.stmt inner (entries_in base site.stmt layer) layer none_left in
+      let union : is_union (out-YangType base.type) ≡ true = sym (layer-union base site.stmt) ∙ made.is_one in
       elim (cases_Bool (is_builtin site)) [
         | inl t ↦
             (let itself : base.itself ≡ true = rw t refl in
@@ -250,18 +251,21 @@ at-has (t ∷ types) (suc k) h = at-has types k (and_second (has_some t) (list_a
 abbrev is_more : List YangType → Bool
 is_more xs = not (is_empty xs)
 
+more-one : (x : YangType) (xs : List YangType) → IsTrue (is_more (x ∷ xs))
+more-one x xs = let more : (length (x ∷ xs) == 0) ≡ false = grind (arith, nat_tests) in rw more refl
+
 more-front : (xs ys : List YangType) → IsTrue (is_more xs) → IsTrue (is_more (xs ++ ys))
 more-front [] ys h = absurd (wrong h)
-more-front (x ∷ xs) ys h = refl
+more-front (x ∷ xs) ys h = more-one x (xs ++ ys)
 
 members-more : (t : YangType) (layer : Layer) → IsTrue (has_members layer) → IsTrue (is_more (members_of t layer))
 members-more t (YangType-F.Union members) h = h
-members-more t layer h = refl
+members-more t layer h = more-one t []
 
 member-filled : (member : YangType) (types : List YangType) → IsTrue (list_all has_some types) → IsTrue (is_more (filled_member member types))
 member-filled member types all = elim (cases_Bool (is_reference (out-YangType member))) [
   | inl t ↦ rw t (members-more (type_at types 0) (out-YangType (type_at types 0)) (at-has types 0 all))
-  | inr f ↦ rw f refl
+  | inr f ↦ rw f (more-one member [])
 ]
 
 members-filled : (members types : List YangType) → IsTrue (is_more members) → IsTrue (list_all has_some types) → IsTrue (is_more (filled_members members types))
@@ -295,11 +299,11 @@ module _ (stmts : List Stmt) (shallow : IsTrue (list_all (is_shallow 64) stmts))
   has_own k node = has_some (stated_type stmts (leafrefs.type_of stmts (branch_of (rows_of stmts) node)))
 
   inside-has : (site : Site) → IsTrue (types.is_read site.stmt) → IsReadSite stmts site → IsTrue (has_some (stated_type stmts (type_in site)))
-  inside-has site open read = elim (find (is_named word.Type) (subs_of site.stmt)) as (λ f. find (is_named word.Type) (subs_of site.stmt) ≡ f → IsTrue (has_some (stated_type stmts (option_map (within site) f)))) [
+  inside-has site opened read = elim (find (is_named word.Type) (subs_of site.stmt)) as (λ f. find (is_named word.Type) (subs_of site.stmt) ≡ f → IsTrue (has_some (stated_type stmts (option_map (within site) f)))) [
     | None ↦ λ e. empty-has
     | Some sub ↦ λ e.
         let here = found-in (is_named word.Type) (subs_of site.stmt) sub e in
-        sound (within site sub) (record { read = inner-read stmts shallow site sub read open here.0; named = here.1 })
+        sound (within site sub) (record { read = inner-read stmts shallow site sub read opened here.0; named = here.1 })
   ] refl
 
   row-has : (kind : Bool) (k : ℕ) (side : Option Implied) (row : Option TreeRow) → slice_get (rows_of stmts) k ≡ row → IsTrue (is_seed side (option_map (λ (row : TreeRow). row.keyword) row))
@@ -308,7 +312,7 @@ module _ (stmts : List Stmt) (shallow : IsTrue (list_all (is_shallow 64) stmts))
   row-has true k side None e fit = absurd (wrong (sym (none-fits side) ∙ fit))
   row-has true k side (Some row) e fit =
       let own = sites k row e in
-      subst (λ (o : Option Site). IsTrue (has_some (stated_type stmts (option_and_then type_in o)))) (sym own.found) (inside-has own.site own.open own.read)
+      subst (λ (o : Option Site). IsTrue (has_some (stated_type stmts (option_and_then type_in o)))) (sym own.found) (inside-has own.site own.opened own.read)
 
   nodes-have : IsTrue (all_from has_own 0 (nodes_of stmts))
   nodes-have =

@@ -87,7 +87,7 @@ module _ (modules : List Stmt) where
       ] in
       both (of_each (stated (is_bounded count)) (restricted modules m base stmt below (entries_in base stmt layer) layer)) true (restricted-bounded m base stmt below layer layer good all) refl
 
-infos-length : (edges : List (List ℕ)) (i : ℕ) (some : List Identity) → length some ≡ length (infos_from edges i some)
+pub infos-length : (edges : List (List ℕ)) (i : ℕ) (some : List Identity) → length some ≡ length (infos_from edges i some)
 infos-length edges i [] = refl
 infos-length edges i (one ∷ some) = ap (λ n. suc n) (infos-length edges (i + 1) some)
 

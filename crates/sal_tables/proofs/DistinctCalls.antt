@@ -1,5 +1,5 @@
 -- Each name of a module stands for one RPC and for one notification: they stand at the top, where the tree's pass compares their names.
-use Rattle.std.proofs.Common.{◌≡◌, ℕ, ◌+◌, ◌^◌, ◌<◌, Bool, true, false, not, ◌&&◌, IsTrue, List, [], ◌∷◌, map, take, length, Option, Some, None, refl, sym, ap, ◌∙◌, subst, inl, inr, arith}
+use Rattle.std.proofs.Common.{◌≡◌, ℕ, ◌+◌, ◌<◌, Bool, true, false, not, ◌&&◌, IsTrue, List, [], ◌∷◌, map, take, length, Option, Some, None, refl, sym, ap, ◌∙◌, subst, inl, inr, arith}
 use Rattle.std.specs.Prelude.{◌||◌, option_map, unwrap_or, is_none, if◌then◌else◌}
 use Rattle.std.specs.List.{list_all, list_any, slice_get}
 use Rattle.std.proofs.lemmas.Bool.{cases_Bool}
@@ -267,9 +267,9 @@ module _ (kind : Kind) (keyword : Keyword) (calls : IsKindOfCalls kind keyword) 
         subst (λ (list : List Named). IsTrue (are_distinct list)) (sym same) names
 
 pub call_names_differ : CallNamesDiffer
-call_names_differ stmts table order e =
+call_names_differ stmts table differ e =
     let built = built_ok stmts table e in
-    let owns = own-rows (2 ^ 32) stmts order built.checked.profile in
+    let owns = own-rows stmts differ built.checked.profile in
     let held = rows-held stmts built.checked.profile in (
       subst (λ (t : SchemaTable). IsTrue (are_distinct (kind_names kinds.Rpc t))) built.is (calls-distinct kinds.Rpc word.Rpc rpcs stmts owns held built.expanded.children),
       subst (λ (t : SchemaTable). IsTrue (are_distinct (kind_names kinds.Notification t))) built.is (calls-distinct kinds.Notification word.Notification notifications stmts owns held built.expanded.children),

@@ -1,6 +1,6 @@
 -- Below each parent, looked for through choices and cases, no two nodes for data have one name: the tree's pass says so of their statements,
 -- and the statement of each is its own.
-use Rattle.std.proofs.Common.{◌≡◌, ℕ, zero, suc, ◌+◌, ◌-◌, ◌^◌, ◌<◌, ◌≤◌, Bool, true, false, not, ◌&&◌, IsTrue, List, [], ◌∷◌, ◌++◌, map, take, length, Option, Some, None, refl, sym, ap, ◌∙◌, subst, inl, inr, arith, append_assoc, length-append}
+use Rattle.std.proofs.Common.{◌≡◌, ℕ, zero, suc, ◌+◌, ◌-◌, ◌<◌, ◌≤◌, Bool, true, false, not, ◌&&◌, IsTrue, List, [], ◌∷◌, ◌++◌, map, take, length, Option, Some, None, refl, sym, ap, ◌∙◌, subst, inl, inr, arith, append_assoc, length-append}
 use Rattle.std.specs.Prelude.{◌||◌, option_map, option_and_then, unwrap_or, is_none, if◌then◌else◌}
 use Rattle.std.specs.List.{list_any, flat_map, slice_get, enumerate_from, position_from}
 use Rattle.std.specs.Option.{option_map_or}
@@ -381,7 +381,7 @@ module _ (stmts : List Stmt) (owns : AreOwn stmts (rows_of stmts)) where
       subst (λ (list : List Named). IsTrue (are_distinct list)) (sym same) names
 
 pub data_names_differ : DataNamesDiffer
-data_names_differ stmts table order e =
+data_names_differ stmts table differ e =
     let built = built_ok stmts table e in
-    let owns = own-rows (2 ^ 32) stmts order built.checked.profile in
+    let owns = own-rows stmts differ built.checked.profile in
     subst (λ (t : SchemaTable). IsTrue (are_distinct (data_names t))) built.is (data-distinct stmts owns built.expanded.children)

@@ -65,7 +65,7 @@ module _ (test : Layer → Bool) (none : IsTrue (test YangType-F.Empty)) where
   empty-closed : IsTrue (is_closed test empty)
   empty-closed = rolled test YangType-F.Empty none
 
-  empty-stated : IsTrue (is_stated test empty)
+  pub empty-stated : IsTrue (is_stated test empty)
   empty-stated = rolled (stated test) YangType-F.Empty none
 
   one-filled : (member : YangType) (types : List YangType) → IsTrue (stated test (out-YangType member)) → IsTrue (list_all (is_closed test) types)
@@ -99,14 +99,16 @@ module _ (test : Layer → Bool) (none : IsTrue (test YangType-F.Empty)) where
 
   -- ---- of all nodes
 
+  pub types-filled : (stmts : List Stmt) (forest : List Branch) → IsTrue (list_all (is_stated test) (own_types stmts forest)) → IsTrue (list_all (is_closed test) (leafrefs.types_of stmts forest))
+  types-filled stmts forest own =
+      let one = λ (entry : ℕ × Branch). node-filled (own_types stmts forest) (edges_of stmts forest) own (length (edges_of stmts forest)) entry.0 in
+      all-flat (is_closed test) (λ (entry : ℕ × Branch). if has_type (kind_of stmts entry.1) then leafrefs.node_type stmts forest entry.0 ∷ [] else []) (λ entry.
+      elim (cases_Bool (has_type (kind_of stmts entry.1))) [ inl t ↦ rw t (both (is_closed test (leafrefs.node_type stmts forest entry.0)) true (one entry) refl) | inr f ↦ rw f refl ]) (enumerate_from 0 forest)
+
   module _ (stmts : List Stmt) (sound : (site : Site) → is_faulty (judgement stmts site) ≡ false → IsTrue (is_stated test (judgement stmts site).type)) where
     stated-passes : (site : Option Site) → IsTrue (is_stated test (stated_type stmts site))
     stated-passes None = empty-stated
     stated-passes (Some site) = elim (cases_Bool (is_faulty (judgement stmts site))) [ inl t ↦ rw t empty-stated | inr f ↦ rw f (sound site f) ]
 
     pub types-closed : (forest : List Branch) → IsTrue (list_all (is_closed test) (leafrefs.types_of stmts forest))
-    types-closed forest =
-        let own = made (λ b. stated_type stmts (leafrefs.type_of stmts b)) (is_stated test) (λ b. stated-passes (leafrefs.type_of stmts b)) forest in
-        let one = λ (entry : ℕ × Branch). node-filled (own_types stmts forest) (edges_of stmts forest) own (length (edges_of stmts forest)) entry.0 in
-        all-flat (is_closed test) (λ (entry : ℕ × Branch). if has_type (kind_of stmts entry.1) then leafrefs.node_type stmts forest entry.0 ∷ [] else []) (λ entry.
-        elim (cases_Bool (has_type (kind_of stmts entry.1))) [ inl t ↦ rw t (both (is_closed test (leafrefs.node_type stmts forest entry.0)) true (one entry) refl) | inr f ↦ rw f refl ]) (enumerate_from 0 forest)
+    types-closed forest = types-filled stmts forest (made (λ b. stated_type stmts (leafrefs.type_of stmts b)) (is_stated test) (λ b. stated-passes (leafrefs.type_of stmts b)) forest)

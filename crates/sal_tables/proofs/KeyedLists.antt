@@ -1,5 +1,5 @@
 -- Just lists have keys, each at least one and none twice: the profile asks for the statement, and its names are judged.
-use Rattle.std.proofs.Common.{◌≡◌, ℕ, ◌+◌, ◌^◌, ◌<◌, Bool, true, false, not, ◌&&◌, ◌==◌, nat_eq, IsTrue, List, [], ◌∷◌, ◌++◌, filter, map, length, Option, Some, None, refl, sym, ap, ◌∙◌, subst, inl, inr, arith, append-nil}
+use Rattle.std.proofs.Common.{◌≡◌, ℕ, ◌+◌, ◌<◌, Bool, true, false, not, ◌&&◌, ◌==◌, nat_eq, IsTrue, List, [], ◌∷◌, ◌++◌, filter, map, length, Option, Some, None, refl, sym, ap, ◌∙◌, subst, inl, inr, arith, append-nil}
 use Rattle.std.specs.Prelude.{◌||◌, option_map, is_some, is_none, if◌then◌else◌}
 use Rattle.std.specs.List.{list_all, list_any, flat_map, enumerate_from, slice_get}
 use Rattle.std.proofs.lemmas.Bool.{cases_Bool}
@@ -223,9 +223,9 @@ infos-keyed stmts forest k (node ∷ nodes) h quiet =
     (node-keys stmts forest k b (and_first (test k node) (all_from test (k + 1) nodes) h) here) (infos-keyed stmts forest (k + 1) nodes (and_second (test k node) (all_from test (k + 1) nodes) h) rest)
 
 pub keys_are_there : KeysAreThere
-keys_are_there stmts table order e =
+keys_are_there stmts table differ e =
     let built = built_ok stmts table e in
-    let owns = own-rows (2 ^ 32) stmts order built.checked.profile in
+    let owns = own-rows stmts differ built.checked.profile in
     let forest = forest_of stmts in
     subst (λ (t : SchemaTable). IsTrue (list_all (λ (node : NodeInfo). agree (is_list node.kind) (not (is_empty node.keys)) && all_differ nat_eq node.keys) t.nodes)) built.is
     (infos-keyed stmts forest 0 (nodes_of stmts) (nodes-keyed stmts owns) built.lists)

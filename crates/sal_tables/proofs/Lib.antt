@@ -12,6 +12,7 @@ pub mod Underived
 pub mod GoodIdentities
 pub mod Uniques
 pub mod DistinctIdentities
+pub mod OwnPlaces
 pub mod OwnStatements
 pub mod NamedNodes
 pub mod KeyedLists
@@ -25,11 +26,6 @@ pub mod BoundedTypes
 pub mod Differing
 pub mod ListedNames
 pub mod PlacedNames
-pub mod Members
-pub mod ReadSites
-pub mod ShortWays
-pub mod OwnSites
-pub mod UnionMembers
 pub mod DistinctNodes
 pub mod HeldRows
 pub mod LoneCalls
@@ -37,5 +33,14 @@ pub mod DistinctCalls
 pub mod TopCalls
 pub mod LinkedNodes
 pub mod RightPlaces
+pub mod CountedIdentities
+pub mod SoundTypes
+pub mod SpelledBits
+pub mod Members
+pub mod ReadSites
+pub mod OwnSites
+pub mod ShortWays
+pub mod UnionMembers
 pub mod WholeTables
 pub mod OrderedTexts
+pub mod ReadableTexts

@@ -58,7 +58,7 @@ chosen-name : (entries : List TypeEntry) (name : List ℕ) (found : Option TypeE
 chosen-name entries name None e = refl
 chosen-name entries name (Some entry) e = same-text entry.name name (found-passes (λ (e : TypeEntry). same e.name name) entries entry e)
 
-entry-name : (n : TypeNumbering) (from : Option (List TypeEntry)) (before : List TypeEntry) (stmt : Stmt) → (entry_of n from before stmt).name ≡ argument_of stmt
+pub entry-name : (n : TypeNumbering) (from : Option (List TypeEntry)) (before : List TypeEntry) (stmt : Stmt) → (entry_of n from before stmt).name ≡ argument_of stmt
 entry-name n None before stmt = refl
 entry-name n (Some entries) before stmt = chosen-name entries (argument_of stmt) (named (argument_of stmt) entries) refl
 

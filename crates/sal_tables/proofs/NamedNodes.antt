@@ -1,5 +1,5 @@
 -- Nodes are named by identifiers: the statement of each is its own, and the profile says so.
-use Rattle.std.proofs.Common.{◌≡◌, ℕ, ◌+◌, ◌^◌, Bool, true, false, IsTrue, List, [], ◌∷◌, map, Option, Some, None, refl, sym, ap, ◌∙◌, subst}
+use Rattle.std.proofs.Common.{◌≡◌, ℕ, ◌+◌, Bool, true, false, IsTrue, List, [], ◌∷◌, map, Option, Some, None, refl, sym, ap, ◌∙◌, subst}
 use Rattle.std.specs.Prelude.{option_map, option_and_then, unwrap_or}
 use Rattle.std.specs.List.{list_all, slice_get}
 use Rattle.sal_stmt.specs.declared.stmt.Stmt.{Stmt, out-Stmt}
@@ -117,7 +117,7 @@ module _ (stmts : List Stmt) (owns : AreOwn stmts (rows_of stmts)) where
       (and_first (is_named_node k node) (all_from is_named_node (k + 1) nodes) h) (infos-named forest (k + 1) nodes (and_second (is_named_node k node) (all_from is_named_node (k + 1) nodes) h))
 
 pub nodes_are_named : NodesAreNamed
-nodes_are_named stmts table order e =
+nodes_are_named stmts table differ e =
     let built = built_ok stmts table e in
-    let owns = own-rows (2 ^ 32) stmts order built.checked.profile in
+    let owns = own-rows stmts differ built.checked.profile in
     subst (λ (t : SchemaTable). IsTrue (list_all (λ (node : NodeInfo). is_identifier node.name) t.nodes)) built.is (infos-named stmts owns (forest_of stmts) 0 (nodes_of stmts) (nodes-named stmts owns))

@@ -24,7 +24,7 @@ separator t rest (Separator.line text _ _ same) = omega (arith, ap length same, 
 separator t rest (Separator.comment text _ same) =
     omega (arith, ap length same, length-append (codes "/*") (text ++ (codes "*/" ++ rest)), length-append text (codes "*/" ++ rest), length-append (codes "*/") rest)
 
-gap : (t rest : Text) → Gap t rest → Shorter rest t
+pub gap : (t rest : Text) → Gap t rest → Shorter rest t
 gap t rest (no_gap _) = omega arith
 gap t rest (wider _ next _ one more) = omega (arith, separator t next one, gap next rest more)
 
@@ -52,7 +52,7 @@ unfolding is_keyword
 named [] is = cc
 named (c ∷ keyword) is = omega arith
 
-head : (whole t : Text) (it : List ℕ × Option (List ℕ)) (rest : Text) → IsHead whole t it rest → length rest < length t
+pub head : (whole t : Text) (it : List ℕ × Option (List ℕ)) (rest : Text) → IsHead whole t it rest → length rest < length t
 head whole t it rest is =
     omega (arith, ap length is.keyword, length-append it.0 is.after, named it.0 is.is_name, has_argument whole is.after it.1 rest is.argument)
 
@@ -61,7 +61,7 @@ head whole t it rest is =
 placed : (at : ℕ) (it : List ℕ × Option (List ℕ)) (subs : List Stmt) → (out-Stmt (made at it subs)).at ≡ at
 placed at it subs = simp out-roll-Stmt
 
-subs_made : (at : ℕ) (it : List ℕ × Option (List ℕ)) (subs : List Stmt) → subs_of (made at it subs) ≡ subs
+pub subs_made : (at : ℕ) (it : List ℕ × Option (List ℕ)) (subs : List Stmt) → subs_of (made at it subs) ≡ subs
 subs_made at it subs = simp (out-roll-Stmt, subs_of)
 
 -- it is shorter behind the statement, which stands where the text begins, and before each place that is not before what follows it

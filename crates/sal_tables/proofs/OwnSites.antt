@@ -1,7 +1,7 @@
 -- Where no two statements of a text have one place, the statement at the place of a row is its own, and stands in blocks that mean something.
 use Rattle.std.proofs.Common.{◌≡◌, ℕ, zero, suc, ◌+◌, Bool, true, false, not, ◌&&◌, ◌==◌, nat_eq, IsTrue, List, [], ◌∷◌, ◌++◌, fold, length, Option, Some, None, refl, sym, ap, subst, ◌∙◌, inl, inr, arith, append_assoc, length-append}
 use Rattle.std.specs.Prelude.{option_and_then, is_some, is_none, if◌then◌else◌}
-use Rattle.std.specs.List.{list_all, list_any, flat_map, enumerate_from, slice_get}
+use Rattle.std.specs.List.{list_all, flat_map, enumerate_from, slice_get}
 use Rattle.std.proofs.lemmas.Bool.{cases_Bool}
 use Rattle.std.proofs.lemmas.Bool.Decides.{nat_tests}
 use Rattle.sal_stmt.specs.declared.stmt.Stmt.{Stmt, out-Stmt}
@@ -16,53 +16,13 @@ use Rattle.sal_schema.proofs.Conjuncts.{and_first, and_second}
 use Rattle.sal_typedefs.specs.Scopes.{Site, within, top, place_of, way_to, site_at}
 use Rattle.sal_build.specs.Types.{is_read}
 use Rattle.sal_tables.specs.Readable.{places, has_own_places, is_shallow}
-use Rattle.sal_tables.proofs.Members.{In, In-front, In-back, any-in}
+use Rattle.sal_tables.proofs.Members.{In}
+use Rattle.sal_tables.proofs.OwnPlaces.{differ-tail, differ-parts, way-any, way-later, way-inside}
 use Rattle.sal_tables.proofs.OwnStatements.{part-is, not-extension, middle-got}
-use Rattle.sal_tables.proofs.Quiet.{both}
 use Rattle.sal_tables.proofs.ReadSites.{IsReadSite, inner-read}
-
-other-wrong : true ≡ false → ⊥
-other-wrong e = cc
-
-denied : (b : Bool) → b ≡ true → IsTrue (not b) → ⊥
-denied true e h = let no : false ≡ true = h in cc
-denied false e h = cc
-
--- ---- places that differ
 
 abbrev Differ : List ℕ → Type 0
 Differ numbers = IsTrue (all_differ nat_eq numbers)
-
-equal : (n m : ℕ) → n ≡ m → nat_eq m n ≡ true
-equal n m e = grind (arith, nat_tests)
-
-fresh-first : (n : ℕ) (rest : List ℕ) → Differ (n ∷ rest) → (m : ℕ) → m ≡ n → In m rest → ⊥
-fresh-first n rest differ m e i =
-    denied (list_any (nat_eq n) rest) (any-in (nat_eq n) rest m (equal m n e) i) (and_first (not (list_any (nat_eq n) rest)) (all_differ nat_eq rest) differ)
-
-differ-rest : (n : ℕ) (rest : List ℕ) → Differ (n ∷ rest) → Differ rest
-differ-rest n rest differ = and_second (not (list_any (nat_eq n) rest)) (all_differ nat_eq rest) differ
-
-differ-apart : (xs ys : List ℕ) (n : ℕ) → Differ (xs ++ ys) → In n xs → In n ys → ⊥
-differ-apart [] ys n differ i j = absurd i
-differ-apart (x ∷ xs) ys n differ (inl e) j = fresh-first x (xs ++ ys) differ n e (In-back n xs ys j)
-differ-apart (x ∷ xs) ys n differ (inr i) j = differ-apart xs ys n (differ-rest x (xs ++ ys) differ) i j
-
-differ-back : (xs ys : List ℕ) → Differ (xs ++ ys) → Differ ys
-differ-back [] ys differ = differ
-differ-back (x ∷ xs) ys differ = differ-back xs ys (differ-rest x (xs ++ ys) differ)
-
-none-front : (n : ℕ) (xs ys : List ℕ) → IsTrue (not (list_any (nat_eq n) (xs ++ ys))) → IsTrue (not (list_any (nat_eq n) xs))
-none-front n [] ys h = refl
-none-front n (x ∷ xs) ys h = elim (cases_Bool (nat_eq n x)) [ inl t ↦ (let no : IsTrue false = rw t at h in let wrong : false ≡ true = no in cc) | inr f ↦ rw f (none-front n xs ys (rw f at h)) ]
-
-differ-front : (xs ys : List ℕ) → Differ (xs ++ ys) → Differ xs
-differ-front [] ys differ = refl
-differ-front (x ∷ xs) ys differ =
-    both (not (list_any (nat_eq x) xs)) (all_differ nat_eq xs) (none-front x xs ys (and_first (not (list_any (nat_eq x) (xs ++ ys))) (all_differ nat_eq (xs ++ ys)) differ))
-    (differ-front xs ys (differ-rest x (xs ++ ys) differ))
-
--- ---- where statements are found
 
 places-suc : (levels : ℕ) (stmt : Stmt) → places (suc levels) stmt ≡ (out-Stmt stmt).at ∷ flat_map (places levels) (subs_of stmt)
 unfolding places
@@ -71,66 +31,8 @@ places-suc levels stmt = refl
 abbrev first_way : ℕ → ℕ → Site → List Stmt → Option Site
 first_way levels at site subs = find_first (λ sub. way_to levels at (within site sub)) subs
 
-way-zero : (at : ℕ) (site : Site) → way_to 0 at site ≡ (if place_of site == at then Some site else None)
-unfolding way_to
-way-zero at site = refl
-
-way-suc : (levels at : ℕ) (site : Site) → way_to (suc levels) at site ≡ (if place_of site == at then Some site else first_way levels at site (subs_of site.stmt))
-unfolding way_to
-way-suc levels at site = refl
-
-way-any : (levels : ℕ) (site : Site) → way_to levels (place_of site) site ≡ Some site
-way-any zero site = let here : (place_of site == place_of site) ≡ true = grind (arith, nat_tests) in way-zero (place_of site) site ∙ rw here refl
-way-any (suc levels) site = let here : (place_of site == place_of site) ≡ true = grind (arith, nat_tests) in way-suc levels (place_of site) site ∙ rw here refl
-
-first-places : (levels at : ℕ) (site s : Site) (subs : List Stmt) → ((sub : Stmt) (s : Site) → way_to levels at (within site sub) ≡ Some s → In at (places levels sub)) → first_way levels at site subs ≡ Some s
-    → In at (flat_map (places levels) subs)
-first-places levels at site s [] each e = cc
-first-places levels at site s (sub ∷ subs) each e =
-    let here = way_to levels at (within site sub) in
-    elim here as (λ o. here ≡ o → (if is_some o then o else first_way levels at site subs) ≡ Some s → In at (places levels sub ++ flat_map (places levels) subs)) [
-      | None ↦ λ is rest. In-back at (places levels sub) (flat_map (places levels) subs) (first-places levels at site s subs each rest)
-      | Some found ↦ λ is rest. In-front at (places levels sub) (flat_map (places levels) subs) (each sub found is)
-    ] refl e
-
-way-places : (levels at : ℕ) (site s : Site) → way_to levels at site ≡ Some s → In at (places levels site.stmt)
-unfolding places
-way-places zero at site s e =
-    let found = sym (way-zero at site) ∙ e in
-    elim (cases_Bool (place_of site == at)) [
-      | inl t ↦ (let same : at ≡ place_of site = grind (arith, nat_tests) in inl same)
-      | inr f ↦ (let no = rw f at found in cc)
-    ]
-way-places (suc levels) at site s e =
-    let found = sym (way-suc levels at site) ∙ e in
-    elim (cases_Bool (place_of site == at)) [
-      | inl t ↦ (let same : at ≡ place_of site = grind (arith, nat_tests) in inl same)
-      | inr f ↦ inr (first-places levels at site s (subs_of site.stmt) (λ sub found. way-places levels at (within site sub) found) (rw f at found))
-    ]
-
--- behind one statement more
-way-later : (levels at : ℕ) (site : Site) (sub : Stmt) (subs : List Stmt) (s : Site) → Differ (flat_map (places levels) (sub ∷ subs)) → first_way levels at site subs ≡ Some s → first_way levels at site (sub ∷ subs) ≡ Some s
-way-later levels at site sub subs s differ e =
-    let here = way_to levels at (within site sub) in
-    elim here as (λ o. here ≡ o → (if is_some o then o else first_way levels at site subs) ≡ Some s) [
-      | None ↦ λ is. e
-      | Some found ↦ λ is.
-          let before = way-places levels at (within site sub) found is in
-          let behind = first-places levels at site s subs (λ sub found. way-places levels at (within site sub) found) e in
-          absurd (differ-apart (places levels sub) (flat_map (places levels) subs) at differ before behind)
-    ] refl
-
--- and inside of a statement
-way-inside : (levels at : ℕ) (site s : Site) → Differ (places (suc levels) site.stmt) → first_way levels at site (subs_of site.stmt) ≡ Some s → way_to (suc levels) at site ≡ Some s
-way-inside levels at site s differ e =
-    let apart : Differ ((out-Stmt site.stmt).at ∷ flat_map (places levels) (subs_of site.stmt)) = subst Differ (places-suc levels site.stmt) differ in
-    elim (cases_Bool (place_of site == at)) [
-      | inl t ↦
-          (let same : at ≡ place_of site = grind (arith, nat_tests) in
-          let behind = first-places levels at site s (subs_of site.stmt) (λ sub found. way-places levels at (within site sub) found) e in
-          absurd (fresh-first (out-Stmt site.stmt).at (flat_map (places levels) (subs_of site.stmt)) apart at same behind))
-      | inr f ↦ way-suc levels at site ∙ rw f e
-    ]
+way-itself : (levels : ℕ) (site : Site) → way_to levels (place_of site) site ≡ Some site
+way-itself levels site = let here : (place_of site == place_of site) ≡ true = grind (arith, nat_tests) in way-any levels (place_of site) site here
 
 -- ---- rows
 
@@ -166,7 +68,7 @@ module _ (stmts : List Stmt) (shallow : IsTrue (list_all (is_shallow 64) stmts))
   row-site levels around rows site (Some keyword) e read finds have =
       last-got (HasSite stmts) rows (row_of site.module around site.stmt keyword) have (record {
         site = site;
-        found = finds (place_of site) site (way-any levels site);
+        found = finds (place_of site) site (way-itself levels site);
         read = read;
         opened = part-read site.stmt keyword e;
       })
@@ -179,9 +81,8 @@ module _ (stmts : List Stmt) (shallow : IsTrue (list_all (is_shallow 64) stmts))
       → HaveSites stmts (fold (λ front sub. with_rows levels site.module around front sub) rows subs)
   fold-sites levels site around each rows [] read differ finds have = have
   fold-sites levels site around each rows (sub ∷ subs) read differ finds have =
-      let first = differ-front (places levels sub) (flat_map (places levels) subs) differ in
-      let later = differ-back (places levels sub) (flat_map (places levels) subs) differ in
-      fold-sites levels site around each (with_rows levels site.module around rows sub) subs (λ other i. read other (inr i)) later (λ at s e. finds at s (way-later levels at site sub subs s differ e))
+      let (first, later) = differ-parts (places levels sub) (flat_map (places levels) subs) differ in
+      fold-sites levels site around each (with_rows levels site.module around rows sub) subs (λ other i. read other (inr i)) later (λ at s e. finds at s (way-later levels at site s sub subs differ e))
       (each rows sub (read sub (inl refl)) first (λ at s e. finds at s (rw e refl)) have)
 
   more-sites : (levels : ℕ) (around : Option ℕ) (rows : List TreeRow) (site : Site) → IsReadSite stmts site → Differ (places levels site.stmt)
@@ -197,7 +98,7 @@ module _ (stmts : List Stmt) (shallow : IsTrue (list_all (is_shallow 64) stmts))
             let apart : Differ ((out-Stmt site.stmt).at ∷ flat_map (places levels) (subs_of site.stmt)) = subst Differ (places-suc levels site.stmt) differ in
             fold-sites levels site (Some (length rows)) (λ front sub inner own found. more-sites levels (Some (length rows)) front (within site sub) inner own found)
             (with_row site.module around rows site.stmt (Some keyword)) (subs_of site.stmt) (λ sub i. inner-read stmts shallow site sub read opened i)
-            (differ-rest (out-Stmt site.stmt).at (flat_map (places levels) (subs_of site.stmt)) apart) (λ at s found. finds at s (way-inside levels at site s differ found))
+            (differ-tail (out-Stmt site.stmt).at (flat_map (places levels) (subs_of site.stmt)) apart) (λ at s found. finds at s (way-inside levels at site s apart found))
             (row-site (suc levels) around rows site (Some keyword) e read finds have)
       ] refl
 

@@ -1,6 +1,6 @@
--- Where statements stand in the order of the text, the statement at the place of a row is its own, and the profile found nothing there.
-use Rattle.std.proofs.Common.{◌≡◌, ℕ, zero, suc, ◌+◌, ◌-◌, ◌<◌, ◌≤◌, true, false, not, ◌&&◌, ◌==◌, nat_lt, IsTrue, List, [], ◌∷◌, ◌++◌, fold, length, Option, Some, None, refl, sym, ap, ◌∙◌, subst, inl, inr, arith, append_assoc, length-append}
-use Rattle.std.specs.Prelude.{option_and_then, is_none, if◌then◌else◌}
+-- Where each statement has a place of its own, the statement at the place of a row is its own, and the profile found nothing there, nor around it.
+use Rattle.std.proofs.Common.{◌≡◌, ℕ, zero, suc, ◌+◌, ◌-◌, Bool, true, false, not, ◌==◌, nat_eq, IsTrue, List, [], ◌∷◌, ◌++◌, fold, length, Option, Some, None, refl, sym, ap, ◌∙◌, subst, inl, inr, arith, append_assoc, length-append}
+use Rattle.std.specs.Prelude.{⊤, option_and_then, is_none}
 use Rattle.std.specs.List.{list_all, flat_map, enumerate_from, slice_get}
 use Rattle.std.proofs.lemmas.Bool.{cases_Bool}
 use Rattle.std.proofs.lemmas.Bool.Decides.{nat_tests}
@@ -9,17 +9,20 @@ use Rattle.sal_module.specs.declared.keyword.Keyword.{Keyword}
 use Rattle.sal_module.specs.declared.keyword.Keyword.TheVariants as word
 use Rattle.sal_module.specs.Keywords.{Word, same, word_of, keyword_of, keyword_among, words}
 use Rattle.sal_module.specs.Modules.{stmt_at}
-use Rattle.sal_module.specs.Places.{find_first, find_at, start_or, all_before, is_in_order}
+use Rattle.sal_module.specs.Places.{find_first}
 use Rattle.sal_module.specs.Profile.{is_prefixed, allows, is_judged, sub_faults, argument_faults, left_out_faults, entry_faults, type_faults, block_faults, level_faults, tree_faults, module_faults}
 use Rattle.sal_module.specs.Statements.{is_named, subs_of, argument_of}
 use Rattle.sal_module.specs.Table.{rule_of}
 use Rattle.sal_module.proofs.Levels.{tree_faults-last, tree_faults-more, below}
-use Rattle.sal_module.proofs.Order.{find_at-any, find_first-left, find_first-right}
 use Rattle.sal_grouping.proofs.Parts.{TreeRow}
 use Rattle.sal_grouping.specs.Rows.{is_part, part_of, part_among, row_of, with_row, with_rows, rows_of}
+use Rattle.sal_schema.specs.Valid.{all_differ}
 use Rattle.sal_schema.proofs.Conjuncts.{and_first, and_second}
+use Rattle.sal_typedefs.specs.Scopes.{Site, top, way_to, site_at}
+use Rattle.sal_tables.specs.Readable.{places, has_own_places}
 use Rattle.sal_tables.proofs.Distinct.{true-is}
 use Rattle.sal_build.proofs.LeafWord.{same-text}
+use Rattle.sal_tables.proofs.OwnPlaces.{differ-tail, differ-parts, way-any, site-stmt, way-later, way-inside}
 use Rattle.sal_tables.proofs.NamedModules.{rule-named}
 use Rattle.sal_tables.proofs.Quiet.{front-nil}
 
@@ -81,41 +84,18 @@ sub-judged m parent sub plain part e =
           ]
     ] refl part
 
--- ---- where statements are found
-
-find-suc : (levels at : ℕ) (stmt : Stmt) → find_at (suc levels) at stmt ≡ (if (out-Stmt stmt).at == at then Some stmt else find_first (find_at levels at) (subs_of stmt))
-unfolding find_at
-find-suc levels at stmt = refl
-
-order-suc : (levels high : ℕ) (stmt : Stmt) → is_in_order (suc levels) high stmt ≡ (nat_lt (out-Stmt stmt).at (start_or high (subs_of stmt)) && all_before (is_in_order levels) high (subs_of stmt))
-unfolding is_in_order
-order-suc levels high stmt = refl
-
-none-early : (levels at high : ℕ) (subs : List Stmt) (s : Stmt) → all_before (is_in_order levels) high subs ≡ true → at < start_or high subs → find_first (find_at levels at) subs ≡ Some s → ⊥
-none-early levels at high subs s order early e = let none = find_first-left levels at high subs 0 order early in let no : ◌≡◌ {A = Option Stmt} None (Some s) = sym none ∙ e in cc
-
--- behind one statement more
-find-later : (levels at high : ℕ) (sub : Stmt) (subs : List Stmt) (s : Stmt) → all_before (is_in_order levels) high (sub ∷ subs) ≡ true → find_first (find_at levels at) subs ≡ Some s
-    → find_first (find_at levels at) (sub ∷ subs) ≡ Some s
-find-later levels at high sub subs s order e =
-    let later = and_second (is_in_order levels (start_or high subs) sub) (all_before (is_in_order levels) high subs) order in
-    elim (cases_Bool (nat_lt at (start_or high subs))) [
-      | inl t ↦ (let early : at < start_or high subs = grind (arith, nat_tests) in absurd (none-early levels at high subs s later early e))
-      | inr f ↦ (let late : start_or high subs ≤ at = grind (arith, nat_tests) in find_first-right levels at high (sub ∷ subs) 1 order late ∙ e)
-    ]
-
--- and inside of a statement
-find-inside : (levels at high : ℕ) (stmt : Stmt) (s : Stmt) → is_in_order (suc levels) high stmt ≡ true → find_first (find_at levels at) (subs_of stmt) ≡ Some s → find_at (suc levels) at stmt ≡ Some s
-find-inside levels at high stmt s order e =
-    let parts = sym (order-suc levels high stmt) ∙ order in
-    let first = and_first (nat_lt (out-Stmt stmt).at (start_or high (subs_of stmt))) (all_before (is_in_order levels) high (subs_of stmt)) parts in
-    let inner = and_second (nat_lt (out-Stmt stmt).at (start_or high (subs_of stmt))) (all_before (is_in_order levels) high (subs_of stmt)) parts in
-    elim (cases_Bool ((out-Stmt stmt).at == at)) [
-      | inl t ↦ (let early : at < start_or high (subs_of stmt) = grind (arith, nat_tests) in absurd (none-early levels at high (subs_of stmt) s inner early e))
-      | inr f ↦ find-suc levels at stmt ∙ rw f e
-    ]
-
 -- ---- rows
+
+-- a statement that is no extension, and in which the profile found nothing: with what holds at so many levels above the last one
+pub record IsSound (deep : ℕ → Stmt → Bool) (m : ℕ) (stmt : Stmt) : Type 0 where
+  pub levels : ℕ
+  pub quiet : tree_faults m levels stmt ≡ []
+  pub depth : deep levels stmt ≡ true
+  pub plain : is_named word.Extension stmt ≡ false
+
+abbrev pub AreSound : (ℕ → Stmt → Bool) → ℕ → List Stmt → Type 0
+AreSound deep m [] = ⊤
+AreSound deep m (stmt ∷ stmts) = IsSound deep m stmt × AreSound deep m stmts
 
 pub record IsOwn (stmts : List Stmt) (row : TreeRow) : Type 0 where
   pub stmt : Stmt
@@ -124,6 +104,16 @@ pub record IsOwn (stmts : List Stmt) (row : TreeRow) : Type 0 where
   pub part : is_none (part_of stmt) ≡ false
   pub name : argument_of stmt ≡ row.name
   pub good : level_faults row.module stmt ≡ []
+
+-- with the statements around it
+pub record IsSited (deep : ℕ → Stmt → Bool) (stmts : List Stmt) (row : TreeRow) : Type 0 where
+  pub own : IsOwn stmts row
+  pub site : Site
+  pub found : site_at stmts row.module row.at ≡ Some site
+  pub sound : AreSound deep site.module (site.stmt ∷ site.around)
+
+abbrev pub AreSited : (ℕ → Stmt → Bool) → List Stmt → List TreeRow → Type 0
+AreSited deep stmts rows = (k : ℕ) (row : TreeRow) → slice_get rows k ≡ Some row → IsSited deep stmts row
 
 abbrev pub AreOwn : List Stmt → List TreeRow → Type 0
 AreOwn stmts rows = (k : ℕ) (row : TreeRow) → slice_get rows k ≡ Some row → IsOwn stmts row
@@ -134,45 +124,67 @@ last-got P [] x each h (suc k) y e = cc
 last-got P (z ∷ xs) x each h zero y e = each 0 y e
 last-got P (z ∷ xs) x each h (suc k) y e = last-got P xs x (λ j w f. each (suc j) w f) h k y e
 
-module _ (stmts : List Stmt) (m : ℕ) where
-  abbrev Finds : ℕ → Stmt → Type 0
-  Finds levels stmt = (at : ℕ) (s : Stmt) → find_at levels at stmt ≡ Some s → stmt_at stmts m at ≡ Some s
+-- what holds of a statement a level above the last one holds of those in its block
+abbrev pub GoesDown : (ℕ → Stmt → Bool) → Type 0
+GoesDown deep = (levels : ℕ) (stmt : Stmt) → deep (suc levels) stmt ≡ true → IsTrue (list_all (deep levels) (subs_of stmt))
 
-  own-row : (levels : ℕ) (around : Option ℕ) (rows : List TreeRow) (stmt : Stmt) (keyword : Option Keyword) → part_of stmt ≡ keyword → ((at : ℕ) (s : Stmt) → find_at levels at stmt ≡ Some s → stmt_at stmts m at ≡ Some s)
-      → (is_none keyword ≡ false → level_faults m stmt ≡ []) → AreOwn stmts rows → AreOwn stmts (with_row m around rows stmt keyword)
-  own-row levels around rows stmt None e finds good own = own
-  own-row levels around rows stmt (Some keyword) e finds good own =
-      let here : ((out-Stmt stmt).at == (out-Stmt stmt).at) ≡ true = grind (arith, nat_tests) in
-      last-got (IsOwn stmts) rows (row_of m around stmt keyword) own (record {
-        stmt = stmt;
-        found = finds (out-Stmt stmt).at stmt (find_at-any levels (out-Stmt stmt).at stmt here);
-        keyword = part-is (keyword_of (out-Stmt stmt).keyword) keyword e;
-        part = ap is_none e;
-        name = refl;
-        good = good refl;
+module _ (deep : ℕ → Stmt → Bool) (down : GoesDown deep) (stmts : List Stmt) (m : ℕ) where
+  abbrev here : List Stmt → Stmt → Site
+  here blocks stmt = record { «module» = m; stmt = stmt; around = blocks }
+
+  abbrev Finds : ℕ → List Stmt → Stmt → Type 0
+  Finds levels blocks stmt = (at : ℕ) (s : Site) → way_to levels at (here blocks stmt) ≡ Some s → site_at stmts m at ≡ Some s
+
+  own-row : (levels : ℕ) (around : Option ℕ) (rows : List TreeRow) (blocks : List Stmt) (stmt : Stmt) (keyword : Option Keyword) → part_of stmt ≡ keyword → Finds levels blocks stmt
+      → (is_none keyword ≡ false → (level_faults m stmt ≡ []) × IsSound deep m stmt) → AreSound deep m blocks → AreSited deep stmts rows → AreSited deep stmts (with_row m around rows stmt keyword)
+  own-row levels around rows blocks stmt None e finds good outer own = own
+  own-row levels around rows blocks stmt (Some keyword) e finds good outer own =
+      let at = (out-Stmt stmt).at in
+      let same : (at == at) ≡ true = grind (arith, nat_tests) in
+      let found = finds at (here blocks stmt) (way-any levels at (here blocks stmt) same) in
+      let (level, sound) = good refl in
+      last-got (IsSited deep stmts) rows (row_of m around stmt keyword) own (record {
+        own = record {
+          stmt = stmt;
+          found = site-stmt stmts m at (here blocks stmt) found;
+          keyword = part-is (keyword_of (out-Stmt stmt).keyword) keyword e;
+          part = ap is_none e;
+          name = refl;
+          good = level;
+        };
+        site = here blocks stmt;
+        found = found;
+        sound = (sound, outer);
       })
 
-  fold-own : (levels high : ℕ) (parent : Stmt) (around : Option ℕ) → is_named word.Extension parent ≡ false
-      → ((top : ℕ) (rows : List TreeRow) (sub : Stmt) → is_in_order levels top sub ≡ true → (is_none (part_of sub) ≡ false → tree_faults m levels sub ≡ [])
-      → ((at : ℕ) (s : Stmt) → find_at levels at sub ≡ Some s → stmt_at stmts m at ≡ Some s) → AreOwn stmts rows → AreOwn stmts (with_rows levels m around rows sub))
-      → (rows : List TreeRow) (subs : List Stmt) → all_before (is_in_order levels) high subs ≡ true → flat_map (sub_faults m parent (rule_of (out-Stmt parent).keyword)) subs ≡ [] → flat_map (below m levels parent) subs ≡ []
-      → ((at : ℕ) (s : Stmt) → find_first (find_at levels at) subs ≡ Some s → stmt_at stmts m at ≡ Some s) → AreOwn stmts rows
-      → AreOwn stmts (fold (λ front sub. with_rows levels m around front sub) rows subs)
-  fold-own levels high parent around plain each rows [] order allowed quiet finds own = own
-  fold-own levels high parent around plain each rows (sub ∷ subs) order allowed quiet finds own =
-      let (here, others) = front-nil (sub_faults m parent (rule_of (out-Stmt parent).keyword) sub) (flat_map (sub_faults m parent (rule_of (out-Stmt parent).keyword)) subs) allowed in
-      let (level, rest) = front-nil (below m levels parent sub) (flat_map (below m levels parent) subs) quiet in
-      let one = and_first (is_in_order levels (start_or high subs) sub) (all_before (is_in_order levels) high subs) order in
-      let later = and_second (is_in_order levels (start_or high subs) sub) (all_before (is_in_order levels) high subs) order in
-      let judged = λ (some : is_none (part_of sub) ≡ false). (rw (sub-judged m parent sub plain some here) at level) in
-      fold-own levels high parent around plain each (with_rows levels m around rows sub) subs later others rest (λ at s e. finds at s (find-later levels at high sub subs s order e))
-      (each (start_or high subs) rows sub one judged (λ at s e. finds at s (rw e refl)) own)
+  abbrev Walks : ℕ → List Stmt → Option ℕ → Type 0
+  Walks levels blocks around =
+      (rows : List TreeRow) (sub : Stmt) → IsTrue (all_differ nat_eq (places levels sub)) → IsTrue (deep levels sub) → (is_none (part_of sub) ≡ false → tree_faults m levels sub ≡ [])
+      → Finds levels blocks sub → AreSited deep stmts rows → AreSited deep stmts (with_rows levels m around rows sub)
 
-  more-own : (levels high : ℕ) (around : Option ℕ) (rows : List TreeRow) (stmt : Stmt) → is_in_order levels high stmt ≡ true → (is_none (part_of stmt) ≡ false → tree_faults m levels stmt ≡ [])
-      → ((at : ℕ) (s : Stmt) → find_at levels at stmt ≡ Some s → stmt_at stmts m at ≡ Some s) → AreOwn stmts rows → AreOwn stmts (with_rows levels m around rows stmt)
-  unfolding with_rows
-  more-own zero high around rows stmt order quiet finds own = own-row 0 around rows stmt (part_of stmt) refl finds (λ some. sym (tree_faults-last m stmt) ∙ quiet some) own
-  more-own (suc levels) high around rows stmt order quiet finds own = elim (cases_Bool (is_none (part_of stmt))) [
+  fold-own : (levels : ℕ) (parent : Stmt) (blocks : List Stmt) (around : Option ℕ) → is_named word.Extension parent ≡ false
+      → Walks levels (parent ∷ blocks) around
+      → (rows : List TreeRow) (subs : List Stmt) → IsTrue (all_differ nat_eq (flat_map (places levels) subs)) → IsTrue (list_all (deep levels) subs)
+      → flat_map (sub_faults m parent (rule_of (out-Stmt parent).keyword)) subs ≡ [] → flat_map (below m levels parent) subs ≡ []
+      → ((at : ℕ) (s : Site) → find_first (λ sub. way_to levels at (here (parent ∷ blocks) sub)) subs ≡ Some s → site_at stmts m at ≡ Some s) → AreSited deep stmts rows
+      → AreSited deep stmts (fold (λ front sub. with_rows levels m around front sub) rows subs)
+  fold-own levels parent blocks around plain each rows [] differ depth allowed quiet finds own = own
+  fold-own levels parent blocks around plain each rows (sub ∷ subs) differ depth allowed quiet finds own =
+      let (first, others) = front-nil (sub_faults m parent (rule_of (out-Stmt parent).keyword) sub) (flat_map (sub_faults m parent (rule_of (out-Stmt parent).keyword)) subs) allowed in
+      let (level, rest) = front-nil (below m levels parent sub) (flat_map (below m levels parent) subs) quiet in
+      let (one, later) = differ-parts (places levels sub) (flat_map (places levels) subs) differ in
+      let judged = λ (some : is_none (part_of sub) ≡ false). (rw (sub-judged m parent sub plain some first) at level) in
+      fold-own levels parent blocks around plain each (with_rows levels m around rows sub) subs later (and_second (deep levels sub) (list_all (deep levels) subs) depth) others rest
+      (λ at s e. finds at s (way-later levels at (here blocks parent) s sub subs differ e))
+      (each rows sub one (and_first (deep levels sub) (list_all (deep levels) subs) depth) judged (λ at s e. finds at s (rw e refl)) own)
+
+  more-own : (levels : ℕ) (around : Option ℕ) (rows : List TreeRow) (blocks : List Stmt) (stmt : Stmt) → AreSound deep m blocks → IsTrue (all_differ nat_eq (places levels stmt)) → IsTrue (deep levels stmt)
+      → (is_none (part_of stmt) ≡ false → tree_faults m levels stmt ≡ []) → Finds levels blocks stmt → AreSited deep stmts rows → AreSited deep stmts (with_rows levels m around rows stmt)
+  unfolding with_rows places
+  more-own zero around rows blocks stmt outer differ depth quiet finds own =
+      own-row 0 around rows blocks stmt (part_of stmt) refl finds
+      (λ some. (sym (tree_faults-last m stmt) ∙ quiet some, record { levels = 0; quiet = quiet some; depth = depth; plain = not-extension stmt some })) outer own
+  more-own (suc levels) around rows blocks stmt outer differ depth quiet finds own = elim (cases_Bool (is_none (part_of stmt))) [
     | inl none ↦ rw none own
     | inr some ↦
         let less : suc levels - 1 ≡ levels = omega arith in
@@ -181,9 +193,11 @@ module _ (stmts : List Stmt) (m : ℕ) where
         ap (λ n. level_faults m stmt ++ flat_map (below m n stmt) (subs_of stmt)) (sym less) ∙ sym (tree_faults-more m (suc levels) stmt more) ∙ quiet some in
         let (level, rest) = front-nil (level_faults m stmt) (flat_map (below m levels stmt) (subs_of stmt)) split in
         let plain = not-extension stmt some in
-        let inner = and_second (nat_lt (out-Stmt stmt).at (start_or high (subs_of stmt))) (all_before (is_in_order levels) high (subs_of stmt)) (sym (order-suc levels high stmt) ∙ order) in
-        rw some (fold-own levels high stmt (Some (length rows)) plain (λ top front sub. more-own levels top (Some (length rows)) front sub) (with_row m around rows stmt (part_of stmt)) (subs_of stmt) inner (subs-quiet m stmt plain level) rest
-        (λ at s e. finds at s (find-inside levels at high stmt s order e)) (own-row (suc levels) around rows stmt (part_of stmt) refl finds (λ n. level) own))
+        let sound : IsSound deep m stmt = record { levels = suc levels; quiet = quiet some; depth = depth; plain = plain } in
+        rw some (fold-own levels stmt blocks (Some (length rows)) plain
+        (λ front sub one deeper judged found. more-own levels (Some (length rows)) front (stmt ∷ blocks) sub (sound, outer) one deeper judged found)
+        (with_row m around rows stmt (part_of stmt)) (subs_of stmt) (differ-tail (out-Stmt stmt).at (flat_map (places levels) (subs_of stmt)) differ) (down levels stmt depth) (subs-quiet m stmt plain level) rest
+        (λ at s e. finds at s (way-inside levels at (here blocks stmt) s differ e)) (own-row (suc levels) around rows blocks stmt (part_of stmt) refl finds (λ n. (level, sound)) outer own))
   ]
 
 -- ---- of all modules
@@ -197,20 +211,35 @@ middle-got [] rest x n e = let none : n ≡ 0 = omega arith in rw none refl
 middle-got (y ∷ done) rest x zero e = absurd (omega arith)
 middle-got (y ∷ done) rest x (suc n) e = middle-got done rest x n (omega arith)
 
-rows-own : (high : ℕ) (all done rest : List Stmt) (n : ℕ) (rows : List TreeRow) → n ≡ length done → all ≡ done ++ rest → IsTrue (list_all (is_in_order 64 high) rest)
-    → flat_map (λ (e : ℕ × Stmt). module_faults e.0 e.1) (enumerate_from n rest) ≡ [] → AreOwn all rows
-    → AreOwn all (fold (λ rows (e : ℕ × Stmt). with_rows 64 e.0 None rows e.1) rows (enumerate_from n rest))
-rows-own high all done [] n rows count is order quiet own = own
-rows-own high all done (stmt ∷ rest) n rows count is order quiet own =
-    let (here, others) = front-nil (module_faults n stmt) (flat_map (λ (e : ℕ × Stmt). module_faults e.0 e.1) (enumerate_from (n + 1) rest)) quiet in
-    let one = and_first (is_in_order 64 high stmt) (list_all (is_in_order 64 high) rest) order in
-    let later = and_second (is_in_order 64 high stmt) (list_all (is_in_order 64 high) rest) order in
-    let got : slice_get all n ≡ Some stmt = ap (λ (xs : List Stmt). slice_get xs n) is ∙ middle-got done rest stmt n count in
-    rows-own high all (done ++ stmt ∷ []) rest (n + 1) (with_rows 64 n None rows stmt) (omega (arith, count, length-append done (stmt ∷ []))) (is ∙ sym (append_assoc done (stmt ∷ []) rest)) later others
-    (more-own all n 64 high None rows stmt one (λ some. module-quiet n stmt here) (λ at s e. ap (option_and_then (find_at 64 at)) got ∙ e) own)
+module _ (deep : ℕ → Stmt → Bool) (down : GoesDown deep) where
+  rows-own : (all done rest : List Stmt) (n : ℕ) (rows : List TreeRow) → n ≡ length done → all ≡ done ++ rest → IsTrue (list_all has_own_places rest) → IsTrue (list_all (deep 64) rest)
+      → flat_map (λ (e : ℕ × Stmt). module_faults e.0 e.1) (enumerate_from n rest) ≡ [] → AreSited deep all rows
+      → AreSited deep all (fold (λ rows (e : ℕ × Stmt). with_rows 64 e.0 None rows e.1) rows (enumerate_from n rest))
+  rows-own all done [] n rows count is differ depth quiet own = own
+  rows-own all done (stmt ∷ rest) n rows count is differ depth quiet own =
+      let (first, others) = front-nil (module_faults n stmt) (flat_map (λ (e : ℕ × Stmt). module_faults e.0 e.1) (enumerate_from (n + 1) rest)) quiet in
+      let one = and_first (has_own_places stmt) (list_all has_own_places rest) differ in
+      let later = and_second (has_own_places stmt) (list_all has_own_places rest) differ in
+      let got : slice_get all n ≡ Some stmt = ap (λ (xs : List Stmt). slice_get xs n) is ∙ middle-got done rest stmt n count in
+      rows-own all (done ++ stmt ∷ []) rest (n + 1) (with_rows 64 n None rows stmt) (omega (arith, count, length-append done (stmt ∷ []))) (is ∙ sym (append_assoc done (stmt ∷ []) rest)) later
+      (and_second (deep 64 stmt) (list_all (deep 64) rest) depth) others
+      (more-own deep down all n 64 None rows [] stmt tt one (and_first (deep 64 stmt) (list_all (deep 64) rest) depth) (λ some. module-quiet n stmt first)
+      (λ at s e. ap (option_and_then (λ stmt. way_to 64 at (top n stmt))) got ∙ e) own)
 
-pub own-rows : (high : ℕ) (stmts : List Stmt) → IsTrue (list_all (is_in_order 64 high) stmts) → flat_map (λ (e : ℕ × Stmt). module_faults e.0 e.1) (enumerate_from 0 stmts) ≡ [] → AreOwn stmts (rows_of stmts)
-own-rows high stmts order quiet = rows-own high stmts [] stmts 0 [] refl refl order quiet (λ k row e. absurd (nothing row e))
-  where
-    nothing : (row : TreeRow) → ◌≡◌ {A = Option TreeRow} None (Some row) → ⊥
-    nothing row e = cc
+  pub sited-rows : (stmts : List Stmt) → IsTrue (list_all has_own_places stmts) → IsTrue (list_all (deep 64) stmts) → flat_map (λ (e : ℕ × Stmt). module_faults e.0 e.1) (enumerate_from 0 stmts) ≡ []
+      → AreSited deep stmts (rows_of stmts)
+  sited-rows stmts differ depth quiet = rows-own stmts [] stmts 0 [] refl refl differ depth quiet (λ k row e. absurd (nothing row e))
+    where
+      nothing : (row : TreeRow) → ◌≡◌ {A = Option TreeRow} None (Some row) → ⊥
+      nothing row e = cc
+
+-- what holds of any statement
+abbrev any_depth : ℕ → Stmt → Bool
+any_depth levels stmt = true
+
+all-deep : (stmts : List Stmt) → IsTrue (list_all (λ stmt. true) stmts)
+all-deep [] = refl
+all-deep (stmt ∷ stmts) = all-deep stmts
+
+pub own-rows : (stmts : List Stmt) → IsTrue (list_all has_own_places stmts) → flat_map (λ (e : ℕ × Stmt). module_faults e.0 e.1) (enumerate_from 0 stmts) ≡ [] → AreOwn stmts (rows_of stmts)
+own-rows stmts differ quiet = λ k row e. (sited-rows any_depth (λ levels stmt h. all-deep (subs_of stmt)) stmts differ (all-deep stmts) quiet k row e).own

@@ -1,5 +1,5 @@
 -- Nodes of a table stand below nodes that can hold them: as their statements do, and the statement of each is its own.
-use Rattle.std.proofs.Common.{◌≡◌, ℕ, ◌+◌, ◌^◌, Bool, true, false, not, ◌&&◌, IsTrue, List, [], ◌∷◌, map, Option, Some, None, refl, sym, ap, ◌∙◌, subst}
+use Rattle.std.proofs.Common.{◌≡◌, ℕ, ◌+◌, Bool, true, false, not, ◌&&◌, IsTrue, List, [], ◌∷◌, map, Option, Some, None, refl, sym, ap, ◌∙◌, subst}
 use Rattle.std.specs.Prelude.{◌||◌, option_map, is_none}
 use Rattle.std.specs.List.{list_all, slice_get}
 use Rattle.std.specs.Option.{option_map_or}
@@ -150,9 +150,9 @@ module _ (stmts : List Stmt) (owns : AreOwn stmts (rows_of stmts)) (held : AreHe
       (and_second (is_linked stmts held all node) (list_all (is_linked stmts held all) some) linked))
 
 pub nodes_stand_right : NodesStandRight
-nodes_stand_right stmts table order e =
+nodes_stand_right stmts table differ e =
     let built = built_ok stmts table e in
-    let owns = own-rows (2 ^ 32) stmts order built.checked.profile in
+    let owns = own-rows stmts differ built.checked.profile in
     let held = rows-held stmts built.checked.profile in
     subst (λ (t : SchemaTable). IsTrue (list_all (stands_right t) t.nodes)) built.is
     (infos-right stmts owns held 0 (nodes_of stmts) (nodes-fit stmts owns) (calls-alone stmts held) (nodes-linked stmts held built.checked.profile))

@@ -1,5 +1,5 @@
 -- RPCs and notifications of a table stand at the top: as their statements do, and the statement of each is its own.
-use Rattle.std.proofs.Common.{◌≡◌, ℕ, ◌+◌, ◌^◌, Bool, true, false, not, IsTrue, List, [], ◌∷◌, map, Option, Some, None, refl, sym, ap, ◌∙◌, subst}
+use Rattle.std.proofs.Common.{◌≡◌, ℕ, ◌+◌, Bool, true, false, not, IsTrue, List, [], ◌∷◌, map, Option, Some, None, refl, sym, ap, ◌∙◌, subst}
 use Rattle.std.specs.Prelude.{◌||◌, option_map, is_none}
 use Rattle.std.specs.List.{list_all, slice_get}
 use Rattle.std.proofs.lemmas.Bool.{or_right}
@@ -86,8 +86,8 @@ module _ (stmts : List Stmt) (owns : AreOwn stmts (rows_of stmts)) (held : AreHe
       (infos-top forest (k + 1) some (and_second (is_fit stmts owns k node) (all_from (is_fit stmts owns) (k + 1) some) fit) (and_second (is_alone stmts held node) (list_all (is_alone stmts held) some) alone))
 
 pub calls_stand_at_the_top : CallsStandAtTheTop
-calls_stand_at_the_top stmts table order e =
+calls_stand_at_the_top stmts table differ e =
     let built = built_ok stmts table e in
-    let owns = own-rows (2 ^ 32) stmts order built.checked.profile in
+    let owns = own-rows stmts differ built.checked.profile in
     let held = rows-held stmts built.checked.profile in
     subst (λ (t : SchemaTable). IsTrue (list_all stands_at_the_top t.nodes)) built.is (infos-top stmts owns held (forest_of stmts) 0 (nodes_of stmts) (nodes-fit stmts owns) (calls-alone stmts held))

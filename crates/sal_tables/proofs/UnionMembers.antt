@@ -1,6 +1,6 @@
 -- Unions have members: a type statement says so, a way of them ends before the steps do, and targets have types of the same kind.
 use Rattle.std.proofs.Common.{◌≡◌, ℕ, zero, suc, ◌+◌, Bool, true, false, not, ◌&&◌, ◌||◌, ◌==◌, IsTrue, List, [], ◌∷◌, ◌++◌, filter, map, drop, length, Option, Some, None, refl, sym, ap, subst, ◌∙◌, inl, inr, arith}
-use Rattle.std.specs.Prelude.{⊤, ◌^◌, nat_lt, option_map, option_and_then, is_some, find, unwrap_or, if◌then◌else◌, codes}
+use Rattle.std.specs.Prelude.{⊤, option_map, option_and_then, is_some, find, unwrap_or, if◌then◌else◌, codes}
 use Rattle.std.specs.List.{list_all, list_any, flat_map, enumerate_from, slice_get}
 use Rattle.std.specs.Option.{option_to_list}
 use Rattle.std.proofs.lemmas.Bool.{cases_Bool}
@@ -39,7 +39,7 @@ use Rattle.sal_build.specs.Types as types
 use Rattle.sal_build.proofs.Fillings.{type-zero, type-suc}
 use Rattle.sal_build.proofs.LeafWord.{same-text}
 use Rattle.sal_tables.specs.Laws.{UnionsHaveMembers, has_members}
-use Rattle.sal_tables.specs.Readable.{is_shallow, has_own_places, is_readable, are_readable}
+use Rattle.sal_tables.specs.Readable.{is_shallow, has_own_places, is_readable}
 use Rattle.sal_tables.proofs.Entries.{TypeEntry}
 use Rattle.sal_tables.proofs.Built.{built_ok, forest_of, nodes_of}
 use Rattle.sal_tables.proofs.Grown.{built-good}
@@ -49,6 +49,7 @@ use Rattle.sal_tables.proofs.OwnSites.{HaveSites, own-sites}
 use Rattle.sal_tables.proofs.Quiet.{both, front-nil}
 use Rattle.sal_tables.proofs.ReadSites.{IsReadSite, IsTyped, inner-read}
 use Rattle.sal_tables.proofs.Shapes.{all-flat, is_seed}
+use Rattle.sal_tables.proofs.SpelledBits.{own-places}
 use Rattle.sal_tables.proofs.ShortWays.{is_some_site, first_or, moves, next, Goes, no-longer}
 use Rattle.sal_tables.proofs.Unfaulted.{no-fault, judged-quiet, restrictions-quiet, said}
 
@@ -343,19 +344,12 @@ each-shallow (stmt ∷ stmts) h =
     both (is_shallow 64 stmt) (list_all (is_shallow 64) stmts) (and_second (has_own_places stmt) (is_shallow 64 stmt) (and_first (is_readable stmt) (list_all is_readable stmts) h))
     (each-shallow stmts (and_second (is_readable stmt) (list_all is_readable stmts) h))
 
-each-placed : (stmts : List Stmt) → IsTrue (list_all is_readable stmts) → IsTrue (list_all has_own_places stmts)
-each-placed [] h = refl
-each-placed (stmt ∷ stmts) h =
-    both (has_own_places stmt) (list_all has_own_places stmts) (and_first (has_own_places stmt) (is_shallow 64 stmt) (and_first (is_readable stmt) (list_all is_readable stmts) h))
-    (each-placed stmts (and_second (is_readable stmt) (list_all is_readable stmts) h))
-
 pub unions_have_members : UnionsHaveMembers
 unions_have_members stmts table readable e =
     let built = built_ok stmts table e in
-    let each = and_first (list_all is_readable stmts) (nat_lt (steps_of stmts) (2 ^ 32)) readable in
-    let shallow = each-shallow stmts each in
+    let shallow = each-shallow stmts readable in
     let (front, referred) = front-nil (types.name_faults stmts ++ identities.all_faults stmts) (leafrefs.all_faults stmts (forest_of stmts)) built.names in
     let (quiet, derived) = front-nil (types.name_faults stmts) (identities.all_faults stmts) front in
-    let sites = own-sites stmts shallow (each-placed stmts each) in
+    let sites = own-sites stmts shallow (own-places stmts readable) in
     subst (λ (t : SchemaTable). IsTrue (list_all (λ ty. has_members (out-YangType ty)) t.types)) built.is
     (all-have stmts shallow (judged-has stmts shallow built.checked.profile quiet) sites)

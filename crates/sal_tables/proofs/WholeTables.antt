@@ -1,6 +1,7 @@
--- All parts together: the table of modules in order is one of a schema, where its unions have members and its bits are named by identifiers.
-use Rattle.std.proofs.Common.{◌≡◌, ℕ, ◌+◌, Bool, true, false, not, ◌&&◌, nat_eq, nat_lt, IsTrue, List, [], ◌∷◌, length, Some, refl}
+-- All parts together: the table of readable statements is one of a schema.
+use Rattle.std.proofs.Common.{◌≡◌, ℕ, ◌+◌, ◌<◌, ◌≤◌, ◌^◌, Bool, true, false, not, ◌&&◌, nat_eq, nat_lt, IsTrue, List, [], ◌∷◌, length, Some, refl, arith}
 use Rattle.std.specs.List.{list_all}
+use Rattle.std.proofs.lemmas.Bool.Decides.{nat_tests}
 use Rattle.sal_restrict.specs.declared.yang_type.YangType.{YangType, out-YangType}
 use Rattle.sal_restrict.specs.declared.yang_type.YangType.TheOpen.{YangType-F}
 use Rattle.sal_schema.specs.declared.table.NodeInfo.{NodeInfo}
@@ -9,8 +10,11 @@ use Rattle.sal_schema.specs.Kinds.{is_leaf, is_list}
 use Rattle.sal_schema.specs.Table.{all_from, is_kind, is_same, parent_of}
 use Rattle.sal_schema.specs.Valid.{is_identifier, are_named, agree, all_differ, is_empty, is_good_layer, is_good_type_layer, is_good_type}
 use Rattle.sal_schema.proofs.Conjuncts.{and_first, and_second}
-use Rattle.sal_tables.specs.Laws.{TablesAreTables, of_each, is_bounded, is_placed, is_spelled, is_finished}
+use Rattle.sal_typedefs.specs.Names.{steps_of}
+use Rattle.sal_tables.specs.Laws.{TablesAreTables, of_each, is_bounded, is_placed, is_spelled, has_members}
+use Rattle.sal_tables.specs.Readable.{is_readable}
 use Rattle.sal_tables.proofs.BoundedTypes.{types_are_bounded}
+use Rattle.sal_tables.proofs.CountedIdentities.{identities_are_statements}
 use Rattle.sal_tables.proofs.DistinctCalls.{call_names_differ}
 use Rattle.sal_tables.proofs.DistinctIdentities.{identity_names_differ}
 use Rattle.sal_tables.proofs.DistinctModules.{module_names_differ}
@@ -23,7 +27,9 @@ use Rattle.sal_tables.proofs.Numbers.{numbers_are_there, tables_are_small}
 use Rattle.sal_tables.proofs.PlacedNames.{names_are_placed}
 use Rattle.sal_tables.proofs.Quiet.{both}
 use Rattle.sal_tables.proofs.RightPlaces.{nodes_stand_right}
+use Rattle.sal_tables.proofs.SpelledBits.{own-places, bits_are_spelled}
 use Rattle.sal_tables.proofs.TypedLeafs.{leafs_are_typed}
+use Rattle.sal_tables.proofs.UnionMembers.{unions_have_members}
 use Rattle.sal_tables.proofs.Uniques.{keys_are_inside, uniques_are_below}
 
 wrong : false ≡ true → ⊥
@@ -62,23 +68,23 @@ module _ (table : SchemaTable) where
       (good-layer layer (and_first (is_bounded count layer) bs b) (and_first (is_placed layer) ps p) (and_first (is_spelled layer) ss s))
       (good-members members (and_second (is_bounded count layer) bs b) (and_second (is_placed layer) ps p) (and_second (is_spelled layer) ss s))
 
-  good-type-layer : (layer : YangType-F YangType) → IsTrue (of_each (is_bounded count) layer) → IsTrue (of_each is_placed layer) → IsTrue (is_finished layer) → IsTrue (is_good_type_layer table layer)
-  good-type-layer (YangType-F.Union members) b p f =
-      let spelled = list_all (λ m. is_spelled (out-YangType m)) members in
-      both (not (is_empty members)) (list_all (λ m. is_good_layer table (out-YangType m)) members) (and_first (not (is_empty members)) spelled f) (good-members members b p (and_second (not (is_empty members)) spelled f))
-  good-type-layer layer b p f = good-layer layer b p f
+  good-type-layer : (layer : YangType-F YangType) → IsTrue (of_each (is_bounded count) layer) → IsTrue (of_each is_placed layer) → IsTrue (of_each is_spelled layer) → IsTrue (has_members layer)
+      → IsTrue (is_good_type_layer table layer)
+  good-type-layer (YangType-F.Union members) b p s f = both (not (is_empty members)) (list_all (λ m. is_good_layer table (out-YangType m)) members) f (good-members members b p s)
+  good-type-layer layer b p s f = good-layer layer b p s
 
-  good-types : (types : List YangType) → IsTrue (list_all (λ ty. of_each (is_bounded count) (out-YangType ty)) types) → IsTrue (list_all (λ ty. of_each is_placed (out-YangType ty)) types) → IsTrue (list_all (λ ty. is_finished (out-YangType ty)) types)
-      → IsTrue (list_all (is_good_type table) types)
-  good-types [] b p f = refl
-  good-types (ty ∷ types) b p f =
+  good-types : (types : List YangType) → IsTrue (list_all (λ ty. of_each (is_bounded count) (out-YangType ty)) types) → IsTrue (list_all (λ ty. of_each is_placed (out-YangType ty)) types)
+      → IsTrue (list_all (λ ty. of_each is_spelled (out-YangType ty)) types) → IsTrue (list_all (λ ty. has_members (out-YangType ty)) types) → IsTrue (list_all (is_good_type table) types)
+  good-types [] b p s f = refl
+  good-types (ty ∷ types) b p s f =
       let layer = out-YangType ty in
       let bs = list_all (λ ty. of_each (is_bounded count) (out-YangType ty)) types in
       let ps = list_all (λ ty. of_each is_placed (out-YangType ty)) types in
-      let fs = list_all (λ ty. is_finished (out-YangType ty)) types in
+      let ss = list_all (λ ty. of_each is_spelled (out-YangType ty)) types in
+      let fs = list_all (λ ty. has_members (out-YangType ty)) types in
       both (is_good_type table ty) (list_all (is_good_type table) types)
-      (good-type-layer layer (and_first (of_each (is_bounded count) layer) bs b) (and_first (of_each is_placed layer) ps p) (and_first (is_finished layer) fs f))
-      (good-types types (and_second (of_each (is_bounded count) layer) bs b) (and_second (of_each is_placed layer) ps p) (and_second (is_finished layer) fs f))
+      (good-type-layer layer (and_first (of_each (is_bounded count) layer) bs b) (and_first (of_each is_placed layer) ps p) (and_first (of_each is_spelled layer) ss s) (and_first (has_members layer) fs f))
+      (good-types types (and_second (of_each (is_bounded count) layer) bs b) (and_second (of_each is_placed layer) ps p) (and_second (of_each is_spelled layer) ss s) (and_second (has_members layer) fs f))
 
 -- ---- keys
 
@@ -88,27 +94,35 @@ joined a b i (x ∷ xs) h k =
     both (a x && b i x) (all_from (λ n x. a x && b n x) (i + 1) xs) (both (a x) (b i x) (and_first (a x) (list_all a xs) h) (and_first (b i x) (all_from b (i + 1) xs) k))
     (joined a b (i + 1) xs (and_second (a x) (list_all a xs) h) (and_second (b i x) (all_from b (i + 1) xs) k))
 
+-- ---- identities
+
+fewer : (few count high : ℕ) → few ≤ count → IsTrue (nat_lt count high) → few < high
+fewer few count high h k = grind (arith, nat_tests)
+
 pub tables_are_tables : TablesAreTables
-tables_are_tables stmts table order e few finished =
+tables_are_tables stmts table readable e =
+    let each = and_first (list_all is_readable stmts) (nat_lt (steps_of stmts) (2 ^ 32)) readable in
+    let count = and_second (list_all is_readable stmts) (nat_lt (steps_of stmts) (2 ^ 32)) readable in
+    let differ = own-places stmts each in
     let (nodes, types, modules) = tables_are_small stmts table e in
-    let (rpcs, notifications) = call_names_differ stmts table order e in
+    let (rpcs, notifications) = call_names_differ stmts table differ e in
     record {
-      small = record { nodes = nodes; types = types; modules = modules; identities = few };
+      small = record { nodes = nodes; types = types; modules = modules; identities = fewer (length table.identities) (steps_of stmts) (2 ^ 32) (identities_are_statements stmts table e) count };
       numbers = numbers_are_there stmts table e;
-      places = nodes_stand_right stmts table order e;
-      names = nodes_are_named stmts table order e;
+      places = nodes_stand_right stmts table differ e;
+      names = nodes_are_named stmts table differ e;
       leaf_types = leafs_are_typed stmts table e;
       keys = joined (λ (node : NodeInfo). agree (is_list node.kind) (not (is_empty node.keys)) && all_differ nat_eq node.keys)
-          (λ n (node : NodeInfo). list_all (λ leaf. is_kind is_leaf table leaf && is_same (parent_of table leaf) (Some n)) node.keys) 0 table.nodes (keys_are_there stmts table order e) (keys_are_inside stmts table e);
+          (λ n (node : NodeInfo). list_all (λ leaf. is_kind is_leaf table leaf && is_same (parent_of table leaf) (Some n)) node.keys) 0 table.nodes (keys_are_there stmts table differ e) (keys_are_inside stmts table e);
       uniques = uniques_are_below stmts table e;
       module_names = modules_are_named stmts table e;
       identities = identities_are_good stmts table e;
-      types = good-types table table.types (types_are_bounded stmts table e) (names_are_placed stmts table e) finished;
+      types = good-types table table.types (types_are_bounded stmts table e) (names_are_placed stmts table e) (bits_are_spelled stmts table each e) (unions_have_members stmts table each e);
       distinct = record {
         modules = module_names_differ stmts table e;
         identities = identity_names_differ stmts table e;
         rpcs = rpcs;
         notifications = notifications;
-        data_nodes = data_names_differ stmts table order e;
+        data_nodes = data_names_differ stmts table differ e;
       };
     }

@@ -1,10 +1,7 @@
 -- The table that modules have is one of a schema, part by part.
-use Rattle.std.specs.Prelude.{◌≡◌, ℕ, ◌<◌, ◌^◌, ◌&&◌, ◌||◌, not, is_none, nat_eq, nat_lt, nat_le, Bool as Truth, true, false, List, length, Some, Ok, IsTrue}
+use Rattle.std.specs.Prelude.{◌≡◌, ℕ, ◌<◌, ◌≤◌, ◌^◌, ◌&&◌, ◌||◌, not, is_none, nat_eq, nat_lt, nat_le, Bool as Truth, true, false, List, length, Some, Ok, IsTrue}
 use Rattle.std.specs.List.{list_all}
 use Rattle.sal_stmt.specs.declared.stmt.Stmt.{Stmt}
-use Rattle.sal_stmt.specs.Text.{read}
-use Rattle.sal_stmt.specs.Words.{Text}
-use Rattle.sal_module.specs.Places.{is_in_order}
 use Rattle.sal_restrict.specs.declared.yang_type.YangType.{YangType, out-YangType}
 use Rattle.sal_restrict.specs.declared.yang_type.YangType.TheOpen.{YangType-F}
 use Rattle.sal_schema.specs.declared.table.SchemaTable.{SchemaTable}
@@ -14,12 +11,9 @@ use Rattle.sal_schema.specs.declared.kind.Kind.TheVariants.{Rpc, Notification}
 use Rattle.sal_schema.specs.Kinds.{is_leaf, is_list, is_rpc, is_notification}
 use Rattle.sal_schema.specs.Table.{all_from, is_kind, is_same, parent_of}
 use Rattle.sal_schema.specs.Valid.{IsTable, is_identifier, agree, all_differ, is_empty, is_width, lie_in_bits, are_named, has_its_type, has_numbers, has_its_uniques, stands_right, is_good_identity}
+use Rattle.sal_typedefs.specs.Names.{steps_of}
 use Rattle.sal_build.specs.Build.{build}
-use Rattle.sal_tables.specs.Readable.{are_readable}
-
--- What is read from a text of fewer than 2 ^ 32 bytes stands in its order: each statement before those in its block, and these before the next one.
-abbrev pub ReadIsInOrder : Type 0
-ReadIsInOrder = (text : Text) (stmt : Stmt) → length text < 2 ^ 32 → read text ≡ Ok stmt → IsTrue (is_in_order 64 (2 ^ 32) stmt)
+use Rattle.sal_tables.specs.Readable.{has_own_places, is_readable, are_readable}
 
 -- Each module is named by an identifier.
 abbrev pub ModulesAreNamed : Type 0
@@ -59,16 +53,16 @@ KeysAreInside =
 abbrev pub IdentityNamesDiffer : Type 0
 IdentityNamesDiffer = (stmts : List Stmt) (table : SchemaTable) → build stmts ≡ Ok table → IsTrue (are_distinct (identity_names table))
 
--- Where the statements of each module stand in the order of its text, each node is named by an identifier.
+-- Where each statement of a module has a place of its own, each node is named by an identifier.
 abbrev pub NodesAreNamed : Type 0
 NodesAreNamed =
-    (stmts : List Stmt) (table : SchemaTable) → IsTrue (list_all (is_in_order 64 (2 ^ 32)) stmts) → build stmts ≡ Ok table
+    (stmts : List Stmt) (table : SchemaTable) → IsTrue (list_all has_own_places stmts) → build stmts ≡ Ok table
     → IsTrue (list_all (λ (node : NodeInfo). is_identifier node.name) table.nodes)
 
 -- And just lists have keys: at least one, and none stands twice.
 abbrev pub KeysAreThere : Type 0
 KeysAreThere =
-    (stmts : List Stmt) (table : SchemaTable) → IsTrue (list_all (is_in_order 64 (2 ^ 32)) stmts) → build stmts ≡ Ok table
+    (stmts : List Stmt) (table : SchemaTable) → IsTrue (list_all has_own_places stmts) → build stmts ≡ Ok table
     → IsTrue (list_all (λ (node : NodeInfo). agree (is_list node.kind) (not (is_empty node.keys)) && all_differ nat_eq node.keys) table.nodes)
 
 -- of a type that is no union: an integer has 8, 16, 32 or 64 bits
@@ -115,41 +109,32 @@ is_placed layer = true
 abbrev pub NamesArePlaced : Type 0
 NamesArePlaced = (stmts : List Stmt) (table : SchemaTable) → build stmts ≡ Ok table → IsTrue (list_all (λ ty. of_each is_placed (out-YangType ty)) table.types)
 
--- a union has a member
-abbrev pub has_members : YangType-F YangType → Truth
-has_members (YangType-F.Union members) = not (is_empty members)
-has_members layer = true
-
--- Where the statements are as they are read from texts, unions have members.
-abbrev pub UnionsHaveMembers : Type 0
-UnionsHaveMembers = (stmts : List Stmt) (table : SchemaTable) → IsTrue (are_readable stmts) → build stmts ≡ Ok table → IsTrue (list_all (λ ty. has_members (out-YangType ty)) table.types)
-
--- Where the statements of each module stand in the order of its text, below each parent, looked for through choices and cases, each name stands for one node for data.
+-- Where each statement of a module has a place of its own, below each parent, looked for through choices and cases, each name stands for one node for data.
 abbrev pub DataNamesDiffer : Type 0
 DataNamesDiffer =
-    (stmts : List Stmt) (table : SchemaTable) → IsTrue (list_all (is_in_order 64 (2 ^ 32)) stmts) → build stmts ≡ Ok table
+    (stmts : List Stmt) (table : SchemaTable) → IsTrue (list_all has_own_places stmts) → build stmts ≡ Ok table
     → IsTrue (are_distinct (data_names table))
 
 -- And each name of a module stands for one RPC, and for one notification.
 abbrev pub CallNamesDiffer : Type 0
 CallNamesDiffer =
-    (stmts : List Stmt) (table : SchemaTable) → IsTrue (list_all (is_in_order 64 (2 ^ 32)) stmts) → build stmts ≡ Ok table
+    (stmts : List Stmt) (table : SchemaTable) → IsTrue (list_all has_own_places stmts) → build stmts ≡ Ok table
     → IsTrue (are_distinct (kind_names Rpc table)) × IsTrue (are_distinct (kind_names Notification table))
 
 -- A node that is no RPC and no notification, or has no parent.
 abbrev pub stands_at_the_top : NodeInfo → Truth
 stands_at_the_top node = not (is_rpc node.kind || is_notification node.kind) || is_none node.parent
 
--- Where the statements of each module stand in the order of its text, RPCs and notifications stand at the top.
+-- Where each statement of a module has a place of its own, RPCs and notifications stand at the top.
 abbrev pub CallsStandAtTheTop : Type 0
 CallsStandAtTheTop =
-    (stmts : List Stmt) (table : SchemaTable) → IsTrue (list_all (is_in_order 64 (2 ^ 32)) stmts) → build stmts ≡ Ok table
+    (stmts : List Stmt) (table : SchemaTable) → IsTrue (list_all has_own_places stmts) → build stmts ≡ Ok table
     → IsTrue (list_all stands_at_the_top table.nodes)
 
 -- And leafs have no children, the children of choices are cases, those of RPCs are inputs and outputs, and these stand nowhere else.
 abbrev pub NodesStandRight : Type 0
 NodesStandRight =
-    (stmts : List Stmt) (table : SchemaTable) → IsTrue (list_all (is_in_order 64 (2 ^ 32)) stmts) → build stmts ≡ Ok table
+    (stmts : List Stmt) (table : SchemaTable) → IsTrue (list_all has_own_places stmts) → build stmts ≡ Ok table
     → IsTrue (list_all (stands_right table) table.nodes)
 
 -- Of a type that is no union: bits are named by identifiers.
@@ -157,14 +142,27 @@ abbrev pub is_spelled : YangType-F YangType → Truth
 is_spelled (YangType-F.Bits names positions) = list_all is_identifier names
 is_spelled layer = true
 
--- And a union has members. No other law says so.
-abbrev pub is_finished : YangType-F YangType → Truth
-is_finished (YangType-F.Union members) = not (is_empty members) && list_all (λ member. is_spelled (out-YangType member)) members
-is_finished layer = is_spelled layer
+-- Where each statement of a module has a place of its own, and blocks are open 64 deep at most, bits are named by identifiers.
+abbrev pub BitsAreSpelled : Type 0
+BitsAreSpelled =
+    (stmts : List Stmt) (table : SchemaTable) → IsTrue (list_all is_readable stmts) → build stmts ≡ Ok table
+    → IsTrue (list_all (λ ty. of_each is_spelled (out-YangType ty)) table.types)
 
--- Where the statements of each module stand in the order of its text, fewer than 2 ^ 32 of them are identities, unions have members and bits are named by
--- identifiers, the table is one of a schema.
+-- There are no more identities than statements.
+abbrev pub IdentitiesAreStatements : Type 0
+IdentitiesAreStatements = (stmts : List Stmt) (table : SchemaTable) → build stmts ≡ Ok table → length table.identities ≤ steps_of stmts
+
+-- a union has members
+abbrev pub has_members : YangType-F YangType → Truth
+has_members (YangType-F.Union members) = not (is_empty members)
+has_members layer = true
+
+-- Where each statement of a module has a place of its own, and blocks are open 64 deep at most, unions have members.
+abbrev pub UnionsHaveMembers : Type 0
+UnionsHaveMembers =
+    (stmts : List Stmt) (table : SchemaTable) → IsTrue (list_all is_readable stmts) → build stmts ≡ Ok table
+    → IsTrue (list_all (λ ty. has_members (out-YangType ty)) table.types)
+
+-- Of statements as they are read from texts the table is one of a schema.
 abbrev pub TablesAreTables : Type 0
-TablesAreTables =
-    (stmts : List Stmt) (table : SchemaTable) → IsTrue (list_all (is_in_order 64 (2 ^ 32)) stmts) → build stmts ≡ Ok table → length table.identities < 2 ^ 32
-    → IsTrue (list_all (λ ty. is_finished (out-YangType ty)) table.types) → IsTable table
+TablesAreTables = (stmts : List Stmt) (table : SchemaTable) → IsTrue (are_readable stmts) → build stmts ≡ Ok table → IsTable table

@@ -1,11 +1,24 @@
 //! Laws of the definitions: the table that modules have is one of a schema. A call does nothing: its clause is the law.
-ghost use Rattle.std.specs.Prelude.{◌≡◌, true, false, codes, [], ◌∷◌};
+ghost use Rattle.std.specs.Prelude.{◌≡◌, true, false, codes, [], ◌∷◌, None};
 ghost use Rattle.sal_restrict.specs.declared.yang_type.YangType.TheOpen.{YangType-F};
-ghost use Rattle.sal_tables.specs.Laws.{is_bounded, is_finished, is_placed, CallNamesDiffer, CallsStandAtTheTop, DataNamesDiffer, IdentitiesAreGood, IdentityNamesDiffer, KeysAreInside, KeysAreThere, LeafsAreTyped, ModuleNamesDiffer, ModulesAreNamed, NamesArePlaced, NodesAreNamed, NodesStandRight, NumbersAreThere, ReadIsInOrder, TablesAreSmall, TablesAreTables, TypesAreBounded, TypesAreFlat, UnionsHaveMembers, UniquesAreBelow};
+ghost use Rattle.sal_tables.specs.Laws.{has_members, is_bounded, is_placed, is_spelled, BitsAreSpelled, CallNamesDiffer, CallsStandAtTheTop, DataNamesDiffer, IdentitiesAreGood, IdentitiesAreStatements, IdentityNamesDiffer, KeysAreInside, KeysAreThere, LeafsAreTyped, ModuleNamesDiffer, ModulesAreNamed, NamesArePlaced, NodesAreNamed, NodesStandRight, NumbersAreThere, TablesAreSmall, TablesAreTables, TypesAreBounded, TypesAreFlat, UnionsHaveMembers, UniquesAreBelow};
+ghost use Rattle.sal_stmt.specs.Text.{made};
+ghost use Rattle.sal_tables.specs.Readable.{has_own_places, is_shallow, ReadIsCounted, ReadIsInOrder, ReadIsReadable};
 
 /// The statements of a text of fewer than 2 ^ 32 bytes stand in its order: each before those in its block, and these before the next one.
 pub fn what_is_read_is_in_order()
     ensures { ReadIsInOrder }
+{}
+
+/// Each statement of a text takes a byte or more.
+pub fn what_is_read_is_counted()
+    ensures { ReadIsCounted }
+{}
+
+/// Statements that are read from texts of fewer than 2 ^ 32 bytes in all are readable: no two of a text have one place, blocks are open 64 deep at most, and
+/// there are fewer than 2 ^ 32 statements.
+pub fn what_is_read_is_readable()
+    ensures { ReadIsReadable }
 {}
 
 /// Each module is named by an identifier.
@@ -53,7 +66,7 @@ pub fn identity_names_differ()
     ensures { IdentityNamesDiffer }
 {}
 
-/// Where the statements of each module stand in the order of its text, each node is named by an identifier.
+/// Where each statement of a module has a place of its own, each node is named by an identifier.
 pub fn nodes_are_named()
     ensures { NodesAreNamed }
 {}
@@ -79,12 +92,7 @@ pub fn names_are_placed()
     ensures { NamesArePlaced }
 {}
 
-/// Where the statements are as they are read from texts, unions have members.
-pub fn unions_have_members()
-    ensures { UnionsHaveMembers }
-{}
-
-/// Where the statements of each module stand in the order of its text, each name stands for one node for data below each parent, looked for through
+/// Where each statement of a module has a place of its own, each name stands for one node for data below each parent, looked for through
 /// choices and cases.
 pub fn data_names_differ()
     ensures { DataNamesDiffer }
@@ -105,8 +113,22 @@ pub fn nodes_stand_right()
     ensures { NodesStandRight }
 {}
 
-/// Where the statements of each module stand in the order of its text, the table is one of a schema, but for three things that no law gives: that there are
-/// fewer than 2 ^ 32 identities, that unions have members, and that bits are named by identifiers.
+/// Where each statement of a module has a place of its own, and blocks are open 64 deep at most, bits are named by identifiers.
+pub fn bits_are_spelled()
+    ensures { BitsAreSpelled }
+{}
+
+/// There are no more identities than statements.
+pub fn identities_are_statements()
+    ensures { IdentitiesAreStatements }
+{}
+
+/// Where each statement of a module has a place of its own, and blocks are open 64 deep at most, unions have members.
+pub fn unions_have_members()
+    ensures { UnionsHaveMembers }
+{}
+
+/// Of statements as they are read from texts the table is one of a schema.
 pub fn tables_are_tables()
     ensures { TablesAreTables }
 {}
@@ -123,7 +145,15 @@ pub fn examples_of_types()
     ensures one_place { is_placed (YangType-F.Enum (codes "up" ∷ codes "down" ∷ []) (7 ∷ 7 ∷ [])) ≡ false }
     ensures last_bit { is_placed (YangType-F.Bits (codes "a" ∷ []) (63 ∷ [])) ≡ true }
     ensures no_bit { is_placed (YangType-F.Bits (codes "a" ∷ []) (64 ∷ [])) ≡ false }
-    ensures spelled { is_finished (YangType-F.Bits (codes "a-1" ∷ []) (0 ∷ [])) ≡ true }
-    ensures not_spelled { is_finished (YangType-F.Bits (codes "1-a" ∷ []) (0 ∷ [])) ≡ false }
-    ensures no_members { is_finished (YangType-F.Union []) ≡ false }
+    ensures spelled { is_spelled (YangType-F.Bits (codes "a-1" ∷ []) (0 ∷ [])) ≡ true }
+    ensures not_spelled { is_spelled (YangType-F.Bits (codes "1-a" ∷ []) (0 ∷ [])) ≡ false }
+    ensures no_members { has_members (YangType-F.Union []) ≡ false }
+{}
+
+/// Trees of statements that are as they are read from a text, and such as no text gives.
+pub fn examples_of_trees()
+    ensures own_places { has_own_places (made 0 (codes "a", None) (made 3 (codes "b", None) [] ∷ [])) ≡ true }
+    ensures one_place { has_own_places (made 3 (codes "a", None) (made 3 (codes "b", None) [] ∷ [])) ≡ false }
+    ensures a_level { is_shallow 1 (made 0 (codes "a", None) (made 3 (codes "b", None) [] ∷ [])) ≡ true }
+    ensures no_level { is_shallow 0 (made 0 (codes "a", None) (made 3 (codes "b", None) [] ∷ [])) ≡ false }
 {}

@@ -39,7 +39,7 @@ use Rattle.sal_build.specs.Types as types
 use Rattle.sal_build.proofs.Fillings.{type-zero, type-suc}
 use Rattle.sal_build.proofs.LeafWord.{same-text}
 use Rattle.sal_tables.specs.Laws.{UnionsHaveMembers, has_members}
-use Rattle.sal_tables.specs.Readable.{is_shallow, has_own_places, is_readable}
+use Rattle.sal_tables.specs.Readable.{is_shallow}
 use Rattle.sal_tables.proofs.Entries.{TypeEntry}
 use Rattle.sal_tables.proofs.Built.{built_ok, forest_of, nodes_of}
 use Rattle.sal_tables.proofs.Grown.{built-good}
@@ -49,7 +49,7 @@ use Rattle.sal_tables.proofs.OwnSites.{HaveSites, own-sites}
 use Rattle.sal_tables.proofs.Quiet.{both, front-nil}
 use Rattle.sal_tables.proofs.ReadSites.{IsReadSite, IsTyped, inner-read}
 use Rattle.sal_tables.proofs.Shapes.{all-flat, is_seed}
-use Rattle.sal_tables.proofs.SpelledBits.{own-places}
+use Rattle.sal_tables.proofs.SpelledBits.{own-places, all-shallow}
 use Rattle.sal_tables.proofs.ShortWays.{is_some_site, first_or, moves, next, Goes, no-longer}
 use Rattle.sal_tables.proofs.Unfaulted.{no-fault, judged-quiet, restrictions-quiet, said}
 
@@ -338,16 +338,10 @@ judged-has stmts shallow profile quiet site typed = elim (cases_Bool (is_faulty 
   ])
 ]
 
-each-shallow : (stmts : List Stmt) → IsTrue (list_all is_readable stmts) → IsTrue (list_all (is_shallow 64) stmts)
-each-shallow [] h = refl
-each-shallow (stmt ∷ stmts) h =
-    both (is_shallow 64 stmt) (list_all (is_shallow 64) stmts) (and_second (has_own_places stmt) (is_shallow 64 stmt) (and_first (is_readable stmt) (list_all is_readable stmts) h))
-    (each-shallow stmts (and_second (is_readable stmt) (list_all is_readable stmts) h))
-
 pub unions_have_members : UnionsHaveMembers
 unions_have_members stmts table readable e =
     let built = built_ok stmts table e in
-    let shallow = each-shallow stmts readable in
+    let shallow = all-shallow stmts readable in
     let (front, referred) = front-nil (types.name_faults stmts ++ identities.all_faults stmts) (leafrefs.all_faults stmts (forest_of stmts)) built.names in
     let (quiet, derived) = front-nil (types.name_faults stmts) (identities.all_faults stmts) front in
     let sites = own-sites stmts shallow (own-places stmts readable) in

@@ -1,8 +1,9 @@
 //! Laws of the definitions: the table that modules have is one of a schema. A call does nothing: its clause is the law.
-ghost use Rattle.std.specs.Prelude.{◌≡◌, true, false, codes, [], ◌∷◌};
+ghost use Rattle.std.specs.Prelude.{◌≡◌, true, false, codes, [], ◌∷◌, None};
 ghost use Rattle.sal_restrict.specs.declared.yang_type.YangType.TheOpen.{YangType-F};
-ghost use Rattle.sal_tables.specs.Laws.{has_members, is_bounded, is_placed, is_spelled, BitsAreSpelled, CallNamesDiffer, CallsStandAtTheTop, DataNamesDiffer, IdentitiesAreGood, IdentitiesAreStatements, IdentityNamesDiffer, KeysAreInside, KeysAreThere, LeafsAreTyped, ModuleNamesDiffer, ModulesAreNamed, NamesArePlaced, NodesAreNamed, NodesStandRight, NumbersAreThere, TablesAreSmall, TablesAreTables, TypesAreBounded, TypesAreFlat, UniquesAreBelow};
-ghost use Rattle.sal_tables.specs.Readable.{ReadIsCounted, ReadIsInOrder, ReadIsReadable};
+ghost use Rattle.sal_tables.specs.Laws.{has_members, is_bounded, is_placed, is_spelled, BitsAreSpelled, CallNamesDiffer, CallsStandAtTheTop, DataNamesDiffer, IdentitiesAreGood, IdentitiesAreStatements, IdentityNamesDiffer, KeysAreInside, KeysAreThere, LeafsAreTyped, ModuleNamesDiffer, ModulesAreNamed, NamesArePlaced, NodesAreNamed, NodesStandRight, NumbersAreThere, TablesAreSmall, TablesAreTables, TypesAreBounded, TypesAreFlat, UnionsHaveMembers, UniquesAreBelow};
+ghost use Rattle.sal_stmt.specs.Text.{made};
+ghost use Rattle.sal_tables.specs.Readable.{has_own_places, is_shallow, ReadIsCounted, ReadIsInOrder, ReadIsReadable};
 
 /// The statements of a text of fewer than 2 ^ 32 bytes stand in its order: each before those in its block, and these before the next one.
 pub fn what_is_read_is_in_order()
@@ -122,7 +123,12 @@ pub fn identities_are_statements()
     ensures { IdentitiesAreStatements }
 {}
 
-/// Of statements as they are read from texts, where unions have members, the table is one of a schema.
+/// Where each statement of a module has a place of its own, and blocks are open 64 deep at most, unions have members.
+pub fn unions_have_members()
+    ensures { UnionsHaveMembers }
+{}
+
+/// Of statements as they are read from texts the table is one of a schema.
 pub fn tables_are_tables()
     ensures { TablesAreTables }
 {}
@@ -142,4 +148,12 @@ pub fn examples_of_types()
     ensures spelled { is_spelled (YangType-F.Bits (codes "a-1" ∷ []) (0 ∷ [])) ≡ true }
     ensures not_spelled { is_spelled (YangType-F.Bits (codes "1-a" ∷ []) (0 ∷ [])) ≡ false }
     ensures no_members { has_members (YangType-F.Union []) ≡ false }
+{}
+
+/// Trees of statements that are as they are read from a text, and such as no text gives.
+pub fn examples_of_trees()
+    ensures own_places { has_own_places (made 0 (codes "a", None) (made 3 (codes "b", None) [] ∷ [])) ≡ true }
+    ensures one_place { has_own_places (made 3 (codes "a", None) (made 3 (codes "b", None) [] ∷ [])) ≡ false }
+    ensures a_level { is_shallow 1 (made 0 (codes "a", None) (made 3 (codes "b", None) [] ∷ [])) ≡ true }
+    ensures no_level { is_shallow 0 (made 0 (codes "a", None) (made 3 (codes "b", None) [] ∷ [])) ≡ false }
 {}

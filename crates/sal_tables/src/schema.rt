@@ -5,7 +5,7 @@ ghost use Rattle.sal_module.specs.declared.fault.BuildFault.{BuildFault as Fault
 ghost use Rattle.sal_build.specs.Build as spec;
 ghost use Rattle.sal_tables.specs.Readable.{are_readable};
 
-use crate::laws::{tables_are_tables, unions_have_members};
+use crate::laws::tables_are_tables;
 use sal_build::table_of_modules;
 use sal_module::BuildFault;
 use sal_schema::Schema;
@@ -21,7 +21,6 @@ pub fn build(alloc: Global, stmts: &[Stmt]) -> Result<Schema, BuildFault>
     ensures { GivesUnless Fault.NoMemory (λ schema. schema) result (spec.build stmts.now) }
 {
     tables_are_tables();
-    unions_have_members();
     let table = table_of_modules(alloc, stmts)?;
     Ok(Schema::from_table(alloc, table)?)
 }

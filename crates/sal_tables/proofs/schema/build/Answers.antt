@@ -5,8 +5,4 @@ pub table_of_modules-requires : goal.table_of_modules-requires
 table_of_modules-requires c = counted c.args.stmts.now c.requires
 
 pub from_table-requires : goal.from_table-requires
-from_table-requires c =
-    let stmts = c.args.stmts.now in
-    let table = c.in_ok-table.table in
-    let built = c.in_ok-table.ensures in
-    c.tables_are_tables.ensures stmts table c.requires built (c.unions_have_members.ensures stmts table c.requires built)
+from_table-requires c = c.tables_are_tables.ensures c.args.stmts.now c.in_ok-table.table c.requires c.in_ok-table.ensures

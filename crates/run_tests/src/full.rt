@@ -7,7 +7,6 @@ ghost use Rattle.sal_run.specs.Worked.{IsNew};
 ghost use Rattle.run_tests.specs.Ready.{IsFirst, IsOpened};
 
 use sal_broker::{Sal, Seat};
-use sal_build::build;
 use sal_client::{ClientRun, Readers, RunFault};
 use sal_history::{Device, Opening};
 use sal_hub::MAX_ENTRIES;
@@ -17,6 +16,8 @@ use sal_run::{Finished, Hall, SeatedRun, run_clients};
 use sal_schema::Schema;
 use sal_script::{Program, read_script};
 use sal_stmt::read_module;
+use sal_tables::build;
+use sal_tables::laws::what_is_read_is_readable;
 use std::alloc::Global;
 use std::sync::{Arc, Wait};
 use std::test::Fail;
@@ -28,7 +29,9 @@ const NO_NODES: &str = "module nothing { namespace 'urn:nothing'; prefix n; }";
 const PUMP: &str = r#"{"clients":[{"steps":[["pump"]]}]}"#;
 
 fn no_nodes(alloc: Global) -> Result<Arc<Schema>, Fail> {
-    let modules = vec![in alloc; read_module(alloc, NO_NODES)?]?;
+    what_is_read_is_readable();
+    let module = read_module(alloc, NO_NODES)?;
+    let modules = vec![in alloc; module]?;
     let schema = build(alloc, &modules)?;
     Ok(Arc::new(alloc, schema)?)
 }

@@ -1,5 +1,5 @@
 -- The numbers of bases have 32 bits, where there are fewer than 2^32 statements.
-use Rattle.std.proofs.Common.{◌≡◌, ℕ, zero, suc, ◌<◌, ◌^◌, nat_lt, All, List, [], ◌∷◌, ◌++◌, map, length, get_or, Option, Some, None, Ok, inl, inr, arith, absurd}
+use Rattle.std.proofs.Common.{◌≡◌, ℕ, zero, suc, ◌<◌, ◌^◌, nat_lt, All, List, [], ◌∷◌, map, length, Option, Some, None, Ok, inl, inr}
 use Rattle.std.specs.Prelude.{IfSome}
 use Rattle.std.specs.List.{flat_map}
 use Rattle.std.specs.Option.{option_to_list}

@@ -1,9 +1,8 @@
-//! From YANG modules to their schema (RFC 7950), or to the first fault.
+//! From YANG modules to the table of their schema (RFC 7950), or to the first fault.
 //!
 //! | item | what it is |
 //! |---|---|
-//! | `build` | the schema of modules, or their first fault |
-//! | `table_of_modules` | its table as data |
+//! | `table_of_modules` | the table of modules, or their first fault |
 //! | `Key` | what a node is found by: its parent, its module and its name |
 //! | `examples` | worked examples, as laws |
 //!
@@ -13,8 +12,8 @@
 //! types of nodes (`Filled`).
 //!
 //! ```
-//! let schema = build(alloc, &stmts)?;
-//! let text = schema.text(alloc)?; // a line for each node
+//! let table = table_of_modules(alloc, &stmts)?;
+//! let nodes = table.nodes.items().len();
 //! ```
 //!
 //! Cost: linear in the statements and the nodes, times the logarithm of the nodes, where no type rests on many others. Each type
@@ -45,4 +44,4 @@ mod walk;
 mod words;
 
 pub use child::Key;
-pub use schema::{build, table_of_modules};
+pub use schema::table_of_modules;

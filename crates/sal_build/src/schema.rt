@@ -1,5 +1,5 @@
 //! All parts together: modules to the table of their schema, or to their first fault.
-ghost use Rattle.std.specs.Prelude.{◌≡◌, ◌≤◌, ◌++◌, ◌∷◌, [], List, None, IfOk, length, map, if◌then◌else◌};
+ghost use Rattle.std.specs.Prelude.{◌≡◌, ◌≤◌, ◌<◌, ◌^◌, ◌++◌, ◌∷◌, [], List, None, IfOk, length, map, if◌then◌else◌};
 ghost use Rattle.std.specs.Coded.{codes};
 ghost use Rattle.sal_types.specs.Reading.{GivesUnless};
 ghost use Rattle.sal_stmt.specs.contracts.stmt.Stmt as e;
@@ -9,6 +9,7 @@ ghost use Rattle.sal_module.specs.declared.fault.Found.{Found as Hit};
 ghost use Rattle.sal_module.specs.Faults.{least, fault_of};
 ghost use Rattle.sal_module.specs.Statements.{argument_of as argument};
 ghost use Rattle.sal_grouping.specs.Indexes.{lists};
+ghost use Rattle.sal_typedefs.specs.Names.{steps_of};
 ghost use Rattle.sal_build.specs.Filled as fillings;
 ghost use Rattle.sal_build.specs.Leafrefs as leads;
 ghost use Rattle.sal_build.specs.Build as spec;
@@ -30,9 +31,8 @@ use crate::types::{type_name_fault, type_other_fault};
 use sal_grouping::{Branch, Forest, expand};
 use sal_module::{BuildFault, Found, Modules, argument_of, better, check};
 use sal_restrict::YangType;
-use sal_schema::{IdentityInfo, NodeInfo, Schema, SchemaTable};
+use sal_schema::{IdentityInfo, NodeInfo, SchemaTable};
 use sal_stmt::Stmt;
-use sal_table::schema_of;
 use sal_typedefs::Typedefs;
 use sal_types::{NoMemory, Seq, Str};
 use std::alloc::Global;
@@ -334,7 +334,8 @@ fn judge_by_typedefs(sources: &Sources) -> Result<SchemaTable, BuildFault>
 
 /// The table of a forest, or the first fault of types, then of lists.
 fn judge(alloc: Global, modules: &Modules, forest: &Forest) -> Result<SchemaTable, BuildFault>
-    requires { length forest.now ≤ 65536 }
+    requires few { length forest.now ≤ 65536 }
+    requires counted { steps_of modules.now < 2 ^ 32 }
     ensures { GivesUnless Fault.NoMemory (λ table. table) result (spec.judged modules.now forest.now) }
 {
     let typedefs = Typedefs::new(alloc, modules)?;
@@ -352,24 +353,12 @@ fn judge(alloc: Global, modules: &Modules, forest: &Forest) -> Result<SchemaTabl
 /// A part is judged only where those before it found nothing: the profile and the imports, groupings and augments with the names
 /// of nodes (RFC 7950 sections 7.12, 7.13 and 7.17), the names of types, identities and leafrefs, the other faults of types,
 /// and the keys, unique leafs and `config` of nodes. Within a part it is the fault with the smallest module, then the smallest
-/// place, then the smallest number.
+/// place, then the smallest number. The number of an identity is one of 32 bits, so there are to be fewer than 2^32 statements.
 pub fn table_of_modules(alloc: Global, stmts: &[Stmt]) -> Result<SchemaTable, BuildFault>
+    requires { steps_of stmts.now < 2 ^ 32 }
     ensures { GivesUnless Fault.NoMemory (λ table. table) result (spec.build stmts.now) }
 {
     let modules = check(alloc, stmts)?;
     let forest = expand(alloc, &modules)?;
     judge(alloc, &modules, &forest)
-}
-
-/// The schema of these modules, or their first fault, as `table_of_modules` has it.
-///
-/// That the table is one of a schema is tested, in the time that it takes to make it.
-pub fn build(alloc: Global, stmts: &[Stmt]) -> Result<Schema, BuildFault>
-    ensures { GivesUnless Fault.NoMemory (λ schema. schema) result (spec.build stmts.now) }
-{
-    let table = table_of_modules(alloc, stmts)?;
-    match schema_of(alloc, table) {
-        Ok(schema) => Ok(schema),
-        Err(_) => Err(BuildFault::NoMemory),
-    }
 }

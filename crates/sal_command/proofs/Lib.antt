@@ -13,5 +13,6 @@ pub mod Numerals
 pub mod Roots
 pub mod SoundWorlds
 pub mod Statements
+pub mod ReadTexts
 pub mod Statuses
 pub mod Worlds

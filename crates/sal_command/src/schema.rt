@@ -1,13 +1,14 @@
 //! From the texts of a domain's modules to their schema.
-ghost use Rattle.std.specs.Prelude.{◌≡◌, IsTrue};
-ghost use Rattle.sal_script.specs.Limits.{are_short, is_short};
+ghost use Rattle.std.specs.Prelude.{◌≡◌, ◌<◌, ◌^◌, IsTrue, length};
+ghost use Rattle.sal_script.specs.Limits.{are_short};
 ghost use Rattle.sal_stmt.specs.Text.{Gives, read};
 ghost use Rattle.sal_command.specs.Schemas as spec;
 
 use crate::schema_fault::{SchemaFault, of_modules, of_text};
-use sal_build::build;
 use sal_schema::Schema;
 use sal_stmt::{Stmt, StmtFault, read_module};
+use sal_tables::build;
+use sal_tables::laws::what_is_read_is_readable;
 use sal_types::Str;
 use std::alloc::Global;
 
@@ -16,6 +17,7 @@ pub fn schema_of(alloc: Global, texts: &[Str]) -> Result<Schema, SchemaFault>
     requires { IsTrue (are_short texts.now) }
     ensures { spec.Makes (λ schema. schema) result (spec.table_of texts.now) }
 {
+    what_is_read_is_readable();
     let stmts = statements_of(alloc, texts)?;
     match build(alloc, &stmts) {
         Ok(schema) => Ok(schema),
@@ -38,7 +40,7 @@ fn statements_of(alloc: Global, texts: &[Str]) -> Result<Vec<Stmt>, SchemaFault>
 
 // The statement of the text of the module with this number.
 fn statement_of(alloc: Global, number: usize, text: &Str) -> Result<Stmt, SchemaFault>
-    requires { IsTrue (is_short text.now) }
+    requires { length text.now < 2 ^ 32 }
     ensures { spec.Makes (λ stmt. stmt) result (spec.or_text number (read text.now)) }
 {
     match read_module(alloc, text.as_str()) {

@@ -22,5 +22,6 @@ pub mod Orders
 pub mod Played
 pub mod Readers
 pub mod Reported
+pub mod ShortTexts
 pub mod Summed
 pub mod Tables

@@ -1,6 +1,6 @@
 -- How large a script is.
 use Rattle.std.specs.Prelude.{ℕ, Bool, ◌&&◌, ◌^◌, List, length, nat_le, nat_lt}
-use Rattle.std.specs.List.{list_all}
+use Rattle.std.specs.List.{list_all, sum_by}
 
 -- at most 16 clients with at most 60000 steps each
 abbrev pub within_limits : {Step : Type 0} → List (List Step) → Bool
@@ -10,9 +10,6 @@ within_limits clients = nat_le (length clients) 16 && list_all (λ steps. nat_le
 abbrev pub are_few : {Device : Type 0} → List Device → Bool
 are_few devices = nat_le (length devices) 63
 
--- a text whose bytes have places below 2^32
-abbrev pub is_short : List ℕ → Bool
-is_short text = nat_lt (length text) (2 ^ 32)
-
+-- texts with fewer than 2^32 bytes together
 abbrev pub are_short : List (List ℕ) → Bool
-are_short texts = list_all is_short texts
+are_short texts = nat_lt (sum_by length texts) (2 ^ 32)

@@ -7,7 +7,7 @@ use Rattle.serde_json.specs.Find.{as_str, as_object, get_member}
 use Rattle.sal_script.specs.Moves.{Move}
 use Rattle.sal_script.specs.Steps.{number_of, step_of}
 use Rattle.sal_script.specs.declared.script.TheConstants.{PLAIN}
-use Rattle.sal_script.specs.Limits.{is_short}
+use Rattle.sal_script.specs.Limits.{are_short}
 use Rattle.sal_script.specs.Json.{list_of, all_named, data_of}
 
 -- what a device has, and the controller's own domain
@@ -94,13 +94,17 @@ all_of f (d ∷ ds) = option_and_then (λ x. option_map (λ xs. x ∷ xs) (all_o
 abbrev pub numbers_of : List Data → Option (List ℕ)
 numbers_of ds = all_of number_of ds
 
--- the text of a module
-abbrev pub text_of : Data → Option (List ℕ)
-text_of d = option_and_then (λ text. if is_short text then Some text else None) (as_str d)
+-- the texts in an array
+abbrev pub texts_in : Data → Option (List (List ℕ))
+texts_in d = option_and_then (all_of as_str) (list_of d)
+
+-- texts, where they have fewer than 2^32 bytes together
+abbrev pub if_short : List (List ℕ) → Option (List (List ℕ))
+if_short texts = if are_short texts then Some texts else None
 
 -- the texts of these modules
 abbrev pub texts_of : Data → Option (List (List ℕ))
-texts_of d = option_and_then (all_of text_of) (list_of d)
+texts_of d = option_and_then if_short (texts_in d)
 
 -- the texts of the modules; where there is no such member, that of the module `plain`
 abbrev pub modules_member : Members → Option (List (List ℕ))

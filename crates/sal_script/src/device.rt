@@ -1,11 +1,11 @@
 //! What domains have, in the members of a script and of each device: the texts of modules and the data of openings.
-ghost use Rattle.std.specs.Prelude.{◌≡◌, [], ◌∷◌, codes, map, option_and_then, option_map, IfOk, IfErr, IfSome, IsTrue};
+ghost use Rattle.std.specs.Prelude.{◌≡◌, [], ◌∷◌, codes, map, option_and_then, option_map, IfOk, IfErr, IsTrue};
 ghost use Rattle.std.specs.List.{list_all};
-ghost use Rattle.serde_json.specs.Find.{get_member};
+ghost use Rattle.serde_json.specs.Find.{as_str, get_member};
 ghost use Rattle.serde_json.specs.View.{view, members_view};
 ghost use Rattle.sal_value.specs.Json.{HasJson, is_json};
 ghost use Rattle.sal_script.specs.Reading.{Reads, device, devices};
-ghost use Rattle.sal_script.specs.Limits.{are_few, are_short, is_short};
+ghost use Rattle.sal_script.specs.Limits.{are_few, are_short};
 ghost use Rattle.sal_script.specs.Script as spec;
 ghost use Rattle.sal_script.specs.declared.script.TheConstants.{PLAIN};
 
@@ -15,6 +15,9 @@ use crate::values::{at_most, list_member, list_of, member, members_of};
 use sal_types::{Seq, Str};
 use serde_json::{Map, Value};
 use std::alloc::Global;
+
+/// The most bytes that the texts of a domain's modules have together.
+const MAX_BYTES: usize = (1 << 32) - 1;
 
 // ---- modules
 
@@ -43,10 +46,20 @@ fn plain(alloc: Global) -> Result<Vec<Str>, ScriptFault>
     Ok(texts)
 }
 
-// The texts of the modules in an array.
+// The texts of the modules in an array, of fewer than 2^32 bytes together.
 fn texts_in(alloc: Global, value: &Value) -> Result<Vec<Str>, ScriptFault>
     ensures texts { Reads (λ texts. texts.items) result (spec.or_bad (codes "modules") (spec.texts_of (view value.now))) }
     ensures short { IfOk result (λ texts. IsTrue (are_short texts.items)) }
+{
+    match listed_texts(alloc, value) {
+        Ok(texts) => short_texts(alloc, texts),
+        Err(fault) => Err(fault),
+    }
+}
+
+// The texts in an array.
+fn listed_texts(alloc: Global, value: &Value) -> Result<Vec<Str>, ScriptFault>
+    ensures { Reads (λ texts. texts.items) result (spec.or_bad (codes "modules") (spec.texts_in (view value.now))) }
 {
     match list_of(value) {
         Some(list) => texts_of(alloc, list),
@@ -54,10 +67,9 @@ fn texts_in(alloc: Global, value: &Value) -> Result<Vec<Str>, ScriptFault>
     }
 }
 
-// The texts of these modules.
+// These texts.
 fn texts_of(alloc: Global, list: &[Value]) -> Result<Vec<Str>, ScriptFault>
-    ensures texts { Reads (λ texts. texts.items) result (spec.or_bad (codes "modules") (spec.all_of spec.text_of (map view list.now))) }
-    ensures short { IfOk result (λ texts. IsTrue (are_short texts.items)) }
+    ensures { Reads (λ texts. texts.items) result (spec.or_bad (codes "modules") (spec.all_of as_str (map view list.now))) }
 {
     let mut texts = Vec::with_capacity(alloc, list.len())?;
     for value in list {
@@ -71,13 +83,35 @@ fn texts_of(alloc: Global, list: &[Value]) -> Result<Vec<Str>, ScriptFault>
 
 // The text of a module.
 fn text_of(value: &Value) -> Option<&str>
-    ensures text { option_map (λ text. text.now) result ≡ spec.text_of (view value.now) }
-    ensures short { IfSome result (λ text. IsTrue (is_short text.now)) }
+    ensures text { option_map (λ text. text.now) result ≡ as_str (view value.now) }
 {
-    match value.as_str() {
-        Some(text) if text.len() < 1 << 32 => Some(text),
-        _ => None,
+    value.as_str()
+}
+
+// These texts, where they have fewer than 2^32 bytes together.
+fn short_texts(alloc: Global, texts: Vec<Str>) -> Result<Vec<Str>, ScriptFault>
+    ensures texts { Reads (λ texts. texts.items) result (spec.or_bad (codes "modules") (spec.if_short texts.items)) }
+    ensures short { IfOk result (λ texts. IsTrue (are_short texts.items)) }
+{
+    if !are_short(&texts) {
+        return Err(bad(alloc, "modules"));
     }
+    Ok(texts)
+}
+
+// Whether texts have fewer than 2^32 bytes together.
+fn are_short(texts: &[Str]) -> bool
+    ensures { result ≡ are_short texts.now }
+{
+    let mut room = MAX_BYTES;
+    for text in texts {
+        let bytes = text.as_str().len();
+        if bytes > room {
+            return false;
+        }
+        room -= bytes;
+    }
+    true
 }
 
 // ---- openings

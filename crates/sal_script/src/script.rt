@@ -183,7 +183,7 @@ pub enum ScriptStep {
 /// The steps of a client, in order.
 pub type Program = Seq<ScriptStep>;
 
-/// A device that can be mounted: the texts of its modules, each shorter than 4 GiB, and the data of its opening trees.
+/// A device that can be mounted: the texts of its modules, together shorter than 4 GiB, and the data of its opening trees.
 #[derive(Drop)]
 pub struct ScriptDevice {
     pub modules: Seq<Str>,
@@ -193,7 +193,7 @@ pub struct ScriptDevice {
     ghost opening: { IsTrue (is_json (view config) && is_json (view operational)) },
 }
 
-/// A script: the texts of its modules, each shorter than 4 GiB, the data of its opening trees, at most 63 devices, at most 16
+/// A script: the texts of its modules, together shorter than 4 GiB, the data of its opening trees, at most 63 devices, at most 16
 /// clients with at most 60,000 steps each, and the order of their shared calls. The device at index `i` is domain `i + 1`.
 #[derive(Drop)]
 pub struct Script {

@@ -36,6 +36,12 @@ pub mod RightPlaces
 pub mod CountedIdentities
 pub mod SoundTypes
 pub mod SpelledBits
+pub mod Members
+pub mod ReadSites
+pub mod OwnSites
+pub mod ShortWays
+pub mod UnionMembers
 pub mod WholeTables
 pub mod OrderedTexts
 pub mod ReadableTexts
+pub mod Counted

@@ -1,4 +1,4 @@
--- All parts together: the table of readable statements is one of a schema, where its unions have members.
+-- All parts together: the table of readable statements is one of a schema.
 use Rattle.std.proofs.Common.{◌≡◌, ℕ, ◌+◌, ◌<◌, ◌≤◌, ◌^◌, Bool, true, false, not, ◌&&◌, nat_eq, nat_lt, IsTrue, List, [], ◌∷◌, length, Some, refl, arith}
 use Rattle.std.specs.List.{list_all}
 use Rattle.std.proofs.lemmas.Bool.Decides.{nat_tests}
@@ -29,6 +29,7 @@ use Rattle.sal_tables.proofs.Quiet.{both}
 use Rattle.sal_tables.proofs.RightPlaces.{nodes_stand_right}
 use Rattle.sal_tables.proofs.SpelledBits.{own-places, bits_are_spelled}
 use Rattle.sal_tables.proofs.TypedLeafs.{leafs_are_typed}
+use Rattle.sal_tables.proofs.UnionMembers.{unions_have_members}
 use Rattle.sal_tables.proofs.Uniques.{keys_are_inside, uniques_are_below}
 
 wrong : false ≡ true → ⊥
@@ -99,7 +100,7 @@ fewer : (few count high : ℕ) → few ≤ count → IsTrue (nat_lt count high) 
 fewer few count high h k = grind (arith, nat_tests)
 
 pub tables_are_tables : TablesAreTables
-tables_are_tables stmts table readable e members =
+tables_are_tables stmts table readable e =
     let each = and_first (list_all is_readable stmts) (nat_lt (steps_of stmts) (2 ^ 32)) readable in
     let count = and_second (list_all is_readable stmts) (nat_lt (steps_of stmts) (2 ^ 32)) readable in
     let differ = own-places stmts each in
@@ -116,7 +117,7 @@ tables_are_tables stmts table readable e members =
       uniques = uniques_are_below stmts table e;
       module_names = modules_are_named stmts table e;
       identities = identities_are_good stmts table e;
-      types = good-types table table.types (types_are_bounded stmts table e) (names_are_placed stmts table e) (bits_are_spelled stmts table each e) members;
+      types = good-types table table.types (types_are_bounded stmts table e) (names_are_placed stmts table e) (bits_are_spelled stmts table each e) (unions_have_members stmts table each e);
       distinct = record {
         modules = module_names_differ stmts table e;
         identities = identity_names_differ stmts table e;

@@ -157,8 +157,12 @@ abbrev pub has_members : YangType-F YangType → Truth
 has_members (YangType-F.Union members) = not (is_empty members)
 has_members layer = true
 
--- Of statements as they are read from texts, where unions have members, the table is one of a schema.
+-- Where each statement of a module has a place of its own, and blocks are open 64 deep at most, unions have members.
+abbrev pub UnionsHaveMembers : Type 0
+UnionsHaveMembers =
+    (stmts : List Stmt) (table : SchemaTable) → IsTrue (list_all is_readable stmts) → build stmts ≡ Ok table
+    → IsTrue (list_all (λ ty. has_members (out-YangType ty)) table.types)
+
+-- Of statements as they are read from texts the table is one of a schema.
 abbrev pub TablesAreTables : Type 0
-TablesAreTables =
-    (stmts : List Stmt) (table : SchemaTable) → IsTrue (are_readable stmts) → build stmts ≡ Ok table
-    → IsTrue (list_all (λ ty. has_members (out-YangType ty)) table.types) → IsTable table
+TablesAreTables = (stmts : List Stmt) (table : SchemaTable) → IsTrue (are_readable stmts) → build stmts ≡ Ok table → IsTable table

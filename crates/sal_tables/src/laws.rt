@@ -1,7 +1,7 @@
 //! Laws of the definitions: the table that modules have is one of a schema. A call does nothing: its clause is the law.
 ghost use Rattle.std.specs.Prelude.{◌≡◌, true, false, codes, [], ◌∷◌, None};
 ghost use Rattle.sal_restrict.specs.declared.yang_type.YangType.TheOpen.{YangType-F};
-ghost use Rattle.sal_tables.specs.Laws.{has_members, is_bounded, is_placed, is_spelled, BitsAreSpelled, CallNamesDiffer, CallsStandAtTheTop, DataNamesDiffer, IdentitiesAreGood, IdentitiesAreStatements, IdentityNamesDiffer, KeysAreInside, KeysAreThere, LeafsAreTyped, ModuleNamesDiffer, ModulesAreNamed, NamesArePlaced, NodesAreNamed, NodesStandRight, NumbersAreThere, TablesAreSmall, TablesAreTables, TypesAreBounded, TypesAreFlat, UniquesAreBelow};
+ghost use Rattle.sal_tables.specs.Laws.{has_members, is_bounded, is_placed, is_spelled, BitsAreSpelled, CallNamesDiffer, CallsStandAtTheTop, DataNamesDiffer, IdentitiesAreGood, IdentitiesAreStatements, IdentityNamesDiffer, KeysAreInside, KeysAreThere, LeafsAreTyped, ModuleNamesDiffer, ModulesAreNamed, NamesArePlaced, NodesAreNamed, NodesStandRight, NumbersAreThere, TablesAreSmall, TablesAreTables, TypesAreBounded, TypesAreFlat, UnionsHaveMembers, UniquesAreBelow};
 ghost use Rattle.sal_stmt.specs.Text.{made};
 ghost use Rattle.sal_tables.specs.Readable.{has_own_places, is_shallow, ReadIsCounted, ReadIsInOrder, ReadIsReadable};
 
@@ -123,7 +123,12 @@ pub fn identities_are_statements()
     ensures { IdentitiesAreStatements }
 {}
 
-/// Of statements as they are read from texts, where unions have members, the table is one of a schema.
+/// Where each statement of a module has a place of its own, and blocks are open 64 deep at most, unions have members.
+pub fn unions_have_members()
+    ensures { UnionsHaveMembers }
+{}
+
+/// Of statements as they are read from texts the table is one of a schema.
 pub fn tables_are_tables()
     ensures { TablesAreTables }
 {}

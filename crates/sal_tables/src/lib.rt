@@ -1,18 +1,23 @@
-//! The table that modules have is one of a schema, part by part.
+//! The schema of YANG modules (RFC 7950), and laws: the table that modules have is one of a schema, part by part.
 //!
 //! | item | what it is |
 //! |---|---|
+//! | `build` | the schema of modules, or their first fault |
 //! | `laws` | functions that do nothing, each with a law as its contract |
 //!
-//! A law says of all statements that have a table by the definition `build` of `sal_build`, or of those that stand in the order of
-//! a text, that a part of `IsTable` holds of that table (`specs/Laws`). `tables_are_tables` puts them together. `sal_build` does not
-//! stand on them: it tests each table that it made.
+//! A law says of all statements that have a table by the definition `build` of `sal_build`, or of those that are as they are read from texts
+//! (`specs/Readable`), that a part of `IsTable` holds of that table (`specs/Laws`). `tables_are_tables` puts them together, and
+//! `build` stands on it: nothing tests the table.
 //!
 //! ```
-//! laws::tables_are_tables();
+//! let schema = build(alloc, &stmts)?;
+//! let text = schema.text(alloc)?; // a line for each node
 //! ```
 //!
-//! Costs: none, since nothing here runs.
+//! Costs: `build` costs what `table_of_modules` of `sal_build` and `Schema::from_table` cost. A law costs nothing.
 #![tactic(auto)]
 
 pub mod laws;
+mod schema;
+
+pub use schema::build;

@@ -1,5 +1,5 @@
 -- Identities have numbers below the number of statements.
-use Rattle.std.proofs.Common.{◌≡◌, ℕ, zero, suc, ◌+◌, ◌<◌, ◌≤◌, ◌^◌, List, [], ◌∷◌, length, take, filter, get_or, Bool, Option, Some, None, refl, ap, inl, inr, arith}
+use Rattle.std.proofs.Common.{◌≡◌, ℕ, zero, suc, ◌+◌, ◌<◌, ◌≤◌, ◌^◌, List, [], ◌∷◌, length, take, filter, Bool, Option, Some, None, refl, ap, inl, inr, arith}
 use Rattle.std.specs.Prelude.{IfSome, option_map, option_and_then}
 use Rattle.std.specs.List.{position_from, slice_get, sum_by}
 use Rattle.std.proofs.lemmas.Bool.{cases_Bool}

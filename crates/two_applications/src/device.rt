@@ -2,11 +2,12 @@
 ghost use Rattle.std.specs.Prelude.{IfOk};
 ghost use Rattle.sal_hub.specs.Openings.{IsClosedDevice};
 
-use sal_build::build;
 use sal_history::{Device, Opening};
 use sal_rows::Rows;
 use sal_schema::Schema;
 use sal_stmt::read_module;
+use sal_tables::build;
+use sal_tables::laws::what_is_read_is_readable;
 use std::alloc::Global;
 use std::sync::Arc;
 
@@ -20,7 +21,9 @@ const TUNNELS: &str = "module tunnels {
 
 /// The schema of the module.
 pub(crate) fn schema(alloc: Global) -> anyhow::Result<Schema> {
-    let modules = vec![in alloc; read_module(alloc, TUNNELS)?]?;
+    what_is_read_is_readable();
+    let module = read_module(alloc, TUNNELS)?;
+    let modules = vec![in alloc; module]?;
     Ok(build(alloc, &modules)?)
 }
 

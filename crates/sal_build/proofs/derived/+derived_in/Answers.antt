@@ -25,4 +25,4 @@ add_with-requires t c =
     let P : ℕ → Type 0 = λ b. b < 2 ^ 32 in
     let bases = c.out_of-base-items.result.now in
     let all : All P bases = subst (All P) (sym c.out_of-base-items.ensures) (c.requires c.args.i) in
-    subst P (sym c.base-item.is) (All-get_or P bases c.loop-base.base-index c.base-item.result c.loop-base-test.true all)
+    All-get_or P bases c.loop-base.base-index _ c.loop-base-test.true all

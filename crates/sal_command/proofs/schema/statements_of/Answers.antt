@@ -1,5 +1,9 @@
+use Rattle.sal_command.proofs.ReadTexts.{short_one}
 use Rattle.sal_command.proofs.Statements.{makes_err, text_fault}
 use Rattle.sal_command.proofs.schema.statements_of.Goals as goal
+
+pub statement_of-requires : goal.statement_of-requires
+statement_of-requires c = short_one c.args.texts.now c.loop-number.number c.index-texts-number.result c.loop-number-test.true c.index-texts-number.is c.requires
 
 pub returns-in_err-stmt : goal.returns-in_err-stmt
 returns-in_err-stmt c =

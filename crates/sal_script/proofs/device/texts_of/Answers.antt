@@ -1,20 +1,21 @@
 use Rattle.std.proofs.Common.{codes, ap, sym, ◌∙◌}
-use Rattle.sal_script.specs.Script.{or_bad, text_of}
+use Rattle.serde_json.specs.Find.{as_str}
+use Rattle.sal_script.specs.Script.{or_bad}
 use Rattle.sal_script.proofs.Each.{each_fails, each_done}
 use Rattle.sal_script.proofs.Readers.{item_at, all_of-each, fault_at}
 use Rattle.sal_script.proofs.device.texts_of.Goals as goal
 
-pub returns-in-None-clause-texts : goal.returns-in-None-clause-texts
-returns-in-None-clause-texts c =
+pub returns-in-None : goal.returns-in-None
+returns-in-None c =
     let place = codes "modules" in
     let l = c.loop-value in
     let fails = ap (or_bad place) (sym c.in-None.ensures.text) in
     fault_at place _ _ c.bad.ensures
-    (all_of-each text_of place 0 c.args.list.now
-    ∙ each_fails (item_at text_of place) l.texts.items l.value-index c.args.list.now _ c.value-item.result place c.loop-value-test.true c.value-item.is fails l.invariant.0)
+    (all_of-each as_str place 0 c.args.list.now
+    ∙ each_fails (item_at as_str place) l.texts.items l.value-index c.args.list.now _ c.value-item.result place c.loop-value-test.true c.value-item.is fails l.invariant)
 
-pub returns-clause-texts : goal.returns-clause-texts
-returns-clause-texts c =
+pub returns : goal.returns
+returns c =
     let l = c.loop-value in
-    all_of-each text_of (codes "modules") 0 c.args.list.now
-    ∙ each_done (item_at text_of (codes "modules")) l.texts.items l.value-index c.args.list.now _ c.loop-value-test.false l.invariant.0
+    all_of-each as_str (codes "modules") 0 c.args.list.now
+    ∙ each_done (item_at as_str (codes "modules")) l.texts.items l.value-index c.args.list.now _ c.loop-value-test.false l.invariant

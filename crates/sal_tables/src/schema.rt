@@ -1,0 +1,26 @@
+//! The schema of modules.
+ghost use Rattle.std.specs.Prelude.{IsTrue};
+ghost use Rattle.sal_types.specs.Reading.{GivesUnless};
+ghost use Rattle.sal_module.specs.declared.fault.BuildFault.{BuildFault as Fault};
+ghost use Rattle.sal_build.specs.Build as spec;
+ghost use Rattle.sal_tables.specs.Readable.{are_readable};
+
+use crate::laws::tables_are_tables;
+use sal_build::table_of_modules;
+use sal_module::BuildFault;
+use sal_schema::Schema;
+use sal_stmt::Stmt;
+use std::alloc::Global;
+
+/// The schema of these modules, or their first fault, as `table_of_modules` has it.
+///
+/// The statements are to be as they are read from texts of fewer than 2^32 bytes in all. That the table is then one of a schema is
+/// proved, so nothing tests it.
+pub fn build(alloc: Global, stmts: &[Stmt]) -> Result<Schema, BuildFault>
+    requires { IsTrue (are_readable stmts.now) }
+    ensures { GivesUnless Fault.NoMemory (λ schema. schema) result (spec.build stmts.now) }
+{
+    tables_are_tables();
+    let table = table_of_modules(alloc, stmts)?;
+    Ok(Schema::from_table(alloc, table)?)
+}

@@ -1,8 +1,7 @@
 -- Where no two statements of a text have one place, the statement at the place of a row is its own, and stands in blocks that mean something.
-use Rattle.std.proofs.Common.{◌≡◌, ℕ, zero, suc, ◌+◌, Bool, true, false, not, ◌&&◌, ◌==◌, nat_eq, IsTrue, List, [], ◌∷◌, ◌++◌, fold, length, Option, Some, None, refl, sym, ap, subst, ◌∙◌, inl, inr, arith, append_assoc, length-append}
-use Rattle.std.specs.Prelude.{option_and_then, is_some, is_none, if◌then◌else◌}
+use Rattle.std.proofs.Common.{◌≡◌, ℕ, zero, suc, ◌+◌, true, ◌==◌, nat_eq, IsTrue, List, [], ◌∷◌, ◌++◌, fold, length, Option, Some, None, refl, sym, ap, subst, ◌∙◌, inl, inr, arith, append_assoc, length-append}
+use Rattle.std.specs.Prelude.{option_and_then, is_none, if◌then◌else◌}
 use Rattle.std.specs.List.{list_all, flat_map, enumerate_from, slice_get}
-use Rattle.std.proofs.lemmas.Bool.{cases_Bool}
 use Rattle.std.proofs.lemmas.Bool.Decides.{nat_tests}
 use Rattle.sal_stmt.specs.declared.stmt.Stmt.{Stmt, out-Stmt}
 use Rattle.sal_module.specs.declared.keyword.Keyword.{Keyword}

@@ -1,26 +1,25 @@
 -- Statements in blocks that mean something: type statements among them were judged, and what they rest on is of the same kind.
-use Rattle.std.proofs.Common.{◌≡◌, ℕ, zero, suc, ◌+◌, ◌≤◌, Bool, true, false, not, ◌&&◌, ◌==◌, IsTrue, List, [], ◌∷◌, ◌++◌, filter, map, take, length, Option, Some, None, refl, sym, ap, subst, ◌∙◌, inl, inr, arith, length-append}
-use Rattle.std.specs.Prelude.{⊤, is_some, find, option_map, option_and_then, if◌then◌else◌, codes}
+use Rattle.std.proofs.Common.{◌≡◌, ℕ, zero, suc, ◌+◌, ◌≤◌, Bool, true, false, not, ◌&&◌, ◌==◌, IsTrue, List, [], ◌∷◌, length, Some, None, refl, sym, ap, subst, ◌∙◌, inl, inr, arith, length-append}
+use Rattle.std.specs.Prelude.{⊤, is_some, find, option_map, option_and_then, if◌then◌else◌}
 use Rattle.std.specs.List.{list_all, flat_map, enumerate_from, slice_get, sum_by}
 use Rattle.std.specs.Option.{option_to_list}
 use Rattle.std.proofs.lemmas.Bool.{cases_Bool}
 use Rattle.std.proofs.lemmas.Bool.Decides.{nat_tests}
 use Rattle.std.proofs.lemmas.List.Sums.{sum_by-cons}
-use Rattle.sal_stmt.specs.declared.stmt.Stmt.{Stmt, out-Stmt}
-use Rattle.sal_module.specs.declared.keyword.Keyword.{Keyword}
+use Rattle.sal_stmt.specs.declared.stmt.Stmt.{Stmt}
 use Rattle.sal_module.specs.declared.keyword.Keyword.TheVariants as word
 use Rattle.sal_module.specs.Keywords.{same, word_of, keyword_of, words}
 use Rattle.sal_module.specs.Profile.{profile_faults, module_faults}
-use Rattle.sal_module.specs.Statements.{is_named, subs_of, all_named, argument_of}
+use Rattle.sal_module.specs.Statements.{is_named, subs_of, argument_of}
 use Rattle.sal_schema.specs.Valid.{is_empty}
-use Rattle.sal_schema.proofs.Conjuncts.{and_first, and_second}
+use Rattle.sal_schema.proofs.Conjuncts.{and_first}
 use Rattle.sal_typedefs.specs.Names.{name_of, is_builtin, target, count, steps_of}
 use Rattle.sal_typedefs.specs.Scopes.{Site, within, top, local, module_of, is_typedef_of, closest, blocks_of, typedef_of}
 use Rattle.sal_build.specs.Types.{is_read, type_here, types_in, types_of}
 use Rattle.sal_tables.specs.Readable.{is_shallow}
-use Rattle.sal_tables.proofs.Members.{In, In-front, In-back, In-flat, In-counted, all-in, all-got, found-in}
+use Rattle.sal_tables.proofs.Members.{In, In-back, In-flat, In-counted, all-in, all-got, found-in}
 use Rattle.sal_tables.proofs.NamedModules.{rule-named}
-use Rattle.sal_tables.proofs.Quiet.{both, numbered-quiet}
+use Rattle.sal_tables.proofs.Quiet.{numbered-quiet}
 
 -- ---- keywords
 

@@ -1,11 +1,11 @@
 -- A way along the first of what each type statement rests on ends within as many steps as there are statements: else it would go round, and a typedef rest on itself.
-use Rattle.std.proofs.Common.{◌≡◌, ℕ, zero, suc, ◌+◌, ◌-◌, ◌<◌, ◌≤◌, Bool, true, false, not, ◌&&◌, ◌==◌, nat_lt, IsTrue, List, [], ◌∷◌, ◌++◌, filter, map, take, length, Option, Some, None, refl, sym, ap, subst, ◌∙◌, inl, inr, arith}
-use Rattle.std.specs.Prelude.{⊤, ◌||◌, is_some, is_none, find, if◌then◌else◌, codes}
+use Rattle.std.proofs.Common.{◌≡◌, ℕ, zero, suc, ◌+◌, ◌-◌, ◌<◌, ◌≤◌, Bool, true, false, not, ◌==◌, nat_lt, IsTrue, List, [], ◌∷◌, ◌++◌, map, take, length, Some, None, refl, sym, ap, subst, ◌∙◌, inl, inr, arith}
+use Rattle.std.specs.Prelude.{⊤, is_some, is_none, codes, if◌then◌else◌}
 use Rattle.std.specs.List.{list_all, list_any, flat_map, slice_get}
 use Rattle.std.specs.Option.{option_to_list}
 use Rattle.std.proofs.lemmas.Bool.{cases_Bool}
 use Rattle.std.proofs.lemmas.Bool.Decides.{nat_tests}
-use Rattle.sal_stmt.specs.declared.stmt.Stmt.{Stmt, out-Stmt}
+use Rattle.sal_stmt.specs.declared.stmt.Stmt.{Stmt}
 use Rattle.sal_module.specs.declared.keyword.Keyword.TheVariants as word
 use Rattle.sal_module.specs.Keywords.{same}
 use Rattle.sal_module.specs.declared.fault.Cause.TheVariants.{UnknownName}
@@ -13,14 +13,14 @@ use Rattle.sal_module.specs.Profile.{profile_faults, at_stmt}
 use Rattle.sal_module.specs.Statements.{is_named, subs_of, all_named}
 use Rattle.sal_typedefs.specs.Names.{name_of, is_builtin, target, types_in, rests_on, under, steps_of, is_of, typedef_around, goes_in_circle, unknown_faults, cycle_faults, base_faults, path_faults}
 use Rattle.sal_typedefs.specs.Names as names
-use Rattle.sal_typedefs.specs.Scopes.{Site, within, place_of, is_same, typedef_of}
+use Rattle.sal_typedefs.specs.Scopes.{Site, within, place_of, typedef_of}
 use Rattle.sal_typedefs.proofs.Pigeonhole.{pigeonhole}
 use Rattle.sal_build.specs.Types.{is_read, types_of}
 use Rattle.sal_build.specs.Types as types
 use Rattle.sal_tables.specs.Readable.{is_shallow}
 use Rattle.sal_tables.proofs.Members.{In, In-flat, IsNumbered, numbered, any-in, quiet-in, first-kept}
-use Rattle.sal_tables.proofs.Quiet.{both, front-nil}
-use Rattle.sal_tables.proofs.ReadSites.{IsReadSite, IsTypedef, IsTyped, type-read, typedef-read, no-typedef, inner-read, target-read, typed-in, few-types}
+use Rattle.sal_tables.proofs.Quiet.{front-nil}
+use Rattle.sal_tables.proofs.ReadSites.{IsReadSite, IsTyped, type-read, typedef-read, no-typedef, inner-read, target-read, typed-in, few-types}
 
 wrong : false ≡ true → ⊥
 wrong e = cc

@@ -1,22 +1,20 @@
 -- Unions have members: a type statement says so, a way of them ends before the steps do, and targets have types of the same kind.
-use Rattle.std.proofs.Common.{◌≡◌, ℕ, zero, suc, ◌+◌, Bool, true, false, not, ◌&&◌, ◌||◌, ◌==◌, IsTrue, List, [], ◌∷◌, ◌++◌, filter, map, drop, length, Option, Some, None, refl, sym, ap, subst, ◌∙◌, inl, inr, arith}
-use Rattle.std.specs.Prelude.{⊤, option_map, option_and_then, is_some, find, unwrap_or, if◌then◌else◌, codes}
+use Rattle.std.proofs.Common.{◌≡◌, ℕ, zero, suc, ◌+◌, Bool, true, false, not, ◌&&◌, ◌||◌, ◌==◌, IsTrue, List, [], ◌∷◌, ◌++◌, filter, map, length, Option, Some, None, refl, sym, ap, subst, ◌∙◌, inl, inr, arith}
+use Rattle.std.specs.Prelude.{option_map, option_and_then, find, unwrap_or, codes, if◌then◌else◌}
 use Rattle.std.specs.List.{list_all, list_any, flat_map, enumerate_from, slice_get}
-use Rattle.std.specs.Option.{option_to_list}
 use Rattle.std.proofs.lemmas.Bool.{cases_Bool}
 use Rattle.std.proofs.lemmas.Bool.Decides.{nat_tests}
 use Rattle.sal_stmt.specs.declared.stmt.Stmt.{Stmt}
-use Rattle.sal_module.specs.declared.keyword.Keyword.{Keyword}
 use Rattle.sal_module.specs.declared.keyword.Keyword.TheVariants as word
 use Rattle.sal_module.specs.Keywords.{same}
 use Rattle.sal_module.specs.Profile.{profile_faults}
-use Rattle.sal_module.specs.Statements.{is_named, subs_of, all_named}
+use Rattle.sal_module.specs.Statements.{is_named, subs_of}
 use Rattle.sal_restrict.specs.declared.yang_type.YangType.{YangType, out-YangType, roll-YangType}
 use Rattle.sal_restrict.specs.declared.yang_type.YangType.TheOpen.{YangType-F}
 use Rattle.sal_restrict.specs.declared.yang_type.YangType.TheViews.{out-roll-YangType}
 use Rattle.sal_typedefs.specs.Builtins.{Name, names, builtin_of, builtin_among, bare, type_of}
 use Rattle.sal_typedefs.specs.Names.{name_of, is_builtin, types_in, rests_on, steps_of}
-use Rattle.sal_typedefs.specs.Restrictions.{Base, Layer, is_decimal, digits_of, with_digits, layer_of, absent_faults, restriction_faults}
+use Rattle.sal_typedefs.specs.Restrictions.{Base, Layer, is_decimal, digits_of, with_digits, layer_of, absent_faults}
 use Rattle.sal_typedefs.specs.Scopes.{Site, within, site_at}
 use Rattle.sal_typedefs.specs.Types.{members_of, entries_in, restricted, Judged, nothing, is_faulty, base_of, judged, judge, judge_last, judgement}
 use Rattle.sal_grouping.specs.declared.forest.Branch.{Branch}
@@ -50,7 +48,7 @@ use Rattle.sal_tables.proofs.Quiet.{both, front-nil}
 use Rattle.sal_tables.proofs.ReadSites.{IsReadSite, IsTyped, inner-read}
 use Rattle.sal_tables.proofs.Shapes.{all-flat, is_seed}
 use Rattle.sal_tables.proofs.SpelledBits.{own-places, all-shallow}
-use Rattle.sal_tables.proofs.ShortWays.{is_some_site, first_or, moves, next, Goes, no-longer}
+use Rattle.sal_tables.proofs.ShortWays.{is_some_site, first_or, next, Goes, no-longer}
 use Rattle.sal_tables.proofs.Unfaulted.{no-fault, judged-quiet, restrictions-quiet, said}
 
 abbrev has_some : YangType → Bool
@@ -88,8 +86,8 @@ members-none t (YangType-F.Int bits signed range) e = cc
 members-none t (YangType-F.Dec digits range) e = cc
 members-none t (YangType-F.Text length patterns) e = cc
 members-none t YangType-F.Bool e = cc
-members-none t (YangType-F.Enum names places) e = cc
-members-none t (YangType-F.Bits names positions) e = cc
+members-none t (YangType-F.Enum all places) e = cc
+members-none t (YangType-F.Bits all positions) e = cc
 members-none t (YangType-F.Bin length) e = cc
 members-none t (YangType-F.Ident bases) e = cc
 members-none t YangType-F.Empty e = cc
@@ -112,8 +110,8 @@ restricted-bare modules m base stmt below entries (YangType-F.Int bits signed ra
 restricted-bare modules m base stmt below entries (YangType-F.Dec digits range) e = absurd (other-wrong e)
 restricted-bare modules m base stmt below entries (YangType-F.Text length patterns) e = absurd (other-wrong e)
 restricted-bare modules m base stmt below entries YangType-F.Bool e = absurd (other-wrong e)
-restricted-bare modules m base stmt below entries (YangType-F.Enum names places) e = elim (cases_Bool (not base.itself && not (list_any (is_named word.Enum) (subs_of stmt)))) [ inl t ↦ absurd (other-wrong (rw t at e)) | inr f ↦ absurd (other-wrong (rw f at e)) ]
-restricted-bare modules m base stmt below entries (YangType-F.Bits names positions) e = elim (cases_Bool (not base.itself && not (list_any (is_named word.Bit) (subs_of stmt)))) [ inl t ↦ absurd (other-wrong (rw t at e)) | inr f ↦ absurd (other-wrong (rw f at e)) ]
+restricted-bare modules m base stmt below entries (YangType-F.Enum all places) e = elim (cases_Bool (not base.itself && not (list_any (is_named word.Enum) (subs_of stmt)))) [ inl t ↦ absurd (other-wrong (rw t at e)) | inr f ↦ absurd (other-wrong (rw f at e)) ]
+restricted-bare modules m base stmt below entries (YangType-F.Bits all positions) e = elim (cases_Bool (not base.itself && not (list_any (is_named word.Bit) (subs_of stmt)))) [ inl t ↦ absurd (other-wrong (rw t at e)) | inr f ↦ absurd (other-wrong (rw f at e)) ]
 restricted-bare modules m base stmt below entries (YangType-F.Bin length) e = absurd (other-wrong e)
 restricted-bare modules m base stmt below entries (YangType-F.Ident bases) e = absurd (other-wrong e)
 restricted-bare modules m base stmt below entries YangType-F.Empty e = absurd (other-wrong e)
@@ -140,8 +138,8 @@ types-said m base stmt (YangType-F.Int bits signed range) e union itself absent 
 types-said m base stmt (YangType-F.Dec digits range) e union itself absent = absurd (wrong union)
 types-said m base stmt (YangType-F.Text length patterns) e union itself absent = absurd (wrong union)
 types-said m base stmt YangType-F.Bool e union itself absent = absurd (wrong union)
-types-said m base stmt (YangType-F.Enum names places) e union itself absent = absurd (wrong union)
-types-said m base stmt (YangType-F.Bits names positions) e union itself absent = absurd (wrong union)
+types-said m base stmt (YangType-F.Enum all places) e union itself absent = absurd (wrong union)
+types-said m base stmt (YangType-F.Bits all positions) e union itself absent = absurd (wrong union)
 types-said m base stmt (YangType-F.Bin length) e union itself absent = absurd (wrong union)
 types-said m base stmt (YangType-F.Ident bases) e union itself absent = absurd (wrong union)
 types-said m base stmt YangType-F.Empty e union itself absent = absurd (wrong union)

@@ -10,7 +10,7 @@ use Rattle.sal_note.proofs.notes.Notes.subscribe.Goals as goal
 use Rattle.sal_note.proofs.notes.Notes.subscribe.Goals.{in-Ok, in-Err}
 
 pub subscribe-requires : goal.subscribe-requires
-subscribe-requires c = subst (λ (b : Boxes). HasRoom b.subscribed) (sym c.self.view_is) c.requires
+subscribe-requires c = record { room = subst (λ (b : Boxes). HasRoom b.subscribed) (sym c.self.view_is) c.requires }
 
 pub returns : goal.returns
 returns c =

@@ -3,7 +3,7 @@ ghost use Rattle.std.specs.Prelude.{◌≡◌, true, false, codes, [], ◌∷◌
 ghost use Rattle.sal_restrict.specs.declared.yang_type.YangType.TheOpen.{YangType-F};
 ghost use Rattle.sal_tables.specs.Laws.{has_members, is_bounded, is_placed, is_spelled, BitsAreSpelled, CallNamesDiffer, CallsStandAtTheTop, DataNamesDiffer, IdentitiesAreGood, IdentitiesAreStatements, IdentityNamesDiffer, KeysAreInside, KeysAreThere, LeafsAreTyped, ModuleNamesDiffer, ModulesAreNamed, NamesArePlaced, NodesAreNamed, NodesStandRight, NumbersAreThere, TablesAreSmall, TablesAreTables, TypesAreBounded, TypesAreFlat, UnionsHaveMembers, UniquesAreBelow};
 ghost use Rattle.sal_stmt.specs.Text.{made};
-ghost use Rattle.sal_tables.specs.Readable.{has_own_places, is_shallow, ReadIsCounted, ReadIsInOrder, ReadIsReadable};
+ghost use Rattle.sal_tables.specs.Readable.{are_readable, has_own_places, is_shallow, ReadIsCounted, ReadIsInOrder, ReadIsReadable};
 
 /// The statements of a text of fewer than 2 ^ 32 bytes stand in its order: each before those in its block, and these before the next one.
 pub fn what_is_read_is_in_order()
@@ -156,4 +156,6 @@ pub fn examples_of_trees()
     ensures one_place { has_own_places (made 3 (codes "a", None) (made 3 (codes "b", None) [] ∷ [])) ≡ false }
     ensures a_level { is_shallow 1 (made 0 (codes "a", None) (made 3 (codes "b", None) [] ∷ [])) ≡ true }
     ensures no_level { is_shallow 0 (made 0 (codes "a", None) (made 3 (codes "b", None) [] ∷ [])) ≡ false }
+    ensures a_tree { are_readable (made 0 (codes "a", None) (made 3 (codes "b", None) [] ∷ []) ∷ []) ≡ true }
+    ensures no_tree { are_readable (made 3 (codes "a", None) (made 3 (codes "b", None) [] ∷ []) ∷ []) ≡ false }
 {}

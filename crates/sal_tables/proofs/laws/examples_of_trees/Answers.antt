@@ -1,6 +1,7 @@
 -- Each example by computation.
 use Rattle.sal_stmt.specs.declared.stmt.Stmt.TheViews.{out-roll-Stmt}
 use Rattle.sal_module.specs.Statements.{subs_of}
+use Rattle.sal_typedefs.specs.Names.{count}
 use Rattle.sal_tables.specs.Readable.{places, is_shallow}
 use Rattle.sal_tables.proofs.laws.examples_of_trees.Goals as goal
 
@@ -19,3 +20,11 @@ returns-clause-a_level c = simp (subs_of, out-roll-Stmt)
 pub returns-clause-no_level : goal.returns-clause-no_level
 unfolding places is_shallow
 returns-clause-no_level c = simp (subs_of, out-roll-Stmt)
+
+pub returns-clause-a_tree : goal.returns-clause-a_tree
+unfolding places is_shallow count
+returns-clause-a_tree c = simp (subs_of, out-roll-Stmt)
+
+pub returns-clause-no_tree : goal.returns-clause-no_tree
+unfolding places is_shallow count
+returns-clause-no_tree c = simp (subs_of, out-roll-Stmt)

@@ -1,5 +1,5 @@
 -- A box with a leaf of each type and nodes of each kind: its table, its tree as JSON, and its rows.
-use Rattle.std.specs.Prelude.{ℕ, pos, negsuc, false, true, List as Row, [], ◌∷◌, ◌++◌, Option, Some, None, codes}
+use Rattle.std.specs.Prelude.{ℕ, pos, negsuc, false, true, List as Row, [], ◌∷◌, ◌++◌, Some, None, codes}
 use Prim.Native.String.{String}
 use Rattle.serde_json.specs.Data.{Data, array, boolean, item, member, negative, no_items, no_members, null, number, object, string, unsigned}
 use Rattle.sal_types.specs.declared.value.Atom.{Atom}

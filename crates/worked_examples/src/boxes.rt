@@ -1,12 +1,10 @@
 //! A whole box, with a leaf of each type and nodes of each kind. Each function does nothing: its contract is computed from the definitions that
-//! `read_data`, `fits_rows` and `read_script` keep to.
+//! `is_table`, `read_data` and `read_script` keep to.
 ghost use Rattle.std.specs.Prelude.{◌≡◌, ◌++◌, ◌∷◌, [], Ok, Some, true, codes};
-ghost use Rattle.sal_schema.specs.Fitting.{fits};
 ghost use Rattle.sal_table.specs.Whole.{is_table};
 ghost use Rattle.sal_data.specs.Read.{read_data};
 ghost use Rattle.sal_script.specs.Json.{data_of};
 ghost use Rattle.worked_examples.specs.BoxCases as case;
-ghost use Rattle.worked_examples.specs.ValueCases.{without};
 
 /// The table of the box is that of a schema, and the text is its tree.
 pub fn a_box_is_written()
@@ -18,10 +16,4 @@ pub fn a_box_is_written()
 pub fn a_box_is_read()
     ensures whole { read_data case.table [] case.tree ≡ Ok case.rows }
     ensures texts { read_data case.table [] case.texts ≡ Ok case.text_rows }
-{}
-
-/// The rows are data of the schema, all of them and without the leaf of a container in the box.
-pub fn a_box_is_whole()
-    ensures all { fits case.table [] case.rows ≡ true }
-    ensures without_name { fits case.table [] (without 28 case.rows) ≡ true }
 {}

@@ -1,5 +1,5 @@
 //! The last commit that touched a path.
-ghost use Rattle.std.specs.Prelude.{◌≡◌, ◌≤◌, ◌<◌, ◌-◌, List, length, Some, slice_index_or};
+ghost use Rattle.std.specs.Prelude.{◌≡◌, ◌≤◌, ◌<◌, ◌-◌, List, length, All, Some, slice_index_or};
 ghost use Rattle.sal_types.specs.declared.value.Step.{Step as At};
 ghost use Rattle.sal_types.specs.declared.value.Store.{Store as Of};
 ghost use Rattle.sal_rows.specs.Clash as spec;
@@ -10,7 +10,7 @@ ghost use Rattle.sal_tree.specs.declared.commit.Commit.{Commit as Kept};
 ghost use Rattle.sal_graft.specs.Following.{AreFollowing};
 ghost use Rattle.sal_graft.specs.Kept.{AreKept, IsSpanOf, opening_in, ops_of, tree_in};
 
-use crate::span::{Later, tree_of};
+use crate::span::tree_of;
 use crate::standing::node_at;
 use crate::touched::is_touched;
 use sal_rows::Span;
@@ -18,12 +18,20 @@ use sal_tree::Commit;
 use sal_types::{Step, Store};
 
 /// The last commit in the spans that touched the path.
-pub(crate) fn last_touch_over(later: &Later, store: Store, steps: &[Step]) -> Option<u64>
-    ensures { result ≡ spec.last_touch_over (opening_in later.now.commits.now) (ops_of later.now.commits.now) later.now.spans.now store steps.now }
+pub(crate) fn last_touch_over(
+    commits: &[Commit],
+    spans: &[Span],
+    store: Store,
+    steps: &[Step],
+) -> Option<u64>
+    requires kept { AreKept commits.now }
+    requires following { AreFollowing commits.now }
+    requires spans { All (IsSpanOf commits.now) spans.now }
+    ensures { result ≡ spec.last_touch_over (opening_in commits.now) (ops_of commits.now) spans.now store steps.now }
 {
-    for back in 0..later.spans.len() {
-        let at = later.spans.len() - 1 - back;
-        if let Some(number) = touch_in(later.commits, &later.spans[at], store, steps) {
+    for back in 0..spans.len() {
+        let at = spans.len() - 1 - back;
+        if let Some(number) = touch_in(commits, &spans[at], store, steps) {
             return Some(number);
         }
     }

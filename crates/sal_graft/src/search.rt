@@ -9,7 +9,7 @@ ghost use Rattle.sal_graft.specs.Rows.{is_lost_of, lost_depth};
 ghost use Rattle.sal_graft.specs.Kept.{AreKept, IsSpanOf, opening_in, ops_of, rows_in};
 
 use crate::naming::{last_touch, last_touch_over};
-use crate::span::{Later, changed_span, kind_over, tree_of};
+use crate::span::{changed_span, kind_over, tree_of};
 use crate::standing::{has_cell, stands};
 use crate::touched::is_set;
 use sal_mod::Mod;
@@ -27,11 +27,10 @@ pub fn conflict(changes: &Mod, base: &Pair, spans: &[Span], commits: &[Commit]) 
     requires spans { All (IsSpanOf commits.now) spans.now }
     ensures { result ≡ clash (opening_in commits.now) (ops_of commits.now) (rows_in base.now) spans.now changes.now }
 {
-    let later = Later { commits, spans };
     let ops = changes.ops();
     for at in 0..ops.len() {
         let covered = changes.covered(ops[at].store, &ops[at].path, at);
-        if let Some(found) = op_clash(&ops[..at], &ops[at], covered, base, &later) {
+        if let Some(found) = op_clash(&ops[..at], &ops[at], covered, base, spans, commits) {
             return Some(found);
         }
     }
@@ -39,30 +38,49 @@ pub fn conflict(changes: &Mod, base: &Pair, spans: &[Span], commits: &[Commit]) 
 }
 
 // The conflict of one operation, after the earlier ones.
-fn op_clash(earlier: &[Op], op: &Op, covered: bool, base: &Pair, later: &Later) -> Option<Clash>
+fn op_clash(
+    earlier: &[Op],
+    op: &Op,
+    covered: bool,
+    base: &Pair,
+    spans: &[Span],
+    commits: &[Commit],
+) -> Option<Clash>
+    requires kept { AreKept commits.now }
+    requires following { AreFollowing commits.now }
+    requires spans { All (IsSpanOf commits.now) spans.now }
     requires covered { covered ≡ is_covered earlier.now op.now.store op.now.path }
-    ensures { result ≡ spec.op_clash (opening_in later.now.commits.now) (ops_of later.now.commits.now) (rows_in base.now) later.now.spans.now earlier.now op.now }
+    ensures { result ≡ spec.op_clash (opening_in commits.now) (ops_of commits.now) (rows_in base.now) spans.now earlier.now op.now }
 {
-    match parent_clash(earlier, op, base, later) {
+    match parent_clash(earlier, op, base, spans, commits) {
         Some(found) => Some(found),
-        None => path_clash(earlier, op, covered, later),
+        None => path_clash(earlier, op, covered, spans, commits),
     }
 }
 
 // The first test: the outermost lost parent of a put or merge.
-fn parent_clash(earlier: &[Op], op: &Op, base: &Pair, later: &Later) -> Option<Clash>
-    ensures { result ≡ spec.parent_clash (opening_in later.now.commits.now) (ops_of later.now.commits.now) (rows_in base.now) later.now.spans.now earlier.now op.now }
+fn parent_clash(
+    earlier: &[Op],
+    op: &Op,
+    base: &Pair,
+    spans: &[Span],
+    commits: &[Commit],
+) -> Option<Clash>
+    requires kept { AreKept commits.now }
+    requires following { AreFollowing commits.now }
+    requires spans { All (IsSpanOf commits.now) spans.now }
+    ensures { result ≡ spec.parent_clash (opening_in commits.now) (ops_of commits.now) (rows_in base.now) spans.now earlier.now op.now }
 {
     if !op.act.needs_parents() {
         return None;
     }
     let base = tree_of(base, op.store);
-    let tip = tip_of(later.commits, op.store);
+    let tip = tip_of(commits, op.store);
     match lost_depth(base, tip, earlier, op.store, op.path.steps()) {
         None => None,
         Some(depth) => {
             let parent = &op.path.steps()[..depth];
-            let commit = last_touch_over(later, op.store, parent).unwrap_or(0);
+            let commit = last_touch_over(commits, spans, op.store, parent).unwrap_or(0);
             Some(Clash {
                 op: earlier.len(),
                 depth,
@@ -107,21 +125,30 @@ fn is_lost(base: &Root, tip: &Root, earlier: &[Op], store: Store, steps: &[Step]
 }
 
 // The second test: the first span over which the path of a put or delete is not unchanged.
-fn path_clash(earlier: &[Op], op: &Op, covered: bool, later: &Later) -> Option<Clash>
+fn path_clash(
+    earlier: &[Op],
+    op: &Op,
+    covered: bool,
+    spans: &[Span],
+    commits: &[Commit],
+) -> Option<Clash>
+    requires kept { AreKept commits.now }
+    requires following { AreFollowing commits.now }
+    requires spans { All (IsSpanOf commits.now) spans.now }
     requires covered { covered ≡ is_covered earlier.now op.now.store op.now.path }
-    ensures { result ≡ spec.path_clash (opening_in later.now.commits.now) (ops_of later.now.commits.now) later.now.spans.now earlier.now op.now }
+    ensures { result ≡ spec.path_clash (opening_in commits.now) (ops_of commits.now) spans.now earlier.now op.now }
 {
     if !op.act.checks_path() || covered {
         return None;
     }
     let steps = op.path.steps();
-    match changed_span(later, op.store, steps) {
+    match changed_span(commits, spans, op.store, steps) {
         None => None,
         Some(span) => Some(Clash {
             op: earlier.len(),
             depth: steps.len(),
-            kind: kind_over(later.commits, span, op.store, steps),
-            commit: last_touch(later.commits, span, op.store, steps).unwrap_or(0),
+            kind: kind_over(commits, span, op.store, steps),
+            commit: last_touch(commits, span, op.store, steps).unwrap_or(0),
         }),
     }
 }

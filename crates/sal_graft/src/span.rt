@@ -21,24 +21,22 @@ pub(crate) fn tree_of(pair: &Pair, store: Store) -> &Root
     }
 }
 
-/// The commits of a domain from its opening to the newest, and spans of them: those with which a submission may conflict.
-#[derive(Drop)]
-pub(crate) struct Later<'a> {
-    pub(crate) commits: &'a [Commit],
-    pub(crate) spans: &'a [Span],
-    pub(crate) ghost kept: { AreKept commits.now },
-    pub(crate) ghost following: { AreFollowing commits.now },
-    pub(crate) ghost within: { All (IsSpanOf commits.now) spans.now },
-}
-
 /// The first span over which the path is not unchanged.
-pub(crate) fn changed_span(later: &Later, store: Store, steps: &[Step]) -> Option<Span>
-    ensures span { result ≡ find (λ span. not (commits_spec.is_unchanged (opening_in later.now.commits.now) (ops_of later.now.commits.now) store steps.now span)) later.now.spans.now }
-    ensures kept { IfSome result (IsSpanOf later.now.commits.now) }
+pub(crate) fn changed_span(
+    commits: &[Commit],
+    spans: &[Span],
+    store: Store,
+    steps: &[Step],
+) -> Option<Span>
+    requires kept { AreKept commits.now }
+    requires following { AreFollowing commits.now }
+    requires spans { All (IsSpanOf commits.now) spans.now }
+    ensures span { result ≡ find (λ span. not (commits_spec.is_unchanged (opening_in commits.now) (ops_of commits.now) store steps.now span)) spans.now }
+    ensures kept { IfSome result (IsSpanOf commits.now) }
 {
-    for i in 0..later.spans.len() {
-        let span = later.spans[i];
-        if !is_unchanged(later.commits, span, store, steps) {
+    for i in 0..spans.len() {
+        let span = spans[i];
+        if !is_unchanged(commits, span, store, steps) {
             return Some(span);
         }
     }

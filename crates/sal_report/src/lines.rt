@@ -3,7 +3,7 @@ ghost use Rattle.std.specs.Prelude.{◌≡◌, [], ◌∷◌, ◌++◌, IfOk, On
 ghost use Rattle.std.specs.List.{flat_map};
 ghost use Rattle.sal_script.specs.Report as spec;
 
-use crate::pieces::{data_at, push_data, push_number, push_numbered};
+use crate::pieces::{push_data, push_number, push_numbered};
 use crate::replies::push_reply;
 use crate::schemas::{Schemas, no_nodes};
 use sal_history::Entry;
@@ -149,7 +149,7 @@ fn push_tree(alloc: Global, text: &mut String, schema: &Schema, rows: &Rows) -> 
     ensures { OnOk result (string_bytes text.new ≡ string_bytes text.old ++ spec.tree_text schema.now rows.now) }
 {
     text.push(' ')?;
-    push_data(alloc, text, data_at(schema, &Path::root(alloc), rows))
+    push_data(alloc, text, schema, &Path::root(alloc), rows)
 }
 
 fn end_line(text: &mut String) -> Result<(), NoMemory>

@@ -5,8 +5,8 @@ ghost use Rattle.sal_script.specs.BatchData.{batch_data};
 ghost use Rattle.sal_script.specs.Report as spec;
 
 use crate::arrays::push_array;
-use crate::pieces::{DataAt, data_at, push_data, push_number, push_numbered, push_word};
-use sal_rows::{Batch, Opened};
+use crate::pieces::{push_data, push_number, push_numbered, push_word};
+use sal_rows::{Batch, Opened, Rows};
 use sal_schema::Schema;
 use sal_types::{NoMemory, Path};
 use std::alloc::Global;
@@ -24,7 +24,7 @@ pub(crate) fn push_listener(
 {
     push_numbered(text, "listener", id)?;
     push_number(text, opened.version)?;
-    push_listened(alloc, text, data_at(schema, path, &opened.rows))
+    push_listened(alloc, text, schema, path, &opened.rows)
 }
 
 // What changed for a listener.
@@ -46,24 +46,32 @@ pub(crate) fn push_batch(
 pub(crate) fn push_mirror(
     alloc: Global,
     text: &mut String,
+    schema: &Schema,
+    path: &Path,
     version: u64,
-    found: DataAt,
+    rows: &Rows,
 ) -> Result<(), NoMemory>
-    ensures { OnOk result (string_bytes text.new ≡ string_bytes text.old ++ (codes "mirror" ++ (spec.number version ++ spec.listened_text found.schema.now found.path.now found.rows.now))) }
+    ensures { OnOk result (string_bytes text.new ≡ string_bytes text.old ++ (codes "mirror" ++ (spec.number version ++ spec.listened_text schema.now path.now rows.now))) }
 {
     push_numbered(text, "mirror", version)?;
-    push_listened(alloc, text, found)
+    push_listened(alloc, text, schema, path, rows)
 }
 
 // A space, and the rows at a path that is listened to.
-fn push_listened(alloc: Global, text: &mut String, found: DataAt) -> Result<(), NoMemory>
-    ensures { OnOk result (string_bytes text.new ≡ string_bytes text.old ++ spec.listened_text found.schema.now found.path.now found.rows.now) }
+fn push_listened(
+    alloc: Global,
+    text: &mut String,
+    schema: &Schema,
+    path: &Path,
+    rows: &Rows,
+) -> Result<(), NoMemory>
+    ensures { OnOk result (string_bytes text.new ≡ string_bytes text.old ++ spec.listened_text schema.now path.now rows.now) }
 {
-    match (found.path.steps(), found.rows.items()) {
+    match (path.steps(), rows.items()) {
         ([_, ..], []) => push_word(text, " absent"),
         _ => {
             text.push(' ')?;
-            push_data(alloc, text, found)
+            push_data(alloc, text, schema, path, rows)
         }
     }
 }

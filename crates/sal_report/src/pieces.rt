@@ -90,26 +90,16 @@ pub(crate) fn push_location(
     push_string(alloc, text, path.as_str())
 }
 
-/// The rows at a path and below it, in the terms of a schema.
-#[derive(Clone, Copy)]
-pub(crate) struct DataAt<'a> {
-    pub(crate) schema: &'a Schema,
-    pub(crate) path: &'a Path,
-    pub(crate) rows: &'a Rows,
-}
-
-pub(crate) fn data_at<'a>(schema: &'a Schema, path: &'a Path, rows: &'a Rows) -> DataAt<'a>
-    ensures schema { result.schema.now ≡ schema.now }
-    ensures path { result.path.now ≡ path.now }
-    ensures rows { result.rows.now ≡ rows.now }
-{
-    DataAt { schema, path, rows }
-}
-
 // The rows at a path and below it, as JSON.
-pub(crate) fn push_data(alloc: Global, text: &mut String, found: DataAt) -> Result<(), NoMemory>
-    ensures { OnOk result (string_bytes text.new ≡ string_bytes text.old ++ compact_text (write_data found.schema.now found.path.now found.rows.now)) }
+pub(crate) fn push_data(
+    alloc: Global,
+    text: &mut String,
+    schema: &Schema,
+    path: &Path,
+    rows: &Rows,
+) -> Result<(), NoMemory>
+    ensures { OnOk result (string_bytes text.new ≡ string_bytes text.old ++ compact_text (write_data schema.now path.now rows.now)) }
 {
-    let value = write_data(alloc, found.schema, found.path, found.rows)?;
+    let value = write_data(alloc, schema, path, rows)?;
     push_value(alloc, text, &value)
 }

@@ -5,15 +5,15 @@ ghost use Rattle.sal_script.specs.Report as spec;
 use crate::breaches::{push_breach, push_named};
 use crate::faults::{push_data_fault, push_path_fault, push_tx_fault};
 use crate::listeners::{push_batch, push_listener, push_mirror};
-use crate::pieces::{DataAt, data_at, push_data, push_numbered, push_path, push_word};
+use crate::pieces::{push_data, push_numbered, push_path, push_word};
 use crate::schemas::Schemas;
 use crate::services::{push_mount, push_notes, push_output, push_request};
 use crate::words::{kind_word, store_word, truth_word};
 use sal_history::Reply;
-use sal_rows::{CallFault, Outcome};
+use sal_rows::{CallFault, Outcome, Rows};
 use sal_schema::Schema;
 use sal_script::{StepRefusal, StepReply};
-use sal_types::NoMemory;
+use sal_types::{NoMemory, Path};
 use std::alloc::Global;
 
 // The reply to a step.
@@ -29,7 +29,7 @@ pub(crate) fn push_reply(
         StepReply::Called { reply } => push_call(alloc, text, schemas, reply),
         StepReply::Accepted => push_word(text, "ok"),
         StepReply::Read { domain, path, rows } => {
-            push_rows(alloc, text, data_at(schemas.of(*domain), path, rows))
+            push_rows(alloc, text, schemas.of(*domain), path, rows)
         }
         StepReply::Exists { found } => push_word(text, truth_word(*found)),
         StepReply::Mirror {
@@ -37,12 +37,7 @@ pub(crate) fn push_reply(
             path,
             version,
             rows,
-        } => push_mirror(
-            alloc,
-            text,
-            *version,
-            data_at(schemas.of(*domain), path, rows),
-        ),
+        } => push_mirror(alloc, text, schemas.of(*domain), path, *version, rows),
         StepReply::Refused { refusal } => {
             text.push_str("refused ")?;
             push_refusal(alloc, text, schemas, refusal)
@@ -210,14 +205,20 @@ fn push_refusal(
 }
 
 // What a read found at a path.
-fn push_rows(alloc: Global, text: &mut String, found: DataAt) -> Result<(), NoMemory>
-    ensures { OnOk result (string_bytes text.new ≡ string_bytes text.old ++ spec.rows_text found.schema.now found.path.now found.rows.now) }
+fn push_rows(
+    alloc: Global,
+    text: &mut String,
+    schema: &Schema,
+    path: &Path,
+    rows: &Rows,
+) -> Result<(), NoMemory>
+    ensures { OnOk result (string_bytes text.new ≡ string_bytes text.old ++ spec.rows_text schema.now path.now rows.now) }
 {
-    match (found.path.steps(), found.rows.items()) {
+    match (path.steps(), rows.items()) {
         ([_, ..], []) => push_word(text, "absent"),
         _ => {
             text.push_str("data ")?;
-            push_data(alloc, text, found)
+            push_data(alloc, text, schema, path, rows)
         }
     }
 }

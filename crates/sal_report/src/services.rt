@@ -12,7 +12,7 @@ ghost use Rattle.sal_script.specs.Report as spec;
 
 use crate::arrays::{Item, push_array};
 use crate::breaches::push_node;
-use crate::pieces::{data_at, push_data, push_numbered, push_path, push_string, push_word};
+use crate::pieces::{push_data, push_numbered, push_path, push_string, push_word};
 use sal_note::Note;
 use sal_rows::Rows;
 use sal_rpc::Request;
@@ -121,7 +121,7 @@ fn push_message(
     ensures { OnOk result (string_bytes text.new ≡ string_bytes text.old ++ compact_text (message_data schema.now node rows.now)) }
 {
     let path = top_path(alloc, node)?;
-    push_data(alloc, text, data_at(schema, &path, rows))
+    push_data(alloc, text, schema, &path, rows)
 }
 
 // The path whose one step names the node.

@@ -10,8 +10,8 @@ use Rattle.sal_graft.proofs.naming.last_touch_over.Goals as goal
 
 pub returns-in-Some : goal.returns-in-Some
 returns-in-Some c =
-    let t = touches_at (opening_in c.args.later.now.commits.now) (ops_of c.args.later.now.commits.now) c.args.store c.args.steps.now in
-    let spans = c.args.later.now.spans.now in
+    let t = touches_at (opening_in c.args.commits.now) (ops_of c.args.commits.now) c.args.store c.args.steps.now in
+    let spans = c.args.spans.now in
     let n = length spans - 1 - c.loop-back.back in
     let rest = find t (reverse (numbers_over (take n spans))) in
     let whole : n + 1 ≡ length spans - c.loop-back.back = omega arith in
@@ -20,8 +20,8 @@ returns-in-Some c =
 
 pub loop-back-preserved : goal.loop-back-preserved
 loop-back-preserved c =
-    let t = touches_at (opening_in c.args.later.now.commits.now) (ops_of c.args.later.now.commits.now) c.args.store c.args.steps.now in
-    let spans = c.args.later.now.spans.now in
+    let t = touches_at (opening_in c.args.commits.now) (ops_of c.args.commits.now) c.args.store c.args.steps.now in
+    let spans = c.args.spans.now in
     let n = length spans - 1 - c.loop-back.back in
     let rest = find t (reverse (numbers_over (take n spans))) in
     let whole : n + 1 ≡ length spans - c.loop-back.back = omega arith in
@@ -32,6 +32,6 @@ loop-back-preserved c =
 
 pub returns : goal.returns
 returns c =
-    let t = touches_at (opening_in c.args.later.now.commits.now) (ops_of c.args.later.now.commits.now) c.args.store c.args.steps.now in
-    let none : length c.args.later.now.spans.now - c.loop-back.back ≡ 0 = omega arith in
-    sym (ap (λ m. find t (reverse (numbers_over (take m c.args.later.now.spans.now)))) none) ∙ c.loop-back.invariant
+    let t = touches_at (opening_in c.args.commits.now) (ops_of c.args.commits.now) c.args.store c.args.steps.now in
+    let none : length c.args.spans.now - c.loop-back.back ≡ 0 = omega arith in
+    sym (ap (λ m. find t (reverse (numbers_over (take m c.args.spans.now)))) none) ∙ c.loop-back.invariant

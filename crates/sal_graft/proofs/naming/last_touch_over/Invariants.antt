@@ -8,5 +8,5 @@ use Rattle.sal_graft.proofs.naming.last_touch_over.Given as goal
 
 abbrev pub invariant-loop-back : goal.invariant-loop-back
 invariant-loop-back l =
-    find (touches_at (opening_in l.later.commits.now) (ops_of l.later.commits.now) l.store l.steps) (reverse (numbers_over (take (length l.later.spans.now - l.back) l.later.spans.now)))
-    ≡ last_touch_over (opening_in l.later.commits.now) (ops_of l.later.commits.now) l.later.spans.now l.store l.steps
+    find (touches_at (opening_in l.commits) (ops_of l.commits) l.store l.steps) (reverse (numbers_over (take (length l.spans - l.back) l.spans)))
+    ≡ last_touch_over (opening_in l.commits) (ops_of l.commits) l.spans l.store l.steps

@@ -7,5 +7,5 @@ use Rattle.sal_graft.proofs.span.changed_span.Given as goal
 
 abbrev pub invariant-loop-i : goal.invariant-loop-i
 invariant-loop-i l =
-    find (λ span. not (is_unchanged (opening_in l.later.commits.now) (ops_of l.later.commits.now) l.store l.steps span)) (drop l.i l.later.spans.now)
-    ≡ find (λ span. not (is_unchanged (opening_in l.later.commits.now) (ops_of l.later.commits.now) l.store l.steps span)) l.later.spans.now
+    find (λ span. not (is_unchanged (opening_in l.commits) (ops_of l.commits) l.store l.steps span)) (drop l.i l.spans)
+    ≡ find (λ span. not (is_unchanged (opening_in l.commits) (ops_of l.commits) l.store l.steps span)) l.spans

@@ -4,4 +4,4 @@ use Rattle.sal_report.proofs.Floats.{has_float-write_data}
 use Rattle.sal_report.proofs.pieces.push_data.Goals as goal
 
 pub push_value-requires : goal.push_value-requires
-push_value-requires c = ap has_float c.in_ok-value.ensures ∙ has_float-write_data c.args.found.schema.now c.args.found.path.now c.args.found.rows.now
+push_value-requires c = ap has_float c.in_ok-value.ensures ∙ has_float-write_data c.args.schema.now c.args.path.now c.args.rows.now

@@ -11,7 +11,9 @@ ghost use Rattle.sal_hub.specs.Tokens.{IsCall};
 use crate::call_id::CallId;
 use crate::hub::Hub;
 use crate::note_calls::{Offering, offer, subscribe, take_notes};
-use crate::rpc_calls::{Registration, RpcAsk, answer, collect, invoke, next_call, provide, withdraw};
+use crate::rpc_calls::{
+    Registration, RpcAsk, answer, collect, invoke, next_call, provide, withdraw,
+};
 use sal_note::NoteList;
 use sal_rows::{CallFault, Rows};
 use sal_rpc::Request;

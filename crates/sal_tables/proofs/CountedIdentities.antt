@@ -34,8 +34,14 @@ subs-few levels m (sub ∷ subs) =
 modules-few : (n : ℕ) (stmts : List Stmt) → length (flat_map (λ (entry : ℕ × Stmt). identities_in entry.0 entry.1) (enumerate_from n stmts)) ≤ steps_of stmts
 modules-few n [] = omega arith
 modules-few n (stmt ∷ stmts) =
-    omega (arith, length-append (identities_in n stmt) (flat_map (λ (entry : ℕ × Stmt). identities_in entry.0 entry.1) (enumerate_from (n + 1) stmts)), subs-few 63 n (subs_of stmt),
-    modules-few (n + 1) stmts, count-subs 63 stmt, sum_by-cons (count 64) stmt stmts)
+    omega (
+      arith,
+      length-append (identities_in n stmt) (flat_map (λ (entry : ℕ × Stmt). identities_in entry.0 entry.1) (enumerate_from (n + 1) stmts)),
+      subs-few 63 n (subs_of stmt),
+      modules-few (n + 1) stmts,
+      count-subs 63 stmt,
+      sum_by-cons (count 64) stmt stmts,
+    )
 
 pub identities_are_statements : IdentitiesAreStatements
 identities_are_statements stmts table e =

@@ -198,10 +198,11 @@ subs-differ levels each high (stmt ∷ stmts) order =
     let (here, inside) = each next stmt one in
     let (rest, behind) = subs-differ levels each high stmts more in
     let before = order-within levels next stmt one in
-    let at = (out-Stmt stmt).at in
-    (differ-joined at next high (places levels stmt) (flat_map (places levels) stmts) inside behind here rest,
-    all-joined (λ p. nat_le at p && nat_lt p high) (places levels stmt) (flat_map (places levels) stmts) (wider at at next high (omega arith) (start-low levels high stmts more) (places levels stmt) inside)
-    (wider at next high high (omega (arith, before)) (omega arith) (flat_map (places levels) stmts) behind))
+    let at = (out-Stmt stmt).at in (
+      differ-joined at next high (places levels stmt) (flat_map (places levels) stmts) inside behind here rest,
+      all-joined (λ p. nat_le at p && nat_lt p high) (places levels stmt) (flat_map (places levels) stmts) (wider at at next high (omega arith) (start-low levels high stmts more) (places levels stmt) inside)
+          (wider at next high high (omega (arith, before)) (omega arith) (flat_map (places levels) stmts) behind),
+    )
 
 order-suc : (levels high : ℕ) (stmt : Stmt) → is_in_order (suc levels) high stmt ≡ (nat_lt (out-Stmt stmt).at (start_or high (subs_of stmt)) && all_before (is_in_order levels) high (subs_of stmt))
 unfolding is_in_order
@@ -225,8 +226,9 @@ order-differs (suc levels) high stmt order =
     let (rest, behind) = subs-differ levels (order-differs levels) high subs (and_second (nat_lt at start) (all_before (is_in_order levels) high subs) parts) in
     let low = order-within (suc levels) high stmt order in
     let here : IsTrue (nat_le at at) = grind (arith, nat_tests) in
-    let there : IsTrue (nat_lt at high) = grind (arith, nat_tests) in
-    (both (not (list_any (nat_eq at) (flat_map (places levels) subs))) (all_differ nat_eq (flat_map (places levels) subs))
-    (false-is (list_any (nat_eq at) (flat_map (places levels) subs)) (none-before at start high before (flat_map (places levels) subs) behind)) rest,
-    both (nat_le at at && nat_lt at high) (lie at high (flat_map (places levels) subs)) (both (nat_le at at) (nat_lt at high) here there)
-    (wider at start high high (omega (arith, before)) (omega arith) (flat_map (places levels) subs) behind))
+    let there : IsTrue (nat_lt at high) = grind (arith, nat_tests) in (
+      both (not (list_any (nat_eq at) (flat_map (places levels) subs))) (all_differ nat_eq (flat_map (places levels) subs))
+          (false-is (list_any (nat_eq at) (flat_map (places levels) subs)) (none-before at start high before (flat_map (places levels) subs) behind)) rest,
+      both (nat_le at at && nat_lt at high) (lie at high (flat_map (places levels) subs)) (both (nat_le at at) (nat_lt at high) here there)
+          (wider at start high high (omega (arith, before)) (omega arith) (flat_map (places levels) subs) behind),
+    )

@@ -84,9 +84,10 @@ all-readable high (text ∷ texts) (stmt ∷ stmts) e few =
     let first : read text ≡ Ok stmt = cc in
     let others : map read texts ≡ map Ok stmts = cc in
     let all = sum_by-cons length text texts in
-    let (rest, count_rest) = all-readable high texts stmts others (omega (arith, all, few)) in
-    (both (is_readable stmt) (list_all is_readable stmts) (readable text stmt high (omega (arith, all, few)) first) rest,
-    omega (arith, all, sum_by-cons (count 64) stmt stmts, what_is_read_is_counted text stmt first, count_rest))
+    let (rest, count_rest) = all-readable high texts stmts others (omega (arith, all, few)) in (
+      both (is_readable stmt) (list_all is_readable stmts) (readable text stmt high (omega (arith, all, few)) first) rest,
+      omega (arith, all, sum_by-cons (count 64) stmt stmts, what_is_read_is_counted text stmt first, count_rest),
+    )
 
 is-fewer : (n m : ℕ) → n < m → IsTrue (nat_lt n m)
 is-fewer n m h = grind (arith, nat_tests)

@@ -136,10 +136,10 @@ module _ (stmts : List Stmt) where
       elim found as (λ o. found ≡ o → is_some_site (flat_map firsts (option_to_list o)) ≡ true → rests_on stmts site ≡ flat_map firsts (option_to_list o) → GoesAcross stmts site) [
         | None ↦ λ here h is. absurd (wrong h)
         | Some typedef ↦ λ here h is. record {
-            typedef = typedef;
-            means = rw other here;
-            first = subst (λ (sites : List Site). IsFirst (first_or site sites) typedef) (sym is) (first-across site typedef (all_named word.Type typedef.stmt) refl h);
-          }
+          typedef = typedef;
+          means = rw other here;
+          first = subst (λ (sites : List Site). IsFirst (first_or site sites) typedef) (sym is) (first-across site typedef (all_named word.Type typedef.stmt) refl h);
+        }
       ] refl some there
 
 -- ---- modules without faults

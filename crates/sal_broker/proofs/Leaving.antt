@@ -12,16 +12,16 @@ use Rattle.sal_history.specs.declared.reply.Reply.{Reply}
 use Rattle.sal_turn.specs.Entries.{Leaves, entries_by}
 use Rattle.sal_turn.specs.Views.{SameRights}
 use Rattle.sal_hub.specs.Answers.{Calls, CallsOr, Fails, Made}
-use Rattle.sal_hub.specs.Known.{Known, entry_of}
+use Rattle.sal_hub.specs.HubHistory.{HubHistory, entry_of}
 use Rattle.sal_broker.specs.Seats.{SeatView, client_of}
 use Rattle.sal_broker.specs.Turns.{OneMoreAtMost, TurnOf}
 
 -- ---- what a call leaves
 
-made_adds : (v : SeatView) (found left : Known) (e : Entry) (r : Reply) → e.client ≡ v.number → Made found left e r → OneMoreAtMost v found left
+made_adds : (v : SeatView) (found left : HubHistory) (e : Entry) (r : Reply) → e.client ≡ v.number → Made found left e r → OneMoreAtMost v found left
 made_adds v found left e r own made = inr (e, own, made.log)
 
-fails_add : (v : SeatView) (found left : Known) (e : Entry) (fault : CallFault) → e.client ≡ v.number → Fails found left e fault → OneMoreAtMost v found left
+fails_add : (v : SeatView) (found left : HubHistory) (e : Entry) (fault : CallFault) → e.client ≡ v.number → Fails found left e fault → OneMoreAtMost v found left
 fails_add v found left e HistoryFull own fails = inl fails.1
 fails_add v found left e NoMemory own fails = inl fails
 fails_add v found left e PipelineFull own fails = made_adds v found left e _ own fails
@@ -39,7 +39,7 @@ fails_add v found left e (ChainFailed receipt) own fails = made_adds v found lef
 fails_add v found left e ChainClosed own fails = made_adds v found left e _ own fails
 fails_add v found left e TxSpent own fails = made_adds v found left e _ own fails
 
-module _ {X : Type 0} (v : SeatView) (found left : Known) (client : ℕ) (call : Call) (good : X → Reply) where
+module _ {X : Type 0} (v : SeatView) (found left : HubHistory) (client : ℕ) (call : Call) (good : X → Reply) where
   pub calls_add : (result : Result X CallFault) → client ≡ v.number → Calls found left (entry_of found client call) good result → OneMoreAtMost v found left
   calls_add (Ok x) own made = made_adds v found left (entry_of found client call) _ own made
   calls_add (Err fault) own fails = fails_add v found left (entry_of found client call) fault own fails
@@ -54,9 +54,9 @@ pub is_some_of : (o : Option (List Domain)) → IsSome o → o ≡ Some (unwrap_
 is_some_of (Some x) is = refl
 is_some_of None is = cc
 
-same_world : (v : SeatView) (found left : Known) → OneMoreAtMost v found left → left.world ≡ found.world
-same_world v found left (inl same) = ap (λ (k : Known). k.world) same
-same_world v found left (inr (e, own, more)) = ap (λ (k : Known). k.world) more
+same_world : (v : SeatView) (found left : HubHistory) → OneMoreAtMost v found left → left.world ≡ found.world
+same_world v found left (inl same) = ap (λ (k : HubHistory). k.world) same
+same_world v found left (inr (e, own, more)) = ap (λ (k : HubHistory). k.world) more
 
 own_then : (k : ℕ) (found own now then : List Entry) → Leaves client_of k found own now then → then ≡ own ++ drop (length found) now
 own_then k found own now then (inl (same, kept)) =
@@ -64,7 +64,7 @@ own_then k found own now then (inl (same, kept)) =
 own_then k found own now then (inr (e, mine, more, grown)) =
     grown ∙ ap (λ (es : List Entry). own ++ es) (sym (drop_at found (e ∷ []) (length found) refl) ∙ ap (λ (es : List Entry). drop (length found) es) (sym more))
 
-pub left_turn : (v w : SeatView) (found left : Known) → v.ground ≡ Some found.world → IsPrefix v.seen found.log → entries_by client_of v.number found.log ≡ v.own
+pub left_turn : (v w : SeatView) (found left : HubHistory) → v.ground ≡ Some found.world → IsPrefix v.seen found.log → entries_by client_of v.number found.log ≡ v.own
     → SameRights v w → OneMoreAtMost v found left → w.seen ≡ left.log → Leaves client_of v.number found.log v.own left.log w.own → TurnOf v v.number found left w
 left_turn v w found left ground seen mine rights added now leaves = record {
   number = refl;

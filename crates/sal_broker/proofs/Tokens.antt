@@ -2,14 +2,14 @@
 use Rattle.std.proofs.Common.{List, [], ◌∷◌, ◌++◌, sym, subst, append_assoc, append-nil}
 use mathlib.Core.List.{IsPrefix}
 use Rattle.sal_history.specs.declared.call.Entry.{Entry}
-use Rattle.sal_hub.specs.Known.{Known, more}
+use Rattle.sal_hub.specs.HubHistory.{HubHistory, more}
 use Rattle.sal_broker.specs.Tokens.{with_log}
 
-module _ (Holds : Known → Type 0) (one_more : (known : Known) (e : Entry) → Holds known → Holds (more known e)) where
-  stays_behind : (rest : List Entry) (known : Known) → Holds known → Holds (with_log known (known.log ++ rest))
+module _ (Holds : HubHistory → Type 0) (one_more : (known : HubHistory) (e : Entry) → Holds known → Holds (more known e)) where
+  stays_behind : (rest : List Entry) (known : HubHistory) → Holds known → Holds (with_log known (known.log ++ rest))
   stays_behind [] known was = subst (λ (log : List Entry). Holds (with_log known log)) (sym (append-nil known.log)) was
   stays_behind (e ∷ rest) known was =
       subst (λ (log : List Entry). Holds (with_log known log)) (append_assoc known.log (e ∷ []) rest) (stays_behind rest (more known e) (one_more known e was))
 
-  pub stays : (known : Known) (log : List Entry) → IsPrefix known.log log → Holds known → Holds (with_log known log)
+  pub stays : (known : HubHistory) (log : List Entry) → IsPrefix known.log log → Holds known → Holds (with_log known log)
   stays known log starts was = subst (λ (l : List Entry). Holds (with_log known l)) starts.1 (stays_behind starts.0 known was)

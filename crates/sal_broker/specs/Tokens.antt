@@ -8,16 +8,16 @@ use Rattle.sal_hub.specs.declared.call_id.CallId.{CallId}
 use Rattle.sal_hub.specs.declared.chain.Chain.{Chain}
 use Rattle.sal_hub.specs.declared.listener.ListenerId.{ListenerId}
 use Rattle.sal_hub.specs.declared.receipt.Receipt.{Receipt}
-use Rattle.sal_hub.specs.Known.{Known}
+use Rattle.sal_hub.specs.HubHistory.{HubHistory}
 use Rattle.sal_hub.specs.Listeners.{IsMade}
 use Rattle.sal_hub.specs.Tokens.{IsBegun, IsCall, IsChain, IsGiven, IsListener}
 
 -- a hub with another log
-abbrev pub with_log : Known → List Entry → Known
+abbrev pub with_log : HubHistory → List Entry → HubHistory
 with_log known log = record { world = known.world; log = log }
 
 -- the tokens of the one hub are tokens of the other
-pub record TokensStay (old new : Known) : Type 0 where
+pub record TokensStay (old new : HubHistory) : Type 0 where
   pub begun : (begun : Begun) (base : Pair) → IsBegun old begun base → IsBegun new begun base
   pub given : (receipt : Receipt) → IsGiven old receipt → IsGiven new receipt
   pub opened : (chain : Chain) → IsChain old chain → IsChain new chain

@@ -6,7 +6,7 @@ ghost use Rattle.sal_history.specs.declared.call.Call.TheVariants.{Begin, Cancel
 ghost use Rattle.sal_history.specs.declared.reply.Reply.TheVariants.{Accepted, Begun, Receipt as Numbered, Settled};
 ghost use Rattle.sal_hub.specs.declared.receipt.Receipt.{Receipt as Given};
 ghost use Rattle.sal_hub.specs.Answers.{Calls, CallsOr};
-ghost use Rattle.sal_hub.specs.Known.{entry_of};
+ghost use Rattle.sal_hub.specs.HubHistory.{entry_of};
 ghost use Rattle.sal_hub.specs.Seen.{pump_reply};
 ghost use Rattle.sal_hub.specs.Tokens.{IsBegun, IsFresh, IsGiven, IsToken, begun_of};
 ghost use Rattle.sal_broker.specs.Seats.{known};

@@ -3,9 +3,9 @@ ghost use Rattle.std.specs.Prelude.{◌≡◌, Some, IfOk};
 ghost use Rattle.sal_tx.specs.declared.tx.Tx.{Tx as Token};
 ghost use Rattle.sal_history.specs.declared.call.Call.TheVariants.{ChainBegin, CloseChain, OpenChain};
 ghost use Rattle.sal_history.specs.declared.reply.Reply.TheVariants.{Accepted, Begun, Chain as Opened};
-ghost use Rattle.sal_hub.specs.declared.chain.Chain.{Chain as Line};
+ghost use Rattle.sal_hub.specs.declared.chain.Chain.{Chain as ChainToken};
 ghost use Rattle.sal_hub.specs.Answers.{Calls};
-ghost use Rattle.sal_hub.specs.Known.{entry_of};
+ghost use Rattle.sal_hub.specs.HubHistory.{entry_of};
 ghost use Rattle.sal_hub.specs.Tokens.{IsChain, IsFresh, IsToken, begun_of};
 ghost use Rattle.sal_broker.specs.Seats.{known};
 ghost use Rattle.sal_broker.specs.Turns.{InTurn, Keeps};
@@ -29,7 +29,7 @@ impl Sal {
     ) -> Result<Chain, CallFault>
         requires { seat.old.lock ≡ self.now }
         ensures same { Keeps self.now seat.old seat.new }
-        ensures turn { InTurn seat.old.view seat.new.view (λ client found left. Calls found left (entry_of found client (OpenChain domain)) (λ (c : Line). Opened c.id) result) }
+        ensures turn { InTurn seat.old.view seat.new.view (λ client found left. Calls found left (entry_of found client (OpenChain domain)) (λ (c : ChainToken). Opened c.id) result) }
         ensures given { IfOk result (IsChain (known seat.new.view)) }
         ensures domain { IfOk result (λ c. c.domain ≡ domain) }
     {

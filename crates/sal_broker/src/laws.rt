@@ -2,12 +2,12 @@
 ghost use Rattle.std.specs.Prelude.{List};
 ghost use mathlib.Core.List.{IsPrefix};
 ghost use Rattle.sal_history.specs.declared.call.Entry.{Entry};
-ghost use Rattle.sal_hub.specs.Known.{Known};
+ghost use Rattle.sal_hub.specs.HubHistory.{HubHistory};
 ghost use Rattle.sal_broker.specs.Tokens.{TokensStay, with_log};
 
 /// The tokens of a log are tokens of each log that begins so, whoever made the entries behind.
 pub fn tokens_stay()
-    ensures { (known : Known) (log : List Entry) → IsPrefix known.log log → TokensStay known (with_log known log) }
+    ensures { (known : HubHistory) (log : List Entry) → IsPrefix known.log log → TokensStay known (with_log known log) }
 {
     sal_hub::laws::tokens_last();
 }

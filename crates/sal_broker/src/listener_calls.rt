@@ -4,7 +4,7 @@ ghost use Rattle.sal_rows.specs.declared.batch.Batch.{Batch as Told};
 ghost use Rattle.sal_history.specs.declared.call.Call.TheVariants.{Listen, Take, Unlisten};
 ghost use Rattle.sal_history.specs.declared.reply.Reply.TheVariants.{Accepted, Batch as Tells};
 ghost use Rattle.sal_hub.specs.Answers.{Calls};
-ghost use Rattle.sal_hub.specs.Known.{entry_of};
+ghost use Rattle.sal_hub.specs.HubHistory.{entry_of};
 ghost use Rattle.sal_hub.specs.Listeners.{IsMade, listener_reply};
 ghost use Rattle.sal_hub.specs.Tokens.{IsListener};
 ghost use Rattle.sal_broker.specs.Seats.{known};

@@ -5,7 +5,7 @@ ghost use Rattle.sal_history.specs.declared.call.Call.TheVariants.{After};
 ghost use Rattle.sal_turn.specs.Entries.{entries_by};
 ghost use Rattle.sal_turn.specs.Views.{SameRights};
 ghost use Rattle.sal_hub.specs.Answers.{Calls};
-ghost use Rattle.sal_hub.specs.Known.{entry_of};
+ghost use Rattle.sal_hub.specs.HubHistory.{entry_of};
 ghost use Rattle.sal_hub.specs.Marks.{has_mark};
 ghost use Rattle.sal_hub.specs.Seen.{seen_reply};
 ghost use Rattle.sal_broker.specs.Looks.{IsLate, IsMissed};

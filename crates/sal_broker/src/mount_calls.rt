@@ -3,7 +3,7 @@ ghost use Rattle.std.specs.Prelude.{◌≡◌, ℕ, Option};
 ghost use Rattle.sal_history.specs.declared.call.Call.TheVariants.{Mount, MountAt, Unmount};
 ghost use Rattle.sal_history.specs.declared.reply.Reply.TheVariants.{Accepted, MountAt as Stands};
 ghost use Rattle.sal_hub.specs.Answers.{Calls};
-ghost use Rattle.sal_hub.specs.Known.{entry_of};
+ghost use Rattle.sal_hub.specs.HubHistory.{entry_of};
 ghost use Rattle.sal_broker.specs.Turns.{InTurn, Keeps};
 
 use crate::sal::Sal;

@@ -4,7 +4,7 @@ ghost use Rattle.sal_note.specs.declared.call.Note.{Note};
 ghost use Rattle.sal_history.specs.declared.call.Call.TheVariants.{Offer, Subscribe, TakeNotes};
 ghost use Rattle.sal_history.specs.declared.reply.Reply.TheVariants.{Accepted, Notes, Offered};
 ghost use Rattle.sal_hub.specs.Answers.{Calls};
-ghost use Rattle.sal_hub.specs.Known.{entry_of};
+ghost use Rattle.sal_hub.specs.HubHistory.{entry_of};
 ghost use Rattle.sal_broker.specs.Turns.{InTurn, Keeps};
 
 use crate::sal::Sal;

@@ -4,7 +4,7 @@ ghost use Rattle.sal_history.specs.declared.call.Call.TheVariants.{Answer, Colle
 ghost use Rattle.sal_history.specs.declared.reply.Reply.TheVariants.{Accepted, CallMade};
 ghost use Rattle.sal_hub.specs.declared.call_id.CallId.{CallId as Made};
 ghost use Rattle.sal_hub.specs.Answers.{Calls};
-ghost use Rattle.sal_hub.specs.Known.{entry_of};
+ghost use Rattle.sal_hub.specs.HubHistory.{entry_of};
 ghost use Rattle.sal_hub.specs.Routed.{collect_reply, request_reply};
 ghost use Rattle.sal_hub.specs.Tokens.{IsCall};
 ghost use Rattle.sal_broker.specs.Seats.{known};

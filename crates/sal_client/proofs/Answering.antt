@@ -23,9 +23,9 @@ use Rattle.sal_script.specs.Moves.{Move}
 use Rattle.sal_script.specs.declared.reply.StepReply.{StepReply}
 use Rattle.sal_script.specs.declared.reply.StepReply.TheVariants.{Called}
 use Rattle.sal_script.specs.declared.reply.StepRefusal.{StepRefusal}
-use Rattle.sal_script.specs.Play.{Client, Deed, Meeting, Open, Opened, Slots, act_of, cancel, domain_in, keep, keep_begun, meet, refused, set_slot, shared, submit, submit_in, write_at, write_in, write_op}
+use Rattle.sal_script.specs.Play.{Client, DataAct, Meeting, Open, Opened, Slots, act_of, cancel, domain_in, keep, keep_begun, meet, refused, set_slot, shared, submit, submit_in, write_at, write_in, write_op}
 use Rattle.sal_hub.specs.Answers.{Fails, Made}
-use Rattle.sal_hub.specs.Known.{Known, entry_of}
+use Rattle.sal_hub.specs.HubHistory.{HubHistory, entry_of}
 use Rattle.sal_hub.specs.Tokens.{IsFresh}
 use Rattle.sal_client.specs.declared.client.Standing.TheVariants.{Writable}
 use Rattle.sal_client.specs.declared.wish.RunFault.{RunFault}
@@ -37,7 +37,7 @@ use Rattle.sal_client.specs.Wishes.{IsStop, Stops}
 -- ---- shared calls
 
 -- a call that was made, with its answer
-pub called : (tables : List SchemaTable) (r : StepReply) (c : ℕ) (known : Known) (old : Client) (step : Move) (known' : Known) (new : Client) (call : Call) (answer : Reply) → meet tables known.world known.log old step ≡ shared call → Made known known' (entry_of known c call) answer → r ≡ Called answer → new ≡ keep (length known.log) step answer old → Calls tables r c known old step known' new call
+pub called : (tables : List SchemaTable) (r : StepReply) (c : ℕ) (known : HubHistory) (old : Client) (step : Move) (known' : HubHistory) (new : Client) (call : Call) (answer : Reply) → meet tables known.world known.log old step ≡ shared call → Made known known' (entry_of known c call) answer → r ≡ Called answer → new ≡ keep (length known.log) step answer old → Calls tables r c known old step known' new call
 called tables r c known old step known' new call answer met made replied kept = record {
   met = met;
   entry = made.log;
@@ -46,7 +46,7 @@ called tables r c known old step known' new call answer met made replied kept = 
 }
 
 -- a fault that is neither a full history nor want of memory is an answer
-pub made_refused : (old new : Known) (e : Entry) (fault : CallFault) → Fails old new e fault → (fault ≡ HistoryFull → ⊥) → (fault ≡ NoMemory → ⊥) → Made old new e (Refused fault)
+pub made_refused : (old new : HubHistory) (e : Entry) (fault : CallFault) → Fails old new e fault → (fault ≡ HistoryFull → ⊥) → (fault ≡ NoMemory → ⊥) → Made old new e (Refused fault)
 made_refused old new e HistoryFull fails full memory = absurd (full refl)
 made_refused old new e NoMemory fails full memory = absurd (memory refl)
 made_refused old new e PipelineFull fails full memory = fails
@@ -65,25 +65,25 @@ made_refused old new e ChainClosed fails full memory = fails
 made_refused old new e TxSpent fails full memory = fails
 
 -- a fault that stops the client
-pub stopped : (old new : Known) (e : Entry) (fault : CallFault) (stop : RunFault) → Fails old new e fault → IsStop fault stop → Stops e.client old new stop
+pub stopped : (old new : HubHistory) (e : Entry) (fault : CallFault) (stop : RunFault) → Fails old new e fault → IsStop fault stop → Stops e.client old new stop
 stopped old new e fault stop.HistoryFull fails is = subst (Fails old new e) is fails
 stopped old new e fault stop.NoMemory fails is = inl (subst (Fails old new e) is fails)
 
 -- ---- begin
 
 -- a domain of the world is one behind a call, too
-pub in_world : {known known' : Known} {e : Entry} {answer : Reply} {asked domain : ℕ} → Made known known' e answer → asked ≡ domain → IsWithin (length known.world) asked → IsWithin (length known'.world) domain
+pub in_world : {known known' : HubHistory} {e : Entry} {answer : Reply} {asked domain : ℕ} → Made known known' e answer → asked ≡ domain → IsWithin (length known.world) asked → IsWithin (length known'.world) domain
 in_world {known} {known'} {e} {answer} {asked} {domain} made same within =
-    subst (λ n. IsWithin n domain) (ap (λ (k : Known). length k.world) (sym made.log)) (subst (IsWithin (length known.world)) same within)
+    subst (λ n. IsWithin n domain) (ap (λ (k : HubHistory). length k.world) (sym made.log)) (subst (IsWithin (length known.world)) same within)
 
 -- the transaction that a begin answers stands in the slot
-pub kept_begun : (known : Known) (slot domain : ℕ) (member : Option ℕ) (mode : Mode) (tx : Tx) (old : Client) (f : Slots Open) → IsFresh known domain member mode tx → f ≡ set_slot slot (Some (open_of tx)) old.transactions → record old { transactions = f } ≡ keep_begun slot (length known.log) domain mode old
+pub kept_begun : (known : HubHistory) (slot domain : ℕ) (member : Option ℕ) (mode : Mode) (tx : Tx) (old : Client) (f : Slots Open) → IsFresh known domain member mode tx → f ≡ set_slot slot (Some (open_of tx)) old.transactions → record old { transactions = f } ≡ keep_begun slot (length known.log) domain mode old
 kept_begun known slot domain member mode tx old f fresh filled =
     let same : open_of tx ≡ record { place = length known.log; domain = domain; mode = mode; ops = [] } = λ i. record { place = fresh.place i; domain = fresh.domain i; mode = fresh.mode i; ops = fresh.ops i } in
     (λ i. record old { transactions = filled i }) ∙ (λ i. record old { transactions = set_slot slot (Some (same i)) old.transactions })
 
 -- and one of a chain, whose domain is the chain's
-pub kept_in_chain : (known : Known) (number slot : ℕ) (chain : Opened) (mode : Mode) (tx : Tx) (old : Client) (f : Slots Open) → old.chains number ≡ Some chain → IsFresh known chain.domain (Some chain.id) mode tx → f ≡ set_slot slot (Some (open_of tx)) old.transactions → record old { transactions = f } ≡ keep_begun slot (length known.log) (domain_in (old.chains number)) mode old
+pub kept_in_chain : (known : HubHistory) (number slot : ℕ) (chain : Opened) (mode : Mode) (tx : Tx) (old : Client) (f : Slots Open) → old.chains number ≡ Some chain → IsFresh known chain.domain (Some chain.id) mode tx → f ≡ set_slot slot (Some (open_of tx)) old.transactions → record old { transactions = f } ≡ keep_begun slot (length known.log) (domain_in (old.chains number)) mode old
 kept_in_chain known number slot chain mode tx old f found fresh filled =
     kept_begun known slot chain.domain (Some chain.id) mode tx old f fresh filled ∙ ap (λ o. keep_begun slot (length known.log) (domain_in o) mode old) (sym found)
 
@@ -113,15 +113,15 @@ module _ (table : SchemaTable) (world : List Domain) (log : List Entry) where
   met_by slot tx client (Ok op) = write_op table world log slot op tx client
   met_by slot tx client (Err refusal) = refused refusal client
 
-  write_by_act : (slot : ℕ) (store : Store) (path : List Step) (deed : Deed) (tx : Open) (client : Client) (read : Result Act DataFault) → act_of table path deed ≡ read → write_at table world log slot store (Ok path) deed tx client ≡ met_by slot tx client (op_at tx.domain store path read)
-  write_by_act slot store path deed tx client (Ok act) e = rw e refl
-  write_by_act slot store path deed tx client (Err fault) e = rw e refl
+  write_by_act : (slot : ℕ) (store : Store) (path : List Step) (data_act : DataAct) (tx : Open) (client : Client) (read : Result Act DataFault) → act_of table path data_act ≡ read → write_at table world log slot store (Ok path) data_act tx client ≡ met_by slot tx client (op_at tx.domain store path read)
+  write_by_act slot store path data_act tx client (Ok act) e = rw e refl
+  write_by_act slot store path data_act tx client (Err fault) e = rw e refl
 
-  write_at-by : (slot : ℕ) (store : Store) (deed : Deed) (tx : Open) (client : Client) (read : Result (List Step) PathTextFault) → write_at table world log slot store read deed tx client ≡ met_by slot tx client (op_by table tx.domain store deed read)
-  write_at-by slot store deed tx client (Err fault) = refl
-  write_at-by slot store deed tx client (Ok path) = write_by_act slot store path deed tx client (act_of table path deed) refl
+  write_at-by : (slot : ℕ) (store : Store) (data_act : DataAct) (tx : Open) (client : Client) (read : Result (List Step) PathTextFault) → write_at table world log slot store read data_act tx client ≡ met_by slot tx client (op_by table tx.domain store data_act read)
+  write_at-by slot store data_act tx client (Err fault) = refl
+  write_at-by slot store data_act tx client (Ok path) = write_by_act slot store path data_act tx client (act_of table path data_act) refl
 
-  pub write-writable : (m : Mode) (slot : ℕ) (store : Store) (text : List ℕ) (deed : Deed) (tx : Open) (client : Client) (read : Result (List Step) PathTextFault) (made : Result Op StepRefusal) → standing_in m ≡ Writable → read ≡ read_path table text → made ≡ op_by table tx.domain store deed read → write_in table world log m slot store text deed tx client ≡ met_by slot tx client made
-  write-writable Ro slot store text deed tx client read made w is by = cc
-  write-writable Wo slot store text deed tx client read made w is by = ap (λ r. write_at table world log slot store r deed tx client) (sym is) ∙ write_at-by slot store deed tx client read ∙ ap (met_by slot tx client) (sym by)
-  write-writable Rw slot store text deed tx client read made w is by = ap (λ r. write_at table world log slot store r deed tx client) (sym is) ∙ write_at-by slot store deed tx client read ∙ ap (met_by slot tx client) (sym by)
+  pub write-writable : (m : Mode) (slot : ℕ) (store : Store) (text : List ℕ) (data_act : DataAct) (tx : Open) (client : Client) (read : Result (List Step) PathTextFault) (made : Result Op StepRefusal) → standing_in m ≡ Writable → read ≡ read_path table text → made ≡ op_by table tx.domain store data_act read → write_in table world log m slot store text data_act tx client ≡ met_by slot tx client made
+  write-writable Ro slot store text data_act tx client read made w is by = cc
+  write-writable Wo slot store text data_act tx client read made w is by = ap (λ r. write_at table world log slot store r data_act tx client) (sym is) ∙ write_at-by slot store data_act tx client read ∙ ap (met_by slot tx client) (sym by)
+  write-writable Rw slot store text data_act tx client read made w is by = ap (λ r. write_at table world log slot store r data_act tx client) (sym is) ∙ write_at-by slot store data_act tx client read ∙ ap (met_by slot tx client) (sym by)

@@ -22,7 +22,7 @@ use Rattle.sal_history.specs.World.{Domain, table_of}
 use Rattle.sal_schema.specs.declared.table.SchemaTable.{SchemaTable}
 use Rattle.sal_script.specs.Play.{table_in, tables_of}
 use Rattle.sal_hub.specs.declared.chain.Chain.{Chain}
-use Rattle.sal_hub.specs.Known.{Known}
+use Rattle.sal_hub.specs.HubHistory.{HubHistory}
 use Rattle.sal_hub.specs.Tokens.{IsChain}
 use Rattle.sal_client.specs.Clients.{IsWithin}
 
@@ -123,5 +123,5 @@ chained_live world answered chain newest commit before on e =
     (or_none (call_fault_if (is_closed answered chain) ChainClosed) failed_or none)))
 
 -- the domain of a chain that was opened
-pub domain-chain : (known : Known) (chain : Chain) → IsChain known chain → domain_of (history known.world known.log) chain.id ≡ chain.domain
+pub domain-chain : (known : HubHistory) (chain : Chain) → IsChain known chain → domain_of (history known.world known.log) chain.id ≡ chain.domain
 domain-chain known chain is = ap (λ (o : Option ℕ). unwrap_or o 0) is.1

@@ -23,7 +23,7 @@ use Rattle.sal_history.specs.World.{Domain, opening_of, table_of}
 use Rattle.sal_history.specs.History.{Answered, batch_of, commits, history, listen_refusal, listening, refused_or, reply_to, taken, trees_at}
 use Rattle.sal_script.proofs.Growing.{listener_later, more_commits, trees_later}
 use Rattle.sal_hub.specs.declared.listener.ListenerId.{ListenerId}
-use Rattle.sal_hub.specs.Known.{Known, entry_of, more}
+use Rattle.sal_hub.specs.HubHistory.{HubHistory, entry_of, more}
 use Rattle.sal_hub.specs.Listeners.{IsMade, listener_reply}
 use Rattle.sal_hub.specs.Tokens.{IsListener}
 use Rattle.sal_hub.proofs.Listened.{version-push}
@@ -36,10 +36,10 @@ abbrev pub listening_of : ℕ → Follower → Listening
 listening_of number f = record { client = number; domain = f.id.domain; store = f.store; path = f.path }
 
 -- its token
-pub token_of : (known : Known) (number : ℕ) (f : Follower) → IsOwnListener known number f → IsListener known f.id
+pub token_of : (known : HubHistory) (number : ℕ) (f : Follower) → IsOwnListener known number f → IsListener known f.id
 token_of known number f is = (is.low, ap (option_map (λ (l : Listening). l.domain)) is.made)
 
-module _ (known : Known) (e : Entry) where
+module _ (known : HubHistory) (e : Entry) where
   abbrev so_far : List Answered
   so_far = history known.world known.log
 
@@ -69,7 +69,7 @@ module _ (known : Known) (e : Entry) where
 
 -- ---- a listen
 
-module _ (known : Known) (number domain : ℕ) (store : Store) (path : List Step) (given : ListenerId × Opened)
+module _ (known : HubHistory) (number domain : ℕ) (store : Store) (path : List Step) (given : ListenerId × Opened)
     (answered : reply_to known.world (history known.world known.log) number (Listen domain store path) ≡ listener_reply domain path given) where
   abbrev call_entry : Entry
   call_entry = entry_of known number (Listen domain store path)
@@ -132,7 +132,7 @@ module _ (known : Known) (number domain : ℕ) (store : Store) (path : List Step
 
 -- ---- a take
 
-module _ (known : Known) (number : ℕ) (f : Follower) (is : IsOwnListener known number f) (b : Told)
+module _ (known : HubHistory) (number : ℕ) (f : Follower) (is : IsOwnListener known number f) (b : Told)
     (answered : reply_to known.world (history known.world known.log) number (Take f.id.number) ≡ Batch f.id.domain b) where
   abbrev take_entry : Entry
   take_entry = entry_of known number (Take f.id.number)

@@ -23,7 +23,7 @@ use Rattle.sal_hub.specs.declared.chain.Chain.{Chain}
 use Rattle.sal_hub.specs.declared.listener.ListenerId.{ListenerId}
 use Rattle.sal_hub.specs.declared.receipt.Receipt.{Receipt}
 use Rattle.sal_hub.specs.Answers.{Made}
-use Rattle.sal_hub.specs.Known.{Known, entry_of, more}
+use Rattle.sal_hub.specs.HubHistory.{HubHistory, entry_of, more}
 use Rattle.sal_hub.specs.Listeners.{IsMade, listener_reply}
 use Rattle.sal_client.specs.declared.client.ClientState.{ClientState}
 use Rattle.sal_client.specs.declared.follower.Follower.{Follower}
@@ -44,12 +44,12 @@ id_in call = 0
 
 -- ---- what the steps come to
 
-pub met_listen : (tables : List SchemaTable) (known : Known) (client : Client) (slot domain : ℕ) (store : Store) (text : List ℕ) (path : List Step) → read_path (table_in tables domain) text ≡ Ok path → has_domain tables domain ≡ true
+pub met_listen : (tables : List SchemaTable) (known : HubHistory) (client : Client) (slot domain : ℕ) (store : Store) (text : List ℕ) (path : List Step) → read_path (table_in tables domain) text ≡ Ok path → has_domain tables domain ≡ true
     → meet tables known.world known.log client (Listen slot domain store text) ≡ shared (ListenCall domain store path)
 met_listen tables known client slot domain store text path read has =
     ap (λ b. if b then listen_at domain store (read_path (table_in tables domain) text) client else refused NoDevice client) has ∙ ap (λ (r : Result (List Step) PathTextFault). listen_at domain store r client) read
 
-pub met_take : (tables : List SchemaTable) (known : Known) (c : ClientState) (slot : ℕ) (f : Follower) → held c.listeners slot ≡ Some f → meet tables known.world known.log (client_of c) (Take slot) ≡ shared (TakeCall f.id.number)
+pub met_take : (tables : List SchemaTable) (known : HubHistory) (c : ClientState) (slot : ℕ) (f : Follower) → held c.listeners slot ≡ Some f → meet tables known.world known.log (client_of c) (Take slot) ≡ shared (TakeCall f.id.number)
 met_take tables known c slot f found = ap (λ (o : Option Follower). take_batch (client_of c) (option_map listener_of o)) found
 
 -- ---- what they leave in the slots
@@ -74,7 +74,7 @@ kept_taken old after slot f g b found goes filled =
 
 -- ---- a client stays sound
 
-module _ (lasts : TokensLast) (known known' : Known) (old new : ClientState) (slot : ℕ) (sound : IsSound known old) (number : new.number ≡ old.number) (txs : held new.transactions ≡ held old.transactions) (rs : held new.receipts ≡ held old.receipts) (cs : held new.chains ≡ held old.chains) (ids : held new.invoked ≡ held old.invoked) where
+module _ (lasts : TokensLast) (known known' : HubHistory) (old new : ClientState) (slot : ℕ) (sound : IsSound known old) (number : new.number ≡ old.number) (txs : held new.transactions ≡ held old.transactions) (rs : held new.receipts ≡ held old.receipts) (cs : held new.chains ≡ held old.chains) (ids : held new.invoked ≡ held old.invoked) where
   -- with a listener that was made
   pub sound_listening : (domain : ℕ) (store : Store) (path : List Step) (id : ListenerId) (o : Opened) → Made known known' (entry_of known old.number (ListenCall domain store path)) (listener_reply domain path (id, o)) → id.domain ≡ domain
       → IsMade known' id (record { client = old.number; domain = domain; store = store; path = path })
@@ -84,8 +84,8 @@ module _ (lasts : TokensLast) (known known' : Known) (old new : ClientState) (sl
       let f : Follower = record { id = id; store = store; path = path; mirror = record { version = o.version; rows = o.rows } } in
       let was : IsSound (more known e) old = IsSound-more lasts known e old refl sound in
       let mine : IsMade (more known e) id (record { client = old.number; domain = domain; store = store; path = path }) =
-      subst (λ (k : Known). IsMade k id (record { client = old.number; domain = domain; store = store; path = path })) made.log is in
-      subst (λ (k : Known). IsSound k new) (sym made.log)
+      subst (λ (k : HubHistory). IsMade k id (record { client = old.number; domain = domain; store = store; path = path })) made.log is in
+      subst (λ (k : HubHistory). IsSound k new) (sym made.log)
       (IsSound-followed (more known e) old new slot f was.steady
       (λ k g differs at.
       let less : g.id.number < id.number = new_number known old.number domain store path (id, o) made.reply g.id.number _ (sound.listeners k g at).made in
@@ -101,7 +101,7 @@ module _ (lasts : TokensLast) (known known' : Known) (old new : ClientState) (sl
       let own = sound.listeners slot f found in
       let same_id : g.id.number ≡ f.id.number = ap (λ (id : ListenerId). id.number) goes.id in
       let other : (k : ℕ) (h : Follower) → (k ≡ slot → ⊥) → held old.listeners k ≡ Some h → h.id.number ≡ f.id.number → ⊥ = λ k h differs at same. differs (sound.apart k slot h f at found same) in
-      subst (λ (k : Known). IsSound k new) (sym made.log)
+      subst (λ (k : HubHistory). IsSound k new) (sym made.log)
       (IsSound-followed (more known e) old new slot g (IsSteady-more lasts known e old sound.steady)
       (λ k h differs at. (
         listener_stays known e old.number h (λ mine taken. other k h differs at (sym (taken_id taken))) (sound.listeners k h at),
@@ -114,10 +114,10 @@ module _ (lasts : TokensLast) (known known' : Known) (old new : ClientState) (sl
       taken_id e = ap id_in e
 
 -- a take that was refused leaves all as it was
-pub sound_refused : TokensLast → (known known' : Known) (old : ClientState) (n : ℕ) (fault : CallFault) → IsSound known old → Made known known' (entry_of known old.number (TakeCall n)) (Refused fault) → IsSound known' old
+pub sound_refused : TokensLast → (known known' : HubHistory) (old : ClientState) (n : ℕ) (fault : CallFault) → IsSound known old → Made known known' (entry_of known old.number (TakeCall n)) (Refused fault) → IsSound known' old
 sound_refused lasts known known' old n fault sound made =
     let e : Entry = entry_of known old.number (TakeCall n) in
-    subst (λ (k : Known). IsSound k old) (sym made.log) (record {
+    subst (λ (k : HubHistory). IsSound k old) (sym made.log) (record {
       steady = IsSteady-more lasts known e old sound.steady;
       receipts = λ k r at. lasts.1 known e r (sound.receipts k r at);
       chains = λ k chain at. lasts.2 known e chain (sound.chains k chain at);
@@ -129,7 +129,7 @@ sound_refused lasts known known' old n fault sound made =
 -- ---- entries
 
 -- a call leaves at most one entry
-pub grows_or_stops : (result : Result StepReply RunFault) (c : ℕ) (known known' : Known) → OnOk result (GrowsBy c known known') → IfErr result (Stops c known known') → GrowsAtMost c known known'
+pub grows_or_stops : (result : Result StepReply RunFault) (c : ℕ) (known known' : HubHistory) → OnOk result (GrowsBy c known known') → IfErr result (Stops c known known') → GrowsAtMost c known known'
 grows_or_stops (Ok r) c known known' grows stops = inr grows
 grows_or_stops (Err stop.HistoryFull) c known known' grows stops = inl stops.1
 grows_or_stops (Err stop.NoMemory) c known known' grows stops = stops

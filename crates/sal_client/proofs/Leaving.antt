@@ -10,7 +10,7 @@ use Rattle.sal_script.specs.declared.reply.StepReply.{StepReply}
 use Rattle.sal_script.specs.declared.reply.StepReply.TheVariants.{Called}
 use Rattle.sal_script.specs.Play.{keep, meet, shared}
 use Rattle.sal_hub.specs.Answers.{Calls, Fails, Made}
-use Rattle.sal_hub.specs.Known.{Known, entry_of}
+use Rattle.sal_hub.specs.HubHistory.{HubHistory, entry_of}
 use Rattle.sal_client.specs.declared.client.ClientState.{ClientState}
 use Rattle.sal_client.specs.declared.wish.RunFault.{RunFault}
 use Rattle.sal_client.specs.declared.wish.RunFault.TheVariants.{HistoryFull, NoMemory}
@@ -22,7 +22,7 @@ use Rattle.sal_client.specs.Wishes.{GrowsAtMost, ReadBy, Stops, move_by}
 use Rattle.sal_client.proofs.Answering.{called, made_refused, stopped}
 use Rattle.sal_client.proofs.Soundness.{IsSound-more, TokensLast, is_take}
 
-module _ (wish : Wish) (known known' : Known) (old : ClientState) (call : Call) where
+module _ (wish : Wish) (known known' : HubHistory) (old : ClientState) (call : Call) where
   abbrev e : Entry
   e = entry_of known old.number call
 
@@ -32,7 +32,7 @@ module _ (wish : Wish) (known known' : Known) (old : ClientState) (call : Call) 
 
   -- the client stays sound behind a call that takes nothing
   pub sound_behind : TokensLast → is_take call ≡ false → (answer : Reply) → Made known known' e answer → IsSound known old → IsSound known' old
-  sound_behind lasts quiet answer made sound = subst (λ (k : Known). IsSound k old) (sym made.log) (IsSound-more lasts known e old quiet sound)
+  sound_behind lasts quiet answer made sound = subst (λ (k : HubHistory). IsSound k old) (sym made.log) (IsSound-more lasts known e old quiet sound)
 
   module _ (new : ClientState) (same : Same old new) where
     pub leaves_made : Asks → (answer : Reply) (r : StepReply) → Made known known' e answer → r ≡ Called answer → client_of new ≡ keep (length known.log) (move_by wish) answer (client_of old) → IsSound known' new → IsMadeBy wish known old known' new r
@@ -63,10 +63,10 @@ module _ (wish : Wish) (known known' : Known) (old : ClientState) (call : Call) 
       leaves_refused old (record { number = refl; replies = refl }) asks fault result fails is (sym (kept (Refused fault))) (λ made. sound_behind lasts quiet (Refused fault) made sound)
 
 -- a call for the wish that it is for
-pub leaves_for : (wish made : Wish) (known known' : Known) (old new : ClientState) (result : Result StepReply RunFault) → wish ≡ made → Leaves made known old known' new result → Leaves wish known old known' new result
+pub leaves_for : (wish made : Wish) (known known' : HubHistory) (old new : ClientState) (result : Result StepReply RunFault) → wish ≡ made → Leaves made known old known' new result → Leaves wish known old known' new result
 leaves_for wish made known known' old new result is left = subst (λ (w : Wish). Leaves w known old known' new result) (sym is) left
 
 -- a client that stops has made the call or has not
-pub stops_grow : (c : ℕ) (known known' : Known) (why : RunFault) → Stops c known known' why → GrowsAtMost c known known'
+pub stops_grow : (c : ℕ) (known known' : HubHistory) (why : RunFault) → Stops c known known' why → GrowsAtMost c known known'
 stops_grow c known known' HistoryFull stops = inl stops.1
 stops_grow c known known' NoMemory stops = stops

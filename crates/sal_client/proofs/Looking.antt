@@ -16,7 +16,7 @@ use Rattle.sal_script.specs.declared.reply.StepRefusal.TheVariants.{EmptySlot}
 use Rattle.sal_script.specs.Moves.{Mirror}
 use Rattle.sal_script.specs.Play.{Client, local, look_at, look_in, look_with, meet, mirror, seen_by, table_in}
 use Rattle.sal_script.specs.Services.{path_or}
-use Rattle.sal_hub.specs.Known.{Known}
+use Rattle.sal_hub.specs.HubHistory.{HubHistory}
 use Rattle.sal_hub.specs.Tokens.{base_of, begun_of, mode_of, ops_of}
 use Rattle.sal_client.specs.declared.client.ClientState.{ClientState}
 use Rattle.sal_client.specs.declared.follower.Follower.{Follower}
@@ -30,7 +30,7 @@ use Rattle.sal_client.specs.Slots.{held}
 use Rattle.sal_client.proofs.Reading.{path_ok}
 use Rattle.sal_client.proofs.Soundness.{based}
 
-looks : (tables : List SchemaTable) (known : Known) (client : Client) (slot : ℕ) (store : Store) (text : List ℕ) (look : Look) → meet tables known.world known.log client (look_move slot store text look) ≡ look_with tables known.world known.log (shown_by look) store text client (client.transactions slot)
+looks : (tables : List SchemaTable) (known : HubHistory) (client : Client) (slot : ℕ) (store : Store) (text : List ℕ) (look : Look) → meet tables known.world known.log client (look_move slot store text look) ≡ look_with tables known.world known.log (shown_by look) store text client (client.transactions slot)
 looks tables known client slot store text Read = refl
 looks tables known client slot store text Exists = refl
 
@@ -46,10 +46,10 @@ module _ (tables : List SchemaTable) (c : ClientState) (slot : ℕ) (store : Sto
 
   module _ (tx : Tx) (found : held c.transactions slot ≡ Some tx) (own : SchemaTable) (by : own ≡ table_in tables (begun_of tx).domain) where
     -- what the transaction shows at a path
-    abbrev shown : Known → List Step → StepReply
+    abbrev shown : HubHistory → List Step → StepReply
     shown known path = shown_by look (open_of tx) path (seen_by known.world known.log (open_of tx) store)
 
-    at_tx : (known : Known) → meet tables known.world known.log (client_of c) (look_move slot store text look) ≡ look_at (shown known) (begun_of tx).domain (mode_of tx) (read_path own text) (client_of c)
+    at_tx : (known : HubHistory) → meet tables known.world known.log (client_of c) (look_move slot store text look) ≡ look_at (shown known) (begun_of tx).domain (mode_of tx) (read_path own text) (client_of c)
     at_tx known =
         looks tables known (client_of c) slot store text look
         ∙ ap (λ (o : Option Tx). look_with tables known.world known.log (shown_by look) store text (client_of c) (option_map open_of o)) found

@@ -5,7 +5,7 @@ use Rattle.sal_schema.specs.declared.table.SchemaTable.{SchemaTable}
 use Rattle.sal_script.specs.declared.script.ScriptStep.{ScriptStep}
 use Rattle.sal_script.specs.Moves.{clients_of}
 use Rattle.sal_script.specs.Play.{Played, play, play_from, start, tables_of}
-use Rattle.sal_hub.specs.Known.{Known}
+use Rattle.sal_hub.specs.HubHistory.{HubHistory}
 use Rattle.sal_client.specs.declared.run.ClientRun.{ClientRun}
 use Rattle.sal_client.specs.declared.simulation.Played.{Played as CodePlayed}
 use Rattle.sal_client.specs.declared.simulation.PlayFault.{PlayFault}
@@ -17,16 +17,16 @@ use Rattle.sal_client.specs.Runs.{stand_of, PlaysAs}
 pub wanting : (world : List Domain) (why : PlayFault) (played : Result Played ℕ) → why ≡ NoMemory → PlaysAs world (Err why) played
 wanting world why played is = subst (λ (w : PlayFault). PlaysAs world (Err w) played) (sym is) tt
 
-module _ (tables : List SchemaTable) (known : Known) (ps : List (List ScriptStep)) (order : List ℕ) (s : Simulation) (of : tables ≡ tables_of known.world) (same : s.hub ≡ known) (stands : stand_of ps s.hub.log s.runs.items ≡ start (clients_of ps)) where
+module _ (tables : List SchemaTable) (known : HubHistory) (ps : List (List ScriptStep)) (order : List ℕ) (s : Simulation) (of : tables ≡ tables_of known.world) (same : s.hub ≡ known) (stands : stand_of ps s.hub.log s.runs.items ≡ start (clients_of ps)) where
   from_start : play_from tables s.hub.world 0 (stand_of ps s.hub.log s.runs.items) order ≡ play known.world (clients_of ps) order
   from_start = λ i. play_from (of i) (same i).world 0 (stands i) order
 
   -- what the order comes to
   pub plays_from_start : (result : Result CodePlayed PlayFault) → PlaysAs s.hub.world result (play_from tables s.hub.world 0 (stand_of ps s.hub.log s.runs.items) order) → PlaysAs known.world result (play known.world (clients_of ps) order)
-  plays_from_start result is = subst (λ (k : Known). PlaysAs k.world result (play known.world (clients_of ps) order)) same (subst (PlaysAs s.hub.world result) from_start is)
+  plays_from_start result is = subst (λ (k : HubHistory). PlaysAs k.world result (play known.world (clients_of ps) order)) same (subst (PlaysAs s.hub.world result) from_start is)
 
   -- which is what its end comes to
-  pub plays_to_end : (known' : Known) (rs : List ClientRun) (index : ℕ) (result : Result CodePlayed PlayFault) → index ≡ length order → known'.world ≡ s.hub.world
+  pub plays_to_end : (known' : HubHistory) (rs : List ClientRun) (index : ℕ) (result : Result CodePlayed PlayFault) → index ≡ length order → known'.world ≡ s.hub.world
       → play_from tables s.hub.world (length order) (stand_of ps known'.log rs) [] ≡ play_from tables s.hub.world 0 (stand_of ps s.hub.log s.runs.items) order
       → PlaysAs known'.world result (play_from tables known'.world index (stand_of ps known'.log rs) []) → PlaysAs known.world result (play known.world (clients_of ps) order)
   plays_to_end known' rs index result long world rest is =

@@ -8,7 +8,7 @@ use Rattle.sal_rows.specs.declared.op.Act.{Act}
 use Rattle.sal_schema.specs.declared.table.SchemaTable.{SchemaTable}
 use Rattle.sal_pathtext.specs.declared.fault.PathTextFault.{PathTextFault}
 use Rattle.sal_data.specs.declared.fault.DataFault.{DataFault}
-use Rattle.sal_script.specs.Play.{Deed, act_of, op_of}
+use Rattle.sal_script.specs.Play.{DataAct, act_of, op_of}
 use Rattle.sal_script.specs.Services.{path_or, rows_or}
 use Rattle.sal_client.specs.declared.fault.StepFault.{StepFault}
 use Rattle.sal_client.specs.declared.fault.StepFault.TheVariants.{Refused, NoMemory}
@@ -37,22 +37,22 @@ act_refuses NoMemory domain read f is = tt
 act_refuses (Refused refusal) domain (Ok x) f is = cc
 act_refuses (Refused refusal) domain (Err why) f is = cc
 
-module _ (table : SchemaTable) (domain : ℕ) (store : Store) (deed : Deed) where
+module _ (table : SchemaTable) (domain : ℕ) (store : Store) (data_act : DataAct) where
   at_act : (fault : StepFault) (path : List Step) (act : Result Act DataFault) → Refuses fault (good_data domain act) → Refuses fault (op_at domain store path act)
   at_act NoMemory path act is = tt
   at_act (Refused refusal) path (Ok act) is = cc
   at_act (Refused refusal) path (Err why) is = cc
 
   -- the path is none
-  pub path_refuses : (fault : StepFault) (read : Result (List Step) PathTextFault) → Refuses fault (path_or read) → Refuses fault (op_by table domain store deed read)
+  pub path_refuses : (fault : StepFault) (read : Result (List Step) PathTextFault) → Refuses fault (path_or read) → Refuses fault (op_by table domain store data_act read)
   path_refuses NoMemory read is = tt
   path_refuses (Refused refusal) (Ok path) is = cc
   path_refuses (Refused refusal) (Err why) is = cc
 
   -- or the value is none there
-  pub op_refuses : (fault : StepFault) (read : Result (List Step) PathTextFault) (path : List Step) → path_or read ≡ Ok path → Refuses fault (good_data domain (act_of table path deed)) → Refuses fault (op_by table domain store deed read)
-  op_refuses fault read path here is = subst (λ r. Refuses fault (op_by table domain store deed r)) (sym (path_ok read path here)) (at_act fault path (act_of table path deed) is)
+  pub op_refuses : (fault : StepFault) (read : Result (List Step) PathTextFault) (path : List Step) → path_or read ≡ Ok path → Refuses fault (good_data domain (act_of table path data_act)) → Refuses fault (op_by table domain store data_act read)
+  op_refuses fault read path here is = subst (λ r. Refuses fault (op_by table domain store data_act r)) (sym (path_ok read path here)) (at_act fault path (act_of table path data_act) is)
 
   -- or both are
-  pub op_reads : (read : Result (List Step) PathTextFault) (path : List Step) (act : Act) → path_or read ≡ Ok path → good_data domain (act_of table path deed) ≡ Ok act → op_by table domain store deed read ≡ Ok (op_of store path act)
-  op_reads read path act here is = ap (op_by table domain store deed) (path_ok read path here) ∙ ap (op_at domain store path) (data_ok domain (act_of table path deed) act is)
+  pub op_reads : (read : Result (List Step) PathTextFault) (path : List Step) (act : Act) → path_or read ≡ Ok path → good_data domain (act_of table path data_act) ≡ Ok act → op_by table domain store data_act read ≡ Ok (op_of store path act)
+  op_reads read path act here is = ap (op_by table domain store data_act) (path_ok read path here) ∙ ap (op_at domain store path) (data_ok domain (act_of table path data_act) act is)

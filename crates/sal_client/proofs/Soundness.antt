@@ -21,7 +21,7 @@ use Rattle.sal_script.specs.Play.{set_slot, table_in, tables_of}
 use Rattle.sal_hub.specs.declared.call_id.CallId.{CallId}
 use Rattle.sal_hub.specs.declared.chain.Chain.{Chain}
 use Rattle.sal_hub.specs.declared.receipt.Receipt.{Receipt}
-use Rattle.sal_hub.specs.Known.{Known, more}
+use Rattle.sal_hub.specs.HubHistory.{HubHistory, more}
 use Rattle.sal_hub.specs.Tokens.{IsBegun, IsCall, IsChain, IsGiven, begun_of, base_of}
 use Rattle.sal_client.specs.declared.client.ClientState.{ClientState}
 use Rattle.sal_client.specs.declared.follower.Follower.{Follower}
@@ -34,16 +34,16 @@ use Rattle.sal_client.proofs.Places.{each_emptied, each_filled}
 
 -- the laws of the hub's tokens
 abbrev pub BegunLasts : Type 0
-BegunLasts = (known : Known) (e : Entry) (begun : Begun) (base : Pair) → IsBegun known begun base → IsBegun (more known e) begun base
+BegunLasts = (known : HubHistory) (e : Entry) (begun : Begun) (base : Pair) → IsBegun known begun base → IsBegun (more known e) begun base
 
 abbrev pub GivenLasts : Type 0
-GivenLasts = (known : Known) (e : Entry) (receipt : Receipt) → IsGiven known receipt → IsGiven (more known e) receipt
+GivenLasts = (known : HubHistory) (e : Entry) (receipt : Receipt) → IsGiven known receipt → IsGiven (more known e) receipt
 
 abbrev pub OpenedLasts : Type 0
-OpenedLasts = (known : Known) (e : Entry) (chain : Chain) → IsChain known chain → IsChain (more known e) chain
+OpenedLasts = (known : HubHistory) (e : Entry) (chain : Chain) → IsChain known chain → IsChain (more known e) chain
 
 abbrev pub CalledLasts : Type 0
-CalledLasts = (known : Known) (e : Entry) (id : CallId) → IsCall known id → IsCall (more known e) id
+CalledLasts = (known : HubHistory) (e : Entry) (id : CallId) → IsCall known id → IsCall (more known e) id
 
 abbrev pub TokensLast : Type 0
 TokensLast = BegunLasts × GivenLasts × OpenedLasts × CalledLasts
@@ -61,23 +61,23 @@ none_of e later c none = by (nat_eq e.client c) refl (sym (sum_by-cons (λ (x : 
     by false is zero_is = (λ own. true≢false (sym (eq-eqb e.client c own) ∙ is), omega (arith, zero_is))
 
 module _ (lasts : TokensLast) where
-  IsOwn-more : (known : Known) (e : Entry) (tx : Tx) → IsOwn known tx → IsOwn (more known e) tx
+  IsOwn-more : (known : HubHistory) (e : Entry) (tx : Tx) → IsOwn known tx → IsOwn (more known e) tx
   IsOwn-more known e tx is = record { token = lasts.0 known e (begun_of tx) (base_of tx) is.token; within = is.within }
 
   -- whatever the entry
-  pub IsSteady-more : (known : Known) (e : Entry) (c : ClientState) → IsSteady known c → IsSteady (more known e) c
+  pub IsSteady-more : (known : HubHistory) (e : Entry) (c : ClientState) → IsSteady known c → IsSteady (more known e) c
   IsSteady-more known e c is = record {
     transactions = λ k tx at. IsOwn-more known e tx (is.transactions k tx at);
     followers = λ k f at. follows_on known e f (is.followers k f at);
   }
 
-  pub steady_longer : (known : Known) (later : List Entry) (c : ClientState) → IsSteady known c → IsSteady (record { world = known.world; log = known.log ++ later }) c
+  pub steady_longer : (known : HubHistory) (later : List Entry) (c : ClientState) → IsSteady known c → IsSteady (record { world = known.world; log = known.log ++ later }) c
   steady_longer known [] c is = subst (λ (log : List Entry). IsSteady (record { world = known.world; log = log }) c) (sym (append-nil known.log)) is
   steady_longer known (e ∷ later) c is =
       subst (λ (log : List Entry). IsSteady (record { world = known.world; log = log }) c) (append_assoc known.log (e ∷ []) later) (steady_longer (more known e) later c (IsSteady-more known e c is))
 
   -- an entry that takes nothing from a listener of the client
-  pub IsSound-quiet : (known : Known) (e : Entry) (c : ClientState) → ((id : ℕ) → e.client ≡ c.number → e.call ≡ Take id → ⊥) → IsSound known c → IsSound (more known e) c
+  pub IsSound-quiet : (known : HubHistory) (e : Entry) (c : ClientState) → ((id : ℕ) → e.client ≡ c.number → e.call ≡ Take id → ⊥) → IsSound known c → IsSound (more known e) c
   IsSound-quiet known e c quiet is = record {
     steady = IsSteady-more known e c is.steady;
     receipts = λ k r at. lasts.1 known e r (is.receipts k r at);
@@ -88,11 +88,11 @@ module _ (lasts : TokensLast) where
   }
 
   -- an entry of another client
-  pub IsSound-other : (known : Known) (e : Entry) (c : ClientState) → (e.client ≡ c.number → ⊥) → IsSound known c → IsSound (more known e) c
+  pub IsSound-other : (known : HubHistory) (e : Entry) (c : ClientState) → (e.client ≡ c.number → ⊥) → IsSound known c → IsSound (more known e) c
   IsSound-other known e c other is = IsSound-quiet known e c (λ id own taken. other own) is
 
   -- the entries of other clients
-  pub IsSound-others : (known : Known) (later : List Entry) (c : ClientState) → entries_of later c.number ≡ 0 → IsSound known c → IsSound (record { world = known.world; log = known.log ++ later }) c
+  pub IsSound-others : (known : HubHistory) (later : List Entry) (c : ClientState) → entries_of later c.number ≡ 0 → IsSound known c → IsSound (record { world = known.world; log = known.log ++ later }) c
   IsSound-others known [] c none is = subst (λ (log : List Entry). IsSound (record { world = known.world; log = log }) c) (sym (append-nil known.log)) is
   IsSound-others known (e ∷ later) c none is =
       let split = none_of e later c.number none in
@@ -100,11 +100,11 @@ module _ (lasts : TokensLast) where
       (IsSound-others (more known e) later c split.1 (IsSound-other known e c split.0 is))
 
   -- an own entry that takes nothing
-  pub IsSound-more : (known : Known) (e : Entry) (c : ClientState) → is_take e.call ≡ false → IsSound known c → IsSound (more known e) c
+  pub IsSound-more : (known : HubHistory) (e : Entry) (c : ClientState) → is_take e.call ≡ false → IsSound known c → IsSound (more known e) c
   IsSound-more known e c quiet is = IsSound-quiet known e c (λ id own taken. true≢false (sym (ap is_take taken) ∙ quiet)) is
 
 -- a steady client's transactions have the schemas of their domains
-pub HasSchema-sound : (tables : List SchemaTable) (known : Known) (c : ClientState) → IsSteady known c → tables ≡ tables_of known.world → HasSchema tables c
+pub HasSchema-sound : (tables : List SchemaTable) (known : HubHistory) (c : ClientState) → IsSteady known c → tables ≡ tables_of known.world → HasSchema tables c
 HasSchema-sound tables known c is of k tx at =
     let own = is.transactions k tx at in
     record {
@@ -113,7 +113,7 @@ HasSchema-sound tables known c is of k tx at =
     }
 
 -- the trees that a transaction stands on
-pub based : (known : Known) (begun : Begun) (trees : Pair) → IsBegun known begun trees → (s : Store) → base_tree known.world known.log begun.place s ≡ rows_in trees s
+pub based : (known : HubHistory) (begun : Begun) (trees : Pair) → IsBegun known begun trees → (s : Store) → base_tree known.world known.log begun.place s ≡ rows_in trees s
 based known begun trees is s = ap (λ (b : Option Base). (unwrap_or b nowhere).trees s) is.began
 
 -- ---- one slot changed
@@ -125,43 +125,43 @@ SameRest old new = (new.number ≡ old.number) × (held new.listeners ≡ held o
 abbrev at_slot : {X : Type 0} (h after : ℕ → Option X) (k : ℕ) (x : X) → after ≡ h → after k ≡ Some x → h k ≡ Some x
 at_slot {X} h after k x same at = ap (λ (f : ℕ → Option X). f k) (sym same) ∙ at
 
-same_followers : (known : Known) (old new : ClientState) → IsSteady known old → held new.listeners ≡ held old.listeners → (k : ℕ) (f : Follower) → held new.listeners k ≡ Some f → Follows known f
+same_followers : (known : HubHistory) (old new : ClientState) → IsSteady known old → held new.listeners ≡ held old.listeners → (k : ℕ) (f : Follower) → held new.listeners k ≡ Some f → Follows known f
 same_followers known old new is same k f at = is.followers k f (at_slot (held old.listeners) (held new.listeners) k f same at)
 
-pub IsSteady-same : (known : Known) (old new : ClientState) → IsSteady known old → held new.transactions ≡ held old.transactions → held new.listeners ≡ held old.listeners → IsSteady known new
+pub IsSteady-same : (known : HubHistory) (old new : ClientState) → IsSteady known old → held new.transactions ≡ held old.transactions → held new.listeners ≡ held old.listeners → IsSteady known new
 IsSteady-same known old new is txs listeners = record {
   transactions = λ k tx at. is.transactions k tx (at_slot (held old.transactions) (held new.transactions) k tx txs at);
   followers = same_followers known old new is listeners;
 }
 
-pub IsSteady-filled : (known : Known) (old new : ClientState) (slot : ℕ) (tx : Tx) → IsSteady known old → IsOwn known tx → held new.transactions ≡ set_slot slot (Some tx) (held old.transactions) → held new.listeners ≡ held old.listeners → IsSteady known new
+pub IsSteady-filled : (known : HubHistory) (old new : ClientState) (slot : ℕ) (tx : Tx) → IsSteady known old → IsOwn known tx → held new.transactions ≡ set_slot slot (Some tx) (held old.transactions) → held new.listeners ≡ held old.listeners → IsSteady known new
 IsSteady-filled known old new slot tx is own filled listeners = record {
   transactions = each_filled (IsOwn known) (held old.transactions) (held new.transactions) slot tx filled own is.transactions;
   followers = same_followers known old new is listeners;
 }
 
-IsSteady-emptied : (known : Known) (old new : ClientState) (slot : ℕ) → IsSteady known old → held new.transactions ≡ set_slot slot None (held old.transactions) → held new.listeners ≡ held old.listeners → IsSteady known new
+IsSteady-emptied : (known : HubHistory) (old new : ClientState) (slot : ℕ) → IsSteady known old → held new.transactions ≡ set_slot slot None (held old.transactions) → held new.listeners ≡ held old.listeners → IsSteady known new
 IsSteady-emptied known old new slot is emptied listeners = record {
   transactions = each_emptied (IsOwn known) (held old.transactions) (held new.transactions) slot emptied is.transactions;
   followers = same_followers known old new is listeners;
 }
 
-same_chains : (known : Known) (old new : ClientState) → IsSound known old → held new.chains ≡ held old.chains → (k : ℕ) (chain : Chain) → held new.chains k ≡ Some chain → IsChain known chain
+same_chains : (known : HubHistory) (old new : ClientState) → IsSound known old → held new.chains ≡ held old.chains → (k : ℕ) (chain : Chain) → held new.chains k ≡ Some chain → IsChain known chain
 same_chains known old new is same k chain at = is.chains k chain (at_slot (held old.chains) (held new.chains) k chain same at)
 
-same_receipts : (known : Known) (old new : ClientState) → IsSound known old → held new.receipts ≡ held old.receipts → (k : ℕ) (r : Receipt) → held new.receipts k ≡ Some r → IsGiven known r
+same_receipts : (known : HubHistory) (old new : ClientState) → IsSound known old → held new.receipts ≡ held old.receipts → (k : ℕ) (r : Receipt) → held new.receipts k ≡ Some r → IsGiven known r
 same_receipts known old new is same k r at = is.receipts k r (at_slot (held old.receipts) (held new.receipts) k r same at)
 
-same_invoked : (known : Known) (old new : ClientState) → IsSound known old → held new.invoked ≡ held old.invoked → (k : ℕ) (id : CallId) → held new.invoked k ≡ Some id → IsCall known id
+same_invoked : (known : HubHistory) (old new : ClientState) → IsSound known old → held new.invoked ≡ held old.invoked → (k : ℕ) (id : CallId) → held new.invoked k ≡ Some id → IsCall known id
 same_invoked known old new is same k id at = is.invoked k id (at_slot (held old.invoked) (held new.invoked) k id same at)
 
-same_own : (known : Known) (old new : ClientState) → IsSound known old → new.number ≡ old.number → held new.listeners ≡ held old.listeners → (k : ℕ) (f : Follower) → held new.listeners k ≡ Some f → IsOwnListener known new.number f
+same_own : (known : HubHistory) (old new : ClientState) → IsSound known old → new.number ≡ old.number → held new.listeners ≡ held old.listeners → (k : ℕ) (f : Follower) → held new.listeners k ≡ Some f → IsOwnListener known new.number f
 same_own known old new is number same k f at = subst (λ n. IsOwnListener known n f) (sym number) (is.listeners k f (at_slot (held old.listeners) (held new.listeners) k f same at))
 
-same_apart : (known : Known) (old new : ClientState) → IsSound known old → held new.listeners ≡ held old.listeners → (j k : ℕ) (f g : Follower) → held new.listeners j ≡ Some f → held new.listeners k ≡ Some g → f.id.number ≡ g.id.number → j ≡ k
+same_apart : (known : HubHistory) (old new : ClientState) → IsSound known old → held new.listeners ≡ held old.listeners → (j k : ℕ) (f g : Follower) → held new.listeners j ≡ Some f → held new.listeners k ≡ Some g → f.id.number ≡ g.id.number → j ≡ k
 same_apart known old new is same j k f g at at' id = is.apart j k f g (at_slot (held old.listeners) (held new.listeners) j f same at) (at_slot (held old.listeners) (held new.listeners) k g same at') id
 
-pub IsSound-filled : (known : Known) (old new : ClientState) (slot : ℕ) (tx : Tx) → IsSound known old → IsOwn known tx → held new.transactions ≡ set_slot slot (Some tx) (held old.transactions) → held new.receipts ≡ held old.receipts → held new.chains ≡ held old.chains → SameRest old new → IsSound known new
+pub IsSound-filled : (known : HubHistory) (old new : ClientState) (slot : ℕ) (tx : Tx) → IsSound known old → IsOwn known tx → held new.transactions ≡ set_slot slot (Some tx) (held old.transactions) → held new.receipts ≡ held old.receipts → held new.chains ≡ held old.chains → SameRest old new → IsSound known new
 IsSound-filled known old new slot tx is own filled receipts chains rest = record {
   steady = IsSteady-filled known old new slot tx is.steady own filled rest.1;
   receipts = same_receipts known old new is receipts;
@@ -171,7 +171,7 @@ IsSound-filled known old new slot tx is own filled receipts chains rest = record
   apart = same_apart known old new is rest.1;
 }
 
-pub IsSound-emptied : (known : Known) (old new : ClientState) (slot : ℕ) → IsSound known old → held new.transactions ≡ set_slot slot None (held old.transactions) → held new.receipts ≡ held old.receipts → held new.chains ≡ held old.chains → SameRest old new → IsSound known new
+pub IsSound-emptied : (known : HubHistory) (old new : ClientState) (slot : ℕ) → IsSound known old → held new.transactions ≡ set_slot slot None (held old.transactions) → held new.receipts ≡ held old.receipts → held new.chains ≡ held old.chains → SameRest old new → IsSound known new
 IsSound-emptied known old new slot is emptied receipts chains rest = record {
   steady = IsSteady-emptied known old new slot is.steady emptied rest.1;
   receipts = same_receipts known old new is receipts;
@@ -181,7 +181,7 @@ IsSound-emptied known old new slot is emptied receipts chains rest = record {
   apart = same_apart known old new is rest.1;
 }
 
-pub IsSound-submitted : (known : Known) (old new : ClientState) (slot : ℕ) (receipt : Receipt) → IsSound known old → IsGiven known receipt → held new.transactions ≡ set_slot slot None (held old.transactions) → held new.receipts ≡ set_slot slot (Some receipt) (held old.receipts) → held new.chains ≡ held old.chains → SameRest old new → IsSound known new
+pub IsSound-submitted : (known : HubHistory) (old new : ClientState) (slot : ℕ) (receipt : Receipt) → IsSound known old → IsGiven known receipt → held new.transactions ≡ set_slot slot None (held old.transactions) → held new.receipts ≡ set_slot slot (Some receipt) (held old.receipts) → held new.chains ≡ held old.chains → SameRest old new → IsSound known new
 IsSound-submitted known old new slot receipt is given emptied filled chains rest = record {
   steady = IsSteady-emptied known old new slot is.steady emptied rest.1;
   receipts = each_filled (IsGiven known) (held old.receipts) (held new.receipts) slot receipt filled given is.receipts;
@@ -191,7 +191,7 @@ IsSound-submitted known old new slot receipt is given emptied filled chains rest
   apart = same_apart known old new is rest.1;
 }
 
-pub IsSound-same : (known : Known) (old new : ClientState) → IsSound known old → held new.transactions ≡ held old.transactions → held new.receipts ≡ held old.receipts → held new.chains ≡ held old.chains → SameRest old new → IsSound known new
+pub IsSound-same : (known : HubHistory) (old new : ClientState) → IsSound known old → held new.transactions ≡ held old.transactions → held new.receipts ≡ held old.receipts → held new.chains ≡ held old.chains → SameRest old new → IsSound known new
 IsSound-same known old new is txs receipts chains rest = record {
   steady = IsSteady-same known old new is.steady txs rest.1;
   receipts = same_receipts known old new is receipts;
@@ -201,7 +201,7 @@ IsSound-same known old new is txs receipts chains rest = record {
   apart = same_apart known old new is rest.1;
 }
 
-pub IsSound-linked : (known : Known) (old new : ClientState) (slot : ℕ) (chain : Chain) → IsSound known old → IsChain known chain → held new.transactions ≡ held old.transactions → held new.receipts ≡ held old.receipts → held new.chains ≡ set_slot slot (Some chain) (held old.chains) → SameRest old new → IsSound known new
+pub IsSound-linked : (known : HubHistory) (old new : ClientState) (slot : ℕ) (chain : Chain) → IsSound known old → IsChain known chain → held new.transactions ≡ held old.transactions → held new.receipts ≡ held old.receipts → held new.chains ≡ set_slot slot (Some chain) (held old.chains) → SameRest old new → IsSound known new
 IsSound-linked known old new slot chain is own txs receipts filled rest = record {
   steady = IsSteady-same known old new is.steady txs rest.1;
   receipts = same_receipts known old new is receipts;
@@ -212,7 +212,7 @@ IsSound-linked known old new slot chain is own txs receipts filled rest = record
 }
 
 -- another request in a slot
-pub IsSound-invoked : (known : Known) (old new : ClientState) (slot : ℕ) (id : CallId) → IsSound known old → IsCall known id → held new.transactions ≡ held old.transactions → held new.receipts ≡ held old.receipts → held new.chains ≡ held old.chains → new.number ≡ old.number → held new.listeners ≡ held old.listeners → held new.invoked ≡ set_slot slot (Some id) (held old.invoked) → IsSound known new
+pub IsSound-invoked : (known : HubHistory) (old new : ClientState) (slot : ℕ) (id : CallId) → IsSound known old → IsCall known id → held new.transactions ≡ held old.transactions → held new.receipts ≡ held old.receipts → held new.chains ≡ held old.chains → new.number ≡ old.number → held new.listeners ≡ held old.listeners → held new.invoked ≡ set_slot slot (Some id) (held old.invoked) → IsSound known new
 IsSound-invoked known old new slot id is given txs receipts chains number listeners filled = record {
   steady = IsSteady-same known old new is.steady txs listeners;
   receipts = same_receipts known old new is receipts;
@@ -223,7 +223,7 @@ IsSound-invoked known old new slot id is given txs receipts chains number listen
 }
 
 -- another listener in a slot, of a number that no other slot has
-pub IsSound-followed : (known : Known) (old new : ClientState) (slot : ℕ) (f : Follower) → IsSteady known old → ((k : ℕ) (g : Follower) → (k ≡ slot → ⊥) → held old.listeners k ≡ Some g → IsOwnListener known old.number g × (g.id.number ≡ f.id.number → ⊥))
+pub IsSound-followed : (known : HubHistory) (old new : ClientState) (slot : ℕ) (f : Follower) → IsSteady known old → ((k : ℕ) (g : Follower) → (k ≡ slot → ⊥) → held old.listeners k ≡ Some g → IsOwnListener known old.number g × (g.id.number ≡ f.id.number → ⊥))
     → ((j k : ℕ) (g h : Follower) → (j ≡ slot → ⊥) → (k ≡ slot → ⊥) → held old.listeners j ≡ Some g → held old.listeners k ≡ Some h → g.id.number ≡ h.id.number → j ≡ k)
     → ((k : ℕ) (r : Receipt) → held old.receipts k ≡ Some r → IsGiven known r) → ((k : ℕ) (chain : Chain) → held old.chains k ≡ Some chain → IsChain known chain) → ((k : ℕ) (id : CallId) → held old.invoked k ≡ Some id → IsCall known id) → Follows known f → IsOwnListener known old.number f
     → held new.transactions ≡ held old.transactions → held new.receipts ≡ held old.receipts → held new.chains ≡ held old.chains → held new.invoked ≡ held old.invoked → new.number ≡ old.number → held new.listeners ≡ set_slot slot (Some f) (held old.listeners) → IsSound known new

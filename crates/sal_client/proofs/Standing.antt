@@ -11,9 +11,9 @@ use Rattle.sal_history.specs.declared.call.Entry.{Entry}
 use Rattle.sal_script.specs.declared.reply.StepReply.{StepReply}
 use Rattle.sal_script.specs.declared.script.ScriptStep.{ScriptStep}
 use Rattle.sal_script.specs.Limits.{within_limits}
-use Rattle.sal_script.specs.Play.{Arrival, Client, Made, Run, Stand, arrive, calls, cons_replies, ended, go, make, new_client, replies_at, replies_of, stand_with, turn, turn_of}
+use Rattle.sal_script.specs.Play.{Arrival, Client, Made, Run, PlayState, arrive, calls, cons_replies, ended, go, make, new_client, replies_at, replies_of, state_with, turn, turn_of}
 use Rattle.sal_client.specs.declared.run.ClientRun.{ClientRun as CodeRun}
-use Rattle.sal_hub.specs.Known.{Known, more}
+use Rattle.sal_hub.specs.HubHistory.{HubHistory, more}
 use Rattle.sal_hub.specs.Answers.{limit}
 use Rattle.sal_client.specs.Clients.{client_of, IsSound}
 use Rattle.sal_client.specs.Runs.{AreRuns, Goes, IsRun, Turns, answered, moves_from, replies_in, run_of, runs_of, stand_of}
@@ -63,7 +63,7 @@ answered-bound (x ∷ rs) each =
     omega (arith, first, rest)
 
 -- the log has room
-pub has_room : (known : Known) (ps : List (List ScriptStep)) (rs : List CodeRun) → AreRuns known ps rs → length known.log < limit
+pub has_room : (known : HubHistory) (ps : List (List ScriptStep)) (rs : List CodeRun) → AreRuns known ps rs → length known.log < limit
 has_room known ps rs are =
     let bound = answered-bound rs (λ i r h at. let run = (are.each i (get_or ps i []) r h (get_or_any ps i [] (get_or ps i []) (omega (arith, h, are.long))) at).0 in omega (arith, run.program.within, run.program.short)) in
     omega (arith, are.calls, are.few, bound)
@@ -75,15 +75,15 @@ has_room known ps rs are =
 
 -- ---- other clients
 
-IsRun-other : TokensLast → (known : Known) (e : Entry) (p : List ScriptStep) (r : CodeRun) → (e.client ≡ r.client.number → ⊥) → IsRun known p r → IsRun (more known e) p r
+IsRun-other : TokensLast → (known : HubHistory) (e : Entry) (p : List ScriptStep) (r : CodeRun) → (e.client ≡ r.client.number → ⊥) → IsRun known p r → IsRun (more known e) p r
 IsRun-other lasts known e p r other is = record { sound = IsSound-other lasts known e r.client other is.sound; program = is.program }
 
 -- one client went on
-pub AreRuns-set : TokensLast → (known known' : Known) (ps : List (List ScriptStep)) (rs : List CodeRun) (c : ℕ) (p : List ScriptStep) (old new : CodeRun) → AreRuns known ps rs → GrowsBy c known known' → old.at < new.at → c < length rs → p ≡ get_or ps c p → old ≡ get_or rs c old → IsRun known' p new → new.client.number ≡ c → AreRuns known' ps (set rs c new)
+pub AreRuns-set : TokensLast → (known known' : HubHistory) (ps : List (List ScriptStep)) (rs : List CodeRun) (c : ℕ) (p : List ScriptStep) (old new : CodeRun) → AreRuns known ps rs → GrowsBy c known known' → old.at < new.at → c < length rs → p ≡ get_or ps c p → old ≡ get_or rs c old → IsRun known' p new → new.client.number ≡ c → AreRuns known' ps (set rs c new)
 AreRuns-set lasts known known' ps rs c p old new are (e, by, is) on h at_p at_old run number = record {
   long = length-set rs c new ∙ are.long;
   few = omega (arith, are.few, length-set rs c new);
-  calls = let total = answered-set rs c old new h at_old in let grown : length known'.log ≡ length known.log + 1 = ap (λ (k : Known). length k.log) is ∙ length-append known.log (e ∷ []) in omega (arith, are.calls, total, grown, on);
+  calls = let total = answered-set rs c old new h at_old in let grown : length known'.log ≡ length known.log + 1 = ap (λ (k : HubHistory). length k.log) is ∙ length-append known.log (e ∷ []) in omega (arith, are.calls, total, grown, on);
   each = λ i q r within at_q at_r.
       elim (cases_order i c) [
         | inl same ↦
@@ -94,7 +94,7 @@ AreRuns-set lasts known known' ps rs c p old new are (e, by, is) on h at_p at_ol
             let apart : i ≡ c → ⊥ = λ eq. elim differs [ inl less ↦ omega arith | inr more ↦ omega arith ] in
             let r_is : r ≡ get_or rs i r = at_r ∙ get_or-set_other rs c i new r apart in
             let was = are.each i q r (omega (arith, within, length-set rs c new)) at_q r_is in
-            (subst (λ (k : Known). IsRun k q r) (sym is) (IsRun-other lasts known e q r (λ own. apart (sym was.1 ∙ sym own ∙ by)) was.0), was.1)
+            (subst (λ (k : HubHistory). IsRun k q r) (sym is) (IsRun-other lasts known e q r (λ own. apart (sym was.1 ∙ sym own ∙ by)) was.0), was.1)
       ];
 }
   where
@@ -105,17 +105,17 @@ AreRuns-set lasts known known' ps rs c p old new are (e, by, is) on h at_p at_ol
 
 -- ---- one number of the order
 
-pub turn-none : (tables : List SchemaTable) (known : Known) (ps : List (List ScriptStep)) (rs : List CodeRun) (c : ℕ) → AreRuns known ps rs → length rs ≤ c → turn tables known.world (stand_of ps known.log rs) c ≡ None
+pub turn-none : (tables : List SchemaTable) (known : HubHistory) (ps : List (List ScriptStep)) (rs : List CodeRun) (c : ℕ) → AreRuns known ps rs → length rs ≤ c → turn tables known.world (stand_of ps known.log rs) c ≡ None
 turn-none tables known ps rs c are h = ap (turn_of tables known.world (stand_of ps known.log rs) c) (runs_of-none ps rs c are.long h)
 
 pub turn-made : (tables : List SchemaTable) (world : List Domain) (log log' : List Entry) (ps : List (List ScriptStep)) (rs : List CodeRun) (c : ℕ) (p : List ScriptStep) (old new : CodeRun) → length rs ≡ length ps → c < length rs → p ≡ get_or ps c p → old ≡ get_or rs c old → go tables world log c (run_of p old) ≡ Some (record { log = log'; run = run_of p new }) → turn tables world (stand_of ps log rs) c ≡ Some (stand_of ps log' (set rs c new))
 turn-made tables world log log' ps rs c p old new long h at_p at_old goes =
-    ap (turn_of tables world (stand_of ps log rs) c) (runs_of-at ps rs c p old long h at_p at_old) ∙ ap (stand_with (stand_of ps log rs) c) goes
-    ∙ ap (λ (us : List Run). Some (let s : Stand = record { log = log'; runs = us } in s)) (sym (runs_of-set ps rs c p new long h at_p))
+    ap (turn_of tables world (stand_of ps log rs) c) (runs_of-at ps rs c p old long h at_p at_old) ∙ ap (state_with (stand_of ps log rs) c) goes
+    ∙ ap (λ (us : List Run). Some (let s : PlayState = record { log = log'; runs = us } in s)) (sym (runs_of-set ps rs c p new long h at_p))
 
 pub turn-ended : (tables : List SchemaTable) (world : List Domain) (log : List Entry) (ps : List (List ScriptStep)) (rs : List CodeRun) (c : ℕ) (p : List ScriptStep) (old : CodeRun) (client : Client) → length rs ≡ length ps → c < length rs → p ≡ get_or ps c p → old ≡ get_or rs c old → arrive tables world log (client_of old.client) (moves_from old.at p) ≡ ended client → turn tables world (stand_of ps log rs) c ≡ None
 turn-ended tables world log ps rs c p old client long h at_p at_old arrived =
-    ap (turn_of tables world (stand_of ps log rs) c) (runs_of-at ps rs c p old long h at_p at_old) ∙ ap (λ a. stand_with (stand_of ps log rs) c (make tables world log c a)) arrived
+    ap (turn_of tables world (stand_of ps log rs) c) (runs_of-at ps rs c p old long h at_p at_old) ∙ ap (λ a. state_with (stand_of ps log rs) c (make tables world log c a)) arrived
 
 -- ---- the end
 
@@ -155,7 +155,7 @@ end-call tables world log ps rs i c p r made done h g at_p at_r goes =
 pub record IsFresh (r : CodeRun) : Type 0 where
   pub at : r.at ≡ 0
   pub client : client_of r.client ≡ new_client
-  pub sound : (known : Known) → IsSound known r.client
+  pub sound : (known : HubHistory) → IsSound known r.client
 
 pub fresh_runs : (ps : List (List ScriptStep)) (rs : List CodeRun) → length rs ≡ length ps → ((i : ℕ) (r : CodeRun) → i < length rs → r ≡ get_or rs i r → IsFresh r) → runs_of ps rs ≡ map (λ (steps : List Move). let run : Run = record { client = new_client; steps = steps } in run) (clients_of ps)
 fresh_runs [] rs long fresh = refl
@@ -174,7 +174,7 @@ all_at f (y ∷ xs) (suc i) x all h at = all_at f xs i x (second_so (f y) (list_
 pub few_programs : (ps : List (List ScriptStep)) → IsTrue (within_limits ps) → length ps ≤ 16
 few_programs ps limits = leb-true (length ps) 16 (first_so (nat_le (length ps) 16) (list_all (λ (p : List ScriptStep). nat_le (length p) 60000) ps) limits)
 
-pub AreRuns-fresh : (known : Known) (ps : List (List ScriptStep)) (rs : List CodeRun) → known.log ≡ [] → IsTrue (within_limits ps) → IsTrue (have_json_moves (clients_of ps)) → length rs ≡ length ps → ((i : ℕ) (r : CodeRun) → i < length rs → r ≡ get_or rs i r → IsFresh r × (r.client.number ≡ i)) → AreRuns known ps rs
+pub AreRuns-fresh : (known : HubHistory) (ps : List (List ScriptStep)) (rs : List CodeRun) → known.log ≡ [] → IsTrue (within_limits ps) → IsTrue (have_json_moves (clients_of ps)) → length rs ≡ length ps → ((i : ℕ) (r : CodeRun) → i < length rs → r ≡ get_or rs i r → IsFresh r × (r.client.number ≡ i)) → AreRuns known ps rs
 AreRuns-fresh known ps rs none limits json long fresh = record {
   long = long;
   few = omega (arith, long, few_programs ps limits);
@@ -187,12 +187,12 @@ AreRuns-fresh known ps rs none limits json long fresh = record {
 
 -- ---- what the simulation does
 
-pub turned : TokensLast → (tables : List SchemaTable) (made : Bool) (known known' : Known) (ps : List (List ScriptStep)) (rs : List CodeRun) (c : ℕ) (p : List ScriptStep) (old new : CodeRun) → AreRuns known ps rs → c < length rs → p ≡ get_or ps c p → old ≡ get_or rs c old → Goes tables made old.client.number known p old known' new → IsRun known' p new → new.client.number ≡ old.client.number → Turns tables made ps c known rs known' (set rs c new)
+pub turned : TokensLast → (tables : List SchemaTable) (made : Bool) (known known' : HubHistory) (ps : List (List ScriptStep)) (rs : List CodeRun) (c : ℕ) (p : List ScriptStep) (old new : CodeRun) → AreRuns known ps rs → c < length rs → p ≡ get_or ps c p → old ≡ get_or rs c old → Goes tables made old.client.number known p old known' new → IsRun known' p new → new.client.number ≡ old.client.number → Turns tables made ps c known rs known' (set rs c new)
 turned lasts tables true known known' ps rs c p old new are h at_p at_old goes run number =
     let same = (are.each c p old h at_p at_old).1 in (
       turn-made tables known.world known.log known'.log ps rs c p old new are.long h at_p at_old (subst (λ n. go tables known.world known.log n (run_of p old) ≡ Some (let made : Made = record { log = known'.log; run = run_of p new } in made)) same goes.0),
       AreRuns-set lasts known known' ps rs c p old new are (subst (λ n. GrowsBy n known known') same goes.1) goes.2 h at_p at_old run (number ∙ same),
-      ap (λ (k : Known). k.world) goes.1.2,
+      ap (λ (k : HubHistory). k.world) goes.1.2,
     )
 turned lasts tables false known known' ps rs c p old new are h at_p at_old goes run number = turn-ended tables known.world known.log ps rs c p old (client_of new.client) are.long h at_p at_old goes.0
 

@@ -15,10 +15,10 @@ use Rattle.sal_rules.specs.Writes.{IsForSchema}
 use Rattle.sal_script.proofs.Given.{Given}
 use Rattle.sal_script.specs.declared.script.ScriptStep.{ScriptStep}
 use Rattle.sal_script.specs.JsonMoves.{is_json_move, have_json_moves}
-use Rattle.sal_script.specs.JsonScripts.{is_json_deed}
+use Rattle.sal_script.specs.JsonScripts.{is_json_act}
 use Rattle.sal_script.specs.Laws.{WritesAreForSchema}
 use Rattle.sal_script.specs.Moves.{move_of, moves_of, clients_of}
-use Rattle.sal_script.specs.Play.{Deed, act_of}
+use Rattle.sal_script.specs.Play.{DataAct, act_of}
 use Rattle.sal_client.specs.Operations.{op_at, op_by}
 
 pub json_at : (steps : List ScriptStep) (i : ℕ) (step : ScriptStep) → list_all is_json_move (moves_of steps) ≡ true → i < length steps → step ≡ get_or steps i step → is_json_move (move_of step) ≡ true
@@ -31,15 +31,15 @@ program_at [] i p have h at = absurd (omega arith)
 program_at (x ∷ ps) zero p have h at = ap (λ (q : List ScriptStep). list_all is_json_move (moves_of q)) at ∙ (and_parts (list_all is_json_move (moves_of x)) (have_json_moves (clients_of ps)) have).0
 program_at (x ∷ ps) (suc i) p have h at = program_at ps i p (and_parts (list_all is_json_move (moves_of x)) (have_json_moves (clients_of ps)) have).1 (omega arith) at
 
-module _ (law : WritesAreForSchema) (table : SchemaTable) (good : IsTable table) (domain : ℕ) (store : Store) (text : List ℕ) (deed : Deed) (is : IsTrue (is_json_deed deed)) where
-  by_act : (path : List Step) → read_path table text ≡ Ok path → (act : Result Act DataFault) → act_of table path deed ≡ act → Given (IsForSchema table) (op_at domain store path act)
-  by_act path read (Ok act) e = law table good store text path read deed is act e
+module _ (law : WritesAreForSchema) (table : SchemaTable) (good : IsTable table) (domain : ℕ) (store : Store) (text : List ℕ) (data_act : DataAct) (is : IsTrue (is_json_act data_act)) where
+  by_act : (path : List Step) → read_path table text ≡ Ok path → (act : Result Act DataFault) → act_of table path data_act ≡ act → Given (IsForSchema table) (op_at domain store path act)
+  by_act path read (Ok act) e = law table good store text path read data_act is act e
   by_act path read (Err fault) e = tt
 
-  by_path : (path : Result (List Step) PathTextFault) → read_path table text ≡ path → Given (IsForSchema table) (op_by table domain store deed path)
-  by_path (Ok path) e = by_act path e (act_of table path deed) refl
+  by_path : (path : Result (List Step) PathTextFault) → read_path table text ≡ path → Given (IsForSchema table) (op_by table domain store data_act path)
+  by_path (Ok path) e = by_act path e (act_of table path data_act) refl
   by_path (Err fault) e = tt
 
   -- an operation that was read is for the schema
-  pub op_for_schema : (op : Op) → Ok op ≡ op_by table domain store deed (read_path table text) → IsForSchema table op
+  pub op_for_schema : (op : Op) → Ok op ≡ op_by table domain store data_act (read_path table text) → IsForSchema table op
   op_for_schema op made = subst (Given (IsForSchema table)) (sym made) (by_path (read_path table text) refl)

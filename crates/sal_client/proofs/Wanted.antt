@@ -19,7 +19,7 @@ use Rattle.sal_script.specs.Moves.{Move}
 use Rattle.sal_script.specs.Play.{Client, ask, has_domain, listen_at, meet, refused, table_in}
 use Rattle.sal_script.specs.Services as services
 use Rattle.sal_script.specs.Services.{OrRefusal, context_of, if_known, path_or, rows_of}
-use Rattle.sal_hub.specs.Known.{Known}
+use Rattle.sal_hub.specs.HubHistory.{HubHistory}
 use Rattle.sal_client.specs.declared.client.ClientState.{ClientState}
 use Rattle.sal_client.specs.declared.fault.StepFault.{StepFault}
 use Rattle.sal_client.specs.declared.fault.StepFault.TheVariants.{Refused, NoMemory}
@@ -101,12 +101,12 @@ module _ (tables : List SchemaTable) (c : ClientState) where
   table = table_in tables 0
 
   -- what a service refuses
-  pub refused_by : (step : Move) (call : OrRefusal Call) (fault : StepFault) → ((known : Known) → meet tables known.world known.log client step ≡ ask call client) → Refuses fault call → IsRefused tables c step fault
+  pub refused_by : (step : Move) (call : OrRefusal Call) (fault : StepFault) → ((known : HubHistory) → meet tables known.world known.log client step ≡ ask call client) → Refuses fault call → IsRefused tables c step fault
   refused_by step call (Refused refusal) met is = λ known. met known ∙ ap (λ o. ask o client) is
   refused_by step call NoMemory met is = tt
 
   -- a slot that is empty, or has what the call takes
-  pub wants_if : {X : Type 0} (step : Move) (wish : Wish) (slot : Option X) (result : Result Wish StepFault) → result ≡ wish_if wish slot → (slot ≡ None → (known : Known) → meet tables known.world known.log client step ≡ refused EmptySlot client)
+  pub wants_if : {X : Type 0} (step : Move) (wish : Wish) (slot : Option X) (result : Result Wish StepFault) → result ≡ wish_if wish slot → (slot ≡ None → (known : HubHistory) → meet tables known.world known.log client step ≡ refused EmptySlot client)
       → (IsSome slot → (step ≡ move_by wish) × CanMake wish c × ReadBy tables wish) → Wants tables c step result
   wants_if step wish None result is none some = subst (Wants tables c step) (sym is) (none refl)
   wants_if step wish (Some x) result is none some = subst (Wants tables c step) (sym is) (some refl)

@@ -16,14 +16,14 @@ use Rattle.sal_script.specs.declared.reply.StepReply.{StepReply}
 use Rattle.sal_script.specs.declared.reply.StepReply.TheVariants.{Accepted, Refused}
 use Rattle.sal_script.specs.declared.reply.StepRefusal.TheVariants.{Write as WriteRefused}
 use Rattle.sal_script.specs.Play.{Client, Open, Slots, accept_unless, local, seen_by, set_slot, table_in, tables_of, write_op}
-use Rattle.sal_hub.specs.Known.{Known}
+use Rattle.sal_hub.specs.HubHistory.{HubHistory}
 use Rattle.sal_hub.specs.Tokens.{IsBegun}
 use Rattle.sal_client.specs.Clients.{IsOfSchema, IsOwn, IsWithin, open_of}
 use Rattle.sal_client.proofs.Domains.{table_in-of}
 use Rattle.sal_client.proofs.Places.{put_same}
 use Rattle.sal_client.proofs.Soundness.{based}
 
-module _ (known : Known) (tables : List SchemaTable) (old : Writing) (own : IsOwn known (Write old)) (of_world : tables ≡ tables_of known.world) where
+module _ (known : HubHistory) (tables : List SchemaTable) (old : Writing) (own : IsOwn known (Write old)) (of_world : tables ≡ tables_of known.world) where
   abbrev table : SchemaTable
   table = table_in tables old.begun.domain
 
@@ -64,7 +64,7 @@ of_schema-begun tables old new same is = record {
 }
 
 -- and stays one of the log
-pub IsOwn-written : (known : Known) (old : Writing) → IsOwn known (Write old) → (op : Op) (new : Writing) (answer : Result ⊤ TxFault) → IsOutcome old op new answer → OnErr answer (new ≡ old) → IsOwn known (Write new)
+pub IsOwn-written : (known : HubHistory) (old : Writing) → IsOwn known (Write old) → (op : Op) (new : Writing) (answer : Result ⊤ TxFault) → IsOutcome old op new answer → OnErr answer (new ≡ old) → IsOwn known (Write new)
 IsOwn-written known old own op new (Ok u) outcome err =
     let has = outcome.1 in
     let begun : new.begun ≡ old.begun = has.1 in

@@ -15,7 +15,7 @@ use Rattle.sal_script.specs.Services.{Invocation}
 use Rattle.sal_hub.specs.declared.call_id.CallId.{CallId}
 use Rattle.sal_hub.specs.declared.chain.Chain.{Chain}
 use Rattle.sal_hub.specs.declared.receipt.Receipt.{Receipt}
-use Rattle.sal_hub.specs.Known.{Known, entry_of, more}
+use Rattle.sal_hub.specs.HubHistory.{HubHistory, entry_of, more}
 use Rattle.sal_hub.specs.Tokens.{IsCall, IsChain, IsGiven, IsToken, begun_of, mode_of, ops_of}
 use Rattle.sal_client.specs.declared.client.ClientState.{ClientState}
 use Rattle.sal_client.specs.declared.client.Standing.{Standing}
@@ -86,19 +86,19 @@ abbrev pub IsWithin : ℕ → ℕ → Type 0
 IsWithin count domain = (domain ≡ 0) ⊎ (domain < count)
 
 -- a transaction that the log began, of one of its domains
-pub record IsOwn (known : Known) (tx : Tx) : Type 0 where
+pub record IsOwn (known : HubHistory) (tx : Tx) : Type 0 where
   pub token : IsToken known tx
   pub within : IsWithin (length known.world) (begun_of tx).domain
 
 -- What the local steps stand on, and each longer log keeps: each transaction is one that the log began, and the rows of each
 -- listener are those that were committed there.
-pub record IsSteady (known : Known) (c : ClientState) : Type 0 where
+pub record IsSteady (known : HubHistory) (c : ClientState) : Type 0 where
   pub transactions : (k : ℕ) (tx : Tx) → held c.transactions k ≡ Some tx → IsOwn known tx
   pub followers : (k : ℕ) (f : Follower) → held c.listeners k ≡ Some f → Follows known f
 
 -- And what the shared steps stand on: each receipt is one that the log gave, each chain one that it opened, each request one that
 -- was made, and each listener one that it made for this client, at the version that was taken last; no listener stands in two slots.
-pub record IsSound (known : Known) (c : ClientState) : Type 0 where
+pub record IsSound (known : HubHistory) (c : ClientState) : Type 0 where
   pub steady : IsSteady known c
   pub receipts : (k : ℕ) (r : Receipt) → held c.receipts k ≡ Some r → IsGiven known r
   pub chains : (k : ℕ) (chain : Chain) → held c.chains k ≡ Some chain → IsChain known chain
@@ -108,12 +108,12 @@ pub record IsSound (known : Known) (c : ClientState) : Type 0 where
 
 -- it stays steady, and sound, for each log that it was so for
 pub record StaysSound (old new : ClientState) : Type 0 where
-  pub steady : (known : Known) → IsSteady known old → IsSteady known new
-  pub sound : (known : Known) → IsSound known old → IsSound known new
+  pub steady : (known : HubHistory) → IsSteady known old → IsSteady known new
+  pub sound : (known : HubHistory) → IsSound known old → IsSound known new
 
 -- over each log that the client is steady for, where the domains have these schemas
-abbrev pub Everywhere : List SchemaTable → ClientState → (Known → Type 0) → Type 0
-Everywhere tables c P = (known : Known) → IsSteady known c → tables ≡ tables_of known.world → P known
+abbrev pub Everywhere : List SchemaTable → ClientState → (HubHistory → Type 0) → Type 0
+Everywhere tables c P = (known : HubHistory) → IsSteady known c → tables ≡ tables_of known.world → P known
 
 -- the transaction is of one of the domains with these schemas, and has its schema
 pub record IsOfSchema (tables : List SchemaTable) (tx : Tx) : Type 0 where
@@ -156,7 +156,7 @@ is_service (MountAt path) = true
 is_service step = false
 
 -- what a shared call leaves
-pub record Calls (tables : List SchemaTable) (r : StepReply) (c : ℕ) (known : Known) (old : Client) (step : Move) (known' : Known) (new : Client) (call : Call) : Type 0 where
+pub record Calls (tables : List SchemaTable) (r : StepReply) (c : ℕ) (known : HubHistory) (old : Client) (step : Move) (known' : HubHistory) (new : Client) (call : Call) : Type 0 where
   pub met : meet tables known.world known.log old step ≡ shared call
   pub entry : known' ≡ more known (entry_of known c call)
   pub replied : r ≡ Called (reply known.world known.log (entry_of known c call))

@@ -12,18 +12,18 @@ use Rattle.sal_script.specs.declared.reply.StepRefusal.{StepRefusal}
 use Rattle.sal_script.specs.declared.reply.StepRefusal.TheVariants.{BadPath, BadData}
 use Rattle.sal_script.specs.Moves as asked
 use Rattle.sal_script.specs.Moves.{Move}
-use Rattle.sal_script.specs.Play.{Deed, putting, merging, deleting, act_of, op_of}
+use Rattle.sal_script.specs.Play.{DataAct, putting, merging, deleting, act_of, op_of}
 use Rattle.sal_client.specs.declared.operations.JsonAct.{JsonAct}
 use Rattle.sal_client.specs.declared.operations.JsonAct.TheVariants.{Put, Merge, Delete}
 
 -- what a write does, with the JSON data of its value
-abbrev pub deed_of : JsonAct → Deed
-deed_of (Put value) = putting (view value.now)
-deed_of (Merge value) = merging (view value.now)
-deed_of Delete = deleting
+abbrev pub data_act_of : JsonAct → DataAct
+data_act_of (Put value) = putting (view value.now)
+data_act_of (Merge value) = merging (view value.now)
+data_act_of Delete = deleting
 
 -- the step that writes so
-abbrev pub write_move : ℕ → Store → List ℕ → Deed → Move
+abbrev pub write_move : ℕ → Store → List ℕ → DataAct → Move
 write_move slot store text (putting value) = asked.Put slot store text value
 write_move slot store text (merging value) = asked.Merge slot store text value
 write_move slot store text deleting = asked.Delete slot store text
@@ -39,6 +39,6 @@ op_at domain store path (Ok act) = Ok (op_of store path act)
 op_at domain store path (Err fault) = Err (BadData domain fault)
 
 -- the operation, where its path was read so
-abbrev pub op_by : SchemaTable → ℕ → Store → Deed → Result (List Step) PathTextFault → Result Op StepRefusal
-op_by table domain store deed (Ok path) = op_at domain store path (act_of table path deed)
-op_by table domain store deed (Err fault) = Err (BadPath fault)
+abbrev pub op_by : SchemaTable → ℕ → Store → DataAct → Result (List Step) PathTextFault → Result Op StepRefusal
+op_by table domain store data_act (Ok path) = op_at domain store path (act_of table path data_act)
+op_by table domain store data_act (Err fault) = Err (BadPath fault)

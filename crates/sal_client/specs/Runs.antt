@@ -8,8 +8,8 @@ use Rattle.sal_script.specs.declared.reply.StepReply.{StepReply}
 use Rattle.sal_script.specs.declared.script.ScriptStep.{ScriptStep}
 use Rattle.sal_script.specs.JsonMoves.{is_json_move}
 use Rattle.sal_script.specs.Moves.{Move, clients_of, moves_of}
-use Rattle.sal_script.specs.Play.{Client, Played, Run, Stand, arrive, ended, go, play_from, replies_of, start, turn}
-use Rattle.sal_hub.specs.Known.{Known}
+use Rattle.sal_script.specs.Play.{Client, Played, Run, PlayState, arrive, ended, go, play_from, replies_of, start, turn}
+use Rattle.sal_hub.specs.HubHistory.{HubHistory}
 use Rattle.sal_client.specs.declared.run.ClientRun.{ClientRun as CodeRun}
 use Rattle.sal_client.specs.declared.simulation.Played.{Played as CodePlayed}
 use Rattle.sal_client.specs.declared.simulation.PlayFault.{PlayFault}
@@ -34,7 +34,7 @@ pub record IsProgram (steps : List ScriptStep) (r : CodeRun) : Type 0 where
   pub json : IsTrue (list_all is_json_move (moves_of steps))
 
 -- and the client is sound
-pub record IsRun (known : Known) (steps : List ScriptStep) (r : CodeRun) : Type 0 where
+pub record IsRun (known : HubHistory) (steps : List ScriptStep) (r : CodeRun) : Type 0 where
   pub sound : IsSound known r.client
   pub program : IsProgram steps r
 
@@ -50,13 +50,13 @@ Comes tables steps old (Some wish) new =
     × CanMake wish new.client × ReadBy tables wish × (old.at < new.at)
 
 -- client c made the call that it was ready to make, whatever the steps behind it
-abbrev pub MakesNext : List SchemaTable → ℕ → Known → Wish → Client → Known → Client → Type 0
+abbrev pub MakesNext : List SchemaTable → ℕ → HubHistory → Wish → Client → HubHistory → Client → Type 0
 MakesNext tables c known wish old known' new =
     ((steps : List Move) → go tables known.world known.log c (record { client = old; steps = move_by wish ∷ steps }) ≡ Some (record { log = known'.log; run = record { client = new; steps = steps } }))
     × GrowsBy c known known'
 
 -- the client went on to its next shared call and made it, or came to its end
-abbrev pub Goes : List SchemaTable → Bool → ℕ → Known → List ScriptStep → CodeRun → Known → CodeRun → Type 0
+abbrev pub Goes : List SchemaTable → Bool → ℕ → HubHistory → List ScriptStep → CodeRun → HubHistory → CodeRun → Type 0
 Goes tables true c known steps old known' new =
     (go tables known.world known.log c (run_of steps old) ≡ Some (record { log = known'.log; run = run_of steps new })) × GrowsBy c known known' × (old.at < new.at)
 Goes tables false c known steps old known' new =
@@ -68,7 +68,7 @@ runs_of [] rs = []
 runs_of (p ∷ ps) [] = []
 runs_of (p ∷ ps) (r ∷ rs) = run_of p r ∷ runs_of ps rs
 
-abbrev pub stand_of : List (List ScriptStep) → List Entry → List CodeRun → Stand
+abbrev pub stand_of : List (List ScriptStep) → List Entry → List CodeRun → PlayState
 stand_of ps log rs = record { log = log; runs = runs_of ps rs }
 
 -- how many steps the clients have answered
@@ -77,14 +77,14 @@ answered [] = 0
 answered (r ∷ rs) = r.at + answered rs
 
 -- Each is sound, and has its index as its number. There are few of them, and no more calls were made than steps answered.
-pub record AreRuns (known : Known) (ps : List (List ScriptStep)) (rs : List CodeRun) : Type 0 where
+pub record AreRuns (known : HubHistory) (ps : List (List ScriptStep)) (rs : List CodeRun) : Type 0 where
   pub long : length rs ≡ length ps
   pub few : length rs ≤ 16
   pub calls : length known.log ≤ answered rs
   pub each : (i : ℕ) (p : List ScriptStep) (r : CodeRun) → i < length rs → p ≡ slice_index_or ps i p → r ≡ slice_index_or rs i r → IsRun known p r × (r.client.number ≡ i)
 
 -- one number of an order, or its failure
-abbrev pub Turns : List SchemaTable → Bool → List (List ScriptStep) → ℕ → Known → List CodeRun → Known → List CodeRun → Type 0
+abbrev pub Turns : List SchemaTable → Bool → List (List ScriptStep) → ℕ → HubHistory → List CodeRun → HubHistory → List CodeRun → Type 0
 Turns tables true ps c known rs known' rs' =
     (turn tables known.world (stand_of ps known.log rs) c ≡ Some (stand_of ps known'.log rs')) × AreRuns known' ps rs' × (known'.world ≡ known.world)
 Turns tables false ps c known rs known' rs' = turn tables known.world (stand_of ps known.log rs) c ≡ None
@@ -94,7 +94,7 @@ abbrev pub replies_in : CodeRun → List StepReply
 replies_in r = r.client.replies.items
 
 -- all clients come to their ends, with these replies, or one does not
-abbrev pub Ends : List SchemaTable → Bool → List (List ScriptStep) → Known → List CodeRun → Known → List CodeRun → Type 0
+abbrev pub Ends : List SchemaTable → Bool → List (List ScriptStep) → HubHistory → List CodeRun → HubHistory → List CodeRun → Type 0
 Ends tables true ps known rs known' rs' = (replies_of tables known.world known.log (runs_of ps rs) ≡ Some (map replies_in rs')) × (known' ≡ known)
 Ends tables false ps known rs known' rs' = replies_of tables known.world known.log (runs_of ps rs) ≡ None
 
@@ -105,12 +105,12 @@ PlaysAs world (Err (BadOrder index)) played = played ≡ Err index
 PlaysAs world (Err NoMemory) played = Unit {0}
 
 -- the clients at their beginning, over the hub
-abbrev pub Begins : Known → List (List ScriptStep) → Result Simulation PlayFault → Type 0
+abbrev pub Begins : HubHistory → List (List ScriptStep) → Result Simulation PlayFault → Type 0
 Begins known ps (Ok s) = (s.hub ≡ known) × AreRuns s.hub ps s.runs.items × (stand_of ps s.hub.log s.runs.items ≡ start (clients_of ps))
 Begins known ps (Err why) = why ≡ NoMemory
 
 -- an order was played: what it comes to is what its end comes to from there; or why it was not
-abbrev pub Follows : List SchemaTable → List (List ScriptStep) → List ℕ → Known → List CodeRun → Known → List CodeRun → Result ⊤ PlayFault → Type 0
+abbrev pub Follows : List SchemaTable → List (List ScriptStep) → List ℕ → HubHistory → List CodeRun → HubHistory → List CodeRun → Result ⊤ PlayFault → Type 0
 Follows tables ps order known rs known' rs' (Ok done) =
     (known'.world ≡ known.world) × AreRuns known' ps rs'
     × (play_from tables known.world (length order) (stand_of ps known'.log rs') [] ≡ play_from tables known.world 0 (stand_of ps known.log rs) order)

@@ -15,7 +15,7 @@ use Rattle.sal_script.specs.declared.reply.StepRefusal.TheVariants.{EmptySlot}
 use Rattle.sal_script.specs.Play.{Client, has_domain, local, meet, refused, replied, table_in}
 use Rattle.sal_script.specs.Services as services
 use Rattle.sal_hub.specs.Answers.{limit}
-use Rattle.sal_hub.specs.Known.{Known, more}
+use Rattle.sal_hub.specs.HubHistory.{HubHistory, more}
 use Rattle.sal_client.specs.declared.client.ClientState.{ClientState}
 use Rattle.sal_client.specs.declared.client.Standing.TheVariants.{Empty, Writable}
 use Rattle.sal_client.specs.declared.fault.StepFault.{StepFault}
@@ -132,7 +132,7 @@ wished wish (Err why) = Err why
 
 -- the step is refused over whatever log; nothing is said of want of memory
 abbrev pub IsRefused : List SchemaTable → ClientState → Move → StepFault → Type 0
-IsRefused tables c step (Refused refusal) = (known : Known) → meet tables known.world known.log (client_of c) step ≡ refused refusal (client_of c)
+IsRefused tables c step (Refused refusal) = (known : HubHistory) → meet tables known.world known.log (client_of c) step ≡ refused refusal (client_of c)
 IsRefused tables c step Wanting = Unit {0}
 
 -- the step asks for this call, or is refused
@@ -147,19 +147,19 @@ Meets tables old step None new = Everywhere tables old (λ known. (r : StepReply
 Meets tables old step (Some wish) new = (step ≡ move_by wish) × CanMake wish new × ReadBy tables wish × (client_of new ≡ client_of old)
 
 -- a shared call was made; the reply is not yet among the replies
-abbrev pub Makes : List SchemaTable → StepReply → ℕ → Known → Client → Move → Known → Client → Type 0
+abbrev pub Makes : List SchemaTable → StepReply → ℕ → HubHistory → Client → Move → HubHistory → Client → Type 0
 Makes tables r c known old step known' new = (call : Call) × Calls tables r c known old step known' new call
 
 -- it was that of the wish, by whichever schemas this was read
-abbrev pub MakesFor : Wish → ℕ → Known → Client → Known → Client → StepReply → Type 0
+abbrev pub MakesFor : Wish → ℕ → HubHistory → Client → HubHistory → Client → StepReply → Type 0
 MakesFor wish c known old known' new r = (tables : List SchemaTable) → ReadBy tables wish → Makes tables r c known old (move_by wish) known' new
 
 -- one entry more, of client c
-abbrev pub GrowsBy : ℕ → Known → Known → Type 0
+abbrev pub GrowsBy : ℕ → HubHistory → HubHistory → Type 0
 GrowsBy c known known' = (e : Entry) × (e.client ≡ c) × (known' ≡ more known e)
 
 -- at most one entry more, of client c
-abbrev pub GrowsAtMost : ℕ → Known → Known → Type 0
+abbrev pub GrowsAtMost : ℕ → HubHistory → HubHistory → Type 0
 GrowsAtMost c known known' = (known' ≡ known) ⊎ GrowsBy c known known'
 
 -- the call was refused for a reason that stops the client
@@ -168,6 +168,6 @@ IsStop why HistoryFull = why ≡ fault.HistoryFull
 IsStop why NoMemory = why ≡ fault.NoMemory
 
 -- A client stopped at a call: the log is full and as it was, or memory ran out, and then the log may have the call's entry.
-abbrev pub Stops : ℕ → Known → Known → RunFault → Type 0
+abbrev pub Stops : ℕ → HubHistory → HubHistory → RunFault → Type 0
 Stops c known known' HistoryFull = (limit ≤ length known.log) × (known' ≡ known)
 Stops c known known' NoMemory = GrowsAtMost c known known'

@@ -82,14 +82,14 @@ impl ClientState {
     ghost use Rattle.sal_client.specs.Clients.{client_of, opened, HasSchema, IsSound};
     ghost use Rattle.sal_client.specs.Clients as spec;
     ghost use Rattle.sal_client.specs.Meeting.{IsAnswered, IsMet, IsRefusedBy, IsReplied};
-    ghost use Rattle.sal_hub.specs.Known.{Known};
+    ghost use Rattle.sal_hub.specs.HubHistory.{HubHistory};
 
     /// A client at its beginning.
     pub fn new(alloc: Global, number: u32) -> Self
         ensures client { client_of result ≡ new_client }
         ensures number { result.number ≡ number }
         ensures schema { (tables : List SchemaTable) → HasSchema tables result }
-        ensures sound { (known : Known) → IsSound known result }
+        ensures sound { (known : HubHistory) → IsSound known result }
     {
         ClientState {
             number,

@@ -81,7 +81,7 @@ fn act_of(
     path: &Path,
     act: JsonAct,
 ) -> Result<Act, StepFault>
-    ensures { Reads result (spec.good_data domain (act_of reader.now path.now (spec.deed_of act.entry))) }
+    ensures { Reads result (spec.good_data domain (act_of reader.now path.now (spec.data_act_of act.entry))) }
 {
     match act {
         JsonAct::Put(value) => {
@@ -104,7 +104,7 @@ pub(crate) fn op_of(
     place: Place,
     act: JsonAct,
 ) -> Result<Op, StepFault>
-    ensures { Reads result (spec.op_by reader.now domain place.entry.store (spec.deed_of act.entry) (read_path reader.now place.entry.text.now)) }
+    ensures { Reads result (spec.op_by reader.now domain place.entry.store (spec.data_act_of act.entry) (read_path reader.now place.entry.text.now)) }
 {
     let path = path_of(alloc, reader, place.text)?;
     let act = act_of(alloc, reader, domain, &path, act)?;

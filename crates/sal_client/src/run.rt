@@ -1,7 +1,7 @@
 //! A client's run through its program, from one shared call to the next.
 ghost use Rattle.std.specs.Prelude.{◌≡◌, ◌<◌, List, IfOk, IfErr, OnOk, length};
 ghost use Rattle.sal_hub.specs.Answers.{limit};
-ghost use Rattle.sal_hub.specs.Known.{Known};
+ghost use Rattle.sal_hub.specs.HubHistory.{HubHistory};
 ghost use Rattle.sal_schema.specs.declared.table.SchemaTable.{SchemaTable};
 ghost use Rattle.sal_script.specs.Play.{new_client, tables_of};
 
@@ -32,7 +32,7 @@ impl ClientRun {
         ensures at { result.at ≡ 0 }
         ensures client { client_of result.client ≡ new_client }
         ensures schema { (tables : List SchemaTable) → HasSchema tables result.client }
-        ensures sound { (known : Known) → IsSound known result.client }
+        ensures sound { (known : HubHistory) → IsSound known result.client }
     {
         ClientRun {
             client: ClientState::new(alloc, number),

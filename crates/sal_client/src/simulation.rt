@@ -2,7 +2,7 @@
 ghost use Rattle.std.specs.Prelude.{◌≡◌, ◌<◌, [], IfOk, IsTrue, map};
 ghost use Rattle.sal_script.specs.Limits.{within_limits};
 ghost use Rattle.sal_script.specs.Play.{tables_of};
-ghost use Rattle.sal_hub.specs.Known.{Known};
+ghost use Rattle.sal_hub.specs.HubHistory.{HubHistory};
 ghost use Rattle.sal_script.specs.JsonMoves.{have_json_moves};
 ghost use Rattle.sal_script.specs.Moves.{clients_of};
 ghost use Rattle.sal_script.specs.Play as play_spec;
@@ -43,7 +43,7 @@ fn new_runs(alloc: Global, programs: &[Program]) -> Result<Vec<ClientRun>, NoMem
     requires limits { IsTrue (within_limits programs.now) }
     requires json { IsTrue (have_json_moves (clients_of programs.now)) }
     ensures stand { IfOk result (λ runs. stand_of programs.now [] runs.items ≡ play_spec.start (clients_of programs.now)) }
-    ensures runs { IfOk result (λ runs. (known : Known) → known.log ≡ [] → AreRuns known programs.now runs.items) }
+    ensures runs { IfOk result (λ runs. (known : HubHistory) → known.log ≡ [] → AreRuns known programs.now runs.items) }
 {
     let mut runs = Vec::new(alloc);
     for i in 0..programs.len() {

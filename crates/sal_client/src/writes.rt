@@ -1,9 +1,9 @@
 //! Writes in a client's transaction.
 ghost use Rattle.std.specs.Prelude.{◌≡◌, Some, IfOk, IsTrue, MatchResult, ⊤};
-ghost use Rattle.sal_script.specs.JsonScripts.{is_json_deed};
+ghost use Rattle.sal_script.specs.JsonScripts.{is_json_act};
 ghost use Rattle.sal_script.specs.Play.{Open, table_in};
 ghost use Rattle.sal_rules.specs.Writes.{IsForSchema};
-ghost use Rattle.sal_client.specs.Operations.{deed_of, write_move};
+ghost use Rattle.sal_client.specs.Operations.{data_act_of, write_move};
 
 use crate::client::{ClientState, Standing, refused};
 use crate::fault::refusal_reply;
@@ -52,8 +52,8 @@ impl ClientState {
         act: JsonAct,
     ) -> Result<StepReply, NoMemory>
         requires schema { HasSchema readers.now self.old }
-        requires json { IsTrue (is_json_deed (deed_of act)) }
-        ensures { IfOk result (λ r. IsAnswered readers.now self.old (write_move place.entry.slot place.entry.store place.entry.text.now (deed_of act.entry)) r self.new) }
+        requires json { IsTrue (is_json_act (data_act_of act)) }
+        ensures { IfOk result (λ r. IsAnswered readers.now self.old (write_move place.entry.slot place.entry.store place.entry.text.now (data_act_of act.entry)) r self.new) }
     {
         match self.standing(place.slot) {
             Standing::Empty => Ok(refused(StepRefusal::EmptySlot)),

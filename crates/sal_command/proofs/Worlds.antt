@@ -15,7 +15,7 @@ use Rattle.sal_rules.specs.Breaches.{breach}
 use Rattle.sal_history.specs.World.{Domain, no_table, table_of, tree_of_opening}
 use Rattle.sal_hub.specs.declared.opening.OpenFault.{OpenFault}
 use Rattle.sal_hub.specs.declared.opening.OpenFault.TheVariants.{NotConfig, Broken, NoMemory as NoHub}
-use Rattle.sal_hub.specs.Known.{Known}
+use Rattle.sal_hub.specs.HubHistory.{HubHistory}
 use Rattle.sal_hub.specs.Openings.{IsFaultOf, fault_from, fault_of, opening_fault, state_row}
 use Rattle.sal_script.specs.Play.{table_in, tables_of}
 use Rattle.sal_script.specs.Script.{DeviceParts}
@@ -74,8 +74,8 @@ kept world made None is = same_ok is
 kept world made (Some fault) is = cc
 
 -- and so are its tables
-pub tables_kept : (tables : List SchemaTable) (world : List Domain) (result : Result Known Status) → tables ≡ tables_of world → Comes (λ (hub : Known). hub.world) (opened world) result
-    → IfOk result (λ (hub : Known). tables ≡ tables_of hub.world)
+pub tables_kept : (tables : List SchemaTable) (world : List Domain) (result : Result HubHistory Status) → tables ≡ tables_of world → Comes (λ (hub : HubHistory). hub.world) (opened world) result
+    → IfOk result (λ (hub : HubHistory). tables ≡ tables_of hub.world)
 tables_kept tables world (Ok hub) same comes = same ∙ ap tables_of (kept world hub.world (fault_of world) comes)
 tables_kept tables world (Err status) same comes = tt
 

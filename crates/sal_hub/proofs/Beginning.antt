@@ -25,7 +25,7 @@ use Rattle.sal_hub.specs.declared.start.Footing.{Footing}
 use Rattle.sal_hub.specs.Answers.{Made}
 use Rattle.sal_hub.specs.Current.{IsCurrent, IsKept, answers, known_of}
 use Rattle.sal_hub.specs.Journals.{Noted, jotted, mark_at}
-use Rattle.sal_hub.specs.Lines.{IsStored, is_live_in, line_of, shown, world_in}
+use Rattle.sal_hub.specs.PipelineView.{IsStored, is_live_in, line_of, shown, world_in}
 use Rattle.sal_hub.specs.Starts.{IsNewest, Starts}
 use Rattle.sal_hub.specs.Tokens.{IsBegun, IsToken, base_of, begun_of}
 use Rattle.sal_hub.proofs.Deciding.{opening-at, table-at}

@@ -30,8 +30,8 @@ use Rattle.sal_hub.specs.Chains.{Adds, AreChains, IsFooting, IsInPlace, is_open,
 use Rattle.sal_hub.specs.Current.{IsCurrent, IsKept, answers, known_of}
 use Rattle.sal_hub.specs.Failures.{IsWithin, flag_in, noted_in, noted_with}
 use Rattle.sal_hub.specs.Journals.{Noted, jotted, mark_at}
-use Rattle.sal_hub.specs.Known.{Known, more}
-use Rattle.sal_hub.specs.Lines.{AllKept, IsSound, Line, is_live_in, line_of, sent_of, shown, world_in}
+use Rattle.sal_hub.specs.HubHistory.{HubHistory, more}
+use Rattle.sal_hub.specs.PipelineView.{AllKept, IsSound, PipelineView, is_live_in, line_of, sent_of, shown, world_in}
 use Rattle.sal_hub.specs.Starts.{Starts}
 use Rattle.sal_hub.specs.Tokens.{IsChain, IsFresh, IsToken, base_of, begun_of}
 use Rattle.sal_hub.proofs.Beginning.{made_now, newest_commit, newest_trees, quiet_kept, token_now}
@@ -49,7 +49,7 @@ use Rattle.sal_hub.proofs.Starting.{same_rows}
 
 -- the known with the entry
 known_is : (journal journal' : Noted) (p p' : Pipeline) (e : Entry) → journal'.log ≡ journal.log ++ e ∷ [] → world_in (line_of p').domains ≡ world_in (line_of p).domains → more (known_of journal p) e ≡ known_of journal' p'
-known_is journal journal' p p' e log same = λ i. let known : Known = record { world = sym same i; log = sym log i } in known
+known_is journal journal' p p' e log same = λ i. let known : HubHistory = record { world = sym same i; log = sym log i } in known
 
 -- ---- open
 
@@ -85,7 +85,7 @@ module _ (journal journal' : Noted) (p : Pipeline) (is : IsKept journal p) (clie
     opened : opened_chain (OpenChain domain) (reply_to w answered client (OpenChain domain)) ≡ Some domain
     opened = ap (opened_chain (OpenChain domain)) opened_reply
 
-    abbrev line' : Line
+    abbrev line' : PipelineView
     line' = record (line_of p) { failures = (line_of p).failures ++ None ∷ [] }
 
     line_is : line' ≡ line_of p'
@@ -352,7 +352,7 @@ module _ (journal : Noted) (p : Pipeline) (is : IsKept journal p) (cs : Chains) 
 
 -- ---- a chain that begins no transaction
 
-module _ (old new : Known) (e : Entry) where
+module _ (old new : HubHistory) (e : Entry) where
   fails_of : (closed : Bool) (failed : Option ℕ) (waits dead : Bool) (n : ℕ) (f : CallFault) → option_or (fault_if closed ChainClosed) (option_or (option_map ChainFailed failed) (option_or (fault_if waits PreviousOpen) (fault_if dead (NoDomain n)))) ≡ Some f
       → Made old new e (Refused f) → Fails old new e f
   fails_of true failed waits dead n f is made = let same : ChainClosed ≡ f = same_Some ChainClosed f is in subst (Fails old new e) same (subst (λ g. Made old new e (Refused g)) (sym same) made)

@@ -12,7 +12,7 @@ use Rattle.sal_history.specs.Submissions.{Base, Sent, is_in, last_receipt}
 use Rattle.sal_hub.specs.declared.chains.Chains.{Chains}
 use Rattle.sal_hub.specs.Chains.{Adds, AreChains, AreEven, AreSame, IsInPlace}
 use Rattle.sal_hub.specs.Failures.{IsWithin, flag_in, noted_in}
-use Rattle.sal_hub.specs.Known.{Known, more}
+use Rattle.sal_hub.specs.HubHistory.{HubHistory, more}
 use Rattle.sal_hub.proofs.Histories.{begun-push, chains-push, closed-push, now_of, sents-push}
 use Rattle.sal_hub.proofs.Keeping.{or_false}
 use Rattle.sal_hub.proofs.Members.{last_from-push, last_from-some}
@@ -32,7 +32,7 @@ receipt-push ss (Some s) id =
 
 -- ---- one entry more
 
-module _ (known : Known) (e : Entry) (cs : Chains) (are : AreChains known cs) where
+module _ (known : HubHistory) (e : Entry) (cs : Chains) (are : AreChains known cs) where
   abbrev w : List Domain
   w = known.world
 
@@ -86,7 +86,7 @@ pub same_chains : (cs : Chains) → AreSame cs cs
 same_chains cs = record { domains = refl; closed = refl; begun = refl; sent = refl }
 
 -- the chains are the log's still
-pub chains_as : (known : Known) (cs cs' : Chains) → AreSame cs cs' → AreChains known cs → AreChains known cs'
+pub chains_as : (known : HubHistory) (cs cs' : Chains) → AreSame cs cs' → AreChains known cs → AreChains known cs'
 chains_as known cs cs' same are = record {
   even = record {
     closed = ap length same.closed ∙ are.even.closed ∙ sym (ap length same.domains);
@@ -109,7 +109,7 @@ entry_at (x ∷ xs) zero c e = (x, refl, e)
 entry_at (x ∷ xs) (suc k) c e = entry_at xs k c e
 
 -- the chain of a transaction that was begun was opened
-pub member_within : (known : Known) (cs : Chains) → AreChains known cs → (place : ℕ) (b : Base) → began_at (history known.world known.log) place ≡ Some b → IsWithin (length cs.domains.items) b.chain
+pub member_within : (known : HubHistory) (cs : Chains) → AreChains known cs → (place : ℕ) (b : Base) → began_at (history known.world known.log) place ≡ Some b → IsWithin (length cs.domains.items) b.chain
 member_within known cs are place b began = λ id of_chain.
     let a = entry_at (history known.world known.log) place b began in
     let mine : begins_in id a.0 ≡ true = (λ i. begun_in id (a.2 i)) ∙ (λ i. is_of_chain (Some id) (of_chain i)) ∙ own id in

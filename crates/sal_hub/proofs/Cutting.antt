@@ -20,7 +20,7 @@ use Rattle.sal_history.specs.History.{decide_front, decide_next}
 use Rattle.sal_history.specs.Submissions.{Sent}
 use Rattle.sal_hub.specs.declared.pipeline.Pipeline.{Pipeline}
 use Rattle.sal_hub.specs.Failures.{cut_failures}
-use Rattle.sal_hub.specs.Lines.{AllKept, AreDecided, Decides, HasGrown, HaveGrown, Line, Shown, counts_of, cut_all, is_live_in, line_of, shown, world_in}
+use Rattle.sal_hub.specs.PipelineView.{AllKept, AreDecided, Decides, HasGrown, HaveGrown, PipelineView, DomainView, counts_of, cut_all, is_live_in, line_of, shown, world_in}
 use Rattle.sal_hub.proofs.Listed.{Grows-then, length-Grows, slice_get_at, take-Grows}
 use Rattle.sal_hub.proofs.Noted.{cut_twice}
 
@@ -79,19 +79,19 @@ AreKept-take cs k are = record {
 -- ---- domains
 
 -- one more is cut
-pub cut_more : (ds : List Shown) (ks : List ℕ) (i k : ℕ) (d : Shown) → slice_get ks i ≡ Some k → slice_get (cut_all ds (take i ks)) i ≡ Some d → set (cut_all ds (take i ks)) i (record d { ops = take k d.ops; chains = take k d.chains; receipts = take (k + 1) d.receipts }) ≡ cut_all ds (take (suc i) ks)
+pub cut_more : (ds : List DomainView) (ks : List ℕ) (i k : ℕ) (d : DomainView) → slice_get ks i ≡ Some k → slice_get (cut_all ds (take i ks)) i ≡ Some d → set (cut_all ds (take i ks)) i (record d { ops = take k d.ops; chains = take k d.chains; receipts = take (k + 1) d.receipts }) ≡ cut_all ds (take (suc i) ks)
 cut_more [] ks i k d at_k at_d = cc
 cut_more (x ∷ ds) [] i k d at_k at_d = cc
 cut_more (x ∷ ds) (j ∷ ks) zero k d at_k at_d =
-    (λ i. (let e : Shown = record (sym (same_Some x d at_d) i) { ops = take (sym (same_Some j k at_k) i) (sym (same_Some x d at_d) i).ops; chains = take (sym (same_Some j k at_k) i) (sym (same_Some x d at_d) i).chains; receipts = take (sym (same_Some j k at_k) i + 1) (sym (same_Some x d at_d) i).receipts } in e) ∷ none ds i)
+    (λ i. (let e : DomainView = record (sym (same_Some x d at_d) i) { ops = take (sym (same_Some j k at_k) i) (sym (same_Some x d at_d) i).ops; chains = take (sym (same_Some j k at_k) i) (sym (same_Some x d at_d) i).chains; receipts = take (sym (same_Some j k at_k) i + 1) (sym (same_Some x d at_d) i).receipts } in e) ∷ none ds i)
   where
-    none : (es : List Shown) → es ≡ cut_all es []
+    none : (es : List DomainView) → es ≡ cut_all es []
     none [] = refl
     none (e ∷ es) = refl
-cut_more (x ∷ ds) (j ∷ ks) (suc i) k d at_k at_d = ap (λ (es : List Shown). record x { ops = take j x.ops; chains = take j x.chains; receipts = take (j + 1) x.receipts } ∷ es) (cut_more ds ks i k d at_k at_d)
+cut_more (x ∷ ds) (j ∷ ks) (suc i) k d at_k at_d = ap (λ (es : List DomainView). record x { ops = take j x.ops; chains = take j x.chains; receipts = take (j + 1) x.receipts } ∷ es) (cut_more ds ks i k d at_k at_d)
 
 -- each domain has a chain and a receipt for each commit, and a receipt for the opening
-abbrev AreLevel : List Shown → Type 0
+abbrev AreLevel : List DomainView → Type 0
 AreLevel [] = Unit {0}
 AreLevel (d ∷ ds) = ((length d.ops ≡ length d.chains) × (length d.ops + 1 ≡ length d.receipts)) × AreLevel ds
 
@@ -111,7 +111,7 @@ level (d ∷ ds) kept = ((each d.commits.items, with_opening d.commits.items (ke
     with_opening cs some = omega (arith, length-ops_of cs some, length-map cs (λ (c : Commit). c.receipt), some)
 
 -- what has grown is cut back to what it was
-cut_back : (ds es : List Shown) → AreLevel ds → HaveGrown ds es → cut_all es (counts_of ds) ≡ ds
+cut_back : (ds es : List DomainView) → AreLevel ds → HaveGrown ds es → cut_all es (counts_of ds) ≡ ds
 cut_back [] [] even grown = refl
 cut_back [] (e ∷ es) even grown = absurd grown
 cut_back (d ∷ ds) [] even grown = absurd grown
@@ -119,22 +119,22 @@ cut_back (d ∷ ds) (e ∷ es) even grown =
     let ops : take (length d.ops) e.ops ≡ d.ops = take-Grows d.ops e.ops grown.0.1 in
     let chains : take (length d.ops) e.chains ≡ d.chains = ap (λ n. take n e.chains) even.0.0 ∙ take-Grows d.chains e.chains grown.0.2 in
     let receipts : take (length d.ops + 1) e.receipts ≡ d.receipts = ap (λ n. take n e.receipts) even.0.1 ∙ take-Grows d.receipts e.receipts grown.0.3 in
-    (λ i. (let x : Shown = record (grown.0.0 i) { ops = ops i; chains = chains i; receipts = receipts i } in x) ∷ cut_back ds es even.1 grown.1 i)
+    (λ i. (let x : DomainView = record (grown.0.0 i) { ops = ops i; chains = chains i; receipts = receipts i } in x) ∷ cut_back ds es even.1 grown.1 i)
 
 -- ---- one decision after another
 
-HaveGrown-then : (ds es fs : List Shown) → HaveGrown ds es → HaveGrown es fs → HaveGrown ds fs
+HaveGrown-then : (ds es fs : List DomainView) → HaveGrown ds es → HaveGrown es fs → HaveGrown ds fs
 HaveGrown-then [] [] [] g h = tt
 HaveGrown-then [] [] (f ∷ fs) g h = absurd h
 HaveGrown-then [] (e ∷ es) fs g h = absurd g
 HaveGrown-then (d ∷ ds) [] fs g h = absurd g
 HaveGrown-then (d ∷ ds) (e ∷ es) [] g h = absurd h
 HaveGrown-then (d ∷ ds) (e ∷ es) (f ∷ fs) g h = (
-  (h.0.0 ∙ ap (λ (x : Shown). let y : Shown = record x { ops = f.ops; chains = f.chains; receipts = f.receipts } in y) g.0.0, Grows-then d.ops e.ops f.ops g.0.1 h.0.1, Grows-then d.chains e.chains f.chains g.0.2 h.0.2, Grows-then d.receipts e.receipts f.receipts g.0.3 h.0.3),
+  (h.0.0 ∙ ap (λ (x : DomainView). let y : DomainView = record x { ops = f.ops; chains = f.chains; receipts = f.receipts } in y) g.0.0, Grows-then d.ops e.ops f.ops g.0.1 h.0.1, Grows-then d.chains e.chains f.chains g.0.2 h.0.2, Grows-then d.receipts e.receipts f.receipts g.0.3 h.0.3),
   HaveGrown-then ds es fs g.1 h.1,
 )
 
-pub HasGrown-then : (a b c : Line) → HasGrown a b → HasGrown b c → HasGrown a c
+pub HasGrown-then : (a b c : PipelineView) → HasGrown a b → HasGrown b c → HasGrown a c
 HasGrown-then a b c g h = record {
   domains = HaveGrown-then a.domains b.domains c.domains g.domains h.domains;
   gone = h.gone ∙ g.gone;
@@ -157,10 +157,10 @@ decide_next-plus world live ss os (suc m) n =
     ∙ sym (append_assoc front (decide_next world live ss (os ++ front) m) (decide_next world live ss ((os ++ front) ++ decide_next world live ss (os ++ front) m) n))
     ∙ ap (λ (us : List Outcome). (front ++ decide_next world live ss (os ++ front) m) ++ decide_next world live ss us n) (append_assoc os front (decide_next world live ss (os ++ front) m))
 
-pub Decides-none : (line : Line) → Decides line 0 line
+pub Decides-none : (line : PipelineView) → Decides line 0 line
 Decides-none line = λ ss sound. record { sound = sound; world = refl; live = λ n. refl; outcomes = sym (append-nil line.outcomes); chains = refl }
 
-AreDecided-then : (ss : List Sent) (a b c : Line) (m n k : ℕ) → k ≡ m + n → AreDecided ss a m b → AreDecided ss b n c → AreDecided ss a k c
+AreDecided-then : (ss : List Sent) (a b c : PipelineView) (m n k : ℕ) → k ≡ m + n → AreDecided ss a m b → AreDecided ss b n c → AreDecided ss a k c
 AreDecided-then ss a b c m n k sum g h =
     let w : List Domain = world_in a.domains in
     let l : ℕ → Bool = is_live_in a.domains in
@@ -175,16 +175,16 @@ AreDecided-then ss a b c m n k sum g h =
       chains = h.chains ∙ g.chains;
     }
 
-pub one_more : (a b c : Line) (start i : ℕ) → start ≤ i → Decides a (i - start) b → Decides b 1 c → Decides a (i + 1 - start) c
+pub one_more : (a b c : PipelineView) (start i : ℕ) → start ≤ i → Decides a (i - start) b → Decides b 1 c → Decides a (i + 1 - start) c
 one_more a b c start i h g one = λ ss sound. AreDecided-then ss a b c (i - start) 1 (i + 1 - start) (omega (arith, h)) (g ss sound) (one ss (g ss sound).sound)
 
 -- ---- code's lists of domains
 
-pub cut_none : (ds : List Shown) → ds ≡ cut_all ds []
+pub cut_none : (ds : List DomainView) → ds ≡ cut_all ds []
 cut_none [] = refl
 cut_none (d ∷ ds) = refl
 
-pub cut_one : (ds : List Stored) (all : List Shown) (ks : List ℕ) (i k : ℕ) (d d' : Stored) → i < length ds → d ≡ get_or ds i d → slice_get ks i ≡ Some k → IsSame d d' → d'.commits.items ≡ take (k + 1) d.commits.items → map shown ds ≡ cut_all all (take i ks) → map shown (set ds i d') ≡ cut_all all (take (i + 1) ks)
+pub cut_one : (ds : List Stored) (all : List DomainView) (ks : List ℕ) (i k : ℕ) (d d' : Stored) → i < length ds → d ≡ get_or ds i d → slice_get ks i ≡ Some k → IsSame d d' → d'.commits.items ≡ take (k + 1) d.commits.items → map shown ds ≡ cut_all all (take i ks) → map shown (set ds i d') ≡ cut_all all (take (i + 1) ks)
 cut_one ds all ks i k d d' within d_is at_k same commits so_far =
     let one : k + 1 ≡ suc k = omega arith in
     let more : i + 1 ≡ suc i = omega arith in
@@ -196,7 +196,7 @@ cut_one ds all ks i k d d' within d_is at_k same commits so_far =
     let cut : shown d' ≡ record (shown d) { ops = take k (shown d).ops; chains = take k (shown d).chains; receipts = take (k + 1) (shown d).receipts } =
     λ j. record { number = same.number j; live = same.live j; table = (same.schema j).value; opening = opening j; ops = ops j; chains = chains j; receipts = receipts j } in
     let here : slice_get (cut_all all (take i ks)) i ≡ Some (shown d) =
-    ap (λ (es : List Shown). slice_get es i) (sym so_far) ∙ slice_get-map shown ds i ∙ ap (option_map shown) (slice_get_at ds i d within d_is) in
+    ap (λ (es : List DomainView). slice_get es i) (sym so_far) ∙ slice_get-map shown ds i ∙ ap (option_map shown) (slice_get_at ds i d within d_is) in
     map-set shown ds i d' ∙ (λ j. set (so_far j) i (cut j)) ∙ cut_more all ks i k (shown d) at_k here ∙ ap (λ n. cut_all all (take n ks)) (sym more)
 
 pub kept_one : (ds : List Stored) (i k : ℕ) (d d' : Stored) → i < length ds → d ≡ get_or ds i d → d'.commits.items ≡ take (k + 1) d.commits.items → AllKept ds → AllKept (set ds i d')
@@ -208,10 +208,10 @@ kept_one ds i k d d' within d_is commits all =
 pub counted : (ds : List Stored) (i : ℕ) (d : Stored) → i < length ds → d ≡ get_or ds i d → counts_of (map shown (take (i + 1) ds)) ≡ counts_of (map shown (take i ds)) ++ length (ops_of d.commits.items) ∷ []
 counted ds i d within d_is =
     ap (λ (xs : List Stored). counts_of (map shown xs)) (take_more ds i d within ∙ ap (λ (x : Stored). take i ds ++ x ∷ []) (sym d_is))
-    ∙ ap counts_of (map-append shown (take i ds) (d ∷ [])) ∙ map-append (λ (x : Shown). length x.ops) (map shown (take i ds)) (shown d ∷ [])
+    ∙ ap counts_of (map-append shown (take i ds) (d ∷ [])) ∙ map-append (λ (x : DomainView). length x.ops) (map shown (take i ds)) (shown d ∷ [])
 
 -- what was decided since is taken back
-HaveGrown-long : (ds es : List Shown) → HaveGrown ds es → length es ≡ length ds
+HaveGrown-long : (ds es : List DomainView) → HaveGrown ds es → length es ≡ length ds
 HaveGrown-long [] [] grown = refl
 HaveGrown-long [] (e ∷ es) grown = absurd grown
 HaveGrown-long (d ∷ ds) [] grown = absurd grown
@@ -220,11 +220,11 @@ HaveGrown-long (d ∷ ds) (e ∷ es) grown = ap suc (HaveGrown-long ds es grown.
 module _ (old new : Pipeline) (kept : AllKept old.domains.items) (grown : HasGrown (line_of old) (line_of new)) (counts : List ℕ) (counts_are : counts ≡ counts_of (map shown old.domains.items)) where
   pub as_many : length counts ≡ length new.domains.items
   as_many =
-      ap length counts_are ∙ length-map (map shown old.domains.items) (λ (d : Shown). length d.ops)
+      ap length counts_are ∙ length-map (map shown old.domains.items) (λ (d : DomainView). length d.ops)
       ∙ sym (HaveGrown-long (map shown old.domains.items) (map shown new.domains.items) grown.domains) ∙ length-map new.domains.items shown
 
   pub taken_back : (ds : List Stored) (gone : ℕ) (ss : List Submission) (os : List Outcome) (fs : List (Option ℕ)) → map shown ds ≡ cut_all (map shown new.domains.items) counts → gone ≡ new.gone → ss ≡ new.waiting.items → os ≡ take (length old.outcomes.items) new.outcomes.items → fs ≡ cut_failures (length old.outcomes.items) new.failures.items
-      → ◌≡◌ {A = Line} (record { domains = map shown ds; gone = gone; waiting = ss; outcomes = os; failures = fs }) (line_of old)
+      → ◌≡◌ {A = PipelineView} (record { domains = map shown ds; gone = gone; waiting = ss; outcomes = os; failures = fs }) (line_of old)
   taken_back ds gone ss os fs cut as_gone same taken forgotten =
       let domains : map shown ds ≡ map shown old.domains.items = cut ∙ ap (cut_all (map shown new.domains.items)) counts_are ∙ cut_back (map shown old.domains.items) (map shown new.domains.items) (level old.domains.items kept) grown.domains in
       let outcomes : os ≡ old.outcomes.items = taken ∙ take-Grows old.outcomes.items new.outcomes.items grown.outcomes in

@@ -27,7 +27,7 @@ use Rattle.sal_history.specs.History.{decide_front, outcome, unmounted_of}
 use Rattle.sal_history.specs.Submissions.{Sent, done, failing, if_done, is_done, is_in}
 use Rattle.sal_hub.specs.declared.pipeline.Pipeline.{Pipeline}
 use Rattle.sal_hub.specs.Failures.{IsWithin, cut_failures, failure_of, failures_after, noted_in, up_to}
-use Rattle.sal_hub.specs.Lines.{AllKept, AreDecided, Grows, HasGrown, HaveGrown, IsSound, IsStored, Line, Shown, Stands, chains_in, commits_in, is_live_in, line_of, opened_as, receipts_in, sent_of, shorter, shown, world_in}
+use Rattle.sal_hub.specs.PipelineView.{AllKept, AreDecided, Grows, HasGrown, HaveGrown, IsSound, IsStored, PipelineView, DomainView, Stands, chains_in, commits_in, is_live_in, line_of, opened_as, receipts_in, sent_of, shorter, shown, world_in}
 use Rattle.sal_hub.proofs.Listed.{slice_get-drop, slice_get-set, slice_get_at}
 use Rattle.sal_hub.proofs.Members.{failing-decide, failing-fixed, failing-none}
 use Rattle.sal_hub.proofs.Noted.{cut_after, cut_fixed, length-after, noted_in-after}
@@ -35,30 +35,30 @@ use Rattle.sal_hub.proofs.Numbered.{added_receipt, receipt-decided, receipt-here
 
 -- ---- the world of the domains
 
-pub opening-at : (ds : List Shown) (n : ℕ) (d : Shown) (s : Store) → slice_get ds n ≡ Some d → opening_of (world_in ds) n s ≡ d.opening s
+pub opening-at : (ds : List DomainView) (n : ℕ) (d : DomainView) (s : Store) → slice_get ds n ≡ Some d → opening_of (world_in ds) n s ≡ d.opening s
 opening-at [] n d s e = cc
-opening-at (x ∷ ds) zero d Config e = ap (λ (y : Shown). y.opening Config) (same_Some x d e)
-opening-at (x ∷ ds) zero d Oper e = ap (λ (y : Shown). y.opening Oper) (same_Some x d e)
+opening-at (x ∷ ds) zero d Config e = ap (λ (y : DomainView). y.opening Config) (same_Some x d e)
+opening-at (x ∷ ds) zero d Oper e = ap (λ (y : DomainView). y.opening Oper) (same_Some x d e)
 opening-at (x ∷ ds) (suc n) d s e = opening-at ds n d s e
 
-pub table-at : (ds : List Shown) (n : ℕ) (d : Shown) → slice_get ds n ≡ Some d → table_of (world_in ds) n ≡ d.table
+pub table-at : (ds : List DomainView) (n : ℕ) (d : DomainView) → slice_get ds n ≡ Some d → table_of (world_in ds) n ≡ d.table
 table-at [] n d e = cc
-table-at (x ∷ ds) zero d e = ap (λ (y : Shown). y.table) (same_Some x d e)
+table-at (x ∷ ds) zero d e = ap (λ (y : DomainView). y.table) (same_Some x d e)
 table-at (x ∷ ds) (suc n) d e = table-at ds n d e
 
 -- the flag of a domain
-pub live-here : (ds : List Shown) (n : ℕ) (d : Shown) → slice_get ds n ≡ Some d → is_live_in ds n ≡ d.live
-live-here ds n d e = ap (λ (o : Option Shown). option_map_or (λ (x : Shown). x.live) o false) e
+pub live-here : (ds : List DomainView) (n : ℕ) (d : DomainView) → slice_get ds n ≡ Some d → is_live_in ds n ≡ d.live
+live-here ds n d e = ap (λ (o : Option DomainView). option_map_or (λ (x : DomainView). x.live) o false) e
 
-pub live-within : (ds : List Shown) (n : ℕ) → is_live_in ds n ≡ true → n < length ds
+pub live-within : (ds : List DomainView) (n : ℕ) → is_live_in ds n ≡ true → n < length ds
 live-within [] n live = cc
 live-within (x ∷ ds) zero live = omega arith
 live-within (x ∷ ds) (suc n) live = omega (arith, live-within ds n live)
 
 -- where one domain is replaced by one with its flag
-pub live-set : (ds : List Shown) (i : ℕ) (d e : Shown) → slice_get ds i ≡ Some d → e.live ≡ d.live → (n : ℕ) → is_live_in (set ds i e) n ≡ is_live_in ds n
+pub live-set : (ds : List DomainView) (i : ℕ) (d e : DomainView) → slice_get ds i ≡ Some d → e.live ≡ d.live → (n : ℕ) → is_live_in (set ds i e) n ≡ is_live_in ds n
 live-set [] i d e at same n = refl
-live-set (x ∷ ds) zero d e at same zero = same ∙ ap (λ (y : Shown). y.live) (sym (same_Some x d at))
+live-set (x ∷ ds) zero d e at same zero = same ∙ ap (λ (y : DomainView). y.live) (sym (same_Some x d at))
 live-set (x ∷ ds) zero d e at same (suc n) = refl
 live-set (x ∷ ds) (suc i) d e at same zero = refl
 live-set (x ∷ ds) (suc i) d e at same (suc n) = live-set ds i d e at same n
@@ -113,18 +113,18 @@ chain_of s = s.base.chain
 pub Grows-same : {X : Type 0} (xs : List X) → Grows xs xs
 Grows-same xs = ([], sym (append-nil xs))
 
-pub HaveGrown-same : (ds : List Shown) → HaveGrown ds ds
+pub HaveGrown-same : (ds : List DomainView) → HaveGrown ds ds
 HaveGrown-same [] = tt
 HaveGrown-same (d ∷ ds) = ((refl, Grows-same d.ops, Grows-same d.chains, Grows-same d.receipts), HaveGrown-same ds)
 
-pub HaveGrown-set : (ds : List Shown) (i : ℕ) (d e : Shown) → slice_get ds i ≡ Some d → e ≡ record d { ops = e.ops; chains = e.chains; receipts = e.receipts } → Grows d.ops e.ops → Grows d.chains e.chains → Grows d.receipts e.receipts → HaveGrown ds (set ds i e)
+pub HaveGrown-set : (ds : List DomainView) (i : ℕ) (d e : DomainView) → slice_get ds i ≡ Some d → e ≡ record d { ops = e.ops; chains = e.chains; receipts = e.receipts } → Grows d.ops e.ops → Grows d.chains e.chains → Grows d.receipts e.receipts → HaveGrown ds (set ds i e)
 HaveGrown-set [] i d e at same ops chains receipts = cc
 HaveGrown-set (x ∷ ds) zero d e at same ops chains receipts =
-    subst (λ (y : Shown). ((e ≡ record y { ops = e.ops; chains = e.chains; receipts = e.receipts }) × Grows y.ops e.ops × Grows y.chains e.chains × Grows y.receipts e.receipts) × HaveGrown ds ds) (sym (same_Some x d at)) ((same, ops, chains, receipts), HaveGrown-same ds)
+    subst (λ (y : DomainView). ((e ≡ record y { ops = e.ops; chains = e.chains; receipts = e.receipts }) × Grows y.ops e.ops × Grows y.chains e.chains × Grows y.receipts e.receipts) × HaveGrown ds ds) (sym (same_Some x d at)) ((same, ops, chains, receipts), HaveGrown-same ds)
 HaveGrown-set (x ∷ ds) (suc i) d e at same ops chains receipts = ((refl, Grows-same x.ops, Grows-same x.chains, Grows-same x.receipts), HaveGrown-set ds i d e at same ops chains receipts)
 
 -- the failures are no later than the outcomes
-pub cut_none_late : (ss : List Sent) (line : Line) → IsSound ss line → cut_failures (length line.outcomes) line.failures ≡ line.failures
+pub cut_none_late : (ss : List Sent) (line : PipelineView) → IsSound ss line → cut_failures (length line.outcomes) line.failures ≡ line.failures
 cut_none_late ss line sound =
     cut_fixed (length line.outcomes) line.failures (λ k.
     subst (λ (o : Option ℕ). up_to (length line.outcomes) o ≡ o) (sym (sound.failures k)) (failing-fixed (Some k) ss line.outcomes))
@@ -132,18 +132,18 @@ cut_none_late ss line sound =
 -- ---- what waits
 
 -- a submission that waits, among all
-pub sent_at : (ss : List Sent) (line : Line) → IsSound ss line → (i : ℕ) (s : Submission) → slice_get line.waiting i ≡ Some s → slice_get ss (line.gone + i) ≡ Some (sent_of s)
+pub sent_at : (ss : List Sent) (line : PipelineView) → IsSound ss line → (i : ℕ) (s : Submission) → slice_get line.waiting i ≡ Some s → slice_get ss (line.gone + i) ≡ Some (sent_of s)
 sent_at ss line sound i s at =
     sym (slice_get-drop ss line.gone i) ∙ ap (λ (xs : List Sent). slice_get xs i) (sym sound.waiting) ∙ slice_get-map sent_of line.waiting i ∙ ap (option_map sent_of) at
 
 -- how many there were
-pub count_is : (ss : List Sent) (line : Line) → IsSound ss line → line.gone + length line.waiting ≡ length ss
+pub count_is : (ss : List Sent) (line : PipelineView) → IsSound ss line → line.gone + length line.waiting ≡ length ss
 count_is ss line sound =
     let long : length line.waiting ≡ length ss - line.gone = sym (length-map line.waiting sent_of) ∙ ap length sound.waiting ∙ length-drop line.gone ss in
     omega (arith, long, sound.within, sound.behind)
 
 -- what is decided is let go
-pub sound-shorter : (ss : List Sent) (line : Line) → IsSound ss line → IsSound ss (shorter line)
+pub sound-shorter : (ss : List Sent) (line : PipelineView) → IsSound ss line → IsSound ss (shorter line)
 sound-shorter ss line sound =
     let more : ℕ = length line.outcomes - line.gone in
     let all : line.gone + more ≡ length line.outcomes = omega (arith, sound.behind) in
@@ -160,12 +160,12 @@ sound-shorter ss line sound =
       failures = sound.failures;
     }
 
-pub decided-shorter : (ss : List Sent) (old : Line) (n : ℕ) (new : Line) → AreDecided ss old n new → AreDecided ss old n (shorter new)
+pub decided-shorter : (ss : List Sent) (old : PipelineView) (n : ℕ) (new : PipelineView) → AreDecided ss old n new → AreDecided ss old n (shorter new)
 decided-shorter ss old n new was = record { sound = sound-shorter ss new was.sound; world = was.world; live = was.live; outcomes = was.outcomes; chains = was.chains }
 
 -- ---- one decision
 
-module _ (ss : List Sent) (line : Line) (sound : IsSound ss line) (k : ℕ) (place : line.gone + k ≡ length line.outcomes) (sub : Submission) (next : slice_get line.waiting k ≡ Some sub) (d : Domain) (kept : AreKept d.commits.items) (at : slice_get line.domains sub.domain ≡ Some (shown d)) where
+module _ (ss : List Sent) (line : PipelineView) (sound : IsSound ss line) (k : ℕ) (place : line.gone + k ≡ length line.outcomes) (sub : Submission) (next : slice_get line.waiting k ≡ Some sub) (d : Domain) (kept : AreKept d.commits.items) (at : slice_get line.domains sub.domain ≡ Some (shown d)) where
   stored : IsStored ss line sub.domain (shown d)
   stored = sound.domains sub.domain (shown d) at
 
@@ -209,7 +209,7 @@ module _ (ss : List Sent) (line : Line) (sound : IsSound ss line) (k : ℕ) (pla
   sent-here = ap (slice_get ss) (sym place) ∙ sent_at ss line sound k sub next
 
   module _ (o : Outcome) (is : o ≡ commit.decide (failure_of line.failures sub.chain) d sub) (d' : Domain) (after : Decides d sub o d') where
-    abbrev now : Line
+    abbrev now : PipelineView
     now = record {
       domains = set line.domains sub.domain (shown d');
       gone = line.gone;
@@ -235,7 +235,7 @@ module _ (ss : List Sent) (line : Line) (sound : IsSound ss line) (k : ℕ) (pla
         let number : 1 + length line.outcomes ≡ sub.receipt = omega (arith, its_number) in
         ap (λ (rs : List ℕ). 0 ∷ rs) (receipts-decide 1 n ss line.outcomes (sent_of sub) o sent-here) ∙ ap (λ r. receipts_in ss line n ++ added_receipt n (sent_of sub) o r) number
 
-    domain-now : (n : ℕ) (e : Shown) → slice_get now.domains n ≡ Some e → IsStored ss now n e
+    domain-now : (n : ℕ) (e : DomainView) → slice_get now.domains n ≡ Some e → IsStored ss now n e
     domain-now n e at_e = elim (slice_get-set line.domains sub.domain (shown d') n e at_e) [
       | inl w ↦
           subst (IsStored ss now n) w.1 (record {
@@ -309,7 +309,7 @@ module _ (ss : List Sent) (line : Line) (sound : IsSound ss line) (k : ℕ) (pla
     }
 
 -- nothing was decided
-pub grown_none : (ss : List Sent) (line : Line) → IsSound ss line → HasGrown line line
+pub grown_none : (ss : List Sent) (line : PipelineView) → IsSound ss line → HasGrown line line
 grown_none ss line sound = record { domains = HaveGrown-same line.domains; gone = refl; waiting = refl; outcomes = Grows-same line.outcomes; failures = cut_none_late ss line sound }
 
 -- ---- the same of a pipeline
@@ -348,9 +348,9 @@ module _ (p : Pipeline) (kept : AllKept p.domains.items) (ss : List Sent) (sound
         subst (HasGrown (line_of p)) (λ i. record { domains = sym domains i; gone = p.gone; waiting = p.waiting.items; outcomes = sym old i; failures = p.failures.items }) (grown_none ss (line_of p) sound)
 
     module _ (o : Outcome) (is : o ≡ commit.decide (failure_of p.failures.items sub.chain) d sub) (d' : Domain) (after : Decides d sub o d') (os : List Outcome) (os_is : os ≡ p.outcomes.items ++ o ∷ []) (fs : List (Option ℕ)) (fs_are : fs ≡ failures_after p.failures.items sub.chain (length p.outcomes.items + 1) (is_done o)) where
-      made : ◌≡◌ {A = Line} (record { domains = set (map shown p.domains.items) sub.domain (shown d'); gone = p.gone; waiting = p.waiting.items; outcomes = p.outcomes.items ++ o ∷ []; failures = failures_after p.failures.items sub.chain (length p.outcomes.items + 1) (is_done o) })
+      made : ◌≡◌ {A = PipelineView} (record { domains = set (map shown p.domains.items) sub.domain (shown d'); gone = p.gone; waiting = p.waiting.items; outcomes = p.outcomes.items ++ o ∷ []; failures = failures_after p.failures.items sub.chain (length p.outcomes.items + 1) (is_done o) })
           (record { domains = map shown (set p.domains.items sub.domain d'); gone = p.gone; waiting = p.waiting.items; outcomes = os; failures = fs })
-      made = λ i. let line : Line = record { domains = sym (map-set shown p.domains.items sub.domain d') i; gone = p.gone; waiting = p.waiting.items; outcomes = sym os_is i; failures = sym fs_are i } in line
+      made = λ i. let line : PipelineView = record { domains = sym (map-set shown p.domains.items sub.domain d') i; gone = p.gone; waiting = p.waiting.items; outcomes = sym os_is i; failures = sym fs_are i } in line
 
       pub decided_now : AreDecided ss (line_of p) 1 (record { domains = map shown (set p.domains.items sub.domain d'); gone = p.gone; waiting = p.waiting.items; outcomes = os; failures = fs })
       decided_now = subst (AreDecided ss (line_of p) 1) made (decided-one ss (line_of p) sound (index - p.gone) place sub next d kept_here at o is d' after)

@@ -19,7 +19,7 @@ use Rattle.sal_hub.specs.declared.listener.Listener.{Listener}
 use Rattle.sal_hub.specs.declared.listener.ListenerId.{ListenerId}
 use Rattle.sal_hub.specs.declared.listener_calls.Ask.{Ask}
 use Rattle.sal_hub.specs.declared.listeners.Listeners.{Listeners}
-use Rattle.sal_hub.specs.Known.{Known, more}
+use Rattle.sal_hub.specs.HubHistory.{HubHistory, more}
 use Rattle.sal_hub.specs.Listeners.{Adds, AreListeners, AreSame, IsListened, Removes, Tells, call_of, has_in, listening_of, live_in, new_of, refusal_by}
 use Rattle.sal_hub.specs.Tokens.{IsListener}
 use Rattle.sal_hub.proofs.Keeping.{or_false, or_true}
@@ -32,7 +32,7 @@ live_one l = cond l.live 1 0
 
 -- ---- what is looked up
 
-module _ (known : Known) (ls : Listeners) (are : AreListeners known ls) where
+module _ (known : HubHistory) (ls : Listeners) (are : AreListeners known ls) where
   abbrev answered : List Answered
   answered = history known.world known.log
 
@@ -81,7 +81,7 @@ module _ (known : Known) (ls : Listeners) (are : AreListeners known ls) where
 
 -- ---- one more
 
-module _ (known : Known) (ls : Listeners) (are : AreListeners known ls) (ask : Ask) (number : ℕ) (o : Opened)
+module _ (known : HubHistory) (ls : Listeners) (are : AreListeners known ls) (ask : Ask) (number : ℕ) (o : Opened)
     (reply : reply_to known.world (history known.world known.log) ask.client (call_of ask) ≡ Made (length (listeners (history known.world known.log)) + 1) ask.domain ask.path.now o)
     (there : ask.domain < length known.world) (reached : o.version ≤ length (commits (history known.world known.log) ask.domain))
     (ls' : Listeners) (adds : Adds ls (new_of ask o.version) ls') where
@@ -138,7 +138,7 @@ module _ (known : Known) (ls : Listeners) (are : AreListeners known ls) (ask : A
 
 -- ---- one that was told
 
-module _ (known : Known) (ls : Listeners) (are : AreListeners known ls) (client count n : ℕ) (l : Listener) (low : 0 < n) (at : slice_get ls.list.items (n - 1) ≡ Some l) (b : Batch)
+module _ (known : HubHistory) (ls : Listeners) (are : AreListeners known ls) (client count n : ℕ) (l : Listener) (low : 0 < n) (at : slice_get ls.list.items (n - 1) ≡ Some l) (b : Batch)
     (reply : reply_to known.world (history known.world known.log) client (Take n) ≡ Told l.domain b) (reached : b.to ≤ length (commits (history known.world known.log) l.domain))
     (ls' : Listeners) (told : Tells ls (n - 1) b.to ls') where
   abbrev earlier : List Answered
@@ -192,7 +192,7 @@ module _ (known : Known) (ls : Listeners) (are : AreListeners known ls) (client 
 
 -- ---- one that was removed
 
-module _ (known : Known) (ls : Listeners) (are : AreListeners known ls) (client count n : ℕ) (l : Listener) (low : 0 < n) (at : slice_get ls.list.items (n - 1) ≡ Some l) (live : l.live ≡ true)
+module _ (known : HubHistory) (ls : Listeners) (are : AreListeners known ls) (client count n : ℕ) (l : Listener) (low : 0 < n) (at : slice_get ls.list.items (n - 1) ≡ Some l) (live : l.live ≡ true)
     (reply : reply_to known.world (history known.world known.log) client (Unlisten n) ≡ Accepted)
     (ls' : Listeners) (gone : Removes ls (n - 1) ls') where
   abbrev up_to_now : List Answered
@@ -245,7 +245,7 @@ module _ (known : Known) (ls : Listeners) (are : AreListeners known ls) (client 
 
 -- ---- as they were
 
-pub same_listeners : (known : Known) (ls ls' : Listeners) → AreSame ls ls' → AreListeners known ls → AreListeners known ls'
+pub same_listeners : (known : HubHistory) (ls ls' : Listeners) → AreSame ls ls' → AreListeners known ls → AreListeners known ls'
 same_listeners known ls ls' same are = record {
   made = ap (map listening_of) same.list ∙ are.made;
   each = λ i l at. are.each i l (ap (λ (xs : List Listener). slice_get xs i) (sym same.list) ∙ at);

@@ -17,7 +17,7 @@ use Rattle.sal_closed.specs.Logs.{AreSentLawful, AreSound, IsSentLawful}
 use Rattle.sal_hub.specs.Current.{IsCurrent, answers}
 use Rattle.sal_hub.specs.Journals.{mark_at}
 use Rattle.sal_hub.specs.CommitReceipts.{commit_receipts}
-use Rattle.sal_hub.specs.Lines.{IsSound, Line, Stands, chains_in, commits_in, is_live_in, receipts_in, sent_of, world_in}
+use Rattle.sal_hub.specs.PipelineView.{IsSound, PipelineView, Stands, chains_in, commits_in, is_live_in, receipts_in, sent_of, world_in}
 use Rattle.sal_hub.proofs.Deciding.{count_is, done-submit}
 use Rattle.sal_hub.proofs.Histories.{chains-push, live-quiet, outcomes-push, sents-push, spent-push}
 use Rattle.sal_hub.proofs.Listed.{last_or_before}
@@ -36,16 +36,16 @@ pub none_more : (n : ℕ) → n ≡ n + 0
 none_more n = omega arith
 
 -- the commits that are kept are the log's
-pub commits-current : (log : List Entry) (marks : List Bool) (line : Line) (n : ℕ) → IsCurrent log marks line → commits_in (sents (answers log line)) line n ≡ commits (answers log line) n
+pub commits-current : (log : List Entry) (marks : List Bool) (line : PipelineView) (n : ℕ) → IsCurrent log marks line → commits_in (sents (answers log line)) line n ≡ commits (answers log line) n
 commits-current log marks line n was = λ i. done_ops n (sents (answers log line)) (was.outcomes i)
 
-pub chains-current : (log : List Entry) (marks : List Bool) (line : Line) (n : ℕ) → IsCurrent log marks line → chains_in (sents (answers log line)) line n ≡ done_chains n (sents (answers log line)) (outcomes (answers log line))
+pub chains-current : (log : List Entry) (marks : List Bool) (line : PipelineView) (n : ℕ) → IsCurrent log marks line → chains_in (sents (answers log line)) line n ≡ done_chains n (sents (answers log line)) (outcomes (answers log line))
 chains-current log marks line n was = λ i. done_chains n (sents (answers log line)) (was.outcomes i)
 
-pub receipts-current : (log : List Entry) (marks : List Bool) (line : Line) (n : ℕ) → IsCurrent log marks line → receipts_in (sents (answers log line)) line n ≡ commit_receipts n (sents (answers log line)) (outcomes (answers log line))
+pub receipts-current : (log : List Entry) (marks : List Bool) (line : PipelineView) (n : ℕ) → IsCurrent log marks line → receipts_in (sents (answers log line)) line n ≡ commit_receipts n (sents (answers log line)) (outcomes (answers log line))
 receipts-current log marks line n was = λ i. commit_receipts n (sents (answers log line)) (was.outcomes i)
 
-module _ (log : List Entry) (marks : List Bool) (line : Line) (was : IsCurrent log marks line) (e : Entry) where
+module _ (log : List Entry) (marks : List Bool) (line : PipelineView) (was : IsCurrent log marks line) (e : Entry) where
   abbrev world : List Domain
   world = world_in line.domains
 
@@ -56,17 +56,17 @@ module _ (log : List Entry) (marks : List Bool) (line : Line) (was : IsCurrent l
   reply = reply_to world answered e.client e.call
 
   -- the same domains are live, where the call is none on mounts
-  pub still_live : (line' : Line) → mount_call e.call ≡ None → ((n : ℕ) → is_live_in line'.domains n ≡ is_live_in line.domains n) → (n : ℕ) → is_live_in line'.domains n ≡ is_live (world_in line.domains) (history (world_in line.domains) (log ++ e ∷ [])) n
+  pub still_live : (line' : PipelineView) → mount_call e.call ≡ None → ((n : ℕ) → is_live_in line'.domains n ≡ is_live_in line.domains n) → (n : ℕ) → is_live_in line'.domains n ≡ is_live (world_in line.domains) (history (world_in line.domains) (log ++ e ∷ [])) n
   still_live line' unmounted same n = same n ∙ was.live n ∙ sym (live-quiet world log e n unmounted)
 
   -- what the call submits, if anything: the submissions with it, and its operations, which are lawful
-  abbrev pub Adds : Line → Type 0
+  abbrev pub Adds : PipelineView → Type 0
   Adds line' =
       IsSound (sents (answers log line) ++ option_to_list (sent_by (answers log line) e.call (reply_to (world_in line.domains) (answers log line) e.client e.call))) line'
       × ((s : Sent) → sent_by (answers log line) e.call (reply_to (world_in line.domains) (answers log line) e.client e.call) ≡ Some s → IsSentLawful (world_in line.domains) s)
 
   -- a call that submits nothing
-  pub unsent : (line' : Line) → sent_by (answers log line) e.call (reply_to (world_in line.domains) (answers log line) e.client e.call) ≡ None → IsSound (sents (answers log line)) line'
+  pub unsent : (line' : PipelineView) → sent_by (answers log line) e.call (reply_to (world_in line.domains) (answers log line) e.client e.call) ≡ None → IsSound (sents (answers log line)) line'
       → Adds line'
   unsent line' none sound = (
     subst (λ (ss : List Sent). IsSound ss line') (sym (append-nil (sents answered)) ∙ ap (λ (o : Option Sent). sents answered ++ option_to_list o) (sym none)) sound,
@@ -85,7 +85,7 @@ module _ (log : List Entry) (marks : List Bool) (line : Line) (was : IsCurrent l
         | inr w ↦ new s (is ∙ ap Some w.1)
       ]
 
-  pub pushed : (line' : Line) (marks' : List Bool) → Adds line' → world_in line'.domains ≡ world_in line.domains
+  pub pushed : (line' : PipelineView) (marks' : List Bool) → Adds line' → world_in line'.domains ≡ world_in line.domains
       → line'.outcomes ≡ line.outcomes ++ decided_by (world_in line.domains) (answers log line) e.call
       → ((k : ℕ) → mark_at marks' k ≡ (mark_at marks k || spends e.call (reply_to (world_in line.domains) (answers log line) e.client e.call) k))
       → length line'.failures ≡ length line.failures + length (option_to_list (opened_chain e.call (reply_to (world_in line.domains) (answers log line) e.client e.call)))
@@ -122,8 +122,8 @@ module _ (log : List Entry) (marks : List Bool) (line : Line) (was : IsCurrent l
 
 -- ---- a submission more
 
-module _ (ss : List Sent) (line : Line) (sound : IsSound ss line) (s : Submission) (stands : Stands ss line s) (number : s.receipt ≡ line.gone + length line.waiting + 1) where
-  abbrev longer : Line
+module _ (ss : List Sent) (line : PipelineView) (sound : IsSound ss line) (s : Submission) (stands : Stands ss line s) (number : s.receipt ≡ line.gone + length line.waiting + 1) where
+  abbrev longer : PipelineView
   longer = record { domains = line.domains; gone = line.gone; waiting = line.waiting ++ s ∷ []; outcomes = line.outcomes; failures = line.failures }
 
   abbrev all : List Sent
@@ -168,5 +168,5 @@ module _ (ss : List Sent) (line : Line) (sound : IsSound ss line) (s : Submissio
   }
 
 -- how many submissions and outcomes there are
-pub length-submissions : (log : List Entry) (marks : List Bool) (line : Line) → IsCurrent log marks line → line.gone + length line.waiting ≡ length (sents (answers log line))
+pub length-submissions : (log : List Entry) (marks : List Bool) (line : PipelineView) → IsCurrent log marks line → line.gone + length line.waiting ≡ length (sents (answers log line))
 length-submissions log marks line was = count_is (sents (answers log line)) line was.sound

@@ -18,7 +18,7 @@ use Rattle.sal_history.specs.Listeners.{Listening, brings_to, is_removed, listen
 use Rattle.sal_hub.specs.declared.listener.Listener.{Listener}
 use Rattle.sal_hub.specs.declared.listener.ListenerId.{ListenerId}
 use Rattle.sal_hub.specs.declared.listeners.Listeners.{Listeners}
-use Rattle.sal_hub.specs.Known.{Known, more}
+use Rattle.sal_hub.specs.HubHistory.{HubHistory, more}
 use Rattle.sal_hub.specs.Listeners.{AreListeners, IsListened, listening_of, live_in}
 use Rattle.sal_hub.specs.Tokens.{IsListener}
 use Rattle.sal_hub.proofs.Histories.{history-push, listed, now_of}
@@ -91,12 +91,12 @@ module _ (world : List Domain) (log : List Entry) (e : Entry) where
 
 -- ---- tokens last
 
-pub made_last : (known : Known) (e : Entry) (n : ℕ) (l : Listening) → listener_at (history known.world known.log) n ≡ Some l → listener_at (history known.world (known.log ++ e ∷ [])) n ≡ Some l
+pub made_last : (known : HubHistory) (e : Entry) (n : ℕ) (l : Listening) → listener_at (history known.world known.log) n ≡ Some l → listener_at (history known.world (known.log ++ e ∷ [])) n ≡ Some l
 made_last known e n l was =
     ap (λ (xs : List Listening). slice_get xs (n - 1)) (made-push known.world known.log e)
     ∙ slice_get_more (listeners (history known.world known.log)) (option_to_list (listens e.client e.call (reply_to known.world (history known.world known.log) e.client e.call))) (n - 1) l was
 
-pub named_last : (known : Known) (e : Entry) (id : ListenerId) → IsListener known id → IsListener (more known e) id
+pub named_last : (known : HubHistory) (e : Entry) (id : ListenerId) → IsListener known id → IsListener (more known e) id
 named_last known e id was = (was.0, last (listener_at (history known.world known.log) id.number) refl was.1)
   where
     last : (o : Option Listening) → listener_at (history known.world known.log) id.number ≡ o → option_map (λ (l : Listening). l.domain) o ≡ Some id.domain
@@ -106,7 +106,7 @@ named_last known e id was = (was.0, last (listener_at (history known.world known
 
 -- ---- what is kept
 
-module _ (known : Known) (e : Entry) (ls : Listeners) (are : AreListeners known ls) where
+module _ (known : HubHistory) (e : Entry) (ls : Listeners) (are : AreListeners known ls) where
   abbrev answered : List Answered
   answered = history known.world known.log
 

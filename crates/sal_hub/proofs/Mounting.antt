@@ -29,8 +29,8 @@ use Rattle.sal_hub.specs.declared.pipeline.Pipeline.{Pipeline}
 use Rattle.sal_hub.specs.Answers.{Fails, Made}
 use Rattle.sal_hub.specs.Current.{IsCurrent, IsKept, answers, known_of}
 use Rattle.sal_hub.specs.Journals.{Noted, mark_at}
-use Rattle.sal_hub.specs.Known.{Known}
-use Rattle.sal_hub.specs.Lines.{AllKept, IsSound, Line, Shown, is_live_in, line_of, opened_as, set_live, shown, with_live, world_in}
+use Rattle.sal_hub.specs.HubHistory.{HubHistory}
+use Rattle.sal_hub.specs.PipelineView.{AllKept, IsSound, PipelineView, DomainView, is_live_in, line_of, opened_as, set_live, shown, with_live, world_in}
 use Rattle.sal_hub.specs.Mounted.{AreMounted, Enters, IsJotted}
 use Rattle.sal_hub.proofs.Histories.{mounting-push}
 use Rattle.sal_hub.proofs.Keeping.{none_more, or_false, pushed, unsent}
@@ -42,19 +42,19 @@ use Rattle.sal_hub.proofs.Served.{is_serving, serving_undecided, serving_unopene
 next_eq : (i n : ℕ) → nat_eq (suc i) (suc n) ≡ nat_eq i n
 next_eq i n = elim (nat_eq i n) as (λ b. nat_eq i n ≡ b → nat_eq (suc i) (suc n) ≡ b) [ true ↦ λ e. grind (arith, nat_tests) | false ↦ λ e. grind (arith, nat_tests) ] refl
 
-live-with : (ds : List Shown) (i : ℕ) (b : Bool) → i < length ds → (n : ℕ) → is_live_in (with_live ds i b) n ≡ (if nat_eq i n then b else is_live_in ds n)
+live-with : (ds : List DomainView) (i : ℕ) (b : Bool) → i < length ds → (n : ℕ) → is_live_in (with_live ds i b) n ≡ (if nat_eq i n then b else is_live_in ds n)
 live-with [] i b h n = absurd (omega (arith, h))
 live-with (d ∷ ds) zero b h zero = let own : nat_eq 0 0 ≡ true = grind (arith, nat_tests) in ap (λ t. if t then b else d.live) (sym own)
 live-with (d ∷ ds) zero b h (suc n) = let other : nat_eq 0 (suc n) ≡ false = grind (arith, nat_tests) in ap (λ t. if t then b else is_live_in ds n) (sym other)
 live-with (d ∷ ds) (suc i) b h zero = let other : nat_eq (suc i) 0 ≡ false = grind (arith, nat_tests) in ap (λ t. if t then b else d.live) (sym other)
 live-with (d ∷ ds) (suc i) b h (suc n) = live-with ds i b (omega (arith, h)) n ∙ ap (λ t. if t then b else is_live_in ds n) (sym (next_eq i n))
 
-world-with : (ds : List Shown) (i : ℕ) (b : Bool) → world_in (with_live ds i b) ≡ world_in ds
+world-with : (ds : List DomainView) (i : ℕ) (b : Bool) → world_in (with_live ds i b) ≡ world_in ds
 world-with [] i b = refl
 world-with (d ∷ ds) zero b = refl
 world-with (d ∷ ds) (suc i) b = ap (λ (w : List Domain). opened_as d ∷ w) (world-with ds i b)
 
-length-with : (ds : List Shown) (i : ℕ) (b : Bool) → length (with_live ds i b) ≡ length ds
+length-with : (ds : List DomainView) (i : ℕ) (b : Bool) → length (with_live ds i b) ≡ length ds
 length-with [] i b = refl
 length-with (d ∷ ds) zero b = refl
 length-with (d ∷ ds) (suc i) b = ap suc (length-with ds i b)
@@ -62,26 +62,26 @@ length-with (d ∷ ds) (suc i) b = ap suc (length-with ds i b)
 -- as code writes it
 shown-with : (ds : List Stored) (i : ℕ) (b : Bool) (d d' : Stored) → i < length ds → d ≡ get_or ds i d → shown d' ≡ record (shown d) { live = b } → map shown (set ds i d') ≡ with_live (map shown ds) i b
 shown-with [] i b d d' h is same = absurd (omega (arith, h))
-shown-with (x ∷ ds) zero b d d' h is same = ap (λ (e : Shown). e ∷ map shown ds) (same ∙ (λ j. (let e : Shown = record (shown (is j)) { live = b } in e)))
-shown-with (x ∷ ds) (suc i) b d d' h is same = ap (λ (es : List Shown). shown x ∷ es) (shown-with ds i b d d' (omega (arith, h)) is same)
+shown-with (x ∷ ds) zero b d d' h is same = ap (λ (e : DomainView). e ∷ map shown ds) (same ∙ (λ j. (let e : DomainView = record (shown (is j)) { live = b } in e)))
+shown-with (x ∷ ds) (suc i) b d d' h is same = ap (λ (es : List DomainView). shown x ∷ es) (shown-with ds i b d d' (omega (arith, h)) is same)
 
 pub line_with : (p : Pipeline) (i : ℕ) (b : Bool) (d d' : Stored) → i < length p.domains.items → d ≡ get_or p.domains.items i d → shown d' ≡ record (shown d) { live = b }
-    → ◌≡◌ {A = Line} (record { domains = map shown (set p.domains.items i d'); gone = p.gone; waiting = p.waiting.items; outcomes = p.outcomes.items; failures = p.failures.items }) (set_live (line_of p) i b)
+    → ◌≡◌ {A = PipelineView} (record { domains = map shown (set p.domains.items i d'); gone = p.gone; waiting = p.waiting.items; outcomes = p.outcomes.items; failures = p.failures.items }) (set_live (line_of p) i b)
 line_with p i b d d' h is same = λ j. record { domains = shown-with p.domains.items i b d d' h is same j; gone = p.gone; waiting = p.waiting.items; outcomes = p.outcomes.items; failures = p.failures.items }
 
 -- nothing else of a domain changes
-at-with : (ds : List Shown) (i : ℕ) (b : Bool) (n : ℕ) (e : Shown) → slice_get (with_live ds i b) n ≡ Some e → (d : Shown) × (slice_get ds n ≡ Some d) × (e ≡ record d { live = e.live })
+at-with : (ds : List DomainView) (i : ℕ) (b : Bool) (n : ℕ) (e : DomainView) → slice_get (with_live ds i b) n ≡ Some e → (d : DomainView) × (slice_get ds n ≡ Some d) × (e ≡ record d { live = e.live })
 at-with [] i b n e at = cc
 at-with (d ∷ ds) zero b zero e at = (
-    let here : Shown = record d { live = b } in
+    let here : DomainView = record d { live = b } in
     let same : here ≡ e = same_Some here e at in
-    (d, refl, sym same ∙ ap (λ (x : Shown). let y : Shown = record d { live = x.live } in y) same)
+    (d, refl, sym same ∙ ap (λ (x : DomainView). let y : DomainView = record d { live = x.live } in y) same)
     )
 at-with (d ∷ ds) zero b (suc n) e at = (e, at, refl)
 at-with (d ∷ ds) (suc i) b zero e at = (e, at, refl)
 at-with (d ∷ ds) (suc i) b (suc n) e at = at-with ds i b n e at
 
-sound-with : (ss : List Sent) (line : Line) (i : ℕ) (b : Bool) → IsSound ss line → IsSound ss (set_live line i b)
+sound-with : (ss : List Sent) (line : PipelineView) (i : ℕ) (b : Bool) → IsSound ss line → IsSound ss (set_live line i b)
 sound-with ss line i b sound = record {
   some = omega (arith, sound.some, length-with line.domains i b);
   within = sound.within;
@@ -90,10 +90,10 @@ sound-with ss line i b sound = record {
       let (d, was, same) = at-with line.domains i b n e at in
       let had = sound.domains n d was in
       record {
-        number = ap (λ (x : Shown). x.number) same ∙ had.number;
-        commits = ap (λ (x : Shown). x.ops) same ∙ had.commits;
-        chains = ap (λ (x : Shown). x.chains) same ∙ had.chains;
-        receipts = ap (λ (x : Shown). x.receipts) same ∙ had.receipts;
+        number = ap (λ (x : DomainView). x.number) same ∙ had.number;
+        commits = ap (λ (x : DomainView). x.ops) same ∙ had.commits;
+        chains = ap (λ (x : DomainView). x.chains) same ∙ had.chains;
+        receipts = ap (λ (x : DomainView). x.receipts) same ∙ had.receipts;
       }
       );
   waiting = sound.waiting;
@@ -171,11 +171,11 @@ module _ (journal journal' : Noted) (p : Pipeline) (is : IsKept journal p) (r r'
       pub answer_now : length journal.log < 1000000 → Made (known_of journal p) (known_of journal' p') (record { client = client; number = entries_of journal.log client; call = call }) (mount_reply reply)
       answer_now room = record {
         room = room;
-        log = λ i. let known : Known = record { world = same i; log = entered.log i } in known;
+        log = λ i. let known : HubHistory = record { world = same i; log = entered.log i } in known;
         reply = by_call w answered client call m asks ∙ ap mount_reply reply_is;
       }
 
-      current_now : (line : Line) → line ≡ line_of p' → IsSound (sents (answers journal.log (line_of p))) line → line.outcomes ≡ p.outcomes.items → length line.failures ≡ length p.failures.items
+      current_now : (line : PipelineView) → line ≡ line_of p' → IsSound (sents (answers journal.log (line_of p))) line → line.outcomes ≡ p.outcomes.items → length line.failures ≡ length p.failures.items
           → ((n : ℕ) → is_live_in line.domains n ≡ is_up (before ++ record { call = m; reply = reply } ∷ []) n) → IsCurrent journal'.log journal'.marks (line_of p')
       current_now line is_line sound decided failed lives =
           let on : is_serving call ≡ true = serves call m asks in
@@ -184,7 +184,7 @@ module _ (journal journal' : Noted) (p : Pipeline) (is : IsKept journal p) (r r'
           (subst (IsCurrent (journal.log ++ entry ∷ []) journal'.marks) is_line
           (pushed journal.log journal.marks (line_of p) is.current entry line journal'.marks
           (unsent journal.log journal.marks (line_of p) is.current entry line (serving_unsent answered call on shared) sound)
-          (ap (λ (l : Line). world_in l.domains) is_line ∙ same)
+          (ap (λ (l : PipelineView). world_in l.domains) is_line ∙ same)
           (decided ∙ sym (append-nil p.outcomes.items) ∙ ap (λ os. p.outcomes.items ++ os) (sym (serving_undecided w answered call on)))
           (λ k. entered.marks k ∙ sym (or_false (mark_at journal.marks k)) ∙ ap (λ b. mark_at journal.marks k || b) (sym (serving_unspent call on shared k)))
           (failed ∙ none_more (length p.failures.items) ∙ ap (λ (o : Option ℕ). length p.failures.items + length (option_to_list o)) (sym (serving_unopened call on shared)))
@@ -204,7 +204,7 @@ module _ (journal journal' : Noted) (p : Pipeline) (is : IsKept journal p) (r r'
     module _ (entered : IsJotted journal journal' client call) (p' : Pipeline) (kept : AllKept p'.domains.items) (domain : ℕ) (live : Bool) (line : line_of p' ≡ set_live (line_of p) domain live) (low : domain < length p.domains.items)
         (lives : (n : ℕ) → is_up (before ++ record { call = m; reply = reply } ∷ []) n ≡ (if nat_eq domain n then live else is_live w answered n)) where
       same_world : world_in (line_of p').domains ≡ w
-      same_world = ap (λ (l : Line). world_in l.domains) line ∙ world-with (line_of p).domains domain live
+      same_world = ap (λ (l : PipelineView). world_in l.domains) line ∙ world-with (line_of p).domains domain live
 
       flags : (n : ℕ) → is_live_in (with_live (line_of p).domains domain live) n ≡ is_up (before ++ record { call = m; reply = reply } ∷ []) n
       flags n =
@@ -215,7 +215,7 @@ module _ (journal journal' : Noted) (p : Pipeline) (is : IsKept journal p) (r r'
       set_kept = record {
         kept = kept;
         current = current_now entered p' same_world (set_live (line_of p) domain live) (sym line) (sound-with (sents (answers journal.log (line_of p))) (line_of p) domain live is.current.sound) refl refl flags;
-        let_go = ap (λ (l : Line). l.gone) line ∙ is.let_go ∙ ap (λ (l : Line). length l.outcomes) (sym line);
+        let_go = ap (λ (l : PipelineView). l.gone) line ∙ is.let_go ∙ ap (λ (l : PipelineView). length l.outcomes) (sym line);
       }
 
 -- ---- a call that is refused, or for which memory is wanting
@@ -273,10 +273,10 @@ module _ (journal journal' : Noted) (p : Pipeline) (is : IsKept journal p) (r r'
     mount_kept = set_kept journal journal' p is r r' are client (Mount path device) (asked.Mount path device) refl Accepted makes entered p' kept device true line mount_low (live-mounted so_far path device fresh)
 
     pub mount_mounts : AreMounted (known_of journal' p') r'
-    mount_mounts = mounts_now journal journal' p is r r' are client (Mount path device) (asked.Mount path device) refl Accepted makes entered p' (ap (λ (l : Line). world_in l.domains) line ∙ world-with (line_of p).domains device true)
+    mount_mounts = mounts_now journal journal' p is r r' are client (Mount path device) (asked.Mount path device) refl Accepted makes entered p' (ap (λ (l : PipelineView). world_in l.domains) line ∙ world-with (line_of p).domains device true)
 
     pub mount_answer : length journal.log < 1000000 → Made (known_of journal p) (known_of journal' p') (record { client = client; number = entries_of journal.log client; call = Mount path device }) (mount_reply Accepted)
-    mount_answer room = answer_now journal journal' p is r r' are client (Mount path device) (asked.Mount path device) refl Accepted makes entered p' (ap (λ (l : Line). world_in l.domains) line ∙ world-with (line_of p).domains device true) room
+    mount_answer room = answer_now journal journal' p is r r' are client (Mount path device) (asked.Mount path device) refl Accepted makes entered p' (ap (λ (l : PipelineView). world_in l.domains) line ∙ world-with (line_of p).domains device true) room
 
 -- ---- unmount
 
@@ -301,7 +301,7 @@ module _ (journal journal' : Noted) (p : Pipeline) (is : IsKept journal p) (r r'
     unmount_kept = set_kept journal journal' p is r r' are client (Unmount domain) (asked.Unmount domain) refl Accepted makes entered p' kept domain false line unmount_low (live-unmounted earlier domain was_live.0)
 
     pub unmount_mounts : AreMounted (known_of journal' p') r'
-    unmount_mounts = mounts_now journal journal' p is r r' are client (Unmount domain) (asked.Unmount domain) refl Accepted makes entered p' (ap (λ (l : Line). world_in l.domains) line ∙ world-with (line_of p).domains domain false)
+    unmount_mounts = mounts_now journal journal' p is r r' are client (Unmount domain) (asked.Unmount domain) refl Accepted makes entered p' (ap (λ (l : PipelineView). world_in l.domains) line ∙ world-with (line_of p).domains domain false)
 
     pub unmount_answer : length journal.log < 1000000 → Made (known_of journal p) (known_of journal' p') (record { client = client; number = entries_of journal.log client; call = Unmount domain }) (mount_reply Accepted)
-    unmount_answer room = answer_now journal journal' p is r r' are client (Unmount domain) (asked.Unmount domain) refl Accepted makes entered p' (ap (λ (l : Line). world_in l.domains) line ∙ world-with (line_of p).domains domain false) room
+    unmount_answer room = answer_now journal journal' p is r r' are client (Unmount domain) (asked.Unmount domain) refl Accepted makes entered p' (ap (λ (l : PipelineView). world_in l.domains) line ∙ world-with (line_of p).domains domain false) room

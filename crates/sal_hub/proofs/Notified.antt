@@ -23,7 +23,7 @@ use Rattle.sal_note.proofs.Counted.{subscribers-are-callers}
 use Rattle.sal_hub.specs.Answers.{Fails, Made, limit}
 use Rattle.sal_hub.specs.Current.{IsKept, known_of}
 use Rattle.sal_hub.specs.Journals.{Noted, jotted, mark_at, taken_back}
-use Rattle.sal_hub.specs.Known.{Known, entry_of}
+use Rattle.sal_hub.specs.HubHistory.{HubHistory, entry_of}
 use Rattle.sal_hub.specs.Notified.{AreNoted, left_by}
 use Rattle.sal_hub.proofs.Beginning.{made_now, quiet_kept}
 use Rattle.sal_hub.proofs.Histories.{length-history, note-push}
@@ -80,13 +80,13 @@ has_room j p b noted room note =
 -- ---- a call of a client
 
 -- what a call leaves that answers with a fault
-pub record Failed (known : Known) (j : Noted) (p : Pipeline) (b : Boxes) (e : Entry) (fault : NoteFault) : Type 0 where
+pub record Failed (known : HubHistory) (j : Noted) (p : Pipeline) (b : Boxes) (e : Entry) (fault : NoteFault) : Type 0 where
   pub kept : IsKept j p
   pub noted : AreNoted (known_of j p) b
   pub answer : Fails known (known_of j p) e (note_fault fault)
 
 module _ (j j' : Noted) (p : Pipeline) (kept : IsKept j p) (client : ℕ) (c : NoteCall) (log : j'.log ≡ jotted j.log client (shared c)) (marks : (k : ℕ) → mark_at j'.marks k ≡ mark_at j.marks k) where
-  abbrev old : Known
+  abbrev old : HubHistory
   old = known_of j p
 
   abbrev answered : List Answered

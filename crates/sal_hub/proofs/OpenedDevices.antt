@@ -25,7 +25,7 @@ use Rattle.sal_hub.specs.declared.pipeline.Pipeline.{Pipeline}
 use Rattle.sal_hub.specs.Current.{IsCurrent, IsKept}
 use Rattle.sal_hub.specs.Failures.{noted_in}
 use Rattle.sal_hub.specs.Journals.{Noted}
-use Rattle.sal_hub.specs.Lines.{AllKept, Line, Shown, is_live_in, line_of, shown, world_in}
+use Rattle.sal_hub.specs.PipelineView.{AllKept, PipelineView, DomainView, is_live_in, line_of, shown, world_in}
 use Rattle.sal_hub.specs.Opened.{shown_from, shown_of}
 use Rattle.sal_hub.specs.Openings.{AreClosedDevices, domain_of, numbered, opening_fault, state_row, world_of}
 
@@ -72,11 +72,11 @@ length-shown : (n : ℕ) (devices : List Device) → length (shown_from n device
 length-shown n [] = refl
 length-shown n (device ∷ devices) = ap suc (length-shown (n + 1) devices)
 
-shown_at : (n : ℕ) (devices : List Device) (k : ℕ) (d : Shown) → slice_get (shown_from n devices) k ≡ Some d → (d.number ≡ n + k) × (d.ops ≡ []) × (d.chains ≡ []) × (d.receipts ≡ 0 ∷ [])
+shown_at : (n : ℕ) (devices : List Device) (k : ℕ) (d : DomainView) → slice_get (shown_from n devices) k ≡ Some d → (d.number ≡ n + k) × (d.ops ≡ []) × (d.chains ≡ []) × (d.receipts ≡ 0 ∷ [])
 shown_at n [] k d e = cc
 shown_at n (device ∷ devices) zero d e =
     let here : n ≡ n + 0 = omega arith in
-    subst (λ (x : Shown). (x.number ≡ n + 0) × (x.ops ≡ []) × (x.chains ≡ []) × (x.receipts ≡ 0 ∷ [])) (same_Some (shown_of n device) d e) (here, refl, refl, refl)
+    subst (λ (x : DomainView). (x.number ≡ n + 0) × (x.ops ≡ []) × (x.chains ≡ []) × (x.receipts ≡ 0 ∷ [])) (same_Some (shown_of n device) d e) (here, refl, refl, refl)
 shown_at n (device ∷ devices) (suc k) d e =
     let next : n + 1 + k ≡ n + suc k = omega arith in
     let rest = shown_at (n + 1) devices k d e in
@@ -109,7 +109,7 @@ or_none false = refl
 
 pub opened_kept : (devices : List Device) (p : Pipeline) (journal : Noted) → 1 ≤ length devices → AreSound (world_of devices) → AllKept p.domains.items → map shown p.domains.items ≡ shown_from 0 devices → p.gone ≡ 0 → p.waiting.items ≡ [] → p.outcomes.items ≡ [] → p.failures.items ≡ [] → journal ≡ record { log = []; marks = [] } → IsKept journal p
 opened_kept devices p journal some sound kept are zeroth none undecided unopened empty =
-    let line : Line = record { domains = shown_from 0 devices; gone = 0; waiting = []; outcomes = []; failures = [] } in
+    let line : PipelineView = record { domains = shown_from 0 devices; gone = 0; waiting = []; outcomes = []; failures = [] } in
     let start : IsCurrent [] [] line = record {
       sound = record {
         some = omega (arith, some, length-shown 0 devices);
@@ -128,7 +128,7 @@ opened_kept devices p journal some sound kept are zeroth none undecided unopened
       lawful = λ i s at. cc;
       openings = subst AreSound (sym (world-shown 0 devices)) sound;
     } in
-    let same : ◌≡◌ {A = Line} line (line_of p) = λ i. record { domains = sym are i; gone = sym zeroth i; waiting = sym none i; outcomes = sym undecided i; failures = sym unopened i } in
+    let same : ◌≡◌ {A = PipelineView} line (line_of p) = λ i. record { domains = sym are i; gone = sym zeroth i; waiting = sym none i; outcomes = sym undecided i; failures = sym unopened i } in
     record {
       kept = kept;
       current = subst (λ (j : Noted). IsCurrent j.log j.marks (line_of p)) (sym empty) (subst (IsCurrent [] []) same start);

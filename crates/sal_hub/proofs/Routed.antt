@@ -28,7 +28,7 @@ use Rattle.sal_hub.specs.declared.pipeline.Pipeline.{Pipeline}
 use Rattle.sal_hub.specs.Answers.{Fails, Made}
 use Rattle.sal_hub.specs.Current.{IsKept, known_of}
 use Rattle.sal_hub.specs.Journals.{Noted, jotted, mark_at, taken_back}
-use Rattle.sal_hub.specs.Known.{Known, entry_of, more}
+use Rattle.sal_hub.specs.HubHistory.{HubHistory, entry_of, more}
 use Rattle.sal_hub.specs.Routed.{AreRouted, left_by, collect_reply, request_reply}
 use Rattle.sal_hub.specs.Tokens.{IsCall}
 use Rattle.sal_hub.proofs.Beginning.{made_now, quiet_kept}
@@ -83,13 +83,13 @@ serving c = refl
 -- ---- a call of a client
 
 -- what a call leaves that answers with a fault
-pub record Failed (known : Known) (j : Noted) (p : Pipeline) (r : Routes) (e : Entry) (fault : RpcFault) : Type 0 where
+pub record Failed (known : HubHistory) (j : Noted) (p : Pipeline) (r : Routes) (e : Entry) (fault : RpcFault) : Type 0 where
   pub kept : IsKept j p
   pub routed : AreRouted (known_of j p) r
   pub answer : Fails known (known_of j p) e (rpc_fault fault)
 
 module _ (j j' : Noted) (p : Pipeline) (kept : IsKept j p) (client : ℕ) (c : RpcCall) (log : j'.log ≡ jotted j.log client (shared c)) (marks : (k : ℕ) → mark_at j'.marks k ≡ mark_at j.marks k) where
-  abbrev old : Known
+  abbrev old : HubHistory
   old = known_of j p
 
   abbrev answered : List Answered
@@ -152,7 +152,7 @@ next_reply_is None = refl
 next_reply_is (Some request) = refl
 
 -- what a collection is answered, of a request that was made
-pub collect_reply_is : (known : Known) (id : CallId) (o : Option (List Row)) → IsCall known id → rpc_reply (unwrap_or (rpc_of (history known.world known.log) id.number) 0) (output o) ≡ collect_reply id.rpc o
+pub collect_reply_is : (known : HubHistory) (id : CallId) (o : Option (List Row)) → IsCall known id → rpc_reply (unwrap_or (rpc_of (history known.world known.log) id.number) 0) (output o) ≡ collect_reply id.rpc o
 collect_reply_is known id None is = refl
 collect_reply_is known id (Some rows) is = ap (λ (rpc : Option ℕ). rpc_reply (unwrap_or rpc 0) (output (Some rows))) is.1
 
@@ -173,7 +173,7 @@ request_more : (rs more : List Requested) (id : ℕ) (r : Requested) → request
 request_more rs more zero r at = cc
 request_more rs more (suc i) r at = slice_get_more rs more i r at
 
-pub call_last : (known : Known) (e : Entry) (id : CallId) → IsCall known id → IsCall (more known e) id
+pub call_last : (known : HubHistory) (e : Entry) (id : CallId) → IsCall known id → IsCall (more known e) id
 call_last known e id was = (was.0, last (request_at (requests (made_of calls)) id.number) refl was.1)
   where
     calls : List Asked

@@ -19,7 +19,7 @@ use Rattle.sal_history.specs.History.{Answered, began_by, closes, decided_by, hi
 use Rattle.sal_history.specs.Services.{mount_call, note_call, note_calls, rpc_call, rpc_calls}
 use Rattle.sal_history.specs.Submissions.{Base}
 use Rattle.sal_hub.specs.declared.services.Services.{Services}
-use Rattle.sal_hub.specs.Known.{Known, more}
+use Rattle.sal_hub.specs.HubHistory.{HubHistory, more}
 use Rattle.sal_hub.specs.Mounted.{AreMounted}
 use Rattle.sal_hub.specs.Notified.{AreNoted}
 use Rattle.sal_hub.specs.Routed.{AreRouted}
@@ -66,13 +66,13 @@ unnoting (Offer note rows) e = cc
 unnoting TakeNotes e = cc
 unnoting call e = refl
 
-pub mounted_steady : (known : Known) (e : Entry) (mounts : Register) → mount_call e.call ≡ None → AreMounted known mounts → AreMounted (more known e) mounts
+pub mounted_steady : (known : HubHistory) (e : Entry) (mounts : Register) → mount_call e.call ≡ None → AreMounted known mounts → AreMounted (more known e) mounts
 mounted_steady known e mounts none are = record {
   devices = are.devices;
   calls = subst (λ (calls : List MountCall). IsOf calls mounts) (sym (mounting-quiet known.world known.log e none)) are.calls;
 }
 
-pub routed_steady : (known : Known) (e : Entry) (r : routes.Routes) → rpc_call e.call ≡ None → AreRouted known r → AreRouted (more known e) r
+pub routed_steady : (known : HubHistory) (e : Entry) (r : routes.Routes) → rpc_call e.call ≡ None → AreRouted known r → AreRouted (more known e) r
 routed_steady known e r none are =
     let calls : List routing.Asked = rpc_calls (history known.world known.log) in
     let same : rpc_calls (history known.world (known.log ++ e ∷ [])) ≡ calls =
@@ -81,7 +81,7 @@ routed_steady known e r none are =
     ∙ append-nil calls in
     subst (λ (l : List routing.Asked). routes.IsOf l r) (sym same) are
 
-pub noted_steady : (known : Known) (e : Entry) (b : boxes.Boxes) → note_call e.call ≡ None → AreNoted known b → AreNoted (more known e) b
+pub noted_steady : (known : HubHistory) (e : Entry) (b : boxes.Boxes) → note_call e.call ≡ None → AreNoted known b → AreNoted (more known e) b
 noted_steady known e b none are =
     let calls : List queues.Asked = note_calls (history known.world known.log) in
     let same : note_calls (history known.world (known.log ++ e ∷ [])) ≡ calls =
@@ -90,7 +90,7 @@ noted_steady known e b none are =
     ∙ append-nil calls in
     subst (λ (l : List queues.Asked). boxes.IsOf l b) (sym same) are
 
-pub served_steady : (known : Known) (e : Entry) (sv : Services) → is_serving e.call ≡ false → AreServed known sv → AreServed (more known e) sv
+pub served_steady : (known : HubHistory) (e : Entry) (sv : Services) → is_serving e.call ≡ false → AreServed known sv → AreServed (more known e) sv
 served_steady known e sv other are = record {
   mounts = mounted_steady known e sv.mounts (unmounting e.call other) are.mounts;
   router = routed_steady known e sv.router (unrouting e.call other) are.router;
@@ -99,18 +99,18 @@ served_steady known e sv other are = record {
 
 -- ---- a call on one service leaves the others as they were
 
-module _ (old new : Known) (e : Entry) (how : (new ≡ old) ⊎ (new ≡ more old e)) (sv : Services) (are : AreServed old sv) where
+module _ (old new : HubHistory) (e : Entry) (how : (new ≡ old) ⊎ (new ≡ more old e)) (sv : Services) (are : AreServed old sv) where
   still_mounted : mount_call e.call ≡ None → (new ≡ old) ⊎ (new ≡ more old e) → AreMounted new sv.mounts
-  still_mounted none (inl same) = subst (λ (known : Known). AreMounted known sv.mounts) (sym same) are.mounts
-  still_mounted none (inr longer) = subst (λ (known : Known). AreMounted known sv.mounts) (sym longer) (mounted_steady old e sv.mounts none are.mounts)
+  still_mounted none (inl same) = subst (λ (known : HubHistory). AreMounted known sv.mounts) (sym same) are.mounts
+  still_mounted none (inr longer) = subst (λ (known : HubHistory). AreMounted known sv.mounts) (sym longer) (mounted_steady old e sv.mounts none are.mounts)
 
   still_routed : rpc_call e.call ≡ None → (new ≡ old) ⊎ (new ≡ more old e) → AreRouted new sv.router
-  still_routed none (inl same) = subst (λ (known : Known). AreRouted known sv.router) (sym same) are.router
-  still_routed none (inr longer) = subst (λ (known : Known). AreRouted known sv.router) (sym longer) (routed_steady old e sv.router none are.router)
+  still_routed none (inl same) = subst (λ (known : HubHistory). AreRouted known sv.router) (sym same) are.router
+  still_routed none (inr longer) = subst (λ (known : HubHistory). AreRouted known sv.router) (sym longer) (routed_steady old e sv.router none are.router)
 
   still_noted : note_call e.call ≡ None → (new ≡ old) ⊎ (new ≡ more old e) → AreNoted new sv.notes
-  still_noted none (inl same) = subst (λ (known : Known). AreNoted known sv.notes) (sym same) are.notes
-  still_noted none (inr longer) = subst (λ (known : Known). AreNoted known sv.notes) (sym longer) (noted_steady old e sv.notes none are.notes)
+  still_noted none (inl same) = subst (λ (known : HubHistory). AreNoted known sv.notes) (sym same) are.notes
+  still_noted none (inr longer) = subst (λ (known : HubHistory). AreNoted known sv.notes) (sym longer) (noted_steady old e sv.notes none are.notes)
 
   pub served_by_mounts : (mounts : Register) → rpc_call e.call ≡ None → note_call e.call ≡ None → AreMounted new mounts → AreServed new (record sv { mounts = mounts })
   served_by_mounts mounts unrouted unnoted now = record { mounts = now; router = still_routed unrouted how; notes = still_noted unnoted how }

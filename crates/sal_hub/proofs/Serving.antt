@@ -15,8 +15,8 @@ use Rattle.sal_hub.specs.declared.pipeline.Pipeline.{Pipeline}
 use Rattle.sal_hub.specs.Current.{IsKept, answers, known_of}
 use Rattle.sal_hub.specs.Domains.{AreDomains, IsDomain}
 use Rattle.sal_hub.specs.Journals.{Noted}
-use Rattle.sal_hub.specs.Known.{Known}
-use Rattle.sal_hub.specs.Lines.{AllKept, is_live_in, line_of, opened_as, shown, world_in}
+use Rattle.sal_hub.specs.HubHistory.{HubHistory}
+use Rattle.sal_hub.specs.PipelineView.{AllKept, is_live_in, line_of, opened_as, shown, world_in}
 use Rattle.sal_hub.proofs.Deciding.{live-here, live-within, opening-at, table-at}
 use Rattle.sal_hub.proofs.Keeping.{chains-current, commits-current, receipts-current}
 use Rattle.sal_hub.proofs.Listed.{slice_get_at}
@@ -28,8 +28,8 @@ pub live_at : (p : Pipeline) (n : ℕ) (d : Domain) → n < length p.domains.ite
 live_at p n d h is = live-here (line_of p).domains n (shown d) (shown_at p.domains.items n d h is)
 
 -- a domain of the world
-pub known_domain : (journal : Noted) (p : Pipeline) (known : Known) → known_of journal p ≡ known → (n : ℕ) → n < length known.world → n < length p.domains.items
-known_domain journal p known view n there = omega (arith, there, ap (λ (k : Known). length k.world) view, length-map (line_of p).domains opened_as, length-map p.domains.items shown)
+pub known_domain : (journal : Noted) (p : Pipeline) (known : HubHistory) → known_of journal p ≡ known → (n : ℕ) → n < length known.world → n < length p.domains.items
+known_domain journal p known view n there = omega (arith, there, ap (λ (k : HubHistory). length k.world) view, length-map (line_of p).domains opened_as, length-map p.domains.items shown)
 
 pub kept_at : (ds : List Domain) (n : ℕ) (d : Domain) → AllKept ds → n < length ds → d ≡ get_or ds n d → AreKept d.commits.items
 kept_at ds n d kept h is = subst (λ (x : Domain). AreKept x.commits.items) (sym is) (kept n d h)

@@ -19,8 +19,8 @@ use Rattle.sal_hub.specs.declared.receipt.Receipt.{Receipt}
 use Rattle.sal_hub.specs.Answers.{Made}
 use Rattle.sal_hub.specs.Current.{IsCurrent, IsKept, answers, known_of}
 use Rattle.sal_hub.specs.Journals.{Noted, jotted, mark_at}
-use Rattle.sal_hub.specs.Known.{Known, more}
-use Rattle.sal_hub.specs.Lines.{AllKept, AreDecided, Line, is_live_in, line_of, sent_of, world_in}
+use Rattle.sal_hub.specs.HubHistory.{HubHistory, more}
+use Rattle.sal_hub.specs.PipelineView.{AllKept, AreDecided, PipelineView, is_live_in, line_of, sent_of, world_in}
 use Rattle.sal_hub.specs.Tokens.{IsGiven}
 use Rattle.sal_hub.proofs.Beginning.{quiet_kept}
 use Rattle.sal_hub.proofs.Deciding.{sent_at}
@@ -51,7 +51,7 @@ few journal p is =
     omega (arith, length-submissions journal.log journal.marks (line_of p) is.current, sents-few (world_in (line_of p).domains) journal.log)
 
 -- the submission of a receipt that was given is of its domain
-pub given_at : (known : Known) (receipt : Receipt) → IsGiven known receipt → (s : Sent) × (slice_get (sents (history known.world known.log)) (receipt.number - 1) ≡ Some s) × (s.base.domain ≡ receipt.domain)
+pub given_at : (known : HubHistory) (receipt : Receipt) → IsGiven known receipt → (s : Sent) × (slice_get (sents (history known.world known.log)) (receipt.number - 1) ≡ Some s) × (s.base.domain ≡ receipt.domain)
 given_at known receipt given = found (slice_get (sents (history known.world known.log)) (receipt.number - 1)) refl given.1
   where
     found : (o : Option Sent) → slice_get (sents (history known.world known.log)) (receipt.number - 1) ≡ o → option_map (λ (s : Sent). s.base.domain) o ≡ Some receipt.domain
@@ -106,7 +106,7 @@ pub kept_sent : (journal : Noted) (p : Pipeline) (is : IsKept journal p) (i : �
 kept_sent journal p is i s at = sent_at (sents (answers journal.log (line_of p))) (line_of p) is.current.sound i s at
 
 -- a receipt stays one
-pub given_last : (known : Known) (e : Entry) (receipt : Receipt) → IsGiven known receipt → IsGiven (more known e) receipt
+pub given_last : (known : HubHistory) (e : Entry) (receipt : Receipt) → IsGiven known receipt → IsGiven (more known e) receipt
 given_last known e receipt was = (was.0, last (slice_get (sents (history known.world known.log)) (receipt.number - 1)) refl was.1)
   where
     last : (o : Option Sent) → slice_get (sents (history known.world known.log)) (receipt.number - 1) ≡ o → option_map (λ (s : Sent). s.base.domain) o ≡ Some receipt.domain
@@ -145,8 +145,8 @@ module _ (journal journal' : Noted) (p p' : Pipeline) (is : IsKept journal p) (c
 pub unsettled_kept : (journal journal' : Noted) (p p' : Pipeline) → IsKept journal p → AllKept p'.domains.items → line_of p' ≡ line_of p → journal' ≡ journal → IsKept journal' p'
 unsettled_kept journal journal' p p' is kept same undone = record {
   kept = kept;
-  current = subst (λ (l : Line). IsCurrent journal'.log journal'.marks l) (sym same) (subst (λ (j : Noted). IsCurrent j.log j.marks (line_of p)) (sym undone) is.current);
-  let_go = ap (λ (l : Line). l.gone) same ∙ is.let_go ∙ sym (ap (λ (l : Line). length l.outcomes) same);
+  current = subst (λ (l : PipelineView). IsCurrent journal'.log journal'.marks l) (sym same) (subst (λ (j : Noted). IsCurrent j.log j.marks (line_of p)) (sym undone) is.current);
+  let_go = ap (λ (l : PipelineView). l.gone) same ∙ is.let_go ∙ sym (ap (λ (l : PipelineView). length l.outcomes) same);
 }
 
 pub unsettled_known : (journal journal' : Noted) (p p' : Pipeline) → line_of p' ≡ line_of p → journal' ≡ journal → known_of journal' p' ≡ known_of journal p
@@ -229,4 +229,4 @@ module _ (journal journal' : Noted) (p : Pipeline) (is : IsKept journal p) (clie
             ap (λ n. option_map (λ (t : Sent). t.base.domain) (slice_get (sents done) n)) place ∙ ap (option_map (λ (t : Sent). t.base.domain)) (its_front s there)
                 ∙ ap (option_map (λ (t : Submission). t.domain)) (sym there) ∙ of_domain,
           ) in
-          subst (λ (known : Known). IsGiven known receipt) (λ i. let known : Known = record { world = sym one_decided.world i; log = sym log i } in known) (given_last (known_of journal p) e receipt before)
+          subst (λ (known : HubHistory). IsGiven known receipt) (λ i. let known : HubHistory = record { world = sym one_decided.world i; log = sym log i } in known) (given_last (known_of journal p) e receipt before)

@@ -34,8 +34,8 @@ use Rattle.sal_hub.specs.Answers.{Fails, Made}
 use Rattle.sal_hub.specs.Current.{IsCurrent, IsKept, answers, known_of}
 use Rattle.sal_hub.specs.Failures.{IsWithin}
 use Rattle.sal_hub.specs.Journals.{Noted, jotted, mark_at}
-use Rattle.sal_hub.specs.Known.{Known}
-use Rattle.sal_hub.specs.Lines.{AllKept, IsSound, Line, Stands, commits_in, line_of, opened_as, sent_of, shown, world_in}
+use Rattle.sal_hub.specs.HubHistory.{HubHistory}
+use Rattle.sal_hub.specs.PipelineView.{AllKept, IsSound, PipelineView, Stands, commits_in, line_of, opened_as, sent_of, shown, world_in}
 use Rattle.sal_hub.specs.Submits.{refusal_of, submission_of}
 use Rattle.sal_hub.specs.Tokens.{IsBegun, IsGiven}
 use Rattle.sal_hub.proofs.Beginning.{quiet_kept}
@@ -87,7 +87,7 @@ accepted_by count n b =
     ]
 
 -- a refusal has its entry
-pub fails_by : (old new : Known) (e : Entry) (n : ℕ) (b : Bool) (f : CallFault) → refusal_of n b ≡ Some f → Made old new e (Refused f) → Fails old new e f
+pub fails_by : (old new : HubHistory) (e : Entry) (n : ℕ) (b : Bool) (f : CallFault) → refusal_of n b ≡ Some f → Made old new e (Refused f) → Fails old new e f
 fails_by old new e n b f =
     elim (nat_lt n 4096) as (λ room. (if room then (if b then Some TxSpent else None) else Some PipelineFull) ≡ Some f → Made old new e (Refused f) → Fails old new e f) [
       | false ↦ λ is made. let same : PipelineFull ≡ f = same_Some PipelineFull f is in subst (Fails old new e) same (subst (λ g. Made old new e (Refused g)) (sym same) made)
@@ -155,7 +155,7 @@ module _ (journal journal' : Noted) (p p' : Pipeline) (is : IsKept journal p) (c
   abbrev made_entry : Entry
   made_entry = record { client = client; number = entries_of journal.log client; call = Submit tx.begun.place tx.changes }
 
-  abbrev more : Line
+  abbrev more : PipelineView
   more = record { domains = (line_of p).domains; gone = (line_of p).gone; waiting = (line_of p).waiting ++ sub ∷ []; outcomes = (line_of p).outcomes; failures = (line_of p).failures }
 
   line_is : more ≡ line_of p'

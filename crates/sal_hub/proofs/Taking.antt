@@ -17,7 +17,7 @@ use Rattle.sal_hub.specs.Answers.{Made}
 use Rattle.sal_hub.specs.Current.{IsKept, answers, known_of}
 use Rattle.sal_hub.specs.Domains.{IsDomain}
 use Rattle.sal_hub.specs.Journals.{Noted, jotted}
-use Rattle.sal_hub.specs.Lines.{line_of, world_in}
+use Rattle.sal_hub.specs.PipelineView.{line_of, world_in}
 use Rattle.sal_hub.specs.Listeners.{AreListeners, IsBatchFor, Removes, Tells, batch_in, has_in}
 use Rattle.sal_hub.specs.Tokens.{IsListener}
 use Rattle.sal_hub.proofs.Heard.{domain_named, gone_listeners, listened_is, named_at, some_live, told_listeners}

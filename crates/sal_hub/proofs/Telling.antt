@@ -28,8 +28,8 @@ use Rattle.sal_hub.specs.Answers.{Made as IsMadeCall}
 use Rattle.sal_hub.specs.Current.{IsKept, answers, known_of}
 use Rattle.sal_hub.specs.Domains.{IsDomain}
 use Rattle.sal_hub.specs.Journals.{Noted, jotted}
-use Rattle.sal_hub.specs.Known.{Known, more}
-use Rattle.sal_hub.specs.Lines.{is_live_in, line_of, world_in}
+use Rattle.sal_hub.specs.HubHistory.{HubHistory, more}
+use Rattle.sal_hub.specs.PipelineView.{is_live_in, line_of, world_in}
 use Rattle.sal_hub.specs.Listeners.{Adds, AreListeners, batch_in, call_of, has_in, listening_of, new_of, opened_in, refusal_by}
 use Rattle.sal_hub.specs.Tokens.{IsListener}
 use Rattle.sal_hub.proofs.Heard.{has_is, listened_is, made_listeners, listener_is, refusal_is}
@@ -90,7 +90,7 @@ module _ (journal journal' : Noted) (p : Pipeline) (client : ℕ) (call : Call) 
   entry = record { client = client; number = entries_of journal.log client; call = call }
 
   pub with_next : known_of journal' p ≡ more (known_of journal p) (record { client = client; number = entries_of journal.log client; call = call })
-  with_next = λ i. let known : Known = record { world = world_in (line_of p).domains; log = log i } in known
+  with_next = λ i. let known : HubHistory = record { world = world_in (line_of p).domains; log = log i } in known
 
   pub refused_listeners : (ls : Listeners) (f : CallFault) → AreListeners (known_of journal p) ls → reply_to (world_in (line_of p).domains) (answers journal.log (line_of p)) client call ≡ Refused f → AreListeners (known_of journal' p) ls
   refused_listeners ls f are why =
@@ -99,7 +99,7 @@ module _ (journal journal' : Noted) (p : Pipeline) (client : ℕ) (call : Call) 
 
 -- ---- the token of a new one
 
-module _ (known : Known) (ls ls' : Listeners) (are : AreListeners known ls') (ask : Ask) (version : ℕ) (adds : Adds ls (new_of ask version) ls') (id : ListenerId) (number : id.number ≡ length ls'.list.items) where
+module _ (known : HubHistory) (ls ls' : Listeners) (are : AreListeners known ls') (ask : Ask) (version : ℕ) (adds : Adds ls (new_of ask version) ls') (id : ListenerId) (number : id.number ≡ length ls'.list.items) where
   long : length ls'.list.items ≡ length ls.list.items + 1
   long = ap length adds.list ∙ length-append ls.list.items (new_of ask version ∷ [])
 

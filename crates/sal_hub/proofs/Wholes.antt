@@ -33,7 +33,7 @@ use Rattle.sal_hub.specs.Chains.{AreChains, AreSame}
 use Rattle.sal_hub.specs.Current.{IsKept, known_of}
 use Rattle.sal_hub.specs.Failures.{IsWithin, at_chain, flag_in, noted_in, noted_with}
 use Rattle.sal_hub.specs.Journals.{Noted, jotted}
-use Rattle.sal_hub.specs.Known.{Known, entry_of, more}
+use Rattle.sal_hub.specs.HubHistory.{HubHistory, entry_of, more}
 use Rattle.sal_hub.specs.Listeners.{AreListeners}
 use Rattle.sal_mount.specs.Register.{Register}
 use Rattle.sal_hub.specs.Marks.{AreMarked, has_mark, is_key}
@@ -89,7 +89,7 @@ module _ (journal journal' : Noted) (p p' : Pipeline) (cs : Chains) (ms : Marks)
   whole_same same = record {
     kept = kept;
     chains = subst (λ known. AreChains known cs) (sym same) whole.chains;
-    marked = λ m. whole.marked m ∙ ap (λ (known : Known). has_mark known.log m) (sym same);
+    marked = λ m. whole.marked m ∙ ap (λ (known : HubHistory). has_mark known.log m) (sym same);
     listeners = subst (λ known. AreListeners known ls) (sym same) whole.listeners;
     services = subst (λ known. AreServed known sv) (sym same) whole.services;
   }
@@ -110,7 +110,7 @@ module _ (journal journal' : Noted) (p p' : Pipeline) (cs : Chains) (ms : Marks)
     whole_quiet longer unopened unclosed unbegun unsent unheard unserved = record {
       kept = kept;
       chains = subst (λ known. AreChains known cs) (sym longer) (steady (known_of journal p) e cs whole.chains cs (same_chains cs) unopened unclosed unbegun unsent);
-      marked = λ m. unmarked journal.log e ms quiet whole.marked m ∙ ap (λ (known : Known). has_mark known.log m) (sym longer);
+      marked = λ m. unmarked journal.log e ms quiet whole.marked m ∙ ap (λ (known : HubHistory). has_mark known.log m) (sym longer);
       listeners = subst (λ known. AreListeners known ls) (sym longer) (listeners_steady (known_of journal p) e ls whole.listeners unheard);
       services = subst (λ known. AreServed known sv) (sym longer) (served_steady (known_of journal p) e sv unserved whole.services);
     }
@@ -152,23 +152,23 @@ begin_unchained w done domain mode r id = refl
 
 -- ---- a call that keeps a part itself
 
-same_or_more : (old new : Known) (e : Entry) (f : CallFault) → Fails old new e f → (new ≡ old) ⊎ (new ≡ more old e)
+same_or_more : (old new : HubHistory) (e : Entry) (f : CallFault) → Fails old new e f → (new ≡ old) ⊎ (new ≡ more old e)
 same_or_more old new e HistoryFull fails = inl fails.1
 same_or_more old new e NoMemory fails = inl fails
 same_or_more old new e fault fails = inr fails.log
 
 -- the entry was added, if anything was
-grown : {X : Type 0} (old new : Known) (e : Entry) (good : X → Reply) (r : Result X CallFault) → Calls old new e good r → (new ≡ old) ⊎ (new ≡ more old e)
+grown : {X : Type 0} (old new : HubHistory) (e : Entry) (good : X → Reply) (r : Result X CallFault) → Calls old new e good r → (new ≡ old) ⊎ (new ≡ more old e)
 grown old new e good (Ok x) made = inr made.log
 grown old new e good (Err f) fails = same_or_more old new e f fails
 
 module _ (journal journal' : Noted) (p p' : Pipeline) (cs : Chains) (ms : Marks) (ls : Listeners) (sv : Services) (whole : IsWhole journal p cs ms ls sv) (kept : IsKept journal' p') (e : Entry) (quiet : (m : ℕ) → marks e.call m ≡ false) where
-  abbrev old_known : Known
+  abbrev old_known : HubHistory
   old_known = known_of journal p
 
   still_marked : (known_of journal' p' ≡ known_of journal p) ⊎ (known_of journal' p' ≡ more (known_of journal p) e) → AreMarked journal'.log ms.map
-  still_marked (inl same) = λ m. whole.marked m ∙ ap (λ (known : Known). has_mark known.log m) (sym same)
-  still_marked (inr longer) = λ m. unmarked journal.log e ms quiet whole.marked m ∙ ap (λ (known : Known). has_mark known.log m) (sym longer)
+  still_marked (inl same) = λ m. whole.marked m ∙ ap (λ (known : HubHistory). has_mark known.log m) (sym same)
+  still_marked (inr longer) = λ m. unmarked journal.log e ms quiet whole.marked m ∙ ap (λ (known : HubHistory). has_mark known.log m) (sym longer)
 
   still_listeners : is_listening e.call ≡ false → (known_of journal' p' ≡ known_of journal p) ⊎ (known_of journal' p' ≡ more (known_of journal p) e) → AreListeners (known_of journal' p') ls
   still_listeners other (inl same) = subst (λ known. AreListeners known ls) (sym same) whole.listeners
@@ -263,7 +263,7 @@ module _ (journal journal' : Noted) (p p' : Pipeline) (cs : Chains) (ms : Marks)
   with_entry e r cs' made quiet other unserved are = record {
     kept = kept;
     chains = subst (λ known. AreChains known cs') (sym made.log) are;
-    marked = λ m. unmarked journal.log e ms quiet whole.marked m ∙ ap (λ (known : Known). has_mark known.log m) (sym made.log);
+    marked = λ m. unmarked journal.log e ms quiet whole.marked m ∙ ap (λ (known : HubHistory). has_mark known.log m) (sym made.log);
     listeners = listeners_more e made.log other;
     services = served_more e made.log unserved;
   }
@@ -356,7 +356,7 @@ module _ (journal journal' : Noted) (p p' : Pipeline) (cs : Chains) (ms : Marks)
         chains = subst (λ known. AreChains known cs) (sym longer) (steady (known_of journal p) e cs whole.chains cs (same_chains cs) refl (λ id. refl) (λ id. refl) refl);
         marked = λ m.
             marked m ∙ swapped (nat_eq mark m) (is_key ms.map m) ∙ ap (λ b. b || nat_eq mark m) (whole.marked m) ∙ sym (mark-push journal.log e m)
-            ∙ ap (λ (known : Known). has_mark known.log m) (sym longer);
+            ∙ ap (λ (known : HubHistory). has_mark known.log m) (sym longer);
         listeners = listeners_more e longer refl;
         services = served_more e longer refl;
       }
@@ -395,10 +395,10 @@ empty_whole journal p cs ms ls sv kept empty domains closed begun sent unmarked_
 
 module _ (journal journal' : Noted) (p : Pipeline) (cs : Chains) (ms : Marks) (ls : Listeners) (sv : Services) (whole : IsWhole journal p cs ms ls sv) (client : ℕ) (call : Call) (log : journal'.log ≡ jotted journal.log client call) where
   pub longer_now : known_of journal' p ≡ more (known_of journal p) (record { client = client; number = entries_of journal.log client; call = call })
-  longer_now = λ i. let known : Known = record { world = (known_of journal p).world; log = log i } in known
+  longer_now = λ i. let known : HubHistory = record { world = (known_of journal p).world; log = log i } in known
 
   -- with the view of a hub that it had
-  pub made_over : (known : Known) (r : Reply) → known_of journal p ≡ known → length journal.log < 1000000 → reply_to (known_of journal p).world (history (known_of journal p).world journal.log) client call ≡ r
+  pub made_over : (known : HubHistory) (r : Reply) → known_of journal p ≡ known → length journal.log < 1000000 → reply_to (known_of journal p).world (history (known_of journal p).world journal.log) client call ≡ r
       → Made known (known_of journal' p) (entry_of known client call) r
   made_over known r same room reply = subst (λ k. Made k (known_of journal' p) (entry_of k client call) r) same (made_now journal journal' p whole.kept client call log r room reply)
 
@@ -408,7 +408,7 @@ seen_now journal p cs ms ls sv client mark b whole is =
     ap (λ x. if x then Found else Late) (marked (known_of journal p).world journal.log mark ∙ sym (whole.marked mark) ∙ is)
 
 -- the chain of a transaction is one of those that are kept
-module _ (journal : Noted) (p : Pipeline) (cs : Chains) (ms : Marks) (ls : Listeners) (sv : Services) (whole : IsWhole journal p cs ms ls sv) (known : Known) (view : known_of journal p ≡ known) (begun : Token) (base : Pair) (token : IsBegun known begun base) where
+module _ (journal : Noted) (p : Pipeline) (cs : Chains) (ms : Marks) (ls : Listeners) (sv : Services) (whole : IsWhole journal p cs ms ls sv) (known : HubHistory) (view : known_of journal p ≡ known) (begun : Token) (base : Pair) (token : IsBegun known begun base) where
   pub token_began : began_at (history (known_of journal p).world journal.log) begun.place ≡ Some (record { domain = begun.domain; commit = begun.base_commit; chain = begun.chain; trees = rows_in base })
   token_began = (subst (λ k. IsBegun k begun base) (sym view) token).began
 

@@ -12,7 +12,7 @@ use Rattle.sal_hub.specs.declared.pipeline.Pipeline.{Pipeline}
 use Rattle.sal_hub.specs.declared.start.Footing.{Footing}
 use Rattle.sal_hub.specs.Failures.{flag_in, noted_in}
 use Rattle.sal_hub.specs.Journals.{mark_at}
-use Rattle.sal_hub.specs.Known.{Known}
+use Rattle.sal_hub.specs.HubHistory.{HubHistory}
 use Rattle.sal_hub.specs.Starts.{IsNewest, IsOn}
 use Rattle.sal_commit.specs.declared.domain.Domain.{Domain}
 
@@ -32,7 +32,7 @@ pub record AreInPlace (answered : List Answered) : Type 0 where
   pub sent : (i : ℕ) (s : Sent) → slice_get (sents answered) i ≡ Some s → IsInPlace answered s.base
 
 -- their domains, whether they are closed, and the last that was begun and submitted in each
-pub record AreChains (known : Known) (chains : Chains) : Type 0 where
+pub record AreChains (known : HubHistory) (chains : Chains) : Type 0 where
   pub even : AreEven chains
   pub domains : chains.domains.items ≡ chain_domains (history known.world known.log)
   pub closed : (id : ℕ) → flag_in chains.closed.items id ≡ is_closed (history known.world known.log) id

@@ -5,16 +5,16 @@ use Rattle.sal_history.specs.History.{Answered, chain_domains, history, is_live,
 use Rattle.sal_closed.specs.Logs.{AreSentLawful, AreSound}
 use Rattle.sal_hub.specs.declared.pipeline.Pipeline.{Pipeline}
 use Rattle.sal_hub.specs.Journals.{Noted, mark_at}
-use Rattle.sal_hub.specs.Known.{Known}
-use Rattle.sal_hub.specs.Lines.{AllKept, IsSound, Line, is_live_in, line_of, world_in}
+use Rattle.sal_hub.specs.HubHistory.{HubHistory}
+use Rattle.sal_hub.specs.PipelineView.{AllKept, IsSound, PipelineView, is_live_in, line_of, world_in}
 
 -- the answered log
-abbrev pub answers : List Entry → Line → List Answered
+abbrev pub answers : List Entry → PipelineView → List Answered
 answers log line = history (world_in line.domains) log
 
 -- The submissions, the outcomes, the commits, the marks, the chains that failed and the domains that are live are the log's; the
 -- operations of each submission are lawful over what its transaction stands on, and the opening trees of each domain are closed.
-pub record IsCurrent (log : List Entry) (noted : List Bool) (line : Line) : Type 0 where
+pub record IsCurrent (log : List Entry) (noted : List Bool) (line : PipelineView) : Type 0 where
   pub sound : IsSound (sents (answers log line)) line
   pub outcomes : line.outcomes ≡ outcomes (answers log line)
   pub marks : (place : ℕ) → mark_at noted place ≡ is_spent (answers log line) place
@@ -30,5 +30,5 @@ pub record IsKept (journal : Noted) (p : Pipeline) : Type 0 where
   pub let_go : p.gone ≡ length p.outcomes.items
 
 -- what a contract sees
-abbrev pub known_of : Noted → Pipeline → Known
+abbrev pub known_of : Noted → Pipeline → HubHistory
 known_of journal p = record { world = world_in (line_of p).domains; log = journal.log }

@@ -7,10 +7,10 @@ use Rattle.sal_history.specs.World.{opening_of, table_of}
 use Rattle.sal_history.specs.History.{commits, history, is_live, outcomes, sents}
 use Rattle.sal_history.specs.Submissions.{done_chains}
 use Rattle.sal_hub.specs.CommitReceipts.{commit_receipts}
-use Rattle.sal_hub.specs.Known.{Known}
+use Rattle.sal_hub.specs.HubHistory.{HubHistory}
 
 -- the domain of this number, with its commits so far
-pub record IsDomain (known : Known) (n : ℕ) (d : Domain) : Type 0 where
+pub record IsDomain (known : HubHistory) (n : ℕ) (d : Domain) : Type 0 where
   pub number : d.number ≡ n
   pub live : d.live ≡ is_live known.world (history known.world known.log) n
   pub schema : d.schema.value ≡ table_of known.world n
@@ -20,6 +20,6 @@ pub record IsDomain (known : Known) (n : ℕ) (d : Domain) : Type 0 where
   pub chains : chains_of d.commits.items ≡ done_chains n (sents (history known.world known.log)) (outcomes (history known.world known.log))
   pub receipts : receipts_of d.commits.items ≡ commit_receipts n (sents (history known.world known.log)) (outcomes (history known.world known.log))
 
-pub record AreDomains (known : Known) (ds : List Domain) : Type 0 where
+pub record AreDomains (known : HubHistory) (ds : List Domain) : Type 0 where
   pub all : length ds ≡ length known.world
   pub each : (n : ℕ) (d : Domain) → n < length ds → d ≡ slice_index_or ds n d → IsDomain known n d

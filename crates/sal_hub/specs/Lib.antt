@@ -6,8 +6,8 @@ pub mod Current
 pub mod Domains
 pub mod Failures
 pub mod Journals
-pub mod Known
-pub mod Lines
+pub mod HubHistory
+pub mod PipelineView
 pub mod Listeners
 pub mod Marks
 pub mod Mounted

@@ -20,14 +20,14 @@ use Rattle.sal_hub.specs.declared.listener.Listener.{Listener}
 use Rattle.sal_hub.specs.declared.listener.ListenerId.{ListenerId}
 use Rattle.sal_hub.specs.declared.listener_calls.Ask.{Ask}
 use Rattle.sal_hub.specs.declared.listeners.Listeners.{Listeners}
-use Rattle.sal_hub.specs.Known.{Known}
+use Rattle.sal_hub.specs.HubHistory.{HubHistory}
 
 -- as the log has it
 abbrev pub listening_of : Listener → Listening
 listening_of l = record { client = l.client; domain = l.domain; store = l.store; path = l.path }
 
 -- whether the listener of this id is live, and its version, which is a commit of its domain
-pub record IsListened (known : Known) (id : ℕ) (l : Listener) : Type 0 where
+pub record IsListened (known : HubHistory) (id : ℕ) (l : Listener) : Type 0 where
   pub domain : l.domain < length known.world
   pub live : l.live ≡ not (is_removed (history known.world known.log) id)
   pub version : l.version ≡ version (history known.world known.log) id
@@ -39,7 +39,7 @@ live_in ls = count_by (λ (l : Listener). l.live) ls
 
 -- Those that were made, each with what the log gives of it, and how many are live: together with those that were removed
 -- they are all that were made. None is removed that was not made.
-pub record AreListeners (known : Known) (ls : Listeners) : Type 0 where
+pub record AreListeners (known : HubHistory) (ls : Listeners) : Type 0 where
   pub made : map listening_of ls.list.items ≡ listeners (history known.world known.log)
   pub each : (i : ℕ) (l : Listener) → slice_get ls.list.items i ≡ Some l → IsListened known (i + 1) l
   pub unmade : (id : ℕ) → length ls.list.items < id → is_removed (history known.world known.log) id ≡ false
@@ -51,7 +51,7 @@ abbrev pub listener_reply : ℕ → List Step → ListenerId × Opened → Reply
 listener_reply domain path given = Made given.0.number domain path given.1
 
 -- the listener that was made of this number is this one
-abbrev pub IsMade : Known → ListenerId → Listening → Type 0
+abbrev pub IsMade : HubHistory → ListenerId → Listening → Type 0
 IsMade known id l = listener_at (history known.world known.log) id.number ≡ Some l
 
 -- ---- what calls do

@@ -7,10 +7,10 @@ use Rattle.sal_history.specs.declared.call.Call.{Call}
 use Rattle.sal_history.specs.History.{history}
 use Rattle.sal_history.specs.Services.{mounting}
 use Rattle.sal_hub.specs.Journals.{Noted, jotted, mark_at}
-use Rattle.sal_hub.specs.Known.{Known}
+use Rattle.sal_hub.specs.HubHistory.{HubHistory}
 
 -- as many devices as there are domains, and the register of the calls
-pub record AreMounted (known : Known) (mounts : Register) : Type 0 where
+pub record AreMounted (known : HubHistory) (mounts : Register) : Type 0 where
   pub devices : mounts.devices ≡ length known.world
   pub calls : IsOf (mounting (history known.world known.log)) mounts
 

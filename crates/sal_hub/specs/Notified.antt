@@ -5,10 +5,10 @@ use Rattle.sal_note.specs.Boxes.{Boxes, IsOf}
 use Rattle.sal_history.specs.History.{history}
 use Rattle.sal_history.specs.Services.{note_calls}
 use Rattle.sal_hub.specs.Journals.{Noted, taken_back}
-use Rattle.sal_hub.specs.Known.{Known}
+use Rattle.sal_hub.specs.HubHistory.{HubHistory}
 
 -- the boxes are those of the log's calls on notifications
-abbrev pub AreNoted : Known → Boxes → Type 0
+abbrev pub AreNoted : HubHistory → Boxes → Type 0
 AreNoted known notes = IsOf (note_calls (history known.world known.log)) notes
 
 -- ---- what calls do

@@ -10,10 +10,10 @@ use Rattle.sal_history.specs.declared.reply.Reply.TheVariants.{Nothing, Output, 
 use Rattle.sal_history.specs.History.{history}
 use Rattle.sal_history.specs.Services.{rpc_calls}
 use Rattle.sal_hub.specs.Journals.{Noted, taken_back}
-use Rattle.sal_hub.specs.Known.{Known}
+use Rattle.sal_hub.specs.HubHistory.{HubHistory}
 
 -- the routes are those of the log's calls on the router
-abbrev pub AreRouted : Known → Routes → Type 0
+abbrev pub AreRouted : HubHistory → Routes → Type 0
 AreRouted known router = IsOf (rpc_calls (history known.world known.log)) router
 
 -- ---- answers

@@ -1,11 +1,11 @@
 -- What a hub keeps of its services is what its log gives.
 use Rattle.sal_hub.specs.declared.services.Services.{Services}
-use Rattle.sal_hub.specs.Known.{Known}
+use Rattle.sal_hub.specs.HubHistory.{HubHistory}
 use Rattle.sal_hub.specs.Mounted.{AreMounted}
 use Rattle.sal_hub.specs.Notified.{AreNoted}
 use Rattle.sal_hub.specs.Routed.{AreRouted}
 
-pub record AreServed (known : Known) (services : Services) : Type 0 where
+pub record AreServed (known : HubHistory) (services : Services) : Type 0 where
   pub mounts : AreMounted known services.mounts
   pub router : AreRouted known services.router
   pub notes : AreNoted known services.notes

@@ -18,7 +18,7 @@ use Rattle.sal_hub.specs.declared.call_id.CallId.{CallId}
 use Rattle.sal_hub.specs.declared.chain.Chain.{Chain}
 use Rattle.sal_hub.specs.declared.listener.ListenerId.{ListenerId}
 use Rattle.sal_hub.specs.declared.receipt.Receipt.{Receipt}
-use Rattle.sal_hub.specs.Known.{Known}
+use Rattle.sal_hub.specs.HubHistory.{HubHistory}
 
 abbrev pub begun_of : Tx → Begun
 begun_of (Read tx) = tx.begun
@@ -38,16 +38,16 @@ ops_of (Write tx) = tx.changes
 
 -- The transaction was begun by the entry at its place: its domain, the number of its base commit, its chain and the trees
 -- that it stands on are those that the log gives.
-pub record IsBegun (known : Known) (begun : Begun) (trees : Pair) : Type 0 where
+pub record IsBegun (known : HubHistory) (begun : Begun) (trees : Pair) : Type 0 where
   pub before : begun.place < length known.log
   pub began : began_at (history known.world known.log) begun.place ≡ Some (record { domain = begun.domain; commit = begun.base_commit; chain = begun.chain; trees = rows_in trees })
   pub schema : begun.schema.value ≡ table_of known.world begun.domain
 
-abbrev pub IsToken : Known → Tx → Type 0
+abbrev pub IsToken : HubHistory → Tx → Type 0
 IsToken known tx = IsBegun known (begun_of tx) (base_of tx)
 
 -- the transaction that the entry behind the log begins, in this domain, chain and mode, without operations
-pub record IsFresh (known : Known) (asked : ℕ) (member : Option ℕ) (under : Mode) (tx : Tx) : Type 0 where
+pub record IsFresh (known : HubHistory) (asked : ℕ) (member : Option ℕ) (under : Mode) (tx : Tx) : Type 0 where
   pub place : (begun_of tx).place ≡ length known.log
   pub domain : (begun_of tx).domain ≡ asked
   pub chain : (begun_of tx).chain ≡ member
@@ -55,17 +55,17 @@ pub record IsFresh (known : Known) (asked : ℕ) (member : Option ℕ) (under : 
   pub ops : ops_of tx ≡ []
 
 -- the receipt was given, for a submission of its domain
-abbrev pub IsGiven : Known → Receipt → Type 0
+abbrev pub IsGiven : HubHistory → Receipt → Type 0
 IsGiven known receipt = (0 < receipt.number) × (option_map (λ (s : Sent). s.base.domain) (slice_get (sents (history known.world known.log)) (receipt.number - 1)) ≡ Some receipt.domain)
 
 -- the chain was opened, over its domain
-abbrev pub IsChain : Known → Chain → Type 0
+abbrev pub IsChain : HubHistory → Chain → Type 0
 IsChain known chain = (0 < chain.id) × (slice_get (chain_domains (history known.world known.log)) (chain.id - 1) ≡ Some chain.domain)
 
 -- the listener was made, over its domain
-abbrev pub IsListener : Known → ListenerId → Type 0
+abbrev pub IsListener : HubHistory → ListenerId → Type 0
 IsListener known id = (0 < id.number) × (option_map (λ (l : Listening). l.domain) (listener_at (history known.world known.log) id.number) ≡ Some id.domain)
 
 -- the request was made, of its RPC
-abbrev pub IsCall : Known → CallId → Type 0
+abbrev pub IsCall : HubHistory → CallId → Type 0
 IsCall known id = (0 < id.number) × (rpc_of (history known.world known.log) id.number ≡ Some id.rpc)

@@ -13,8 +13,8 @@ ghost use Rattle.sal_hub.specs.Chains.{Adds, AreChains, AreSame, IsFooting, is_o
 ghost use Rattle.sal_hub.specs.Current.{IsKept, answers, known_of};
 ghost use Rattle.sal_hub.specs.Failures.{IsWithin, flag_in};
 ghost use Rattle.sal_hub.specs.Journals.{jotted, mark_at};
-ghost use Rattle.sal_hub.specs.Known.{entry_of};
-ghost use Rattle.sal_hub.specs.Lines.{line_of, world_in};
+ghost use Rattle.sal_hub.specs.HubHistory.{entry_of};
+ghost use Rattle.sal_hub.specs.PipelineView.{line_of, world_in};
 ghost use Rattle.sal_hub.specs.Tokens.{IsChain, IsFresh, IsToken, begun_of};
 
 use crate::chain::Chain;

@@ -6,7 +6,7 @@ ghost use Rattle.sal_schema.specs.Valid.{IsTable};
 ghost use Rattle.sal_history.specs.declared.opening.Device.{Device as Told};
 ghost use Rattle.sal_graft.specs.Kept.{AreKept};
 ghost use Rattle.sal_hub.specs.declared.opening.OpenFault.TheVariants.{NotConfig, NoMemory as Refused};
-ghost use Rattle.sal_hub.specs.Lines.{AllKept, shown};
+ghost use Rattle.sal_hub.specs.PipelineView.{AllKept, shown};
 ghost use Rattle.sal_hub.specs.Opened.{shown_from, shown_of};
 ghost use Rattle.sal_hub.specs.Openings.{IsFaultOf, domain_of, fault_of, numbered, opening_fault, state_row, world_of};
 

@@ -8,11 +8,11 @@ ghost use Rattle.sal_tx.specs.Views.{rows_in};
 ghost use Rattle.sal_history.specs.declared.call.Call.TheVariants.{After, Begin, Cancel, ChainBegin, CloseChain, Listen, Mark, OpenChain, Pump, Settle, Submit, Take, Unlisten};
 ghost use Rattle.sal_history.specs.declared.reply.Reply.TheVariants.{Accepted, Batch as Tells, Begun, Chain as Opened, Receipt as Numbered, Settled};
 ghost use Rattle.sal_history.specs.History.{commits, history, newest_tree};
-ghost use Rattle.sal_hub.specs.declared.chain.Chain.{Chain as Line};
+ghost use Rattle.sal_hub.specs.declared.chain.Chain.{Chain as ChainToken};
 ghost use Rattle.sal_hub.specs.declared.receipt.Receipt.{Receipt as Given};
 ghost use Rattle.sal_hub.specs.Answers.{Calls, CallsOr};
 ghost use Rattle.sal_hub.specs.Domains.{AreDomains};
-ghost use Rattle.sal_hub.specs.Known.{entry_of};
+ghost use Rattle.sal_hub.specs.HubHistory.{entry_of};
 ghost use Rattle.sal_hub.specs.Listeners.{IsMade, listener_reply};
 ghost use Rattle.sal_hub.specs.Marks.{has_mark};
 ghost use Rattle.sal_hub.specs.Openings.{AreClosedDevices, IsFaultOf, fault_of, world_of};
@@ -67,11 +67,11 @@ pub struct Hub {
 }
 
 impl Model for Hub {
-    ghost use Rattle.sal_hub.specs.Known.{Known};
+    ghost use Rattle.sal_hub.specs.HubHistory.{HubHistory};
     ghost use Rattle.std.specs.Coded.{codes};
     ghost use Rattle.sal_restrict.specs.contracts.yang_type.YangType as e;
 
-    ghost Value = { Known };
+    ghost Value = { HubHistory };
 
     ghost coded = { Prim.hlevel (codes, e.the_row.coded) };
 
@@ -291,7 +291,7 @@ impl Hub {
         client: u32,
         domain: u32,
     ) -> Result<Chain, CallFault>
-        ensures answer { Calls self.old self.new (entry_of self.old client (OpenChain domain)) (λ (c : Line). Opened c.id) result }
+        ensures answer { Calls self.old self.new (entry_of self.old client (OpenChain domain)) (λ (c : ChainToken). Opened c.id) result }
         ensures given { IfOk result (IsChain self.new) }
         ensures domain { IfOk result (λ c. c.domain ≡ domain) }
     {

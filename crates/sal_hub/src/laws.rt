@@ -7,17 +7,17 @@ ghost use Rattle.sal_hub.specs.declared.chain.Chain.{Chain};
 ghost use Rattle.sal_history.specs.Listeners.{Listening};
 ghost use Rattle.sal_hub.specs.declared.listener.ListenerId.{ListenerId};
 ghost use Rattle.sal_hub.specs.declared.receipt.Receipt.{Receipt};
-ghost use Rattle.sal_hub.specs.Known.{Known, more};
+ghost use Rattle.sal_hub.specs.HubHistory.{HubHistory, more};
 ghost use Rattle.sal_hub.specs.Listeners.{IsMade};
 ghost use Rattle.sal_hub.specs.Tokens.{IsBegun, IsCall, IsChain, IsGiven, IsListener};
 
 /// A token stays one when the log grows: transactions are never less begun, receipts never less given, chains never less
 /// opened, listeners and requests never less made.
 pub fn tokens_last()
-    ensures begun { (known : Known) (e : Entry) (begun : Begun) (base : Pair) → IsBegun known begun base → IsBegun (more known e) begun base }
-    ensures given { (known : Known) (e : Entry) (receipt : Receipt) → IsGiven known receipt → IsGiven (more known e) receipt }
-    ensures opened { (known : Known) (e : Entry) (chain : Chain) → IsChain known chain → IsChain (more known e) chain }
-    ensures listener { (known : Known) (e : Entry) (id : ListenerId) → IsListener known id → IsListener (more known e) id }
-    ensures called { (known : Known) (e : Entry) (id : CallId) → IsCall known id → IsCall (more known e) id }
-    ensures made { (known : Known) (e : Entry) (id : ListenerId) (l : Listening) → IsMade known id l → IsMade (more known e) id l }
+    ensures begun { (known : HubHistory) (e : Entry) (begun : Begun) (base : Pair) → IsBegun known begun base → IsBegun (more known e) begun base }
+    ensures given { (known : HubHistory) (e : Entry) (receipt : Receipt) → IsGiven known receipt → IsGiven (more known e) receipt }
+    ensures opened { (known : HubHistory) (e : Entry) (chain : Chain) → IsChain known chain → IsChain (more known e) chain }
+    ensures listener { (known : HubHistory) (e : Entry) (id : ListenerId) → IsListener known id → IsListener (more known e) id }
+    ensures called { (known : HubHistory) (e : Entry) (id : CallId) → IsCall known id → IsCall (more known e) id }
+    ensures made { (known : HubHistory) (e : Entry) (id : ListenerId) (l : Listening) → IsMade known id l → IsMade (more known e) id l }
 {}

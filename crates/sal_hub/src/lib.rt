@@ -2,7 +2,7 @@
 //!
 //! | item | what it is |
 //! |---|---|
-//! | `Hub` | the domains and the log; a contract sees the opening trees and the log alone, `Known` |
+//! | `Hub` | the domains and the log; a contract sees the opening trees and the log alone, `HubHistory` |
 //! | `Hub::open` | a hub over some devices, whose opening trees fit at the root, unless one is refused (`OpenFault`); each device has its domain, the first is the controller's own |
 //! | `Hub::begin`, `submit`, `cancel`, `settle`, `pump` | the shared calls: each makes one entry of the log and is answered as the log gives |
 //! | `Hub::open_chain`, `chain_begin`, `close_chain` | the same, of transaction chains (MD-SAL `DOMTransactionChain`) |
@@ -26,7 +26,7 @@
 //!
 //! What is kept beside the log is tied to it by `specs/Current`: the submissions that wait, the outcomes, the marks of spent
 //! transactions and the flags of live domains are those of the answered log, and each submission is lawful over what its
-//! transaction stands on (`sal_closed`), from opening trees that are closed; `specs/Lines` says that the commits of each
+//! transaction stands on (`sal_closed`), from opening trees that are closed; `specs/PipelineView` says that the commits of each
 //! domain, and the receipts by which chains failed, are those that the outcomes tell. What is kept of chains is tied to the log by
 //! `specs/Chains`, what is kept of listeners by `specs/Listeners`, the marks that were left by `specs/Marks`, and what each
 //! service keeps of its calls by `specs/Services`; `specs/Whole` has them all.

@@ -7,8 +7,8 @@ ghost use Rattle.sal_history.specs.declared.reply.Reply.TheVariants.{Accepted, B
 ghost use Rattle.sal_hub.specs.Answers.{Calls, limit};
 ghost use Rattle.sal_hub.specs.Current.{IsKept, known_of};
 ghost use Rattle.sal_hub.specs.Journals.{jotted, mark_at};
-ghost use Rattle.sal_hub.specs.Known.{entry_of};
-ghost use Rattle.sal_hub.specs.Lines.{AllKept, is_live_in, line_of};
+ghost use Rattle.sal_hub.specs.HubHistory.{entry_of};
+ghost use Rattle.sal_hub.specs.PipelineView.{AllKept, is_live_in, line_of};
 ghost use Rattle.sal_hub.specs.Listeners as spec;
 ghost use Rattle.sal_hub.specs.Tokens.{IsListener};
 

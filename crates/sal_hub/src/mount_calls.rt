@@ -9,7 +9,7 @@ ghost use Rattle.sal_history.specs.Services as services;
 ghost use Rattle.sal_hub.specs.Answers.{Calls, limit};
 ghost use Rattle.sal_hub.specs.Current.{IsKept, known_of};
 ghost use Rattle.sal_hub.specs.Journals.{taken_back};
-ghost use Rattle.sal_hub.specs.Known.{entry_of};
+ghost use Rattle.sal_hub.specs.HubHistory.{entry_of};
 ghost use Rattle.sal_hub.specs.Mounted.{AreMounted, Enters, IsJotted};
 
 use crate::hub::Hub;

@@ -4,7 +4,7 @@ ghost use Rattle.sal_graft.specs.Kept.{AreKept};
 ghost use Rattle.sal_hub.specs.Answers.{limit};
 ghost use Rattle.sal_hub.specs.Failures as failing;
 ghost use Rattle.sal_hub.specs.Journals.{jotted, mark_at};
-ghost use Rattle.sal_hub.specs.Lines.{AllKept, Decides, HasGrown, HasSents, counts_of, cut_all, is_live_in, line_of, set_live, shown};
+ghost use Rattle.sal_hub.specs.PipelineView.{AllKept, Decides, HasGrown, HasSents, counts_of, cut_all, is_live_in, line_of, set_live, shown};
 
 use crate::failures::{cut_failures, failure_of, is_done, note_failure};
 use crate::journal::Journal;

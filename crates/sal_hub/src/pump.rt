@@ -5,7 +5,7 @@ ghost use Rattle.sal_tx.specs.declared.tx.Submission.{Submission as Sent};
 ghost use Rattle.sal_history.specs.declared.call.Call.TheVariants.{Pump};
 ghost use Rattle.sal_hub.specs.Answers.{Calls, limit};
 ghost use Rattle.sal_hub.specs.Current.{IsKept, known_of};
-ghost use Rattle.sal_hub.specs.Known.{entry_of};
+ghost use Rattle.sal_hub.specs.HubHistory.{entry_of};
 ghost use Rattle.sal_hub.specs.Seen.{pump_reply};
 ghost use Rattle.sal_hub.specs.Tokens.{IsGiven};
 

@@ -7,7 +7,7 @@ ghost use Rattle.sal_hub.specs.declared.call_id.CallId.{CallId as Given};
 ghost use Rattle.sal_hub.specs.Answers.{Calls, limit};
 ghost use Rattle.sal_hub.specs.Current.{IsKept, known_of};
 ghost use Rattle.sal_hub.specs.Journals.{jotted, mark_at, taken_back};
-ghost use Rattle.sal_hub.specs.Known.{entry_of};
+ghost use Rattle.sal_hub.specs.HubHistory.{entry_of};
 ghost use Rattle.sal_hub.specs.Routed.{AreRouted, left_by, collect_reply, request_reply};
 ghost use Rattle.sal_hub.specs.Tokens.{IsCall};
 

@@ -4,7 +4,7 @@ ghost use Rattle.sal_history.specs.declared.call.Call.TheVariants.{Answer, Colle
 ghost use Rattle.sal_history.specs.declared.reply.Reply.TheVariants.{Accepted, CallMade, Notes as Gives, Offered};
 ghost use Rattle.sal_hub.specs.declared.call_id.CallId.{CallId as Given};
 ghost use Rattle.sal_hub.specs.Answers.{Calls};
-ghost use Rattle.sal_hub.specs.Known.{entry_of};
+ghost use Rattle.sal_hub.specs.HubHistory.{entry_of};
 ghost use Rattle.sal_hub.specs.Routed.{collect_reply, request_reply};
 ghost use Rattle.sal_hub.specs.Tokens.{IsCall};
 

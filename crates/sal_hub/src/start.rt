@@ -11,7 +11,7 @@ ghost use Rattle.sal_hub.specs.Answers.{Calls, limit};
 ghost use Rattle.sal_hub.specs.Chains.{call_of};
 ghost use Rattle.sal_hub.specs.Current.{IsKept, known_of};
 ghost use Rattle.sal_hub.specs.Journals.{jotted, mark_at};
-ghost use Rattle.sal_hub.specs.Known.{entry_of};
+ghost use Rattle.sal_hub.specs.HubHistory.{entry_of};
 ghost use Rattle.sal_hub.specs.Starts.{IsNewest, IsOn, Starts};
 ghost use Rattle.sal_hub.specs.Tokens.{IsFresh, IsToken, begun_of};
 

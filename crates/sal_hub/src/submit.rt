@@ -8,7 +8,7 @@ ghost use Rattle.sal_hub.specs.Answers.{CallsOr, limit};
 ghost use Rattle.sal_hub.specs.Current.{IsKept, known_of};
 ghost use Rattle.sal_hub.specs.Failures.{IsWithin};
 ghost use Rattle.sal_hub.specs.Journals.{jotted, mark_at};
-ghost use Rattle.sal_hub.specs.Known.{entry_of};
+ghost use Rattle.sal_hub.specs.HubHistory.{entry_of};
 ghost use Rattle.sal_hub.specs.Submits.{refusal_of, submission_of};
 ghost use Rattle.sal_hub.specs.Tokens.{IsBegun, IsGiven};
 

@@ -6,7 +6,7 @@ use Rattle.std.proofs.lemmas.Option.{slice_get_within}
 use Rattle.sal_history.specs.declared.call.Entry.{Entry}
 use Rattle.sal_history.specs.History.{Answered, history, reply_to, sents, spends}
 use Rattle.sal_script.specs.Moves.{Submit, Settle}
-use Rattle.sal_script.specs.Play.{Run, Stand}
+use Rattle.sal_script.specs.Play.{Run, PlayState}
 use Rattle.sal_script.proofs.Growing.{get_front}
 use Rattle.sal_script.proofs.Listed.{get-set}
 use Rattle.sal_loads.specs.Rounds.{load_world}
@@ -50,29 +50,29 @@ stays rounds start answered e d (begun round left place) run other own more was 
 stays rounds start answered e d (submitted round left receipt) run other own more was = (was.0, was.1, was.2, omega (arith, was.3, more))
 
 -- the four clients, and the log that they have made
-pub record Keeps (rounds start : ℕ) (stand : Stand) : Type 0 where
+pub record Keeps (rounds start : ℕ) (state : PlayState) : Type 0 where
   pub phases : Phases
-  pub size : length stand.runs ≡ 4
-  pub each : (c : ℕ) (run : Run) → slice_get stand.runs c ≡ Some run → IsAt rounds start (history load_world stand.log) c (phases c) run
-  pub calls : length stand.log ≡ four (λ c. calls_by (phases c))
-  pub loaded : IsLoaded start (history load_world stand.log) phases
+  pub size : length state.runs ≡ 4
+  pub each : (c : ℕ) (run : Run) → slice_get state.runs c ≡ Some run → IsAt rounds start (history load_world state.log) c (phases c) run
+  pub calls : length state.log ≡ four (λ c. calls_by (phases c))
+  pub loaded : IsLoaded start (history load_world state.log) phases
 
-module _ (rounds start : ℕ) (stand : Stand) (was : Keeps rounds start stand) (c : ℕ) (run next : Run) (phase : Phase) (e : Entry) where
+module _ (rounds start : ℕ) (state : PlayState) (was : Keeps rounds start state) (c : ℕ) (run next : Run) (phase : Phase) (e : Entry) where
   abbrev before : List Answered
-  before = history load_world stand.log
+  before = history load_world state.log
 
   -- one more call of a client, which has come to its next phase
-  pub advance : slice_get stand.runs c ≡ Some run → e.client ≡ c → calls_by phase ≡ calls_by (was.phases c) + 1
+  pub advance : slice_get state.runs c ≡ Some run → e.client ≡ c → calls_by phase ≡ calls_by (was.phases c) + 1
       → SpendsOwn before e → length (sents before) ≤ length (sents (more_of before e)) → IsAt rounds start (more_of before e) c phase next
-      → IsLoaded start (more_of before e) (set_phase c phase was.phases) → Keeps rounds start (record { log = stand.log ++ e ∷ []; runs = set stand.runs c next })
+      → IsLoaded start (more_of before e) (set_phase c phase was.phases) → Keeps rounds start (record { log = state.log ++ e ∷ []; runs = set state.runs c next })
   advance at by counts own more now loaded =
-      let within : c < 4 = omega (arith, slice_get_within stand.runs c run at, was.size) in
-      let grown = history-push stand.log e in
+      let within : c < 4 = omega (arith, slice_get_within state.runs c run at, was.size) in
+      let grown = history-push state.log e in
       record {
         phases = set_phase c phase was.phases;
-        size = length-set stand.runs c next ∙ was.size;
+        size = length-set state.runs c next ∙ was.size;
         each = λ d r there. subst (λ (h : List Answered). IsAt rounds start h d (set_phase c phase was.phases d) r) (sym grown)
-            (elim (get-set stand.runs c next d r there) [
+            (elim (get-set state.runs c next d r there) [
               | inl w ↦
                   subst (λ (p : Phase). IsAt rounds start (more_of before e) d p r) (sym (set_own c d phase was.phases w.0))
                   (subst (λ (k : ℕ). IsAt rounds start (more_of before e) k phase r) (sym w.0) (subst (IsAt rounds start (more_of before e) c phase) w.1 now))
@@ -80,6 +80,6 @@ module _ (rounds start : ℕ) (stand : Stand) (was : Keeps rounds start stand) (
                   subst (λ (p : Phase). IsAt rounds start (more_of before e) d p r) (sym (set_other c d phase was.phases w.0))
                   (stays rounds start before e d (was.phases d) r (λ same. w.0 (same ∙ by)) own more (was.each d r w.1))
             ]);
-        calls = let set = four_set (λ d. calls_by) was.phases c phase within in omega (arith, was.calls, set, counts, length-append stand.log (e ∷ []));
+        calls = let set = four_set (λ d. calls_by) was.phases c phase within in omega (arith, was.calls, set, counts, length-append state.log (e ∷ []));
         loaded = subst (λ (h : List Answered). IsLoaded start h (set_phase c phase was.phases)) (sym grown) loaded;
       }

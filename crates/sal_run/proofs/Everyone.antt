@@ -17,7 +17,7 @@ use Rattle.sal_turn.specs.Seats.{Place, TableId}
 use Rattle.sal_turn.specs.Views.{AnswersFor, both, newcomer, opener}
 use Rattle.sal_turn.proofs.Lists.{in_either, prefix_trans}
 use Rattle.sal_broker.specs.Seats.{SeatView, client_of as maker_of, known}
-use Rattle.sal_hub.specs.Known.{Known}
+use Rattle.sal_hub.specs.HubHistory.{HubHistory}
 use Rattle.sal_script.specs.Along.{AreLeft, Finishes, IsAt, new_run}
 use Rattle.sal_script.specs.JsonMoves.{have_json_moves}
 use Rattle.sal_script.specs.Limits.{within_limits}
@@ -309,7 +309,7 @@ module _ (tables : List SchemaTable) (lock : TableId) (programs : List (List Scr
       map_in [] y h = absurd h
       map_in (g ∷ fs) y h = ⊎_elim (λ (e : named g ≡ y). (0, g, refl, e)) (λ (t : In y (map named fs)). let o = map_in fs y t in (suc o.0, o.1, o.2, o.3)) h
 
-  module _ (hub : Known) (world : place.view.ground ≡ Some hub.world) (seen : IsPrefix place.view.seen hub.log) (mine : entries_by maker_of place.view.number hub.log ≡ place.view.own)
+  module _ (hub : HubHistory) (world : place.view.ground ≡ Some hub.world) (seen : IsPrefix place.view.seen hub.log) (mine : entries_by maker_of place.view.number hub.log ≡ place.view.own)
       (joined : (k : ℕ) (es : List Entry) → In (k, es) place.view.joined → entries_by maker_of k hub.log ≡ es) (others : (k : ℕ) → ¬ AnswersFor place.view k → entries_by maker_of k hub.log ≡ []) where
     -- each client's entries
     theirs : (i : ℕ) (f : Finished) → slice_get ran.clients i ≡ Some f → entries_by maker_of i hub.log ≡ f.seat.view.own

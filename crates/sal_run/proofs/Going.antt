@@ -12,7 +12,7 @@ use Rattle.sal_history.specs.World.{Domain}
 use Rattle.sal_schema.specs.declared.table.SchemaTable.{SchemaTable}
 use Rattle.sal_turn.specs.Entries.{entries_by}
 use Rattle.sal_broker.specs.Seats.{client_of as maker_of}
-use Rattle.sal_hub.specs.Known.{Known, more}
+use Rattle.sal_hub.specs.HubHistory.{HubHistory, more}
 use Rattle.sal_script.specs.Along.{BeganIn, IsAt, IsListening, ListensIn, along, new_run}
 use Rattle.sal_script.specs.Moves.{Move, moves_of}
 use Rattle.sal_script.specs.Play.{Listener, Open, Run, arrive, go, make, tables_of}
@@ -38,12 +38,12 @@ mapped f (Some x) y is = (x, refl, out is)
     out : {Y : Type 0} {a b : Y} → (let o : Option Y = Some a in o) ≡ Some b → a ≡ b
     out e = cc
 
-pub began_of : (known : Known) (c : ClientState) → IsSound known c → BeganIn known.log (client_of c)
+pub began_of : (known : HubHistory) (c : ClientState) → IsSound known c → BeganIn known.log (client_of c)
 began_of known c is slot tx at =
     let found = mapped open_of (held c.transactions slot) tx at in
     subst (λ (t : Open). t.place < length known.log) found.2 (is.steady.transactions slot found.0 found.1).token.before
 
-pub listens_of : (known : Known) (c : ClientState) → IsSound known c → ListensIn known.world c.number known.log (client_of c)
+pub listens_of : (known : HubHistory) (c : ClientState) → IsSound known c → ListensIn known.world c.number known.log (client_of c)
 listens_of known c is slot listener at =
     let found = mapped listener_of (held c.listeners slot) listener at in
     subst (λ (l : Listener). IsListening known.world c.number known.log l) found.2 (record {
@@ -53,7 +53,7 @@ listens_of known c is slot listener at =
 
 -- ---- the client's own call
 
-module _ (tables : List SchemaTable) (c : ℕ) (steps : List Move) (known known' : Known) where
+module _ (tables : List SchemaTable) (c : ℕ) (steps : List Move) (known known' : HubHistory) where
   -- behind a call that it made
   pub at_made : (old now : Run) → GrowsBy c known known' → go tables known.world known.log c old ≡ Some (record { log = known'.log; run = now })
       → BeganIn known'.log now.client → ListensIn known.world c known'.log now.client
@@ -61,7 +61,7 @@ module _ (tables : List SchemaTable) (c : ℕ) (steps : List Move) (known known'
   at_made old now (e, own, grown) made began listens was = record {
     called = now;
     follows =
-        ap (λ (log : List Entry). along tables known.world c log (new_run steps)) (ap (λ (k : Known). k.log) grown)
+        ap (λ (log : List Entry). along tables known.world c log (new_run steps)) (ap (λ (k : HubHistory). k.log) grown)
         ∙ along-push tables known.world c known.log e (new_run steps) (made_of known.log was.called) was.follows
         ∙ pass_own tables known.world c (made_of known.log was.called) e own
         ∙ ap (make tables known.world known.log c) here
@@ -90,7 +90,7 @@ none_behind c log found own begins before after =
 
 module _ (lasts : TokensLast) (tables : List SchemaTable) (steps : List ScriptStep) (c : ℕ) where
   -- it has answered local steps, and is ready to make a call
-  pub stands_asking : (known : Known) (own : List Entry) (wish : Wish) (old new : CodeRun) → Comes tables steps old (Some wish) new → StaysSound old.client new.client → IsProgram steps new → new.client.number ≡ old.client.number
+  pub stands_asking : (known : HubHistory) (own : List Entry) (wish : Wish) (old new : CodeRun) → Comes tables steps old (Some wish) new → StaysSound old.client new.client → IsProgram steps new → new.client.number ≡ old.client.number
       → StandsIn tables steps c known own old (run_of steps old) → StandsIn tables steps c known own new (asking wish steps new)
   stands_asking known own wish old new comes stays program same was =
       let sound = stays.sound known was.sound in
@@ -111,7 +111,7 @@ module _ (lasts : TokensLast) (tables : List SchemaTable) (steps : List ScriptSt
       }
 
   -- it has answered the last of its steps
-  pub at_last : (known : Known) (own : List Entry) (old new : CodeRun) → Comes tables steps old None new → StaysSound old.client new.client → new.client.number ≡ old.client.number
+  pub at_last : (known : HubHistory) (own : List Entry) (old new : CodeRun) → Comes tables steps old None new → StaysSound old.client new.client → new.client.number ≡ old.client.number
       → StandsIn tables steps c known own old (run_of steps old) → IsAt tables known.world c (moves_of steps) known.log (record { client = client_of new.client; steps = [] })
   at_last known own old new comes stays same was =
       let sound = stays.sound known was.sound in record {
@@ -123,7 +123,7 @@ module _ (lasts : TokensLast) (tables : List SchemaTable) (steps : List ScriptSt
       }
 
   -- a turn found a longer log, with no more entries of its own
-  pub stands_found : (known found : Known) (own : List Entry) (r : CodeRun) (now : Run) → known.world ≡ found.world → IsPrefix known.log found.log → entries_by maker_of c found.log ≡ own
+  pub stands_found : (known found : HubHistory) (own : List Entry) (r : CodeRun) (now : Run) → known.world ≡ found.world → IsPrefix known.log found.log → entries_by maker_of c found.log ≡ own
       → StandsIn tables steps c known own r now → StandsIn tables steps c found own r now
   stands_found known found own r now same begins mine was = record {
     number = was.number;
@@ -139,7 +139,7 @@ module _ (lasts : TokensLast) (tables : List SchemaTable) (steps : List ScriptSt
           (IsSound-others lasts known begins.0 r.client (subst (λ (n : ℕ). entries_of begins.0 n ≡ 0) (sym was.number) (none_behind c known.log found.log own begins was.whole mine)) was.sound)
 
   -- it made the call that it was ready to make
-  pub stands_made : (known known' : Known) (own own' : List Entry) (wish : Wish) (old new : CodeRun) → known'.world ≡ known.world → MakesNext tables c known wish (client_of old.client) known' (client_of new.client)
+  pub stands_made : (known known' : HubHistory) (own own' : List Entry) (wish : Wish) (old new : CodeRun) → known'.world ≡ known.world → MakesNext tables c known wish (client_of old.client) known' (client_of new.client)
       → IsSound known' new.client → new.at ≡ old.at → new.client.number ≡ old.client.number → entries_by maker_of c known'.log ≡ own'
       → StandsIn tables steps c known own old (asking wish steps old) → StandsIn tables steps c known' own' new (run_of steps new)
   stands_made known known' own own' wish old new same makes sound at number mine was = record {

@@ -12,7 +12,7 @@ use Rattle.sal_turn.specs.Seats.{TableId}
 use Rattle.sal_turn.specs.Views.{SameRights}
 use Rattle.sal_broker.specs.Seats.{Holding, SeatView, client_of as maker_of, known}
 use Rattle.sal_broker.specs.Turns.{OneMoreAtMost, TurnOf}
-use Rattle.sal_hub.specs.Known.{Known, more}
+use Rattle.sal_hub.specs.HubHistory.{HubHistory, more}
 use Rattle.sal_script.specs.declared.script.ScriptStep.{ScriptStep}
 use Rattle.sal_script.specs.Play.{Run}
 use Rattle.sal_client.specs.declared.run.ClientRun.{ClientRun as CodeRun}
@@ -25,10 +25,10 @@ use Rattle.sal_run.specs.Stands.{Enters, Stands, StandsIn}
 use Rattle.sal_run.proofs.Going.{stands_found, stands_made}
 
 -- what a turn may add is of the seat's number
-pub one_more : (v : SeatView) (n : ℕ) (found hub left : Known) → n ≡ v.number → hub ≡ found → GrowsAtMost n hub left → OneMoreAtMost v found left
+pub one_more : (v : SeatView) (n : ℕ) (found hub left : HubHistory) → n ≡ v.number → hub ≡ found → GrowsAtMost n hub left → OneMoreAtMost v found left
 one_more v n found hub left same start grows = ⊎_elim
     (λ (h : left ≡ hub). let o : OneMoreAtMost v found left = inl (h ∙ start) in o)
-    (λ (h : GrowsBy n hub left). let o : OneMoreAtMost v found left = inr (h.0, h.1 ∙ same, h.2 ∙ ap (λ (k : Known). more k h.0) start) in o)
+    (λ (h : GrowsBy n hub left). let o : OneMoreAtMost v found left = inr (h.0, h.1 ∙ same, h.2 ∙ ap (λ (k : HubHistory). more k h.0) start) in o)
     grows
 
 -- the entries behind those of a list
@@ -46,7 +46,7 @@ mine_more c log own e is was =
     one = ap (λ (b : Bool). let kept : List Entry = cond b (e ∷ []) [] in kept) (eq-eqb e.client c is)
 
 -- the own entries are at most one more
-pub few_more : (v w : SeatView) (client : ℕ) (found left : Known) → OneMoreAtMost v found left → TurnOf v client found left w → length w.own ≤ length v.own + 1
+pub few_more : (v w : SeatView) (client : ℕ) (found left : HubHistory) → OneMoreAtMost v found left → TurnOf v client found left w → length w.own ≤ length v.own + 1
 few_more v w client found left added turn =
     let own : length w.own ≡ length v.own + length (drop (length found.log) left.log) = ap length turn.own ∙ length-append v.own (drop (length found.log) left.log) in
     ⊎_elim
@@ -55,13 +55,13 @@ few_more v w client found left added turn =
     added
   where
     nothing : left ≡ found → length (drop (length found.log) left.log) ≡ 0
-    nothing h = ap (λ (k : Known). length (drop (length found.log) k.log)) h ∙ ap (λ (l : List Entry). length (drop (length found.log) l)) (sym (append-nil found.log)) ∙ ap length (behind found.log (let none : List Entry = [] in none))
+    nothing h = ap (λ (k : HubHistory). length (drop (length found.log) k.log)) h ∙ ap (λ (l : List Entry). length (drop (length found.log) l)) (sym (append-nil found.log)) ∙ ap length (behind found.log (let none : List Entry = [] in none))
 
     something : (e : Entry) → left ≡ more found e → length (drop (length found.log) left.log) ≡ 1
-    something e h = ap (λ (k : Known). length (drop (length found.log) k.log)) h ∙ ap length (behind found.log (e ∷ []))
+    something e h = ap (λ (k : HubHistory). length (drop (length found.log) k.log)) h ∙ ap length (behind found.log (e ∷ []))
 
 -- a turn in which a call was tried leaves the own entries below the steps that are answered, counting the call's
-pub few_left : (lock : TableId) (v w : SeatView) (h : Holding) (n at : ℕ) (hub left : Known) → Enters lock v h → n ≡ v.number → hub ≡ h.hub → GrowsAtMost n hub left → TurnOf h.view h.view.number h.found left w → length v.own < at → length w.own ≤ at
+pub few_left : (lock : TableId) (v w : SeatView) (h : Holding) (n at : ℕ) (hub left : HubHistory) → Enters lock v h → n ≡ v.number → hub ≡ h.hub → GrowsAtMost n hub left → TurnOf h.view h.view.number h.found left w → length v.own < at → length w.own ≤ at
 few_left lock v w h n at hub left enters number same grows turn room =
     let more = one_more h.view n h.found hub left (number ∙ sym enters.rights.0) (same ∙ enters.hub) grows in
     let few = few_more h.view w h.view.number h.found left more turn in
@@ -75,22 +75,22 @@ module _ (lasts : TokensLast) (tables : List SchemaTable) (steps : List ScriptSt
       stands_found lasts tables steps v.number (known v) h.found v.own r now (ap (λ (g : Option (List Domain)). unwrap_or g []) enters.world) enters.seen enters.mine was
 
   -- behind a turn in which the client made its call
-  pub left_stands : (lock : TableId) (h : Holding) (left : Known) (w : SeatView) (wish : Wish) (old new : CodeRun) → Enters lock v h → SameRights h.view w → TurnOf h.view h.view.number h.found left w
+  pub left_stands : (lock : TableId) (h : Holding) (left : HubHistory) (w : SeatView) (wish : Wish) (old new : CodeRun) → Enters lock v h → SameRights h.view w → TurnOf h.view h.view.number h.found left w
       → MakesNext tables old.client.number h.hub wish (client_of old.client) left (client_of new.client) → IsSound left new.client → new.at ≡ old.at → new.client.number ≡ old.client.number
       → Stands tables steps v old (asking wish steps old) → Stands tables steps w new (run_of steps new)
   left_stands lock h left w wish old new enters rights turn makes sound at number was =
       let found = found_stands lock h old (asking wish steps old) enters was in
       let makes' : MakesNext tables v.number h.found wish (client_of old.client) left (client_of new.client) =
-      subst (λ (k : Known). MakesNext tables v.number k wish (client_of old.client) left (client_of new.client)) enters.hub
+      subst (λ (k : HubHistory). MakesNext tables v.number k wish (client_of old.client) left (client_of new.client)) enters.hub
       (subst (λ (n : ℕ). MakesNext tables n h.hub wish (client_of old.client) left (client_of new.client)) was.number makes) in
       let grown = makes'.1 in
       let e : Entry = grown.0 in
       let own' : w.own ≡ v.own ++ e ∷ [] =
       turn.own ∙ (λ k. enters.own k ++ drop (length h.found.log) (grown.2 k).log) ∙ ap (λ (l : List Entry). v.own ++ l) (behind h.found.log (e ∷ [])) in
       let mine : entries_by maker_of v.number left.log ≡ v.own ++ e ∷ [] =
-      ap (λ (k : Known). entries_by maker_of v.number k.log) grown.2 ∙ mine_more v.number h.found.log v.own e grown.1 enters.mine in
-      let same : left.world ≡ h.found.world = ap (λ (k : Known). k.world) grown.2 in
+      ap (λ (k : HubHistory). entries_by maker_of v.number k.log) grown.2 ∙ mine_more v.number h.found.log v.own e grown.1 enters.mine in
+      let same : left.world ≡ h.found.world = ap (λ (k : HubHistory). k.world) grown.2 in
       let made = stands_made lasts tables steps v.number h.found left v.own (v.own ++ e ∷ []) wish old new same makes' sound at number mine found in
       subst (λ (n : ℕ). StandsIn tables steps n (known w) w.own new (run_of steps new)) (sym (rights.0 ∙ enters.rights.0))
-      (subst (λ (k : Known). StandsIn tables steps v.number k w.own new (run_of steps new)) (sym turn.now)
+      (subst (λ (k : HubHistory). StandsIn tables steps v.number k w.own new (run_of steps new)) (sym turn.now)
       (subst (λ (own : List Entry). StandsIn tables steps v.number left own new (run_of steps new)) (sym own') made))

@@ -6,7 +6,7 @@ use Rattle.sal_history.specs.World.{Domain}
 use Rattle.sal_turn.specs.Seats.{Place, TableId}
 use Rattle.sal_turn.specs.Views.{newcomer}
 use Rattle.sal_broker.specs.Seats.{SeatView}
-use Rattle.sal_hub.specs.Known.{Known}
+use Rattle.sal_hub.specs.HubHistory.{HubHistory}
 use Rattle.sal_script.specs.declared.reply.StepReply.{StepReply}
 use Rattle.sal_script.specs.Play.{new_client}
 use Rattle.sal_client.specs.declared.wish.RunFault.{RunFault}
@@ -28,7 +28,7 @@ pub record IsSeated (turn : TableId) (giver : SeatView) (n : ℕ) (s : SeatedRun
   pub number : s.run.client.number ≡ n
   pub at : s.run.at ≡ 0
   pub client : client_of s.run.client ≡ new_client
-  pub sound : (known : Known) → IsSound known s.run.client
+  pub sound : (known : HubHistory) → IsSound known s.run.client
 
 -- one for each number below n
 pub record AreSeated (lock : TableId) (giver : SeatView) (n : ℕ) (runs : List SeatedRun) : Type 0 where

@@ -7,7 +7,7 @@ use Rattle.sal_turn.specs.Entries.{entries_by}
 use Rattle.sal_turn.specs.Seats.{TableId}
 use Rattle.sal_turn.specs.Views.{SameRights}
 use Rattle.sal_broker.specs.Seats.{Holding, SeatView, client_of as maker_of, known}
-use Rattle.sal_hub.specs.Known.{Known}
+use Rattle.sal_hub.specs.HubHistory.{HubHistory}
 use Rattle.sal_script.specs.declared.script.ScriptStep.{ScriptStep}
 use Rattle.sal_script.specs.Along.{IsAt}
 use Rattle.sal_script.specs.Moves.{moves_of}
@@ -17,7 +17,7 @@ use Rattle.sal_client.specs.Clients.{IsSound, client_of}
 use Rattle.sal_client.specs.Runs.{IsProgram}
 
 -- Client c with these steps stands at this run: along the log it made the calls that are its own there, and no others.
-pub record StandsIn (tables : List SchemaTable) (steps : List ScriptStep) (c : ℕ) (log : Known) (own : List Entry) (r : CodeRun) (now : Run) : Type 0 where
+pub record StandsIn (tables : List SchemaTable) (steps : List ScriptStep) (c : ℕ) (log : HubHistory) (own : List Entry) (r : CodeRun) (now : Run) : Type 0 where
   pub number : r.client.number ≡ c
   pub reads : tables ≡ tables_of log.world
   pub whole : entries_by maker_of c log.log ≡ own

@@ -8,7 +8,7 @@ use Rattle.sal_turn.specs.Seats.{Place, TableId}
 use Rattle.sal_broker.specs.Seats.{client_of as maker_of, known}
 use Rattle.sal_broker.specs.Turns.{Keeps}
 use Rattle.sal_hub.specs.Answers.{limit}
-use Rattle.sal_hub.specs.Known.{Known}
+use Rattle.sal_hub.specs.HubHistory.{HubHistory}
 use Rattle.sal_script.specs.declared.script.ScriptStep.{ScriptStep}
 use Rattle.sal_script.specs.Play.{new_client, tables_of}
 use Rattle.sal_client.specs.declared.wish.RunFault.TheVariants.{HistoryFull}
@@ -24,7 +24,7 @@ pub record IsNew (tables : List SchemaTable) (turn : TableId) (programs : List (
   pub has : s.run.client.number < length programs
   pub at : s.run.at ≡ 0
   pub client : client_of s.run.client ≡ new_client
-  pub sound : (log : Known) → IsSound log s.run.client
+  pub sound : (log : HubHistory) → IsSound log s.run.client
   pub reads : tables ≡ tables_of (known s.seat.view).world
   pub own : s.seat.view.own ≡ []
   pub none : entries_by maker_of s.seat.view.number s.seat.view.seen ≡ []

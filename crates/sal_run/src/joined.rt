@@ -1,6 +1,6 @@
 //! Seats for all clients, and the clients taken in again.
 ghost use Rattle.std.specs.Prelude.{◌≡◌, ◌⊎◌, ◌<◌, ◌++◌, ℕ, [], ◌∷◌, Ok, Err, IfOk, OnOk, length, map, true, slice_get, Some};
-ghost use Rattle.sal_hub.specs.Known.{Known};
+ghost use Rattle.sal_hub.specs.HubHistory.{HubHistory};
 ghost use Rattle.sal_client.specs.Clients.{IsSound, client_of};
 ghost use Rattle.sal_client.specs.Runs.{replies_in};
 ghost use Rattle.sal_script.specs.Play.{new_client};

@@ -28,7 +28,7 @@ use Rattle.sal_script.specs.declared.reply.StepReply.{StepReply}
 use Rattle.sal_script.specs.declared.reply.StepReply.TheVariants.{Called}
 use Rattle.sal_script.specs.declared.reply.StepRefusal.TheVariants.{NoDevice}
 use Rattle.sal_script.specs.Moves.{Move, Begin, Put, Merge, Delete, Read, Exists, Submit, Cancel, Settle, OpenChain, ChainBegin, CloseChain, Pump, Listen, Take, Unlisten, Mirror, Provide, Withdraw, Invoke, NextCall, Answer, Collect, Subscribe, Offer, TakeNotes, Mount, Unmount, MountAt, Mark, After}
-use Rattle.sal_script.specs.Play.{Arrival, Client, Deed, Listener, Made, Meeting, Open, Opened, Run, accept_unless, act_of, arrive, ask, arrive_by, calls, chain_begin, close_chain, deleting, ended, found, has_domain, keep, listen, listen_at, local, look, look_at, look_in, make, meet, merging, mirror, op_of, putting, refused, replied, rows_read, seen_by, settle, shared, submit, submit_in, table_for, table_in, take_batch, cancel, unlisten, write, write_act, write_at, write_in, write_with}
+use Rattle.sal_script.specs.Play.{Arrival, Client, DataAct, Listener, Made, Meeting, Open, Opened, Run, accept_unless, act_of, arrive, ask, arrive_by, calls, chain_begin, close_chain, deleting, ended, found, has_domain, keep, listen, listen_at, local, look, look_at, look_in, make, meet, merging, mirror, op_of, putting, refused, replied, rows_read, seen_by, settle, shared, submit, submit_in, table_for, table_in, take_batch, cancel, unlisten, write, write_act, write_at, write_in, write_with}
 use Rattle.sal_script.specs.Messages.{input_of, note_called, output_of, rpc_called}
 use Rattle.sal_script.specs.Services.{Invocation, OrRefusal, answer, collect, context_of, if_known, in_slot, invoke, mount, mount_at, offer, path_of, provide, rows_of, subscribe, withdraw}
 use Rattle.sal_script.specs.Orders.{Exchange, Kind, answers, asks_mount, collects, exchange_at, exchange_by, exchanges_in, exchanges_of, invokes, kind_of_call, kind_of_step, mounts, offers, provides, subscribes, withdraws}
@@ -49,18 +49,18 @@ module _ (table : SchemaTable) (world : List Domain) (log : List Entry) (step : 
   act_met (Err fault) slot store path tx = (refl, refl)
   act_met (Ok act) slot store path tx = unless_met (refusal table (seen_by world log tx store) (op_of store path act)) slot store path act tx
 
-  at_met : (path : Result (List Step) PathTextFault) (slot : ℕ) (store : Store) (deed : Deed) (tx : Open) → Met step client (write_at table world log slot store path deed tx client)
-  at_met (Err fault) slot store deed tx = (refl, refl)
-  at_met (Ok path) slot store deed tx = act_met (act_of table path deed) slot store path tx
+  at_met : (path : Result (List Step) PathTextFault) (slot : ℕ) (store : Store) (data_act : DataAct) (tx : Open) → Met step client (write_at table world log slot store path data_act tx client)
+  at_met (Err fault) slot store data_act tx = (refl, refl)
+  at_met (Ok path) slot store data_act tx = act_met (act_of table path data_act) slot store path tx
 
-  in_met : (mode : Mode) (slot : ℕ) (store : Store) (text : List ℕ) (deed : Deed) (tx : Open) → Met step client (write_in table world log mode slot store text deed tx client)
-  in_met Ro slot store text deed tx = (refl, refl)
-  in_met Wo slot store text deed tx = at_met (read_path table text) slot store deed tx
-  in_met Rw slot store text deed tx = at_met (read_path table text) slot store deed tx
+  in_met : (mode : Mode) (slot : ℕ) (store : Store) (text : List ℕ) (data_act : DataAct) (tx : Open) → Met step client (write_in table world log mode slot store text data_act tx client)
+  in_met Ro slot store text data_act tx = (refl, refl)
+  in_met Wo slot store text data_act tx = at_met (read_path table text) slot store data_act tx
+  in_met Rw slot store text data_act tx = at_met (read_path table text) slot store data_act tx
 
-  write_met : (slot : ℕ) (store : Store) (text : List ℕ) (deed : Deed) (tx : Option Open) → Met step client (write table world log slot store text deed client tx)
-  write_met slot store text deed None = (refl, refl)
-  write_met slot store text deed (Some tx) = in_met tx.mode slot store text deed tx
+  write_met : (slot : ℕ) (store : Store) (text : List ℕ) (data_act : DataAct) (tx : Option Open) → Met step client (write table world log slot store text data_act client tx)
+  write_met slot store text data_act None = (refl, refl)
+  write_met slot store text data_act (Some tx) = in_met tx.mode slot store text data_act tx
 
   shown_met : (domain : ℕ) (mode : Mode) (r : StepReply) → exchange_at step r ≡ [] → Met step client (look_in domain mode r client)
   shown_met domain Ro r silent = (refl, silent)
@@ -178,8 +178,8 @@ module _ (tables : List SchemaTable) (world : List Domain) (log : List Entry) wh
   asked_own client step kind f is all = asked_met step kind client (f (table_in tables 0)) is (all (table_in tables 0))
 
   -- by the schema of the transaction's domain
-  write_in_met : (client : Client) (step : Move) (slot : ℕ) (store : Store) (path : List ℕ) (deed : Deed) → Met step client (write_with tables world log slot store path deed client (client.transactions slot))
-  write_in_met client step slot store path deed = write_met (table_for tables (client.transactions slot)) world log step client slot store path deed (client.transactions slot)
+  write_in_met : (client : Client) (step : Move) (slot : ℕ) (store : Store) (path : List ℕ) (data_act : DataAct) → Met step client (write_with tables world log slot store path data_act client (client.transactions slot))
+  write_in_met client step slot store path data_act = write_met (table_for tables (client.transactions slot)) world log step client slot store path data_act (client.transactions slot)
 
   met : (client : Client) (step : Move) → Met step client (meet tables world log client step)
   met client (Begin slot domain mode) = refl

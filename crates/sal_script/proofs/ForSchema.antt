@@ -22,11 +22,11 @@ use Rattle.sal_data.proofs.ReadWhole.{reads_whole}
 use Rattle.sal_pathtext.specs.Laws.{IsDataPath, begins_with_data}
 use Rattle.sal_pathtext.proofs.ReadPaths.{read-is_data}
 use Rattle.sal_script.proofs.Given.{Given, given_then}
-use Rattle.sal_script.specs.JsonScripts.{AreJsonDevices, IsJsonDevice, is_json_deed}
+use Rattle.sal_script.specs.JsonScripts.{AreJsonDevices, IsJsonDevice, is_json_act}
 use Rattle.sal_script.specs.Script.{DeviceParts}
 use Rattle.sal_script.specs.Laws.{HasWholeOpenings, OpeningsAreWhole, WritesAreForSchema, own}
 use Rattle.sal_script.proofs.JsonRead.{scripts_are_json}
-use Rattle.sal_script.specs.Play.{Deed, putting, merging, deleting, act_of}
+use Rattle.sal_script.specs.Play.{DataAct, putting, merging, deleting, act_of}
 
 given_from : {A F : Type 0} (P : A → Type 0) (r : Result A F) → ((x : A) → r ≡ Ok x → P x) → Given P r
 given_from P (Ok x) h = h x refl
@@ -49,18 +49,18 @@ module _ (table : SchemaTable) where
     value_fits : (value : Data) → IsTrue (is_json value) → Given Fits (read_data table path value)
     value_fits value is = given_from Fits (read_data table path value) (λ rows e. (reads_whole table good path data_path.fits data_path.short value ((tests_json value).0 is) rows e).fitting)
 
-    act_fits : (deed : Deed) → IsTrue (is_json_deed deed) → Given Suits (act_of table path deed)
+    act_fits : (data_act : DataAct) → IsTrue (is_json_act data_act) → Given Suits (act_of table path data_act)
     act_fits (putting value) is = given_then Fits Suits (read_data table path value) (λ rows. Ok (PutAct rows)) (value_fits value is) (λ rows x. x)
     act_fits (merging value) is = given_then Fits Suits (read_data table path value) (λ rows. Ok (MergeAct rows)) (value_fits value is) (λ rows x. x)
     act_fits deleting is = refl
 
 pub writes_are_for_schema : WritesAreForSchema
-writes_are_for_schema table good store text path read deed is act made =
+writes_are_for_schema table good store text path read data_act is act made =
     let data_path = read-is_data table good text path read in
     record {
       path = data_path.fits;
       data_path = outside table path data_path.of_data;
-      rows = subst (Given (λ (a : Act). IsTrue (fits table path (rows_of_act a)))) made (act_fits table good path data_path deed is);
+      rows = subst (Given (λ (a : Act). IsTrue (fits table path (rows_of_act a)))) made (act_fits table good path data_path data_act is);
     }
 
 whole_openings : (table : SchemaTable) → IsTable table → (device : DeviceParts) → IsJsonDevice device → HasWholeOpenings table device

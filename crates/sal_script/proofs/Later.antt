@@ -30,7 +30,7 @@ use Rattle.sal_script.specs.declared.reply.StepReply.{StepReply}
 use Rattle.sal_script.specs.declared.reply.StepReply.TheVariants.{Mirror as MirrorReply}
 use Rattle.sal_script.specs.declared.reply.StepRefusal.TheVariants.{NoDevice}
 use Rattle.sal_script.specs.Moves.{Move, Begin, Put, Merge, Delete, Read, Exists, Submit, Cancel, Settle, OpenChain, ChainBegin, CloseChain, Pump, Listen, Take, Unlisten, Mirror, Provide, Withdraw, Invoke, NextCall, Answer, Collect, Subscribe, Offer, TakeNotes, Mount, Unmount, MountAt, Mark, After}
-use Rattle.sal_script.specs.Play.{Client, Deed, Listener, Meeting, Open, Opened, accept_unless, act_of, ask, cancel, chain_begin, close_chain, deleting, domain_in, found, has_domain, keep, listen, listen_at, local, look, look_at, look_in, look_with, meet, merging, mirror, op_of, putting, refused, rows_read, seen_by, set_slot, settle, shared, submit, submit_in, table_for, table_in, take_batch, unlisten, write, write_act, write_at, write_in, write_with}
+use Rattle.sal_script.specs.Play.{Client, DataAct, Listener, Meeting, Open, Opened, accept_unless, act_of, ask, cancel, chain_begin, close_chain, deleting, domain_in, found, has_domain, keep, listen, listen_at, local, look, look_at, look_in, look_with, meet, merging, mirror, op_of, putting, refused, rows_read, seen_by, set_slot, settle, shared, submit, submit_in, table_for, table_in, take_batch, unlisten, write, write_act, write_at, write_in, write_with}
 use Rattle.sal_script.specs.Services.{OrRefusal, answer, collect, invoke, mount, mount_at, offer, provide, subscribe, withdraw}
 use Rattle.sal_script.specs.Along.{BeganIn}
 use Rattle.sal_script.proofs.Growing.{trees_later}
@@ -85,27 +85,27 @@ module _ (table : SchemaTable) (world : List Domain) (log more : List Entry) whe
   act_later slot store path (Ok act) tx client h =
       ap (λ (rows : List Row). accept_unless (refusal table rows (op_of store path act)) slot (op_of store path act) tx client) (seen_later world log more tx store h)
 
-  at_later : (slot : ℕ) (store : Store) (path : Result (List Step) PathTextFault) (deed : Deed) (tx : Open) (client : Client) → tx.place < length log
-      → write_at table world (log ++ more) slot store path deed tx client ≡ write_at table world log slot store path deed tx client
-  at_later slot store (Err fault) deed tx client h = refl
-  at_later slot store (Ok path) deed tx client h = act_later slot store path (act_of table path deed) tx client h
+  at_later : (slot : ℕ) (store : Store) (path : Result (List Step) PathTextFault) (data_act : DataAct) (tx : Open) (client : Client) → tx.place < length log
+      → write_at table world (log ++ more) slot store path data_act tx client ≡ write_at table world log slot store path data_act tx client
+  at_later slot store (Err fault) data_act tx client h = refl
+  at_later slot store (Ok path) data_act tx client h = act_later slot store path (act_of table path data_act) tx client h
 
-  in_later : (mode : Mode) (slot : ℕ) (store : Store) (text : List ℕ) (deed : Deed) (tx : Open) (client : Client) → tx.place < length log
-      → write_in table world (log ++ more) mode slot store text deed tx client ≡ write_in table world log mode slot store text deed tx client
-  in_later Ro slot store text deed tx client h = refl
-  in_later Wo slot store text deed tx client h = at_later slot store (read_path table text) deed tx client h
-  in_later Rw slot store text deed tx client h = at_later slot store (read_path table text) deed tx client h
+  in_later : (mode : Mode) (slot : ℕ) (store : Store) (text : List ℕ) (data_act : DataAct) (tx : Open) (client : Client) → tx.place < length log
+      → write_in table world (log ++ more) mode slot store text data_act tx client ≡ write_in table world log mode slot store text data_act tx client
+  in_later Ro slot store text data_act tx client h = refl
+  in_later Wo slot store text data_act tx client h = at_later slot store (read_path table text) data_act tx client h
+  in_later Rw slot store text data_act tx client h = at_later slot store (read_path table text) data_act tx client h
 
-  write_later : (slot : ℕ) (store : Store) (text : List ℕ) (deed : Deed) (client : Client) (tx : Option Open) → ((o : Open) → tx ≡ Some o → o.place < length log)
-      → write table world (log ++ more) slot store text deed client tx ≡ write table world log slot store text deed client tx
-  write_later slot store text deed client None h = refl
-  write_later slot store text deed client (Some tx) h = in_later tx.mode slot store text deed tx client (h tx refl)
+  write_later : (slot : ℕ) (store : Store) (text : List ℕ) (data_act : DataAct) (client : Client) (tx : Option Open) → ((o : Open) → tx ≡ Some o → o.place < length log)
+      → write table world (log ++ more) slot store text data_act client tx ≡ write table world log slot store text data_act client tx
+  write_later slot store text data_act client None h = refl
+  write_later slot store text data_act client (Some tx) h = in_later tx.mode slot store text data_act tx client (h tx refl)
 
 module _ (tables : List SchemaTable) (world : List Domain) (log more : List Entry) where
   -- by the schema of the transaction's domain
-  write_in_later : (client : Client) (slot : ℕ) (store : Store) (path : List ℕ) (deed : Deed) → BeganIn log client
-      → write_with tables world (log ++ more) slot store path deed client (client.transactions slot) ≡ write_with tables world log slot store path deed client (client.transactions slot)
-  write_in_later client slot store path deed was = write_later (table_for tables (client.transactions slot)) world log more slot store path deed client (client.transactions slot) (was slot)
+  write_in_later : (client : Client) (slot : ℕ) (store : Store) (path : List ℕ) (data_act : DataAct) → BeganIn log client
+      → write_with tables world (log ++ more) slot store path data_act client (client.transactions slot) ≡ write_with tables world log slot store path data_act client (client.transactions slot)
+  write_in_later client slot store path data_act was = write_later (table_for tables (client.transactions slot)) world log more slot store path data_act client (client.transactions slot) (was slot)
 
   look_in_later : (f : Open → List Step → List Row → StepReply) (client : Client) (slot : ℕ) (store : Store) (path : List ℕ) → BeganIn log client
       → look_with tables world (log ++ more) f store path client (client.transactions slot) ≡ look_with tables world log f store path client (client.transactions slot)
@@ -178,18 +178,18 @@ module _ (table : SchemaTable) (world : List Domain) (over log : List Entry) (cl
   act_begun slot store path (Err fault) tx h = (was, refl)
   act_begun slot store path (Ok act) tx h = unless_begun (refusal table (seen_by world over tx store) (op_of store path act)) slot (op_of store path act) tx h
 
-  at_begun : (slot : ℕ) (store : Store) (path : Result (List Step) PathTextFault) (deed : Deed) (tx : Open) → tx.place < length log → BegunIf log client (write_at table world over slot store path deed tx client)
-  at_begun slot store (Err fault) deed tx h = (was, refl)
-  at_begun slot store (Ok path) deed tx h = act_begun slot store path (act_of table path deed) tx h
+  at_begun : (slot : ℕ) (store : Store) (path : Result (List Step) PathTextFault) (data_act : DataAct) (tx : Open) → tx.place < length log → BegunIf log client (write_at table world over slot store path data_act tx client)
+  at_begun slot store (Err fault) data_act tx h = (was, refl)
+  at_begun slot store (Ok path) data_act tx h = act_begun slot store path (act_of table path data_act) tx h
 
-  in_begun : (mode : Mode) (slot : ℕ) (store : Store) (text : List ℕ) (deed : Deed) (tx : Open) → tx.place < length log → BegunIf log client (write_in table world over mode slot store text deed tx client)
-  in_begun Ro slot store text deed tx h = (was, refl)
-  in_begun Wo slot store text deed tx h = at_begun slot store (read_path table text) deed tx h
-  in_begun Rw slot store text deed tx h = at_begun slot store (read_path table text) deed tx h
+  in_begun : (mode : Mode) (slot : ℕ) (store : Store) (text : List ℕ) (data_act : DataAct) (tx : Open) → tx.place < length log → BegunIf log client (write_in table world over mode slot store text data_act tx client)
+  in_begun Ro slot store text data_act tx h = (was, refl)
+  in_begun Wo slot store text data_act tx h = at_begun slot store (read_path table text) data_act tx h
+  in_begun Rw slot store text data_act tx h = at_begun slot store (read_path table text) data_act tx h
 
-  write_begun : (slot : ℕ) (store : Store) (text : List ℕ) (deed : Deed) (tx : Option Open) → ((o : Open) → tx ≡ Some o → o.place < length log) → BegunIf log client (write table world over slot store text deed client tx)
-  write_begun slot store text deed None h = (was, refl)
-  write_begun slot store text deed (Some tx) h = in_begun tx.mode slot store text deed tx (h tx refl)
+  write_begun : (slot : ℕ) (store : Store) (text : List ℕ) (data_act : DataAct) (tx : Option Open) → ((o : Open) → tx ≡ Some o → o.place < length log) → BegunIf log client (write table world over slot store text data_act client tx)
+  write_begun slot store text data_act None h = (was, refl)
+  write_begun slot store text data_act (Some tx) h = in_begun tx.mode slot store text data_act tx (h tx refl)
 
   shown_begun : (domain : ℕ) (mode : Mode) (r : StepReply) → BegunIf log client (look_in domain mode r client)
   shown_begun domain Ro r = (was, refl)
@@ -258,8 +258,8 @@ module _ (tables : List SchemaTable) (world : List Domain) (over log : List Entr
   asked_begun (Err refusal) = (was, refl)
 
   -- by the schema of the transaction's domain
-  write_in_begun : (slot : ℕ) (store : Store) (path : List ℕ) (deed : Deed) → BegunIf log client (write_with tables world over slot store path deed client (client.transactions slot))
-  write_in_begun slot store path deed = write_begun (table_for tables (client.transactions slot)) world over log client was slot store path deed (client.transactions slot) (was slot)
+  write_in_begun : (slot : ℕ) (store : Store) (path : List ℕ) (data_act : DataAct) → BegunIf log client (write_with tables world over slot store path data_act client (client.transactions slot))
+  write_in_begun slot store path data_act = write_begun (table_for tables (client.transactions slot)) world over log client was slot store path data_act (client.transactions slot) (was slot)
 
   look_in_begun : (f : Open → List Step → List Row → StepReply) (slot : ℕ) (store : Store) (path : List ℕ) → BegunIf log client (look_with tables world over f store path client (client.transactions slot))
   look_in_begun f slot store path = look_begun (table_for tables (client.transactions slot)) world over log client was f store path (client.transactions slot)

@@ -10,7 +10,7 @@ use Rattle.sal_history.specs.World.{Domain}
 use Rattle.sal_schema.specs.declared.table.SchemaTable.{SchemaTable}
 use Rattle.sal_script.specs.declared.reply.StepReply.{StepReply}
 use Rattle.sal_script.specs.Moves.{Move}
-use Rattle.sal_script.specs.Play.{Arrival, Made, Played, Run, Stand, arrive, calls, cons_replies, end_by, ended, go, make, play_by, play_from, replies_at, replies_of, stand_with, start, turn, turn_of, tables_of}
+use Rattle.sal_script.specs.Play.{Arrival, Made, Played, Run, PlayState, arrive, calls, cons_replies, end_by, ended, go, make, play_by, play_from, replies_at, replies_of, state_with, start, turn, turn_of, tables_of}
 use Rattle.sal_script.specs.Along.{Left, finish, new_run, order_of, pass}
 use Rattle.sal_script.specs.OneOrder.{LeftIsOneOrder}
 use Rattle.sal_script.proofs.Along.{along_from, entry_at, made_of, pass_other, pass_own}
@@ -155,9 +155,9 @@ module _ (tables : List SchemaTable) (world : List Domain) where
         let mine : (run : Run) × (slice_get runs c ≡ Some run) = get_some runs c (omega (arith, long, within)) in
         let own : (rs : List StepReply) × (slice_get replies c ≡ Some rs) = get_some replies c within in
         let went = own_step tables world c before mine.0 e rest own.0 refl (was c mine.0 own.0 mine.1 own.1) in
-        let stand : Stand = record { log = before; runs = runs } in
-        let turned : turn tables world stand c ≡ Some (let s : Stand = record { log = before ++ e ∷ []; runs = set runs c went.0 } in s) =
-        ap (turn_of tables world stand c) mine.1 ∙ ap (stand_with stand c) went.1 in
+        let state : PlayState = record { log = before; runs = runs } in
+        let turned : turn tables world state c ≡ Some (let s : PlayState = record { log = before ++ e ∷ []; runs = set runs c went.0 } in s) =
+        ap (turn_of tables world state c) mine.1 ∙ ap (state_with state c) went.1 in
         let all : AllEnd (before ++ e ∷ []) (set runs c went.0) rest ((before ++ e ∷ []) ++ rest) =
         subst (AllEnd (before ++ e ∷ []) (set runs c went.0) rest) (sym (append_assoc before (e ∷ []) rest)) (next_end before runs e rest (before ++ e ∷ rest) c went.0 own.0 refl own.1 went.2 was) in
         ap (play_by index (λ next. play_from tables world (index + 1) next (order_of rest))) turned

@@ -10,7 +10,7 @@ use Rattle.sal_history.specs.History.{entries_of}
 use Rattle.sal_schema.specs.declared.table.SchemaTable.{SchemaTable}
 use Rattle.sal_script.specs.declared.reply.StepReply.{StepReply}
 use Rattle.sal_script.specs.Moves.{Move}
-use Rattle.sal_script.specs.Play.{Arrival, IsLegal, Made, Played, Run, Stand, arrive, calls, cons_replies, end_by, ended, go, new_client, play, play_by, play_from, replies_at, replies_of, stand_with, start, turn, turn_of, tables_of}
+use Rattle.sal_script.specs.Play.{Arrival, IsLegal, Made, Played, Run, PlayState, arrive, calls, cons_replies, end_by, ended, go, new_client, play, play_by, play_from, replies_at, replies_of, state_with, start, turn, turn_of, tables_of}
 use Rattle.sal_script.specs.Orders.{Exchange, Follows, IsNumbered, OrdersEndOrFail, PlaysFollow, exchanges_in, exchanges_of}
 use Rattle.sal_script.proofs.Arriving.{IsOnWay, Makes, MakesIf, Reaches, exchanges-other, makes, reaches}
 use Rattle.sal_script.proofs.Listed.{get-push, get-set, get_some, take_left}
@@ -32,12 +32,12 @@ same_Err i j e = ap (err_or_this i) e
 -- ---- one number of the order
 
 -- where the clients stand after this part of an order
-record Stands (world : List Domain) (clients : List (List Move)) (order : List ℕ) (stand : Stand) : Type 0 where
-  pub ordered : map (λ (e : Entry). e.client) stand.log ≡ order
+record Stands (world : List Domain) (clients : List (List Move)) (order : List ℕ) (state : PlayState) : Type 0 where
+  pub ordered : map (λ (e : Entry). e.client) state.log ≡ order
   pub known : (i c : ℕ) → slice_get order i ≡ Some c → c < length clients
-  pub numbered : IsNumbered stand.log
-  pub runs : length stand.runs ≡ length clients
-  pub each : (c : ℕ) (steps : List Move) (run : Run) → slice_get clients c ≡ Some steps → slice_get stand.runs c ≡ Some run → IsOnWay world stand.log c steps run
+  pub numbered : IsNumbered state.log
+  pub runs : length state.runs ≡ length clients
+  pub each : (c : ℕ) (steps : List Move) (run : Run) → slice_get clients c ≡ Some steps → slice_get state.runs c ≡ Some run → IsOnWay world state.log c steps run
 
 clients-push : (log : List Entry) (e : Entry) → map (λ (x : Entry). x.client) (log ++ e ∷ []) ≡ map (λ (x : Entry). x.client) log ++ e.client ∷ []
 clients-push [] e = refl
@@ -59,27 +59,27 @@ known-push n order c was h i d at = elim (get-push order c i d at) [ inl old ↦
 others_on_way : (world : List Domain) (log : List Entry) (e : Entry) (c : ℕ) (steps : List Move) (run : Run) → (e.client ≡ c → ⊥) → IsOnWay world log c steps run → IsOnWay world (log ++ e ∷ []) c steps run
 others_on_way world log e c steps run other was = record { done = was.done; parts = was.parts; long = was.long; so_far = was.so_far ∙ sym (exchanges-other world log e c other) }
 
-module _ (world : List Domain) (clients : List (List Move)) (order : List ℕ) (stand : Stand) (was : Stands world clients order stand) (c : ℕ) (steps : List Move) (at_c : slice_get clients c ≡ Some steps) where
-  each-set : (made : Made) → Makes world stand.log c steps made → (d : ℕ) (ms : List Move) (run : Run) → slice_get clients d ≡ Some ms → slice_get (set stand.runs c made.run) d ≡ Some run → IsOnWay world made.log d ms run
+module _ (world : List Domain) (clients : List (List Move)) (order : List ℕ) (state : PlayState) (was : Stands world clients order state) (c : ℕ) (steps : List Move) (at_c : slice_get clients c ≡ Some steps) where
+  each-set : (made : Made) → Makes world state.log c steps made → (d : ℕ) (ms : List Move) (run : Run) → slice_get clients d ≡ Some ms → slice_get (set state.runs c made.run) d ≡ Some run → IsOnWay world made.log d ms run
   each-set made m d ms run at_d at_run =
-      elim (get-set stand.runs c made.run d run at_run) [
+      elim (get-set state.runs c made.run d run at_run) [
         | inl w ↦
             let same : steps ≡ ms = same_Some steps ms (sym at_c ∙ ap (slice_get clients) (sym w.0) ∙ at_d) in
             subst (λ (x : Run). IsOnWay world made.log d ms x) w.1 (subst (λ (k : ℕ). IsOnWay world made.log k ms made.run) (sym w.0) (subst (λ (xs : List Move). IsOnWay world made.log c xs made.run) same m.run))
         | inr w ↦
             subst (λ (log : List Entry). IsOnWay world log d ms run) (sym m.grown)
-            (others_on_way world stand.log m.entry d ms run (λ same. w.0 (sym same ∙ m.by)) (was.each d ms run at_d w.1))
+            (others_on_way world state.log m.entry d ms run (λ same. w.0 (sym same ∙ m.by)) (was.each d ms run at_d w.1))
       ]
 
-  stands_with : (made : Option Made) (next : Stand) → MakesIf world stand.log c steps made → stand_with stand c made ≡ Some next → Stands world clients (order ++ c ∷ []) next
+  stands_with : (made : Option Made) (next : PlayState) → MakesIf world state.log c steps made → state_with state c made ≡ Some next → Stands world clients (order ++ c ∷ []) next
   stands_with None next m e = cc
   stands_with (Some made) next m e =
-      subst (Stands world clients (order ++ c ∷ [])) (same_Some (let s : Stand = record { log = made.log; runs = set stand.runs c made.run } in s) next e)
+      subst (Stands world clients (order ++ c ∷ [])) (same_Some (let s : PlayState = record { log = made.log; runs = set state.runs c made.run } in s) next e)
       record {
-        ordered = ap (map (λ (x : Entry). x.client)) m.grown ∙ clients-push stand.log m.entry ∙ (λ k. was.ordered k ++ m.by k ∷ []);
+        ordered = ap (map (λ (x : Entry). x.client)) m.grown ∙ clients-push state.log m.entry ∙ (λ k. was.ordered k ++ m.by k ∷ []);
         known = known-push (length clients) order c was.known (slice_get_within clients c steps at_c);
-        numbered = subst IsNumbered (sym m.grown) (numbered-push stand.log m.entry was.numbered (m.number ∙ ap (entries_of stand.log) (sym m.by)));
-        runs = length-set stand.runs c made.run ∙ was.runs;
+        numbered = subst IsNumbered (sym m.grown) (numbered-push state.log m.entry was.numbered (m.number ∙ ap (entries_of state.log) (sym m.by)));
+        runs = length-set state.runs c made.run ∙ was.runs;
         each = each-set made m;
       }
 
@@ -90,16 +90,16 @@ module _ (tables : List SchemaTable) (world : List Domain) (clients : List (List
       subst (λ (ms : List Move). Reaches ms (exchanges_in world log c) (arrive tables world log run.client run.steps)) (sym way.parts)
       (reaches tables world log run.steps way.done run.client (exchanges_in world log c) way.long way.so_far)
 
-  turned_by : (order : List ℕ) (stand next : Stand) (c : ℕ) (run : Option Run) → Stands world clients order stand → slice_get stand.runs c ≡ run → turn_of tables world stand c run ≡ Some next → Stands world clients (order ++ c ∷ []) next
-  turned_by order stand next c None was at e = cc
-  turned_by order stand next c (Some run) was at e =
-      let within : c < length clients = omega (arith, was.runs, slice_get_within stand.runs c run at) in
+  turned_by : (order : List ℕ) (state next : PlayState) (c : ℕ) (run : Option Run) → Stands world clients order state → slice_get state.runs c ≡ run → turn_of tables world state c run ≡ Some next → Stands world clients (order ++ c ∷ []) next
+  turned_by order state next c None was at e = cc
+  turned_by order state next c (Some run) was at e =
+      let within : c < length clients = omega (arith, was.runs, slice_get_within state.runs c run at) in
       let program : (steps : List Move) × (slice_get clients c ≡ Some steps) = get_some clients c within in
-      stands_with world clients order stand was c program.0 program.1 (go tables world stand.log c run) next
-      (makes tables world stand.log c program.0 (arrive tables world stand.log run.client run.steps) (going stand.log c program.0 run (was.each c program.0 run program.1 at))) e
+      stands_with world clients order state was c program.0 program.1 (go tables world state.log c run) next
+      (makes tables world state.log c program.0 (arrive tables world state.log run.client run.steps) (going state.log c program.0 run (was.each c program.0 run program.1 at))) e
 
-  turned : (order : List ℕ) (stand next : Stand) (c : ℕ) → Stands world clients order stand → turn tables world stand c ≡ Some next → Stands world clients (order ++ c ∷ []) next
-  turned order stand next c was e = turned_by order stand next c (slice_get stand.runs c) was refl e
+  turned : (order : List ℕ) (state next : PlayState) (c : ℕ) → Stands world clients order state → turn tables world state c ≡ Some next → Stands world clients (order ++ c ∷ []) next
+  turned order state next c was e = turned_by order state next c (slice_get state.runs c) was refl e
 
 -- ---- the end
 
@@ -136,9 +136,9 @@ module _ (tables : List SchemaTable) (world : List Domain) (log : List Entry) wh
       (ap suc rest.0, first_or_later run runs p.0 p.1 p.2 rest.1)
 
 module _ (tables : List SchemaTable) (world : List Domain) (clients : List (List Move)) where
-  finishes : (order : List ℕ) (stand : Stand) (all : List (List StepReply)) → Stands world clients order stand → replies_of tables world stand.log stand.runs ≡ Some all → Follows world clients order (record { log = stand.log; replies = all })
-  finishes order stand all was e =
-      let ends = all_end tables world stand.log stand.runs all e in
+  finishes : (order : List ℕ) (state : PlayState) (all : List (List StepReply)) → Stands world clients order state → replies_of tables world state.log state.runs ≡ Some all → Follows world clients order (record { log = state.log; replies = all })
+  finishes order state all was e =
+      let ends = all_end tables world state.log state.runs all e in
       record {
         ordered = was.ordered;
         known = was.known;
@@ -147,26 +147,26 @@ module _ (tables : List SchemaTable) (world : List Domain) (clients : List (List
         each = λ c steps rs at_c at_rs.
             let last = ends.1 c rs at_rs in
             let run : Run = last.0 in
-            let done = ended_with steps (exchanges_in world stand.log c) (arrive tables world stand.log run.client run.steps) rs (going tables world clients stand.log c steps run (was.each c steps run at_c last.1)) last.2 in
+            let done = ended_with steps (exchanges_in world state.log c) (arrive tables world state.log run.client run.steps) rs (going tables world clients state.log c steps run (was.each c steps run at_c last.1)) last.2 in
             record { answered = done.0; called = done.1 };
       }
 
-  ended_by : (index : ℕ) (order : List ℕ) (stand : Stand) (all : Option (List (List StepReply))) (played : Played) → Stands world clients order stand → replies_of tables world stand.log stand.runs ≡ all → end_by tables world index stand.log all ≡ Ok played → Follows world clients order played
-  ended_by index order stand None played was is e = cc
-  ended_by index order stand (Some all) played was is e =
-      subst (Follows world clients order) (same_Ok (let p : Played = record { log = stand.log; replies = all } in p) played e) (finishes order stand all was is)
+  ended_by : (index : ℕ) (order : List ℕ) (state : PlayState) (all : Option (List (List StepReply))) (played : Played) → Stands world clients order state → replies_of tables world state.log state.runs ≡ all → end_by tables world index state.log all ≡ Ok played → Follows world clients order played
+  ended_by index order state None played was is e = cc
+  ended_by index order state (Some all) played was is e =
+      subst (Follows world clients order) (same_Ok (let p : Played = record { log = state.log; replies = all } in p) played e) (finishes order state all was is)
 
-  going_on : (index c : ℕ) (done order : List ℕ) (stand : Stand) (next : Option Stand) (played : Played) → Stands world clients done stand → turn tables world stand c ≡ next
-      → ((s : Stand) → Stands world clients (done ++ c ∷ []) s → play_from tables world (index + 1) s order ≡ Ok played → Follows world clients (done ++ c ∷ order) played)
+  going_on : (index c : ℕ) (done order : List ℕ) (state : PlayState) (next : Option PlayState) (played : Played) → Stands world clients done state → turn tables world state c ≡ next
+      → ((s : PlayState) → Stands world clients (done ++ c ∷ []) s → play_from tables world (index + 1) s order ≡ Ok played → Follows world clients (done ++ c ∷ order) played)
       → play_by index (λ s. play_from tables world (index + 1) s order) next ≡ Ok played → Follows world clients (done ++ c ∷ order) played
-  going_on index c done order stand None played was is more e = cc
-  going_on index c done order stand (Some next) played was is more e = more next (turned tables world clients done stand next c was is) e
+  going_on index c done order state None played was is more e = cc
+  going_on index c done order state (Some next) played was is more e = more next (turned tables world clients done state next c was is) e
 
-  plays : (order : List ℕ) (index : ℕ) (done : List ℕ) (stand : Stand) (played : Played) → Stands world clients done stand → play_from tables world index stand order ≡ Ok played → Follows world clients (done ++ order) played
-  plays [] index done stand played was e =
-      subst (λ (cs : List ℕ). Follows world clients cs played) (sym (append-nil done)) (ended_by index done stand (replies_of tables world stand.log stand.runs) played was refl e)
-  plays (c ∷ order) index done stand played was e =
-      going_on index c done order stand (turn tables world stand c) played was refl
+  plays : (order : List ℕ) (index : ℕ) (done : List ℕ) (state : PlayState) (played : Played) → Stands world clients done state → play_from tables world index state order ≡ Ok played → Follows world clients (done ++ order) played
+  plays [] index done state played was e =
+      subst (λ (cs : List ℕ). Follows world clients cs played) (sym (append-nil done)) (ended_by index done state (replies_of tables world state.log state.runs) played was refl e)
+  plays (c ∷ order) index done state played was e =
+      going_on index c done order state (turn tables world state c) played was refl
       (λ s new rest. subst (λ (cs : List ℕ). Follows world clients cs played) (append_assoc done (c ∷ []) order) (plays order (index + 1) (done ++ c ∷ []) s played new rest)) e
 
 -- ---- the beginning
@@ -202,14 +202,14 @@ module _ (tables : List SchemaTable) (world : List Domain) where
   fails_at_end index log None i e = le_of_eq (sym (same_Err index i e))
   fails_at_end index log (Some all) i e = cc
 
-  fails_by : (index : ℕ) (order : List ℕ) (next : Option Stand) (i : ℕ) → ((s : Stand) → play_from tables world (index + 1) s order ≡ Err i → i ≤ index + 1 + length order)
+  fails_by : (index : ℕ) (order : List ℕ) (next : Option PlayState) (i : ℕ) → ((s : PlayState) → play_from tables world (index + 1) s order ≡ Err i → i ≤ index + 1 + length order)
       → play_by index (λ s. play_from tables world (index + 1) s order) next ≡ Err i → i ≤ index + suc (length order)
   fails_by index order None i more e = let at = same_Err index i e in omega (arith, at)
   fails_by index order (Some s) i more e = let later = more s e in omega (arith, later)
 
-  fails_within : (order : List ℕ) (index : ℕ) (stand : Stand) (i : ℕ) → play_from tables world index stand order ≡ Err i → i ≤ index + length order
-  fails_within [] index stand i e = let at = fails_at_end index stand.log (replies_of tables world stand.log stand.runs) i e in omega (arith, at)
-  fails_within (c ∷ order) index stand i e = fails_by index order (turn tables world stand c) i (λ s. fails_within order (index + 1) s i) e
+  fails_within : (order : List ℕ) (index : ℕ) (state : PlayState) (i : ℕ) → play_from tables world index state order ≡ Err i → i ≤ index + length order
+  fails_within [] index state i e = let at = fails_at_end index state.log (replies_of tables world state.log state.runs) i e in omega (arith, at)
+  fails_within (c ∷ order) index state i e = fails_by index order (turn tables world state c) i (λ s. fails_within order (index + 1) s i) e
 
 module _ (world : List Domain) (clients : List (List Move)) (order : List ℕ) where
   end_or_fail : (r : Result Played ℕ) → play world clients order ≡ r → ((i : ℕ) → r ≡ Err i → i ≤ length order)

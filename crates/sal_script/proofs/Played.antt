@@ -8,7 +8,7 @@ use Rattle.sal_history.specs.World.{Domain}
 use Rattle.sal_schema.specs.declared.table.SchemaTable.{SchemaTable}
 use Rattle.sal_script.specs.declared.reply.StepReply.{StepReply}
 use Rattle.sal_script.specs.Moves.{Move}
-use Rattle.sal_script.specs.Play.{Arrival, Made, Played, Run, Stand, arrive, calls, end_by, ended, go, make, play_by, play_from, replies_of, stand_with, start, turn, turn_of, tables_of}
+use Rattle.sal_script.specs.Play.{Arrival, Made, Played, Run, PlayState, arrive, calls, end_by, ended, go, make, play_by, play_from, replies_of, state_with, start, turn, turn_of, tables_of}
 use Rattle.sal_script.specs.Orders.{Follows}
 use Rattle.sal_script.specs.Along.{Finishes, Left, along, finish, new_run}
 use Rattle.sal_script.specs.OneOrder.{PlayedCanBeLeft}
@@ -39,59 +39,59 @@ module _ (tables : List SchemaTable) (world : List Domain) where
       own = (made.run, λ i. made_of (ap log_of is i) made.run)
 
   -- each client has come along the log
-  abbrev AllAlong : List (List Move) → Stand → Type 0
-  AllAlong clients stand = (c : ℕ) (steps : List Move) (run : Run) → slice_get clients c ≡ Some steps → slice_get stand.runs c ≡ Some run → along tables world c stand.log (new_run steps) ≡ Some (made_of stand.log run)
+  abbrev AllAlong : List (List Move) → PlayState → Type 0
+  AllAlong clients state = (c : ℕ) (steps : List Move) (run : Run) → slice_get clients c ≡ Some steps → slice_get state.runs c ≡ Some run → along tables world c state.log (new_run steps) ≡ Some (made_of state.log run)
 
-  all_next : (clients : List (List Move)) (stand : Stand) (c : ℕ) (run next : Run) (e : Entry) → e.client ≡ c → slice_get stand.runs c ≡ Some run → go tables world stand.log c run ≡ Some (made_of (stand.log ++ e ∷ []) next) → AllAlong clients stand
-      → AllAlong clients (record { log = stand.log ++ e ∷ []; runs = set stand.runs c next })
-  all_next clients stand c run next e own at went was d steps r at_d at_r =
-      elim (get-set stand.runs c next d r at_r) [
+  all_next : (clients : List (List Move)) (state : PlayState) (c : ℕ) (run next : Run) (e : Entry) → e.client ≡ c → slice_get state.runs c ≡ Some run → go tables world state.log c run ≡ Some (made_of (state.log ++ e ∷ []) next) → AllAlong clients state
+      → AllAlong clients (record { log = state.log ++ e ∷ []; runs = set state.runs c next })
+  all_next clients state c run next e own at went was d steps r at_d at_r =
+      elim (get-set state.runs c next d r at_r) [
         | inl w ↦
-            subst (λ (x : Run). along tables world d (stand.log ++ e ∷ []) (new_run steps) ≡ Some (made_of (stand.log ++ e ∷ []) x)) w.1
-            (subst (λ (k : ℕ). along tables world k (stand.log ++ e ∷ []) (new_run steps) ≡ Some (made_of (stand.log ++ e ∷ []) next)) (sym w.0)
-            (along-push tables world c stand.log e (new_run steps) (made_of stand.log run) (was c steps run (ap (slice_get clients) (sym w.0) ∙ at_d) at)
-            ∙ pass_own tables world c (made_of stand.log run) e own ∙ went))
+            subst (λ (x : Run). along tables world d (state.log ++ e ∷ []) (new_run steps) ≡ Some (made_of (state.log ++ e ∷ []) x)) w.1
+            (subst (λ (k : ℕ). along tables world k (state.log ++ e ∷ []) (new_run steps) ≡ Some (made_of (state.log ++ e ∷ []) next)) (sym w.0)
+            (along-push tables world c state.log e (new_run steps) (made_of state.log run) (was c steps run (ap (slice_get clients) (sym w.0) ∙ at_d) at)
+            ∙ pass_own tables world c (made_of state.log run) e own ∙ went))
         | inr w ↦
-            along-push tables world d stand.log e (new_run steps) (made_of stand.log r) (was d steps r at_d w.1)
-            ∙ pass_other tables world d (made_of stand.log r) e (λ mine. w.0 (sym mine ∙ own))
+            along-push tables world d state.log e (new_run steps) (made_of state.log r) (was d steps r at_d w.1)
+            ∙ pass_other tables world d (made_of state.log r) e (λ mine. w.0 (sym mine ∙ own))
       ]
 
   module _ (clients : List (List Move)) where
-    with_made : (stand next : Stand) (c : ℕ) (run : Run) (made : Option Made) → slice_get stand.runs c ≡ Some run → go tables world stand.log c run ≡ made → AllAlong clients stand → stand_with stand c made ≡ Some next → AllAlong clients next
-    with_made stand next c run None at went was is = cc
-    with_made stand next c run (Some made) at went was is =
-        let own = make_own stand.log c (arrive tables world stand.log run.client run.steps) made went in
-        subst (AllAlong clients) (same_Some (let s : Stand = record { log = made.log; runs = set stand.runs c made.run } in s) next is)
-        (subst (λ (m : Made). AllAlong clients (record { log = m.log; runs = set stand.runs c m.run })) own.3 (all_next clients stand c run own.1 own.0 own.2 at (went ∙ ap Some (sym own.3)) was))
+    with_made : (state next : PlayState) (c : ℕ) (run : Run) (made : Option Made) → slice_get state.runs c ≡ Some run → go tables world state.log c run ≡ made → AllAlong clients state → state_with state c made ≡ Some next → AllAlong clients next
+    with_made state next c run None at went was is = cc
+    with_made state next c run (Some made) at went was is =
+        let own = make_own state.log c (arrive tables world state.log run.client run.steps) made went in
+        subst (AllAlong clients) (same_Some (let s : PlayState = record { log = made.log; runs = set state.runs c made.run } in s) next is)
+        (subst (λ (m : Made). AllAlong clients (record { log = m.log; runs = set state.runs c m.run })) own.3 (all_next clients state c run own.1 own.0 own.2 at (went ∙ ap Some (sym own.3)) was))
 
-    turned_by : (stand next : Stand) (c : ℕ) (run : Option Run) → slice_get stand.runs c ≡ run → AllAlong clients stand → turn_of tables world stand c run ≡ Some next → AllAlong clients next
-    turned_by stand next c None at was is = cc
-    turned_by stand next c (Some run) at was is = with_made stand next c run (go tables world stand.log c run) at refl was is
+    turned_by : (state next : PlayState) (c : ℕ) (run : Option Run) → slice_get state.runs c ≡ run → AllAlong clients state → turn_of tables world state c run ≡ Some next → AllAlong clients next
+    turned_by state next c None at was is = cc
+    turned_by state next c (Some run) at was is = with_made state next c run (go tables world state.log c run) at refl was is
 
     -- each client comes to its end along the log
     abbrev AllFinish : Played → Type 0
     AllFinish played = (c : ℕ) (steps : List Move) (rs : List StepReply) → slice_get clients c ≡ Some steps → slice_get played.replies c ≡ Some rs → Finishes tables world c played.log steps rs
 
-    ends : (stand : Stand) (all : List (List StepReply)) → AllAlong clients stand → replies_of tables world stand.log stand.runs ≡ Some all → AllFinish (record { log = stand.log; replies = all })
-    ends stand all was is c steps rs at_c at_rs =
-        let last = (all_end tables world stand.log stand.runs all is).1 c rs at_rs in
+    ends : (state : PlayState) (all : List (List StepReply)) → AllAlong clients state → replies_of tables world state.log state.runs ≡ Some all → AllFinish (record { log = state.log; replies = all })
+    ends state all was is c steps rs at_c at_rs =
+        let last = (all_end tables world state.log state.runs all is).1 c rs at_rs in
         ap (option_and_then (finish tables world c)) (was c steps last.0 at_c last.1)
-        ∙ ap (option_map (λ replies. let left : Left = record { log = stand.log; replies = replies } in left)) last.2
+        ∙ ap (option_map (λ replies. let left : Left = record { log = state.log; replies = replies } in left)) last.2
 
-    ended_by : (index : ℕ) (stand : Stand) (all : Option (List (List StepReply))) (played : Played) → AllAlong clients stand → replies_of tables world stand.log stand.runs ≡ all → end_by tables world index stand.log all ≡ Ok played → AllFinish played
-    ended_by index stand None played was at is = cc
-    ended_by index stand (Some all) played was at is = subst AllFinish (same_Ok (let p : Played = record { log = stand.log; replies = all } in p) played is) (ends stand all was at)
+    ended_by : (index : ℕ) (state : PlayState) (all : Option (List (List StepReply))) (played : Played) → AllAlong clients state → replies_of tables world state.log state.runs ≡ all → end_by tables world index state.log all ≡ Ok played → AllFinish played
+    ended_by index state None played was at is = cc
+    ended_by index state (Some all) played was at is = subst AllFinish (same_Ok (let p : Played = record { log = state.log; replies = all } in p) played is) (ends state all was at)
 
-    going_on : (index c : ℕ) (order : List ℕ) (stand : Stand) (next : Option Stand) (played : Played) → turn tables world stand c ≡ next → AllAlong clients stand
-        → ((s : Stand) → AllAlong clients s → play_from tables world (index + 1) s order ≡ Ok played → AllFinish played)
+    going_on : (index c : ℕ) (order : List ℕ) (state : PlayState) (next : Option PlayState) (played : Played) → turn tables world state c ≡ next → AllAlong clients state
+        → ((s : PlayState) → AllAlong clients s → play_from tables world (index + 1) s order ≡ Ok played → AllFinish played)
         → play_by index (λ s. play_from tables world (index + 1) s order) next ≡ Ok played → AllFinish played
-    going_on index c order stand None played went was more is = cc
-    going_on index c order stand (Some next) played went was more is = more next (turned_by stand next c (slice_get stand.runs c) refl was went) is
+    going_on index c order state None played went was more is = cc
+    going_on index c order state (Some next) played went was more is = more next (turned_by state next c (slice_get state.runs c) refl was went) is
 
-    plays : (order : List ℕ) (index : ℕ) (stand : Stand) (played : Played) → AllAlong clients stand → play_from tables world index stand order ≡ Ok played → AllFinish played
-    plays [] index stand played was is = ended_by index stand (replies_of tables world stand.log stand.runs) played was refl is
-    plays (c ∷ order) index stand played was is =
-        going_on index c order stand (turn tables world stand c) played refl was (λ s new rest. plays order (index + 1) s played new rest) is
+    plays : (order : List ℕ) (index : ℕ) (state : PlayState) (played : Played) → AllAlong clients state → play_from tables world index state order ≡ Ok played → AllFinish played
+    plays [] index state played was is = ended_by index state (replies_of tables world state.log state.runs) played was refl is
+    plays (c ∷ order) index state played was is =
+        going_on index c order state (turn tables world state c) played refl was (λ s new rest. plays order (index + 1) s played new rest) is
 
 starts : (world : List Domain) (clients : List (List Move)) → AllAlong (tables_of world) world clients (start clients)
 starts world clients c steps run at_c at =

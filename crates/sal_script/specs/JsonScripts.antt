@@ -3,7 +3,7 @@ use Rattle.std.specs.Prelude.{Bool, true, List, [], ◌∷◌, ⊤}
 use Rattle.sal_value.specs.Json.{IsJson, is_json}
 use Rattle.sal_script.specs.JsonMoves.{HaveJsonMoves}
 use Rattle.sal_script.specs.Script.{DeviceParts, Parts}
-use Rattle.sal_script.specs.Play.{Deed, putting, merging, deleting}
+use Rattle.sal_script.specs.Play.{DataAct, putting, merging, deleting}
 
 -- the openings of a domain
 pub record IsJsonDevice (device : DeviceParts) : Type 0 where
@@ -21,7 +21,7 @@ pub record IsJsonScript (parts : Parts) : Type 0 where
   pub clients : HaveJsonMoves parts.clients
 
 -- the value of a write
-abbrev pub is_json_deed : Deed → Bool
-is_json_deed (putting value) = is_json value
-is_json_deed (merging value) = is_json value
-is_json_deed deleting = true
+abbrev pub is_json_act : DataAct → Bool
+is_json_act (putting value) = is_json value
+is_json_act (merging value) = is_json value
+is_json_act deleting = true

@@ -11,8 +11,8 @@ use Rattle.sal_data.specs.Laws.{IsWhole}
 use Rattle.sal_data.specs.Read.{read_data}
 use Rattle.sal_rules.specs.Writes.{IsForSchema}
 use Rattle.sal_script.specs.Script.{DeviceParts, Parts, script_of}
-use Rattle.sal_script.specs.JsonScripts.{IsJsonScript, is_json_deed}
-use Rattle.sal_script.specs.Play.{Deed, act_of, op_of}
+use Rattle.sal_script.specs.JsonScripts.{IsJsonScript, is_json_act}
+use Rattle.sal_script.specs.Play.{DataAct, act_of, op_of}
 
 -- Whatever bytes: the values of a script that is read from them are JSON as texts have it.
 abbrev pub ScriptsAreJson : Type 0
@@ -36,5 +36,5 @@ OpeningsAreWhole =
 -- An operation whose path and value were read, the value as JSON that a text has, is one for the schema.
 abbrev pub WritesAreForSchema : Type 0
 WritesAreForSchema =
-    (table : SchemaTable) → IsTable table → (store : Store) (text : List ℕ) (path : List Step) → read_path table text ≡ Ok path → (deed : Deed) → IsTrue (is_json_deed deed)
-    → (act : Act) → act_of table path deed ≡ Ok act → IsForSchema table (op_of store path act)
+    (table : SchemaTable) → IsTable table → (store : Store) (text : List ℕ) (path : List Step) → read_path table text ≡ Ok path → (data_act : DataAct) → IsTrue (is_json_act data_act)
+    → (act : Act) → act_of table path data_act ≡ Ok act → IsForSchema table (op_of store path act)

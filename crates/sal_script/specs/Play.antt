@@ -115,13 +115,13 @@ abbrev pub table_for : List SchemaTable → Option Open → SchemaTable
 table_for tables tx = option_map_or (λ (o : Open). table_in tables o.domain) tx no_table
 
 -- what a write does at its path, with a value that is not yet read
-pub data Deed : Type 0 where
-  putting : Data → Deed
-  merging : Data → Deed
-  deleting : Deed
+pub data DataAct : Type 0 where
+  putting : Data → DataAct
+  merging : Data → DataAct
+  deleting : DataAct
 
 -- the act, with the rows that the value stands for at the path
-abbrev pub act_of : SchemaTable → List Step → Deed → Result Act DataFault
+abbrev pub act_of : SchemaTable → List Step → DataAct → Result Act DataFault
 act_of table path (putting value) = read_data table path value >>= (λ rows. Ok (PutAct rows))
 act_of table path (merging value) = read_data table path value >>= (λ rows. Ok (MergeAct rows))
 act_of table path deleting = Ok DeleteAct
@@ -225,24 +225,24 @@ module _ (table : SchemaTable) (world : List Domain) (log : List Entry) where
   write_act slot store path (Err fault) tx client = refused (BadData tx.domain fault) client
   write_act slot store path (Ok act) tx client = write_op slot (op_of store path act) tx client
 
-  abbrev pub write_at : ℕ → Store → Result (List Step) PathTextFault → Deed → Open → Client → Meeting
-  write_at slot store (Err fault) deed tx client = refused (BadPath fault) client
-  write_at slot store (Ok path) deed tx client = write_act slot store path (act_of table path deed) tx client
+  abbrev pub write_at : ℕ → Store → Result (List Step) PathTextFault → DataAct → Open → Client → Meeting
+  write_at slot store (Err fault) data_act tx client = refused (BadPath fault) client
+  write_at slot store (Ok path) data_act tx client = write_act slot store path (act_of table path data_act) tx client
 
-  abbrev pub write_in : Mode → ℕ → Store → List ℕ → Deed → Open → Client → Meeting
-  write_in Ro slot store text deed tx client = refused ReadOnly client
-  write_in mode slot store text deed tx client = write_at slot store (read_path table text) deed tx client
+  abbrev pub write_in : Mode → ℕ → Store → List ℕ → DataAct → Open → Client → Meeting
+  write_in Ro slot store text data_act tx client = refused ReadOnly client
+  write_in mode slot store text data_act tx client = write_at slot store (read_path table text) data_act tx client
 
   -- A write: the first refusal counts, of the slot, the mode, the path, the value, and then of the transaction: the root, a
   -- key leaf, state data in the configuration, a parent that is missing.
-  abbrev pub write : ℕ → Store → List ℕ → Deed → Client → Option Open → Meeting
-  write slot store text deed client None = refused EmptySlot client
-  write slot store text deed client (Some tx) = write_in tx.mode slot store text deed tx client
+  abbrev pub write : ℕ → Store → List ℕ → DataAct → Client → Option Open → Meeting
+  write slot store text data_act client None = refused EmptySlot client
+  write slot store text data_act client (Some tx) = write_in tx.mode slot store text data_act tx client
 
 module _ (tables : List SchemaTable) (world : List Domain) (log : List Entry) where
   -- by the table of the transaction's domain
-  abbrev pub write_with : ℕ → Store → List ℕ → Deed → Client → Option Open → Meeting
-  write_with slot store text deed client tx = write (table_for tables tx) world log slot store text deed client tx
+  abbrev pub write_with : ℕ → Store → List ℕ → DataAct → Client → Option Open → Meeting
+  write_with slot store text data_act client tx = write (table_for tables tx) world log slot store text data_act client tx
 
   abbrev pub look_with : (Open → List Step → List Row → StepReply) → Store → List ℕ → Client → Option Open → Meeting
   look_with f store text client tx = look (table_for tables tx) world log f store text client tx
@@ -332,7 +332,7 @@ pub record Made : Type 0 where
   pub run : Run
 
 -- where a script stands: the log, and each client
-pub record Stand : Type 0 where
+pub record PlayState : Type 0 where
   pub log : List Entry
   pub runs : List Run
 
@@ -342,9 +342,9 @@ arrive_by next wait (local r client) = next (replied r client)
 arrive_by next wait (shared call) = wait call
 
 -- the log and that client's run are the new ones
-abbrev pub stand_with : Stand → ℕ → Option Made → Option Stand
-stand_with stand c None = None
-stand_with stand c (Some made) = Some (record { log = made.log; runs = slice_set stand.runs c made.run })
+abbrev pub state_with : PlayState → ℕ → Option Made → Option PlayState
+state_with state c None = None
+state_with state c (Some made) = Some (record { log = made.log; runs = slice_set state.runs c made.run })
 
 -- the replies of each client at its end; none where a shared call is left
 abbrev pub replies_at : Arrival → Option (List StepReply)
@@ -375,12 +375,12 @@ module _ (tables : List SchemaTable) (world : List Domain) where
   go log c run = make log c (arrive log run.client run.steps)
 
   -- one number of the order: none where no client has it, or where that client comes to its end first
-  abbrev pub turn_of : Stand → ℕ → Option Run → Option Stand
-  turn_of stand c None = None
-  turn_of stand c (Some run) = stand_with stand c (go stand.log c run)
+  abbrev pub turn_of : PlayState → ℕ → Option Run → Option PlayState
+  turn_of state c None = None
+  turn_of state c (Some run) = state_with state c (go state.log c run)
 
-  abbrev pub turn : Stand → ℕ → Option Stand
-  turn stand c = turn_of stand c (slice_get stand.runs c)
+  abbrev pub turn : PlayState → ℕ → Option PlayState
+  turn state c = turn_of state c (slice_get state.runs c)
 
   abbrev pub replies_of : List Entry → List Run → Option (List (List StepReply))
   replies_of log [] = Some []
@@ -392,9 +392,9 @@ pub record Played : Type 0 where
   pub replies : List (List StepReply)
 
 -- the order fails where no call was made
-abbrev pub play_by : ℕ → (Stand → Result Played ℕ) → Option Stand → Result Played ℕ
+abbrev pub play_by : ℕ → (PlayState → Result Played ℕ) → Option PlayState → Result Played ℕ
 play_by index next None = Err index
-play_by index next (Some stand) = next stand
+play_by index next (Some state) = next state
 
 module _ (tables : List SchemaTable) (world : List Domain) where
   abbrev pub end_by : ℕ → List Entry → Option (List (List StepReply)) → Result Played ℕ
@@ -402,12 +402,12 @@ module _ (tables : List SchemaTable) (world : List Domain) where
   end_by index log (Some replies) = Ok (record { log = log; replies = replies })
 
   -- the rest of an order, from this index on; the fault is the index at which it fails
-  abbrev pub play_from : ℕ → Stand → List ℕ → Result Played ℕ
-  play_from index stand [] = end_by index stand.log (replies_of tables world stand.log stand.runs)
-  play_from index stand (c ∷ order) = play_by index (λ next. play_from (index + 1) next order) (turn tables world stand c)
+  abbrev pub play_from : ℕ → PlayState → List ℕ → Result Played ℕ
+  play_from index state [] = end_by index state.log (replies_of tables world state.log state.runs)
+  play_from index state (c ∷ order) = play_by index (λ next. play_from (index + 1) next order) (turn tables world state c)
 
 -- the clients of a script at their beginning
-abbrev pub start : List (List Move) → Stand
+abbrev pub start : List (List Move) → PlayState
 start clients = record { log = []; runs = map (λ steps. record { client = new_client; steps = steps }) clients }
 
 -- what a script does in an order over its domains, or the index at which the order fails

@@ -6,7 +6,7 @@ use Rattle.sal_data.specs.Read.{read_data}
 use Rattle.sal_script.specs.Play.{act_of}
 use Rattle.sal_client.specs.declared.operations.JsonAct.{JsonAct}
 use Rattle.sal_client.specs.Faults.{Reads, Refuses}
-use Rattle.sal_client.specs.Operations.{deed_of, good_data}
+use Rattle.sal_client.specs.Operations.{data_act_of, good_data}
 use Rattle.sal_client.proofs.Faults.{err_so}
 use Rattle.sal_client.proofs.Reading.{act_ok, act_refuses}
 use Rattle.sal_client.proofs.operations.act_of.Goals as goal
@@ -16,8 +16,8 @@ returns-in_err-rows-in-Put c =
     let table = c.args.reader.now in
     let path = c.args.path.now in
     let e = c.in_err-rows-in-Put.field-0.0 in
-    err_so (λ r. Reads r (good_data c.args.domain (act_of table path (deed_of c.args.act)))) _ e c.from_residual.ensures.1
-    (subst (λ (a : JsonAct). Refuses e (good_data c.args.domain (act_of table path (deed_of a)))) (sym c.in-Put.is)
+    err_so (λ r. Reads r (good_data c.args.domain (act_of table path (data_act_of c.args.act)))) _ e c.from_residual.ensures.1
+    (subst (λ (a : JsonAct). Refuses e (good_data c.args.domain (act_of table path (data_act_of a)))) (sym c.in-Put.is)
     (act_refuses e c.args.domain (read_data table path (view c.in-Put.value.now)) acts.Put c.in_err-rows-in-Put.ensures))
 
 pub returns-in_err-rows-in-Merge : goal.returns-in_err-rows-in-Merge
@@ -25,6 +25,6 @@ returns-in_err-rows-in-Merge c =
     let table = c.args.reader.now in
     let path = c.args.path.now in
     let e = c.in_err-rows-in-Merge.field-0.0 in
-    err_so (λ r. Reads r (good_data c.args.domain (act_of table path (deed_of c.args.act)))) _ e c.from_residual-in_err-rows-in-Merge.ensures.1
-    (subst (λ (a : JsonAct). Refuses e (good_data c.args.domain (act_of table path (deed_of a)))) (sym c.in-Merge.is)
+    err_so (λ r. Reads r (good_data c.args.domain (act_of table path (data_act_of c.args.act)))) _ e c.from_residual-in_err-rows-in-Merge.ensures.1
+    (subst (λ (a : JsonAct). Refuses e (good_data c.args.domain (act_of table path (data_act_of a)))) (sym c.in-Merge.is)
     (act_refuses e c.args.domain (read_data table path (view c.in-Merge.value.now)) acts.Merge c.in_err-rows-in-Merge.ensures))

@@ -1,6 +1,6 @@
 -- One more client is at its beginning.
 use Rattle.std.proofs.Common.{◌≡◌, ◌+◌, ◌<◌, ◌∷◌, [], List, length, get_or, ap, sym, ◌∙◌, subst, arith, length-append}
-use Rattle.sal_script.specs.Play.{Run, Stand}
+use Rattle.sal_script.specs.Play.{Run, PlayState}
 use Rattle.sal_client.specs.declared.run.ClientRun.{ClientRun as CodeRun}
 use Rattle.sal_client.proofs.Standing.{IsFresh, fresh_more, fresh_runs, AreRuns-fresh}
 use Rattle.sal_client.proofs.simulation.new_runs.Goals as goal
@@ -19,7 +19,7 @@ loop-i-preserved c =
 pub returns-clause-stand : goal.returns-clause-stand
 returns-clause-stand c =
     let long : length c.loop-i.runs.items ≡ length c.args.programs.now = omega (arith, c.loop-i.invariant.long) in
-    ap (λ (us : List Run). let s : Stand = record { log = []; runs = us } in s) (fresh_runs c.args.programs.now c.loop-i.runs.items long (λ k r h at. (c.loop-i.invariant.each k r h at).0))
+    ap (λ (us : List Run). let s : PlayState = record { log = []; runs = us } in s) (fresh_runs c.args.programs.now c.loop-i.runs.items long (λ k r h at. (c.loop-i.invariant.each k r h at).0))
 
 pub returns-clause-runs : goal.returns-clause-runs
 returns-clause-runs c known none =

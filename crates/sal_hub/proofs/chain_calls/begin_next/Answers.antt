@@ -8,7 +8,7 @@ use Rattle.sal_history.specs.declared.call.Call.TheVariants.{ChainBegin}
 use Rattle.sal_history.specs.declared.reply.Reply.TheVariants.{Begun}
 use Rattle.sal_hub.specs.declared.chains.Chains.{Chains}
 use Rattle.sal_hub.specs.Journals.{jotted}
-use Rattle.sal_hub.specs.Lines.{shown}
+use Rattle.sal_hub.specs.PipelineView.{shown}
 use Rattle.sal_hub.specs.Starts.{Starts}
 use Rattle.sal_hub.specs.Tokens.{begun_of}
 use Rattle.sal_hub.proofs.Beginning.{made_now}

@@ -4,7 +4,7 @@ use Rattle.sal_history.specs.declared.call.Call.TheVariants.{ChainBegin}
 use Rattle.sal_history.specs.History.{chain_refusal}
 use Rattle.sal_hub.specs.Current.{answers}
 use Rattle.sal_hub.specs.Journals.{jotted}
-use Rattle.sal_hub.specs.Lines.{line_of, world_in}
+use Rattle.sal_hub.specs.PipelineView.{line_of, world_in}
 use Rattle.sal_hub.proofs.ChainCalls.{refused_chains, refused_fails, refused_kept}
 use Rattle.sal_hub.proofs.chain_calls.chain_begin.Goals as goal
 

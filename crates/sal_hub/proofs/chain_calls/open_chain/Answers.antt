@@ -8,8 +8,8 @@ use Rattle.sal_hub.specs.declared.chain.Chain.{Chain}
 use Rattle.sal_hub.specs.declared.pipeline.Pipeline.{Pipeline}
 use Rattle.sal_hub.specs.Answers.{Made}
 use Rattle.sal_hub.specs.Current.{known_of}
-use Rattle.sal_hub.specs.Known.{entry_of}
-use Rattle.sal_hub.specs.Lines.{is_live_in, line_of}
+use Rattle.sal_hub.specs.HubHistory.{entry_of}
+use Rattle.sal_hub.specs.PipelineView.{is_live_in, line_of}
 use Rattle.sal_hub.proofs.Beginning.{made_now}
 use Rattle.sal_hub.proofs.ChainCalls.{opened_chains, opened_given, opened_kept, opened_made, unopened_chains, unopened_kept, unopened_reply}
 use Rattle.sal_hub.proofs.chain_calls.open_chain.Goals as goal

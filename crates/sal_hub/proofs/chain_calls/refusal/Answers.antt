@@ -4,7 +4,7 @@ use Rattle.std.specs.Option.{option_or}
 use Rattle.sal_rows.specs.declared.outcome.CallFault.TheVariants.{ChainClosed, ChainFailed, NoDomain, PreviousOpen}
 use Rattle.sal_history.specs.History.{fault_if, has_open}
 use Rattle.sal_hub.specs.Current.{answers}
-use Rattle.sal_hub.specs.Lines.{is_live_in, line_of}
+use Rattle.sal_hub.specs.PipelineView.{is_live_in, line_of}
 use Rattle.sal_hub.proofs.ChainCalls.{closed_is, failed_is, open_is, refused_by}
 use Rattle.sal_hub.proofs.chain_calls.refusal.Goals as goal
 

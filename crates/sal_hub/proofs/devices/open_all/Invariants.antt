@@ -1,6 +1,6 @@
 -- The devices so far are opened.
 use Rattle.std.proofs.Common.{◌≡◌, ◌++◌, drop, map}
-use Rattle.sal_hub.specs.Lines.{AllKept, shown}
+use Rattle.sal_hub.specs.PipelineView.{AllKept, shown}
 use Rattle.sal_hub.specs.Opened.{shown_from}
 use Rattle.sal_hub.specs.Openings.{fault_from, fault_of, world_of}
 use Rattle.sal_hub.proofs.devices.open_all.Given as goal

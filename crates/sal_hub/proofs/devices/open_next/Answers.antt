@@ -3,7 +3,7 @@ use Rattle.std.proofs.Common.{sym, subst}
 use Rattle.std.proofs.lemmas.List.Elements.{All-push}
 use Rattle.sal_graft.specs.Kept.{AreKept}
 use Rattle.sal_commit.specs.declared.domain.Domain.{Domain}
-use Rattle.sal_hub.specs.Lines.{AllKept}
+use Rattle.sal_hub.specs.PipelineView.{AllKept}
 use Rattle.sal_hub.proofs.devices.open_next.Goals as goal
 
 pub returns-clause-kept : goal.returns-clause-kept

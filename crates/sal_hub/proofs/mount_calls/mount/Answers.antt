@@ -5,7 +5,7 @@ use Rattle.sal_mount.specs.declared.call.MountCall.TheVariants as asked
 use Rattle.sal_history.specs.declared.call.Call.TheVariants.{Mount}
 use Rattle.sal_hub.specs.Answers.{Fails}
 use Rattle.sal_hub.specs.Current.{known_of}
-use Rattle.sal_hub.specs.Known.{entry_of}
+use Rattle.sal_hub.specs.HubHistory.{entry_of}
 use Rattle.sal_hub.proofs.Mounting.{mount_answer, mount_kept, mount_low, mount_mounts, refused_answer, refused_kept, refused_mounts}
 use Rattle.sal_hub.proofs.mount_calls.mount.Goals as goal
 

@@ -5,7 +5,7 @@ use Rattle.sal_mount.specs.declared.call.MountCall.TheVariants as asked
 use Rattle.sal_history.specs.declared.call.Call.TheVariants.{Unmount}
 use Rattle.sal_hub.specs.Answers.{Fails}
 use Rattle.sal_hub.specs.Current.{known_of}
-use Rattle.sal_hub.specs.Known.{entry_of}
+use Rattle.sal_hub.specs.HubHistory.{entry_of}
 use Rattle.sal_hub.proofs.Mounting.{unmount_answer, unmount_kept, unmount_low, unmount_mounts, refused_answer, refused_kept, refused_mounts}
 use Rattle.sal_hub.proofs.mount_calls.unmount.Goals as goal
 

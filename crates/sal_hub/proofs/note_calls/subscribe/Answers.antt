@@ -5,7 +5,7 @@ use Rattle.sal_note.specs.declared.call.NoteReply.TheVariants as replies
 use Rattle.sal_history.specs.declared.call.Call.TheVariants.{Subscribe}
 use Rattle.sal_hub.specs.Answers.{Fails}
 use Rattle.sal_hub.specs.Current.{known_of}
-use Rattle.sal_hub.specs.Known.{entry_of}
+use Rattle.sal_hub.specs.HubHistory.{entry_of}
 use Rattle.sal_hub.proofs.Notified.{entered_answer, entered_kept, entered_noted, failed_call, has_room}
 use Rattle.sal_hub.proofs.note_calls.subscribe.Goals as goal
 

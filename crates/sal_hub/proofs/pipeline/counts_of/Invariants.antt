@@ -1,6 +1,6 @@
 -- The domains so far are counted.
 use Rattle.std.proofs.Common.{◌≡◌, map, take}
-use Rattle.sal_hub.specs.Lines.{counts_of, shown}
+use Rattle.sal_hub.specs.PipelineView.{counts_of, shown}
 use Rattle.sal_hub.proofs.pipeline.counts_of.Given as goal
 
 abbrev pub invariant-loop-domain : goal.invariant-loop-domain

@@ -1,7 +1,7 @@
 -- One more is cut.
 use Rattle.std.proofs.Common.{◌≡◌, ◌<◌, ap, length, map, get_or, arith}
 use Rattle.std.proofs.lemmas.Option.{slice_get-get_or}
-use Rattle.sal_hub.specs.Lines.{shown}
+use Rattle.sal_hub.specs.PipelineView.{shown}
 use Rattle.sal_hub.proofs.Cutting.{cut_none, cut_one, kept_one}
 use Rattle.sal_hub.proofs.pipeline.cut_domains.Goals as goal
 

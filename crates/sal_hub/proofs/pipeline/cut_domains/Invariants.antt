@@ -1,6 +1,6 @@
 -- The domains so far are cut.
 use Rattle.std.proofs.Common.{◌≡◌, map, take}
-use Rattle.sal_hub.specs.Lines.{AllKept, cut_all, shown}
+use Rattle.sal_hub.specs.PipelineView.{AllKept, cut_all, shown}
 use Rattle.sal_hub.proofs.pipeline.cut_domains.Given as goal
 
 abbrev pub invariant-loop-i : goal.invariant-loop-i

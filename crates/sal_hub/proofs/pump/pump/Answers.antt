@@ -8,7 +8,7 @@ use Rattle.sal_history.specs.declared.reply.Reply.TheVariants.{Nothing}
 use Rattle.sal_history.specs.History.{sents}
 use Rattle.sal_history.specs.Submissions.{Sent}
 use Rattle.sal_hub.specs.Current.{answers}
-use Rattle.sal_hub.specs.Lines.{AreDecided, line_of}
+use Rattle.sal_hub.specs.PipelineView.{AreDecided, line_of}
 use Rattle.sal_hub.proofs.Beginning.{made_now}
 use Rattle.sal_hub.proofs.Settling.{few, idle_kept, idle_reply, pumped_given, pumped_kept, pumped_made}
 use Rattle.sal_hub.proofs.pump.pump.Goals as goal

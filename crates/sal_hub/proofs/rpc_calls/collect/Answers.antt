@@ -8,7 +8,7 @@ use Rattle.sal_history.specs.History.{history}
 use Rattle.sal_history.specs.Services.{rpc_of, rpc_reply}
 use Rattle.sal_hub.specs.Answers.{Fails, Made}
 use Rattle.sal_hub.specs.Current.{known_of}
-use Rattle.sal_hub.specs.Known.{entry_of}
+use Rattle.sal_hub.specs.HubHistory.{entry_of}
 use Rattle.sal_hub.specs.Routed.{collect_reply}
 use Rattle.sal_hub.proofs.Routed.{entered_answer, entered_kept, entered_routed, failed_call, collect_reply_is}
 use Rattle.sal_hub.proofs.rpc_calls.collect.Goals as goal

@@ -6,7 +6,7 @@ use Rattle.sal_history.specs.declared.call.Call.TheVariants.{Invoke}
 use Rattle.sal_history.specs.declared.reply.Reply.TheVariants.{CallMade}
 use Rattle.sal_hub.specs.Answers.{Fails, Made}
 use Rattle.sal_hub.specs.Current.{known_of}
-use Rattle.sal_hub.specs.Known.{entry_of}
+use Rattle.sal_hub.specs.HubHistory.{entry_of}
 use Rattle.sal_hub.specs.declared.call_id.CallId.{CallId}
 use Rattle.sal_hub.proofs.Routed.{entered_answer, entered_kept, entered_routed, failed_call, invoked}
 use Rattle.sal_hub.proofs.rpc_calls.invoke.Goals as goal

@@ -5,7 +5,7 @@ use Rattle.sal_rpc.specs.declared.call.RpcCall.TheVariants as rpcs
 use Rattle.sal_history.specs.declared.call.Call.TheVariants.{NextCall}
 use Rattle.sal_hub.specs.Answers.{Made}
 use Rattle.sal_hub.specs.Current.{known_of}
-use Rattle.sal_hub.specs.Known.{entry_of}
+use Rattle.sal_hub.specs.HubHistory.{entry_of}
 use Rattle.sal_hub.proofs.Routed.{entered_answer, entered_kept, entered_routed, next_reply_is}
 use Rattle.sal_hub.proofs.rpc_calls.next_call.Goals as goal
 

@@ -5,7 +5,7 @@ use Rattle.sal_rpc.specs.declared.call.RpcReply.TheVariants as replies
 use Rattle.sal_history.specs.declared.call.Call.TheVariants.{Withdraw}
 use Rattle.sal_hub.specs.Answers.{Fails}
 use Rattle.sal_hub.specs.Current.{known_of}
-use Rattle.sal_hub.specs.Known.{entry_of}
+use Rattle.sal_hub.specs.HubHistory.{entry_of}
 use Rattle.sal_hub.proofs.Routed.{entered_answer, entered_kept, entered_routed, refused_call}
 use Rattle.sal_hub.proofs.rpc_calls.withdraw.Goals as goal
 

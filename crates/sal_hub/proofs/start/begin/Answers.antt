@@ -4,7 +4,7 @@ use Rattle.sal_rows.specs.declared.outcome.CallFault.TheVariants.{NoDomain}
 use Rattle.sal_history.specs.declared.call.Call.TheVariants.{Begin}
 use Rattle.sal_history.specs.declared.reply.Reply.TheVariants.{Begun, Refused}
 use Rattle.sal_hub.specs.Journals.{jotted}
-use Rattle.sal_hub.specs.Lines.{shown}
+use Rattle.sal_hub.specs.PipelineView.{shown}
 use Rattle.sal_hub.specs.Tokens.{begun_of}
 use Rattle.sal_hub.proofs.Beginning.{begin_kept, begin_refused, begin_reply, begin_token, made_now}
 use Rattle.sal_hub.proofs.start.begin.Goals as goal

@@ -7,7 +7,7 @@ use Rattle.sal_hub.specs.declared.receipt.Receipt.{Receipt as Given}
 use Rattle.sal_hub.specs.Answers.{Made}
 use Rattle.sal_hub.specs.Current.{known_of}
 use Rattle.sal_hub.specs.Journals.{mark_at}
-use Rattle.sal_hub.specs.Known.{entry_of}
+use Rattle.sal_hub.specs.HubHistory.{entry_of}
 use Rattle.sal_hub.specs.Submits.{refusal_of}
 use Rattle.sal_hub.specs.Tokens.{IsGiven}
 use Rattle.sal_hub.proofs.Settling.{few}

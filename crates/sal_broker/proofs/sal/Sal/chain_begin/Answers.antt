@@ -1,6 +1,6 @@
 -- What was found and left are the hubs of the hub's call.
 use Rattle.std.proofs.Common.{rules, ◌∙◌, subst}
-use Rattle.sal_hub.specs.Known.{Known}
+use Rattle.sal_hub.specs.HubHistory.{HubHistory}
 use Rattle.sal_broker.specs.Turns.{OneMoreAtMost}
 use Rattle.sal_broker.proofs.Leaving.{calls_add}
 use Rattle.sal_broker.proofs.sal.Sal.chain_begin.Goals as goal
@@ -9,7 +9,7 @@ pub leave-requires-clause-added : goal.leave-requires-clause-added
 leave-requires-clause-added g c =
     let v = c.take_turn-held.result.view in
     let left = c.chain_begin-answer.new.self in
-    subst (λ (k : Known). OneMoreAtMost v k left) (c.hub.ensures.value ∙ c.take_turn-held.ensures.hub)
+    subst (λ (k : HubHistory). OneMoreAtMost v k left) (c.hub.ensures.value ∙ c.take_turn-held.ensures.hub)
     (calls_add v c.hub.result.now left c.number-client.result _ _ c.chain_begin-answer.result c.number-client.ensures c.chain_begin-answer.ensures.answer)
 
 pub returns-clause-turn : goal.returns-clause-turn

@@ -4,12 +4,12 @@ use Rattle.std.specs.Prelude.{unwrap_or}
 use mathlib.Core.List.{IsPrefix}
 use Rattle.sal_history.specs.World.{Domain}
 use Rattle.sal_history.specs.declared.call.Entry.{Entry}
-use Rattle.sal_hub.specs.Known.{Known}
+use Rattle.sal_hub.specs.HubHistory.{HubHistory}
 use Rattle.sal_broker.specs.Seats.{Holding, SeatView, known}
 use Rattle.sal_broker.specs.Tokens.{TokensStay, with_log}
 use Rattle.sal_broker.proofs.sal.Sal.enter_after.Goals as goal
 
-stay : ((hub : Known) (log : List Entry) → IsPrefix hub.log log → TokensStay hub (with_log hub log)) → (v : SeatView) (found : Known) → v.ground ≡ Some found.world → IsPrefix v.seen found.log → TokensStay (known v) found
+stay : ((hub : HubHistory) (log : List Entry) → IsPrefix hub.log log → TokensStay hub (with_log hub log)) → (v : SeatView) (found : HubHistory) → v.ground ≡ Some found.world → IsPrefix v.seen found.log → TokensStay (known v) found
 stay law v found world seen = subst (λ (o : Option (List Domain)). TokensStay (known v) (record { world = unwrap_or o []; log = found.log })) world (law (known v) found.log seen)
 
 pub returns-then-has_mark-clause-tokens : goal.returns-then-has_mark-clause-tokens

@@ -10,7 +10,7 @@ use Rattle.sal_script.specs.declared.reply.StepReply.TheVariants.{Accepted, Refu
 use Rattle.sal_script.specs.declared.reply.StepRefusal.TheVariants.{Write as WriteRefused}
 use Rattle.sal_script.specs.Play.{Open, table_in, write_op}
 use Rattle.sal_client.specs.Slots.{held}
-use Rattle.sal_hub.specs.Known.{Known}
+use Rattle.sal_hub.specs.HubHistory.{HubHistory}
 use Rattle.sal_client.specs.Clients.{IsOfSchema, IsOwn, IsSteady, client_of, open_of, opened}
 use Rattle.sal_client.proofs.Places.{changed, each_filled, seen-filled}
 use Rattle.sal_client.proofs.Soundness.{IsSound-filled, IsSteady-filled}
@@ -26,7 +26,7 @@ returns c =
     let filled = changed (held old.transactions) (held c.take_slot.new.slots) (held c.fill_slot.new.slots) c.args.slot (Write c.write.new.self) c.take_slot.ensures.after c.in_ok-fill_slot-in-Some-Write.ensures in
     let reply = c.in_ok-reply-in-Some-Write.ensures in
     let found : opened old c.args.slot ≡ Some (open_of (Write taken)) = ap (option_map open_of) holds in
-    let own : (known : Known) → IsSteady known old → IsOwn known (Write c.write.new.self) =
+    let own : (known : HubHistory) → IsSteady known old → IsOwn known (Write c.write.new.self) =
     λ known is. IsOwn-written known taken (is.transactions c.args.slot (Write taken) holds) c.args.op c.write.new.self c.write.result c.write.ensures.outcome c.write.ensures.err in
     let same_begun = begun-written c.args.op taken c.write.new.self c.write.result c.write.ensures.outcome c.write.ensures.err in
     record {

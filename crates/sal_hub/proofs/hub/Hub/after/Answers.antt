@@ -4,7 +4,7 @@ use Rattle.std.proofs.lemmas.Grind.{common_steps}
 use Rattle.sal_history.specs.declared.call.Call.TheVariants.{After}
 use Rattle.sal_history.specs.declared.reply.Reply.TheVariants.{Found, Late}
 use Rattle.sal_hub.specs.Current.{known_of}
-use Rattle.sal_hub.specs.Known.{entry_of}
+use Rattle.sal_hub.specs.HubHistory.{entry_of}
 use Rattle.sal_hub.proofs.Beginning.{quiet_kept}
 use Rattle.sal_hub.proofs.Wholes.{longer_now, made_over, seen_now, whole_steady}
 use Rattle.sal_hub.proofs.hub.Hub.after.Goals as goal

@@ -7,7 +7,7 @@ use Rattle.sal_tx.specs.declared.tx.Tx.{Tx}
 use Rattle.sal_hub.specs.Tokens.{begun_of}
 use Rattle.sal_hub.proofs.Wholes.{begin_unchained, whole_called}
 use Rattle.sal_hub.specs.Current.{known_of}
-use Rattle.sal_hub.specs.Known.{entry_of}
+use Rattle.sal_hub.specs.HubHistory.{entry_of}
 use Rattle.sal_hub.proofs.hub.Hub.begin.Goals as goal
 
 pub invariant_of-self : goal.invariant_of-self

@@ -4,7 +4,7 @@ use Rattle.std.specs.Prelude.{◌||◌}
 use Rattle.sal_history.specs.declared.call.Call.TheVariants.{Cancel}
 use Rattle.sal_hub.specs.Current.{known_of}
 use Rattle.sal_hub.specs.Journals.{jotted}
-use Rattle.sal_hub.specs.Known.{entry_of}
+use Rattle.sal_hub.specs.HubHistory.{entry_of}
 use Rattle.sal_hub.proofs.Settling.{cancel_kept}
 use Rattle.sal_hub.proofs.Wholes.{longer_now, whole_steady}
 use Rattle.sal_hub.proofs.hub.Hub.cancel.Goals as goal

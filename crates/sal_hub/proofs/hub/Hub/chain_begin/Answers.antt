@@ -4,7 +4,7 @@ use Rattle.sal_history.specs.declared.call.Call.TheVariants.{ChainBegin}
 use Rattle.sal_history.specs.declared.reply.Reply.TheVariants.{Begun}
 use Rattle.sal_tx.specs.declared.tx.Tx.{Tx}
 use Rattle.sal_hub.specs.Current.{known_of}
-use Rattle.sal_hub.specs.Known.{entry_of}
+use Rattle.sal_hub.specs.HubHistory.{entry_of}
 use Rattle.sal_hub.specs.Tokens.{begun_of}
 use Rattle.sal_hub.proofs.Wholes.{whole_chained}
 use Rattle.sal_hub.proofs.hub.Hub.chain_begin.Goals as goal

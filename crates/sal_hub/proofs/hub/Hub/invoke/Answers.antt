@@ -4,7 +4,7 @@ use Rattle.sal_history.specs.declared.call.Call.TheVariants.{Invoke}
 use Rattle.sal_history.specs.declared.reply.Reply.TheVariants.{CallMade}
 use Rattle.sal_hub.specs.declared.call_id.CallId.{CallId}
 use Rattle.sal_hub.specs.Current.{known_of}
-use Rattle.sal_hub.specs.Known.{entry_of}
+use Rattle.sal_hub.specs.HubHistory.{entry_of}
 use Rattle.sal_hub.proofs.Wholes.{whole_routed}
 use Rattle.sal_hub.proofs.hub.Hub.invoke.Goals as goal
 

@@ -2,7 +2,7 @@
 use Rattle.std.proofs.Common.{refl}
 use Rattle.sal_history.specs.declared.call.Call.TheVariants.{Listen}
 use Rattle.sal_hub.specs.Current.{known_of}
-use Rattle.sal_hub.specs.Known.{entry_of}
+use Rattle.sal_hub.specs.HubHistory.{entry_of}
 use Rattle.sal_hub.specs.Listeners.{listener_reply}
 use Rattle.sal_hub.proofs.Wholes.{whole_heard}
 use Rattle.sal_hub.proofs.hub.Hub.listen.Goals as goal

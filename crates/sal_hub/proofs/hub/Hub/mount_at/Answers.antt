@@ -3,7 +3,7 @@ use Rattle.std.proofs.Common.{ℕ, Option, refl}
 use Rattle.sal_history.specs.declared.call.Call.TheVariants.{MountAt}
 use Rattle.sal_history.specs.declared.reply.Reply.TheVariants.{MountAt as Told}
 use Rattle.sal_hub.specs.Current.{known_of}
-use Rattle.sal_hub.specs.Known.{entry_of}
+use Rattle.sal_hub.specs.HubHistory.{entry_of}
 use Rattle.sal_hub.proofs.Wholes.{whole_mounted}
 use Rattle.sal_hub.proofs.hub.Hub.mount_at.Goals as goal
 

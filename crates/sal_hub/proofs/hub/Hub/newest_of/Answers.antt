@@ -2,7 +2,7 @@
 use Rattle.std.proofs.Common.{◌≡◌, ◌-◌, ◌<◌, length, ap, ◌∙◌, arith}
 use Rattle.std.proofs.lemmas.Grind.{common_steps}
 use Rattle.sal_history.specs.History.{commits, history}
-use Rattle.sal_hub.specs.Known.{Known}
+use Rattle.sal_hub.specs.HubHistory.{HubHistory}
 use Rattle.sal_hub.proofs.Serving.{count_is, known_domain}
 use Rattle.sal_hub.proofs.hub.Hub.newest_of.Goals as goal
 
@@ -12,7 +12,7 @@ returns c =
     let p = c.self.inside.pipeline in
     let count : c.len.result - 1 ≡ length c.index.result.now.commits.items - 1 = grind (arith, common_steps) in
     count ∙ count_is journal p c.self.invariant.kept c.args.domain c.index.result.now (known_domain journal p c.args.self.now c.self.view_is c.args.domain c.requires) c.index.ensures
-    ∙ ap (λ (known : Known). length (commits (history known.world known.log) c.args.domain)) c.self.view_is
+    ∙ ap (λ (known : HubHistory). length (commits (history known.world known.log) c.args.domain)) c.self.view_is
 
 pub index-requires : goal.index-requires
 index-requires c =

@@ -6,8 +6,8 @@ use Rattle.sal_schema.specs.Valid.{IsTable}
 use Rattle.sal_history.specs.declared.opening.Device.{Device}
 use Rattle.sal_hub.specs.declared.pipeline.Pipeline.{Pipeline}
 use Rattle.sal_hub.specs.Journals.{Noted}
-use Rattle.sal_hub.specs.Known.{Known}
-use Rattle.sal_hub.specs.Lines.{shown, world_in}
+use Rattle.sal_hub.specs.HubHistory.{HubHistory}
+use Rattle.sal_hub.specs.PipelineView.{shown, world_in}
 use Rattle.sal_hub.specs.Opened.{shown_from}
 use Rattle.sal_hub.specs.Openings.{domain_of, fault_of, world_of}
 use Rattle.sal_hub.proofs.OpenedDevices.{are_sound, opened_kept, world-shown}
@@ -32,4 +32,4 @@ returns c =
     let opened : map shown c.in_ok-domains.domains.items ≡ shown_from 0 c.args.devices.items = c.in_ok-domains.ensures.shown ∙ ap (shown_from 0) c.deref-2.ensures.value in
     let sound : fault_of (world_of c.args.devices.items) ≡ None = ap (λ (ds : List Device). fault_of (world_of ds)) (sym c.deref-2.ensures.value) ∙ c.in_ok-domains.ensures.fault in
     let same = ap world_in opened ∙ world-shown 0 c.args.devices.items in
-    (sound, λ i. let known : Known = record { world = same i; log = (c.new-journal.ensures i).log } in known)
+    (sound, λ i. let known : HubHistory = record { world = same i; log = (c.new-journal.ensures i).log } in known)

@@ -4,7 +4,7 @@ use Rattle.sal_history.specs.declared.call.Call.TheVariants.{OpenChain}
 use Rattle.sal_history.specs.declared.reply.Reply.TheVariants.{Chain as Opened}
 use Rattle.sal_hub.specs.declared.chain.Chain.{Chain}
 use Rattle.sal_hub.specs.Current.{known_of}
-use Rattle.sal_hub.specs.Known.{entry_of}
+use Rattle.sal_hub.specs.HubHistory.{entry_of}
 use Rattle.sal_hub.proofs.Wholes.{whole_chained}
 use Rattle.sal_hub.proofs.hub.Hub.open_chain.Goals as goal
 

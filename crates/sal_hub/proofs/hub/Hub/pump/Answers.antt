@@ -4,7 +4,7 @@ use Rattle.sal_history.specs.declared.call.Call.TheVariants.{Pump}
 use Rattle.sal_hub.specs.Seen.{pump_reply}
 use Rattle.sal_hub.proofs.Wholes.{whole_called}
 use Rattle.sal_hub.specs.Current.{known_of}
-use Rattle.sal_hub.specs.Known.{entry_of}
+use Rattle.sal_hub.specs.HubHistory.{entry_of}
 use Rattle.sal_hub.proofs.hub.Hub.pump.Goals as goal
 
 pub invariant_of-self : goal.invariant_of-self

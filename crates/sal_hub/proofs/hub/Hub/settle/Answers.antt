@@ -17,8 +17,8 @@ use Rattle.sal_hub.specs.declared.services.Services.{Services}
 use Rattle.sal_hub.specs.Answers.{Calls, Made}
 use Rattle.sal_hub.specs.Current.{IsKept, answers, known_of}
 use Rattle.sal_hub.specs.Journals.{Noted, jotted, mark_at}
-use Rattle.sal_hub.specs.Known.{entry_of}
-use Rattle.sal_hub.specs.Lines.{AllKept, AreDecided, Decides, line_of}
+use Rattle.sal_hub.specs.HubHistory.{entry_of}
+use Rattle.sal_hub.specs.PipelineView.{AllKept, AreDecided, Decides, line_of}
 use Rattle.sal_hub.specs.Whole.{IsWhole}
 use Rattle.sal_hub.specs.Tokens.{IsGiven}
 use Rattle.sal_hub.proofs.Settling.{few, given_within, settled_kept, settled_made, unsettled_kept, unsettled_known}

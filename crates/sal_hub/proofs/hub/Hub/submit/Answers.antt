@@ -10,7 +10,7 @@ use Rattle.sal_history.specs.Submissions.{Base}
 use Rattle.sal_hub.specs.declared.chains.Chains.{Chains}
 use Rattle.sal_hub.specs.Current.{known_of}
 use Rattle.sal_hub.specs.Failures.{IsWithin, noted_with}
-use Rattle.sal_hub.specs.Known.{entry_of}
+use Rattle.sal_hub.specs.HubHistory.{entry_of}
 use Rattle.sal_hub.proofs.Noted.{length-with}
 use Rattle.sal_hub.proofs.Wholes.{member_failures, member_sent, submit_whole, token_began, whole_fails}
 use Rattle.sal_hub.proofs.hub.Hub.submit.Goals as goal

@@ -3,7 +3,7 @@ use Rattle.std.proofs.Common.{refl}
 use Rattle.sal_history.specs.declared.call.Call.TheVariants.{Subscribe}
 use Rattle.sal_history.specs.declared.reply.Reply.TheVariants.{Accepted}
 use Rattle.sal_hub.specs.Current.{known_of}
-use Rattle.sal_hub.specs.Known.{entry_of}
+use Rattle.sal_hub.specs.HubHistory.{entry_of}
 use Rattle.sal_hub.proofs.Wholes.{whole_noted}
 use Rattle.sal_hub.proofs.hub.Hub.subscribe.Goals as goal
 

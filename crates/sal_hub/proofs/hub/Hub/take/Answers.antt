@@ -4,7 +4,7 @@ use Rattle.sal_rows.specs.declared.batch.Batch.{Batch}
 use Rattle.sal_history.specs.declared.call.Call.TheVariants.{Take}
 use Rattle.sal_history.specs.declared.reply.Reply.TheVariants.{Batch as Told}
 use Rattle.sal_hub.specs.Current.{known_of}
-use Rattle.sal_hub.specs.Known.{entry_of}
+use Rattle.sal_hub.specs.HubHistory.{entry_of}
 use Rattle.sal_hub.proofs.Wholes.{whole_heard}
 use Rattle.sal_hub.proofs.hub.Hub.take.Goals as goal
 

@@ -5,7 +5,7 @@ use Rattle.sal_tree.specs.declared.commit.Commit.{Commit}
 use Rattle.sal_rows.specs.Clash.{tip}
 use Rattle.sal_graft.specs.Kept.{opening_in, ops_of}
 use Rattle.sal_history.specs.History.{newest_tree}
-use Rattle.sal_hub.specs.Known.{Known}
+use Rattle.sal_hub.specs.HubHistory.{HubHistory}
 use Rattle.sal_hub.proofs.Serving.{known_domain, tip_is}
 use Rattle.sal_hub.proofs.Starting.{same_rows}
 use Rattle.sal_hub.proofs.hub.Hub.trees_of.Goals as goal
@@ -18,7 +18,7 @@ returns c =
     λ s.
     same_rows trees s ∙ c.last_commit.ensures s ∙ ap (λ (xs : List Commit). tip (opening_in xs) (ops_of xs) s) c.deref.ensures.value
     ∙ tip_is journal p c.self.invariant.kept c.args.domain c.index.result.now (known_domain journal p c.args.self.now c.self.view_is c.args.domain c.requires) c.index.ensures s
-    ∙ ap (λ (known : Known). newest_tree known.world known.log c.args.domain s) c.self.view_is
+    ∙ ap (λ (known : HubHistory). newest_tree known.world known.log c.args.domain s) c.self.view_is
 
 pub index-requires : goal.index-requires
 index-requires c =

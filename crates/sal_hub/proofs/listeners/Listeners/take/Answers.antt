@@ -6,7 +6,7 @@ use Rattle.sal_history.specs.declared.reply.Reply.TheVariants.{Refused}
 use Rattle.sal_hub.specs.Answers.{Made}
 use Rattle.sal_hub.specs.Current.{known_of}
 use Rattle.sal_hub.specs.Journals.{jotted}
-use Rattle.sal_hub.specs.Known.{entry_of}
+use Rattle.sal_hub.specs.HubHistory.{entry_of}
 use Rattle.sal_hub.specs.Listeners.{AreListeners, IsBatchFor, Tells, has_in}
 use Rattle.sal_hub.proofs.Beginning.{quiet_kept}
 use Rattle.sal_hub.proofs.Heard.{number_within, same_listeners}

@@ -7,7 +7,7 @@ use Rattle.sal_rows.specs.declared.outcome.Outcome.{Outcome}
 use Rattle.sal_commit.specs.Deciding.{decide}
 use Rattle.sal_history.specs.Submissions.{is_done}
 use Rattle.sal_hub.specs.Failures.{IsWithin, failure_of, failures_after}
-use Rattle.sal_hub.specs.Lines.{HasGrown, line_of}
+use Rattle.sal_hub.specs.PipelineView.{HasGrown, line_of}
 use Rattle.sal_hub.proofs.Deciding.{can_now, decided_now, domain_within, grown_none, grown_nothing, grown_now, stamp_now, within_here}
 use Rattle.sal_hub.proofs.Noted.{length-after}
 use Rattle.sal_hub.proofs.pipeline.Pipeline.decide_one.Goals as goal

@@ -1,7 +1,7 @@
 -- One more is decided.
 use Rattle.std.proofs.Common.{◌≡◌, ◌≤◌, ◌+◌, ◌-◌, length, ap, sym, ◌∙◌, subst, arith}
 use Rattle.std.proofs.lemmas.Grind.{common_steps}
-use Rattle.sal_hub.specs.Lines.{Decides, line_of}
+use Rattle.sal_hub.specs.PipelineView.{Decides, line_of}
 use Rattle.sal_hub.proofs.Deciding.{grown_none}
 use Rattle.sal_hub.proofs.Cutting.{Decides-none, HasGrown-then, one_more}
 use Rattle.sal_hub.proofs.pipeline.Pipeline.decide_upto.Goals as goal

@@ -1,6 +1,6 @@
 -- So many are decided, and the rest is still to be.
 use Rattle.std.proofs.Common.{◌≡◌, ◌≤◌, ◌-◌, length}
-use Rattle.sal_hub.specs.Lines.{AllKept, Decides, HasGrown, line_of}
+use Rattle.sal_hub.specs.PipelineView.{AllKept, Decides, HasGrown, line_of}
 use Rattle.sal_hub.proofs.pipeline.Pipeline.decide_upto.Given as goal
 
 abbrev pub invariant-loop-index : goal.invariant-loop-index

@@ -3,7 +3,7 @@ use Rattle.std.proofs.Common.{◌≡◌, ◌-◌, List, drop, length, map, take,
 use Rattle.std.proofs.lemmas.Grind.{common_steps}
 use Rattle.sal_commit.specs.declared.domain.Domain.{Domain}
 use Rattle.sal_hub.specs.Failures.{cut_failures}
-use Rattle.sal_hub.specs.Lines.{AreDecided, Line, counts_of, cut_all, line_of, shown}
+use Rattle.sal_hub.specs.PipelineView.{AreDecided, PipelineView, counts_of, cut_all, line_of, shown}
 use Rattle.sal_hub.proofs.Cutting.{as_many, taken_back}
 use Rattle.sal_hub.proofs.Deciding.{decided-shorter}
 use Rattle.sal_hub.proofs.pipeline.Pipeline.settle.Goals as goal
@@ -34,5 +34,5 @@ returns-in-Ok-clause-decided c = λ ss sound.
     let gone : c.let_go.new.gone ≡ length new.outcomes.items = c.let_go.ensures.gone ∙ count in
     let waits : c.let_go.new.waiting.items ≡ drop (length new.outcomes.items - new.gone) new.waiting.items = c.let_go.ensures.waiting ∙ ap (λ n. drop (n - new.gone) new.waiting.items) count in
     subst (AreDecided ss (line_of old) (c.args.receipt - length old.outcomes.items))
-    (λ i. let line : Line = record { domains = map shown new.domains.items; gone = sym gone i; waiting = sym waits i; outcomes = new.outcomes.items; failures = new.failures.items } in line)
+    (λ i. let line : PipelineView = record { domains = map shown new.domains.items; gone = sym gone i; waiting = sym waits i; outcomes = new.outcomes.items; failures = new.failures.items } in line)
     (decided-shorter ss (line_of old) (c.args.receipt - length old.outcomes.items) (line_of new) (c.in-Ok.ensures.decided ss sound))

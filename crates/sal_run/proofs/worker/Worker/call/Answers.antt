@@ -1,6 +1,6 @@
 -- The client makes its call on the hub that its turn found.
 use Rattle.std.proofs.Common.{sym, ◌∙◌, subst}
-use Rattle.sal_hub.specs.Known.{Known}
+use Rattle.sal_hub.specs.HubHistory.{HubHistory}
 use Rattle.sal_client.specs.Clients.{IsSound, client_of}
 use Rattle.sal_client.specs.Runs.{MakesNext, asking}
 use Rattle.sal_run.proofs.Standing.{few_left, found_stands, left_stands}
@@ -11,7 +11,7 @@ make-made-requires-clause-sound g c =
     let last = c.tokens_last.ensures in
     let enters = c.turn_for-held.ensures in
     let found = found_stands (last.begun, last.given, last.opened, last.called) c.args.self.now.readers.now c.args.self.now.steps.now c.args.seat.view c.args.self.now.sal.now c.turn_for-held.result c.args.run.now (asking c.args.wish c.args.self.now.steps.now c.args.run.now) enters c.requires.stands in
-    subst (λ (k : Known). IsSound k c.args.run.now.client) (sym (c.hub.ensures.value ∙ enters.hub)) found.sound
+    subst (λ (k : HubHistory). IsSound k c.args.run.now.client) (sym (c.hub.ensures.value ∙ enters.hub)) found.sound
 
 pub returns-in-Ok-clause-few : goal.returns-in-Ok-clause-few
 returns-in-Ok-clause-few g c =
@@ -25,7 +25,7 @@ returns-in-Ok-clause-goes g c made =
     let old = c.args.run.now in
     let new = c.make-made.new.self in
     let left = c.make-made.new.hub in
-    let makes = subst (λ (k : Known). MakesNext tables old.client.number k c.args.wish (client_of old.client) left (client_of new.client)) c.hub.ensures.value (c.in-Ok.ensures.makes tables c.requires.read) in
+    let makes = subst (λ (k : HubHistory). MakesNext tables old.client.number k c.args.wish (client_of old.client) left (client_of new.client)) c.hub.ensures.value (c.in-Ok.ensures.makes tables c.requires.read) in
     left_stands (last.begun, last.given, last.opened, last.called) tables c.args.self.now.steps.now c.args.seat.view c.args.self.now.sal.now c.turn_for-held.result left c.leave-seat.result.view c.args.wish old new
     c.turn_for-held.ensures c.leave-seat.ensures.same.1 c.leave-seat.ensures.turn makes c.in-Ok.ensures.sound c.in-Ok.ensures.at c.in-Ok.ensures.number c.requires.stands
 

@@ -24,7 +24,7 @@ use Rattle.sal_hub.specs.Failures.{IsWithin, cut_failures, noted_in}
 -- ---- what a contract sees
 
 -- a domain, by its opening trees, and the operations, the chains and the receipts of its commits
-pub record Shown : Type 0 where
+pub record DomainView : Type 0 where
   pub number : ℕ
   pub live : Bool
   pub table : SchemaTable
@@ -33,8 +33,8 @@ pub record Shown : Type 0 where
   pub chains : List (Option ℕ)
   pub receipts : List ℕ
 
-pub record Line : Type 0 where
-  pub domains : List Shown
+pub record PipelineView : Type 0 where
+  pub domains : List DomainView
   -- how many submissions were let go, those of the first receipts
   pub gone : ℕ
   -- those behind
@@ -43,44 +43,44 @@ pub record Line : Type 0 where
   -- for each chain the receipt by which it failed
   pub failures : List (Option ℕ)
 
-abbrev pub shown : Domain → Shown
+abbrev pub shown : Domain → DomainView
 shown d =
     record { number = d.number; live = d.live; table = d.schema.value; opening = opening_in d.commits.items; ops = ops_of d.commits.items; chains = chains_of d.commits.items; receipts = receipts_of d.commits.items }
 
-abbrev pub line_of : Pipeline → Line
+abbrev pub line_of : Pipeline → PipelineView
 line_of p = record { domains = map shown p.domains.items; gone = p.gone; waiting = p.waiting.items; outcomes = p.outcomes.items; failures = p.failures.items }
 
 -- the domain of this number is live, by its flag; there is none behind the last
-abbrev pub is_live_in : List Shown → ℕ → Bool
-is_live_in domains n = option_map_or (λ (d : Shown). d.live) (slice_get domains n) false
+abbrev pub is_live_in : List DomainView → ℕ → Bool
+is_live_in domains n = option_map_or (λ (d : DomainView). d.live) (slice_get domains n) false
 
 -- ---- as the log's definitions have it
 
-abbrev pub opened_as : Shown → world.Domain
+abbrev pub opened_as : DomainView → world.Domain
 opened_as d = record { table = d.table; opening = record { config = d.opening Config; oper = d.opening Oper } }
 
-abbrev pub world_in : List Shown → List world.Domain
+abbrev pub world_in : List DomainView → List world.Domain
 world_in domains = map opened_as domains
 
 abbrev pub sent_of : Submission → Sent
 sent_of s = record { base = record { domain = s.domain; commit = s.base_commit; chain = s.chain; trees = rows_in s.base }; ops = s.changes }
 
 -- the commits of a domain, by all submissions and their outcomes
-abbrev pub commits_in : List Sent → Line → ℕ → List (List Op)
+abbrev pub commits_in : List Sent → PipelineView → ℕ → List (List Op)
 commits_in ss line n = done_ops n ss line.outcomes
 
 -- and their chains
-abbrev pub chains_in : List Sent → Line → ℕ → List (Option ℕ)
+abbrev pub chains_in : List Sent → PipelineView → ℕ → List (Option ℕ)
 chains_in ss line n = done_chains n ss line.outcomes
 
 -- and their receipts, that of the opening first
-abbrev pub receipts_in : List Sent → Line → ℕ → List ℕ
+abbrev pub receipts_in : List Sent → PipelineView → ℕ → List ℕ
 receipts_in ss line n = commit_receipts n ss line.outcomes
 
 -- ---- what holds of it, by all submissions
 
 -- a domain has its number, and the commits that the outcomes tell, with their chains and receipts
-pub record IsStored (ss : List Sent) (line : Line) (n : ℕ) (d : Shown) : Type 0 where
+pub record IsStored (ss : List Sent) (line : PipelineView) (n : ℕ) (d : DomainView) : Type 0 where
   pub number : d.number ≡ n
   pub commits : d.ops ≡ commits_in ss line n
   pub chains : d.chains ≡ chains_in ss line n
@@ -88,7 +88,7 @@ pub record IsStored (ss : List Sent) (line : Line) (n : ℕ) (d : Shown) : Type 
 
 -- A submission stands on a commit of its domain, and its chain is one that was opened; its view is its base after its
 -- operations, whose rows lie below their paths.
-pub record Stands (ss : List Sent) (line : Line) (s : Submission) : Type 0 where
+pub record Stands (ss : List Sent) (line : PipelineView) (s : Submission) : Type 0 where
   pub domain : s.domain < length line.domains
   pub base : s.base_commit ≤ length (commits_in ss line s.domain)
   pub chain : IsWithin (length line.failures) s.chain
@@ -96,18 +96,18 @@ pub record Stands (ss : List Sent) (line : Line) (s : Submission) : Type 0 where
   pub below : LieBelow s.changes
 
 -- only what is decided was let go, and the rest is kept
-pub record IsSound (ss : List Sent) (line : Line) : Type 0 where
+pub record IsSound (ss : List Sent) (line : PipelineView) : Type 0 where
   pub some : 1 ≤ length line.domains
   pub within : length line.outcomes ≤ length ss
   pub behind : line.gone ≤ length line.outcomes
-  pub domains : (n : ℕ) (d : Shown) → slice_get line.domains n ≡ Some d → IsStored ss line n d
+  pub domains : (n : ℕ) (d : DomainView) → slice_get line.domains n ≡ Some d → IsStored ss line n d
   pub waiting : map sent_of line.waiting ≡ drop line.gone ss
   pub standing : (i : ℕ) (s : Submission) → slice_get line.waiting i ≡ Some s → Stands ss line s
   pub numbers : (i : ℕ) (s : Submission) → slice_get line.waiting i ≡ Some s → s.receipt ≡ line.gone + i + 1
   pub failures : (chain : ℕ) → noted_in line.failures chain ≡ failing (Some chain) ss line.outcomes
 
 -- what was let go is not seen: there are submissions by which it holds
-abbrev pub HasSents : Line → Type 0
+abbrev pub HasSents : PipelineView → Type 0
 HasSents line = (ss : List Sent) × IsSound ss line
 
 -- the commits of each domain have their trees
@@ -117,16 +117,16 @@ AllKept ds = All (λ (d : Domain). AreKept d.commits.items) ds
 -- ---- what calls do
 
 -- the domain of this number is live or not
-abbrev pub with_live : List Shown → ℕ → Bool → List Shown
+abbrev pub with_live : List DomainView → ℕ → Bool → List DomainView
 with_live [] n live = []
 with_live (d ∷ ds) zero live = record d { live = live } ∷ ds
 with_live (d ∷ ds) (suc n) live = d ∷ with_live ds n live
 
-abbrev pub set_live : Line → ℕ → Bool → Line
+abbrev pub set_live : PipelineView → ℕ → Bool → PipelineView
 set_live line n live = record { domains = with_live line.domains n live; gone = line.gone; waiting = line.waiting; outcomes = line.outcomes; failures = line.failures }
 
 -- what is decided is let go
-abbrev pub shorter : Line → Line
+abbrev pub shorter : PipelineView → PipelineView
 shorter line = record { domains = line.domains; gone = length line.outcomes; waiting = drop (length line.outcomes - line.gone) line.waiting; outcomes = line.outcomes; failures = line.failures }
 
 -- the list has grown at its end, if at all
@@ -134,14 +134,14 @@ abbrev pub Grows : {X : Type 0} → List X → List X → Type 0
 Grows {X} old new = (more : List X) × (new ≡ old ++ more)
 
 -- each domain is as it was, but for commits behind those that it had
-abbrev pub HaveGrown : List Shown → List Shown → Type 0
+abbrev pub HaveGrown : List DomainView → List DomainView → Type 0
 HaveGrown [] [] = Unit {0}
 HaveGrown [] (e ∷ es) = ⊥
 HaveGrown (d ∷ ds) [] = ⊥
 HaveGrown (d ∷ ds) (e ∷ es) = ((e ≡ record d { ops = e.ops; chains = e.chains; receipts = e.receipts }) × Grows d.ops e.ops × Grows d.chains e.chains × Grows d.receipts e.receipts) × HaveGrown ds es
 
 -- decisions were added, if any
-pub record HasGrown (old new : Line) : Type 0 where
+pub record HasGrown (old new : PipelineView) : Type 0 where
   pub domains : HaveGrown old.domains new.domains
   pub gone : new.gone ≡ old.gone
   pub waiting : new.waiting ≡ old.waiting
@@ -149,17 +149,17 @@ pub record HasGrown (old new : Line) : Type 0 where
   pub failures : cut_failures (length old.outcomes) new.failures ≡ old.failures
 
 -- the domains with so many of their commits behind the opening
-abbrev pub cut_all : List Shown → List ℕ → List Shown
+abbrev pub cut_all : List DomainView → List ℕ → List DomainView
 cut_all [] ks = []
 cut_all (d ∷ ds) [] = d ∷ ds
 cut_all (d ∷ ds) (k ∷ ks) = record d { ops = take k d.ops; chains = take k d.chains; receipts = take (k + 1) d.receipts } ∷ cut_all ds ks
 
 -- how many commits each domain has behind its opening
-abbrev pub counts_of : List Shown → List ℕ
-counts_of ds = map (λ (d : Shown). length d.ops) ds
+abbrev pub counts_of : List DomainView → List ℕ
+counts_of ds = map (λ (d : DomainView). length d.ops) ds
 
 -- the next n of the submissions were decided, the same domains are live, and as many chains are known
-pub record AreDecided (ss : List Sent) (old : Line) (n : ℕ) (new : Line) : Type 0 where
+pub record AreDecided (ss : List Sent) (old : PipelineView) (n : ℕ) (new : PipelineView) : Type 0 where
   pub sound : IsSound ss new
   pub world : world_in new.domains ≡ world_in old.domains
   pub live : (domain : ℕ) → is_live_in new.domains domain ≡ is_live_in old.domains domain
@@ -167,5 +167,5 @@ pub record AreDecided (ss : List Sent) (old : Line) (n : ℕ) (new : Line) : Typ
   pub chains : length new.failures ≡ length old.failures
 
 -- the same by any submissions by which it held
-abbrev pub Decides : Line → ℕ → Line → Type 0
+abbrev pub Decides : PipelineView → ℕ → PipelineView → Type 0
 Decides old n new = (ss : List Sent) → IsSound ss old → AreDecided ss old n new

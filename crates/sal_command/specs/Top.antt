@@ -45,9 +45,13 @@ RunsTo bytes (Err status) = prepared bytes ≡ Err status
 abbrev pub LoadsTo : ℕ → ℕ → List ℕ → Type 0
 LoadsTo rounds start text = text ≡ load_text rounds start
 
--- the text of the schema that the modules of the script build
+-- the text of the schema that the modules of the controller's own domain build
+abbrev pub modules_text : List (List ℕ) → Result (List ℕ) Status
+modules_text modules = or_schema 0 (table_of modules) >>= (λ table. Ok (table_text table))
+
+-- the same for the modules of the script
 abbrev pub schema_text : List ℕ → Result (List ℕ) Status
-schema_text bytes = or_script (script_of bytes) >>= (λ parts. or_schema 0 (table_of parts.modules) >>= (λ table. Ok (table_text table)))
+schema_text bytes = or_script (script_of bytes) >>= (λ parts. modules_text parts.modules)
 
 -- a text that is made of the bytes, or its status, is this one
 abbrev pub IsMadeBy : (List ℕ → Result (List ℕ) Status) → List ℕ → Result (List ℕ) Status → Type 0

@@ -21,7 +21,7 @@ use sal_hub::Hub;
 use sal_io::{Gate, ReadFail, Sink, Source, read_all, write_all};
 use sal_run::run;
 use sal_schema::Schema;
-use sal_script::laws;
+use sal_script::{Script, laws};
 use sal_types::{NoMemory, Str};
 use std::alloc::Global;
 use std::sync::{Arc, Wait};
@@ -184,16 +184,23 @@ fn input_of<S: Source>(alloc: Global, source: &mut S) -> Result<Vec<u8>, Status>
     }
 }
 
-// The text of the schema that the modules of the script build.
-fn schema_text(alloc: Global, bytes: &[u8]) -> Result<Str, Status>
-    ensures { spec.IsTextOr (spec.schema_text bytes.now) result }
+// The text of the schema that the modules of the controller's own domain build.
+fn modules_text(alloc: Global, script: &Script) -> Result<Str, Status>
+    ensures { spec.IsTextOr (spec.modules_text script.now.modules) result }
 {
-    let script = scripted::script_of(alloc, bytes)?;
-    let schema = scripted::modules_schema(alloc, &script)?;
+    let schema = scripted::modules_schema(alloc, script)?;
     match schema.text(alloc) {
         Ok(text) => Ok(text),
         Err(NoMemory) => Err(Status::NoMemory),
     }
+}
+
+// The same of the script that the bytes stand for.
+fn schema_text(alloc: Global, bytes: &[u8]) -> Result<Str, Status>
+    ensures { spec.IsTextOr (spec.schema_text bytes.now) result }
+{
+    let script = scripted::script_of(alloc, bytes)?;
+    modules_text(alloc, &script)
 }
 
 // The report of the script that the bytes stand for, its clients run at the same time.

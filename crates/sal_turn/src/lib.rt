@@ -45,6 +45,7 @@ mod seat;
 mod steps;
 mod turn;
 mod view;
+mod waits;
 
 pub use chronicle::Chronicle;
 pub use held::Held;

@@ -11,8 +11,8 @@ use crate::rule::{Opening, Ticketed};
 use crate::seat::Seat;
 use crate::steps::{Compare, Draw, JoinSeats, Look, Name, Pass, SplitSeat};
 use crate::view::View;
+use crate::waits::Sleepers;
 use atomic_table::Table;
-use crossbeam_utils::Backoff;
 use sal_types::NoMemory;
 use std::alloc::Global;
 use std::marker::Model;
@@ -20,16 +20,17 @@ use std::snapshot::Snapshot;
 use std::sync::Wait;
 
 // The words of the table, and its slot.
-const NEXT_TICKET: usize = 0;
+pub(crate) const NEXT_TICKET: usize = 0;
 
-const TURN_SERVED: usize = 1;
+pub(crate) const TURN_SERVED: usize = 1;
 
 const VALUE: usize = 0;
 
 /// The lock: the next ticket, the turn served, and the value, which is out while a seat has its turn. A contract sees its name.
 #[derive(Drop)]
 pub struct Turn<V: Chronicle> {
-    table: Table<Option<V>, View<V::Entry, V::Ground>, Opening<V>, Ticketed, Global>,
+    pub(crate) table: Table<Option<V>, View<V::Entry, V::Ground>, Opening<V>, Ticketed, Global>,
+    pub(crate) sleepers: Sleepers,
 }
 
 impl<V: Chronicle> Model for Turn<V> {
@@ -58,7 +59,10 @@ impl<V: Chronicle> Turn<V> {
         let mut slots = Vec::with_capacity(alloc, 1)?;
         slots.push(Some(value))?;
         match Table::new(alloc, &[0, 0], slots, &about) {
-            Ok((table, token)) => Ok((Turn { table }, Seat { token, number })),
+            Ok((table, token)) => {
+                let sleepers = Sleepers::new();
+                Ok((Turn { table, sleepers }, Seat { token, number }))
+            }
             Err(refused) => {
                 drop(refused);
                 Err(NoMemory)
@@ -77,11 +81,11 @@ impl<V: Chronicle> Turn<V> {
         ensures ground { seat.view.ground ≡ Some (V.ground result.value) }
     {
         let Seat { mut token, number } = seat;
+        self.wait_outside(rt);
         let ticket = self
             .table
             .shared
             .fetch_add::<Draw>(&mut token, NEXT_TICKET, 1);
-        let backoff = Backoff::new();
         for _ in rt.forever() {
             if self.table.shared.load::<Look>(&mut token, TURN_SERVED) == ticket {
                 let Some(value) = self.table.shared.exchange(&mut token, VALUE, None) else {
@@ -93,7 +97,7 @@ impl<V: Chronicle> Turn<V> {
                     value,
                 };
             }
-            backoff.snooze();
+            self.wait_at_door(rt, ticket);
         }
         unreachable!()
     }
@@ -116,9 +120,11 @@ impl<V: Chronicle> Turn<V> {
         } = held;
         let before = self.table.shared.exchange(&mut token, VALUE, Some(value));
         let None = before else { unreachable!() };
-        self.table
+        let served = self
+            .table
             .shared
             .fetch_add::<Pass>(&mut token, TURN_SERVED, 1);
+        self.sleepers.wake(served.wrapping_add(1));
         Seat { token, number }
     }
 
@@ -169,7 +175,8 @@ impl<V: Chronicle> Turn<V> {
         ensures joined { (k : ℕ) (es : List V.Entry) → In (k, es) seat.view.joined → entries_by V.client k (V.entries result) ≡ es }
         ensures others { (k : ℕ) → ¬ AnswersFor seat.view k → entries_by V.client k (V.entries result) ≡ [] }
     {
-        let Turn { table } = self;
+        let Turn { table, sleepers } = self;
+        drop(sleepers);
         let Seat { token, number: _ } = seat;
         let mut closed = table.close_with(token);
         let slot = closed.take(VALUE);

@@ -5,8 +5,8 @@ use Rattle.sal_turn.specs.Stages.{entries_found}
 use Rattle.sal_turn.proofs.Pass.{passes}
 use Rattle.sal_turn.proofs.turn.Turn.leave.Goals as goal
 
-pub fetch_add-requires : goal.fetch_add-requires
-fetch_add-requires g c =
+pub fetch_add-served-requires : goal.fetch_add-served-requires
+fetch_add-served-requires g c =
     let i = c.held.invariant in
     let e = c.exchange-before.ensures in
     let is = c.held.view_is in

@@ -52,6 +52,7 @@ mod rpc_calls;
 mod sal;
 mod seat;
 mod shared;
+mod waiting;
 
 pub use held::Held;
 pub use looks::MAX_LOOKS;

@@ -17,6 +17,7 @@ use crate::held::Held;
 use crate::laws;
 use crate::sal::Sal;
 use crate::seat::Seat;
+use crate::waiting::Patience;
 use sal_hub::Seen;
 use sal_rows::CallFault;
 use std::alloc::Global;
@@ -78,17 +79,20 @@ impl Sal {
     {
         laws::tokens_stay();
         let mut held = self.enter(rt, seat);
+        let mut patience = Patience::new();
         for _ in 1..MAX_LOOKS {
             if held.has_mark(mark) {
+                patience.end(&self.growth);
                 return held;
             }
-            held = self.look_again(rt, held);
+            held = self.look_again(rt, held, &mut patience);
         }
+        patience.end(&self.growth);
         held
     }
 
-    // Ends the turn without an entry, and takes the seat's next one.
-    fn look_again<R: Wait>(&self, rt: &R, held: Held) -> Held
+    // Ends the turn without an entry, waits until it is time for a look, and takes the seat's next turn.
+    fn look_again<R: Wait>(&self, rt: &R, held: Held, patience: &mut Patience) -> Held
         requires lock { held.lock ≡ self.now }
         requires hub { held.hub ≡ held.found }
         ensures same { (result.lock ≡ self.now) × SameRights held.view result.view × (result.view.own ≡ held.view.own) }
@@ -99,6 +103,7 @@ impl Sal {
         ensures turns { result.view.turns ≡ held.view.turns + 1 }
     {
         let seat = self.leave(held);
+        patience.wait(rt, &self.growth);
         self.enter(rt, seat)
     }
 }

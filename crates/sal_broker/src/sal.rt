@@ -14,6 +14,7 @@ use crate::held::Held;
 use crate::laws;
 use crate::seat::Seat;
 use crate::shared::Shared;
+use crate::waiting::Growth;
 use sal_history::Device;
 use sal_hub::{Hub, OpenFault};
 use sal_turn::Turn;
@@ -29,6 +30,7 @@ pub const OPENING_NUMBER: u32 = 65535;
 #[derive(Drop)]
 pub struct Sal {
     pub(crate) lock: Turn<Shared>,
+    pub(crate) growth: Growth,
 }
 
 impl Model for Sal {
@@ -59,7 +61,8 @@ impl Sal {
         ensures { IfOk result (λ r. (r.1.lock ≡ r.0) × (r.1.view ≡ opener 65535 hub.world)) }
     {
         let (lock, seat) = Turn::open(alloc, Shared { hub }, OPENING_NUMBER)?;
-        Ok((Sal { lock }, Seat { inner: Some(seat) }))
+        let growth = Growth::new();
+        Ok((Sal { lock, growth }, Seat { inner: Some(seat) }))
     }
 
     /// Waits for the seat's turn, and takes it. The hub that it finds has a log that begins with all that the seat has seen, in
@@ -111,6 +114,7 @@ impl Sal {
         ensures turn { TurnOf held.view held.view.number held.found held.hub result.view }
     {
         let Held { inner } = held;
+        self.growth.tell(inner.peek().hub.log().len());
         Seat {
             inner: Some(self.lock.leave(inner)),
         }
@@ -162,7 +166,8 @@ impl Sal {
         ensures joined { (k : ℕ) (es : List Entry) → In (k, es) seat.view.joined → entries_by client_of k result.log ≡ es }
         ensures others { (k : ℕ) → ¬ AnswersFor seat.view k → entries_by client_of k result.log ≡ [] }
     {
-        let Sal { lock } = self;
+        let Sal { lock, growth } = self;
+        drop(growth);
         let Seat { inner } = seat;
         let Some(inner) = inner else { unreachable!() };
         let Shared { hub } = lock.close(inner);

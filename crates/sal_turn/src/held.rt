@@ -45,6 +45,13 @@ impl<V: Chronicle> Held<V> {
         self.number
     }
 
+    /// The value, to be read.
+    pub fn peek(&self) -> &V
+        ensures { result.now ≡ self.now.value }
+    {
+        &self.value
+    }
+
     /// The value. What is written through it is written to the value, and nothing else changes.
     pub fn value(&mut self) -> &mut V
         ensures* writes_back { sem 𝓛 (Lends (the_row V.row V.Entry.row V.Ground.row V.Chronicle) V.row self.entry result (λ w. record self.old { value = w })) }

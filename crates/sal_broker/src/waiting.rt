@@ -1,0 +1,112 @@
+//! How clients that look for a mark wait between two looks.
+use std::sync::Wait;
+use std::sync::atomic::AtomicU64;
+use std::sync::atomic::Ordering::SeqCst;
+use std::thread::yield_now;
+use std::time::Duration;
+
+// So many pauses are no sleeps: other threads may run, and the mark is often there soon.
+const SHORT_PAUSES: u32 = 32;
+
+// The first sleep is of 64 microseconds. Each further one is twice as long, up to 2,048 microseconds.
+const FIRST_SLEEP: u64 = 64;
+
+const DOUBLINGS: u32 = 5;
+
+// After so many pauses in a row without a new entry, of about a second in all, a client waits no longer between its looks.
+const MOST_PAUSES: u32 = 512;
+
+/// What the clients that look for marks share: how many entries the log had when the last turn with one ended, and whether
+/// one of them makes its looks without waiting.
+#[derive(Drop)]
+pub(crate) struct Growth {
+    length: AtomicU64,
+    hurry: AtomicU64,
+}
+
+impl Growth {
+    /// Of an empty log.
+    pub(crate) fn new() -> Growth {
+        Growth {
+            length: AtomicU64::new(0),
+            hurry: AtomicU64::new(0),
+        }
+    }
+
+    /// Tells how many entries the log has. The caller has the turn.
+    pub(crate) fn tell(&self, length: usize) {
+        let length = length as u64;
+        if self.length.load(SeqCst) != length {
+            self.length.store(length, SeqCst);
+        }
+    }
+}
+
+/// The patience of one client that looks for a mark.
+#[derive(Drop)]
+pub(crate) struct Patience {
+    length: u64,
+    pauses: u32,
+    pauses_in_a_row: u32,
+    is_out: bool,
+}
+
+impl Patience {
+    pub(crate) fn new() -> Patience {
+        Patience {
+            length: 0,
+            pauses: 0,
+            pauses_in_a_row: 0,
+            is_out: false,
+        }
+    }
+
+    // Whether the log has grown since it was asked last.
+    fn has_grown(&mut self, growth: &Growth) -> bool {
+        let length = growth.length.load(SeqCst);
+        let grown = length != self.length;
+        self.length = length;
+        grown
+    }
+
+    fn pause<R: Wait>(&mut self, rt: &R, growth: &Growth) {
+        if self.pauses < SHORT_PAUSES {
+            yield_now();
+        } else {
+            let doublings = (self.pauses - SHORT_PAUSES).min(DOUBLINGS);
+            let sleep = Duration::from_micros(FIRST_SLEEP << doublings);
+            let expected = (self.length & 0xffff_ffff) as u32;
+            growth.length.park_timeout(rt, expected, sleep);
+        }
+        self.pauses = self.pauses.saturating_add(1);
+        self.pauses_in_a_row = self.pauses_in_a_row.saturating_add(1);
+    }
+
+    /// Waits until it is time for a look: the log has grown since the last one, or it has not for a second, and no other
+    /// client makes its looks without waiting.
+    pub(crate) fn wait<R: Wait>(&mut self, rt: &R, growth: &Growth) {
+        for _ in rt.forever() {
+            if self.is_out {
+                return;
+            }
+            if self.has_grown(growth) {
+                if self.pauses_in_a_row < MOST_PAUSES {
+                    self.pauses_in_a_row = 0;
+                }
+                return;
+            }
+            if self.pauses_in_a_row >= MOST_PAUSES && growth.hurry.swap(1, SeqCst) == 0 {
+                self.is_out = true;
+                return;
+            }
+            self.pause(rt, growth);
+        }
+    }
+
+    /// Ends the wait: another client may make its looks without waiting.
+    pub(crate) fn end(self, growth: &Growth) {
+        if self.is_out {
+            growth.hurry.store(0, SeqCst);
+        }
+    }
+}

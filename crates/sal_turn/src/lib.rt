@@ -29,13 +29,44 @@
 //! | call | cost |
 //! |---|---|
 //! | `open` | the table's memory: two words and one slot |
-//! | `enter` | one atomic step for the ticket, and a load for each look, until the turns before are over |
-//! | `value` | none |
-//! | `leave`, `split`, `join` | one or two atomic steps |
+//! | `enter` | two loads where the lock is free, one atomic step for the ticket, and a load for each look; see below where it is not |
+//! | `value`, `peek` | none |
+//! | `leave` | two atomic steps, two loads that look for sleepers, and a call of the system for each that it wakes |
+//! | `split`, `join` | one or two atomic steps |
 //! | `close` | the table's memory is given back |
 //!
-//! Only `open` takes memory, and only `enter` waits: it spins, and then lets other threads run. Turns go in the order of the
-//! tickets. No contract says that a call of `enter` returns: a turn that is never ended keeps all others out.
+//! Only `open` takes memory, and only `enter` waits. No contract says that a call of `enter` returns: a turn that is never
+//! ended keeps all others out.
+//!
+//! # How a seat waits
+//!
+//! Turns go in the order of the tickets, and a seat with a ticket keeps all later ones out until its thread runs. On a busy
+//! machine that may take a time slice. So a seat waits *outside*, before it draws its ticket: it looks whether the lock is
+//! free (the next ticket is the turn served), and draws where it is. Else it looks some more times, lets other threads run,
+//! and then sleeps until a turn ends. A thread that runs may so take many turns while a woken one is on its way. With its
+//! ticket a seat waits at the *door* of that ticket, in the same way; that is short, unless two seats drew at one time.
+//!
+//! **Nobody is passed by for ever.** A seat that has slept 64 times outside draws its ticket in any case. From then on only
+//! the tickets before its own come first: one for each other seat at most. How many turns go by while it sleeps, and until a
+//! thread that was woken runs, is up to the system. Fairness is not claimed.
+//!
+//! **No wake-up is lost.** No proof sees sleepers, so this is an argument. All steps on words have one order, the same for all
+//! threads. A seat that is to sleep announces it (`prepare_wait`), looks again, and sleeps only where that look finds the lock
+//! busy (outside), or another turn served (at a door). Who leaves changes the turn served (`Pass`), and then looks for seats
+//! that are announced: it wakes all at the door of the next ticket, and one of those that sleep outside. A seat that is
+//! announced and does not sleep yet stays awake.
+//!
+//! - *At a door.* The turn of a ticket comes by one `Pass`. If the seat was announced when the leaver looked, it is woken. Else
+//!   its own look comes behind the `Pass`, and finds its turn. Of two seats with one door, the one whose turn it is not sleeps
+//!   again, and the `Pass` that brings its turn comes later.
+//! - *Outside.* Suppose that a seat sleeps and is never woken. Its look found the lock busy: either a ticket was out then, or a
+//!   turn ended between the two loads. So there is a `Pass` behind its announcement. Take the last `Pass` of all. Its leaver
+//!   finds that a seat is announced, and wakes one that sleeps, this one or another. The look of the woken seat comes behind
+//!   the last `Pass`. It finds the lock free, and the seat draws; or it finds a ticket out; or the seat draws without a look, as
+//!   it has slept 64 times. In each case a ticket is out, and its turn ends by one `Pass` more. So there was no last one.
+//!
+//! So a seat that was woken and finds the lock busy may sleep again: whoever keeps it out wakes one in turn. And where nobody
+//! else comes, each that was woken leaves and wakes the next, until none sleeps.
 #![tactic(auto)]
 
 mod chronicle;

@@ -1,19 +1,20 @@
-//! How a seat waits for its turn, and who wakes it.
+//! How a seat waits for its turn, and who wakes it. Why no wake-up is lost stands in the head of the crate.
 use crate::chronicle::Chronicle;
 use crate::turn::{NEXT_TICKET, TURN_SERVED, Turn};
 use crossbeam_utils::Backoff;
 use crossbeam_utils::sync::EventCount;
 use std::sync::Wait;
 
-// How many times a seat without a ticket sleeps at most.
+// So many times a seat sleeps outside at most. Then it draws its ticket in any case.
 const MOST_SLEEPS: u32 = 64;
 
-// How many looks are made before each sleep: short waits, and then times at which other threads may run.
+// So many looks are made before each sleep, with short loops between them, and then times at which other threads may run.
 const LOOKS: u32 = 11;
 
+// Tickets that differ by a multiple of this share a door.
 const DOORS: u64 = 8;
 
-/// Where seats sleep: those without a ticket outside, each that has one at the door of its ticket.
+/// Where seats sleep: outside without a ticket, and with one at its door.
 #[derive(Drop)]
 pub(crate) struct Sleepers {
     outside: EventCount,
@@ -37,12 +38,11 @@ impl Sleepers {
         }
     }
 
-    // Of two seats with one door each wakes where the other's turn comes, and sleeps again.
     fn door(&self, ticket: u64) -> &EventCount {
         &self.doors[(ticket % DOORS) as usize]
     }
 
-    /// Wakes the seat that has this ticket, and one of those that have none.
+    /// Wakes those at the door of the ticket, and one of those outside. The turn of the ticket has come.
     pub(crate) fn wake(&self, ticket: u64) {
         self.door(ticket).notify_all();
         self.outside.notify_one();
@@ -50,13 +50,13 @@ impl Sleepers {
 }
 
 impl<V: Chronicle> Turn<V> {
-    // Whether no ticket was out at the second of the two loads: the word that was loaded first only grows.
+    // Whether each ticket's turn was over at the second load: the turn served, which was loaded first, never passes the next ticket.
     fn is_free(&self) -> bool {
         let served = self.table.shared.peek(TURN_SERVED);
         self.table.shared.peek(NEXT_TICKET) == served
     }
 
-    // Whether the lock is free at one of some looks.
+    // Whether one of some looks finds the lock free.
     fn is_free_soon(&self) -> bool {
         let backoff = Backoff::new();
         for _ in 0..LOOKS {
@@ -68,7 +68,7 @@ impl<V: Chronicle> Turn<V> {
         false
     }
 
-    /// Waits until the lock is free, or the seat has slept so many times that it is to draw its ticket in any case.
+    /// Waits until a look finds the lock free, or the seat has slept `MOST_SLEEPS` times.
     pub(crate) fn wait_outside<R: Wait>(&self, rt: &R) {
         for _ in 0..MOST_SLEEPS {
             if self.is_free_soon() {
@@ -82,7 +82,7 @@ impl<V: Chronicle> Turn<V> {
         }
     }
 
-    // Whether the turn of the ticket has come at one of some looks.
+    // Whether one of some looks finds that the ticket's turn has come.
     fn is_served_soon(&self, ticket: u64) -> bool {
         let backoff = Backoff::new();
         for _ in 0..LOOKS {
@@ -94,7 +94,7 @@ impl<V: Chronicle> Turn<V> {
         false
     }
 
-    /// Waits for the turn of the ticket, until it has come or the seat was woken once.
+    /// Waits until a look finds that the ticket's turn has come, or the seat was woken.
     pub(crate) fn wait_at_door<R: Wait>(&self, rt: &R, ticket: u64) {
         if self.is_served_soon(ticket) {
             return;

@@ -34,10 +34,14 @@
 //! |---|---|
 //! | `open`, `over` | that of `Hub::open`, or nothing; and the lock's memory |
 //! | the calls, `enter` | a turn at the lock, some 50 ns where no other thread wants one; and what the hub's call costs |
-//! | `after`, `enter_after` | a turn and one search among the marks for each look, at most 4,194,304 of them |
-//! | `split`, `join`, `leave` | one or two atomic steps |
+//! | `after`, `enter_after` | a turn and one search among the marks for each look, at most 4,194,304 of them; asleep between the looks while the log grows, and for a second after it grew last |
+//! | `split`, `join`, `leave` | one or two atomic steps; `leave` also tells how long the log is |
 //!
 //! A call waits for its turn: no contract says that it returns, and a caller that entered and never leaves keeps all others out.
+//! How a seat waits stands in the head of `sal_turn`. A client that looks for a mark reads how long the log is from a word beside
+//! the lock, without a turn. It takes a turn where that has changed. Its sleeps are bounded, and nobody wakes it, so those
+//! who work do nothing for those who wait: its first 8 pauses only let other threads run; then it sleeps 32 microseconds, each
+//! time twice as long, up to 2 milliseconds.
 #![tactic(auto)]
 
 mod calls;

@@ -45,6 +45,10 @@ fn last_look(alloc: Global, held: &mut Held, mark: u32) -> Result<Seen, CallFaul
 impl Sal {
     /// Looks, a turn each, until the mark is there or it was looked for `MAX_LOOKS` times: then it is late. The entry is made
     /// in the last look.
+    ///
+    /// Between two looks it sleeps, and it looks no more often than the log grows. Once the log has not grown for about a second,
+    /// it makes the looks that are left without waiting, which takes less than a second more on a machine with little else to
+    /// do. Of several clients that come to that, one does it at a time, so a client may wait for each of the others.
     pub fn after<R: Wait>(
         &self,
         rt: &R,
@@ -66,7 +70,7 @@ impl Sal {
     }
 
     /// Takes turns, without an entry, until one finds a log that has the mark, or `MAX_LOOKS` turns were taken; that turn is
-    /// the caller's.
+    /// the caller's. It waits between them as `after` does.
     pub fn enter_after<R: Wait>(&self, rt: &R, seat: Seat, mark: u32) -> Held
         requires { seat.lock ≡ self.now }
         ensures same { (result.lock ≡ self.now) × SameRights seat.view result.view × (result.view.own ≡ seat.view.own) }

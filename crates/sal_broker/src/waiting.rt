@@ -6,12 +6,12 @@ use std::thread::yield_now;
 use std::time::Duration;
 
 // So many pauses are no sleeps: other threads may run, and the mark is often there soon.
-const SHORT_PAUSES: u32 = 32;
+const SHORT_PAUSES: u32 = 8;
 
-// The first sleep is of 64 microseconds. Each further one is twice as long, up to 2,048 microseconds.
-const FIRST_SLEEP: u64 = 64;
+// The first sleep is of 32 microseconds. Each further one is twice as long, up to 2,048 microseconds.
+const FIRST_SLEEP: u64 = 32;
 
-const DOUBLINGS: u32 = 5;
+const DOUBLINGS: u32 = 6;
 
 // After so many pauses in a row without a new entry, of about a second in all, a client waits no longer between its looks.
 const MOST_PAUSES: u32 = 512;

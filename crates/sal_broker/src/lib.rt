@@ -40,7 +40,7 @@
 //! A call waits for its turn: no contract says that it returns, and a caller that entered and never leaves keeps all others out.
 //! How a seat waits stands in the head of `sal_turn`. A client that looks for a mark reads how long the log is from a word beside
 //! the lock, without a turn. It takes a turn where that has changed. Its sleeps are bounded, and nobody wakes it, so those
-//! who work do nothing for those who wait: its first 8 pauses only let other threads run; then it sleeps 32 microseconds, each
+//! who work do nothing for those who wait: at first it looks at the word for some 30 microseconds; then it sleeps 32 microseconds, each
 //! time twice as long, up to 2 milliseconds.
 #![tactic(auto)]
 

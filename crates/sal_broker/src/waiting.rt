@@ -2,11 +2,13 @@
 use std::sync::Wait;
 use std::sync::atomic::AtomicU64;
 use std::sync::atomic::Ordering::SeqCst;
-use std::thread::yield_now;
 use std::time::Duration;
 
-// So many pauses are no sleeps: other threads may run, and the mark is often there soon.
+// The first pauses are no sleeps, but so many looks at the length each, some 30 microseconds in all: the mark is often there soon,
+// and a thread that goes on running is not kept from it by others that wait for a processor.
 const SHORT_PAUSES: u32 = 8;
+
+const GLANCES: u32 = 4096;
 
 // The first sleep is of 32 microseconds. Each further one is twice as long, up to 2,048 microseconds.
 const FIRST_SLEEP: u64 = 32;
@@ -40,6 +42,22 @@ impl Growth {
             self.length.store(length, SeqCst);
         }
     }
+
+    // Looks at the length until it is another one, or so many times.
+    fn watch(&self, length: u64) {
+        for _ in 0..GLANCES {
+            if self.length.load(SeqCst) != length {
+                return;
+            }
+        }
+    }
+
+    // Sleeps for as long, or not at all where the length is another one.
+    fn sleep<R: Wait>(&self, rt: &R, length: u64, micros: u64) {
+        let expected = (length & 0xffff_ffff) as u32;
+        self.length
+            .park_timeout(rt, expected, Duration::from_micros(micros));
+    }
 }
 
 /// The patience of one client that looks for a mark.
@@ -71,12 +89,10 @@ impl Patience {
 
     fn pause<R: Wait>(&mut self, rt: &R, growth: &Growth) {
         if self.pauses < SHORT_PAUSES {
-            yield_now();
+            growth.watch(self.length);
         } else {
             let doublings = (self.pauses - SHORT_PAUSES).min(DOUBLINGS);
-            let sleep = Duration::from_micros(FIRST_SLEEP << doublings);
-            let expected = (self.length & 0xffff_ffff) as u32;
-            growth.length.park_timeout(rt, expected, sleep);
+            growth.sleep(rt, self.length, FIRST_SLEEP << doublings);
         }
         self.pauses = self.pauses.saturating_add(1);
         self.pauses_in_a_row = self.pauses_in_a_row.saturating_add(1);

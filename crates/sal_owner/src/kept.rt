@@ -1,0 +1,305 @@
+//! What is kept of the calls beside the log.
+ghost use Rattle.std.specs.Prelude.{◌≡◌, ◌&&◌, ℕ, List, [], ◌∷◌, ◌++◌, Some, is_some, not, drop, length, if◌then◌else◌, nat_eq, slice_get, IfOk, OnErr, OnOk};
+ghost use Rattle.std.specs.BTreeMap.{is_at};
+ghost use Rattle.std.specs.List.{filter};
+ghost use Rattle.std.specs.List.Sorted.{IsStrictlySortedBy};
+ghost use Rattle.std.specs.Map.{keys_of};
+ghost use Rattle.sal_owner.specs.declared.call.OwnerCall.TheVariants.{Changes as TakesChanges, Register, State, Unregister, Watch};
+ghost use Rattle.sal_owner.specs.declared.call.OwnerReply.TheVariants.{Accepted, Changes as Gives, State as Tells, Watching};
+ghost use Rattle.sal_owner.specs.declared.entity.Entity.{Entity as Thing};
+ghost use Rattle.sal_owner.specs.Answers.{Answers, Makes};
+ghost use Rattle.sal_owner.specs.Kept.{IsOf, entries_in, is_entity, is_since, owned_entries, queue_in, shift_for, start_at, starts_of, taken_in, text_cmp, told, told_from};
+ghost use Rattle.sal_owner.specs.Ownership as spec;
+
+use crate::call::OwnerFault;
+use crate::entity::{Changes, Entity, Owned, OwnedList, OwnerChange, OwnershipState};
+use crate::kinds::Kinds;
+use crate::shift::Shift;
+use crate::watched::Watched;
+use sal_types::{Duplicate, NoMemory, Seq, Str};
+use std::alloc::Global;
+use std::collections::BTreeMap;
+use std::marker::Model;
+
+/// The candidates, the changes of owners, who watches what, and what was taken.
+#[derive(Drop)]
+pub(crate) struct Kept {
+    kinds: Kinds,
+    shifts: Vec<Shift>,
+    starts: BTreeMap<u32, Watched>,
+    taken: BTreeMap<u32, usize>,
+}
+
+impl Model for Kept {
+    ghost use Rattle.sal_owner.specs.Kept as spec;
+
+    ghost Value = { spec.Kept };
+
+    ghost view = { λ a. record { kinds = a.kinds; shifts = a.shifts.items; starts = a.starts.entries; taken = a.taken.entries } };
+}
+
+impl Kept {
+    /// Nothing. It takes no memory.
+    pub(crate) fn new(alloc: Global) -> Kept
+        ensures { IsOf [] result }
+    {
+        Kept {
+            kinds: Kinds::new(alloc),
+            shifts: Vec::new(alloc),
+            starts: BTreeMap::new(alloc),
+            taken: BTreeMap::new(alloc),
+        }
+    }
+
+    pub(crate) fn register(
+        &mut self,
+        alloc: Global,
+        client: u32,
+        entity: Entity,
+    ) -> Result<(), OwnerFault>
+        ensures { Answers self.old self.new client (Register entity) (λ _. Accepted) result }
+    {
+        if self.kinds.is_candidate(&entity, client) {
+            return Err(OwnerFault::AlreadyCandidate);
+        }
+        match enlist(alloc, &mut self.kinds, &mut self.shifts, entity, client) {
+            Ok(()) => Ok(()),
+            Err(NoMemory) => Err(OwnerFault::NoMemory),
+        }
+    }
+
+    pub(crate) fn unregister(&mut self, client: u32, entity: Entity) -> Result<(), OwnerFault>
+        ensures { Answers self.old self.new client (Unregister entity) (λ _. Accepted) result }
+    {
+        if !self.kinds.is_candidate(&entity, client) {
+            return Err(OwnerFault::NotCandidate);
+        }
+        match withdraw(&mut self.kinds, &mut self.shifts, entity, client) {
+            Ok(()) => Ok(()),
+            Err(NoMemory) => Err(OwnerFault::NoMemory),
+        }
+    }
+
+    pub(crate) fn state(&self, client: u32, entity: &Entity) -> OwnershipState
+        ensures { Makes self.now self.now client (State entity.now) (Tells result) }
+    {
+        state_for(self.kinds.owner(entity), client)
+    }
+
+    pub(crate) fn watch(
+        &mut self,
+        alloc: Global,
+        client: u32,
+        kind: Str,
+    ) -> Result<OwnedList, OwnerFault>
+        ensures { Answers self.old self.new client (Watch kind) (λ list. Watching list) result }
+    {
+        if is_watching(&self.starts, client, &kind) {
+            return Err(OwnerFault::AlreadyWatching);
+        }
+        match watch(
+            alloc,
+            &self.kinds,
+            &mut self.starts,
+            client,
+            kind,
+            self.shifts.len(),
+        ) {
+            Ok(list) => Ok(Seq::from_items(list)),
+            Err(NoMemory) => Err(OwnerFault::NoMemory),
+        }
+    }
+
+    pub(crate) fn changes(&mut self, alloc: Global, client: u32) -> Result<Changes, OwnerFault>
+        ensures { Answers self.old self.new client TakesChanges (λ list. Gives list) result }
+    {
+        match take(alloc, &self.shifts, &self.starts, &mut self.taken, client) {
+            Ok(list) => Ok(Seq::from_items(list)),
+            Err(NoMemory) => Err(OwnerFault::NoMemory),
+        }
+    }
+}
+
+fn state_for(owner: Option<u32>, client: u32) -> OwnershipState
+    ensures { result ≡ spec.state_for client owner }
+{
+    match owner {
+        None => OwnershipState::NoOwner,
+        Some(owner) => {
+            if owner == client {
+                OwnershipState::IsOwner
+            } else {
+                OwnershipState::OwnedByOther
+            }
+        }
+    }
+}
+
+// Makes the client the last candidate of the entity. For want of memory all stays as it was.
+fn enlist(
+    alloc: Global,
+    kinds: &mut Kinds,
+    shifts: &mut Vec<Shift>,
+    entity: Entity,
+    client: u32,
+) -> Result<(), NoMemory>
+    ensures queues { OnOk result ((y : Thing) → queue_in kinds.new y ≡ (if is_entity entity y then queue_in kinds.old entity ++ client ∷ [] else queue_in kinds.old y)) }
+    ensures shifts { OnOk result (shifts.new.items ≡ shifts.old.items ++ shift_for entity (slice_get (queue_in kinds.old entity) 0) (slice_get (queue_in kinds.new entity) 0)) }
+    ensures same_kinds { OnErr result (kinds.new ≡ kinds.old) }
+    ensures same_shifts { OnErr result (shifts.new.items ≡ shifts.old.items) }
+{
+    shifts.reserve(1)?;
+    let before = kinds.owner(&entity);
+    kinds.add(alloc, &entity, client)?;
+    let after = kinds.owner(&entity);
+    if before != after {
+        shifts
+            .push(Shift {
+                entity,
+                before,
+                after,
+            })
+            .unwrap();
+    }
+    Ok(())
+}
+
+// Takes the client out of the candidates of the entity. For want of memory all stays as it was.
+fn withdraw(
+    kinds: &mut Kinds,
+    shifts: &mut Vec<Shift>,
+    entity: Entity,
+    client: u32,
+) -> Result<(), NoMemory>
+    ensures queues { OnOk result ((y : Thing) → queue_in kinds.new y ≡ (if is_entity entity y then filter (λ c. not (nat_eq client c)) (queue_in kinds.old entity) else queue_in kinds.old y)) }
+    ensures shifts { OnOk result (shifts.new.items ≡ shifts.old.items ++ shift_for entity (slice_get (queue_in kinds.old entity) 0) (slice_get (queue_in kinds.new entity) 0)) }
+    ensures same_kinds { OnErr result (kinds.new ≡ kinds.old) }
+    ensures same_shifts { OnErr result (shifts.new.items ≡ shifts.old.items) }
+{
+    shifts.reserve(1)?;
+    let before = kinds.owner(&entity);
+    kinds.remove(&entity, client);
+    let after = kinds.owner(&entity);
+    if before != after {
+        shifts
+            .push(Shift {
+                entity,
+                before,
+                after,
+            })
+            .unwrap();
+    }
+    Ok(())
+}
+
+fn is_watching(starts: &BTreeMap<u32, Watched>, client: u32, kind: &Str) -> bool
+    ensures { result ≡ is_some (start_at (starts_of starts.now.entries client) kind.now) }
+{
+    match starts.get(&client) {
+        None => false,
+        Some(kinds) => kinds.start(kind).is_some(),
+    }
+}
+
+// The owned entities of the kind, which the client watches from then on. For want of memory all stays as it was.
+fn watch(
+    alloc: Global,
+    kinds: &Kinds,
+    starts: &mut BTreeMap<u32, Watched>,
+    client: u32,
+    kind: Str,
+    start: usize,
+) -> Result<Vec<Owned>, NoMemory>
+    ensures list { IfOk result (λ list. list.items ≡ owned_entries client (entries_in kinds.now kind)) }
+    ensures ordered { IsStrictlySortedBy text_cmp (keys_of (entries_in kinds.now kind)) }
+    ensures starts { OnOk result ((c : ℕ) (k : List ℕ) → start_at (starts_of starts.new.entries c) k ≡ (if nat_eq client c && is_at (text_cmp kind) k then Some start else start_at (starts_of starts.old.entries c) k)) }
+    ensures same_starts { OnErr result (starts.new.entries ≡ starts.old.entries) }
+{
+    let list = kinds.owned(alloc, &kind, client)?;
+    add_start(alloc, starts, client, kind, start)?;
+    Ok(list)
+}
+
+fn add_start(
+    alloc: Global,
+    starts: &mut BTreeMap<u32, Watched>,
+    client: u32,
+    kind: Str,
+    start: usize,
+) -> Result<(), NoMemory>
+    ensures ok { OnOk result ((c : ℕ) (k : List ℕ) → start_at (starts_of starts.new.entries c) k ≡ (if nat_eq client c && is_at (text_cmp kind) k then Some start else start_at (starts_of starts.old.entries c) k)) }
+    ensures err { OnErr result (starts.new.entries ≡ starts.old.entries) }
+{
+    if let Some(kinds) = starts.get_mut(&client) {
+        return kinds.add(kind, start);
+    }
+    let kinds = Watched::one(alloc, kind, start)?;
+    starts.insert(client, kinds)?;
+    Ok(())
+}
+
+// What the client is not told of yet, which is taken then. For want of memory all stays as it was.
+fn take(
+    alloc: Global,
+    shifts: &Vec<Shift>,
+    starts: &BTreeMap<u32, Watched>,
+    taken: &mut BTreeMap<u32, usize>,
+    client: u32,
+) -> Result<Vec<OwnerChange>, NoMemory>
+    ensures list { IfOk result (λ list. list.items ≡ told_from (starts_of starts.now.entries client) client (taken_in taken.old.entries client) (drop (taken_in taken.old.entries client) shifts.now.items)) }
+    ensures taken { OnOk result ((c : ℕ) → taken_in taken.new.entries c ≡ (if nat_eq client c then length shifts.now.items else taken_in taken.old.entries c)) }
+    ensures same_taken { OnErr result (taken.new.entries ≡ taken.old.entries) }
+{
+    let from = taken.get(&client).copied().unwrap_or(0);
+    let list = untold(alloc, shifts, starts, client, from)?;
+    taken.insert(client, shifts.len())?;
+    Ok(list)
+}
+
+fn untold(
+    alloc: Global,
+    shifts: &[Shift],
+    starts: &BTreeMap<u32, Watched>,
+    client: u32,
+    from: usize,
+) -> Result<Vec<OwnerChange>, NoMemory>
+    ensures { IfOk result (λ list. list.items ≡ told_from (starts_of starts.now.entries client) client from (drop from shifts.now)) }
+{
+    match starts.get(&client) {
+        None => Ok(Vec::new(alloc)),
+        Some(kinds) => told_of(alloc, shifts, kinds, client, from),
+    }
+}
+
+fn told_of(
+    alloc: Global,
+    shifts: &[Shift],
+    kinds: &Watched,
+    client: u32,
+    from: usize,
+) -> Result<Vec<OwnerChange>, NoMemory>
+    ensures { IfOk result (λ list. list.items ≡ told_from kinds.now client from (drop from shifts.now)) }
+{
+    let mut list = Vec::new(alloc);
+    for i in from..shifts.len() {
+        add_told(&mut list, kinds, &shifts[i], i, client)?;
+    }
+    Ok(list)
+}
+
+// Adds the change with the number i, where its kind was watched before.
+fn add_told(
+    list: &mut Vec<OwnerChange>,
+    kinds: &Watched,
+    shift: &Shift,
+    i: usize,
+    client: u32,
+) -> Result<(), NoMemory>
+    ensures { OnOk result (list.new.items ≡ list.old.items ++ (if is_since i (start_at kinds.now shift.now.entity.kind) then told client shift.now ∷ [] else [])) }
+{
+    if kinds.is_since(&shift.entity.kind, i) {
+        let change = shift.told(client)?;
+        list.push(change)?;
+    }
+    Ok(())
+}

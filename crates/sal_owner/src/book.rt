@@ -1,11 +1,11 @@
-//! The plain core: a log of calls on entities, with what is kept beside it.
+//! The plain core: a log of calls on entities, with what is derived from it.
 ghost use Rattle.std.specs.Prelude.{◌≡◌, ◌<◌, [], OnOk, IfErr, length};
 ghost use Rattle.sal_owner.specs.declared.call.OwnerCall.TheVariants.{Changes as TakesChanges, Register, State, Unregister, Watch};
 ghost use Rattle.sal_owner.specs.declared.call.OwnerReply.TheVariants.{Accepted, Changes as Gives, State as Tells, Watching};
 ghost use Rattle.sal_owner.specs.Answers.{Calls, Stops, entry_of, left_by, limit};
 ghost use Rattle.sal_owner.specs.Journals.{jotted, taken_back};
 
-use crate::call::{OwnerCall, OwnerEntry, OwnerFault};
+use crate::call::{OwnerCall, OwnerEntry, OwnerFault, OwnerLog};
 use crate::entity::{Changes, Entity, OwnedList, OwnershipState};
 use crate::journal::Journal;
 use crate::kept::Kept;
@@ -16,7 +16,7 @@ use std::marker::Model;
 /// How many entries a log has at most.
 pub const MAX_ENTRIES: usize = 1_000_000;
 
-/// The log of the calls, with what is kept beside it. A contract sees the log.
+/// The log of the calls, with what is derived from it. A contract sees the log.
 #[derive(Drop)]
 pub struct OwnerBook {
     journal: Journal,
@@ -53,6 +53,14 @@ impl OwnerBook {
         self.journal.entries()
     }
 
+    /// The log, given away. It takes no memory.
+    pub fn into_log(self) -> OwnerLog
+        ensures { result ≡ self }
+    {
+        let OwnerBook { journal, kept: _ } = self;
+        journal.into_log()
+    }
+
     /// Makes the client a candidate of the entity. It is refused as `AlreadyCandidate` where the client is one.
     pub fn register(&mut self, alloc: Global, client: u32, entity: Entity) -> Result<(), OwnerFault>
         ensures { Calls self.old self.new (entry_of self.old client (Register entity)) (λ _. Accepted) result }
@@ -86,7 +94,7 @@ impl OwnerBook {
             Ok(()) => {}
             Err(fault) => return Err(fault),
         }
-        let answer = self.kept.unregister(client, entity);
+        let answer = self.kept.unregister(alloc, client, entity);
         finished(&mut self.journal, answer)
     }
 
@@ -110,7 +118,7 @@ impl OwnerBook {
         Ok(self.kept.state(client, entity))
     }
 
-    /// The owned entities of the kind, by their ids. The client is told of changes of owners of the kind from now on. It is refused as
+    /// The owned entities of the kind, by their ids. From now on the client sees changes of owners of the kind. It is refused as
     /// `AlreadyWatching` where the client watches the kind.
     pub fn watch(&mut self, alloc: Global, client: u32, kind: Str) -> Result<OwnedList, OwnerFault>
         ensures { Calls self.old self.new (entry_of self.old client (Watch kind)) Watching result }
@@ -127,7 +135,7 @@ impl OwnerBook {
         finished(&mut self.journal, answer)
     }
 
-    /// The changes of owners of the kinds that the client watches, which it was not told of yet, in order.
+    /// The changes of owners of the kinds that the client watches since it last took them, in order.
     pub fn changes(&mut self, alloc: Global, client: u32) -> Result<Changes, OwnerFault>
         ensures { Calls self.old self.new (entry_of self.old client TakesChanges) Gives result }
     {

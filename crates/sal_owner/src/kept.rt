@@ -1,20 +1,20 @@
-//! What is kept of the calls beside the log.
-ghost use Rattle.std.specs.Prelude.{◌≡◌, ◌&&◌, ℕ, List, [], ◌∷◌, ◌++◌, Some, is_some, not, drop, length, if◌then◌else◌, nat_eq, slice_get, IfOk, OnErr, OnOk};
+//! What is derived from the log: candidates, changes of owners, and what each client watches and has taken.
+ghost use Rattle.std.specs.Prelude.{◌≡◌, ◌&&◌, ℕ, List, [], ◌∷◌, ◌++◌, Some, false, is_some, not, drop, length, if◌then◌else◌, nat_eq, slice_get, IfOk, OnErr, OnOk};
 ghost use Rattle.std.specs.BTreeMap.{is_at};
-ghost use Rattle.std.specs.List.{filter};
+ghost use Rattle.std.specs.List.{filter, list_any};
 ghost use Rattle.std.specs.List.Sorted.{IsStrictlySortedBy};
 ghost use Rattle.std.specs.Map.{keys_of};
 ghost use Rattle.sal_owner.specs.declared.call.OwnerCall.TheVariants.{Changes as TakesChanges, Register, State, Unregister, Watch};
 ghost use Rattle.sal_owner.specs.declared.call.OwnerReply.TheVariants.{Accepted, Changes as Gives, State as Tells, Watching};
 ghost use Rattle.sal_owner.specs.declared.entity.Entity.{Entity as Thing};
 ghost use Rattle.sal_owner.specs.Answers.{Answers, Makes};
-ghost use Rattle.sal_owner.specs.Kept.{IsOf, entries_in, is_entity, is_since, owned_entries, queue_in, shift_for, start_at, starts_of, taken_in, text_cmp, told, told_from};
+ghost use Rattle.sal_owner.specs.Kept.{IsOf, entries_in, is_entity, owned_entries, queue_in, shift_for, start_at, starts_of, taken_in, text_cmp, told_from};
 ghost use Rattle.sal_owner.specs.Ownership as spec;
 
 use crate::call::OwnerFault;
 use crate::entity::{Changes, Entity, Owned, OwnedList, OwnerChange, OwnershipState};
 use crate::kinds::Kinds;
-use crate::shift::Shift;
+use crate::shifts::Shifts;
 use crate::watched::Watched;
 use sal_types::{Duplicate, NoMemory, Seq, Str};
 use std::alloc::Global;
@@ -25,7 +25,7 @@ use std::marker::Model;
 #[derive(Drop)]
 pub(crate) struct Kept {
     kinds: Kinds,
-    shifts: Vec<Shift>,
+    shifts: Shifts,
     starts: BTreeMap<u32, Watched>,
     taken: BTreeMap<u32, usize>,
 }
@@ -35,7 +35,7 @@ impl Model for Kept {
 
     ghost Value = { spec.Kept };
 
-    ghost view = { λ a. record { kinds = a.kinds; shifts = a.shifts.items; starts = a.starts.entries; taken = a.taken.entries } };
+    ghost view = { λ a. record { kinds = a.kinds; shifts = a.shifts; starts = a.starts.entries; taken = a.taken.entries } };
 }
 
 impl Kept {
@@ -45,12 +45,13 @@ impl Kept {
     {
         Kept {
             kinds: Kinds::new(alloc),
-            shifts: Vec::new(alloc),
+            shifts: Shifts::new(alloc),
             starts: BTreeMap::new(alloc),
             taken: BTreeMap::new(alloc),
         }
     }
 
+    /// Makes the client a candidate of the entity, unless it is one.
     pub(crate) fn register(
         &mut self,
         alloc: Global,
@@ -62,30 +63,38 @@ impl Kept {
         if self.kinds.is_candidate(&entity, client) {
             return Err(OwnerFault::AlreadyCandidate);
         }
-        match enlist(alloc, &mut self.kinds, &mut self.shifts, entity, client) {
+        match enlist(alloc, &mut self.kinds, &mut self.shifts, &entity, client) {
             Ok(()) => Ok(()),
             Err(NoMemory) => Err(OwnerFault::NoMemory),
         }
     }
 
-    pub(crate) fn unregister(&mut self, client: u32, entity: Entity) -> Result<(), OwnerFault>
+    /// The client is no candidate of the entity any more, if it was one.
+    pub(crate) fn unregister(
+        &mut self,
+        alloc: Global,
+        client: u32,
+        entity: Entity,
+    ) -> Result<(), OwnerFault>
         ensures { Answers self.old self.new client (Unregister entity) (λ _. Accepted) result }
     {
         if !self.kinds.is_candidate(&entity, client) {
             return Err(OwnerFault::NotCandidate);
         }
-        match withdraw(&mut self.kinds, &mut self.shifts, entity, client) {
+        match withdraw(alloc, &mut self.kinds, &mut self.shifts, &entity, client) {
             Ok(()) => Ok(()),
             Err(NoMemory) => Err(OwnerFault::NoMemory),
         }
     }
 
+    /// Who owns the entity, as the client sees it. It takes no memory.
     pub(crate) fn state(&self, client: u32, entity: &Entity) -> OwnershipState
         ensures { Makes self.now self.now client (State entity.now) (Tells result) }
     {
         state_for(self.kinds.owner(entity), client)
     }
 
+    /// The owned entities of the kind, which the client watches from now on, unless it does.
     pub(crate) fn watch(
         &mut self,
         alloc: Global,
@@ -110,6 +119,7 @@ impl Kept {
         }
     }
 
+    /// The changes that the client sees since it last took them.
     pub(crate) fn changes(&mut self, alloc: Global, client: u32) -> Result<Changes, OwnerFault>
         ensures { Answers self.old self.new client TakesChanges (λ list. Gives list) result }
     {
@@ -135,60 +145,49 @@ fn state_for(owner: Option<u32>, client: u32) -> OwnershipState
     }
 }
 
-// Makes the client the last candidate of the entity. For want of memory all stays as it was.
+// Makes the client the last candidate of the entity. For want of memory the candidates of each entity stay.
 fn enlist(
     alloc: Global,
     kinds: &mut Kinds,
-    shifts: &mut Vec<Shift>,
-    entity: Entity,
+    shifts: &mut Shifts,
+    entity: &Entity,
     client: u32,
 ) -> Result<(), NoMemory>
-    ensures queues { OnOk result ((y : Thing) → queue_in kinds.new y ≡ (if is_entity entity y then queue_in kinds.old entity ++ client ∷ [] else queue_in kinds.old y)) }
-    ensures shifts { OnOk result (shifts.new.items ≡ shifts.old.items ++ shift_for entity (slice_get (queue_in kinds.old entity) 0) (slice_get (queue_in kinds.new entity) 0)) }
-    ensures same_kinds { OnErr result (kinds.new ≡ kinds.old) }
-    ensures same_shifts { OnErr result (shifts.new.items ≡ shifts.old.items) }
+    requires { list_any (nat_eq client) (queue_in kinds.old entity.now) ≡ false }
+    ensures queues { OnOk result ((y : Thing) → queue_in kinds.new y ≡ (if is_entity entity.now y then queue_in kinds.old entity.now ++ client ∷ [] else queue_in kinds.old y)) }
+    ensures shifts { OnOk result (shifts.new ≡ shifts.old ++ shift_for entity.now (slice_get (queue_in kinds.old entity.now) 0) (slice_get (queue_in kinds.new entity.now) 0)) }
+    ensures same_queues { OnErr result ((y : Thing) → queue_in kinds.new y ≡ queue_in kinds.old y) }
+    ensures same_shifts { OnErr result (shifts.new ≡ shifts.old) }
 {
-    shifts.reserve(1)?;
-    let before = kinds.owner(&entity);
-    kinds.add(alloc, &entity, client)?;
-    let after = kinds.owner(&entity);
-    if before != after {
-        shifts
-            .push(Shift {
-                entity,
-                before,
-                after,
-            })
-            .unwrap();
+    let before = kinds.owner(entity);
+    kinds.add(alloc, entity, client)?;
+    let after = kinds.owner(entity);
+    match shifts.note(alloc, entity, before, after) {
+        Ok(()) => Ok(()),
+        Err(NoMemory) => {
+            kinds.remove(entity, client);
+            Err(NoMemory)
+        }
     }
-    Ok(())
 }
 
 // Takes the client out of the candidates of the entity. For want of memory all stays as it was.
 fn withdraw(
+    alloc: Global,
     kinds: &mut Kinds,
-    shifts: &mut Vec<Shift>,
-    entity: Entity,
+    shifts: &mut Shifts,
+    entity: &Entity,
     client: u32,
 ) -> Result<(), NoMemory>
-    ensures queues { OnOk result ((y : Thing) → queue_in kinds.new y ≡ (if is_entity entity y then filter (λ c. not (nat_eq client c)) (queue_in kinds.old entity) else queue_in kinds.old y)) }
-    ensures shifts { OnOk result (shifts.new.items ≡ shifts.old.items ++ shift_for entity (slice_get (queue_in kinds.old entity) 0) (slice_get (queue_in kinds.new entity) 0)) }
+    ensures queues { OnOk result ((y : Thing) → queue_in kinds.new y ≡ (if is_entity entity.now y then filter (λ c. not (nat_eq client c)) (queue_in kinds.old entity.now) else queue_in kinds.old y)) }
+    ensures shifts { OnOk result (shifts.new ≡ shifts.old ++ shift_for entity.now (slice_get (queue_in kinds.old entity.now) 0) (slice_get (queue_in kinds.new entity.now) 0)) }
     ensures same_kinds { OnErr result (kinds.new ≡ kinds.old) }
-    ensures same_shifts { OnErr result (shifts.new.items ≡ shifts.old.items) }
+    ensures same_shifts { OnErr result (shifts.new ≡ shifts.old) }
 {
-    shifts.reserve(1)?;
-    let before = kinds.owner(&entity);
-    kinds.remove(&entity, client);
-    let after = kinds.owner(&entity);
-    if before != after {
-        shifts
-            .push(Shift {
-                entity,
-                before,
-                after,
-            })
-            .unwrap();
-    }
+    let before = kinds.owner(entity);
+    let after = kinds.owner_but(entity, client);
+    shifts.note(alloc, entity, before, after)?;
+    kinds.remove(entity, client);
     Ok(())
 }
 
@@ -238,16 +237,16 @@ fn add_start(
     Ok(())
 }
 
-// What the client is not told of yet, which is taken then. For want of memory all stays as it was.
+// The changes that the client sees since it last took them; they count as taken then. For want of memory all stays as it was.
 fn take(
     alloc: Global,
-    shifts: &Vec<Shift>,
+    shifts: &Shifts,
     starts: &BTreeMap<u32, Watched>,
     taken: &mut BTreeMap<u32, usize>,
     client: u32,
 ) -> Result<Vec<OwnerChange>, NoMemory>
-    ensures list { IfOk result (λ list. list.items ≡ told_from (starts_of starts.now.entries client) client (taken_in taken.old.entries client) (drop (taken_in taken.old.entries client) shifts.now.items)) }
-    ensures taken { OnOk result ((c : ℕ) → taken_in taken.new.entries c ≡ (if nat_eq client c then length shifts.now.items else taken_in taken.old.entries c)) }
+    ensures list { IfOk result (λ list. list.items ≡ told_from (starts_of starts.now.entries client) client (taken_in taken.old.entries client) (drop (taken_in taken.old.entries client) shifts.now)) }
+    ensures taken { OnOk result ((c : ℕ) → taken_in taken.new.entries c ≡ (if nat_eq client c then length shifts.now else taken_in taken.old.entries c)) }
     ensures same_taken { OnErr result (taken.new.entries ≡ taken.old.entries) }
 {
     let from = taken.get(&client).copied().unwrap_or(0);
@@ -258,7 +257,7 @@ fn take(
 
 fn untold(
     alloc: Global,
-    shifts: &[Shift],
+    shifts: &Shifts,
     starts: &BTreeMap<u32, Watched>,
     client: u32,
     from: usize,
@@ -267,39 +266,6 @@ fn untold(
 {
     match starts.get(&client) {
         None => Ok(Vec::new(alloc)),
-        Some(kinds) => told_of(alloc, shifts, kinds, client, from),
+        Some(kinds) => shifts.told(alloc, kinds, client, from),
     }
-}
-
-fn told_of(
-    alloc: Global,
-    shifts: &[Shift],
-    kinds: &Watched,
-    client: u32,
-    from: usize,
-) -> Result<Vec<OwnerChange>, NoMemory>
-    ensures { IfOk result (λ list. list.items ≡ told_from kinds.now client from (drop from shifts.now)) }
-{
-    let mut list = Vec::new(alloc);
-    for i in from..shifts.len() {
-        add_told(&mut list, kinds, &shifts[i], i, client)?;
-    }
-    Ok(list)
-}
-
-// Adds the change with the number i, where its kind was watched before.
-fn add_told(
-    list: &mut Vec<OwnerChange>,
-    kinds: &Watched,
-    shift: &Shift,
-    i: usize,
-    client: u32,
-) -> Result<(), NoMemory>
-    ensures { OnOk result (list.new.items ≡ list.old.items ++ (if is_since i (start_at kinds.now shift.now.entity.kind) then told client shift.now ∷ [] else [])) }
-{
-    if kinds.is_since(&shift.entity.kind, i) {
-        let change = shift.told(client)?;
-        list.push(change)?;
-    }
-    Ok(())
 }

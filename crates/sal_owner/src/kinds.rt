@@ -1,5 +1,5 @@
 //! The candidates of all entities.
-ghost use Rattle.std.specs.Prelude.{◌≡◌, [], ◌∷◌, ◌++◌, ℕ, List, not, if◌then◌else◌, nat_eq, slice_get, IfOk, OnErr, OnOk};
+ghost use Rattle.std.specs.Prelude.{◌≡◌, [], ◌∷◌, ◌++◌, ℕ, List, false, not, if◌then◌else◌, nat_eq, slice_get, IfOk, OnErr, OnOk};
 ghost use Rattle.std.specs.BTreeMap.{is_at};
 ghost use Rattle.std.specs.List.{filter, list_any};
 ghost use Rattle.std.specs.List.Sorted.{IsStrictlySortedBy};
@@ -58,8 +58,19 @@ impl Kinds {
         }
     }
 
+    /// The first candidate of the entity but for the client. It takes no memory.
+    pub(crate) fn owner_but(&self, x: &Entity, client: u32) -> Option<u32>
+        ensures { result ≡ slice_get (filter (λ c. not (nat_eq client c)) (queue_in self.now x.now)) 0 }
+    {
+        match self.map.get(&x.kind) {
+            None => None,
+            Some(ids) => ids.owner_but(&x.id, client),
+        }
+    }
+
     /// Makes the client the last candidate of the entity.
     pub(crate) fn add(&mut self, alloc: Global, x: &Entity, client: u32) -> Result<(), NoMemory>
+        requires { list_any (nat_eq client) (queue_in self.old x.now) ≡ false }
         ensures ok { OnOk result ((y : Thing) → queue_in self.new y ≡ (if is_entity x.now y then queue_in self.old x.now ++ client ∷ [] else queue_in self.old y)) }
         ensures err { OnErr result (self.new ≡ self.old) }
     {
@@ -91,6 +102,7 @@ impl Kinds {
 }
 
 fn add(alloc: Global, map: &mut BTreeMap<Str, Ids>, x: &Entity, client: u32) -> Result<(), NoMemory>
+    requires { list_any (nat_eq client) (queue_in map.old.entries x.now) ≡ false }
     ensures ok { OnOk result ((y : Thing) → queue_in map.new.entries y ≡ (if is_entity x.now y then queue_in map.old.entries x.now ++ client ∷ [] else queue_in map.old.entries y)) }
     ensures err { OnErr result (map.new.entries ≡ map.old.entries) }
 {

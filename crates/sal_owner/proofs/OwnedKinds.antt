@@ -1,16 +1,15 @@
 -- The owned entities of a kind, as the map has them and as the definition lists them.
-use Rattle.std.proofs.Common.{◌≡◌, ℕ, Bool, true, false, not, ◌&&◌, ◌||◌, T, List, [], ◌∷◌, ◌++◌, Option, Some, None, Ordering, Less, Equal, Greater, refl, ap, sym, ◌∙◌, subst, cond, filter, fold, slice_get, unwrap_or, is_eq, is_lt, is_some, if◌then◌else◌}
+use Rattle.std.proofs.Common.{◌≡◌, ℕ, Bool, true, false, not, ◌&&◌, ◌||◌, T, List, [], ◌∷◌, ◌++◌, Option, Some, None, Ordering, Less, Equal, Greater, refl, ap, sym, ◌∙◌, subst, cond, fold, slice_get, unwrap_or, is_eq, is_lt, is_some, if◌then◌else◌}
 use Rattle.std.specs.BTreeMap.{is_at}
-use Rattle.std.specs.Cmp.Lexicographic.{nat_list_cmp_total, slice_cmp}
+use Rattle.std.specs.Cmp.Lexicographic.{nat_list_cmp_total}
 use Rattle.std.specs.FinMap.{nat_cmp-IsAntisymmetric, slice_cmp-IsAntisymmetric}
 use Rattle.std.specs.FinMap.Entries.{below_all, by_order, find, is_sorted, is_sorted-put, put, same_entries, find-put}
 use Rattle.std.specs.List.{AllByRecursion, list_any}
 use Rattle.std.specs.List.Sorted.{IsStrictlySortedBy}
 use Rattle.std.specs.Map.{keys_of, lookup}
-use Rattle.std.specs.Ordering.{eq_by_cmp, match_ordering, nat_cmp}
+use Rattle.std.specs.Ordering.{eq_by_cmp, match_ordering}
 use Rattle.std.proofs.lemmas.Map.Keys.{sorted_head, sorted_tail}
 use Rattle.sal_owner.specs.declared.entity.Entity.{Entity}
-use Rattle.sal_owner.specs.declared.entity.Owned.{Owned}
 use Rattle.sal_owner.specs.declared.call.OwnerCall.{OwnerCall}
 use Rattle.sal_owner.specs.declared.call.OwnerCall.TheVariants.{Register, Unregister, State, Watch, Changes}
 use Rattle.sal_owner.specs.Ownership.{Made, Text, asks_register, candidates, id_in, ids_of, is_good, owned, owned_among, owned_by, same_text, unregisters, with_id}

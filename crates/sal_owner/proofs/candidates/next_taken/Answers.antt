@@ -1,4 +1,4 @@
-use Rattle.std.proofs.Common.{◌≡◌, None, ◌++◌, sym, ap, ◌∙◌}
+use Rattle.std.proofs.Common.{◌≡◌, None, ◌++◌, sym, ◌∙◌}
 use Rattle.sal_owner.specs.Slots.{in_slot}
 use Rattle.sal_owner.proofs.InSlots.{none-some, take-slot, who}
 use Rattle.sal_owner.proofs.candidates.next_taken.Goals as goal

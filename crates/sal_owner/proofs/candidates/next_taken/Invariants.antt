@@ -1,4 +1,4 @@
-use Rattle.std.proofs.Common.{◌≡◌, ◌≤◌, [], take, length}
+use Rattle.std.proofs.Common.{◌≡◌, [], take}
 use Rattle.sal_owner.specs.Slots.{clients_in}
 use Rattle.sal_owner.proofs.candidates.next_taken.Given as goal
 

@@ -1,5 +1,5 @@
 -- Where there is no candidate nobody is taken out.
-use Rattle.std.proofs.Common.{◌≡◌, ℕ, List, [], Bool, true, false, None, Some, refl, ap, sym, ◌∙◌, cond, nat_eq, if◌then◌else◌}
+use Rattle.std.proofs.Common.{◌≡◌, ℕ, [], true, false, None, Some, refl, ap, sym, ◌∙◌, cond, nat_eq, if◌then◌else◌}
 use Rattle.std.specs.Prelude.{is_some, not}
 use Rattle.std.specs.BTreeMap.{is_at}
 use Rattle.std.specs.List.{filter}

@@ -1,4 +1,4 @@
-use Rattle.std.proofs.Common.{rules, ◌≡◌, ◌<◌, ◌≤◌, ◌||◌, ◌&&◌, ℕ, ◌-◌, take, drop, length, length-drop, le_of_eq, subst, fold, nat_eq, nat_le, ltb, ltb-true, ltb-false, ap, ◌∙◌, arith, OnOk}
+use Rattle.std.proofs.Common.{rules, ◌≡◌, ◌||◌, ◌&&◌, ℕ, ◌-◌, take, drop, length, length-drop, le_of_eq, subst, fold, nat_eq, nat_le, ltb, ltb-true, ltb-false, ap, ◌∙◌, arith, OnOk}
 use Rattle.std.specs.List.{list_any}
 use Rattle.std.proofs.lemmas.List.{take_all}
 use Rattle.std.proofs.lemmas.List.Sorted.{IsPartitionPoint-from_clause, IsPartitionedBy-ltb}

@@ -1,4 +1,4 @@
-use Rattle.std.proofs.Common.{◌≡◌, sym, ◌∙◌}
+use Rattle.std.proofs.Common.{sym, ◌∙◌}
 use Rattle.sal_owner.proofs.InSlots.{none-first}
 use Rattle.sal_owner.proofs.candidates.Candidates.is_empty.Goals as goal
 

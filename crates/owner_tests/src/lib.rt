@@ -1,0 +1,8 @@
+//! The tests of entity ownership: two threads that register and unregister one entity over and over, with a client's copy held against the
+//! log; and a full log.
+#![tactic(auto)]
+
+#[cfg(test)]
+mod full;
+#[cfg(test)]
+mod threads;

@@ -11,13 +11,14 @@ use Rattle.sal_script.specs.Play.{Played, play}
 use Rattle.sal_script.specs.Report.{report}
 use Rattle.sal_script.specs.SomeOrder.{IsReportInSomeOrder}
 use Rattle.sal_loads.specs.Numbers.{load_text}
+use Rattle.sal_owner_script.specs.Replies as replies
 use Rattle.sal_command.specs.Schemas.{table_of}
 use Rattle.sal_command.specs.Scripted.{Comes, IsStatusOf, Prepared, or_schema, or_script, prepared}
 use Rattle.sal_command.specs.declared.top.TheConstants.{HELP, VERSION}
 use Rattle.sal_command.specs.declared.status.Status.{Status}
 use Rattle.sal_command.specs.declared.status.Status.TheVariants.{Done, BadWords, ReadFault, WriteFault, TooLong, BadScript, BadSchema, BadOpening, BadOrder, NoMemory}
 use Rattle.sal_command.specs.declared.words.Form.{Form}
-use Rattle.sal_command.specs.declared.words.Form.TheVariants.{Run, Sim, Load, Schema, Help, Version}
+use Rattle.sal_command.specs.declared.words.Form.TheVariants.{Run, Sim, Load, Schema, Owner, Help, Version}
 
 -- ---- what a script comes to
 
@@ -52,6 +53,15 @@ modules_text modules = or_schema 0 (table_of modules) >>= (λ table. Ok (table_t
 -- the same for the modules of the script
 abbrev pub schema_text : List ℕ → Result (List ℕ) Status
 schema_text bytes = or_script (script_of bytes) >>= (λ parts. modules_text parts.modules)
+
+-- the text, or the first bad place as the status
+abbrev pub or_bad_script : Result (List ℕ) (List ℕ) → Result (List ℕ) Status
+or_bad_script (Ok text) = Ok text
+or_bad_script (Err place) = Err (BadScript place)
+
+-- the replies to the steps of owners that the bytes stand for, made in their order
+abbrev pub owner_text : List ℕ → Result (List ℕ) Status
+owner_text bytes = or_bad_script (replies.owner_text bytes)
 
 -- a text that is made of the bytes, or its status, is this one
 abbrev pub IsMadeBy : (List ℕ → Result (List ℕ) Status) → List ℕ → Result (List ℕ) Status → Type 0
@@ -100,6 +110,7 @@ Answers (Some Run) before after told told' status = TextAnswers RunsTo before af
 Answers (Some Sim) before after told told' status = TextAnswers (IsMadeBy sim_text) before after told told' status
 Answers (Some (Load rounds start)) before after told told' status = (after ≡ before) × OwnAnswers (LoadsTo rounds start) told told' status
 Answers (Some Schema) before after told told' status = TextAnswers (IsMadeBy schema_text) before after told told' status
+Answers (Some Owner) before after told told' status = TextAnswers (IsMadeBy owner_text) before after told told' status
 Answers (Some Help) before after told told' status = (after ≡ before) × Written HELP.now told told' status
 Answers (Some Version) before after told told' status = (after ≡ before) × Written VERSION.now told told' status
 
@@ -117,6 +128,7 @@ IsValid (Some Run) before = IsMade prepared before
 IsValid (Some Sim) before = IsMade sim_text before
 IsValid (Some (Load rounds start)) before = ⊤
 IsValid (Some Schema) before = IsMade schema_text before
+IsValid (Some Owner) before = IsMade owner_text before
 IsValid (Some Help) before = ⊤
 IsValid (Some Version) before = ⊤
 

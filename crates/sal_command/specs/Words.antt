@@ -4,7 +4,7 @@ use Rattle.std.specs.Char.{is_ascii_digit}
 use Rattle.std.specs.List.{list_all}
 use Rattle.sal_script.specs.Json.{text_eq}
 use Rattle.sal_command.specs.declared.words.Form.{Form}
-use Rattle.sal_command.specs.declared.words.Form.TheVariants.{Run, Sim, Load, Schema, Help, Version}
+use Rattle.sal_command.specs.declared.words.Form.TheVariants.{Run, Sim, Load, Schema, Owner, Help, Version}
 
 -- ---- numbers
 
@@ -46,8 +46,9 @@ form_named word =
     if text_eq word (codes "run") then Some Run
     else (if text_eq word (codes "sim") then Some Sim
     else (if text_eq word (codes "schema") then Some Schema
+    else (if text_eq word (codes "owner") then Some Owner
     else (if text_eq word (codes "--help") then Some Help
-    else (if text_eq word (codes "--version") then Some Version else None))))
+    else (if text_eq word (codes "--version") then Some Version else None)))))
 
 -- a load of 1 to 10,000 rounds, behind a number of at most 65,536
 abbrev pub load_of : List ℕ → List ℕ → Option Form

@@ -9,7 +9,8 @@
 //! | `loaded`, `laws` | a load: from its two numbers to its summary; its own script is always a script |
 //! | `schema`, `schema_fault` | the modules of a domain; the texts of their faults |
 //!
-//! The script is read by `sal_script`, run by `sal_run` over the broker or played by `sal_client` over a hub, and told by `sal_report`.
+//! The script is read by `sal_script`, run by `sal_run` over the broker or played by `sal_client` over a hub, and told by `sal_report`. The steps of
+//! `owner` are read, played and told by `sal_owner_script`.
 #![tactic(auto)]
 
 mod domains;

@@ -21,7 +21,7 @@ use sal_hub::Hub;
 use sal_io::{Gate, ReadFail, Sink, Source, read_all, write_all};
 use sal_run::run;
 use sal_schema::Schema;
-use sal_script::{Script, laws};
+use sal_script::{Script, ScriptFault, laws};
 use sal_types::{NoMemory, Str};
 use std::alloc::Global;
 use std::sync::{Arc, Wait};
@@ -37,6 +37,7 @@ usage: mdsal run < SCRIPT\n\
        mdsal sim < SCRIPT\n\
        mdsal load N S\n\
        mdsal schema < SCRIPT\n\
+       mdsal owner < STEPS\n\
        mdsal --help | --version\n\
 \n\
 run reads a JSON script from standard input, runs its clients at the same time, each on a thread of its own, and\n\
@@ -50,6 +51,9 @@ an entry with a number into one list, in a transaction of its own. The numbers a
 commits and rows that made, and the sum of the numbers. N is 1 to 10000, and S 0 to 65536.\n\
 \n\
 schema reads a script too, and writes the table of the schema that its modules build.\n\
+\n\
+owner reads a JSON array of steps, in which clients register for entities such as switches and ask who owns them, and writes\n\
+a line for each step with its reply. The first registered candidate of an entity owns it.\n\
 \n\
 exit status, each but 0 with its line on standard error:\n\
   0  done: the whole text was written\n\
@@ -90,6 +94,7 @@ pub fn mdsal<R: Threads + Wait + Sync, S: Source, K: Sink, G: Gate>(
         Some(Form::Sim) => simulate(alloc, source, sink, gate),
         Some(Form::Load { rounds, start }) => load(rt, alloc, rounds, start, sink, gate),
         Some(Form::Schema) => describe(alloc, source, sink),
+        Some(Form::Owner) => answer_steps(alloc, source, sink),
         Some(Form::Help) => write_text(sink, HELP),
         Some(Form::Version) => write_text(sink, VERSION),
     }
@@ -171,6 +176,21 @@ fn describe<S: Source, K: Sink>(alloc: Global, source: &mut S, sink: &mut K) -> 
     }
 }
 
+// Reads the steps of owners, and writes the replies to them.
+fn answer_steps<S: Source, K: Sink>(alloc: Global, source: &mut S, sink: &mut K) -> Status
+    ensures read_fault { result ≡ Status.ReadFault → Rose (S.faults source.old) (S.faults source.new) }
+    ensures write_fault { result ≡ Status.WriteFault → Rose (K.faults sink.old) (K.faults sink.new) }
+    ensures answer { spec.TextAnswers (spec.IsMadeBy spec.owner_text) (S.left source.old) (S.left source.new) (K.taken sink.old) (K.taken sink.new) result }
+{
+    match input_of(alloc, source) {
+        Ok(bytes) => match owner_text(alloc, &bytes) {
+            Ok(text) => write_text(sink, text.as_str()),
+            Err(status) => status,
+        },
+        Err(status) => status,
+    }
+}
+
 // All bytes of the input.
 fn input_of<S: Source>(alloc: Global, source: &mut S) -> Result<Vec<u8>, Status>
     ensures read_fault { IfErr result (λ status. status ≡ Status.ReadFault → Rose (S.faults source.old) (S.faults source.new)) }
@@ -201,6 +221,17 @@ fn schema_text(alloc: Global, bytes: &[u8]) -> Result<Str, Status>
 {
     let script = scripted::script_of(alloc, bytes)?;
     modules_text(alloc, &script)
+}
+
+// The replies to the steps of owners that the bytes stand for.
+fn owner_text(alloc: Global, bytes: &[u8]) -> Result<Str, Status>
+    ensures { spec.IsTextOr (spec.owner_text bytes.now) result }
+{
+    match sal_owner_script::owner_text(alloc, bytes) {
+        Ok(text) => Ok(text),
+        Err(ScriptFault::BadScript { place }) => Err(Status::BadScript { place }),
+        Err(ScriptFault::NoMemory) => Err(Status::NoMemory),
+    }
 }
 
 // The report of the script that the bytes stand for, its clients run at the same time.

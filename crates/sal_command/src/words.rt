@@ -19,6 +19,8 @@ pub enum Form {
     Load { rounds: u32, start: u32 },
     /// Judges the script's modules, and writes the text of their schema.
     Schema,
+    /// Plays the steps of clients that agree on owners of entities, and writes their replies.
+    Owner,
     /// Writes the help text.
     Help,
     /// Writes the name and version.
@@ -47,6 +49,8 @@ fn form_named(word: &str) -> Option<Form>
         Some(Form::Sim)
     } else if word == "schema" {
         Some(Form::Schema)
+    } else if word == "owner" {
+        Some(Form::Owner)
     } else if word == "--help" {
         Some(Form::Help)
     } else if word == "--version" {

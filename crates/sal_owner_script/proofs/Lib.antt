@@ -1,0 +1,3 @@
+pub mod ArrayTexts
+pub mod Playing
+pub mod Reading

@@ -1,0 +1,108 @@
+//! Steps, read from JSON (RFC 8259).
+ghost use Rattle.std.specs.Prelude.{◌≡◌, ◌≤◌, IfOk, IfSome, codes, decimal, length, map, option_and_then, option_map};
+ghost use Rattle.serde_json.specs.View.{view};
+ghost use Rattle.sal_script.specs.Json.{data_of, list_of};
+ghost use Rattle.sal_script.specs.Reading.{IsBadAt, Reads};
+ghost use Rattle.sal_script.specs.Script.{at_most, or_bad};
+ghost use Rattle.sal_owner_script.specs.Steps as spec;
+
+use crate::step::{OwnerStep, step_of};
+use sal_script::ScriptFault;
+use sal_types::{NoMemory, Str};
+use serde_json::Value;
+use std::alloc::Global;
+
+/// How many steps there may be.
+pub const MAX_STEPS: usize = 60000;
+
+/// The steps that bytes stand for, or the first bad place: `json`, `script`, or the number of a step.
+pub fn read_steps(alloc: Global, bytes: &[u8]) -> Result<Vec<OwnerStep>, ScriptFault>
+    ensures steps { Reads (λ steps. steps.items) result (spec.steps_of bytes.now) }
+    ensures few { IfOk result (λ steps. length steps.items ≤ 60000) }
+{
+    let value = value_of(alloc, bytes)?;
+    let list = listed(alloc, &value)?;
+    steps_of(alloc, list)
+}
+
+// The JSON value that bytes stand for.
+fn value_of(alloc: Global, bytes: &[u8]) -> Result<Value, ScriptFault>
+    ensures { Reads view result (or_bad (codes "json") (data_of bytes.now)) }
+{
+    let Ok(text) = str::from_utf8(bytes) else {
+        return Err(bad(alloc, "json"));
+    };
+    match Value::from_str(alloc, text) {
+        Ok(value) => Ok(value),
+        Err(error) if error.is_memory() => Err(ScriptFault::NoMemory),
+        Err(_) => Err(bad(alloc, "json")),
+    }
+}
+
+// The steps, not yet read.
+fn listed(alloc: Global, value: &Value) -> Result<&[Value], ScriptFault>
+    ensures list { Reads (λ list. map view list.now) result (spec.listed (view value.now)) }
+    ensures few { IfOk result (λ list. length list.now ≤ 60000) }
+{
+    match at_most(MAX_STEPS, list_of(value)) {
+        Some(list) => Ok(list),
+        None => Err(bad(alloc, "script")),
+    }
+}
+
+// The values of an array, in order.
+fn list_of(value: &Value) -> Option<&[Value]>
+    ensures { option_map (λ list. map view list.now) result ≡ list_of (view value.now) }
+{
+    match value.as_array() {
+        Some(list) => Some(list.as_slice()),
+        None => None,
+    }
+}
+
+// The list, where it is no longer than the limit.
+fn at_most(limit: usize, list: Option<&[Value]>) -> Option<&[Value]>
+    ensures list { option_map (λ found. map view found.now) result ≡ option_and_then (at_most limit) (option_map (λ found. map view found.now) list.entry) }
+    ensures few { IfSome result (λ found. length found.now ≤ limit) }
+{
+    match list {
+        Some(found) if found.len() <= limit => Some(found),
+        _ => None,
+    }
+}
+
+fn steps_of(alloc: Global, list: &[Value]) -> Result<Vec<OwnerStep>, ScriptFault>
+    ensures steps { Reads (λ steps. steps.items) result (spec.steps_from 0 (map view list.now)) }
+    ensures count { IfOk result (λ steps. length steps.items ≡ length list.now) }
+{
+    let mut steps = Vec::new(alloc);
+    for (number, value) in list.iter().enumerate() {
+        match step_of(alloc, value)? {
+            Some(step) => steps.push(step)?,
+            None => return Err(bad_step(alloc, number)),
+        }
+    }
+    Ok(steps)
+}
+
+// This is the first bad place.
+fn bad(alloc: Global, place: &str) -> ScriptFault
+    ensures { IsBadAt place.now result }
+{
+    match Str::new(alloc, place) {
+        Ok(place) => ScriptFault::BadScript { place },
+        Err(NoMemory) => ScriptFault::NoMemory,
+    }
+}
+
+// The step of this number is the first bad place.
+fn bad_step(alloc: Global, number: usize) -> ScriptFault
+    ensures { IsBadAt (decimal number) result }
+{
+    match format!(in alloc; "{number}") {
+        Ok(place) => ScriptFault::BadScript {
+            place: Str::from_string(place),
+        },
+        Err(_) => ScriptFault::NoMemory,
+    }
+}

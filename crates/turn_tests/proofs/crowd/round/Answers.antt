@@ -1,5 +1,5 @@
 -- Each seat has a number that was not given.
-use Rattle.std.proofs.Common.{◌≡◌, ℕ, [], ◌∷◌, ◌++◌, refl, sym, ap, ◌∙◌, arith, ⊎_elim, subst}
+use Rattle.std.proofs.Common.{◌≡◌, ℕ, [], ◌∷◌, refl, sym, ap, ◌∙◌, arith, ⊎_elim, subst}
 use Rattle.sal_turn.specs.declared.view.View.{View}
 use Rattle.sal_turn.specs.Lists.{In}
 use Rattle.sal_turn.proofs.Lists.{in_either}

@@ -1,2 +1,0 @@
-pub mod AllJoined
-pub mod Sendable

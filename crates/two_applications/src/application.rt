@@ -1,15 +1,12 @@
 //! An application: it takes numbers from the counter.
 ghost use Rattle.std.specs.Prelude.{◌≡◌, IfOk};
-ghost use Rattle.sal_hub.specs.Tokens.{IsBegun, IsGiven};
-ghost use Rattle.sal_broker.specs.Seats.{known};
-ghost use Rattle.sal_broker.specs.Turns.{Keeps};
+ghost use Rattle.sal.specs.Seats.{known};
+ghost use Rattle.sal.specs.Tokens.{IsBegun, IsGiven};
+ghost use Rattle.sal.specs.Turns.{Keeps};
 
 use crate::counter::Counter;
 use anyhow::bail;
-use sal_broker::{Sal, Seat};
-use sal_hub::Receipt;
-use sal_rows::{Mode, Outcome};
-use sal_tx::{Tx, WriteTx};
+use sal::{Mode, Outcome, Receipt, Sal, Seat, Tx, WriteTx};
 use std::alloc::Global;
 use std::sync::Wait;
 

@@ -1,17 +1,11 @@
 //! A leaf that counts.
-ghost use Rattle.std.specs.Prelude.{◌≡◌, IfOk, IsTrue};
-ghost use Rattle.sal_types.specs.declared.value.Store.TheVariants.{Config};
-ghost use Rattle.sal_rows.specs.declared.op.Act.TheVariants.{Put};
-ghost use Rattle.sal_rules.specs.Writes.{IsForSchema};
+ghost use Rattle.std.specs.Prelude.{◌≡◌};
 
 use anyhow::bail;
-use sal_data::fits_rows;
-use sal_json::Patterns;
-use sal_pathtext::read_path;
-use sal_rows::Rows;
-use sal_schema::Schema;
-use sal_tx::WriteTx;
-use sal_types::{Atom, Cell, Duplicate, NoMemory, Path, Row, Store, Value};
+use sal::{
+    Atom, Cell, Duplicate, NoMemory, Path, Patterns, Row, Rows, Schema, Store, Value, WriteTx,
+    is_for, read_path,
+};
 use std::alloc::Global;
 
 /// The leaf of the configuration that holds the last number given. Where it is absent none was given.
@@ -49,7 +43,7 @@ impl Counter {
         ensures base { tx.new.base ≡ tx.old.base }
     {
         let rows = self.rows(alloc, number)?;
-        if !is_for_schema(tx.schema(), &self.path, &rows) {
+        if !is_for(tx.schema(), Store::Config, &self.path, &rows) {
             bail!("{number} is no number of a tunnel");
         }
         let path = self.path.copy()?;
@@ -86,11 +80,4 @@ fn number_of(value: &Value) -> u64 {
         Atom::Unsigned(number) => *number,
         _ => 0,
     }
-}
-
-// A transaction asks this of each write.
-fn is_for_schema(schema: &Schema, path: &Path, rows: &Rows) -> bool
-    ensures { IsTrue result → IsForSchema schema.now (record { store = Config; path = path.now; act = Put rows.now }) }
-{
-    schema.fits(path) && !schema.is_in_message(path) && fits_rows(schema, path, rows)
 }

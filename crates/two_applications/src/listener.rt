@@ -1,14 +1,10 @@
 //! A listener with its mirror.
 ghost use Rattle.std.specs.Prelude.{◌≡◌, IfOk};
-ghost use Rattle.sal_hub.specs.Tokens.{IsListener};
-ghost use Rattle.sal_broker.specs.Seats.{known};
-ghost use Rattle.sal_broker.specs.Turns.{Keeps};
+ghost use Rattle.sal.specs.Seats.{known};
+ghost use Rattle.sal.specs.Tokens.{IsListener};
+ghost use Rattle.sal.specs.Turns.{Keeps};
 
-use sal_broker::{Sal, Seat};
-use sal_hub::ListenerId;
-use sal_listen::Mirror;
-use sal_rows::Rows;
-use sal_types::{Path, Store};
+use sal::{ListenerId, Mirror, Path, Rows, Sal, Seat, Store};
 use std::alloc::Global;
 use std::sync::Wait;
 

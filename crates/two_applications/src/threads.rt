@@ -1,15 +1,13 @@
 //! The two applications on their threads.
 ghost use Rattle.std.specs.Prelude.{◌≡◌, IfOk};
-ghost use Rattle.sal_broker.specs.Turns.{Keeps};
-ghost use Rattle.two_applications.specs.Opening.{IsOpening};
+ghost use Rattle.sal.specs.Opening.{IsOpening};
+ghost use Rattle.sal.specs.Turns.{Keeps};
 
 use crate::application::take_numbers;
 use crate::counter::{Counter, number_in};
 use crate::device::{device, schema};
 use crate::listener::Listener;
-use sal_broker::{Sal, Seat};
-use sal_hub::Hub;
-use sal_types::{Path, Store};
+use sal::{Hub, Path, Sal, Seat};
 use std::alloc::Global;
 use std::sync::Wait;
 use std::thread::{Threads, join};

@@ -1,4 +1,4 @@
-use Rattle.sal_broker.specs.Turns.{Keeps}
+use Rattle.sal.specs.Turns.{Keeps}
 use Rattle.two_applications.proofs.application.take_number.Given as goal
 
 abbrev pub invariant-loop : goal.invariant-loop

@@ -2,7 +2,7 @@ use denote.Param.Send.{IsSync, given_sync, sendable}
 use Rattle.std.proofs.Crossing.{crosses}
 use Rattle.anyhow.proofs.error.Error.TheSendSync as Error
 use Rattle.two_applications.proofs.counter.Counter.TheSendSync as Counter
-use Rattle.two_applications.proofs.Sendable.{Seat-send, Sal-sync}
+use Rattle.sal.proofs.Sendable.{Seat-send, Sal-sync}
 use Rattle.two_applications.proofs.threads.both.Goals as goal
 
 pub join-one-requires-send-F : goal.join-one-requires-send-F

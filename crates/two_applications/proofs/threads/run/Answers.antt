@@ -1,8 +1,8 @@
 use Rattle.std.proofs.Common.{ℕ, [], ◌∷◌, ◌++◌, sym, ap, ◌∙◌, subst}
-use Rattle.sal_broker.specs.Seats.{SeatView}
-use Rattle.sal_turn.specs.Lists.{In}
-use Rattle.sal_turn.specs.Views.{both, AnswersFor}
-use Rattle.two_applications.proofs.AllJoined.{all_joined}
+use Rattle.sal.specs.Seats.{SeatView}
+use Rattle.sal.specs.Lists.{In}
+use Rattle.sal.specs.Views.{both, AnswersFor}
+use Rattle.sal.proofs.AllJoined.{all_joined}
 use Rattle.two_applications.proofs.threads.run.Goals as goal
 
 pub close-hub-requires-clause-joined : goal.close-hub-requires-clause-joined

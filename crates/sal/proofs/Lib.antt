@@ -1,2 +1,3 @@
 pub mod AllJoined
 pub mod Sendable
+pub mod Texts

@@ -1,0 +1,80 @@
+//! All that an application of the broker names, in one crate: it depends on `sal` and on no other crate of this repository.
+//!
+//! | item | what it is |
+//! |---|---|
+//! | `Sal`, `Seat` | the broker; a thread's place at it |
+//! | `Held` | a turn at the broker in the caller's hands |
+//! | `Device`, `Opening`, `OpenFault` | a domain before the first commit, its opening trees, why they are refused |
+//! | `Hub` | what a closed broker leaves: its log and its trees |
+//! | `Mode`, `Tx`, `ReadTx`, `WriteTx`, `TxFault`, `WriteOnly` | transactions, and why a write or a read is refused |
+//! | `Receipt`, `Outcome`, `ClashKind`, `Rule` | a submission, and what became of it |
+//! | `Chain`, `ListenerId`, `CallId` | the tokens of a chain, of a listener, of a request |
+//! | `Opened`, `Batch`, `Part`, `Change`, `CandidateKind`, `Mirror`, `MirrorFault` | what a listener gets, and a copy that follows it |
+//! | `Request`, `Note`, `NoteList` | what a provider takes, and what a subscriber takes |
+//! | `Seen`, `CallFault` | what a look for a mark finds; why a call is refused |
+//! | `Path`, `Step`, `Keys`, `Store`, `Rows`, `Row`, `Cell`, `Value`, `Atom`, `Op`, `Act` | places in a tree, and data |
+//! | `Str`, `Bytes`, `Seq`, `Duplicate`, `NoMemory` | texts, bytes and lists; copies, and want of memory |
+//! | `schema_of`, `SchemaFault`, `Schema` | from YANG texts to a schema, or to the first fault |
+//! | `read_module`, `build`, `Stmt`, `StmtFault`, `BuildFault` | the two parts of `schema_of` |
+//! | `Patterns`, `read_path`, `write_path`, `read_data`, `write_data`, `fits_rows` | paths as texts, and data as JSON |
+//! | `empty_device` | a device without data |
+//! | `is_for`, `is_place` | whether a transaction may put or merge these rows there, and whether it may delete there |
+//! | `what_is_read_is_readable` | does nothing: the law that shows what `build` requires |
+//!
+//! The `specs/` name the definitions that the contracts of these calls cite, so a clause of an application names
+//! `Rattle.sal.specs.Turns.{Keeps}`. `proofs/` has what each application shows: which types may go to another thread
+//! (`Sendable`), and that seats which were joined answer for all numbers given (`AllJoined`).
+//!
+//! ```
+//! let schema = Arc::new(alloc, schema_of(alloc, &[TEXT])?)?;
+//! let devices = vec![in alloc; empty_device(alloc, schema)]?;
+//! let (sal, mut seat) = Sal::open(alloc, devices)?;
+//! let Tx::Write(mut tx) = sal.begin(rt, alloc, &mut seat, 0, Mode::Rw)? else { .. };
+//! if is_for(tx.schema(), Store::Config, &path, &rows) {
+//!     tx.put(alloc, Store::Config, path, rows)?;
+//! }
+//! ```
+//!
+//! | call | cost |
+//! |---|---|
+//! | `schema_of` | that of `read_module` for each text, and that of `build` |
+//! | `empty_device` | constant |
+//! | `is_for` | that of `fits_rows` and a walk along the path |
+//! | `is_place` | a walk along the path |
+//!
+//! The costs of the others stand at the heads of the crates that have them.
+#![tactic(auto)]
+
+mod devices;
+mod modules;
+mod writes;
+
+pub use devices::empty_device;
+pub use modules::{SchemaFault, schema_of};
+pub use sal_broker::{Held, MAX_LOOKS, OPENING_NUMBER, Sal, Seat};
+pub use sal_data::{DataFault, fits_rows, read_data, write_data};
+pub use sal_history::{Device, Opening};
+pub use sal_hub::{
+    CallId, Chain, Hub, ListenerId, MAX_ENTRIES, MAX_LISTENERS, MAX_PENDING, OpenFault, Receipt,
+    Seen,
+};
+pub use sal_json::{Patterns, PatternsFault};
+pub use sal_listen::{Mirror, MirrorFault};
+pub use sal_module::{BuildFault, What};
+pub use sal_note::{Note, NoteList};
+pub use sal_pathtext::{PathTextFault, read_path, write_path};
+pub use sal_rows::{
+    Act, Batch, Breach, CallFault, CandidateKind, Change, ChangeList, ClashKind, Mode, Op, Opened,
+    Ops, OutOfOrder, Outcome, Part, Rows, Rule,
+};
+pub use sal_rpc::Request;
+pub use sal_schema::{Kind, Schema};
+pub use sal_stmt::{Stmt, StmtFault, read_module};
+pub use sal_tables::build;
+pub use sal_tables::laws::what_is_read_is_readable;
+pub use sal_tx::{Begun, ReadTx, Tx, TxFault, WriteOnly, WriteTx};
+pub use sal_types::{
+    Atom, Bytes, Cell, Duplicate, Keys, MAX_STEPS, NoMemory, Path, PathFault, Row, Seq, Step,
+    Store, Str, Value,
+};
+pub use writes::{is_for, is_place};

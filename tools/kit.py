@@ -15,7 +15,7 @@ def found():
 
 
 def tell(tool):
-    """Says where the kit is another one than the tool was made for, and returns its name."""
+    """Warns if the kit is another one than the tool was made for, and returns its name."""
     name = found()
     if name != MADE_FOR:
         print(f"{tool}: it was made for {MADE_FOR}, and this is {name}: if it fails, or its answer looks odd, look there first", file=sys.stderr)
@@ -23,7 +23,7 @@ def tell(tool):
 
 
 def crates():
-    """Returns, for each crate of crates.txt, what it stands on."""
+    """Returns, for each crate of crates.txt, what it uses."""
     stands = {}
     with open(f"{ROOT}/crates.txt", encoding="utf-8") as it:
         for line in it:
@@ -35,7 +35,7 @@ def crates():
 
 
 def ordered(name, stands, found):
-    """Adds the crates of this repository on which the crate stands, lowest first."""
+    """Adds the crates of this repository that the crate uses, lowest first."""
     for it in stands[name]:
         if it in stands:
             ordered(it, stands, found)

@@ -136,5 +136,9 @@ pub(crate) fn device(alloc: Global, shapes: &[Shape], config: Rows) -> Result<De
     let schema = Arc::new(alloc, schema(alloc, shapes)?)?;
     let oper = Rows::new(alloc);
     let opening = Opening { config, oper };
-    Ok(Device { schema, opening })
+    Ok(Device {
+        schema,
+        upgrades: Vec::new(alloc),
+        opening,
+    })
 }

@@ -6,9 +6,9 @@
 //! with the status that this answers.
 #![tactic(auto)]
 
-use sal_command::status::Status;
 use sal_command::top::mdsal;
 use sal_io::{OpenGate, StdSink, StdSource};
+use sal_prepare::status::Status;
 use sal_types::{NoMemory, Str};
 use std::env;
 use std::io::ErrorKind;

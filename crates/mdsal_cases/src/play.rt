@@ -2,9 +2,9 @@
 use crate::case::Case;
 use crate::gate::{self, CountingGate, Steps};
 use crate::input;
-use sal_command::status::Status;
 use sal_command::top::mdsal;
 use sal_io::{MemSink, MemSource};
+use sal_prepare::status::Status;
 use sal_types::{NoMemory, Str};
 use std::alloc::Global;
 use std::io;

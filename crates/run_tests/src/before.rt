@@ -1,7 +1,7 @@
 //! A client passes the gate before its step, and not behind it.
 use crate::command::{Missed, Texts, ended};
-use sal_command::status::Status;
 use sal_io::Gate;
+use sal_prepare::status::Status;
 use std::sync::atomic::{AtomicU64, Ordering};
 use std::test::Fail;
 

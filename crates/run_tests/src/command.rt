@@ -1,7 +1,7 @@
 //! The command over texts in memory, and clients that wait for each other at a gate.
-use sal_command::status::Status;
 use sal_command::top::mdsal;
 use sal_io::{Gate, MemSink, MemSource};
+use sal_prepare::status::Status;
 use sal_types::Str;
 use std::alloc::Global;
 use std::sync::Wait;

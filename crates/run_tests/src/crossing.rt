@@ -1,7 +1,7 @@
 //! Clients that wait for each other on their way: the two of a script, and the four of a load.
 use crate::command::{Missed, Texts, ended};
-use sal_command::status::Status;
 use sal_io::Gate;
+use sal_prepare::status::Status;
 use std::sync::atomic::{AtomicU64, Ordering};
 use std::test::Fail;
 

@@ -36,12 +36,12 @@ fn no_nodes(alloc: Global) -> Result<Arc<Schema>, Fail> {
     Ok(Arc::new(alloc, schema)?)
 }
 
-// What reads by the schema of the one domain.
+// What reads by the schema of the one domain, in its one version.
 fn readers_of(alloc: Global, schema: &Arc<Schema>) -> Result<Readers, Fail>
-    ensures { IfOk result (λ readers. readers ≡ schema.now.value ∷ []) }
+    ensures { IfOk result (λ readers. readers ≡ (schema.now.value ∷ []) ∷ []) }
 {
     let schemas = vec![in alloc; Arc::try_clone(schema)?]?;
-    match Readers::of(alloc, &schemas) {
+    match Readers::of(alloc, &schemas, &[]) {
         Ok(readers) => Ok(readers),
         Err(_) => Err("no readers".into()),
     }
@@ -49,13 +49,18 @@ fn readers_of(alloc: Global, schema: &Arc<Schema>) -> Result<Readers, Fail>
 
 // A broker over one domain without data.
 fn opened(alloc: Global, schema: Arc<Schema>) -> Result<(Sal, Seat), Fail>
-    ensures { IfOk result (λ r. IsOpened (schema.value ∷ []) r.0 r.1) }
+    ensures { IfOk result (λ r. IsOpened ((schema.value ∷ []) ∷ []) r.0 r.1) }
 {
     let opening = Opening {
         config: Rows::new(alloc),
         oper: Rows::new(alloc),
     };
-    let devices = vec![in alloc; Device { schema, opening }]?;
+    let device = Device {
+        schema,
+        upgrades: Vec::new(alloc),
+        opening,
+    };
+    let devices = vec![in alloc; device]?;
     Ok(Sal::open(alloc, devices)?)
 }
 

@@ -11,6 +11,7 @@ pub use Rattle.sal_hub.specs.Marks
 pub use Rattle.sal_hub.specs.Openings
 pub use Rattle.sal_hub.specs.Seen
 pub use Rattle.sal_hub.specs.Tokens
+pub use Rattle.sal_hub.specs.Upgrades
 pub use Rattle.sal_turn.specs.Entries
 pub use Rattle.sal_turn.specs.Lists
 pub use Rattle.sal_turn.specs.Views
@@ -20,11 +21,14 @@ pub use Rattle.sal_rules.specs.Refusals
 pub use Rattle.sal_rules.specs.Writes
 pub use Rattle.sal_schema.specs.Fitting
 pub use Rattle.sal_schema.specs.Paths
+pub use Rattle.sal_schema.specs.Versions
 pub use Rattle.sal_rows.specs.Apply
 pub use Rattle.sal_rows.specs.Patch
 pub use Rattle.sal_types.specs.Reading
 pub use Rattle.sal_listen.specs.Mirrors
 pub use Rattle.sal_tables.specs.Readable
+pub use Rattle.sal_tables.specs.Versions as BuiltVersions
 pub use Rattle.sal_build.specs.Build
+pub use Rattle.sal_build.specs.Versions as NextVersions
 pub use Rattle.sal_stmt.specs.Text
 pub use Rattle.sal_json.specs.Patterns

@@ -8,9 +8,10 @@ use sal_schema::Schema;
 use std::alloc::Global;
 use std::sync::Arc;
 
-/// A device with this schema, and without data before the first commit.
+/// A device with one version of this schema, and without data before the first commit.
 pub fn empty_device(alloc: Global, schema: Arc<Schema>) -> Device
     ensures schema { result.schema ≡ schema }
+    ensures versions { result.upgrades.items ≡ [] }
     ensures opening { result.opening ≡ record { config = []; oper = [] } }
     ensures closed { IsClosedDevice result }
 {
@@ -18,5 +19,9 @@ pub fn empty_device(alloc: Global, schema: Arc<Schema>) -> Device
         config: Rows::new(alloc),
         oper: Rows::new(alloc),
     };
-    Device { schema, opening }
+    Device {
+        schema,
+        upgrades: Vec::new(alloc),
+        opening,
+    }
 }

@@ -16,6 +16,7 @@
 //! | `Str`, `Bytes`, `Seq`, `Duplicate`, `NoMemory` | texts, bytes and lists; copies, and want of memory |
 //! | `schema_of`, `SchemaFault`, `Schema` | from YANG texts to a schema, or to the first fault |
 //! | `read_module`, `build`, `Stmt`, `StmtFault`, `BuildFault` | the two parts of `schema_of` |
+//! | `build_first`, `build_on`, `SchemaVersion` | the first version of a schema, and the next one of more modules, for `Device` and `Sal::upgrade` |
 //! | `Patterns`, `read_path`, `write_path`, `read_data`, `write_data`, `fits_rows` | paths as texts, and data as JSON |
 //! | `empty_device` | a device without data |
 //! | `is_for`, `is_place` | whether a transaction may put or merge these rows there, and whether it may delete there |
@@ -23,7 +24,8 @@
 //!
 //! The `specs/` name the definitions that the contracts of these calls cite, so a clause of an application names
 //! `Rattle.sal.specs.Turns.{Keeps}`. `proofs/` has what each application shows: which types may go to another thread
-//! (`Sendable`), and that seats which were joined answer for all numbers given (`AllJoined`).
+//! (`Sendable`), that seats which were joined answer for all numbers given (`AllJoined`), and that a world of one device without
+//! upgrades is one of versions, as `Sal::open` requires (`OneVersion`).
 //!
 //! ```
 //! let schema = Arc::new(alloc, schema_of(alloc, &[TEXT])?)?;
@@ -70,8 +72,8 @@ pub use sal_rows::{
 pub use sal_rpc::Request;
 pub use sal_schema::{Kind, Schema};
 pub use sal_stmt::{Stmt, StmtFault, read_module};
-pub use sal_tables::build;
 pub use sal_tables::laws::what_is_read_is_readable;
+pub use sal_tables::{SchemaVersion, build, build_first, build_on};
 pub use sal_tx::{Begun, ReadTx, Tx, TxFault, WriteOnly, WriteTx};
 pub use sal_types::{
     Atom, Bytes, Cell, Duplicate, Keys, MAX_STEPS, NoMemory, Path, PathFault, Row, Seq, Step,

@@ -4,13 +4,14 @@ use Rattle.std.proofs.lemmas.List.{drop_all, drop_at}
 use Rattle.std.specs.Prelude.{IsSome, unwrap_or}
 use mathlib.Core.List.{IsPrefix}
 use Rattle.sal_rows.specs.declared.outcome.CallFault.{CallFault}
-use Rattle.sal_rows.specs.declared.outcome.CallFault.TheVariants.{HistoryFull, PipelineFull, NoDomain, NoListener, TooManyListeners, NoProvider, ProviderTaken, NoCall, NoteRejected, MountTaken, DeviceUsed, PreviousOpen, ChainFailed, ChainClosed, TxSpent, NoMemory}
+use Rattle.sal_rows.specs.declared.outcome.CallFault.TheVariants.{HistoryFull, PipelineFull, NoDomain, NoListener, TooManyListeners, NoProvider, ProviderTaken, NoCall, NoteRejected, MountTaken, DeviceUsed, PreviousOpen, ChainFailed, ChainClosed, TxSpent, WrongVersion, UpgradeBreach, NoMemory}
 use Rattle.sal_history.specs.World.{Domain}
 use Rattle.sal_history.specs.declared.call.Call.{Call}
 use Rattle.sal_history.specs.declared.call.Entry.{Entry}
 use Rattle.sal_history.specs.declared.reply.Reply.{Reply}
 use Rattle.sal_turn.specs.Entries.{Leaves, entries_by}
 use Rattle.sal_turn.specs.Views.{SameRights}
+use Rattle.sal_turn.proofs.Grown.{own_then}
 use Rattle.sal_hub.specs.Answers.{Calls, CallsOr, Fails, Made}
 use Rattle.sal_hub.specs.HubHistory.{HubHistory, entry_of}
 use Rattle.sal_broker.specs.Seats.{SeatView, client_of}
@@ -38,6 +39,8 @@ fails_add v found left e PreviousOpen own fails = made_adds v found left e _ own
 fails_add v found left e (ChainFailed receipt) own fails = made_adds v found left e _ own fails
 fails_add v found left e ChainClosed own fails = made_adds v found left e _ own fails
 fails_add v found left e TxSpent own fails = made_adds v found left e _ own fails
+fails_add v found left e (WrongVersion have) own fails = made_adds v found left e _ own fails
+fails_add v found left e (UpgradeBreach store path rule) own fails = made_adds v found left e _ own fails
 
 module _ {X : Type 0} (v : SeatView) (found left : HubHistory) (client : ℕ) (call : Call) (good : X → Reply) where
   pub calls_add : (result : Result X CallFault) → client ≡ v.number → Calls found left (entry_of found client call) good result → OneMoreAtMost v found left
@@ -58,21 +61,15 @@ same_world : (v : SeatView) (found left : HubHistory) → OneMoreAtMost v found 
 same_world v found left (inl same) = ap (λ (k : HubHistory). k.world) same
 same_world v found left (inr (e, own, more)) = ap (λ (k : HubHistory). k.world) more
 
-own_then : (k : ℕ) (found own now then : List Entry) → Leaves client_of k found own now then → then ≡ own ++ drop (length found) now
-own_then k found own now then (inl (same, kept)) =
-    kept ∙ sym (append-nil own) ∙ ap (λ (es : List Entry). own ++ es) (sym (drop_all (length found) found (omega arith)) ∙ ap (λ (es : List Entry). drop (length found) es) (sym same))
-own_then k found own now then (inr (e, mine, more, grown)) =
-    grown ∙ ap (λ (es : List Entry). own ++ es) (sym (drop_at found (e ∷ []) (length found) refl) ∙ ap (λ (es : List Entry). drop (length found) es) (sym more))
-
 pub left_turn : (v w : SeatView) (found left : HubHistory) → v.ground ≡ Some found.world → IsPrefix v.seen found.log → entries_by client_of v.number found.log ≡ v.own
     → SameRights v w → OneMoreAtMost v found left → w.seen ≡ left.log → Leaves client_of v.number found.log v.own left.log w.own → TurnOf v v.number found left w
 left_turn v w found left ground seen mine rights added now leaves = record {
   number = refl;
-  world = ground;
+  over = ground;
   seen = seen;
   mine = mine;
   now = λ i. record { world = worlds i; log = now i };
-  own = own_then v.number found.log v.own left.log w.own leaves;
+  own = own_then client_of v.number found.log v.own left.log w.own leaves;
 }
   where
     worlds : unwrap_or w.ground [] ≡ left.world

@@ -1,8 +1,9 @@
 //! A turn at the broker.
-ghost use Rattle.std.specs.Prelude.{◌≡◌};
+ghost use Rattle.std.specs.Prelude.{◌≡◌, ◌≤◌};
 ghost use Rattle.std.specs.Borrow.{sem, Lends};
 ghost use Rattle.sal_hub.specs.contracts.hub.Hub.{the_row as hub_row};
 ghost use Rattle.sal_hub.specs.Marks.{has_mark};
+ghost use Rattle.sal_hub.specs.Upgrades.{upgrades_of};
 ghost use Rattle.sal_hub.specs.Tokens.{IsBegun, IsCall, IsChain, IsGiven, IsListener, IsToken};
 ghost use Rattle.sal_broker.specs.Seats.{known};
 ghost use Rattle.sal_broker.specs.Tokens.{TokensStay};
@@ -110,6 +111,14 @@ impl Held {
         ensures { IsListener self.now.found id }
     {
         self.keeps_tokens();
+    }
+
+    // The versions of the seat's world are those of the hub.
+    pub(crate) fn knows_version(&self, version: u32)
+        requires { version ≤ upgrades_of (known self.now.view).world }
+        ensures { version ≤ upgrades_of self.now.found.world }
+    {
+        let _inner = &self.inner;
     }
 
     pub(crate) fn knows_call(&self, id: CallId)

@@ -12,6 +12,7 @@
 //! | `Sal::provide`, `withdraw`, `invoke`, `next_call`, `answer`, `collect` | the same, of RPCs |
 //! | `Sal::subscribe`, `offer`, `take_notes` | the same, of notifications |
 //! | `Sal::mount`, `unmount`, `mount_at` | the same, of mounts |
+//! | `Sal::upgrade` | the same, of the versions of the controller's own schema |
 //! | `Sal::after` | a look for a mark, a turn each, until it is there or `MAX_LOOKS` looks found none |
 //! | `Sal::enter`, `leave` | a turn with the hub in the caller's hands, for a caller with more to do in it than one call |
 //! | `Sal::enter_after` | the turn of the last look for a mark, in the caller's hands |
@@ -56,6 +57,7 @@ mod rpc_calls;
 mod sal;
 mod seat;
 mod shared;
+mod version_calls;
 mod waiting;
 
 pub use held::Held;

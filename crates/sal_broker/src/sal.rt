@@ -2,6 +2,7 @@
 ghost use Rattle.std.specs.Prelude.{◌≡◌, ◌≤◌, ◌+◌, ℕ, List, [], ◌∷◌, ◌++◌, true, None, Some, IfOk, IsSome, MatchResult, length};
 ghost use mathlib.Core.List.{IsPrefix};
 ghost use Rattle.sal_history.specs.declared.call.Entry.{Entry};
+ghost use Rattle.sal_history.specs.World.{AreVersions};
 ghost use Rattle.sal_turn.specs.Entries.{entries_by};
 ghost use Rattle.sal_turn.specs.Lists.{In};
 ghost use Rattle.sal_turn.specs.Views.{AnswersFor, SameRights, both, newcomer, opener};
@@ -43,11 +44,13 @@ impl Model for Sal {
 
 impl Sal {
     /// A broker without calls over the devices, of which the first is the controller's own domain, and its opening seat. The
-    /// opening trees of each fit at the root by its schema (`Hub::open`).
+    /// opening trees of each fit at the root by version 0 of its schema, and each version extends the one before; the first device
+    /// alone has more than one (`Hub::open`).
     pub fn open(alloc: Global, devices: Vec<Device>) -> Result<(Sal, Seat), OpenFault>
         requires some { 1 ≤ length devices.items }
         requires few { length devices.items ≤ 64 }
         requires closed { AreClosedDevices devices.items }
+        requires versions { AreVersions (world_of devices.items) }
         ensures { MatchResult result (λ r. (fault_of (world_of devices.items) ≡ None) × (r.1.lock ≡ r.0) × (r.1.view ≡ opener 65535 (world_of devices.items))) (IsFaultOf (world_of devices.items)) }
     {
         let hub = Hub::open(alloc, devices)?;

@@ -11,6 +11,8 @@ pub mod Ranked
 pub mod Fillings
 pub mod Leading
 pub mod Nowhere
+pub mod FewModules
+pub mod OldNone
 pub mod Walked
 pub mod Preorder
 pub mod PlaceMaps

@@ -1,5 +1,5 @@
 -- Modules for the examples, with their forests.
-use Rattle.std.specs.Prelude.{List, [], ◌∷◌, Option, Some, None, codes}
+use Rattle.std.specs.Prelude.{ℕ, List, [], ◌∷◌, Option, Some, None, codes}
 use Prim.Native.String.{String}
 use Rattle.sal_stmt.specs.declared.stmt.Stmt.{Stmt}
 use Rattle.sal_module.specs.declared.fault.Found.{Found}
@@ -12,6 +12,7 @@ use Rattle.sal_restrict.specs.declared.yang_type.YangType.TheOpen.{YangType-F}
 use Rattle.sal_build.specs.Filled.{empty}
 use Rattle.sal_build.specs.Lists as lists
 use Rattle.sal_build.specs.Identities as identities
+use Rattle.sal_build.specs.OldBases as old_bases
 
 -- a list at 10 with this statement at 12 and a leaf `k` at 20
 abbrev pub a_list : Stmt → List Stmt
@@ -48,3 +49,16 @@ union_of member = roll-YangType (YangType-F.Union (member ∷ []))
 
 abbrev pub boolean : YangType
 boolean = roll-YangType YangType-F.Bool
+
+-- an old module with an identity, and a new one whose identity has this base
+abbrev pub kinds : Stmt
+kinds = plain "module" 0 "kinds" (plain "prefix" 2 "k" [] ∷ plain "identity" 10 "kind" [] ∷ [])
+
+abbrev pub more_kinds : String → Stmt
+more_kinds base =
+    plain "module" 0 "more"
+    (plain "prefix" 2 "m" [] ∷ plain "import" 10 "kinds" (plain "prefix" 12 "k" [] ∷ []) ∷ plain "identity" 20 "root" [] ∷ plain "identity" 30 "router" (plain "base" 32 base [] ∷ []) ∷ [])
+
+-- the first base of both modules that names an identity of the first so many
+abbrev pub old_base : ℕ → String → Option Found
+old_base old base = least None (old_bases.all_faults old (kinds ∷ more_kinds base ∷ []))

@@ -1,4 +1,5 @@
 pub mod Nodes
+pub mod OldBases
 pub mod Inherited
 pub mod Children
 pub mod Lists
@@ -11,3 +12,5 @@ pub mod Leafrefs
 pub mod Typed
 pub mod Build
 pub mod Examples
+pub mod Versions
+pub mod VersionExamples

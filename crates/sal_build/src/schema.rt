@@ -3,7 +3,6 @@ ghost use Rattle.std.specs.Prelude.{◌≡◌, ◌≤◌, ◌<◌, ◌^◌, ◌+
 ghost use Rattle.std.specs.Coded.{codes};
 ghost use Rattle.sal_types.specs.Reading.{GivesUnless};
 ghost use Rattle.sal_stmt.specs.contracts.stmt.Stmt as e;
-ghost use Rattle.sal_stmt.specs.declared.stmt.Stmt.{Stmt as Statement};
 ghost use Rattle.sal_module.specs.declared.fault.BuildFault.{BuildFault as Fault};
 ghost use Rattle.sal_module.specs.declared.fault.Found.{Found as Hit};
 ghost use Rattle.sal_module.specs.Faults.{least, fault_of};
@@ -25,6 +24,7 @@ use crate::info::{infos_of as nodes_of, is_typed};
 use crate::leafrefs::{Targets, find_targets};
 use crate::lists::lists_fault;
 use crate::nodes::Nodes;
+use crate::old_bases::old_base_fault;
 use crate::tables::tables_of;
 use crate::typed::{NodeTypes, leafrefs_of_nodes, node_types, own_types};
 use crate::types::{type_name_fault, type_other_fault};
@@ -206,13 +206,14 @@ fn table_of(
 
 // ---- faults
 
-/// What a table is made from: modules, their typedefs and the forest of their nodes.
+/// What a table is made from: modules, their typedefs and the forest of their nodes. The modules before number `old` are those of an earlier version.
 #[derive(Drop)]
 struct Sources<'x, 'a> {
     alloc: Global,
     modules: &'a Modules,
     typedefs: &'x Typedefs<'a>,
     forest: &'x [Branch],
+    old: u32,
     ghost few: { length forest.now ≤ 65536 },
     ghost same: { typedefs.now ≡ modules.now } by { Prim.hlevel (codes, e.the_row.coded) },
 }
@@ -249,14 +250,26 @@ fn judge_lists(
     requires typedefs { typedefs.now ≡ nodes.now.modules.now }
     requires typed { AreTyped nodes.now.modules.now nodes.now.forest.now typed.now }
     requires edges { lists edges.now ≡ leads.edges_of nodes.now.modules.now nodes.now.forest.now }
-    requires names { least None (spec.name_faults nodes.now.modules.now nodes.now.forest.now) ≡ None }
-    requires types { least None (types.other_faults nodes.now.modules.now) ≡ None }
-    ensures { GivesUnless Fault.NoMemory (λ table. table) result (spec.judged nodes.now.modules.now nodes.now.forest.now) }
+    ensures { GivesUnless Fault.NoMemory (λ table. table) result (spec.listed nodes.now.modules.now nodes.now.forest.now) }
 {
     if let Some(found) = lists_fault(nodes)? {
         return Err(fault_in(nodes.alloc, found));
     }
     Ok(table_of(nodes, typedefs, typed, edges)?)
+}
+
+/// The first fault of types that is not one of names.
+fn other_fault(sources: &Sources) -> Result<Option<Found>, NoMemory>
+    ensures { IfOk result (λ found. found ≡ least None (spec.other_faults sources.now.old sources.now.modules.now)) }
+{
+    let best = type_other_fault(sources.alloc, sources.modules, sources.typedefs)?;
+    let more = old_base_fault(
+        sources.alloc,
+        sources.modules,
+        sources.typedefs,
+        sources.old,
+    )?;
+    Ok(merged(best, more))
 }
 
 /// The table of a forest whose names are good, or the first other fault of types, then of lists.
@@ -268,9 +281,9 @@ fn judge_types(
     requires typed { AreTyped sources.now.modules.now sources.now.forest.now typed.now }
     requires edges { lists edges.now ≡ leads.edges_of sources.now.modules.now sources.now.forest.now }
     requires names { least None (spec.name_faults sources.now.modules.now sources.now.forest.now) ≡ None }
-    ensures { GivesUnless Fault.NoMemory (λ table. table) result (spec.judged sources.now.modules.now sources.now.forest.now) }
+    ensures { GivesUnless Fault.NoMemory (λ table. table) result (spec.judged_on sources.now.old sources.now.modules.now sources.now.forest.now) }
 {
-    if let Some(found) = type_other_fault(sources.alloc, sources.modules, sources.typedefs)? {
+    if let Some(found) = other_fault(sources)? {
         return Err(fault_in(sources.alloc, found));
     }
     let tables = tables_of(sources.alloc, sources.modules, sources.forest)?;
@@ -292,7 +305,7 @@ fn judge_names(
     requires typed { AreTyped sources.now.modules.now sources.now.forest.now typed.now }
     requires edges { lists targets.now.edges.items ≡ leads.edges_of sources.now.modules.now sources.now.forest.now }
     requires fault { targets.now.fault ≡ least None (leads.all_faults sources.now.modules.now sources.now.forest.now) }
-    ensures { GivesUnless Fault.NoMemory (λ table. table) result (spec.judged sources.now.modules.now sources.now.forest.now) }
+    ensures { GivesUnless Fault.NoMemory (λ table. table) result (spec.judged_on sources.now.old sources.now.modules.now sources.now.forest.now) }
 {
     if let Some(found) = name_fault(sources, targets.fault)? {
         return Err(fault_in(sources.alloc, found));
@@ -313,7 +326,7 @@ fn targets_in(sources: &Sources, typed: &NodeTypes) -> Result<Targets, NoMemory>
 /// The table of a forest, or its first fault, by what the type statements of its nodes mean.
 fn judge_by_types(sources: &Sources, typed: &NodeTypes) -> Result<SchemaTable, BuildFault>
     requires { AreTyped sources.now.modules.now sources.now.forest.now typed.now }
-    ensures { GivesUnless Fault.NoMemory (λ table. table) result (spec.judged sources.now.modules.now sources.now.forest.now) }
+    ensures { GivesUnless Fault.NoMemory (λ table. table) result (spec.judged_on sources.now.old sources.now.modules.now sources.now.forest.now) }
 {
     let targets = targets_in(sources, typed)?;
     judge_names(sources, typed, &targets)
@@ -321,7 +334,7 @@ fn judge_by_types(sources: &Sources, typed: &NodeTypes) -> Result<SchemaTable, B
 
 /// The table of a forest, or its first fault, by its typedefs.
 fn judge_by_typedefs(sources: &Sources) -> Result<SchemaTable, BuildFault>
-    ensures { GivesUnless Fault.NoMemory (λ table. table) result (spec.judged sources.now.modules.now sources.now.forest.now) }
+    ensures { GivesUnless Fault.NoMemory (λ table. table) result (spec.judged_on sources.now.old sources.now.modules.now sources.now.forest.now) }
 {
     let typed = node_types(
         sources.alloc,
@@ -332,11 +345,16 @@ fn judge_by_typedefs(sources: &Sources) -> Result<SchemaTable, BuildFault>
     judge_by_types(sources, &typed)
 }
 
-/// The table of a forest, or the first fault of types, then of lists.
-fn judge(alloc: Global, modules: &Modules, forest: &Forest) -> Result<SchemaTable, BuildFault>
+/// The table of a forest, or the first fault of types, then of lists. The modules before number `old` are those of an earlier version.
+pub(crate) fn judge_on(
+    alloc: Global,
+    modules: &Modules,
+    old: u32,
+    forest: &Forest,
+) -> Result<SchemaTable, BuildFault>
     requires few { length forest.now ≤ 65536 }
     requires counted { steps_of modules.now < 2 ^ 32 }
-    ensures { GivesUnless Fault.NoMemory (λ table. table) result (spec.judged modules.now forest.now) }
+    ensures { GivesUnless Fault.NoMemory (λ table. table) result (spec.judged_on old modules.now forest.now) }
 {
     let typedefs = Typedefs::new(alloc, modules)?;
     let sources = Sources {
@@ -344,8 +362,22 @@ fn judge(alloc: Global, modules: &Modules, forest: &Forest) -> Result<SchemaTabl
         modules,
         typedefs: &typedefs,
         forest: forest.items(),
+        old,
     };
     judge_by_typedefs(&sources)
+}
+
+/// The table of a forest, or the first fault of types, then of lists. No module is of an earlier version.
+pub(crate) fn judge(
+    alloc: Global,
+    modules: &Modules,
+    forest: &Forest,
+) -> Result<SchemaTable, BuildFault>
+    requires few { length forest.now ≤ 65536 }
+    requires counted { steps_of modules.now < 2 ^ 32 }
+    ensures { GivesUnless Fault.NoMemory (λ table. table) result (spec.judged modules.now forest.now) }
+{
+    judge_on(alloc, modules, 0, forest)
 }
 
 /// The table of the schema of these modules, or their first fault.

@@ -2,6 +2,8 @@
 ghost use Rattle.std.specs.Prelude.{◌≡◌, [], ◌∷◌, None, codes};
 ghost use Rattle.sal_module.specs.Examples.{found, plain};
 ghost use Rattle.sal_build.specs.Examples as example;
+ghost use Rattle.sal_build.specs.Table.{infos_of};
+ghost use Rattle.sal_build.specs.VersionExamples as version;
 ghost use Rattle.sal_restrict.specs.declared.yang_type.YangType.{roll-YangType};
 ghost use Rattle.sal_restrict.specs.declared.yang_type.YangType.TheOpen.{YangType-F};
 ghost use Rattle.sal_build.specs.Filled.{empty, filled};
@@ -22,4 +24,19 @@ pub fn examples()
     ensures base { example.identity_fault (example.two_identities "b" "c") ≡ found Cause.UnknownName 0 22 }
     ensures flat { filled example.path_and_empty (example.union_of example.boolean ∷ []) ≡ roll-YangType (YangType-F.Union (example.boolean ∷ empty ∷ [])) }
     ensures circle { example.identity_fault (example.two_identities "b" "a") ≡ found Cause.NameCycle 0 12 }
+{}
+
+/// A later version says of the older numbers what the first one says; its new nodes follow. A call does nothing: its clauses are the laws.
+pub fn versions()
+    ensures first { infos_of (version.topo ∷ []) version.first_nodes ≡ version.first_lines }
+    ensures later { infos_of (version.topo ∷ version.geo ∷ []) version.later_nodes ≡ version.later_lines }
+{}
+
+/// Which bases a later version must not have. A call does nothing: its clauses are the laws.
+pub fn old_bases()
+    ensures old { example.old_base 1 "k:kind" ≡ found Cause.OldIdentity 1 32 }
+    ensures new { example.old_base 1 "root" ≡ None }
+    ensures none { example.old_base 1 "k:none" ≡ None }
+    ensures at_once { example.old_base 0 "k:kind" ≡ None }
+    ensures before { example.old_base 2 "k:kind" ≡ None }
 {}

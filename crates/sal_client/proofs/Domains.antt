@@ -1,5 +1,5 @@
 -- The schemas of the domains of a world, and the domains in which transactions begin.
-use Rattle.std.proofs.Common.{◌≡◌, ℕ, zero, suc, ◌-◌, ◌<◌, Bool, true, false, not, ◌&&◌, ◌||◌, List, [], ◌∷◌, ◌++◌, length, map, Option, None, Some, if◌then◌else◌, refl, ap, sym, ◌∙◌, subst, inl, inr, nat_eq}
+use Rattle.std.proofs.Common.{◌≡◌, ℕ, zero, suc, ◌-◌, ◌<◌, ◌≤◌, Bool, true, false, not, ◌&&◌, ◌||◌, List, [], ◌∷◌, ◌++◌, length, map, Option, None, Some, if◌then◌else◌, refl, ap, sym, ◌∙◌, subst, inl, inr, nat_eq, arith}
 use Rattle.std.specs.Prelude.{nat_lt, unwrap_or}
 use Rattle.std.specs.List.{fold, list_any}
 use Rattle.std.specs.Option.{option_map, option_or}
@@ -19,23 +19,33 @@ use Rattle.sal_history.specs.declared.reply.Reply.TheVariants.{Begun as BegunRep
 use Rattle.sal_history.specs.History.{Answered, chain_refusal, domain_of, failed_by, fault_if as call_fault_if, has_open, history, is_closed, is_live, refused_or as call_refused_or}
 use Rattle.sal_history.specs.Services.{mounted as all_mounts, mounting}
 use Rattle.sal_history.specs.World.{Domain, table_of}
-use Rattle.sal_schema.specs.declared.table.SchemaTable.{SchemaTable}
-use Rattle.sal_script.specs.Play.{table_in, tables_of}
+use Rattle.sal_script.specs.Tables.{has_upgrade, table_at, versions_of}
 use Rattle.sal_hub.specs.declared.chain.Chain.{Chain}
 use Rattle.sal_hub.specs.HubHistory.{HubHistory}
 use Rattle.sal_hub.specs.Tokens.{IsChain}
+use Rattle.sal_hub.specs.Upgrades.{upgrades_of}
 use Rattle.sal_client.specs.Clients.{IsWithin}
 
 -- ---- schemas
 
-pub table_in-of : (world : List Domain) (domain : ℕ) → table_in (tables_of world) domain ≡ table_of world domain
-table_in-of [] domain = refl
-table_in-of (d ∷ world) zero = refl
-table_in-of (d ∷ world) (suc domain) = table_in-of world domain
+pub table_at-of : (world : List Domain) (version domain : ℕ) → table_at (versions_of world) version domain ≡ table_of world version domain
+table_at-of [] version domain = refl
+table_at-of (d ∷ world) version zero = refl
+table_at-of (d ∷ world) version (suc domain) = table_at-of world version domain
 
-pub length-tables : (world : List Domain) → length (tables_of world) ≡ length world
+pub length-tables : (world : List Domain) → length (versions_of world) ≡ length world
 length-tables [] = refl
 length-tables (d ∷ world) = ap suc (length-tables world)
+
+-- a version that the script has is one of the world's
+pub upgrade_within : (world : List Domain) (version : ℕ) → has_upgrade (versions_of world) version ≡ true → (1 ≤ version) × (version ≤ upgrades_of world)
+upgrade_within [] version has = let parts = and_parts (nat_lt 0 version) (nat_lt version 0) has in absurd (omega (arith, ltb-true version 0 parts.1))
+upgrade_within (d ∷ world) version has =
+    let count : ℕ = length (d.table ∷ d.upgrades) in
+    let parts = and_parts (nat_lt 0 version) (nat_lt version count) has in
+    let low : 0 < version = ltb-true 0 version parts.0 in
+    let high : version < count = ltb-true version count parts.1 in
+    (omega (arith, low), omega (arith, high))
 
 -- ---- each device that was mounted is one of so many domains
 

@@ -19,7 +19,7 @@ use Rattle.sal_history.specs.declared.call.Entry.{Entry}
 use Rattle.sal_history.specs.declared.reply.Reply.{Reply}
 use Rattle.sal_history.specs.declared.reply.Reply.TheVariants.{Batch, Listener as Made, Refused}
 use Rattle.sal_history.specs.Listeners.{Listening, brings_to, has_listener, listener_at, listeners, version}
-use Rattle.sal_history.specs.World.{Domain, opening_of, table_of}
+use Rattle.sal_history.specs.World.{Domain, opening_of, last_of}
 use Rattle.sal_history.specs.History.{Answered, batch_of, commits, history, listen_refusal, listening, refused_or, reply_to, taken, trees_at}
 use Rattle.sal_script.proofs.Growing.{listener_later, more_commits, trees_later}
 use Rattle.sal_hub.specs.declared.listener.ListenerId.{ListenerId}
@@ -147,7 +147,7 @@ module _ (known : HubHistory) (number : ℕ) (f : Follower) (is : IsOwnListener 
   last = length (commits earlier f.id.domain)
 
   abbrev own : Bool
-  own = has_own_row (table_of known.world f.id.domain) f.path
+  own = has_own_row (last_of known.world f.id.domain) f.path
 
   abbrev batch_in : Reply → Told
   batch_in (Batch d x) = x

@@ -6,7 +6,6 @@ use Rattle.sal_types.specs.declared.value.Store.{Store}
 use Rattle.sal_types.specs.declared.value.Step.{Step}
 use Rattle.sal_rows.specs.declared.batch.Batch.{Batch as Told}
 use Rattle.sal_rows.specs.declared.batch.Opened.{Opened}
-use Rattle.sal_schema.specs.declared.table.SchemaTable.{SchemaTable}
 use Rattle.sal_pathtext.specs.declared.fault.PathTextFault.{PathTextFault}
 use Rattle.sal_pathtext.specs.Read.{read_path}
 use Rattle.sal_history.specs.declared.call.Call.{Call}
@@ -18,7 +17,8 @@ use Rattle.sal_rows.specs.declared.outcome.CallFault.{CallFault}
 use Rattle.sal_script.specs.declared.reply.StepReply.{StepReply}
 use Rattle.sal_script.specs.declared.reply.StepRefusal.TheVariants.{NoDevice}
 use Rattle.sal_script.specs.Moves.{Listen, Take}
-use Rattle.sal_script.specs.Play.{Client, Listener, Slots, at_version, has_domain, keep_taken, listen_at, meet, refused, set_slot, shared, table_in, take_batch}
+use Rattle.sal_script.specs.Play.{Client, Listener, Slots, at_version, keep_taken, listen_at, meet, refused, set_slot, shared, take_batch}
+use Rattle.sal_script.specs.Tables.{Versions, has_domain, last_in}
 use Rattle.sal_hub.specs.declared.chain.Chain.{Chain}
 use Rattle.sal_hub.specs.declared.listener.ListenerId.{ListenerId}
 use Rattle.sal_hub.specs.declared.receipt.Receipt.{Receipt}
@@ -44,12 +44,12 @@ id_in call = 0
 
 -- ---- what the steps come to
 
-pub met_listen : (tables : List SchemaTable) (known : HubHistory) (client : Client) (slot domain : ℕ) (store : Store) (text : List ℕ) (path : List Step) → read_path (table_in tables domain) text ≡ Ok path → has_domain tables domain ≡ true
+pub met_listen : (tables : List Versions) (known : HubHistory) (client : Client) (slot domain : ℕ) (store : Store) (text : List ℕ) (path : List Step) → read_path (last_in tables domain) text ≡ Ok path → has_domain tables domain ≡ true
     → meet tables known.world known.log client (Listen slot domain store text) ≡ shared (ListenCall domain store path)
 met_listen tables known client slot domain store text path read has =
-    ap (λ b. if b then listen_at domain store (read_path (table_in tables domain) text) client else refused NoDevice client) has ∙ ap (λ (r : Result (List Step) PathTextFault). listen_at domain store r client) read
+    ap (λ b. if b then listen_at domain store (read_path (last_in tables domain) text) client else refused NoDevice client) has ∙ ap (λ (r : Result (List Step) PathTextFault). listen_at domain store r client) read
 
-pub met_take : (tables : List SchemaTable) (known : HubHistory) (c : ClientState) (slot : ℕ) (f : Follower) → held c.listeners slot ≡ Some f → meet tables known.world known.log (client_of c) (Take slot) ≡ shared (TakeCall f.id.number)
+pub met_take : (tables : List Versions) (known : HubHistory) (c : ClientState) (slot : ℕ) (f : Follower) → held c.listeners slot ≡ Some f → meet tables known.world known.log (client_of c) (Take slot) ≡ shared (TakeCall f.id.number)
 met_take tables known c slot f found = ap (λ (o : Option Follower). take_batch (client_of c) (option_map listener_of o)) found
 
 -- ---- what they leave in the slots

@@ -5,10 +5,10 @@ use Rattle.sal_history.specs.declared.call.Call.{Call}
 use Rattle.sal_history.specs.declared.call.Entry.{Entry}
 use Rattle.sal_history.specs.declared.reply.Reply.{Reply}
 use Rattle.sal_history.specs.declared.reply.Reply.TheVariants.{Refused}
-use Rattle.sal_schema.specs.declared.table.SchemaTable.{SchemaTable}
 use Rattle.sal_script.specs.declared.reply.StepReply.{StepReply}
 use Rattle.sal_script.specs.declared.reply.StepReply.TheVariants.{Called}
-use Rattle.sal_script.specs.Play.{keep, meet, shared}
+use Rattle.sal_script.specs.Play.{spot_after, keep, meet, shared}
+use Rattle.sal_script.specs.Tables.{Versions}
 use Rattle.sal_hub.specs.Answers.{Calls, Fails, Made}
 use Rattle.sal_hub.specs.HubHistory.{HubHistory, entry_of}
 use Rattle.sal_client.specs.declared.client.ClientState.{ClientState}
@@ -28,14 +28,14 @@ module _ (wish : Wish) (known known' : HubHistory) (old : ClientState) (call : C
 
   -- the step asks for the call
   abbrev pub Asks : Type 0
-  Asks = (tables : List SchemaTable) → ReadBy tables wish → meet tables known.world known.log (client_of old) (move_by wish) ≡ shared call
+  Asks = (tables : List Versions) → ReadBy tables wish → meet tables known.world known.log (client_of old) (move_by wish) ≡ shared call
 
   -- the client stays sound behind a call that takes nothing
   pub sound_behind : TokensLast → is_take call ≡ false → (answer : Reply) → Made known known' e answer → IsSound known old → IsSound known' old
   sound_behind lasts quiet answer made sound = subst (λ (k : HubHistory). IsSound k old) (sym made.log) (IsSound-more lasts known e old quiet sound)
 
   module _ (new : ClientState) (same : Same old new) where
-    pub leaves_made : Asks → (answer : Reply) (r : StepReply) → Made known known' e answer → r ≡ Called answer → client_of new ≡ keep (length known.log) (move_by wish) answer (client_of old) → IsSound known' new → IsMadeBy wish known old known' new r
+    pub leaves_made : Asks → (answer : Reply) (r : StepReply) → Made known known' e answer → r ≡ Called answer → client_of new ≡ keep (spot_after known.world known.log) (move_by wish) answer (client_of old) → IsSound known' new → IsMadeBy wish known old known' new r
     leaves_made asks answer r made replied kept sound = record {
       answers = λ tables read. (call, called tables r old.number known (client_of old) (move_by wish) known' (client_of new) call answer (asks tables read) made replied kept);
       grows = (e, refl, made.log);
@@ -43,7 +43,7 @@ module _ (wish : Wish) (known known' : HubHistory) (old : ClientState) (call : C
       same = same;
     }
 
-    pub leaves_refused : Asks → (fault : CallFault) (result : Result StepReply RunFault) → Fails known known' e fault → IsAnswer (Err fault) result → client_of new ≡ keep (length known.log) (move_by wish) (Refused fault) (client_of old) → (Made known known' e (Refused fault) → IsSound known' new)
+    pub leaves_refused : Asks → (fault : CallFault) (result : Result StepReply RunFault) → Fails known known' e fault → IsAnswer (Err fault) result → client_of new ≡ keep (spot_after known.world known.log) (move_by wish) (Refused fault) (client_of old) → (Made known known' e (Refused fault) → IsSound known' new)
         → Leaves wish known old known' new result
     leaves_refused asks fault (Ok r) fails is kept sound =
         let made = made_refused known known' e fault fails is.1 is.2 in
@@ -55,7 +55,7 @@ module _ (wish : Wish) (known known' : HubHistory) (old : ClientState) (call : C
   leaves_in_vain new answer made = inr (e, refl, made.log)
 
   -- a call that changes no slot
-  pub leaves_slots : {X : Type 0} → TokensLast → is_take call ≡ false → IsSound known old → Asks → ((r : Reply) → keep (length known.log) (move_by wish) r (client_of old) ≡ client_of old)
+  pub leaves_slots : {X : Type 0} → TokensLast → is_take call ≡ false → IsSound known old → Asks → ((r : Reply) → keep (spot_after known.world known.log) (move_by wish) r (client_of old) ≡ client_of old)
       → (good : X → Reply) (given : Result X CallFault) (result : Result StepReply RunFault) → Calls known known' e good given → IsAnswer (said good given) result → Leaves wish known old known' old result
   leaves_slots lasts quiet sound asks kept good (Ok x) (Ok r) made is = leaves_made old (record { number = refl; replies = refl }) asks (good x) r made is (sym (kept (good x))) (sound_behind lasts quiet (good x) made sound)
   leaves_slots lasts quiet sound asks kept good (Ok x) (Err why) made is = absurd is

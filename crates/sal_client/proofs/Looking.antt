@@ -14,7 +14,8 @@ use Rattle.sal_script.specs.declared.reply.StepReply.TheVariants as reply
 use Rattle.sal_script.specs.declared.reply.StepRefusal.{StepRefusal}
 use Rattle.sal_script.specs.declared.reply.StepRefusal.TheVariants.{EmptySlot}
 use Rattle.sal_script.specs.Moves.{Mirror}
-use Rattle.sal_script.specs.Play.{Client, local, look_at, look_in, look_with, meet, mirror, seen_by, table_in}
+use Rattle.sal_script.specs.Play.{Client, local, look_at, look_in, look_with, meet, mirror, seen_by}
+use Rattle.sal_script.specs.Tables.{Versions, table_at}
 use Rattle.sal_script.specs.Services.{path_or}
 use Rattle.sal_hub.specs.HubHistory.{HubHistory}
 use Rattle.sal_hub.specs.Tokens.{base_of, begun_of, mode_of, ops_of}
@@ -30,7 +31,7 @@ use Rattle.sal_client.specs.Slots.{held}
 use Rattle.sal_client.proofs.Reading.{path_ok}
 use Rattle.sal_client.proofs.Soundness.{based}
 
-looks : (tables : List SchemaTable) (known : HubHistory) (client : Client) (slot : ℕ) (store : Store) (text : List ℕ) (look : Look) → meet tables known.world known.log client (look_move slot store text look) ≡ look_with tables known.world known.log (shown_by look) store text client (client.transactions slot)
+looks : (tables : List Versions) (known : HubHistory) (client : Client) (slot : ℕ) (store : Store) (text : List ℕ) (look : Look) → meet tables known.world known.log client (look_move slot store text look) ≡ look_with tables known.world known.log (shown_by look) store text client (client.transactions slot)
 looks tables known client slot store text Read = refl
 looks tables known client slot store text Exists = refl
 
@@ -38,13 +39,13 @@ refused_at : (f : List Step → StepReply) (domain : ℕ) (mode : Mode) (read : 
 refused_at f domain mode (Ok path) client refusal bad = cc
 refused_at f domain mode (Err fault) client refusal bad = cc
 
-module _ (tables : List SchemaTable) (c : ClientState) (slot : ℕ) (store : Store) (text : List ℕ) (look : Look) where
+module _ (tables : List Versions) (c : ClientState) (slot : ℕ) (store : Store) (text : List ℕ) (look : Look) where
   -- an empty slot
   pub looks_nowhere : held c.transactions slot ≡ None → Answers tables c (look_move slot store text look) (reply.Refused EmptySlot) c
   looks_nowhere none known is of =
       looks tables known (client_of c) slot store text look ∙ ap (λ (o : Option Tx). look_with tables known.world known.log (shown_by look) store text (client_of c) (option_map open_of o)) none
 
-  module _ (tx : Tx) (found : held c.transactions slot ≡ Some tx) (own : SchemaTable) (by : own ≡ table_in tables (begun_of tx).domain) where
+  module _ (tx : Tx) (found : held c.transactions slot ≡ Some tx) (own : SchemaTable) (by : own ≡ table_at tables (begun_of tx).version (begun_of tx).domain) where
     -- what the transaction shows at a path
     abbrev shown : HubHistory → List Step → StepReply
     shown known path = shown_by look (open_of tx) path (seen_by known.world known.log (open_of tx) store)
@@ -66,10 +67,10 @@ module _ (tables : List SchemaTable) (c : ClientState) (slot : ℕ) (store : Sto
     looks_badly refusal bad known is of = at_tx known ∙ refused_at (shown known) (begun_of tx).domain (mode_of tx) (read_path own text) (client_of c) refusal bad
 
 -- the rows that follow a listener
-pub mirrors_nothing : (tables : List SchemaTable) (c : ClientState) (slot : ℕ) → held c.listeners slot ≡ None → Answers tables c (Mirror slot) (reply.Refused EmptySlot) c
+pub mirrors_nothing : (tables : List Versions) (c : ClientState) (slot : ℕ) → held c.listeners slot ≡ None → Answers tables c (Mirror slot) (reply.Refused EmptySlot) c
 mirrors_nothing tables c slot none known is of = ap (λ (o : Option Follower). mirror known.world known.log (client_of c) (option_map listener_of o)) none
 
-pub mirrors : (tables : List SchemaTable) (c : ClientState) (slot : ℕ) (f : Follower) (r : StepReply) → held c.listeners slot ≡ Some f → r ≡ reply.Mirror f.id.domain f.path f.mirror.version f.mirror.rows → Answers tables c (Mirror slot) r c
+pub mirrors : (tables : List Versions) (c : ClientState) (slot : ℕ) (f : Follower) (r : StepReply) → held c.listeners slot ≡ Some f → r ≡ reply.Mirror f.id.domain f.path f.mirror.version f.mirror.rows → Answers tables c (Mirror slot) r c
 mirrors tables c slot f r found shown known is of =
     let follows = is.followers slot f found in
     ap (λ (o : Option Follower). mirror known.world known.log (client_of c) (option_map listener_of o)) found

@@ -2,7 +2,7 @@
 use Rattle.std.proofs.Common.{◌≡◌, List, None, Some, Result, Ok, refl, ◌∙◌, subst}
 use Rattle.std.specs.Prelude.{IfOk}
 use Rattle.sal_types.specs.declared.memory.NoMemory.{NoMemory as Wanting}
-use Rattle.sal_schema.specs.declared.table.SchemaTable.{SchemaTable}
+use Rattle.sal_script.specs.Tables.{Versions}
 use Rattle.sal_script.specs.Moves.{Move}
 use Rattle.sal_script.specs.declared.reply.StepReply.{StepReply}
 use Rattle.sal_script.specs.declared.reply.StepReply.TheVariants as reply
@@ -24,7 +24,7 @@ pub refused_by_reply : (fault : StepFault) (r : StepReply) (old new : ClientStat
 refused_by_reply (Refused refusal) r old new is kept = subst (λ (x : StepReply). IsReplied x old new) is kept
 refused_by_reply NoMemory r old new is kept = is
 
-module _ (tables : List SchemaTable) (old : ClientState) (step : Move) where
+module _ (tables : List Versions) (old : ClientState) (step : Move) where
   -- a local step
   pub met_answered : (r : StepReply) (between new : ClientState) → IsAnswered tables old step r between → IsReplied r between new → IsMet tables old step None new
   met_answered r between new is kept = record {
@@ -53,5 +53,5 @@ module _ (tables : List SchemaTable) (old : ClientState) (step : Move) where
   only_answers r has is = record { answers = is; sound = stays old; schema = has; same = record { number = refl; replies = refl } }
 
 -- the same step
-pub for_step : (tables : List SchemaTable) (old new : ClientState) (step other : Move) (result : Result StepReply Wanting) → step ≡ other → IfOk result (λ r. IsAnswered tables old step r new) → IfOk result (λ r. IsAnswered tables old other r new)
+pub for_step : (tables : List Versions) (old new : ClientState) (step other : Move) (result : Result StepReply Wanting) → step ≡ other → IfOk result (λ r. IsAnswered tables old step r new) → IfOk result (λ r. IsAnswered tables old other r new)
 for_step tables old new step other result same is = subst (λ (m : Move). IfOk result (λ r. IsAnswered tables old m r new)) same is

@@ -4,8 +4,8 @@ use Rattle.std.specs.Prelude.{OnOk}
 use Rattle.std.specs.Option.{option_map}
 use Rattle.std.proofs.lemmas.Bool.Decides.{nat_tests}
 use Rattle.sal_tx.specs.declared.tx.Tx.{Tx}
-use Rattle.sal_schema.specs.declared.table.SchemaTable.{SchemaTable}
 use Rattle.sal_script.specs.Play.{set_slot}
+use Rattle.sal_script.specs.Tables.{Versions}
 use Rattle.sal_client.specs.declared.client.ClientState.{ClientState}
 use Rattle.sal_client.specs.Clients.{HasSchema, IsWithin, domain_of, open_of, opened}
 use Rattle.sal_client.specs.Slots.{held}
@@ -69,7 +69,7 @@ on_ok (Ok x) f p = f p
 on_ok (Err e) f p = tt
 
 -- the domain of a slot's transaction is one of those that are read, and an empty slot stands for the controller's own
-pub opened_within : (tables : List SchemaTable) (c : ClientState) (slot domain : ℕ) → domain ≡ domain_of (opened c slot) → HasSchema tables c → IsWithin (length tables) domain
+pub opened_within : (tables : List Versions) (c : ClientState) (slot domain : ℕ) → domain ≡ domain_of (opened c slot) → HasSchema tables c → IsWithin (length tables) domain
 opened_within tables c slot domain is has = subst (IsWithin (length tables)) (sym is) (by (held c.transactions slot) refl)
   where
     by : (o : Option Tx) → held c.transactions slot ≡ o → IsWithin (length tables) (domain_of (option_map open_of o))

@@ -1,10 +1,10 @@
 -- The play of an order from its beginning.
 use Rattle.std.proofs.Common.{◌≡◌, ℕ, List, [], length, Result, Err, sym, subst}
 use Rattle.sal_history.specs.World.{Domain}
-use Rattle.sal_schema.specs.declared.table.SchemaTable.{SchemaTable}
 use Rattle.sal_script.specs.declared.script.ScriptStep.{ScriptStep}
 use Rattle.sal_script.specs.Moves.{clients_of}
-use Rattle.sal_script.specs.Play.{Played, play, play_from, start, tables_of}
+use Rattle.sal_script.specs.Play.{Played, play, play_from, start}
+use Rattle.sal_script.specs.Tables.{Versions, versions_of}
 use Rattle.sal_hub.specs.HubHistory.{HubHistory}
 use Rattle.sal_client.specs.declared.run.ClientRun.{ClientRun}
 use Rattle.sal_client.specs.declared.simulation.Played.{Played as CodePlayed}
@@ -17,7 +17,7 @@ use Rattle.sal_client.specs.Runs.{stand_of, PlaysAs}
 pub wanting : (world : List Domain) (why : PlayFault) (played : Result Played ℕ) → why ≡ NoMemory → PlaysAs world (Err why) played
 wanting world why played is = subst (λ (w : PlayFault). PlaysAs world (Err w) played) (sym is) tt
 
-module _ (tables : List SchemaTable) (known : HubHistory) (ps : List (List ScriptStep)) (order : List ℕ) (s : Simulation) (of : tables ≡ tables_of known.world) (same : s.hub ≡ known) (stands : stand_of ps s.hub.log s.runs.items ≡ start (clients_of ps)) where
+module _ (tables : List Versions) (known : HubHistory) (ps : List (List ScriptStep)) (order : List ℕ) (s : Simulation) (of : tables ≡ versions_of known.world) (same : s.hub ≡ known) (stands : stand_of ps s.hub.log s.runs.items ≡ start (clients_of ps)) where
   from_start : play_from tables s.hub.world 0 (stand_of ps s.hub.log s.runs.items) order ≡ play known.world (clients_of ps) order
   from_start = λ i. play_from (of i) (same i).world 0 (stands i) order
 

@@ -16,8 +16,8 @@ use Rattle.sal_history.specs.declared.call.Call.{Call}
 use Rattle.sal_history.specs.declared.call.Call.TheVariants.{Take}
 use Rattle.sal_history.specs.Submissions.{Base}
 use Rattle.sal_history.specs.World.{Domain}
-use Rattle.sal_schema.specs.declared.table.SchemaTable.{SchemaTable}
-use Rattle.sal_script.specs.Play.{set_slot, table_in, tables_of}
+use Rattle.sal_script.specs.Play.{set_slot}
+use Rattle.sal_script.specs.Tables.{Versions, table_at, versions_of}
 use Rattle.sal_hub.specs.declared.call_id.CallId.{CallId}
 use Rattle.sal_hub.specs.declared.chain.Chain.{Chain}
 use Rattle.sal_hub.specs.declared.receipt.Receipt.{Receipt}
@@ -28,7 +28,7 @@ use Rattle.sal_client.specs.declared.follower.Follower.{Follower}
 use Rattle.sal_client.specs.Clients.{HasSchema, IsOwn, IsSound, IsSteady, IsWithin}
 use Rattle.sal_client.specs.Followers.{Follows, IsOwnListener}
 use Rattle.sal_client.specs.Slots.{held}
-use Rattle.sal_client.proofs.Domains.{length-tables, table_in-of}
+use Rattle.sal_client.proofs.Domains.{length-tables, table_at-of}
 use Rattle.sal_client.proofs.Following.{follows_on, listener_stays}
 use Rattle.sal_client.proofs.Places.{each_emptied, each_filled}
 
@@ -103,13 +103,13 @@ module _ (lasts : TokensLast) where
   pub IsSound-more : (known : HubHistory) (e : Entry) (c : ClientState) → is_take e.call ≡ false → IsSound known c → IsSound (more known e) c
   IsSound-more known e c quiet is = IsSound-quiet known e c (λ id own taken. true≢false (sym (ap is_take taken) ∙ quiet)) is
 
--- a steady client's transactions have the schemas of their domains
-pub HasSchema-sound : (tables : List SchemaTable) (known : HubHistory) (c : ClientState) → IsSteady known c → tables ≡ tables_of known.world → HasSchema tables c
+-- a steady client's transactions have the versions by which they began
+pub HasSchema-sound : (tables : List Versions) (known : HubHistory) (c : ClientState) → IsSteady known c → tables ≡ versions_of known.world → HasSchema tables c
 HasSchema-sound tables known c is of k tx at =
     let own = is.transactions k tx at in
     record {
-      within = subst (λ n. IsWithin n (begun_of tx).domain) (sym (length-tables known.world) ∙ ap (λ (ts : List SchemaTable). length ts) (sym of)) own.within;
-      schema = own.token.schema ∙ sym (table_in-of known.world (begun_of tx).domain) ∙ ap (λ (ts : List SchemaTable). table_in ts (begun_of tx).domain) (sym of);
+      within = subst (λ n. IsWithin n (begun_of tx).domain) (sym (length-tables known.world) ∙ ap (λ (ts : List Versions). length ts) (sym of)) own.within;
+      schema = own.token.schema ∙ sym (table_at-of known.world (begun_of tx).version (begun_of tx).domain) ∙ ap (λ (ts : List Versions). table_at ts (begun_of tx).version (begun_of tx).domain) (sym of);
     }
 
 -- the trees that a transaction stands on

@@ -12,6 +12,7 @@ use Rattle.sal_script.specs.declared.reply.StepReply.{StepReply}
 use Rattle.sal_script.specs.declared.script.ScriptStep.{ScriptStep}
 use Rattle.sal_script.specs.Limits.{within_limits}
 use Rattle.sal_script.specs.Play.{Arrival, Client, Made, Run, PlayState, arrive, calls, cons_replies, ended, go, make, new_client, replies_at, replies_of, state_with, turn, turn_of}
+use Rattle.sal_script.specs.Tables.{Versions}
 use Rattle.sal_client.specs.declared.run.ClientRun.{ClientRun as CodeRun}
 use Rattle.sal_hub.specs.HubHistory.{HubHistory, more}
 use Rattle.sal_hub.specs.Answers.{limit}
@@ -23,7 +24,6 @@ use Rattle.sal_history.specs.World.{Domain}
 use Rattle.sal_script.specs.JsonMoves.{have_json_moves}
 use Rattle.sal_script.specs.Moves.{Move, clients_of, moves_of}
 use Rattle.sal_client.proofs.Values.{program_at}
-use Rattle.sal_schema.specs.declared.table.SchemaTable.{SchemaTable}
 
 -- ---- by index
 
@@ -105,15 +105,15 @@ AreRuns-set lasts known known' ps rs c p old new are (e, by, is) on h at_p at_ol
 
 -- ---- one number of the order
 
-pub turn-none : (tables : List SchemaTable) (known : HubHistory) (ps : List (List ScriptStep)) (rs : List CodeRun) (c : ℕ) → AreRuns known ps rs → length rs ≤ c → turn tables known.world (stand_of ps known.log rs) c ≡ None
+pub turn-none : (tables : List Versions) (known : HubHistory) (ps : List (List ScriptStep)) (rs : List CodeRun) (c : ℕ) → AreRuns known ps rs → length rs ≤ c → turn tables known.world (stand_of ps known.log rs) c ≡ None
 turn-none tables known ps rs c are h = ap (turn_of tables known.world (stand_of ps known.log rs) c) (runs_of-none ps rs c are.long h)
 
-pub turn-made : (tables : List SchemaTable) (world : List Domain) (log log' : List Entry) (ps : List (List ScriptStep)) (rs : List CodeRun) (c : ℕ) (p : List ScriptStep) (old new : CodeRun) → length rs ≡ length ps → c < length rs → p ≡ get_or ps c p → old ≡ get_or rs c old → go tables world log c (run_of p old) ≡ Some (record { log = log'; run = run_of p new }) → turn tables world (stand_of ps log rs) c ≡ Some (stand_of ps log' (set rs c new))
+pub turn-made : (tables : List Versions) (world : List Domain) (log log' : List Entry) (ps : List (List ScriptStep)) (rs : List CodeRun) (c : ℕ) (p : List ScriptStep) (old new : CodeRun) → length rs ≡ length ps → c < length rs → p ≡ get_or ps c p → old ≡ get_or rs c old → go tables world log c (run_of p old) ≡ Some (record { log = log'; run = run_of p new }) → turn tables world (stand_of ps log rs) c ≡ Some (stand_of ps log' (set rs c new))
 turn-made tables world log log' ps rs c p old new long h at_p at_old goes =
     ap (turn_of tables world (stand_of ps log rs) c) (runs_of-at ps rs c p old long h at_p at_old) ∙ ap (state_with (stand_of ps log rs) c) goes
     ∙ ap (λ (us : List Run). Some (let s : PlayState = record { log = log'; runs = us } in s)) (sym (runs_of-set ps rs c p new long h at_p))
 
-pub turn-ended : (tables : List SchemaTable) (world : List Domain) (log : List Entry) (ps : List (List ScriptStep)) (rs : List CodeRun) (c : ℕ) (p : List ScriptStep) (old : CodeRun) (client : Client) → length rs ≡ length ps → c < length rs → p ≡ get_or ps c p → old ≡ get_or rs c old → arrive tables world log (client_of old.client) (moves_from old.at p) ≡ ended client → turn tables world (stand_of ps log rs) c ≡ None
+pub turn-ended : (tables : List Versions) (world : List Domain) (log : List Entry) (ps : List (List ScriptStep)) (rs : List CodeRun) (c : ℕ) (p : List ScriptStep) (old : CodeRun) (client : Client) → length rs ≡ length ps → c < length rs → p ≡ get_or ps c p → old ≡ get_or rs c old → arrive tables world log (client_of old.client) (moves_from old.at p) ≡ ended client → turn tables world (stand_of ps log rs) c ≡ None
 turn-ended tables world log ps rs c p old client long h at_p at_old arrived =
     ap (turn_of tables world (stand_of ps log rs) c) (runs_of-at ps rs c p old long h at_p at_old) ∙ ap (λ a. state_with (stand_of ps log rs) c (make tables world log c a)) arrived
 
@@ -129,7 +129,7 @@ with_replies-cons done rs None = refl
 with_replies-cons done rs (Some rest) = ap Some (sym (append_assoc done (rs ∷ []) rest))
 
 -- a client that made a call has not come to its end
-not_ended : (tables : List SchemaTable) (world : List Domain) (log : List Entry) (c : ℕ) (a : Arrival) (made : Made) → make tables world log c a ≡ Some made → replies_at a ≡ None
+not_ended : (tables : List Versions) (world : List Domain) (log : List Entry) (c : ℕ) (a : Arrival) (made : Made) → make tables world log c a ≡ Some made → replies_at a ≡ None
 not_ended tables world log c (ended client) made e = cc
 not_ended tables world log c (calls call step run) made e = refl
 
@@ -137,13 +137,13 @@ from_index : (ps : List (List ScriptStep)) (rs : List CodeRun) (i : ℕ) (p : Li
 from_index ps rs i p r h g at_p at_r =
     (λ k. runs_of (drop_more ps i p g k) (drop_more rs i r h k)) ∙ (λ k. run_of (sym at_p k) (sym at_r k) ∷ runs_of (drop (i + 1) ps) (drop (i + 1) rs))
 
-pub end-client : (tables : List SchemaTable) (world : List Domain) (log : List Entry) (ps : List (List ScriptStep)) (rs : List CodeRun) (i : ℕ) (p : List ScriptStep) (r : CodeRun) (client : Client) (done : List (List StepReply)) → i < length rs → i < length ps → p ≡ get_or ps i p → r ≡ get_or rs i r → arrive tables world log (client_of r.client) (moves_from r.at p) ≡ ended client → with_replies done (replies_of tables world log (runs_of (drop i ps) (drop i rs))) ≡ with_replies (done ++ client.replies ∷ []) (replies_of tables world log (runs_of (drop (i + 1) ps) (drop (i + 1) rs)))
+pub end-client : (tables : List Versions) (world : List Domain) (log : List Entry) (ps : List (List ScriptStep)) (rs : List CodeRun) (i : ℕ) (p : List ScriptStep) (r : CodeRun) (client : Client) (done : List (List StepReply)) → i < length rs → i < length ps → p ≡ get_or ps i p → r ≡ get_or rs i r → arrive tables world log (client_of r.client) (moves_from r.at p) ≡ ended client → with_replies done (replies_of tables world log (runs_of (drop i ps) (drop i rs))) ≡ with_replies (done ++ client.replies ∷ []) (replies_of tables world log (runs_of (drop (i + 1) ps) (drop (i + 1) rs)))
 end-client tables world log ps rs i p r client done h g at_p at_r arrived =
     let rest = replies_of tables world log (runs_of (drop (i + 1) ps) (drop (i + 1) rs)) in
     ap (λ (us : List Run). with_replies done (replies_of tables world log us)) (from_index ps rs i p r h g at_p at_r)
     ∙ ap (λ a. with_replies done (cons_replies (replies_at a) rest)) arrived ∙ with_replies-cons done client.replies rest
 
-pub end-call : (tables : List SchemaTable) (world : List Domain) (log : List Entry) (ps : List (List ScriptStep)) (rs : List CodeRun) (i c : ℕ) (p : List ScriptStep) (r : CodeRun) (made : Made) (done : List (List StepReply)) → i < length rs → i < length ps → p ≡ get_or ps i p → r ≡ get_or rs i r → go tables world log c (run_of p r) ≡ Some made → with_replies done (replies_of tables world log (runs_of (drop i ps) (drop i rs))) ≡ None
+pub end-call : (tables : List Versions) (world : List Domain) (log : List Entry) (ps : List (List ScriptStep)) (rs : List CodeRun) (i c : ℕ) (p : List ScriptStep) (r : CodeRun) (made : Made) (done : List (List StepReply)) → i < length rs → i < length ps → p ≡ get_or ps i p → r ≡ get_or rs i r → go tables world log c (run_of p r) ≡ Some made → with_replies done (replies_of tables world log (runs_of (drop i ps) (drop i rs))) ≡ None
 end-call tables world log ps rs i c p r made done h g at_p at_r goes =
     let rest = replies_of tables world log (runs_of (drop (i + 1) ps) (drop (i + 1) rs)) in
     ap (λ (us : List Run). with_replies done (replies_of tables world log us)) (from_index ps rs i p r h g at_p at_r)
@@ -187,7 +187,7 @@ AreRuns-fresh known ps rs none limits json long fresh = record {
 
 -- ---- what the simulation does
 
-pub turned : TokensLast → (tables : List SchemaTable) (made : Bool) (known known' : HubHistory) (ps : List (List ScriptStep)) (rs : List CodeRun) (c : ℕ) (p : List ScriptStep) (old new : CodeRun) → AreRuns known ps rs → c < length rs → p ≡ get_or ps c p → old ≡ get_or rs c old → Goes tables made old.client.number known p old known' new → IsRun known' p new → new.client.number ≡ old.client.number → Turns tables made ps c known rs known' (set rs c new)
+pub turned : TokensLast → (tables : List Versions) (made : Bool) (known known' : HubHistory) (ps : List (List ScriptStep)) (rs : List CodeRun) (c : ℕ) (p : List ScriptStep) (old new : CodeRun) → AreRuns known ps rs → c < length rs → p ≡ get_or ps c p → old ≡ get_or rs c old → Goes tables made old.client.number known p old known' new → IsRun known' p new → new.client.number ≡ old.client.number → Turns tables made ps c known rs known' (set rs c new)
 turned lasts tables true known known' ps rs c p old new are h at_p at_old goes run number =
     let same = (are.each c p old h at_p at_old).1 in (
       turn-made tables known.world known.log known'.log ps rs c p old new are.long h at_p at_old (subst (λ n. go tables known.world known.log n (run_of p old) ≡ Some (let made : Made = record { log = known'.log; run = run_of p new } in made)) same goes.0),
@@ -212,7 +212,7 @@ map_push (x ∷ rs) r = ap (λ (us : List (List StepReply)). replies_in x ∷ us
 pub replies_push : (rs : List CodeRun) (i : ℕ) (new : CodeRun) → i < length rs → map replies_in (take (i + 1) (set rs i new)) ≡ map replies_in (take i rs) ++ replies_in new ∷ []
 replies_push rs i new h = ap (map replies_in) (take-set_at rs i (i + 1) new refl h) ∙ map_push (take i rs) new
 
-pub all_ended : (tables : List SchemaTable) (world : List Domain) (log : List Entry) (ps : List (List ScriptStep)) (rs now : List CodeRun) (i : ℕ) → length rs ≤ i → length ps ≤ i → length now ≤ i → with_replies (map replies_in (take i now)) (replies_of tables world log (runs_of (drop i ps) (drop i rs))) ≡ Some (map replies_in now)
+pub all_ended : (tables : List Versions) (world : List Domain) (log : List Entry) (ps : List (List ScriptStep)) (rs now : List CodeRun) (i : ℕ) → length rs ≤ i → length ps ≤ i → length now ≤ i → with_replies (map replies_in (take i now)) (replies_of tables world log (runs_of (drop i ps) (drop i rs))) ≡ Some (map replies_in now)
 all_ended tables world log ps rs now i h g k =
     (λ j. with_replies (map replies_in (take_all i now k j)) (replies_of tables world log (runs_of (drop_all i ps g j) (drop_all i rs h j)))) ∙ ap Some (append-nil (map replies_in now))
 

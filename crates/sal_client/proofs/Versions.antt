@@ -9,7 +9,7 @@ use Rattle.sal_types.specs.declared.value.Step.{Step}
 use Rattle.sal_rows.specs.declared.outcome.CallFault.{CallFault}
 use Rattle.sal_rows.specs.declared.outcome.CallFault.TheVariants.{NoListener}
 use Rattle.sal_history.specs.declared.call.Call.{Call}
-use Rattle.sal_history.specs.declared.call.Call.TheVariants.{After, Answer, Begin, Cancel, ChainBegin, CloseChain, Collect, Invoke, Listen, Mark, Mount, MountAt, NextCall, Offer, OpenChain, Provide, Pump, Settle, Submit, Subscribe, Take, TakeNotes, Unlisten, Unmount, Withdraw}
+use Rattle.sal_history.specs.declared.call.Call.TheVariants.{Upgrade, After, Answer, Begin, Cancel, ChainBegin, CloseChain, Collect, Invoke, Listen, Mark, Mount, MountAt, NextCall, Offer, OpenChain, Provide, Pump, Settle, Submit, Subscribe, Take, TakeNotes, Unlisten, Unmount, Withdraw}
 use Rattle.sal_history.specs.declared.call.Entry.{Entry}
 use Rattle.sal_history.specs.declared.reply.Reply.TheVariants.{Refused}
 use Rattle.sal_history.specs.Listeners.{Listening, brings_to, has_listener, is_removed, listener_at, listeners, version}
@@ -72,6 +72,7 @@ module _ (world : List Domain) (log : List Entry) (e : Entry) (id : ℕ) (l : Li
   not_brought (MountAt path) is = refl
   not_brought (Mark mark) is = refl
   not_brought (After mark) is = refl
+  not_brought (Upgrade version) is = refl
 
   pub brings_nothing : brings_to e.call (reply_to world (history world log) e.client e.call) id ≡ None
   brings_nothing = not_brought e.call refl

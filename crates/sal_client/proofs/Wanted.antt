@@ -16,7 +16,8 @@ use Rattle.sal_script.specs.declared.reply.StepRefusal.TheVariants.{EmptySlot, N
 use Rattle.sal_script.specs.Messages.{input_of, output_of, rpc_called}
 use Rattle.sal_script.specs.Moves as asked
 use Rattle.sal_script.specs.Moves.{Move}
-use Rattle.sal_script.specs.Play.{Client, ask, has_domain, listen_at, meet, refused, table_in}
+use Rattle.sal_script.specs.Play.{Client, ask, listen_at, meet, refused}
+use Rattle.sal_script.specs.Tables.{Versions, has_domain, last_in}
 use Rattle.sal_script.specs.Services as services
 use Rattle.sal_script.specs.Services.{OrRefusal, context_of, if_known, path_or, rows_of}
 use Rattle.sal_hub.specs.HubHistory.{HubHistory}
@@ -93,12 +94,12 @@ service_reads table name text rpc context known is = ap (λ r. r >>= (λ n. cont
 
 -- ---- what steps ask for
 
-module _ (tables : List SchemaTable) (c : ClientState) where
+module _ (tables : List Versions) (c : ClientState) where
   abbrev client : Client
   client = client_of c
 
   abbrev table : SchemaTable
-  table = table_in tables 0
+  table = last_in tables 0
 
   -- what a service refuses
   pub refused_by : (step : Move) (call : OrRefusal Call) (fault : StepFault) → ((known : HubHistory) → meet tables known.world known.log client step ≡ ask call client) → Refuses fault call → IsRefused tables c step fault
@@ -170,14 +171,14 @@ module _ (tables : List SchemaTable) (c : ClientState) where
   not_listened domain store false path refusal is = cc
 
   no_listen : (slot domain : ℕ) (store : Store) (text : List ℕ) (fault : StepFault) → Refuses fault (path_in tables domain text) → IsRefused tables c (asked.Listen slot domain store text) fault
-  no_listen slot domain store text (Refused refusal) is = λ known. not_listened domain store (has_domain tables domain) (read_path (table_in tables domain) text) refusal is
+  no_listen slot domain store text (Refused refusal) is = λ known. not_listened domain store (has_domain tables domain) (read_path (last_in tables domain) text) refusal is
   no_listen slot domain store text NoMemory is = tt
 
   listening : (slot domain : ℕ) (store : Store) (text : List ℕ) (read : Result Target StepFault) → IsTarget tables domain store text read → Wants tables c (asked.Listen slot domain store text) (wished (λ (t : Target). Listen slot t) read)
   listening slot domain store text (Ok t) has = (
     λ i. asked.Listen slot (sym has.0 i) (sym has.1 i) (sym has.2 i),
     tt,
-    ((λ i. read_path (table_in tables (has.0 i)) (has.2 i)) ∙ has.3, ap (has_domain tables) has.0 ∙ has.4),
+    ((λ i. read_path (last_in tables (has.0 i)) (has.2 i)) ∙ has.3, ap (has_domain tables) has.0 ∙ has.4),
   )
   listening slot domain store text (Err fault) has = no_listen slot domain store text fault has
 
@@ -185,8 +186,8 @@ module _ (tables : List SchemaTable) (c : ClientState) where
   wants_listen slot domain store text read result has made = subst (Wants tables c (asked.Listen slot domain store text)) (sym made) (listening slot domain store text read has)
 
 -- why there is no target
-pub no_domain : (tables : List SchemaTable) (domain : ℕ) (text : List ℕ) → has_domain tables domain ≡ false → Refuses (Refused NoDevice) (path_in tables domain text)
-no_domain tables domain text none = ap (λ b. if b then path_or (read_path (table_in tables domain) text) else Err NoDevice) none
+pub no_domain : (tables : List Versions) (domain : ℕ) (text : List ℕ) → has_domain tables domain ≡ false → Refuses (Refused NoDevice) (path_in tables domain text)
+no_domain tables domain text none = ap (λ b. if b then path_or (read_path (last_in tables domain) text) else Err NoDevice) none
 
-pub no_path : (tables : List SchemaTable) (domain : ℕ) (text : List ℕ) (fault : StepFault) → has_domain tables domain ≡ true → Refuses fault (path_or (read_path (table_in tables domain) text)) → Refuses fault (path_in tables domain text)
-no_path tables domain text fault has is = subst (Refuses fault) (sym (ap (λ b. if b then path_or (read_path (table_in tables domain) text) else Err NoDevice) has)) is
+pub no_path : (tables : List Versions) (domain : ℕ) (text : List ℕ) (fault : StepFault) → has_domain tables domain ≡ true → Refuses fault (path_or (read_path (last_in tables domain) text)) → Refuses fault (path_in tables domain text)
+no_path tables domain text fault has is = subst (Refuses fault) (sym (ap (λ b. if b then path_or (read_path (last_in tables domain) text) else Err NoDevice) has)) is

@@ -15,26 +15,27 @@ use Rattle.sal_tx.specs.Views.{HasOneMore, IsOutcome, refused as refused_over}
 use Rattle.sal_script.specs.declared.reply.StepReply.{StepReply}
 use Rattle.sal_script.specs.declared.reply.StepReply.TheVariants.{Accepted, Refused}
 use Rattle.sal_script.specs.declared.reply.StepRefusal.TheVariants.{Write as WriteRefused}
-use Rattle.sal_script.specs.Play.{Client, Open, Slots, accept_unless, local, seen_by, set_slot, table_in, tables_of, write_op}
+use Rattle.sal_script.specs.Play.{Client, Open, Slots, accept_unless, local, seen_by, set_slot, write_op}
+use Rattle.sal_script.specs.Tables.{Versions, table_at, versions_of}
 use Rattle.sal_hub.specs.HubHistory.{HubHistory}
 use Rattle.sal_hub.specs.Tokens.{IsBegun}
 use Rattle.sal_client.specs.Clients.{IsOfSchema, IsOwn, IsWithin, open_of}
-use Rattle.sal_client.proofs.Domains.{table_in-of}
+use Rattle.sal_client.proofs.Domains.{table_at-of}
 use Rattle.sal_client.proofs.Places.{put_same}
 use Rattle.sal_client.proofs.Soundness.{based}
 
-module _ (known : HubHistory) (tables : List SchemaTable) (old : Writing) (own : IsOwn known (Write old)) (of_world : tables ≡ tables_of known.world) where
+module _ (known : HubHistory) (tables : List Versions) (old : Writing) (own : IsOwn known (Write old)) (of_world : tables ≡ versions_of known.world) where
   abbrev table : SchemaTable
-  table = table_in tables old.begun.domain
+  table = table_at tables old.begun.version old.begun.domain
 
   -- a transaction refuses what the definitions refuse
   same_refusal : (op : Op) → refusal table (seen_by known.world known.log (open_of (Write old)) op.store) op ≡ refused_over old op
   same_refusal op =
-      let of_tx : table ≡ old.begun.schema.value = ap (λ (ts : List SchemaTable). table_in ts old.begun.domain) of_world ∙ table_in-of known.world old.begun.domain ∙ sym own.token.schema in
+      let of_tx : table ≡ old.begun.schema.value = ap (λ (ts : List Versions). table_at ts old.begun.version old.begun.domain) of_world ∙ table_at-of known.world old.begun.version old.begun.domain ∙ sym own.token.schema in
       λ i. refusal (of_tx i) (apply_ops (based known old.begun old.base own.token op.store i) op.store old.changes) op
 
   one_more : (op : Op) (new : Writing) → HasOneMore old op new → open_of (Write new) ≡ record (open_of (Write old)) { ops = old.changes ++ op ∷ [] }
-  one_more op new has = λ i. record { place = (has.1 i).place; domain = (has.1 i).domain; mode = has.2 i; ops = has.0 i }
+  one_more op new has = λ i. record { place = (has.1 i).place; domain = (has.1 i).domain; version = (has.1 i).version; mode = has.2 i; ops = has.0 i }
 
   -- a write that was answered so
   pub written : (slot : ℕ) (op : Op) (new : Writing) (answer : Result ⊤ TxFault) (r : StepReply) (client : Client) (f : Slots Open) → IsOutcome old op new answer → OnErr answer (new ≡ old) → MatchResult answer (λ _. r ≡ Accepted) (λ fault. r ≡ Refused (WriteRefused old.begun.domain fault)) → MatchResult answer (λ _. ⊤) (λ fault. fault ≡ NoMemory → ⊥) → client.transactions slot ≡ Some (open_of (Write old)) → f ≡ set_slot slot (Some (open_of (Write new))) client.transactions → write_op table known.world known.log slot op (open_of (Write old)) client ≡ local r (record client { transactions = f })
@@ -57,10 +58,10 @@ begun-written op old new (Ok u) outcome err = outcome.1.1
 begun-written op old new (Err fault) outcome err = ap (λ (w : Writing). w.begun) err
 
 -- and of its schema
-pub of_schema-begun : (tables : List SchemaTable) (old new : Writing) → new.begun ≡ old.begun → IsOfSchema tables (Write old) → IsOfSchema tables (Write new)
+pub of_schema-begun : (tables : List Versions) (old new : Writing) → new.begun ≡ old.begun → IsOfSchema tables (Write old) → IsOfSchema tables (Write new)
 of_schema-begun tables old new same is = record {
   within = subst (λ (b : Begun). IsWithin (length tables) b.domain) (sym same) is.within;
-  schema = subst (λ (b : Begun). b.schema.value ≡ table_in tables b.domain) (sym same) is.schema;
+  schema = subst (λ (b : Begun). b.schema.value ≡ table_at tables b.version b.domain) (sym same) is.schema;
 }
 
 -- and stays one of the log

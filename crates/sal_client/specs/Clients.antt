@@ -6,11 +6,11 @@ use Rattle.sal_rows.specs.declared.outcome.Mode.TheVariants.{Ro, Wo, Rw}
 use Rattle.sal_tx.specs.declared.tx.Tx.{Tx}
 use Rattle.sal_history.specs.declared.call.Call.{Call}
 use Rattle.sal_history.specs.History.{reply}
-use Rattle.sal_schema.specs.declared.table.SchemaTable.{SchemaTable}
 use Rattle.sal_script.specs.Moves.{Move, Put, Merge, Delete, Read, Exists, Mirror, Provide, Withdraw, Invoke, NextCall, Answer, Collect, Subscribe, Offer, TakeNotes, Mount, Unmount, MountAt}
 use Rattle.sal_script.specs.declared.reply.StepReply.{StepReply}
 use Rattle.sal_script.specs.declared.reply.StepReply.TheVariants.{Called}
-use Rattle.sal_script.specs.Play.{Client, Listener, Open, Opened, keep, meet, shared, table_in, tables_of}
+use Rattle.sal_script.specs.Play.{Client, Listener, Open, Opened, keep, meet, shared, spot_after}
+use Rattle.sal_script.specs.Tables.{Versions, table_at, versions_of}
 use Rattle.sal_script.specs.Services.{Invocation}
 use Rattle.sal_hub.specs.declared.call_id.CallId.{CallId}
 use Rattle.sal_hub.specs.declared.chain.Chain.{Chain}
@@ -27,7 +27,7 @@ use Rattle.sal_client.specs.Slots.{held}
 
 -- a transaction, as the definitions have it
 abbrev pub open_of : Tx → Open
-open_of tx = record { place = (begun_of tx).place; domain = (begun_of tx).domain; mode = mode_of tx; ops = ops_of tx }
+open_of tx = record { place = (begun_of tx).place; domain = (begun_of tx).domain; version = (begun_of tx).version; mode = mode_of tx; ops = ops_of tx }
 
 -- the open transactions, by slot
 abbrev pub opened : ClientState → ℕ → Option Open
@@ -77,6 +77,10 @@ abbrev pub standing_of : Option Open → Standing
 standing_of None = Empty
 standing_of (Some tx) = standing_in tx.mode
 
+-- the version by which a slot's transaction is read
+abbrev pub version_of : Option Open → ℕ
+version_of tx = option_map_or (λ (o : Open). o.version) tx 0
+
 -- the domain of a slot's transaction
 abbrev pub domain_of : Option Open → ℕ
 domain_of tx = option_map_or (λ (o : Open). o.domain) tx 0
@@ -111,17 +115,17 @@ pub record StaysSound (old new : ClientState) : Type 0 where
   pub steady : (known : HubHistory) → IsSteady known old → IsSteady known new
   pub sound : (known : HubHistory) → IsSound known old → IsSound known new
 
--- over each log that the client is steady for, where the domains have these schemas
-abbrev pub Everywhere : List SchemaTable → ClientState → (HubHistory → Type 0) → Type 0
-Everywhere tables c P = (known : HubHistory) → IsSteady known c → tables ≡ tables_of known.world → P known
+-- over each log that the client is steady for, where the domains' schemas have these versions
+abbrev pub Everywhere : List Versions → ClientState → (HubHistory → Type 0) → Type 0
+Everywhere tables c P = (known : HubHistory) → IsSteady known c → tables ≡ versions_of known.world → P known
 
--- the transaction is of one of the domains with these schemas, and has its schema
-pub record IsOfSchema (tables : List SchemaTable) (tx : Tx) : Type 0 where
+-- the transaction is of one of the domains with these versions, and has that by which it began
+pub record IsOfSchema (tables : List Versions) (tx : Tx) : Type 0 where
   pub within : IsWithin (length tables) (begun_of tx).domain
-  pub schema : (begun_of tx).schema.value ≡ table_in tables (begun_of tx).domain
+  pub schema : (begun_of tx).schema.value ≡ table_at tables (begun_of tx).version (begun_of tx).domain
 
 -- so are all of the client
-abbrev pub HasSchema : List SchemaTable → ClientState → Type 0
+abbrev pub HasSchema : List Versions → ClientState → Type 0
 HasSchema tables c = (k : ℕ) (tx : Tx) → held c.transactions k ≡ Some tx → IsOfSchema tables tx
 
 -- only slots differ
@@ -156,8 +160,8 @@ is_service (MountAt path) = true
 is_service step = false
 
 -- what a shared call leaves
-pub record Calls (tables : List SchemaTable) (r : StepReply) (c : ℕ) (known : HubHistory) (old : Client) (step : Move) (known' : HubHistory) (new : Client) (call : Call) : Type 0 where
+pub record Calls (tables : List Versions) (r : StepReply) (c : ℕ) (known : HubHistory) (old : Client) (step : Move) (known' : HubHistory) (new : Client) (call : Call) : Type 0 where
   pub met : meet tables known.world known.log old step ≡ shared call
   pub entry : known' ≡ more known (entry_of known c call)
   pub replied : r ≡ Called (reply known.world known.log (entry_of known c call))
-  pub kept : new ≡ keep (length known.log) step (reply known.world known.log (entry_of known c call)) old
+  pub kept : new ≡ keep (spot_after known.world known.log) step (reply known.world known.log (entry_of known c call)) old

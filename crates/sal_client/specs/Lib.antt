@@ -4,6 +4,7 @@ pub mod Clients
 pub mod Faults
 pub mod Followers
 pub mod Leaving
+pub mod Lists
 pub mod Looks
 pub mod Malformed
 pub mod Meeting

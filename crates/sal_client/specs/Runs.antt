@@ -3,12 +3,12 @@ use Rattle.std.specs.List.{list_all}
 use Rattle.std.specs.Prelude.{IsTrue, ◌≡◌, ℕ, ◌+◌, ◌≤◌, ◌<◌, Bool, true, false, List, [], ◌∷◌, length, drop, map, Option, None, Some, Result, Ok, Err, ⊤, slice_index_or}
 use Rattle.sal_history.specs.World.{Domain}
 use Rattle.sal_history.specs.declared.call.Entry.{Entry}
-use Rattle.sal_schema.specs.declared.table.SchemaTable.{SchemaTable}
 use Rattle.sal_script.specs.declared.reply.StepReply.{StepReply}
 use Rattle.sal_script.specs.declared.script.ScriptStep.{ScriptStep}
 use Rattle.sal_script.specs.JsonMoves.{is_json_move}
 use Rattle.sal_script.specs.Moves.{Move, clients_of, moves_of}
 use Rattle.sal_script.specs.Play.{Client, Played, Run, PlayState, arrive, ended, go, play_from, replies_of, start, turn}
+use Rattle.sal_script.specs.Tables.{Versions}
 use Rattle.sal_hub.specs.HubHistory.{HubHistory}
 use Rattle.sal_client.specs.declared.run.ClientRun.{ClientRun as CodeRun}
 use Rattle.sal_client.specs.declared.simulation.Played.{Played as CodePlayed}
@@ -43,20 +43,20 @@ abbrev pub asking : Wish → List ScriptStep → CodeRun → Run
 asking wish steps r = record { client = client_of r.client; steps = move_by wish ∷ moves_from r.at steps }
 
 -- The client answered its local steps: over each log that it was sound for, it came to its end, or to this call.
-abbrev pub Comes : List SchemaTable → List ScriptStep → CodeRun → Option Wish → CodeRun → Type 0
+abbrev pub Comes : List Versions → List ScriptStep → CodeRun → Option Wish → CodeRun → Type 0
 Comes tables steps old None new = Everywhere tables old.client (λ known. arrive tables known.world known.log (client_of old.client) (moves_from old.at steps) ≡ ended (client_of new.client))
 Comes tables steps old (Some wish) new =
     Everywhere tables old.client (λ known. arrive tables known.world known.log (client_of old.client) (moves_from old.at steps) ≡ arrive tables known.world known.log (asking wish steps new).client (asking wish steps new).steps)
     × CanMake wish new.client × ReadBy tables wish × (old.at < new.at)
 
 -- client c made the call that it was ready to make, whatever the steps behind it
-abbrev pub MakesNext : List SchemaTable → ℕ → HubHistory → Wish → Client → HubHistory → Client → Type 0
+abbrev pub MakesNext : List Versions → ℕ → HubHistory → Wish → Client → HubHistory → Client → Type 0
 MakesNext tables c known wish old known' new =
     ((steps : List Move) → go tables known.world known.log c (record { client = old; steps = move_by wish ∷ steps }) ≡ Some (record { log = known'.log; run = record { client = new; steps = steps } }))
     × GrowsBy c known known'
 
 -- the client went on to its next shared call and made it, or came to its end
-abbrev pub Goes : List SchemaTable → Bool → ℕ → HubHistory → List ScriptStep → CodeRun → HubHistory → CodeRun → Type 0
+abbrev pub Goes : List Versions → Bool → ℕ → HubHistory → List ScriptStep → CodeRun → HubHistory → CodeRun → Type 0
 Goes tables true c known steps old known' new =
     (go tables known.world known.log c (run_of steps old) ≡ Some (record { log = known'.log; run = run_of steps new })) × GrowsBy c known known' × (old.at < new.at)
 Goes tables false c known steps old known' new =
@@ -84,7 +84,7 @@ pub record AreRuns (known : HubHistory) (ps : List (List ScriptStep)) (rs : List
   pub each : (i : ℕ) (p : List ScriptStep) (r : CodeRun) → i < length rs → p ≡ slice_index_or ps i p → r ≡ slice_index_or rs i r → IsRun known p r × (r.client.number ≡ i)
 
 -- one number of an order, or its failure
-abbrev pub Turns : List SchemaTable → Bool → List (List ScriptStep) → ℕ → HubHistory → List CodeRun → HubHistory → List CodeRun → Type 0
+abbrev pub Turns : List Versions → Bool → List (List ScriptStep) → ℕ → HubHistory → List CodeRun → HubHistory → List CodeRun → Type 0
 Turns tables true ps c known rs known' rs' =
     (turn tables known.world (stand_of ps known.log rs) c ≡ Some (stand_of ps known'.log rs')) × AreRuns known' ps rs' × (known'.world ≡ known.world)
 Turns tables false ps c known rs known' rs' = turn tables known.world (stand_of ps known.log rs) c ≡ None
@@ -94,7 +94,7 @@ abbrev pub replies_in : CodeRun → List StepReply
 replies_in r = r.client.replies.items
 
 -- all clients come to their ends, with these replies, or one does not
-abbrev pub Ends : List SchemaTable → Bool → List (List ScriptStep) → HubHistory → List CodeRun → HubHistory → List CodeRun → Type 0
+abbrev pub Ends : List Versions → Bool → List (List ScriptStep) → HubHistory → List CodeRun → HubHistory → List CodeRun → Type 0
 Ends tables true ps known rs known' rs' = (replies_of tables known.world known.log (runs_of ps rs) ≡ Some (map replies_in rs')) × (known' ≡ known)
 Ends tables false ps known rs known' rs' = replies_of tables known.world known.log (runs_of ps rs) ≡ None
 
@@ -110,7 +110,7 @@ Begins known ps (Ok s) = (s.hub ≡ known) × AreRuns s.hub ps s.runs.items × (
 Begins known ps (Err why) = why ≡ NoMemory
 
 -- an order was played: what it comes to is what its end comes to from there; or why it was not
-abbrev pub Follows : List SchemaTable → List (List ScriptStep) → List ℕ → HubHistory → List CodeRun → HubHistory → List CodeRun → Result ⊤ PlayFault → Type 0
+abbrev pub Follows : List Versions → List (List ScriptStep) → List ℕ → HubHistory → List CodeRun → HubHistory → List CodeRun → Result ⊤ PlayFault → Type 0
 Follows tables ps order known rs known' rs' (Ok done) =
     (known'.world ≡ known.world) × AreRuns known' ps rs'
     × (play_from tables known.world (length order) (stand_of ps known'.log rs') [] ≡ play_from tables known.world 0 (stand_of ps known.log rs) order)

@@ -12,7 +12,8 @@ use Rattle.sal_script.specs.Moves as asked
 use Rattle.sal_script.specs.Moves.{Move}
 use Rattle.sal_script.specs.declared.reply.StepReply.{StepReply}
 use Rattle.sal_script.specs.declared.reply.StepRefusal.TheVariants.{EmptySlot}
-use Rattle.sal_script.specs.Play.{Client, has_domain, local, meet, refused, replied, table_in}
+use Rattle.sal_script.specs.Play.{Client, local, meet, refused, replied}
+use Rattle.sal_script.specs.Tables.{Versions, has_domain, has_upgrade, last_in}
 use Rattle.sal_script.specs.Services as services
 use Rattle.sal_hub.specs.Answers.{limit}
 use Rattle.sal_hub.specs.HubHistory.{HubHistory, more}
@@ -23,7 +24,7 @@ use Rattle.sal_client.specs.declared.fault.StepFault.TheVariants.{Refused, NoMem
 use Rattle.sal_client.specs.declared.wish.RunFault.{RunFault}
 use Rattle.sal_client.specs.declared.wish.RunFault.TheVariants.{HistoryFull, NoMemory}
 use Rattle.sal_client.specs.declared.wish.Wish.{Wish}
-use Rattle.sal_client.specs.declared.wish.Wish.TheVariants.{Begin, Submit, Cancel, Settle, OpenChain, ChainBegin, CloseChain, Pump, Listen, Take, Unlisten, Rpc, Note, Mount, Mark, After}
+use Rattle.sal_client.specs.declared.wish.Wish.TheVariants.{Begin, Submit, Cancel, Settle, OpenChain, ChainBegin, CloseChain, Pump, Listen, Take, Unlisten, Rpc, Note, Mount, Mark, After, Upgrade}
 use Rattle.sal_client.specs.declared.mounts.MountWish.{MountWish}
 use Rattle.sal_client.specs.declared.mounts.MountWish.TheVariants as mounts
 use Rattle.sal_client.specs.declared.notes.NoteWish.{NoteWish}
@@ -98,6 +99,7 @@ move_by (Note wish) = note_move wish
 move_by (Mount wish) = mount_move wish
 move_by (Mark mark) = asked.Mark mark
 move_by (After mark) = asked.After mark
+move_by (Upgrade version) = asked.Upgrade version
 
 -- the client's slots have what the call needs
 abbrev pub CanMake : Wish → ClientState → Type 0
@@ -111,13 +113,14 @@ CanMake (Unlisten slot) c = IsSome (held c.listeners slot)
 CanMake (Rpc wish) c = CanRpc wish c
 CanMake wish c = Unit {0}
 
--- what was read for the call was read by these schemas: for a listen, over a domain that the script has, by that of the domain, and
--- else by that of domain 0
-abbrev pub ReadBy : List SchemaTable → Wish → Type 0
-ReadBy tables (Listen slot target) = (read_path (table_in tables target.domain) target.text.value ≡ Ok target.path) × (has_domain tables target.domain ≡ true)
-ReadBy tables (Rpc wish) = RpcReadBy (table_in tables 0) wish
-ReadBy tables (Note wish) = NoteReadBy (table_in tables 0) wish
-ReadBy tables (Mount wish) = MountReadBy (table_in tables 0) wish
+-- what was read for the call was read by these versions: for a listen, over a domain that the script has, by the last one of the domain,
+-- and else by that of domain 0; an upgrade leads to one of them
+abbrev pub ReadBy : List Versions → Wish → Type 0
+ReadBy tables (Listen slot target) = (read_path (last_in tables target.domain) target.text.value ≡ Ok target.path) × (has_domain tables target.domain ≡ true)
+ReadBy tables (Rpc wish) = RpcReadBy (last_in tables 0) wish
+ReadBy tables (Note wish) = NoteReadBy (last_in tables 0) wish
+ReadBy tables (Mount wish) = MountReadBy (last_in tables 0) wish
+ReadBy tables (Upgrade version) = has_upgrade tables version ≡ true
 ReadBy tables wish = Unit {0}
 
 -- the wish, where the slot that it needs is filled
@@ -131,28 +134,28 @@ wished wish (Ok x) = Ok (wish x)
 wished wish (Err why) = Err why
 
 -- the step is refused over whatever log; nothing is said of want of memory
-abbrev pub IsRefused : List SchemaTable → ClientState → Move → StepFault → Type 0
+abbrev pub IsRefused : List Versions → ClientState → Move → StepFault → Type 0
 IsRefused tables c step (Refused refusal) = (known : HubHistory) → meet tables known.world known.log (client_of c) step ≡ refused refusal (client_of c)
 IsRefused tables c step Wanting = Unit {0}
 
 -- the step asks for this call, or is refused
-abbrev pub Wants : List SchemaTable → ClientState → Move → Result Wish StepFault → Type 0
+abbrev pub Wants : List Versions → ClientState → Move → Result Wish StepFault → Type 0
 Wants tables c step (Ok wish) = (step ≡ move_by wish) × CanMake wish c × ReadBy tables wish
 Wants tables c step (Err why) = IsRefused tables c step why
 
 -- The client answered the step by itself, and the reply is among its replies; or the step asks for a call, and nothing has
 -- changed.
-abbrev pub Meets : List SchemaTable → ClientState → Move → Option Wish → ClientState → Type 0
+abbrev pub Meets : List Versions → ClientState → Move → Option Wish → ClientState → Type 0
 Meets tables old step None new = Everywhere tables old (λ known. (r : StepReply) × (between : Client) × (meet tables known.world known.log (client_of old) step ≡ local r between) × (client_of new ≡ replied r between))
 Meets tables old step (Some wish) new = (step ≡ move_by wish) × CanMake wish new × ReadBy tables wish × (client_of new ≡ client_of old)
 
 -- a shared call was made; the reply is not yet among the replies
-abbrev pub Makes : List SchemaTable → StepReply → ℕ → HubHistory → Client → Move → HubHistory → Client → Type 0
+abbrev pub Makes : List Versions → StepReply → ℕ → HubHistory → Client → Move → HubHistory → Client → Type 0
 Makes tables r c known old step known' new = (call : Call) × Calls tables r c known old step known' new call
 
 -- it was that of the wish, by whichever schemas this was read
 abbrev pub MakesFor : Wish → ℕ → HubHistory → Client → HubHistory → Client → StepReply → Type 0
-MakesFor wish c known old known' new r = (tables : List SchemaTable) → ReadBy tables wish → Makes tables r c known old (move_by wish) known' new
+MakesFor wish c known old known' new r = (tables : List Versions) → ReadBy tables wish → Makes tables r c known old (move_by wish) known' new
 
 -- one entry more, of client c
 abbrev pub GrowsBy : ℕ → HubHistory → HubHistory → Type 0

@@ -32,7 +32,8 @@ fn if_filled<T>(slots: &Slots<T>, slot: u8, wish: Wish) -> Result<Wish, StepFaul
 impl ClientState {
     ghost use Rattle.sal_client.specs.Clients.{IsSound};
     ghost use Rattle.sal_client.specs.Leaving.{Leaves};
-    ghost use Rattle.sal_client.specs.Wishes.{CanMake, Wants};
+    ghost use Rattle.sal_client.specs.Wishes.{CanMake, ReadBy, Wants};
+    ghost use Rattle.sal_script.specs.Tables.{versions_of};
 
     /// The shared call that the step asks for, or why it is refused. It takes no turn at a hub.
     pub(crate) fn wish_of(
@@ -90,6 +91,7 @@ impl ClientState {
             }
             ScriptStep::Mark { mark } => Ok(Wish::Mark { mark: *mark }),
             ScriptStep::After { mark } => Ok(Wish::After { mark: *mark }),
+            ScriptStep::Upgrade { version } => self.upgrade_wish(readers, *version),
             _ => self.service_wish(alloc, readers, step),
         }
     }
@@ -171,6 +173,7 @@ impl ClientState {
     ) -> Result<StepReply, RunFault>
         requires sound { IsSound hub.old self.old }
         requires can { CanMake wish self.old }
+        requires read { ReadBy (versions_of hub.old.world) wish }
         ensures { Leaves wish hub.old self.old hub.new self.new result }
     {
         match wish {
@@ -192,6 +195,7 @@ impl ClientState {
             Wish::Mount(wish) => self.call_mount(alloc, hub, wish),
             Wish::Mark { mark } => self.mark(alloc, hub, mark),
             Wish::After { mark } => self.after(alloc, hub, mark),
+            Wish::Upgrade { version } => self.upgrade(alloc, hub, version),
         }
     }
 }

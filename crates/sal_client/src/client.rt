@@ -1,11 +1,11 @@
 //! A client: its slots, and how it answers its steps.
 ghost use Rattle.std.specs.Prelude.{◌≡◌, List, None, IfOk, OnOk, IsTrue, true};
 ghost use Rattle.sal_hub.specs.Tokens.{mode_of};
-ghost use Rattle.sal_schema.specs.declared.table.SchemaTable.{SchemaTable};
 ghost use Rattle.sal_client.specs.Clients.{is_local, standing_in};
 ghost use Rattle.sal_script.specs.JsonMoves.{is_json_move};
 ghost use Rattle.sal_script.specs.Moves.{move_of};
 ghost use Rattle.sal_script.specs.Play.{new_client};
+ghost use Rattle.sal_script.specs.Tables.{Versions};
 
 use crate::fault::{StepFault, refusal_reply};
 use crate::follower::Follower;
@@ -88,7 +88,7 @@ impl ClientState {
     pub fn new(alloc: Global, number: u32) -> Self
         ensures client { client_of result ≡ new_client }
         ensures number { result.number ≡ number }
-        ensures schema { (tables : List SchemaTable) → HasSchema tables result }
+        ensures schema { (tables : List Versions) → HasSchema tables result }
         ensures sound { (known : HubHistory) → IsSound known result }
     {
         ClientState {

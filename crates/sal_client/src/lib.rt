@@ -2,9 +2,9 @@
 //!
 //! | item | what it is |
 //! |---|---|
-//! | `Readers` | a `Reader` for each domain: what reads the names, the paths and the values of a script |
+//! | `Readers` | a `Reader` for each version of the schema of domain 0 and for each device: what reads the names, the paths and the values of a script |
 //! | `Reader` | a schema with its patterns compiled |
-//! | `ReadersFault` | which schema has a malformed pattern |
+//! | `ReadersFault` | which version of which schema has a malformed pattern |
 //! | `ClientRun` | a client on its way through its program: `next` answers local steps up to a shared call, `make` makes that |
 //! | `Wish`, `RpcWish`, `NoteWish`, `MountWish` | a shared call as a value, which a client is ready to make |
 //! | `RunFault` | why a client stops at a shared call |
@@ -16,7 +16,7 @@
 //! a wish has the rows and the paths, and is used up by the call.
 //!
 //! ```
-//! let readers = Readers::of(alloc, &schemas)?;
+//! let readers = Readers::of(alloc, &versions, &devices)?;
 //! let played = play(alloc, &readers, &script, hub, &gate)?;
 //! ```
 #![tactic(auto)]
@@ -42,6 +42,7 @@ mod rpcs;
 mod run;
 mod simulation;
 mod slots;
+mod upgrades;
 mod wish;
 mod writes;
 

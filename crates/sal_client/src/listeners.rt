@@ -84,7 +84,7 @@ pub(crate) fn target_of(
 ) -> Result<Target, StepFault>
     ensures { IsTarget readers.now domain store text.now result }
 {
-    let Some(reader) = readers.of_domain(domain) else {
+    let Some(reader) = readers.last_of(domain) else {
         return Err(StepFault::Refused(StepRefusal::NoDevice));
     };
     let path = path_at(alloc, reader, text)?;

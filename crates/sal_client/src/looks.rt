@@ -32,6 +32,16 @@ pub(crate) fn domain_of(tx: &Tx) -> u32
     }
 }
 
+/// The version of its domain's schema by which a transaction reads and writes: that which was present where it began.
+pub(crate) fn version_of(tx: &Tx) -> u32
+    ensures { result ≡ (begun_of tx.now).version }
+{
+    match tx {
+        Tx::Read(tx) => tx.begun().version,
+        Tx::Write(tx) => tx.begun().version,
+    }
+}
+
 // The refusal of a transaction of the domain that only writes.
 fn only_writes(domain: u32) -> StepReply
     ensures { result ≡ StepReply.Refused (StepRefusal.Write domain TxFault.WriteOnly) }
@@ -103,10 +113,13 @@ impl ClientState {
     {
         match look_at(&self.transactions, place.slot) {
             None => Ok(refused(StepRefusal::EmptySlot)),
-            Some(tx) => match path_of(alloc, readers.reader(domain_of(tx)), place.text) {
-                Ok(path) => seen(alloc, tx, place.store, path, look),
-                Err(fault) => refusal_reply(fault),
-            },
+            Some(tx) => {
+                let reader = readers.reader(domain_of(tx), version_of(tx));
+                match path_of(alloc, reader, place.text) {
+                    Ok(path) => seen(alloc, tx, place.store, path, look),
+                    Err(fault) => refusal_reply(fault),
+                }
+            }
         }
     }
 }

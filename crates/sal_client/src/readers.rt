@@ -1,9 +1,9 @@
 //! What reads the paths and the data of all domains.
-ghost use Rattle.std.specs.Prelude.{◌≡◌, ◌⊎◌, ◌<◌, ◌≤◌, ◌∷◌, ◌++◌, [], false, length, is_some, IfOk, IfErr, OnOk};
-ghost use Rattle.std.specs.List.{list_any, slice_get};
-ghost use Rattle.std.specs.Option.{option_copied};
-ghost use Rattle.sal_script.specs.Play.{has_domain, table_in};
-ghost use Rattle.sal_client.specs.Malformed.{is_malformed, shared_tables, IsMalformed, IsFirstMalformed};
+ghost use Rattle.std.specs.Prelude.{◌≡◌, ◌⊎◌, ◌+◌, ◌<◌, ◌≤◌, ◌∷◌, ◌++◌, [], false, is_some, length, IfOk, IfErr, IfSome, OnOk};
+ghost use Rattle.std.specs.List.{list_any};
+ghost use Rattle.sal_script.specs.Tables.{first_in, has_domain, has_upgrade, last_among, last_in, table_at, version_among};
+ghost use Rattle.sal_client.specs.Lists.{versions_by};
+ghost use Rattle.sal_client.specs.Malformed.{are_malformed, is_malformed, shared_tables, IsFirstMalformed, IsMalformedAt, IsUnreadable};
 
 use crate::reader::Reader;
 use sal_json::PatternsFault;
@@ -15,15 +15,25 @@ use std::sync::Arc;
 /// Why there are no readers.
 #[derive(Clone, Copy, Debug, PartialEq, Eq)]
 pub enum ReadersFault {
-    /// The schema of this device has a malformed pattern, and none before it. Device 0 is the controller's own domain.
-    Pattern { device: u32 },
+    /// This version of the schema of this device has a malformed pattern, and none before it. Device 0 is the controller's own domain.
+    Pattern { device: u32, version: usize },
     NoMemory,
 }
 
-/// A reader for each domain, by number: for the controller's own, and for each device's. A contract sees their schemas.
+/// Why schemas in a list have no readers.
+#[derive(Clone, Copy, Debug, PartialEq, Eq)]
+pub(crate) enum ListFault {
+    /// The schema at this index has a malformed pattern, and none before it.
+    Pattern { index: usize },
+    NoMemory,
+}
+
+/// Readers for all domains: for the controller's own one by each version of its schema, and one for each device, by number. A contract
+/// sees their schemas.
 #[derive(Drop)]
 pub struct Readers {
-    list: Vec<Reader>,
+    own: Vec<Reader>,
+    devices: Vec<Reader>,
 }
 
 impl Model for Readers {
@@ -31,64 +41,58 @@ impl Model for Readers {
     ghost use Rattle.std.specs.Coded.{codes};
     ghost use Rattle.sal_schema.specs.declared.table.SchemaTable.{SchemaTable as Table};
     ghost use Rattle.sal_schema.specs.contracts.table.SchemaTable as e;
+    ghost use Rattle.sal_client.specs.Lists.{versions_by};
 
-    ghost Value = { List Table };
+    ghost Value = { List (List Table) };
 
     ghost coded = { Prim.hlevel (codes, e.the_row.coded) };
 
-    ghost view = { λ a. a.list.items };
+    ghost view = { λ a. versions_by a.own.items a.devices.items };
 
-    ghost invariant = { λ a. 0 < length a.list.items };
+    ghost invariant = { λ a. 0 < length a.own.items };
 }
 
 // The reader of a schema, where its patterns are well formed.
-fn compiled(alloc: Global, device: u32, schema: Arc<Schema>) -> Result<Reader, ReadersFault>
+fn compiled(alloc: Global, index: usize, schema: Arc<Schema>) -> Result<Reader, ListFault>
     ensures reader { IfOk result (λ reader. reader ≡ schema.value) }
     ensures formed { IfOk result (λ _. is_malformed schema.value ≡ false) }
-    ensures refused { IfErr result (IsMalformed device schema.value) }
+    ensures refused { IfErr result (IsUnreadable index schema.value) }
 {
     match Reader::of(alloc, schema) {
         Ok(reader) => Ok(reader),
-        Err(PatternsFault::Refused { .. }) => Err(ReadersFault::Pattern { device }),
-        Err(PatternsFault::NoMemory) => Err(ReadersFault::NoMemory),
+        Err(PatternsFault::Refused { .. }) => Err(ListFault::Pattern { index }),
+        Err(PatternsFault::NoMemory) => Err(ListFault::NoMemory),
     }
 }
 
 // The same for a schema that is shared.
-fn reader_of(alloc: Global, device: u32, schema: &Arc<Schema>) -> Result<Reader, ReadersFault>
+fn reader_of(alloc: Global, index: usize, schema: &Arc<Schema>) -> Result<Reader, ListFault>
     ensures reader { IfOk result (λ reader. reader ≡ schema.now.value) }
     ensures formed { IfOk result (λ _. is_malformed schema.now.value ≡ false) }
-    ensures refused { IfErr result (IsMalformed device schema.now.value) }
+    ensures refused { IfErr result (IsUnreadable index schema.now.value) }
 {
     match Arc::try_clone(schema) {
-        Ok(schema) => compiled(alloc, device, schema),
-        Err(AllocError) => Err(ReadersFault::NoMemory),
+        Ok(schema) => compiled(alloc, index, schema),
+        Err(AllocError) => Err(ListFault::NoMemory),
     }
 }
 
-// Adds the reader of the next device.
-fn add(alloc: Global, list: &mut Vec<Reader>, schema: &Arc<Schema>) -> Result<(), ReadersFault>
-    requires few { length list.old.items < 64 }
+// Adds the reader of the next schema.
+fn add(alloc: Global, list: &mut Vec<Reader>, schema: &Arc<Schema>) -> Result<(), ListFault>
     ensures added { OnOk result (list.new.items ≡ list.old.items ++ schema.now.value ∷ []) }
     ensures formed { OnOk result (is_malformed schema.now.value ≡ false) }
-    ensures refused { IfErr result (IsMalformed (length list.old.items) schema.now.value) }
+    ensures refused { IfErr result (IsUnreadable (length list.old.items) schema.now.value) }
 {
-    let device = list.len() as u32;
-    let reader = reader_of(alloc, device, schema)?;
+    let reader = reader_of(alloc, list.len(), schema)?;
     match list.push(reader) {
         Ok(()) => Ok(()),
-        Err(AllocFailed { .. }) => Err(ReadersFault::NoMemory),
+        Err(AllocFailed { .. }) => Err(ListFault::NoMemory),
     }
 }
 
-// Adds the readers of all devices.
-fn add_all(
-    alloc: Global,
-    list: &mut Vec<Reader>,
-    schemas: &[Arc<Schema>],
-) -> Result<(), ReadersFault>
+// Adds the readers of all schemas.
+fn add_all(alloc: Global, list: &mut Vec<Reader>, schemas: &[Arc<Schema>]) -> Result<(), ListFault>
     requires none { list.old.items ≡ [] }
-    requires few { length schemas.now ≤ 64 }
     ensures tables { OnOk result (list.new.items ≡ shared_tables schemas.now) }
     ensures formed { OnOk result (list_any is_malformed list.new.items ≡ false) }
     ensures refused { IfErr result (IsFirstMalformed (shared_tables schemas.now)) }
@@ -99,40 +103,129 @@ fn add_all(
     Ok(())
 }
 
+// The readers of these schemas.
+fn readers_of(alloc: Global, schemas: &[Arc<Schema>]) -> Result<Vec<Reader>, ListFault>
+    ensures tables { IfOk result (λ list. list.items ≡ shared_tables schemas.now) }
+    ensures formed { IfOk result (λ list. list_any is_malformed list.items ≡ false) }
+    ensures refused { IfErr result (IsFirstMalformed (shared_tables schemas.now)) }
+{
+    let mut list = Vec::new(alloc);
+    add_all(alloc, &mut list, schemas)?;
+    Ok(list)
+}
+
+// The reader by the version, by the last one where there are fewer.
+fn by_version(versions: &[Reader], version: u32) -> &Reader
+    requires { 0 < length versions.now }
+    ensures { result.now ≡ version_among versions.now version }
+{
+    let index = version as usize;
+    if index < versions.len() {
+        &versions[index]
+    } else {
+        &versions[versions.len() - 1]
+    }
+}
+
+// The reader by the last version.
+fn by_last(versions: &[Reader]) -> &Reader
+    requires { 0 < length versions.now }
+    ensures { result.now ≡ last_among versions.now }
+{
+    &versions[versions.len() - 1]
+}
+
+// The number of the device at this index.
+fn device_number(index: usize) -> u32
+    requires { index < 64 }
+    ensures { result ≡ index + 1 }
+{
+    index as u32 + 1
+}
+
 impl Readers {
-    /// Readers of these schemas, of which the first is that of the controller's own domain.
-    pub fn of(alloc: Global, schemas: &[Arc<Schema>]) -> Result<Readers, ReadersFault>
-        requires some { 1 ≤ length schemas.now }
-        requires few { length schemas.now ≤ 64 }
-        ensures tables { IfOk result (λ readers. readers ≡ shared_tables schemas.now) }
-        ensures formed { IfOk result (λ readers. list_any is_malformed readers ≡ false) }
-        ensures refused { IfErr result (IsFirstMalformed (shared_tables schemas.now)) }
+    /// Readers of the versions of the schema of the controller's own domain, version 0 first, and of the schemas of the devices.
+    pub fn of(
+        alloc: Global,
+        own: &[Arc<Schema>],
+        devices: &[Arc<Schema>],
+    ) -> Result<Readers, ReadersFault>
+        requires some { 1 ≤ length own.now }
+        requires few { length devices.now ≤ 64 }
+        ensures tables { IfOk result (λ readers. readers ≡ versions_by (shared_tables own.now) (shared_tables devices.now)) }
+        ensures formed { IfOk result (λ readers. list_any are_malformed readers ≡ false) }
+        ensures refused { IfErr result (IsMalformedAt (versions_by (shared_tables own.now) (shared_tables devices.now))) }
     {
-        let mut list = Vec::new(alloc);
-        add_all(alloc, &mut list, schemas)?;
-        Ok(Readers { list })
+        let versions = match readers_of(alloc, own) {
+            Ok(list) => list,
+            Err(ListFault::Pattern { index }) => {
+                return Err(ReadersFault::Pattern {
+                    device: 0,
+                    version: index,
+                });
+            }
+            Err(ListFault::NoMemory) => return Err(ReadersFault::NoMemory),
+        };
+        match readers_of(alloc, devices) {
+            Ok(list) => Ok(Readers {
+                own: versions,
+                devices: list,
+            }),
+            Err(ListFault::Pattern { index }) => Err(ReadersFault::Pattern {
+                device: device_number(index),
+                version: 0,
+            }),
+            Err(ListFault::NoMemory) => Err(ReadersFault::NoMemory),
+        }
     }
 
-    /// The reader of the domain, where there is one.
-    pub fn of_domain(&self, domain: u32) -> Option<&Reader>
-        ensures reader { option_copied result ≡ slice_get self.now domain }
+    /// The reader of the domain by version 0 of its schema, where there is one.
+    pub fn first_of(&self, domain: u32) -> Option<&Reader>
+        ensures reader { IfSome result (λ reader. reader.now ≡ first_in self.now domain) }
         ensures has { is_some result ≡ has_domain self.now domain }
     {
-        self.list.get(domain as usize)
+        if domain == 0 {
+            Some(&self.own[0])
+        } else {
+            self.devices.get(domain as usize - 1)
+        }
     }
 
-    /// The reader of the controller's own domain, or of a device's.
-    pub(crate) fn reader(&self, domain: u32) -> &Reader
+    /// The reader of the domain by the last version of its schema, where there is one.
+    pub fn last_of(&self, domain: u32) -> Option<&Reader>
+        ensures reader { IfSome result (λ reader. reader.now ≡ last_in self.now domain) }
+        ensures has { is_some result ≡ has_domain self.now domain }
+    {
+        if domain == 0 {
+            Some(by_last(&self.own))
+        } else {
+            self.devices.get(domain as usize - 1)
+        }
+    }
+
+    /// The reader by the version of the controller's own domain, or by that of a device, which has one.
+    pub(crate) fn reader(&self, domain: u32, version: u32) -> &Reader
         requires { (domain ≡ 0) ⊎ (domain < length self.now) }
-        ensures { result.now ≡ table_in self.now domain }
+        ensures { result.now ≡ table_at self.now version domain }
     {
-        &self.list[domain as usize]
+        if domain == 0 {
+            by_version(&self.own, version)
+        } else {
+            &self.devices[domain as usize - 1]
+        }
     }
 
-    /// The reader of the controller's own domain.
+    /// The reader of the controller's own domain by the last version.
     pub fn own(&self) -> &Reader
-        ensures { result.now ≡ table_in self.now 0 }
+        ensures { result.now ≡ last_in self.now 0 }
     {
-        self.reader(0)
+        by_last(&self.own)
+    }
+
+    /// Whether an upgrade of the controller's own domain leads to the version.
+    pub fn has_upgrade(&self, version: u32) -> bool
+        ensures { result ≡ has_upgrade self.now version }
+    {
+        version >= 1 && (version as usize) < self.own.len()
     }
 }

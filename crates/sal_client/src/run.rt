@@ -2,8 +2,8 @@
 ghost use Rattle.std.specs.Prelude.{◌≡◌, ◌<◌, List, IfOk, IfErr, OnOk, length};
 ghost use Rattle.sal_hub.specs.Answers.{limit};
 ghost use Rattle.sal_hub.specs.HubHistory.{HubHistory};
-ghost use Rattle.sal_schema.specs.declared.table.SchemaTable.{SchemaTable};
-ghost use Rattle.sal_script.specs.Play.{new_client, tables_of};
+ghost use Rattle.sal_script.specs.Play.{new_client};
+ghost use Rattle.sal_script.specs.Tables.{Versions, versions_of};
 
 use crate::client::ClientState;
 use crate::readers::Readers;
@@ -31,7 +31,7 @@ impl ClientRun {
         ensures number { result.client.number ≡ number }
         ensures at { result.at ≡ 0 }
         ensures client { client_of result.client ≡ new_client }
-        ensures schema { (tables : List SchemaTable) → HasSchema tables result.client }
+        ensures schema { (tables : List Versions) → HasSchema tables result.client }
         ensures sound { (known : HubHistory) → IsSound known result.client }
     {
         ClientRun {
@@ -90,7 +90,8 @@ impl ClientRun {
     pub fn make(&mut self, alloc: Global, hub: &mut Hub, wish: Wish) -> Result<(), RunFault>
         requires sound { IsSound hub.old self.old.client }
         requires can { CanMake wish self.old.client }
-        ensures makes { OnOk result ((tables : List SchemaTable) → ReadBy tables wish → MakesNext tables self.old.client.number hub.old wish (client_of self.old.client) hub.new (client_of self.new.client)) }
+        requires read { ReadBy (versions_of hub.old.world) wish }
+        ensures makes { OnOk result ((tables : List Versions) → ReadBy tables wish → MakesNext tables self.old.client.number hub.old wish (client_of self.old.client) hub.new (client_of self.new.client)) }
         ensures sound { OnOk result (IsSound hub.new self.new.client) }
         ensures at { OnOk result (self.new.at ≡ self.old.at) }
         ensures number { OnOk result (self.new.client.number ≡ self.old.client.number) }
@@ -112,7 +113,7 @@ impl ClientRun {
         gate: &G,
     ) -> Result<bool, NoMemory>
         requires run { IsRun hub.old steps.now self.old }
-        requires tables { readers.now ≡ tables_of hub.old.world }
+        requires tables { readers.now ≡ versions_of hub.old.world }
         requires room { length hub.old.log < limit }
         ensures goes { IfOk result (λ made. Goes readers.now made self.old.client.number hub.old steps.now self.old hub.new self.new) }
         ensures run { OnOk result (IsRun hub.new steps.now self.new) }

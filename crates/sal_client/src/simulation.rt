@@ -1,7 +1,7 @@
 //! A script played in an order, on one thread.
 ghost use Rattle.std.specs.Prelude.{◌≡◌, ◌<◌, [], IfOk, IsTrue, map};
 ghost use Rattle.sal_script.specs.Limits.{within_limits};
-ghost use Rattle.sal_script.specs.Play.{tables_of};
+ghost use Rattle.sal_script.specs.Tables.{versions_of};
 ghost use Rattle.sal_hub.specs.HubHistory.{HubHistory};
 ghost use Rattle.sal_script.specs.JsonMoves.{have_json_moves};
 ghost use Rattle.sal_script.specs.Moves.{clients_of};
@@ -74,7 +74,7 @@ impl Simulation {
         gate: &G,
     ) -> Result<bool, NoMemory>
         requires runs { AreRuns self.old.hub programs.now self.old.runs.items }
-        requires tables { readers.now ≡ tables_of self.old.hub.world }
+        requires tables { readers.now ≡ versions_of self.old.hub.world }
         ensures { IfOk result (λ made. Turns readers.now made programs.now client self.old.hub self.old.runs.items self.new.hub self.new.runs.items) }
     {
         laws::tokens_last();
@@ -97,7 +97,7 @@ impl Simulation {
         gate: &G,
     ) -> Result<(), PlayFault>
         requires runs { AreRuns self.old.hub programs.now self.old.runs.items }
-        requires tables { readers.now ≡ tables_of self.old.hub.world }
+        requires tables { readers.now ≡ versions_of self.old.hub.world }
         ensures { Follows readers.now programs.now order.now self.old.hub self.old.runs.items self.new.hub self.new.runs.items result }
     {
         for i in 0..order.len() {
@@ -119,7 +119,7 @@ impl Simulation {
         gate: &G,
     ) -> Result<bool, NoMemory>
         requires runs { AreRuns self.old.hub programs.now self.old.runs.items }
-        requires tables { readers.now ≡ tables_of self.old.hub.world }
+        requires tables { readers.now ≡ versions_of self.old.hub.world }
         ensures { IfOk result (λ ended. Ends readers.now ended programs.now self.old.hub self.old.runs.items self.new.hub self.new.runs.items) }
     {
         for i in 0..self.runs.len() {
@@ -154,7 +154,7 @@ pub fn play<G: Gate>(
     hub: Hub,
     gate: &G,
 ) -> Result<Played, PlayFault>
-    requires tables { readers.now ≡ tables_of hub.world }
+    requires tables { readers.now ≡ versions_of hub.world }
     requires fresh { hub.log ≡ [] }
     ensures { PlaysAs hub.world result (play_spec.play hub.world (clients_of script.now.clients) script.now.order) }
 {
@@ -182,7 +182,7 @@ fn end<G: Gate>(
     gate: &G,
 ) -> Result<Played, PlayFault>
     requires runs { AreRuns simulation.hub programs.now simulation.runs.items }
-    requires tables { readers.now ≡ tables_of simulation.hub.world }
+    requires tables { readers.now ≡ versions_of simulation.hub.world }
     ensures { PlaysAs simulation.hub.world result (play_spec.play_from readers.now simulation.hub.world index (stand_of programs.now simulation.hub.log simulation.runs.items) []) }
 {
     match simulation.finish(alloc, readers, programs, gate) {

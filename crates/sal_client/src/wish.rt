@@ -52,6 +52,8 @@ pub enum Wish {
     Mark { mark: u32 },
     /// Asks whether the mark was left.
     After { mark: u32 },
+    /// Upgrades the schema of the controller's own domain to the version.
+    Upgrade { version: u32 },
 }
 
 /// Why a client stops at a shared call.

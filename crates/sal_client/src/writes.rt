@@ -1,13 +1,14 @@
 //! Writes in a client's transaction.
 ghost use Rattle.std.specs.Prelude.{◌≡◌, Some, IfOk, IsTrue, MatchResult, ⊤};
 ghost use Rattle.sal_script.specs.JsonScripts.{is_json_act};
-ghost use Rattle.sal_script.specs.Play.{Open, table_in};
+ghost use Rattle.sal_script.specs.Play.{Open};
+ghost use Rattle.sal_script.specs.Tables.{table_at};
 ghost use Rattle.sal_rules.specs.Writes.{IsForSchema};
 ghost use Rattle.sal_client.specs.Operations.{data_act_of, write_move};
 
 use crate::client::{ClientState, Standing, refused};
 use crate::fault::refusal_reply;
-use crate::looks::domain_of;
+use crate::looks::{domain_of, version_of};
 use crate::operations::{JsonAct, Place, op_of};
 use crate::readers::Readers;
 use crate::slots::{fill_slot, look_at, take_slot};
@@ -30,7 +31,7 @@ fn reply_to(domain: u32, answer: Result<(), TxFault>) -> Result<StepReply, NoMem
 }
 
 impl ClientState {
-    ghost use Rattle.sal_client.specs.Clients.{domain_of, opened, standing_of, HasSchema};
+    ghost use Rattle.sal_client.specs.Clients.{domain_of, opened, standing_of, version_of, HasSchema};
     ghost use Rattle.sal_client.specs.Meeting.{IsAnswered, IsWritten};
 
     // The domain of the slot's transaction; 0 of an empty slot.
@@ -40,6 +41,16 @@ impl ClientState {
         match look_at(&self.transactions, slot) {
             None => 0,
             Some(tx) => domain_of(tx),
+        }
+    }
+
+    // The version by which it is read; 0 of an empty slot.
+    fn version_in(&self, slot: u8) -> u32
+        ensures { result ≡ version_of (opened self.now slot) }
+    {
+        match look_at(&self.transactions, slot) {
+            None => 0,
+            Some(tx) => version_of(tx),
         }
     }
 
@@ -60,7 +71,8 @@ impl ClientState {
             Standing::ReadOnly => Ok(refused(StepRefusal::ReadOnly)),
             Standing::Writable => {
                 let domain = self.domain_in(place.slot);
-                let reader = readers.reader(domain);
+                let version = self.version_in(place.slot);
+                let reader = readers.reader(domain, version);
                 match op_of(alloc, reader, domain, place, act) {
                     Ok(op) => {
                         laws::writes_are_for_schema();
@@ -82,7 +94,7 @@ impl ClientState {
         op: Op,
     ) -> Result<StepReply, NoMemory>
         requires schema { HasSchema readers.now self.old }
-        requires for_schema { (tx : Open) → opened self.old slot ≡ Some tx → IsForSchema (table_in readers.now tx.domain) op }
+        requires for_schema { (tx : Open) → opened self.old slot ≡ Some tx → IsForSchema (table_at readers.now tx.version tx.domain) op }
         requires writable { standing_of (opened self.old slot) ≡ Standing.Writable }
         ensures { IfOk result (λ r. IsWritten readers.now self.old slot op r self.new) }
     {

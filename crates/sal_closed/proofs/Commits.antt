@@ -26,21 +26,23 @@ use Rattle.sal_rows.specs.PathClash.{Difference, difference, is_covered}
 use Rattle.sal_rows.specs.Commits.{next_tree, tree_after}
 use Rattle.sal_rows.specs.Spans.{spans}
 use Rattle.sal_schema.specs.Fitting.{is_closed}
+use Rattle.sal_schema.specs.declared.table.SchemaTable.{SchemaTable}
 use Rattle.sal_schema.specs.Valid.{IsTable}
-use Rattle.sal_schema.proofs.ShownTables.{shown}
 use Rattle.sal_history.specs.declared.call.Call.{Call}
 use Rattle.sal_history.specs.declared.call.Call.TheVariants.{Begin, ChainBegin, Pump, Settle, Submit}
 use Rattle.sal_history.specs.declared.call.Entry.{Entry}
 use Rattle.sal_history.specs.declared.reply.Reply.{Reply}
 use Rattle.sal_history.specs.declared.reply.Reply.TheVariants.{Begun, Receipt, Refused}
 use Rattle.sal_history.specs.Answered.{Answered}
-use Rattle.sal_history.specs.History.{answer, answered_as, base_on, began_at, began_by, chain_refusal, chained_base, commits, decide_front, decide_next, decided_by, domain_of, is_live, newest_base, nowhere, outcome, outcomes, refused_or, reply_to, sent_by, sents, stands_on, trees_of, unmounted_of}
+use Rattle.sal_history.specs.History.{answer, answered_as, base_on, began_at, began_by, chain_refusal, chained_base, commits, decide_front, decide_next, decided_by, domain_of, is_live, newest_base, nowhere, outcome, outcomes, refused_or, history, reply_to, sent_by, sents, stands_on, trees_of, unmounted_of}
 use Rattle.sal_history.specs.Outcome.{conflict_of, decide, invalid}
 use Rattle.sal_history.specs.Submissions.{Base, Sent, done, done_chains, done_ops, failing, if_done, is_done}
-use Rattle.sal_history.specs.World.{Domain, no_table, opening_of, table_of}
+use Rattle.sal_history.specs.Versions.{schema_version, tables_now}
+use Rattle.sal_history.specs.World.{Domain, opening_of, table_of}
 use Rattle.sal_closed.specs.Laws.{LogsStayClosed}
 use Rattle.sal_closed.specs.Lawful.{AreClosed, AreLawful}
-use Rattle.sal_closed.specs.Logs.{AreSentLawful, AreSound}
+use Rattle.sal_closed.specs.Logs.{IsSentLawful}
+use Rattle.sal_closed.proofs.Versions.{opening_by, table_is}
 use Rattle.sal_closed.proofs.Closing.{lawful_keeps_closed, lost_clash, without_conflict_stays_closed}
 
 -- ---- lists
@@ -54,22 +56,6 @@ sents-now : (answered : List Answered) (now : Answered) → sents (answered ++ n
 sents-now answered now =
     filter_map-append (λ (a : Answered). a.sent) answered (now ∷ [])
     ∙ elim now.sent as (λ (o : Option Sent). sents answered ++ cons_option o [] ≡ sents answered ++ option_to_list o) [ None ↦ refl | Some s ↦ refl ]
-
--- ---- tables and openings
-
-no_table-IsTable : IsTable no_table
-no_table-IsTable = shown no_table (record { nodes = omega arith; types = omega arith; modules = omega arith; identities = omega arith }) refl refl
-
-table_is : (world : List Domain) (number : ℕ) → AreSound world → IsTable (table_of world number)
-table_is [] number sound = no_table-IsTable
-table_is (d ∷ world) zero sound = (sound 0 d refl).table
-table_is (d ∷ world) (suc n) sound = table_is world n (λ k e at. sound (suc k) e at)
-
-opening_is : (world : List Domain) (number : ℕ) (s : Store) → AreSound world → IsTrue (is_closed (table_of world number) (opening_of world number s))
-opening_is [] number s sound = refl
-opening_is (d ∷ world) zero Config sound = (sound 0 d refl).config
-opening_is (d ∷ world) zero Oper sound = (sound 0 d refl).oper
-opening_is (d ∷ world) (suc n) s sound = opening_is world n s (λ k e at. sound (suc k) e at)
 
 -- ---- commits
 
@@ -166,10 +152,12 @@ done_is (Unmounted domain) e = cc
 
 -- ---- decisions
 
-module _ (world : List Domain) (sound : AreSound world) where
+-- By any tables by which the opening trees are closed and the submissions lawful, whatever those were by which they were decided: that
+-- nothing conflicts is all that is asked of a decision.
+module _ (world : List Domain) (tables : ℕ → SchemaTable) (are_tables : (domain : ℕ) → IsTable (tables domain)) (opened : (domain : ℕ) → AreClosed (tables domain) (opening_of world domain)) where
   -- the trees of a domain at all of these commits are closed
   abbrev AreClosedAt : ℕ → List (List Op) → Type 0
-  AreClosedAt domain cs = (k : ℕ) (t : Store) → IsTrue (is_closed (table_of world domain) (tree_after t (opening_of world domain t) (take k cs)))
+  AreClosedAt domain cs = (k : ℕ) (t : Store) → IsTrue (is_closed (tables domain) (tree_after t (opening_of world domain t) (take k cs)))
 
   -- and those of each domain
   abbrev AreClosedAll : List Sent → List Outcome → Type 0
@@ -177,14 +165,14 @@ module _ (world : List Domain) (sound : AreSound world) where
 
   -- what a submission stands on is closed, and its operations are lawful there
   abbrev IsLawful : Sent → Type 0
-  IsLawful s = AreClosed (table_of world s.base.domain) s.base.trees × AreLawful (table_of world s.base.domain) s.base.trees [] s.ops
+  IsLawful s = AreClosed (tables s.base.domain) s.base.trees × AreLawful (tables s.base.domain) s.base.trees [] s.ops
 
-  newest : (domain : ℕ) (cs : List (List Op)) → AreClosedAt domain cs → AreClosed (table_of world domain) (tip (opening_of world domain) cs)
+  newest : (domain : ℕ) (cs : List (List Op)) → AreClosedAt domain cs → AreClosed (tables domain) (tip (opening_of world domain) cs)
   newest domain cs all t =
       let whole : take (length cs) cs ≡ cs = take_all (length cs) cs (omega arith) in
-      subst (λ (l : List (List Op)). IsTrue (is_closed (table_of world domain) (tree_after t (opening_of world domain t) l))) whole (all (length cs) t)
+      subst (λ (l : List (List Op)). IsTrue (is_closed (tables domain) (tree_after t (opening_of world domain t) l))) whole (all (length cs) t)
 
-  closed-push : (domain : ℕ) (cs : List (List Op)) (ops : List Op) → AreClosedAt domain cs → AreClosed (table_of world domain) (λ t. apply_ops (tip (opening_of world domain) cs t) t ops) → AreClosedAt domain (cs ++ ops ∷ [])
+  closed-push : (domain : ℕ) (cs : List (List Op)) (ops : List Op) → AreClosedAt domain cs → AreClosed (tables domain) (λ t. apply_ops (tip (opening_of world domain) cs t) t ops) → AreClosedAt domain (cs ++ ops ∷ [])
   closed-push domain cs ops all last k t =
       elim (cases_lt (length cs) k) [
         | inl past ↦
@@ -192,30 +180,30 @@ module _ (world : List Domain) (sound : AreSound world) where
             let whole : take k (cs ++ ops ∷ []) ≡ cs ++ ops ∷ [] = take_all k (cs ++ ops ∷ []) (omega (arith, past, long)) in
             let tree : tree_after t (opening_of world domain t) (take k (cs ++ ops ∷ [])) ≡ apply_ops (tip (opening_of world domain) cs t) t ops =
             ap (tree_after t (opening_of world domain t)) whole ∙ fold-append (next_tree t) (opening_of world domain t) cs (ops ∷ []) in
-            subst (λ (rows : List Row). IsTrue (is_closed (table_of world domain) rows)) (sym tree) (last t)
+            subst (λ (rows : List Row). IsTrue (is_closed (tables domain) rows)) (sym tree) (last t)
         | inr within ↦
             let front : take k (cs ++ ops ∷ []) ≡ take k cs = take-append-le k cs (ops ∷ []) within in
-            subst (λ (l : List (List Op)). IsTrue (is_closed (table_of world domain) (tree_after t (opening_of world domain t) l))) (sym front) (all k t)
+            subst (λ (l : List (List Op)). IsTrue (is_closed (tables domain) (tree_after t (opening_of world domain t) l))) (sym front) (all k t)
       ]
 
-  module _ (live : ℕ → Bool) (ss : List Sent) (os : List Outcome) (s : Sent) where
+  module _ (by : ℕ → SchemaTable) (live : ℕ → Bool) (ss : List Sent) (os : List Outcome) (s : Sent) where
     -- what is done makes closed trees of the newest ones
-    done-closed : (commit : ℕ) → IsLawful s → AreClosedAt s.base.domain (done_ops s.base.domain ss os) → outcome world live ss os s ≡ Done commit
-        → AreClosed (table_of world s.base.domain) (λ t. apply_ops (tip (opening_of world s.base.domain) (done_ops s.base.domain ss os) t) t s.ops)
+    done-closed : (commit : ℕ) → IsLawful s → AreClosedAt s.base.domain (done_ops s.base.domain ss os) → outcome world by live ss os s ≡ Done commit
+        → AreClosed (tables s.base.domain) (λ t. apply_ops (tip (opening_of world s.base.domain) (done_ops s.base.domain ss os) t) t s.ops)
     done-closed commit lawful all e =
         let domain = s.base.domain in
         let opening = opening_of world domain in
         let cs = done_ops domain ss os in
         let pieces = spans s.base.commit s.base.chain (done_chains domain ss os) in
-        let here : decide (table_of world domain) opening cs s.base.trees pieces s.ops ≡ Done commit =
-        in_itself (failing s.base.chain ss os) (live domain) domain (decide (table_of world domain) opening cs s.base.trees pieces s.ops) commit e in
+        let here : decide (by domain) opening cs s.base.trees pieces s.ops ≡ Done commit =
+        in_itself (failing s.base.chain ss os) (live domain) domain (decide (by domain) opening cs s.base.trees pieces s.ops) commit e in
         let none : clash opening cs s.base.trees pieces s.ops ≡ None =
-        no_clash s.ops (clash opening cs s.base.trees pieces s.ops) (option_or (invalid (table_of world domain) opening cs Config s.ops) (invalid (table_of world domain) opening cs Oper s.ops)) (length cs + 1) commit (op_there opening cs s.base.trees pieces [] s.ops) here in
-        without_conflict_stays_closed (table_of world domain) opening cs s.base.trees pieces s.ops (table_is world domain sound) lawful.0 (newest domain cs all) lawful.1 none
+        no_clash s.ops (clash opening cs s.base.trees pieces s.ops) (option_or (invalid (by domain) opening cs Config s.ops) (invalid (by domain) opening cs Oper s.ops)) (length cs + 1) commit (op_there opening cs s.base.trees pieces [] s.ops) here in
+        without_conflict_stays_closed (tables domain) opening cs s.base.trees pieces s.ops (are_tables domain) lawful.0 (newest domain cs all) lawful.1 none
 
-    more-closed : IsLawful s → slice_get ss (length os) ≡ Some s → AreClosedAll ss os → AreClosedAll ss (os ++ outcome world live ss os s ∷ [])
+    more-closed : IsLawful s → slice_get ss (length os) ≡ Some s → AreClosedAll ss os → AreClosedAll ss (os ++ outcome world by live ss os s ∷ [])
     more-closed lawful next all domain =
-        let o = outcome world live ss os s in
+        let o = outcome world by live ss os s in
         subst (λ (ds : List Sent). AreClosedAt domain (map (λ x. x.ops) ds)) (sym (done-next domain ss s os o next))
         (cond_both (nat_eq s.base.domain domain) (if_done o s) [] (λ (more : List Sent). AreClosedAt domain (map (λ x. x.ops) (done domain ss os ++ more)))
         (λ mine.
@@ -239,73 +227,77 @@ module _ (world : List Domain) (sound : AreSound world) where
   abbrev AllLawful : List Sent → Type 0
   AllLawful ss = (i : ℕ) (s : Sent) → slice_get ss i ≡ Some s → IsLawful s
 
-  front-closed : (live : ℕ → Bool) (ss : List Sent) (os : List Outcome) → AllLawful ss → IsDecided ss os → (next : Option Sent) → slice_get ss (length os) ≡ next → IsDecided ss (os ++ decide_front world live ss os next)
-  front-closed live ss os lawful was None at = subst (IsDecided ss) (sym (append-nil os)) was
-  front-closed live ss os lawful was (Some s) at =
-      (omega (arith, slice_get_within ss (length os) s at, length-append os (outcome world live ss os s ∷ [])), more-closed live ss os s (lawful (length os) s at) at was.1)
+  front-closed : (by : ℕ → SchemaTable) (live : ℕ → Bool) (ss : List Sent) (os : List Outcome) → AllLawful ss → IsDecided ss os → (next : Option Sent) → slice_get ss (length os) ≡ next → IsDecided ss (os ++ decide_front world by live ss os next)
+  front-closed by live ss os lawful was None at = subst (IsDecided ss) (sym (append-nil os)) was
+  front-closed by live ss os lawful was (Some s) at =
+      (omega (arith, slice_get_within ss (length os) s at, length-append os (outcome world by live ss os s ∷ [])), more-closed by live ss os s (lawful (length os) s at) at was.1)
 
-  next-closed : (live : ℕ → Bool) (n : ℕ) (ss : List Sent) (os : List Outcome) → AllLawful ss → IsDecided ss os → IsDecided ss (os ++ decide_next world live ss os n)
-  next-closed live zero ss os lawful was = subst (IsDecided ss) (sym (append-nil os)) was
-  next-closed live (suc n) ss os lawful was =
-      let front = decide_front world live ss os (slice_get ss (length os)) in
-      subst (IsDecided ss) (append_assoc os front (decide_next world live ss (os ++ front) n)) (next-closed live n ss (os ++ front) lawful (front-closed live ss os lawful was (slice_get ss (length os)) refl))
+  next-closed : (by : ℕ → SchemaTable) (live : ℕ → Bool) (n : ℕ) (ss : List Sent) (os : List Outcome) → AllLawful ss → IsDecided ss os → IsDecided ss (os ++ decide_next world by live ss os n)
+  next-closed by live zero ss os lawful was = subst (IsDecided ss) (sym (append-nil os)) was
+  next-closed by live (suc n) ss os lawful was =
+      let front = decide_front world by live ss os (slice_get ss (length os)) in
+      subst (IsDecided ss) (append_assoc os front (decide_next world by live ss (os ++ front) n)) (next-closed by live n ss (os ++ front) lawful (front-closed by live ss os lawful was (slice_get ss (length os)) refl))
 
   -- ---- one entry more
 
   record IsKept (answered : List Answered) : Type 0 where
     pub decided : IsDecided (sents answered) (outcomes answered)
-    pub bases : (place : ℕ) (b : Base) → began_at answered place ≡ Some b → AreClosed (table_of world b.domain) b.trees
-    pub sent : (i : ℕ) (s : Sent) → slice_get (sents answered) i ≡ Some s → AreClosed (table_of world s.base.domain) s.base.trees
+    pub bases : (place : ℕ) (b : Base) → began_at answered place ≡ Some b → AreClosed (tables b.domain) b.trees
+    pub sent : (i : ℕ) (s : Sent) → slice_get (sents answered) i ≡ Some s → AreClosed (tables s.base.domain) s.base.trees
 
-  nowhere-closed : AreClosed (table_of world nowhere.domain) nowhere.trees
+  -- the submissions of a log are lawful by the tables
+  abbrev AreLawfulIn : List Answered → Type 0
+  AreLawfulIn answered = (i : ℕ) (s : Sent) → slice_get (sents answered) i ≡ Some s → IsSentLawful tables s
+
+  nowhere-closed : AreClosed (tables nowhere.domain) nowhere.trees
   nowhere-closed t = refl
 
-  module _ (answered : List Answered) (was : IsKept answered) (lawful : AreSentLawful world answered) where
+  module _ (answered : List Answered) (was : IsKept answered) (lawful : AreLawfulIn answered) where
     all_lawful : AllLawful (sents answered)
     all_lawful i s at = (was.sent i s at, lawful i s at)
 
-    trees-closed : (domain : ℕ) → AreClosed (table_of world domain) (trees_of world answered domain)
+    trees-closed : (domain : ℕ) → AreClosed (tables domain) (trees_of world answered domain)
     trees-closed domain = newest domain (commits answered domain) (was.decided.1 domain)
 
     on-closed : (chain : ℕ) (w : Option Sent) → ((s : Sent) → w ≡ Some s → (k : ℕ) × (slice_get (sents answered) k ≡ Some s))
-        → AreClosed (table_of world (base_on world answered chain w).domain) (base_on world answered chain w).trees
+        → AreClosed (tables (base_on world answered chain w).domain) (base_on world answered chain w).trees
     on-closed chain None from = trees-closed (domain_of answered chain)
     on-closed chain (Some s) from =
         let (k, at) = from s refl in
         let it = all_lawful k s at in
-        lawful_keeps_closed (table_of world s.base.domain) s.base.trees s.ops (table_is world s.base.domain sound) it.0 it.1
+        lawful_keeps_closed (tables s.base.domain) s.base.trees s.ops (are_tables s.base.domain) it.0 it.1
 
-    chained-closed : (chain : ℕ) → AreClosed (table_of world (chained_base world answered chain).domain) (chained_base world answered chain).trees
+    chained-closed : (chain : ℕ) → AreClosed (tables (chained_base world answered chain).domain) (chained_base world answered chain).trees
     chained-closed chain =
         on-closed chain (option_and_then (λ n. slice_get (sents answered) (n - 1)) (stands_on answered chain))
         (λ s e. option_and_then_some (λ n. slice_get (sents answered) (n - 1)) (stands_on answered chain) s e (λ n there at. (n - 1, at)))
 
     -- what a transaction that a call begins stands on
-    begun-closed : (client : ℕ) (call : Call) (b : Base) → began_by world answered call (reply_to world answered client call) ≡ Some b → AreClosed (table_of world b.domain) b.trees
+    begun-closed : (client : ℕ) (call : Call) (b : Base) → began_by world answered call (reply_to world answered client call) ≡ Some b → AreClosed (tables b.domain) b.trees
     begun-closed client (Begin domain mode) b =
-        cond_both (is_live world answered domain) (Begun (length (commits answered domain)) None) (Refused (NoDomain domain)) (λ r. began_by world answered (Begin domain mode) r ≡ Some b → AreClosed (table_of world b.domain) b.trees)
-        (λ live e. subst (λ (x : Base). AreClosed (table_of world x.domain) x.trees) (same_Some (newest_base world answered domain None) b e) (trees-closed domain))
+        cond_both (is_live world answered domain) (Begun (length (commits answered domain)) None) (Refused (NoDomain domain)) (λ r. began_by world answered (Begin domain mode) r ≡ Some b → AreClosed (tables b.domain) b.trees)
+        (λ live e. subst (λ (x : Base). AreClosed (tables x.domain) x.trees) (same_Some (newest_base world answered domain None) b e) (trees-closed domain))
         (λ dead e. absurd (none-some b e))
     begun-closed client (ChainBegin chain mode) b =
-        elim (chain_refusal world answered chain) as (λ (o : Option CallFault). began_by world answered (ChainBegin chain mode) (refused_or o (Begun (chained_base world answered chain).commit (stands_on answered chain))) ≡ Some b → AreClosed (table_of world b.domain) b.trees) [
-          | None ↦ λ e. subst (λ (x : Base). AreClosed (table_of world x.domain) x.trees) (same_Some (chained_base world answered chain) b e) (chained-closed chain)
+        elim (chain_refusal world answered chain) as (λ (o : Option CallFault). began_by world answered (ChainBegin chain mode) (refused_or o (Begun (chained_base world answered chain).commit (stands_on answered chain))) ≡ Some b → AreClosed (tables b.domain) b.trees) [
+          | None ↦ λ e. subst (λ (x : Base). AreClosed (tables x.domain) x.trees) (same_Some (chained_base world answered chain) b e) (chained-closed chain)
           | Some fault ↦ λ e. absurd (none-some b e)
         ]
     begun-closed client call b = λ e. absurd (none-some b e)
 
     -- what a submission stands on
-    sent-closed : (call : Call) (reply : Reply) (s : Sent) → sent_by answered call reply ≡ Some s → AreClosed (table_of world s.base.domain) s.base.trees
+    sent-closed : (call : Call) (reply : Reply) (s : Sent) → sent_by answered call reply ≡ Some s → AreClosed (tables s.base.domain) s.base.trees
     sent-closed (Submit place ops) (Receipt n) s e =
-        subst (λ (x : Sent). AreClosed (table_of world x.base.domain) x.base.trees) (same_Some (record { base = unwrap_or (began_at answered place) nowhere; ops = ops }) s e) (by (began_at answered place) refl)
+        subst (λ (x : Sent). AreClosed (tables x.base.domain) x.base.trees) (same_Some (record { base = unwrap_or (began_at answered place) nowhere; ops = ops }) s e) (by (began_at answered place) refl)
       where
-        by : (o : Option Base) → began_at answered place ≡ o → AreClosed (table_of world (unwrap_or o nowhere).domain) (unwrap_or o nowhere).trees
+        by : (o : Option Base) → began_at answered place ≡ o → AreClosed (tables (unwrap_or o nowhere).domain) (unwrap_or o nowhere).trees
         by None at = nowhere-closed
         by (Some b) at = was.bases place b at
     sent-closed call reply s e = absurd (none-some s e)
 
     decided-more : (call : Call) → IsDecided (sents answered) (outcomes answered ++ decided_by world answered call)
-    decided-more (Settle receipt) = next-closed (is_live world answered) (receipt - length (outcomes answered)) (sents answered) (outcomes answered) all_lawful was.decided
-    decided-more Pump = next-closed (is_live world answered) 1 (sents answered) (outcomes answered) all_lawful was.decided
+    decided-more (Settle receipt) = next-closed (tables_now world answered) (is_live world answered) (receipt - length (outcomes answered)) (sents answered) (outcomes answered) all_lawful was.decided
+    decided-more Pump = next-closed (tables_now world answered) (is_live world answered) 1 (sents answered) (outcomes answered) all_lawful was.decided
     decided-more call = subst (IsDecided (sents answered)) (sym (append-nil (outcomes answered))) was.decided
 
     sent-more : (os : List Outcome) (o : Option Sent) → IsDecided (sents answered) os → IsDecided (sents answered ++ option_to_list o) os
@@ -336,7 +328,7 @@ module _ (world : List Domain) (sound : AreSound world) where
             | inr w ↦ inr (ap (λ (x : Answered). x.began) w.1 ∙ is)
           ])
 
-      sent-now : (o : Option Sent) → made ≡ o → (i : ℕ) (s : Sent) → slice_get (sents answered ++ option_to_list o) i ≡ Some s → AreClosed (table_of world s.base.domain) s.base.trees
+      sent-now : (o : Option Sent) → made ≡ o → (i : ℕ) (s : Sent) → slice_get (sents answered ++ option_to_list o) i ≡ Some s → AreClosed (tables s.base.domain) s.base.trees
       sent-now None is i s at = was.sent i s (ap (λ (ss : List Sent). slice_get ss i) (sym (append-nil (sents answered))) ∙ at)
       sent-now (Some x) is i s at = elim (last_or_before (sents answered) x s i at) [
         | inl old ↦ was.sent i s old
@@ -360,19 +352,22 @@ module _ (world : List Domain) (sound : AreSound world) where
       let now = answered_as world answered e (reply_to world answered e.client e.call) in
       kept-later (answer world answered e) log i s (ap (λ (ss : List Sent). slice_get ss i) (sents-now answered now) ∙ front_stays (sents answered) (option_to_list now.sent) i s at)
 
-  kept-fold : (answered : List Answered) (log : List Entry) → AreSentLawful world (fold (answer world) answered log) → IsKept answered → IsKept (fold (answer world) answered log)
+  kept-fold : (answered : List Answered) (log : List Entry) → AreLawfulIn (fold (answer world) answered log) → IsKept answered → IsKept (fold (answer world) answered log)
   kept-fold answered [] lawful was = was
   kept-fold answered (e ∷ log) lawful was =
       kept-fold (answer world answered e) log lawful (kept-answer answered was (λ i s at. lawful i s (kept-later answered (e ∷ log) i s at)) e)
 
   kept-nothing : IsKept []
   kept-nothing = record {
-    decided = (omega arith, λ domain k t. subst (λ (cs : List (List Op)). IsTrue (is_closed (table_of world domain) (tree_after t (opening_of world domain t) cs))) (sym (take_all k [] (omega arith))) (opening_is world domain t sound));
+    decided = (omega arith, λ domain k t. subst (λ (cs : List (List Op)). IsTrue (is_closed (tables domain) (tree_after t (opening_of world domain t) cs))) (sym (take_all k [] (omega arith))) (opened domain t));
     bases = λ place b at. absurd (none-some b at);
     sent = λ i s at. absurd (none-some s at);
   }
 
 pub logs_stay_closed : LogsStayClosed
 logs_stay_closed world log sound lawful =
-    let kept = kept-fold world sound [] log lawful (kept-nothing world sound) in
+    let version = schema_version (history world log) in
+    let are_tables : (domain : ℕ) → IsTable (table_of world version domain) = λ domain. table_is world version domain sound in
+    let opened : (domain : ℕ) → AreClosed (table_of world version domain) (opening_of world domain) = λ domain. opening_by world version domain sound in
+    let kept = kept-fold world (table_of world version) are_tables opened [] log lawful (kept-nothing world (table_of world version) are_tables opened) in
     record { commits = λ domain k. kept.decided.1 domain k; bases = kept.bases }

@@ -5,4 +5,5 @@ pub mod Fronts
 pub mod Leafs
 pub mod Owning
 pub mod Standing
+pub mod Versions
 pub mod Wholes

@@ -1,5 +1,5 @@
 -- Laws of closed trees.
-use Rattle.std.specs.Prelude.{◌≡◌, true, List, [], None, IsTrue, is_some}
+use Rattle.std.specs.Prelude.{◌≡◌, true, List, [], ◌∷◌, ◌++◌, None, IsTrue, is_some}
 use Rattle.sal_types.specs.declared.value.Store.{Store}
 use Rattle.sal_types.specs.declared.value.Step.{Step}
 use Rattle.sal_types.specs.declared.row.Row.{Row}
@@ -11,11 +11,15 @@ use Rattle.sal_rows.specs.Clash.{clash, tip}
 use Rattle.sal_schema.specs.declared.table.SchemaTable.{SchemaTable}
 use Rattle.sal_schema.specs.Fitting.{has_own_row, is_closed}
 use Rattle.sal_schema.specs.Valid.{IsTable}
+use Rattle.sal_schema.specs.Versions.{Extends}
+use Rattle.sal_history.specs.Answered.{Answered}
 use Rattle.sal_history.specs.History.{history}
+use Rattle.sal_history.specs.Submissions.{Sent}
+use Rattle.sal_history.specs.Versions.{tables_now}
 use Rattle.sal_history.specs.World.{Domain}
 use Rattle.sal_history.specs.declared.call.Entry.{Entry}
 use Rattle.sal_closed.specs.Lawful.{AreClosed, AreLawful}
-use Rattle.sal_closed.specs.Logs.{AreSentLawful, AreSound, IsClosedLog}
+use Rattle.sal_closed.specs.Logs.{AreSentLawful, AreSound, IsClosedLog, IsSentLawful}
 
 -- Operations that are lawful over closed trees make closed trees of them.
 abbrev pub LawfulKeepsClosed : Type 0
@@ -32,9 +36,27 @@ WithoutConflictStaysClosed =
     → clash opening commits base spans ops ≡ None
     → AreClosed table (λ s. apply_ops (tip opening commits s) s ops)
 
--- So each log whose submissions are lawful has closed trees alone, where it begins with such.
+-- So each log whose submissions are lawful by the present version has closed trees alone, by that version, where its opening trees are
+-- closed by version 0: whatever the versions were by which it was decided.
 abbrev pub LogsStayClosed : Type 0
 LogsStayClosed = (world : List Domain) (log : List Entry) → AreSound world → AreSentLawful world (history world log) → IsClosedLog world (history world log)
+
+-- What is lawful over a base by a version of a schema is so by each later version.
+abbrev pub LawfulStays : Type 0
+LawfulStays =
+    (newer older : SchemaTable) (base : Store → List Row) (earlier ops : List Op) → IsTable older → Extends newer older
+    → AreLawful older base earlier ops → AreLawful newer base earlier ops
+
+-- And trees that are closed by it are closed by each later one.
+abbrev pub ClosedStays : Type 0
+ClosedStays =
+    (newer older : SchemaTable) (trees : Store → List Row) → IsTable older → Extends newer older → AreClosed older trees → AreClosed newer trees
+
+-- So an entry more leaves each submission before it lawful by the version that is present then, where it was so by the one before.
+abbrev pub SentsStayLawful : Type 0
+SentsStayLawful =
+    (world : List Domain) (answered : List Answered) (a : Answered) (s : Sent) → AreSound world
+    → IsSentLawful (tables_now world answered) s → IsSentLawful (tables_now world (answered ++ a ∷ [])) s
 
 -- In a closed tree, where something stands at a path, a row of its own does exactly where the path's node has one by its kind: a
 -- presence container, an entry, a leaf.

@@ -12,11 +12,11 @@ use Rattle.sal_script.specs.Report.{report}
 use Rattle.sal_script.specs.SomeOrder.{IsReportInSomeOrder}
 use Rattle.sal_loads.specs.Numbers.{load_text}
 use Rattle.sal_owner_script.specs.Replies as replies
-use Rattle.sal_command.specs.Schemas.{table_of}
-use Rattle.sal_command.specs.Scripted.{Comes, IsStatusOf, Prepared, or_schema, or_script, prepared}
+use Rattle.sal_versions.specs.Schemas.{table_of}
+use Rattle.sal_prepare.specs.Scripted.{Comes, IsStatusOf, Prepared, or_schema, or_script, prepared}
 use Rattle.sal_command.specs.declared.top.TheConstants.{HELP, VERSION}
-use Rattle.sal_command.specs.declared.status.Status.{Status}
-use Rattle.sal_command.specs.declared.status.Status.TheVariants.{Done, BadWords, ReadFault, WriteFault, TooLong, BadScript, BadSchema, BadOpening, BadOrder, NoMemory}
+use Rattle.sal_prepare.specs.declared.status.Status.{Status}
+use Rattle.sal_prepare.specs.declared.status.Status.TheVariants.{Done, BadWords, ReadFault, WriteFault, TooLong, BadScript, BadSchema, BadOpening, BadOrder, NoMemory}
 use Rattle.sal_command.specs.declared.words.Form.{Form}
 use Rattle.sal_command.specs.declared.words.Form.TheVariants.{Run, Sim, Load, Schema, Owner, Help, Version}
 

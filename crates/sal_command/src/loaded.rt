@@ -3,16 +3,16 @@ ghost use Rattle.std.specs.Prelude.{◌≡◌, ◌≤◌, [], IfErr, IfOk};
 ghost use Rattle.sal_script.specs.Load as load;
 ghost use Rattle.sal_script.specs.LoadOrder.{IsSummaryInSomeOrder};
 ghost use Rattle.sal_script.specs.Moves.{clients_of};
-ghost use Rattle.sal_script.specs.Play.{tables_of};
-ghost use Rattle.sal_command.specs.Loads.{load_world};
+ghost use Rattle.sal_script.specs.Tables.{versions_of};
+ghost use Rattle.sal_prepare.specs.Loads.{load_world};
 ghost use Rattle.sal_command.specs.Top as spec;
 
-use crate::laws as own_laws;
 use crate::reported::summary_of;
-use crate::scripted::{Prepared, prepare_script};
-use crate::status::Status;
 use sal_io::Gate;
 use sal_loads::laws::loads_come_to_one;
+use sal_prepare::laws as own_laws;
+use sal_prepare::scripted::{Prepared, prepare_script};
+use sal_prepare::status::Status;
 use sal_run::run;
 use sal_script::{laws, load_script};
 use sal_types::{NoMemory, Str};
@@ -46,7 +46,7 @@ fn prepare_load(alloc: Global, rounds: u32, start: u32) -> Result<Prepared, Stat
     requires start { start ≤ 65536 }
     ensures world { IfOk result (λ it. it.hub.world ≡ load_world) }
     ensures memory { IfErr result (λ status. status ≡ Status.NoMemory) }
-    ensures readers { IfOk result (λ it. it.read.readers ≡ tables_of it.hub.world) }
+    ensures readers { IfOk result (λ it. it.read.readers ≡ versions_of it.hub.world) }
     ensures fresh { IfOk result (λ it. it.hub.log ≡ []) }
     ensures clients { IfOk result (λ it. clients_of it.read.script.clients ≡ load.clients_of rounds start) }
 {
@@ -65,7 +65,7 @@ fn run_load<R: Threads + Wait + Sync, G: Gate>(
     prepared: Prepared,
     gate: &G,
 ) -> Result<Str, NoMemory>
-    requires readers { prepared.read.readers ≡ tables_of prepared.hub.world }
+    requires readers { prepared.read.readers ≡ versions_of prepared.hub.world }
     requires fresh { prepared.hub.log ≡ [] }
     requires clients { clients_of prepared.read.script.clients ≡ load.clients_of rounds start }
     ensures { IfOk result (IsSummaryInSomeOrder prepared.hub.world rounds start) }

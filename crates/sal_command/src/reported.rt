@@ -2,9 +2,9 @@
 ghost use Rattle.std.specs.Prelude.{◌≡◌, ◌<◌, ◌≤◌, All, IfOk, length, map};
 ghost use Rattle.sal_tree.specs.Rows.{rows_of};
 ghost use Rattle.sal_script.specs.LoadOrder as load;
-ghost use Rattle.sal_script.specs.Play.{tables_of};
 ghost use Rattle.sal_script.specs.Report as spec;
-ghost use Rattle.sal_command.specs.Scripted.{tables_in};
+ghost use Rattle.sal_script.specs.Tables.{tables_of};
+ghost use Rattle.sal_prepare.specs.Scripted.{tables_in};
 
 use sal_client::Played;
 use sal_hub::Hub;
@@ -17,7 +17,7 @@ use sal_types::{NoMemory, Path, Str};
 use std::alloc::Global;
 use std::sync::Arc;
 
-/// The report of what was played, by the schemas of its domains.
+/// The report of what was played, by the last versions of the schemas of its domains.
 pub(crate) fn report_of(
     alloc: Global,
     schemas: &[Arc<Schema>],

@@ -5,20 +5,21 @@ ghost use Rattle.sal_command.specs.Words.{form_of};
 ghost use Rattle.sal_script.specs.Moves.{clients_of};
 ghost use Rattle.sal_client.specs.Runs.{PlaysAs};
 ghost use Rattle.sal_script.specs.Along.{AreLeft};
-ghost use Rattle.sal_script.specs.Play.{play as play_spec, tables_of};
+ghost use Rattle.sal_script.specs.Play.{play as play_spec};
 ghost use Rattle.sal_script.specs.Reading.{parts};
 ghost use Rattle.sal_script.specs.SomeOrder.{IsReportInSomeOrder};
-ghost use Rattle.sal_command.specs.Scripted.{tables_in};
+ghost use Rattle.sal_script.specs.Tables.{tables_of, versions_of};
+ghost use Rattle.sal_prepare.specs.Scripted.{tables_in};
 ghost use Rattle.sal_command.specs.Top as spec;
 
 use crate::loaded::load_text;
 use crate::reported::report_of;
-use crate::scripted::{self, Prepared, ReadScript};
-use crate::status::Status;
 use crate::words::{Form, form_of};
 use sal_client::{PlayFault, Played, play};
 use sal_hub::Hub;
 use sal_io::{Gate, ReadFail, Sink, Source, read_all, write_all};
+use sal_prepare::scripted::{self, Prepared, ReadScript};
+use sal_prepare::status::Status;
 use sal_run::run;
 use sal_schema::Schema;
 use sal_script::{Script, ScriptFault, laws};
@@ -261,7 +262,7 @@ fn run_over<R: Threads + Wait + Sync, G: Gate>(
 ) -> Result<Str, NoMemory>
     requires schemas { tables_in read.schemas.items ≡ tables_of hub.world }
     requires few { length read.schemas.items ≤ 64 }
-    requires readers { read.readers ≡ tables_of hub.world }
+    requires readers { read.readers ≡ versions_of hub.world }
     requires fresh { hub.log ≡ [] }
     ensures { IfOk result (IsReportInSomeOrder hub.world (clients_of read.script.clients)) }
 {
@@ -271,7 +272,7 @@ fn run_over<R: Threads + Wait + Sync, G: Gate>(
     Ok(text)
 }
 
-// What the clients left, with the schemas of its domains.
+// What the clients left, with the last versions of the schemas of its domains.
 fn left_over<R: Threads + Wait + Sync, G: Gate>(
     rt: &R,
     alloc: Global,
@@ -279,7 +280,7 @@ fn left_over<R: Threads + Wait + Sync, G: Gate>(
     hub: Hub,
     gate: &G,
 ) -> Result<(Played, Vec<Arc<Schema>>), NoMemory>
-    requires readers { read.readers ≡ tables_of hub.world }
+    requires readers { read.readers ≡ versions_of hub.world }
     requires fresh { hub.log ≡ [] }
     ensures left { IfOk result (λ it. AreLeft hub.world (clients_of read.script.clients) it.0.hub.log it.0.replies) }
     ensures world { IfOk result (λ it. it.0.hub.world ≡ hub.world) }
@@ -307,7 +308,7 @@ fn sim_text<G: Gate>(alloc: Global, bytes: &[u8], gate: &G) -> Result<Str, Statu
 fn play_over<G: Gate>(alloc: Global, read: ReadScript, hub: Hub, gate: &G) -> Result<Str, Status>
     requires schemas { tables_in read.schemas.items ≡ tables_of hub.world }
     requires few { length read.schemas.items ≤ 64 }
-    requires readers { read.readers ≡ tables_of hub.world }
+    requires readers { read.readers ≡ versions_of hub.world }
     requires fresh { hub.log ≡ [] }
     ensures { spec.IsPlayOr (spec.play_over (parts read.script) hub.world) result }
 {
@@ -321,14 +322,14 @@ fn play_over<G: Gate>(alloc: Global, read: ReadScript, hub: Hub, gate: &G) -> Re
     }
 }
 
-// What was played, with the schemas of its domains.
+// What was played, with the last versions of the schemas of its domains.
 fn played_over<G: Gate>(
     alloc: Global,
     read: ReadScript,
     hub: Hub,
     gate: &G,
 ) -> Result<(Played, Vec<Arc<Schema>>), PlayFault>
-    requires readers { read.readers ≡ tables_of hub.world }
+    requires readers { read.readers ≡ versions_of hub.world }
     requires fresh { hub.log ≡ [] }
     ensures played { MatchResult result (λ it. PlaysAs hub.world (Ok it.0) (play_spec hub.world (clients_of read.script.clients) read.script.order)) (λ fault. PlaysAs hub.world (Err fault) (play_spec hub.world (clients_of read.script.clients) read.script.order)) }
     ensures schemas { IfOk result (λ it. it.1 ≡ read.schemas) }

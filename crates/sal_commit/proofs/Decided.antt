@@ -127,4 +127,12 @@ module _ (old : Domain) (sub : Submission) (next : Commit) (are : AreKept old.co
   }
 
 pub IsSame-trans : (old new newest : Domain) → IsSame old new → IsSame new newest → IsSame old newest
-IsSame-trans old new newest a b = record { number = b.number ∙ a.number; live = b.live ∙ a.live; schema = b.schema ∙ a.schema }
+IsSame-trans old new newest a b = record {
+  number = b.number ∙ a.number;
+  live = b.live ∙ a.live;
+  schema = b.schema ∙ a.schema;
+  first = b.first ∙ a.first;
+  upgrades = b.upgrades ∙ a.upgrades;
+  version = b.version ∙ a.version;
+  since = b.since ∙ a.since;
+}

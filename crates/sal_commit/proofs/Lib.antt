@@ -2,3 +2,4 @@ pub mod Following
 pub mod Applying
 pub mod Decided
 pub mod Sounds
+pub mod VersionTables

@@ -7,6 +7,10 @@ pub record IsSame (old new : Domain) : Type 0 where
   pub number : new.number ≡ old.number
   pub live : new.live ≡ old.live
   pub schema : new.schema ≡ old.schema
+  pub first : new.first ≡ old.first
+  pub upgrades : new.upgrades ≡ old.upgrades
+  pub version : new.version ≡ old.version
+  pub since : new.since ≡ old.since
 
 -- there is room for one more commit
 abbrev pub is_roomy : Domain → Type 0

@@ -3,3 +3,4 @@ pub mod Domains
 pub mod Opening
 pub mod Sound
 pub mod Stamps
+pub mod Versions

@@ -1,5 +1,5 @@
 -- Trees that break no structural rule, and what a change keeps of those before it.
-use Rattle.std.specs.Prelude.{◌≡◌, ℕ, ◌-◌, List, length, All, None, slice_index_or}
+use Rattle.std.specs.Prelude.{◌≡◌, ℕ, ◌-◌, List, drop, length, All, None, slice_index_or}
 use Rattle.sal_types.specs.declared.value.Store.{Store}
 use Rattle.sal_schema.specs.declared.table.SchemaTable.{SchemaTable}
 use Rattle.sal_rules.specs.Breaches.{breach}
@@ -15,6 +15,10 @@ BreakNone table pair = (s : Store) → breach table s (rows_in pair s) ≡ None
 -- the trees of each commit break none
 abbrev pub AreSound : SchemaTable → List Commit → Type 0
 AreSound table commits = All (λ (c : Commit). BreakNone table c.trees) commits
+
+-- and so do those from the commit of this number on
+abbrev pub AreSoundSince : ℕ → SchemaTable → List Commit → Type 0
+AreSoundSince since table commits = AreSound table (drop since commits)
 
 -- both trees keep all nodes of the newest commit's trees but those with the stamps
 abbrev pub KeepNewest : List ℕ → List Commit → Pair → Type 0

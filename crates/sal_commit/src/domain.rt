@@ -1,15 +1,16 @@
 //! A domain with its commits.
-ghost use Rattle.std.specs.Prelude.{◌≡◌, ◌+◌, ◌<◌, [], ◌∷◌, None, IfOk, MatchResult, OnOk, take};
+ghost use Rattle.std.specs.Prelude.{◌≡◌, ◌+◌, ◌≤◌, ◌<◌, [], ◌∷◌, None, IfOk, MatchResult, OnOk, length, take};
 ghost use Rattle.std.specs.Coded.{codes};
 ghost use Rattle.sal_node.specs.Code.{tree_code};
 ghost use Rattle.sal_graft.specs.Following.{AreFollowing};
 ghost use Rattle.sal_graft.specs.Kept.{AreKept, chains_of, opening_in, ops_of};
 ghost use Rattle.sal_commit.specs.Opening.{fault_of, IsFaultOf, opening_of_device};
-ghost use Rattle.sal_commit.specs.Sound.{AreSound};
+ghost use Rattle.sal_commit.specs.Sound.{AreSoundSince};
 ghost use Rattle.sal_commit.specs.Stamps.{receipts_of};
 
 use crate::fault::DomainFault;
 use crate::opening::{first_commits, sound_trees};
+use crate::versions::{shared, shared_all};
 use sal_check::Plan;
 use sal_history::Device;
 use sal_schema::Schema;
@@ -18,27 +19,40 @@ use sal_types::NoMemory;
 use std::alloc::Global;
 use std::sync::Arc;
 
-/// A domain: a pair of stores with one schema, and its commits from the opening on. Commit `k` stands at index `k`. No
-/// tree of a commit breaks a structural rule. Each commit was made of the one before it: what its operations touch has the stamp of
-/// its receipt, and every other node stayed. So where nodes of two neighbours have one path and one stamp, they are the same.
+/// A domain: a pair of stores with one schema in some versions, of which one is the present one, and its commits from the opening
+/// on. Commit `k` stands at index `k`. From the newest commit at the last upgrade on, no tree of a commit breaks a structural rule
+/// by the present version; the plan of rules is that of this version. Each commit was made of the one before it: what its
+/// operations touch has the stamp of its receipt, and every other node stayed. So where nodes of two neighbours have one path and
+/// one stamp, they are the same.
 #[derive(Drop)]
 pub struct Domain {
     pub number: u32,
     /// Whether the domain takes transactions and makes commits, as a device's does from its mount to its unmount.
     pub live: bool,
+    /// The present version of the schema.
     pub schema: Arc<Schema>,
+    /// Version 0.
+    pub first: Arc<Schema>,
+    /// The versions from 1 on.
+    pub upgrades: Vec<Arc<Schema>>,
+    /// The number of the present version.
+    pub version: u32,
+    /// The number of the newest commit at the last upgrade, 0 before the first one.
+    pub since: u64,
     pub commits: Vec<Commit>,
     pub(crate) plan: Plan,
     pub ghost planned: { plan.schema.value ≡ schema.value },
-    pub ghost sound: { AreSound schema.value commits.items },
+    pub ghost sound: { AreSoundSince since schema.value commits.items },
+    pub ghost reached: { since < length commits.items },
     pub ghost following: { AreFollowing commits.items } by { Prim.hlevel (codes, tree_code) },
 }
 
 impl Domain {
     ghost use Rattle.sal_commit.specs.Domains.{IsSame, is_roomy};
+    ghost use Rattle.sal_commit.specs.Versions.{tables_of};
 
-    /// The domain of this number over the schema and the opening trees of a device, unless one of these breaks a
-    /// structural rule.
+    /// The domain of this number over the versions and the opening trees of a device, unless one of these breaks a
+    /// structural rule by version 0, which is the present one then.
     pub fn open(
         alloc: Global,
         number: u32,
@@ -46,6 +60,8 @@ impl Domain {
         live: bool,
     ) -> Result<Domain, DomainFault>
         ensures parts { IfOk result (λ d. (d.number ≡ number) × (d.live ≡ live) × (d.schema.value ≡ device.now.schema.value)) }
+        ensures first { IfOk result (λ d. (d.first.value ≡ device.now.schema.value) × (d.version ≡ 0) × (d.since ≡ 0)) }
+        ensures upgrades { IfOk result (λ d. tables_of d.upgrades.items ≡ tables_of device.now.upgrades.items) }
         ensures kept { IfOk result (λ d. AreKept d.commits.items) }
         ensures commits { IfOk result (λ d. ops_of d.commits.items ≡ []) }
         ensures chains { IfOk result (λ d. chains_of d.commits.items ≡ []) }
@@ -57,10 +73,16 @@ impl Domain {
         let trees = sound_trees(alloc, device, &plan)?;
         let commits = first_commits(alloc, trees)?;
         let schema = shared(&device.schema)?;
+        let first = shared(&device.schema)?;
+        let upgrades = shared_all(alloc, &device.upgrades)?;
         Ok(Domain {
             number,
             live,
             schema,
+            first,
+            upgrades,
+            version: 0,
+            since: 0,
             commits,
             plan,
         })
@@ -76,8 +98,9 @@ impl Domain {
         Ok(())
     }
 
-    /// Drops the commits behind this one. It takes no memory.
+    /// Drops the commits behind this one, which is not before the last upgrade. It takes no memory.
     pub fn cut_to(&mut self, number: u64)
+        requires since { self.old.since ≤ number }
         ensures same { IsSame self.old self.new }
         ensures commits { self.new.commits.items ≡ take (number + 1) self.old.commits.items }
     {
@@ -86,11 +109,4 @@ impl Domain {
             self.commits.truncate(last + 1);
         }
     }
-}
-
-fn shared(schema: &Arc<Schema>) -> Result<Arc<Schema>, NoMemory>
-    ensures { IfOk result (λ it. it.value ≡ schema.now.value) }
-{
-    let schema = Arc::try_clone(schema)?;
-    Ok(schema)
 }

@@ -2,7 +2,8 @@
 //!
 //! | item | what it is |
 //! |---|---|
-//! | `Domain` | a domain: its number, its schema and its commits, the opening first; no tree of a commit breaks a structural rule, and each was made of the one before it by the commit's operations and the stamp of its receipt |
+//! | `Domain` | a domain: its number, the versions of its schema with the present one, and its commits, the opening first; from the last upgrade on no tree of a commit breaks a structural rule, and each was made of the one before it by the commit's operations and the stamp of its receipt |
+//! | `NextVersion`, `Domain::next_version`, `upgrade` | the next version with the plan of its rules, where the newest trees break none; and the domain at that version |
 //! | `DomainFault` | why a domain is not opened |
 //! | `can` | whether a submission's chain has failed, its domain is not live, or it conflicts with the foreign commits after its base |
 //! | `pre` | both trees after the submission, where they break no structural rule |
@@ -16,9 +17,14 @@
 //! foreign where it is not of the submission's own chain; all are to a submission of none. `pre` takes the memory of the
 //! new commit and changes nothing; `publish` takes none, so it changes both stores, or, where it is not reached, neither.
 //!
+//! An upgrade is in two parts, as a commit is: `Domain::next_version` takes the memory, and checks both newest trees whole by the
+//! next version; `Domain::upgrade` takes none. The domain notes the newest commit (`since`): the trees from there on break no rule
+//! by the present version, and those before may, so a domain is cut back to no commit before it. The versions are shared with
+//! who opened the domain.
+//!
 //! `specs/` says which commits break no rule and what a change keeps of the newest trees (`Sound`), which stamp a new
 //! commit gives and what may stand behind others (`Stamps`), what opens a domain
-//! (`Opening`), what stays of one (`Domains`), and what each phase gives and what a decision leaves (`Deciding`).
+//! (`Opening`), what stays of one (`Domains`), what an upgrade leaves (`Versions`), and what each phase gives and what a decision leaves (`Deciding`).
 //!
 //! ```
 //! let outcome = decide(alloc, &submission, &mut domain, None, fresh)?;
@@ -29,6 +35,8 @@
 //! | `Domain::open` | a node for each path of the opening, and a list of numbers for each schema node | the schema | the opening's rows, and both trees whole |
 //! | `Domain::reserve` | the list of commits, as it grows, without what they hold | all of them | |
 //! | `Domain::cut_to` | | | the commits that it drops |
+//! | `Domain::next_version` | a list of numbers for each schema node | the version | both newest trees whole |
+//! | `Domain::upgrade`, `last_schema` | | the version, which is moved | |
 //! | `can` | the spans between the commits of the chain, and the path that a conflict names | | of a chained submission the chains of the commits after its base; for each operation its path at both ends of each span; for a conflict whose path is absent at the end of its span that span's commits with their operations and rows; nothing where the chain has failed or the domain is not live |
 //! | `pre` | for each operation the nodes on the way to what it sets | the list of the operations, and all other nodes of both trees | of both new trees the nodes that are not shared, and the lists in which something changed, where they state a count, or a `unique` of which a leaf changed |
 //! | `publish` | | the commit, which is moved | |
@@ -45,8 +53,10 @@ mod fault;
 mod opening;
 mod phases;
 mod trees;
+mod versions;
 
 pub use deciding::decide;
 pub use domain::Domain;
 pub use fault::DomainFault;
 pub use phases::{CanFault, PreFault, Prepared, Ready, can, pre, publish};
+pub use versions::NextVersion;

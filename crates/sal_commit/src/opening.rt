@@ -40,8 +40,12 @@ fn opened(alloc: Global, device: &Device) -> Result<Pair, NoMemory>
     Ok(Pair { config, oper })
 }
 
-// Why the trees are refused as an opening.
-fn fault_in(alloc: Global, plan: &Plan, trees: &Pair) -> Result<Option<DomainFault>, NoMemory>
+/// Why the trees are refused: they break a rule of the plan.
+pub(crate) fn fault_in(
+    alloc: Global,
+    plan: &Plan,
+    trees: &Pair,
+) -> Result<Option<DomainFault>, NoMemory>
     ensures { IfOk result (λ o. o ≡ spec.fault_over plan.now.schema.value (rows_in trees.now)) }
 {
     if let Some(fault) = broken(alloc, plan, Store::Config, &trees.config)? {

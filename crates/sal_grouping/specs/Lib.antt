@@ -15,3 +15,5 @@ pub mod Children
 pub mod Expand
 pub mod Grown
 pub mod Examples
+pub mod Versions
+pub mod VersionExamples

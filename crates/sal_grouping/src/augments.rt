@@ -288,7 +288,7 @@ fn round(
 }
 
 /// Carries augments out, in rounds. The answer is those that are left, or none where there are more nodes than are taken.
-fn rounds(
+pub(crate) fn rounds(
     alloc: Global,
     modules: &Modules,
     plan: &Plan,

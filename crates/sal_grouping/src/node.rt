@@ -4,7 +4,7 @@ use crate::forest::Implied;
 
 /// A node that knows its statement.
 #[derive(Clone, Copy)]
-pub(crate) struct Node {
+pub struct Node {
     /// The number of the node above it, or none at the top.
     pub parent: Option<u32>,
     /// The number of the module that it belongs to.

@@ -14,7 +14,7 @@ use sal_types::NoMemory;
 use std::alloc::Global;
 
 /// The nodes of a module go behind the others. The answer is whether all are in it.
-fn push_module(
+pub(crate) fn push_module(
     alloc: Global,
     modules: &Modules,
     plan: &Plan,

@@ -1,7 +1,8 @@
 //! Examples, computed from the definitions.
-ghost use Rattle.std.specs.Prelude.{◌≡◌, [], ◌∷◌, Some, None};
+ghost use Rattle.std.specs.Prelude.{◌≡◌, [], ◌∷◌, Some, None, Ok};
 ghost use Rattle.sal_grouping.specs.Examples as example;
 ghost use Rattle.sal_grouping.specs.Expand.{expand};
+ghost use Rattle.sal_grouping.specs.VersionExamples as version;
 
 use crate::forest::Implied;
 use sal_module::Cause;
@@ -21,4 +22,11 @@ pub fn examples()
     ensures groupings { expand example.two_groupings ≡ example.refused Cause.DoubleNode 30 }
     ensures target { expand example.no_target ≡ example.refused Cause.BadTarget 20 }
     ensures children { expand example.two_children ≡ example.refused Cause.DoubleNode 30 }
+{}
+
+/// A later version keeps the numbers of the earlier one, while both modules at once are numbered otherwise. A call does nothing: its clauses
+/// are the laws.
+pub fn versions()
+    ensures at_once { version.at_once ≡ Ok (version.node None 0 1 ∷ version.node None 1 5 ∷ version.node (Some 0) 0 3 ∷ version.node (Some 1) 1 7 ∷ []) }
+    ensures later { version.later ≡ Ok (version.node None 0 1 ∷ version.node (Some 0) 0 3 ∷ version.node None 1 5 ∷ version.node (Some 2) 1 7 ∷ []) }
 {}

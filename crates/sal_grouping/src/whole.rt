@@ -38,7 +38,11 @@ fn branch_of(rows: &[Row], node: &Node) -> Branch
     }
 }
 
-fn branches_of(alloc: Global, rows: &[Row], nodes: &[Node]) -> Result<Vec<Branch>, NoMemory>
+pub(crate) fn branches_of(
+    alloc: Global,
+    rows: &[Row],
+    nodes: &[Node],
+) -> Result<Vec<Branch>, NoMemory>
     ensures { IfOk result (λ list. list.items ≡ map (spec.branch_of rows.now) nodes.now) }
 {
     let mut list = Vec::with_capacity(alloc, nodes.len())?;
@@ -49,7 +53,7 @@ fn branches_of(alloc: Global, rows: &[Row], nodes: &[Node]) -> Result<Vec<Branch
 }
 
 /// The nodes with every augment carried out, and the augments that are left, or none where there are more nodes than are taken.
-fn built(
+pub(crate) fn built(
     alloc: Global,
     modules: &Modules,
     plan: &Plan,
@@ -71,7 +75,7 @@ fn built(
 }
 
 /// The fault as callers get it.
-fn fault_in(alloc: Global, found: Found) -> BuildFault
+pub(crate) fn fault_in(alloc: Global, found: Found) -> BuildFault
     ensures { (result ≡ BuildFault.NoMemory → ⊥) → result ≡ fault_of found }
 {
     match found.fault(alloc) {

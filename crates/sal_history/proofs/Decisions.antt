@@ -22,6 +22,7 @@ use Rattle.sal_rows.specs.Quiet.{AreSpans, with_own}
 use Rattle.sal_rows.specs.Spans.{own_commits, spans}
 use Rattle.sal_rows.specs.declared.clash.Span.{Span}
 use Rattle.sal_rows.specs.PathClash.{Difference as Found, IsNamedIn}
+use Rattle.sal_schema.specs.declared.table.SchemaTable.{SchemaTable}
 use Rattle.sal_rules.specs.Breaches.{breach}
 use Rattle.sal_rows.specs.declared.clash.Clash.{Clash}
 use Rattle.sal_rows.specs.Clash.{clash, tip}
@@ -29,7 +30,7 @@ use Rattle.sal_rows.specs.Named as naming
 use Rattle.sal_rows.proofs.Named.{IsWithin, names_within}
 use Rattle.sal_history.specs.Outcome.{conflict_of}
 use Rattle.sal_history.specs.Submissions.{Base, Sent, done, done_chains, done_ops, failing}
-use Rattle.sal_history.specs.World.{Domain, opening_of, table_of}
+use Rattle.sal_history.specs.World.{Domain, opening_of}
 use Rattle.sal_history.specs.History.{outcome, unmounted_of}
 use Rattle.sal_history.specs.Laws.{ConflictsNameALaterCommit, DoneLeavesNoBreach, IsLaterTouch, IsOwnPlace, own_tree}
 use Rattle.sal_history.proofs.Spans.{are, first, lies, rest, split}
@@ -92,7 +93,7 @@ went (Some n) live domain d x e failed gone = absurd (failed n e)
 abbrev pub IsWithinOwn : List Domain → List Sent → List Outcome → Base → Type 0
 IsWithinOwn world ss os base = IsWithin base.trees (own_tree world ss os base)
 
-module _ (world : List Domain) (live : ℕ → Bool) (ss : List Sent) (os : List Outcome) (s : Sent) where
+module _ (world : List Domain) (tables : ℕ → SchemaTable) (live : ℕ → Bool) (ss : List Sent) (os : List Outcome) (s : Sent) where
   abbrev domain : ℕ
   domain = s.base.domain
 
@@ -112,7 +113,7 @@ module _ (world : List Domain) (live : ℕ → Bool) (ss : List Sent) (os : List
   pieces = spans s.base.commit s.base.chain chains
 
   abbrev broken : Store → Option Breach
-  broken t = breach (table_of world domain) t (apply_ops (tip opening commits t) t s.ops)
+  broken t = breach (tables domain) t (apply_ops (tip opening commits t) t s.ops)
 
   abbrev decision : Option Clash → Outcome
   decision o = decided (clashing s.ops o) (broken Config) (broken Oper) (length commits + 1)
@@ -121,7 +122,7 @@ module _ (world : List Domain) (live : ℕ → Bool) (ss : List Sent) (os : List
   as_many : length chains ≡ length commits
   as_many = length-map (done domain ss os) (λ x. x.base.chain) ∙ sym (length-map (done domain ss os) (λ x. x.ops))
 
-  pub named_within : (store : Store) (path : List Step) (kind : ClashKind) (commit : ℕ) → s.base.commit ≤ length commits → IsWithinOwn world ss os s.base → outcome world live ss os s ≡ Conflict store path kind commit
+  pub named_within : (store : Store) (path : List Step) (kind : ClashKind) (commit : ℕ) → s.base.commit ≤ length commits → IsWithinOwn world ss os s.base → outcome world tables live ss os s ≡ Conflict store path kind commit
       → IsLaterTouch world ss os s store path commit × IsOwnPlace s store path
   named_within store path kind commit base_le within all =
       let a = s.base.commit in
@@ -160,26 +161,26 @@ module _ (world : List Domain) (live : ℕ → Bool) (ss : List Sent) (os : List
   abbrev here : Outcome
   here = decision (clash opening commits s.base.trees pieces s.ops)
 
-  when_done : (commit : ℕ) → outcome world live ss os s ≡ Done commit → (broken Config ≡ None) × (broken Oper ≡ None) × (commit ≡ length commits + 1)
+  when_done : (commit : ℕ) → outcome world tables live ss os s ≡ Done commit → (broken Config ≡ None) × (broken Oper ≡ None) × (commit ≡ length commits + 1)
   when_done commit all =
       none_broken s.ops (clash opening commits s.base.trees pieces s.ops) (broken Config) (broken Oper) (length commits + 1) commit (went (failing s.base.chain ss os) (live domain) domain here (Done commit) all (λ n e. cc) (λ n e. cc)).1
 
-  pub unbroken : (commit : ℕ) (store : Store) → outcome world live ss os s ≡ Done commit → breach (table_of world domain) store (tree_after store (opening store) (commits ++ s.ops ∷ [])) ≡ None
+  pub unbroken : (commit : ℕ) (store : Store) → outcome world tables live ss os s ≡ Done commit → breach (tables domain) store (tree_after store (opening store) (commits ++ s.ops ∷ [])) ≡ None
   unbroken commit store all =
       let none = when_done commit all in
-      ap (breach (table_of world domain) store) (fold-append (next_tree store) (opening store) commits (s.ops ∷ []))
+      ap (breach (tables domain) store) (fold-append (next_tree store) (opening store) commits (s.ops ∷ []))
       ∙ elim store as (λ t. broken t ≡ None) [ Config ↦ none.0 | Oper ↦ none.1 ]
 
   -- a commit has the next number of its domain
-  pub numbered : (commit : ℕ) → outcome world live ss os s ≡ Done commit → commit ≡ length commits + 1
+  pub numbered : (commit : ℕ) → outcome world tables live ss os s ≡ Done commit → commit ≡ length commits + 1
   numbered commit all = (when_done commit all).2
 
   -- what conflicts is of no chain that failed
-  pub unfailed : (store : Store) (path : List Step) (kind : ClashKind) (commit : ℕ) → outcome world live ss os s ≡ Conflict store path kind commit → failing s.base.chain ss os ≡ None
+  pub unfailed : (store : Store) (path : List Step) (kind : ClashKind) (commit : ℕ) → outcome world tables live ss os s ≡ Conflict store path kind commit → failing s.base.chain ss os ≡ None
   unfailed store path kind commit all = (went (failing s.base.chain ss os) (live domain) domain here (Conflict store path kind commit) all (λ n e. cc) (λ n e. cc)).0
 
 pub named : ConflictsNameALaterCommit
-named world live ss os s store path kind commit base = named_within world live ss os s store path kind commit base.0 (λ t q there. ap (λ (tree : List Row). cell tree q) (base.1 t))
+named world tables live ss os s store path kind commit base = named_within world tables live ss os s store path kind commit base.0 (λ t q there. ap (λ (tree : List Row). cell tree q) (base.1 t))
 
 pub no_breach : DoneLeavesNoBreach
-no_breach world live ss os s commit store = unbroken world live ss os s commit store
+no_breach world tables live ss os s commit store = unbroken world tables live ss os s commit store

@@ -7,4 +7,6 @@ mod Placed
 mod Receipts
 mod Routed
 mod Spans
+mod Unbroken
+pub mod Versions
 mod Waiting

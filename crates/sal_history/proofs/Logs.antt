@@ -18,22 +18,16 @@ use Rattle.sal_history.specs.declared.call.Call.TheVariants.{Begin, ChainBegin, 
 use Rattle.sal_history.specs.declared.call.Entry.{Entry}
 use Rattle.sal_history.specs.declared.reply.Reply.{Reply}
 use Rattle.sal_history.specs.declared.reply.Reply.TheVariants.{Begun, Receipt, Refused}
+use Rattle.sal_history.specs.Versions.{tables_now}
 use Rattle.sal_history.specs.World.{Domain, opening_of}
 use Rattle.sal_history.specs.Submissions.{Base, Sent, done, is_in, last_from}
 use Rattle.sal_history.specs.History.{Answered, answer, answered_as, base_on, began_at, began_by, begins_in, chain_refusal, chained_base, commits, decide_next, decided_by, domain_of, failed_by, fault_if, has_open, history, is_closed, is_live, is_spent, last_begun, newest_base, nowhere, outcomes, pending, refused_or, reply_to, sent_by, sents, spends, stands_on, submitted}
 use Rattle.sal_history.proofs.Bases.{over_newest, same_chain}
+use Rattle.sal_history.proofs.Versions.{fault_none, or_none}
 use Rattle.sal_history.proofs.Receipts.{Known, Known-next, Known-open, Known-submit, Stands, StandsOn, last_or_before}
 use Rattle.sal_history.proofs.Waiting.{pending_waits, waiting, waiting_plain}
 
--- ---- options and lists
-
-or_none : {X : Type 0} (a b : Option X) → option_or a b ≡ None → (a ≡ None) × (b ≡ None)
-or_none None b e = (refl, e)
-or_none (Some x) b e = cc
-
-fault_none : (test : Bool) (fault : CallFault) → fault_if test fault ≡ None → test ≡ false
-fault_none true fault e = cc
-fault_none false fault e = refl
+-- ---- lists
 
 -- the last element at which a test gives true, of a list with one more
 last_from-push : {X : Type 0} (n : ℕ) (test : X → Bool) (xs : List X) (x : X) → last_from n test (xs ++ x ∷ []) ≡ cond (test x) (Some (n + length xs)) (last_from n test xs)
@@ -154,10 +148,10 @@ module _ (world : List Domain) (answered : List Answered) (was : IsSound world a
         ]))
 
     -- after a settle or a pump
-    decided_more : (n : ℕ) → ((b : Base) → IsNow b → IsOpen answered b) → Known world IsNow (ss ++ []) (os ++ decide_next world (is_live world answered) ss os n)
+    decided_more : (n : ℕ) → ((b : Base) → IsNow b → IsOpen answered b) → Known world IsNow (ss ++ []) (os ++ decide_next world (tables_now world answered) (is_live world answered) ss os n)
     decided_more n from =
-        subst (λ (ts : List Sent). Known world IsNow ts (os ++ decide_next world (is_live world answered) ss os n)) (sym (append-nil ss))
-        (Known-open world (IsOpen answered) IsNow ss (os ++ decide_next world (is_live world answered) ss os n) (Known-next world (IsOpen answered) (is_live world answered) n ss os was.known) (λ b is. inl (from b is)))
+        subst (λ (ts : List Sent). Known world IsNow ts (os ++ decide_next world (tables_now world answered) (is_live world answered) ss os n)) (sym (append-nil ss))
+        (Known-open world (IsOpen answered) IsNow ss (os ++ decide_next world (tables_now world answered) (is_live world answered) ss os n) (Known-next world (IsOpen answered) (tables_now world answered) (is_live world answered) n ss os was.known) (λ b is. inl (from b is)))
 
     -- after a submit with this answer
     abbrev Submitted : ℕ → List Op → Reply → Type 0
@@ -272,7 +266,7 @@ module _ (world : List Domain) (answered : List Answered) (was : IsSound world a
     last_begun-now : (chain : ℕ) → last_begun (answered ++ now ∷ []) chain ≡ cond (begins_in chain now) (Some (0 + length answered)) (last_begun answered chain)
     last_begun-now chain = last_from-push 0 (begins_in chain) answered now
 
-    IsSound-answer : IsSound world (answer world answered e)
+    pub IsSound-answer : IsSound world (answer world answered e)
     IsSound-answer =
         record {
           known =
@@ -303,7 +297,7 @@ module _ (world : List Domain) where
   IsSound-fold answered [] was = was
   IsSound-fold answered (e ∷ log) was = IsSound-fold (answer world answered e) log (IsSound-answer world answered was e)
 
-  IsSound-nothing : IsSound world []
+  pub IsSound-nothing : IsSound world []
   IsSound-nothing =
       record {
         known =

@@ -17,6 +17,7 @@ use Rattle.sal_rows.specs.declared.outcome.Outcome.{Outcome}
 use Rattle.sal_rows.specs.declared.outcome.Outcome.TheVariants.{Conflict, Done}
 use Rattle.sal_rows.specs.Commits.{touches_at}
 use Rattle.sal_rows.specs.Spans.{is_of_chain, is_own}
+use Rattle.sal_schema.specs.declared.table.SchemaTable.{SchemaTable}
 use Rattle.sal_history.specs.World.{Domain, opening_of}
 use Rattle.sal_history.specs.Submissions.{Base, Sent, done, failing, if_done, is_done, is_in}
 use Rattle.sal_history.specs.History.{decide_front, decide_next, nowhere, outcome}
@@ -143,23 +144,23 @@ module _ (world : List Domain) where
         (subst (λ (w : Option Sent). StandsOn world ss os w b) (waiting-next b.chain before s os o at) (was earlier.0))
 
   -- the front of what is pending, decided as a conflict
-  front_named : (live : ℕ → Bool) (ss : List Sent) (os : List Outcome) (s : Sent) (store : Store) (path : List Step) (kind : ClashKind) (commit : ℕ)
-      → Stands world ss os (take (length os) ss) s.base → outcome world live ss os s ≡ Conflict store path kind commit → IsNamed world ss os s store path commit
-  front_named live ss os s store path kind commit own is =
-      elim (front_on ss os s (unfailed world live ss os s store path kind commit is) own) [
-        | inl base ↦ named_within world live ss os s store path kind commit base.0 (λ t q there. ap (λ (tree : List Row). cell tree q) (base.1 t)) is
+  front_named : (tables : ℕ → SchemaTable) (live : ℕ → Bool) (ss : List Sent) (os : List Outcome) (s : Sent) (store : Store) (path : List Step) (kind : ClashKind) (commit : ℕ)
+      → Stands world ss os (take (length os) ss) s.base → outcome world tables live ss os s ≡ Conflict store path kind commit → IsNamed world ss os s store path commit
+  front_named tables live ss os s store path kind commit own is =
+      elim (front_on ss os s (unfailed world tables live ss os s store path kind commit is) own) [
+        | inl base ↦ named_within world tables live ss os s store path kind commit base.0 (λ t q there. ap (λ (tree : List Row). cell tree q) (base.1 t)) is
         | inr e ↦
             let zero_is : 0 ≡ s.base.commit = ap (λ (x : Base). x.commit) (sym e) in
             let empty : IsWithinOwn world ss os s.base = λ t q there.
             let none : false ≡ true = ap (λ (x : Base). is_some (cell (x.trees t) q)) (sym e) ∙ there in
             cc in
-            named_within world live ss os s store path kind commit (omega (arith, zero_is)) empty is
+            named_within world tables live ss os s store path kind commit (omega (arith, zero_is)) empty is
       ]
 
   module _ (IsOpen : Base → Type 0) where
-    Known-decide : (live : ℕ → Bool) (ss : List Sent) (os : List Outcome) (s : Sent) → Known world IsOpen ss os → slice_get ss (length os) ≡ Some s → Known world IsOpen ss (os ++ outcome world live ss os s ∷ [])
-    Known-decide live ss os s was next =
-        let o = outcome world live ss os s in
+    Known-decide : (tables : ℕ → SchemaTable) (live : ℕ → Bool) (ss : List Sent) (os : List Outcome) (s : Sent) → Known world IsOpen ss os → slice_get ss (length os) ≡ Some s → Known world IsOpen ss (os ++ outcome world tables live ss os s ∷ [])
+    Known-decide tables live ss os s was next =
+        let o = outcome world tables live ss os s in
         let own = was.sent (length os) s next (omega arith) in
         record {
           within = omega (arith, slice_get_within ss (length os) s next, length-append os (o ∷ []));
@@ -176,7 +177,7 @@ module _ (world : List Domain) where
                 let same : s ≡ t = same_Some s t (sym next ∙ ap (slice_get ss) (sym w.0) ∙ at) in
                 let front : take i (os ++ o ∷ []) ≡ os = ap (λ k. take k (os ++ o ∷ [])) w.0 ∙ take-append_seam os (o ∷ []) in
                 subst (λ (ps : List Outcome). IsNamed world ss ps t store path commit) (sym front)
-                (subst (λ (u : Sent). IsNamed world ss os u store path commit) same (front_named live ss os s store path kind commit own w.1))
+                (subst (λ (u : Sent). IsNamed world ss os u store path commit) same (front_named tables live ss os s store path kind commit own w.1))
           ];
           based = λ i t at decided. elim (cases_lt i (length os)) [
             | inl inside ↦
@@ -197,7 +198,7 @@ module _ (world : List Domain) where
             | inr w ↦
                 let same : s ≡ t = same_Some s t (sym next ∙ ap (slice_get ss) (sym w.0) ∙ at) in
                 let front : take i (os ++ o ∷ []) ≡ os = ap (λ k. take k (os ++ o ∷ [])) w.0 ∙ take-append_seam os (o ∷ []) in
-                numbered world live ss os s commit w.1
+                numbered world tables live ss os s commit w.1
                 ∙ ap (λ n. n + 1) (length-map (done s.base.domain ss os) (λ x. x.ops))
                 ∙ ap (λ (u : Sent). length (done u.base.domain ss os) + 1) same
                 ∙ ap (λ (ps : List Outcome). length (done t.base.domain ss ps) + 1) (sym front)
@@ -205,15 +206,15 @@ module _ (world : List Domain) where
         }
 
     -- the outcomes that a settle or a pump decides
-    Known-front : (live : ℕ → Bool) (ss : List Sent) (os : List Outcome) → Known world IsOpen ss os → (next : Option Sent) → slice_get ss (length os) ≡ next → Known world IsOpen ss (os ++ decide_front world live ss os next)
-    Known-front live ss os was None at = subst (Known world IsOpen ss) (sym (append-nil os)) was
-    Known-front live ss os was (Some s) at = Known-decide live ss os s was at
+    Known-front : (tables : ℕ → SchemaTable) (live : ℕ → Bool) (ss : List Sent) (os : List Outcome) → Known world IsOpen ss os → (next : Option Sent) → slice_get ss (length os) ≡ next → Known world IsOpen ss (os ++ decide_front world tables live ss os next)
+    Known-front tables live ss os was None at = subst (Known world IsOpen ss) (sym (append-nil os)) was
+    Known-front tables live ss os was (Some s) at = Known-decide tables live ss os s was at
 
-    pub Known-next : (live : ℕ → Bool) (n : ℕ) (ss : List Sent) (os : List Outcome) → Known world IsOpen ss os → Known world IsOpen ss (os ++ decide_next world live ss os n)
-    Known-next live zero ss os was = subst (Known world IsOpen ss) (sym (append-nil os)) was
-    Known-next live (suc n) ss os was =
-        let front = decide_front world live ss os (slice_get ss (length os)) in
-        subst (Known world IsOpen ss) (append_assoc os front (decide_next world live ss (os ++ front) n)) (Known-next live n ss (os ++ front) (Known-front live ss os was (slice_get ss (length os)) refl))
+    pub Known-next : (tables : ℕ → SchemaTable) (live : ℕ → Bool) (n : ℕ) (ss : List Sent) (os : List Outcome) → Known world IsOpen ss os → Known world IsOpen ss (os ++ decide_next world tables live ss os n)
+    Known-next tables live zero ss os was = subst (Known world IsOpen ss) (sym (append-nil os)) was
+    Known-next tables live (suc n) ss os was =
+        let front = decide_front world tables live ss os (slice_get ss (length os)) in
+        subst (Known world IsOpen ss) (append_assoc os front (decide_next world tables live ss (os ++ front) n)) (Known-next tables live n ss (os ++ front) (Known-front tables live ss os was (slice_get ss (length os)) refl))
 
     -- ---- one submission more
 

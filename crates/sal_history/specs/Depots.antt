@@ -24,7 +24,7 @@ depots = table (
 
 -- a world of one domain with these rows in its configuration
 abbrev pub stocked : List Row → List Domain
-stocked rows = record { table = depots; opening = record { config = rows; oper = [] } } ∷ []
+stocked rows = record { table = depots; upgrades = []; opening = record { config = rows; oper = [] } } ∷ []
 
 abbrev pub depot : List Step
 depot = Node 0 ∷ []

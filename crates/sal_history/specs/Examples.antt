@@ -42,10 +42,10 @@ leaf path text = record { path = path; cell = Leaf (record { member = 0; atom = 
 
 -- a world of one domain with these rows in its configuration, or in its operational tree
 abbrev pub opened : List Row → List Domain
-opened rows = record { table = boxes; opening = record { config = rows; oper = [] } } ∷ []
+opened rows = record { table = boxes; upgrades = []; opening = record { config = rows; oper = [] } } ∷ []
 
 abbrev pub opened_oper : List Row → List Domain
-opened_oper rows = record { table = boxes; opening = record { config = []; oper = rows } } ∷ []
+opened_oper rows = record { table = boxes; upgrades = []; opening = record { config = []; oper = rows } } ∷ []
 
 -- ---- operations
 

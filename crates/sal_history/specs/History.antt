@@ -8,16 +8,17 @@ use Rattle.sal_types.specs.declared.value.Step.{Step}
 use Rattle.sal_types.specs.declared.row.Row.{Row}
 use Rattle.sal_rows.specs.declared.op.Op.{Op}
 use Rattle.sal_rows.specs.declared.outcome.CallFault.{CallFault}
-use Rattle.sal_rows.specs.declared.outcome.CallFault.TheVariants.{NoDomain, NoListener, TooManyListeners, PipelineFull, TxSpent, PreviousOpen, ChainFailed, ChainClosed}
+use Rattle.sal_rows.specs.declared.outcome.CallFault.TheVariants.{NoDomain, NoListener, TooManyListeners, PipelineFull, TxSpent, PreviousOpen, ChainFailed, ChainClosed, WrongVersion}
 use Rattle.sal_rows.specs.declared.outcome.Outcome.{Outcome}
 use Rattle.sal_rows.specs.declared.outcome.Outcome.TheVariants.{ChainFailed as FailedBy, Unmounted}
 use Rattle.sal_rows.specs.Apply.{apply_ops}
 use Rattle.sal_rows.specs.Batches.{batch, opened}
 use Rattle.sal_rows.specs.Commits.{tree_after, tree_at}
 use Rattle.sal_rows.specs.Spans.{is_of_chain, spans}
+use Rattle.sal_schema.specs.declared.table.SchemaTable.{SchemaTable}
 use Rattle.sal_schema.specs.Fitting.{has_own_row}
 use Rattle.sal_history.specs.declared.call.Call.{Call}
-use Rattle.sal_history.specs.declared.call.Call.TheVariants.{Begin, OpenChain, ChainBegin, CloseChain, Submit, Cancel, Settle, Pump, Listen, Take, Unlisten, Provide, Withdraw, Invoke, NextCall, Answer, Collect, Subscribe, Offer, TakeNotes, Mount, Unmount, MountAt, Mark, After}
+use Rattle.sal_history.specs.declared.call.Call.TheVariants.{Begin, OpenChain, ChainBegin, CloseChain, Submit, Cancel, Settle, Pump, Listen, Take, Unlisten, Provide, Withdraw, Invoke, NextCall, Answer, Collect, Subscribe, Offer, TakeNotes, Mount, Unmount, MountAt, Mark, After, Upgrade}
 use Rattle.sal_history.specs.declared.call.Entry.{Entry}
 use Rattle.sal_history.specs.declared.reply.Reply.{Reply}
 use Rattle.sal_history.specs.declared.reply.Reply.TheVariants.{Begun, Chain, Accepted, Receipt, Settled, Decided, Nothing, Listener, Batch, Found, Late, Refused}
@@ -29,7 +30,8 @@ use Rattle.sal_note.specs.declared.call.NoteCall.TheVariants as notes
 use Rattle.sal_mount.specs.declared.call.MountCall.TheVariants as mount_calls
 use Rattle.sal_history.specs.Services.{by_mounts, by_notes, by_router, is_live_among, rpc_of, rpc_reply}
 use Rattle.sal_history.specs.Submissions.{Base, Sent, done_chains, done_ops, failing, last_from, pending_receipt, view_of}
-use Rattle.sal_history.specs.World.{Domain, opening_of, table_of}
+use Rattle.sal_history.specs.Versions.{broken_by, schema_version, tables_now}
+use Rattle.sal_history.specs.World.{Domain, last_of, opening_of, table_of}
 
 -- the submissions, by receipt from 1 on
 abbrev pub sents : List Answered → List Sent
@@ -191,10 +193,11 @@ module _ (world : List Domain) where
   listening answered domain s path =
       Listener (length (listeners answered) + 1) domain path (opened (trees_at answered domain s) path (length (commits answered domain)))
 
-  -- the answer to a take of the listener: what the commits after its version changed, up to the newest one
+  -- the answer to a take of the listener: what the commits after its version changed, up to the newest one. Whether its path has a
+  -- row of its own is told by the last version of the schema, so that no upgrade changes it.
   abbrev pub batch_of : List Answered → ℕ → Listening → Reply
   batch_of answered id l =
-      Batch l.domain (batch (has_own_row (table_of world l.domain) l.path) (trees_at answered l.domain l.store) l.path (version answered id) (length (commits answered l.domain)))
+      Batch l.domain (batch (has_own_row (last_of world l.domain) l.path) (trees_at answered l.domain l.store) l.path (version answered id) (length (commits answered l.domain)))
 
   -- a client is answered about its own live listeners alone
   abbrev pub if_listens : List Answered → ℕ → ℕ → Reply → Reply
@@ -203,31 +206,31 @@ module _ (world : List Domain) where
   abbrev pub taken : List Answered → ℕ → Reply
   taken answered id = option_map_or (batch_of answered id) (listener_at answered id) (Refused (NoListener id))
 
-  -- The outcome of a submission, decided after these outcomes, while these domains are live. Where a smaller receipt of its chain
+  -- The outcome of a submission, decided after these outcomes by these tables, while these domains are live. Where a smaller receipt of its chain
   -- was not done, that one is named; else where its domain is not live any more, that domain. Else it is decided over the commits
   -- of its domain; those after its base that are not of its chain are foreign.
-  abbrev pub outcome : (ℕ → Bool) → List Sent → List Outcome → Sent → Outcome
-  outcome live ss os s =
+  abbrev pub outcome : (ℕ → SchemaTable) → (ℕ → Bool) → List Sent → List Outcome → Sent → Outcome
+  outcome tables live ss os s =
       unwrap_or (option_or (option_map FailedBy (failing s.base.chain ss os)) (unmounted_of (live s.base.domain) s.base.domain))
-      (decide (table_of world s.base.domain) (opening_of world s.base.domain) (done_ops s.base.domain ss os) s.base.trees
+      (decide (tables s.base.domain) (opening_of world s.base.domain) (done_ops s.base.domain ss os) s.base.trees
       (spans s.base.commit s.base.chain (done_chains s.base.domain ss os)) s.ops)
 
   -- the outcome of the front of what is pending, after these outcomes
-  abbrev pub decide_front : (ℕ → Bool) → List Sent → List Outcome → Option Sent → List Outcome
-  decide_front live ss os None = []
-  decide_front live ss os (Some s) = outcome live ss os s ∷ []
+  abbrev pub decide_front : (ℕ → SchemaTable) → (ℕ → Bool) → List Sent → List Outcome → Option Sent → List Outcome
+  decide_front tables live ss os None = []
+  decide_front tables live ss os (Some s) = outcome tables live ss os s ∷ []
 
   -- the outcomes of the next n receipts, after these
-  abbrev pub decide_next : (ℕ → Bool) → List Sent → List Outcome → ℕ → List Outcome
-  decide_next live ss os zero = []
-  decide_next live ss os (suc n) =
-      decide_front live ss os (slice_get ss (length os)) ++ decide_next live ss (os ++ decide_front live ss os (slice_get ss (length os))) n
+  abbrev pub decide_next : (ℕ → SchemaTable) → (ℕ → Bool) → List Sent → List Outcome → ℕ → List Outcome
+  decide_next tables live ss os zero = []
+  decide_next tables live ss os (suc n) =
+      decide_front tables live ss os (slice_get ss (length os)) ++ decide_next tables live ss (os ++ decide_front tables live ss os (slice_get ss (length os))) n
 
-  -- the outcomes that a call decides: a settle those of the receipts up to its own that are pending, a pump that of the first
-  -- that is
+  -- the outcomes that a call decides, all by the present version: a settle those of the receipts up to its own that are pending, a
+  -- pump that of the first that is
   abbrev pub decided_by : List Answered → Call → List Outcome
-  decided_by answered (Settle receipt) = decide_next (is_live world answered) (sents answered) (outcomes answered) (receipt - length (outcomes answered))
-  decided_by answered Pump = decide_next (is_live world answered) (sents answered) (outcomes answered) 1
+  decided_by answered (Settle receipt) = decide_next (tables_now world answered) (is_live world answered) (sents answered) (outcomes answered) (receipt - length (outcomes answered))
+  decided_by answered Pump = decide_next (tables_now world answered) (is_live world answered) (sents answered) (outcomes answered) 1
   decided_by answered call = []
 
   -- a base at the newest commit of a domain, in a chain or in none
@@ -248,6 +251,12 @@ module _ (world : List Domain) where
   began_by answered (Begin domain mode) (Begun commit on) = Some (newest_base answered domain None)
   began_by answered (ChainBegin chain mode) (Begun commit on) = Some (chained_base answered chain)
   began_by answered call reply = None
+
+  -- Why an upgrade to the version is refused: it is not the next one, or a newest tree of domain 0 would break a rule by it.
+  abbrev pub upgrade_refusal : List Answered → ℕ → Option CallFault
+  upgrade_refusal answered version =
+      option_or (fault_if (not (nat_eq (schema_version answered + 1) version)) (WrongVersion (schema_version answered)))
+      (broken_by (table_of world version 0) (trees_of answered 0))
 
   -- the reply to a call of the client after these entries
   abbrev pub reply_to : List Answered → ℕ → Call → Reply
@@ -276,6 +285,7 @@ module _ (world : List Domain) where
   reply_to answered client (MountAt path) = by_mounts (length world) answered (mount_calls.MountAt path)
   reply_to answered client (Mark mark) = Accepted
   reply_to answered client (After mark) = if is_marked answered mark then Found else Late
+  reply_to answered client (Upgrade version) = refused_or (upgrade_refusal answered version) Accepted
 
   -- an entry after these, with its answer
   abbrev pub answered_as : List Answered → Entry → Reply → Answered

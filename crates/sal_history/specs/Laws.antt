@@ -11,8 +11,9 @@ use Rattle.sal_rows.specs.declared.outcome.Outcome.TheVariants.{Conflict, Done}
 use Rattle.sal_rows.specs.Commits.{touches_at, tree_after, tree_at}
 use Rattle.sal_rows.specs.Spans.{is_own, spans}
 use Rattle.sal_rows.specs.Quiet.{with_own}
+use Rattle.sal_schema.specs.declared.table.SchemaTable.{SchemaTable}
 use Rattle.sal_rules.specs.Breaches.{breach}
-use Rattle.sal_history.specs.World.{Domain, opening_of, table_of}
+use Rattle.sal_history.specs.World.{Domain, opening_of}
 use Rattle.sal_history.specs.declared.call.Entry.{Entry}
 use Rattle.sal_history.specs.Submissions.{Base, Sent, done_chains, done_ops}
 use Rattle.sal_history.specs.History.{history, outcome, outcomes, sents}
@@ -43,8 +44,8 @@ IsOwnPlace s store path = Any (λ (op : Op). (op.store ≡ store) × IsTrue (is_
 -- A submission with such a base, decided after these outcomes as a conflict, names such a commit and such a path.
 abbrev pub ConflictsNameALaterCommit : Type 0
 ConflictsNameALaterCommit =
-    (world : List Domain) (live : ℕ → Bool) (ss : List Sent) (os : List Outcome) (s : Sent) (store : Store) (path : List Step) (kind : ClashKind) (commit : ℕ)
-    → IsBase world ss os s.base → outcome world live ss os s ≡ Conflict store path kind commit
+    (world : List Domain) (tables : ℕ → SchemaTable) (live : ℕ → Bool) (ss : List Sent) (os : List Outcome) (s : Sent) (store : Store) (path : List Step) (kind : ClashKind) (commit : ℕ)
+    → IsBase world ss os s.base → outcome world tables live ss os s ≡ Conflict store path kind commit
     → IsLaterTouch world ss os s store path commit × IsOwnPlace s store path
 
 -- Each receipt of a log that was decided as a conflict names a commit that was done before it, came after the base of its
@@ -55,9 +56,9 @@ ConflictsOfALogNameALaterCommit =
     → slice_get (sents (history world log)) i ≡ Some s → slice_get (outcomes (history world log)) i ≡ Some (Conflict store path kind commit)
     → IsLaterTouch world (sents (history world log)) (take i (outcomes (history world log))) s store path commit × IsOwnPlace s store path
 
--- A submission that is done after these outcomes leaves trees without a breach, in both stores.
+-- A submission that is done after these outcomes leaves trees without a breach by the table by which it was decided, in both stores.
 abbrev pub DoneLeavesNoBreach : Type 0
 DoneLeavesNoBreach =
-    (world : List Domain) (live : ℕ → Bool) (ss : List Sent) (os : List Outcome) (s : Sent) (commit : ℕ) (store : Store)
-    → outcome world live ss os s ≡ Done commit
-    → breach (table_of world s.base.domain) store (tree_after store (opening_of world s.base.domain store) (done_ops s.base.domain ss os ++ s.ops ∷ [])) ≡ None
+    (world : List Domain) (tables : ℕ → SchemaTable) (live : ℕ → Bool) (ss : List Sent) (os : List Outcome) (s : Sent) (commit : ℕ) (store : Store)
+    → outcome world tables live ss os s ≡ Done commit
+    → breach (tables s.base.domain) store (tree_after store (opening_of world s.base.domain store) (done_ops s.base.domain ss os ++ s.ops ∷ [])) ≡ None

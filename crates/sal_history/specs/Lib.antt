@@ -12,4 +12,7 @@ pub mod ServiceExamples
 pub mod ServiceLaws
 pub mod Services
 pub mod Submissions
+pub mod VersionExamples
+pub mod VersionLaws
+pub mod Versions
 pub mod World

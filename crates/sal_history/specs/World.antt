@@ -1,13 +1,17 @@
--- The world: the domains, each with the table of its schema and its opening trees. Domain 0 is the controller's own.
-use Rattle.std.specs.Prelude.{ℕ, List, [], Option, None, Some, slice_get}
+-- The world: the domains, each with the tables of its schema's versions and its opening trees. Domain 0 is the controller's own.
+use Rattle.std.specs.Prelude.{◌≡◌, ℕ, zero, suc, List, [], ◌∷◌, length, Option, None, Some, slice_get}
 use Rattle.sal_types.specs.declared.value.Store.{Store}
 use Rattle.sal_types.specs.declared.value.Store.TheVariants.{Config, Oper}
 use Rattle.sal_types.specs.declared.row.Row.{Row}
 use Rattle.sal_schema.specs.declared.table.SchemaTable.{SchemaTable}
+use Rattle.sal_schema.specs.Versions.{Extends}
 use Rattle.sal_history.specs.declared.opening.Opening.{Opening}
 
+-- A domain: the table of version 0 of its schema, those of the versions after it, and its opening trees, which are read by version 0.
+-- Domain 0 alone may have more than one version.
 pub record Domain : Type 0 where
   pub table : SchemaTable
+  pub upgrades : List SchemaTable
   pub opening : Opening
 
 -- the opening tree of a store
@@ -27,10 +31,44 @@ opening_of world domain s = at (slice_get world domain)
 abbrev pub no_table : SchemaTable
 no_table = record { nodes = []; types = []; modules = []; identities = [] }
 
--- the table of a domain's schema, without nodes where the world has none of that number
-abbrev pub table_of : List Domain → ℕ → SchemaTable
-table_of world domain = at (slice_get world domain)
+-- ---- versions
+
+-- counted from the table on, that of a version; the last one where there are fewer
+abbrev pub version_from : SchemaTable → List SchemaTable → ℕ → SchemaTable
+version_from table [] v = table
+version_from table (next ∷ upgrades) zero = table
+version_from table (next ∷ upgrades) (suc v) = version_from next upgrades v
+
+-- the table of a version of a domain's schema; where there are no upgrades it is the one table
+abbrev pub version_in : Domain → ℕ → SchemaTable
+version_in d v = version_from d.table d.upgrades v
+
+-- and by the domain's number, without nodes where the world has none of that number
+abbrev pub table_of : List Domain → ℕ → ℕ → SchemaTable
+table_of world v domain = at (slice_get world domain)
   where
     at : Option Domain → SchemaTable
     at None = no_table
-    at (Some d) = d.table
+    at (Some d) = version_in d v
+
+-- the table of the last version
+abbrev pub last_of : List Domain → ℕ → SchemaTable
+last_of world domain = at (slice_get world domain)
+  where
+    at : Option Domain → SchemaTable
+    at None = no_table
+    at (Some d) = version_in d (length d.upgrades)
+
+-- each version extends the one before
+abbrev pub IsChain : SchemaTable → List SchemaTable → Type 0
+IsChain older [] = Unit {0}
+IsChain older (newer ∷ upgrades) = Extends newer older × IsChain newer upgrades
+
+-- domain 0 alone has more than one version
+abbrev pub OneIsUpgraded : List Domain → Type 0
+OneIsUpgraded world = (number : ℕ) (d : Domain) → slice_get world (suc number) ≡ Some d → d.upgrades ≡ []
+
+-- what the versions of a world's domains are
+pub record AreVersions (world : List Domain) : Type 0 where
+  pub chain : (number : ℕ) (d : Domain) → slice_get world number ≡ Some d → IsChain d.table d.upgrades
+  pub only : OneIsUpgraded world

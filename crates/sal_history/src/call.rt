@@ -114,6 +114,10 @@ pub enum Call {
     After {
         mark: u32,
     },
+    /// Upgrades the schema of the controller's own domain to this version, which is the next one.
+    Upgrade {
+        version: u32,
+    },
 }
 
 /// A call in the log: the client that made it, the count of that client's earlier entries, and the call.

@@ -1,6 +1,7 @@
 //! Laws of the log's meaning. Each function does nothing; its contract is the law.
 ghost use Rattle.sal_history.specs.ChainLaws.{CommitsStandInOrder, NoConflictInAChain, OwnCommitsAreOnTop};
 ghost use Rattle.sal_history.specs.Laws.{ConflictsNameALaterCommit, ConflictsOfALogNameALaterCommit, DoneLeavesNoBreach};
+ghost use Rattle.sal_history.specs.VersionLaws.{NewestTreesKeepTheRules, UpgradesGoOneByOne};
 ghost use Rattle.sal_history.specs.ServiceLaws.{AnswersAreCollected, CollectedAsGiven, HandedOnceInALog, HandedToItsProvider, TakenOnceInOrder};
 
 /// A conflict names a later commit, not of its own chain, that touched its path, which is one of the transaction's own or
@@ -16,9 +17,21 @@ pub fn conflicts_name_a_later_commit()
     ensures log { ConflictsOfALogNameALaterCommit }
 {}
 
-/// A submission that is done leaves trees without a breach of a structural rule, in both stores, in a chain or in none.
+/// A submission that is done leaves trees without a breach of a structural rule of the version of the schema by which it was
+/// decided, in both stores, in a chain or in none.
 pub fn done_leaves_no_breach()
     ensures { DoneLeavesNoBreach }
+{}
+
+/// In each log, of versions of the schema: the newest trees of each domain break no rule of the present version, where the opening
+/// trees break none of version 0. So an accepted upgrade finds none broken by the version that it goes to, and none is from there on.
+pub fn newest_trees_keep_the_rules()
+    ensures { NewestTreesKeepTheRules }
+{}
+
+/// In each log, an upgrade that is accepted goes from the version before the one that it names to that one.
+pub fn upgrades_go_one_by_one()
+    ensures { UpgradesGoOneByOne }
 {}
 
 /// In each log, of a transaction chain (`DOMTransactionChain`). While it has not failed, each of its submissions is decided

@@ -5,16 +5,16 @@
 //! | `Call`, `Entry`, `Log` | a shared call; a call with its client; the calls in order |
 //! | `SharedOps` | the operations of a submission, which the log and the commit have together |
 //! | `Reply` | what a shared call is answered |
-//! | `Device`, `Opening` | a domain's schema with its opening trees; its trees before the first commit |
-//! | `examples`, `chain_examples`, `listener_examples`, `service_examples` | functions that do nothing, each with worked examples of a log's meaning as its contract |
+//! | `Device`, `Opening` | the versions of a domain's schema with its opening trees; its trees before the first commit |
+//! | `examples`, `chain_examples`, `listener_examples`, `service_examples`, `version_examples` | functions that do nothing, each with worked examples of a log's meaning as its contract |
 //! | `laws` | functions that do nothing, each with a law of the log's meaning as its contract |
 //!
 //! `specs/History` answers a log entry by entry: receipts, outcomes, commits, trees, base and view of a transaction. It
 //! keeps the list of calls and nothing else: every tree is computed from the opening, every conflict by looking through the
 //! later commits. What it says:
 //!
-//! - The world is a list of domains, each with the table of its schema and its opening trees (`specs/World`). Domain 0, the
-//!   controller's own, is always live; that of a device is from its mount to its unmount, once. Transactions begin, and chains
+//! - The world is a list of domains, each with the tables of its schema's versions and its opening trees (`specs/World`). Domain 0,
+//!   the controller's own, alone has more than one version, and is always live; that of a device is from its mount to its unmount, once. Transactions begin, and chains
 //!   and listeners are opened, in live domains alone.
 //! - A transaction without a chain stands on its domain's newest commit when it begins, and sees that commit's trees under
 //!   its own writes.
@@ -38,13 +38,20 @@
 //!   the order of the log: `specs/Services` says which of the shared calls are whose, and what their answers are as replies. No
 //!   call on one service, and no transaction, changes what another one answers, but for mounts, which make domains live.
 //! - A mark is found by whoever asks for it later.
+//! - The schema of domain 0 has versions (`specs/Versions`), and the present one is the number of upgrades that were accepted. An
+//!   upgrade is refused unless it is to the next version, and else where a newest tree of domain 0 would break a rule by it, the
+//!   configuration before the operational tree. A decision, and so all those of one settle, is by the version that is present then,
+//!   whatever it was when the transaction began; conflicts do not depend on versions. A transaction writes and reads by the
+//!   version at its beginning, and batches are by the last version.
 //!
 //! What a refused client is told. In each log, the commit that a receipt's conflict names was done before that receipt,
 //! came after the base of its transaction, is not of its own chain, and touched the path that the conflict names, and that
 //! path is at or above one of the transaction's operations (`laws::conflicts_name_a_later_commit`). So a chain never
 //! conflicts with itself; unless it has failed, what one of its submissions saw of pending ones is what they left as
 //! commits; and commits stand in the order of receipts (`laws::chains_keep_to_themselves`). A submission that is decided as
-//! done leaves no breach, in either store (`laws::done_leaves_no_breach`).
+//! done leaves no breach, in either store (`laws::done_leaves_no_breach`), by the version at its decision; so the newest trees break
+//! no rule of the present version (`laws::newest_trees_keep_the_rules`), and versions follow one another
+//! (`laws::upgrades_go_one_by_one`).
 //!
 //! What a service keeps over each log. A request is handed out at most once, to the client whose registration its invocation found
 //! (`laws::requests_go_to_their_provider_once`). What was answered is what is collected (`laws::answers_are_collected_as_given`). A
@@ -62,6 +69,7 @@ pub mod opening;
 pub mod reply;
 pub mod service_examples;
 pub mod shared;
+pub mod version_examples;
 
 pub use call::{Call, Entry, Log};
 pub use opening::{Device, Opening};

@@ -10,9 +10,11 @@ pub struct Opening {
     pub oper: Rows,
 }
 
-/// A domain before the first commit: its schema and its opening trees.
+/// A domain before the first commit: version 0 of its schema, the versions after it in order, and its opening trees, which
+/// are read by version 0. The first device of a world alone may have more than one version.
 #[derive(Drop)]
 pub struct Device {
     pub schema: Arc<Schema>,
+    pub upgrades: Vec<Arc<Schema>>,
     pub opening: Opening,
 }

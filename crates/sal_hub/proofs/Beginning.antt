@@ -19,20 +19,23 @@ use Rattle.sal_history.specs.declared.reply.Reply.TheVariants.{Begun, Refused}
 use Rattle.sal_history.specs.World as world
 use Rattle.sal_history.specs.History.{Answered, began_at, began_by, commits, decided_by, entries_of, history, opened_chain, reply_to, sents, sent_by, spends, trees_of}
 use Rattle.sal_history.specs.Services.{mount_call}
+use Rattle.sal_history.specs.Versions.{schema_version, upgraded, version_at}
+use Rattle.sal_history.proofs.Versions.{version_at-now, version_at-stays}
 use Rattle.sal_history.specs.Submissions.{Base}
 use Rattle.sal_hub.specs.declared.pipeline.Pipeline.{Pipeline}
 use Rattle.sal_hub.specs.declared.start.Footing.{Footing}
 use Rattle.sal_hub.specs.Answers.{Made}
-use Rattle.sal_hub.specs.Current.{IsCurrent, IsKept, answers, known_of}
+use Rattle.sal_hub.specs.Current.{IsCurrent, IsKept, answers, known_of, number_of}
 use Rattle.sal_hub.specs.Journals.{Noted, jotted, mark_at}
 use Rattle.sal_hub.specs.PipelineView.{IsStored, is_live_in, line_of, shown, world_in}
 use Rattle.sal_hub.specs.Starts.{IsNewest, Starts}
 use Rattle.sal_hub.specs.Tokens.{IsBegun, IsToken, base_of, begun_of}
-use Rattle.sal_hub.proofs.Deciding.{opening-at, table-at}
+use Rattle.sal_hub.proofs.Deciding.{opening-at}
 use Rattle.sal_hub.proofs.Histories.{history-push, length-history, now_of}
 use Rattle.sal_hub.proofs.Keeping.{commits-current, quiet}
 use Rattle.sal_hub.proofs.Listed.{slice_get_seam}
 use Rattle.sal_hub.proofs.Starting.{same_rows}
+use Rattle.sal_hub.proofs.Versioned.{schema-present, version-present}
 
 -- ---- any call
 
@@ -47,14 +50,14 @@ module _ (journal journal' : Noted) (p : Pipeline) (is : IsKept journal p) (clie
   entry = record { client = client; number = entries_of journal.log client; call = call }
 
   -- one that is none on mounts, and submits, decides, spends and opens nothing
-  pub quiet_kept : mount_call call ≡ None → sent_by (answers journal.log (line_of p)) call (reply_to (world_in (line_of p).domains) (answers journal.log (line_of p)) client call) ≡ None
+  pub quiet_kept : upgraded call (reply_to (world_in (line_of p).domains) (answers journal.log (line_of p)) client call) ≡ false → mount_call call ≡ None → sent_by (answers journal.log (line_of p)) call (reply_to (world_in (line_of p).domains) (answers journal.log (line_of p)) client call) ≡ None
       → decided_by (world_in (line_of p).domains) (answers journal.log (line_of p)) call ≡ []
       → ((k : ℕ) → spends call (reply_to (world_in (line_of p).domains) (answers journal.log (line_of p)) client call) k ≡ false)
       → opened_chain call (reply_to (world_in (line_of p).domains) (answers journal.log (line_of p)) client call) ≡ None
       → ((k : ℕ) → mark_at journal'.marks k ≡ mark_at journal.marks k) → IsKept journal' p
-  quiet_kept unmounted none nothing unspent unopened marks = record {
+  quiet_kept unraised unmounted none nothing unspent unopened marks = record {
     kept = is.kept;
-    current = subst (λ (l : List Entry). IsCurrent l journal'.marks (line_of p)) (sym log) (quiet journal.log journal.marks (line_of p) is.current entry journal'.marks unmounted none nothing unspent marks unopened);
+    current = subst (λ (l : List Entry). IsCurrent l journal'.marks (line_of p)) (sym log) (quiet journal.log journal.marks (line_of p) is.current entry unraised journal'.marks unmounted none nothing unspent marks unopened);
     let_go = is.let_go;
   }
 
@@ -64,14 +67,22 @@ module _ (journal journal' : Noted) (p : Pipeline) (is : IsKept journal p) (clie
   -- the transaction that it begins
   pub token_now : (begun : Token) (base : Pair) → begun.place ≡ length journal.log
       → began_by (world_in (line_of p).domains) (answers journal.log (line_of p)) call (reply_to (world_in (line_of p).domains) (answers journal.log (line_of p)) client call) ≡ Some (record { domain = begun.domain; commit = begun.base_commit; chain = begun.chain; trees = rows_in base })
-      → begun.schema.value ≡ world.table_of (world_in (line_of p).domains) begun.domain → IsBegun (known_of journal' p) begun base
-  token_now begun base place began schema = record {
+      → begun.schema.value ≡ world.table_of (world_in (line_of p).domains) begun.version begun.domain → begun.version ≡ number_of (schema_version (answers journal.log (line_of p))) begun.domain → IsBegun (known_of journal' p) begun base
+  token_now begun base place began schema version = record {
     before = omega (arith, place, ap length log, length-append journal.log (entry ∷ []));
     began =
         (λ i. began_at (history w (log i)) (place i)) ∙ (λ i. began_at (history-push w journal.log entry i) (sym (length-history w journal.log) i))
         ∙ ap (option_and_then (λ (a : Answered). a.began)) (slice_get_seam answered (now_of w answered entry) []) ∙ began;
     schema = schema;
+    version = version ∙ ap (λ v. number_of v begun.domain) (sym version_there);
   }
+    where
+      -- the version at its place is the present one
+      version_there : version_at (history w journal'.log) begun.place ≡ schema_version answered
+      version_there =
+          (λ i. version_at (history w (log i)) (place i))
+          ∙ (λ i. version_at (history-push w journal.log entry i) (sym (length-history w journal.log) i))
+          ∙ version_at-stays answered (now_of w answered entry) (length answered) (omega arith) ∙ version_at-now answered
 
 -- ---- the newest commit of a domain
 
@@ -97,14 +108,11 @@ module _ (journal : Noted) (p : Pipeline) (is : IsKept journal p) (domain : ℕ)
   pub number_is : d.number ≡ domain
   number_is = stored.number
 
-  pub schema_is : d.schema.value ≡ world.table_of (world_in (line_of p).domains) domain
-  schema_is = sym (table-at (line_of p).domains domain (shown d) at)
-
 -- ---- begin
 
 module _ (journal journal' : Noted) (p : Pipeline) (is : IsKept journal p) (client domain : ℕ) (mode : Mode) (log : journal'.log ≡ jotted journal.log client (Begin domain mode)) where
   pub begin_kept : ((k : ℕ) → mark_at journal'.marks k ≡ mark_at journal.marks k) → IsKept journal' p
-  begin_kept marks = quiet_kept journal journal' p is client (Begin domain mode) log refl refl refl (λ k. refl) refl marks
+  begin_kept marks = quiet_kept journal journal' p is client (Begin domain mode) log refl refl refl refl (λ k. refl) refl marks
 
   pub begin_refused : is_live_in (line_of p).domains domain ≡ false → reply_to (world_in (line_of p).domains) (answers journal.log (line_of p)) client (Begin domain mode) ≡ Refused (NoDomain domain)
   begin_refused dead = ap (λ b. if b then Begun (length (commits (answers journal.log (line_of p)) domain)) None else Refused (NoDomain domain)) (sym (is.current.live domain) ∙ dead)
@@ -133,7 +141,8 @@ module _ (journal journal' : Noted) (p : Pipeline) (is : IsKept journal p) (clie
         token_now journal journal' p is client (Begin domain mode) log (begun_of tx) (base_of tx) starts.place
         (ap (began_by there so_far (Begin domain mode)) reply_live
         ∙ (λ i. Some (let b : Base = record { domain = sym number i; commit = sym commit i; chain = sym starts.chain i; trees = λ s. sym (trees s) i } in b)))
-        (starts.schema ∙ schema_is journal p is domain d at footing newest ∙ ap (world.table_of there) (sym number))
+        (starts.schema ∙ schema-present journal p is domain d at ∙ (λ i. world.table_of there (sym starts.version i) (sym number i)))
+        (starts.version ∙ version-present journal p is domain d at ∙ ap (number_of (schema_version so_far)) (sym number))
 
     pub begin_reply : reply_to (world_in (line_of p).domains) (answers journal.log (line_of p)) client (Begin domain mode) ≡ Begun (begun_of tx).base_commit (begun_of tx).on
     begin_reply = reply_live ∙ (λ i. Begun (sym commit i) (sym (starts.on ∙ newest.alone) i))

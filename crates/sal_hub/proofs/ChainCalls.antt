@@ -21,13 +21,14 @@ use Rattle.sal_history.specs.declared.reply.Reply.TheVariants.{Begun, Chain as O
 use Rattle.sal_history.specs.World as world
 use Rattle.sal_history.specs.History.{Answered, base_on, began_by, begins_in, chain_domains, chain_refusal, chained_base, domain_of, entries_of, failed_by, fault_if, has_open, is_closed, is_live, last_begun, newest_base, opened_chain, refused_or, reply_to, sents, stands_on}
 use Rattle.sal_history.specs.Submissions.{Base, Sent, failing, is_in, last_receipt}
+use Rattle.sal_history.specs.Versions.{schema_version}
 use Rattle.sal_hub.specs.declared.chain.Chain.{Chain}
 use Rattle.sal_hub.specs.declared.chains.Chains.{Chains}
 use Rattle.sal_hub.specs.declared.pipeline.Pipeline.{Pipeline}
 use Rattle.sal_hub.specs.declared.start.Footing.{Footing}
 use Rattle.sal_hub.specs.Answers.{Fails, Made}
 use Rattle.sal_hub.specs.Chains.{Adds, AreChains, IsFooting, IsInPlace, is_open, pending_of}
-use Rattle.sal_hub.specs.Current.{IsCurrent, IsKept, answers, known_of}
+use Rattle.sal_hub.specs.Current.{IsCurrent, IsKept, answers, known_of, number_of}
 use Rattle.sal_hub.specs.Failures.{IsWithin, flag_in, noted_in, noted_with}
 use Rattle.sal_hub.specs.Journals.{Noted, jotted, mark_at}
 use Rattle.sal_hub.specs.HubHistory.{HubHistory, more}
@@ -36,7 +37,7 @@ use Rattle.sal_hub.specs.Starts.{Starts}
 use Rattle.sal_hub.specs.Tokens.{IsChain, IsFresh, IsToken, base_of, begun_of}
 use Rattle.sal_hub.proofs.Beginning.{made_now, newest_commit, newest_trees, quiet_kept, token_now}
 use Rattle.sal_hub.proofs.Chained.{adds_even, chains_now, steady}
-use Rattle.sal_hub.proofs.Deciding.{table-at}
+use Rattle.sal_hub.proofs.Deciding.{versions-same}
 use Rattle.sal_hub.proofs.Histories.{now_of}
 use Rattle.sal_hub.proofs.Keeping.{length-submissions, or_false, pushed, still_live, unsent}
 use Rattle.sal_hub.proofs.Listed.{slice_get_seam}
@@ -46,6 +47,7 @@ use Rattle.sal_hub.proofs.Serving.{live_within, shown_at}
 use Rattle.sal_hub.proofs.Settling.{kept_sent}
 use Rattle.sal_hub.proofs.Standing.{allowed_live}
 use Rattle.sal_hub.proofs.Starting.{same_rows}
+use Rattle.sal_hub.proofs.Versioned.{schema-present, version-present}
 
 -- the known with the entry
 known_is : (journal journal' : Noted) (p p' : Pipeline) (e : Entry) → journal'.log ≡ journal.log ++ e ∷ [] → world_in (line_of p').domains ≡ world_in (line_of p).domains → more (known_of journal p) e ≡ known_of journal' p'
@@ -71,7 +73,7 @@ module _ (journal journal' : Noted) (p : Pipeline) (is : IsKept journal p) (clie
     unopened = ap (opened_chain (OpenChain domain)) unopened_reply
 
     pub unopened_kept : ((k : ℕ) → mark_at journal'.marks k ≡ mark_at journal.marks k) → IsKept journal' p
-    unopened_kept marks = quiet_kept journal journal' p is client (OpenChain domain) log refl refl refl (λ k. refl) unopened marks
+    unopened_kept marks = quiet_kept journal journal' p is client (OpenChain domain) log refl refl refl refl (λ k. refl) unopened marks
 
     pub unopened_chains : (cs : Chains) → AreChains (known_of journal p) cs → AreChains (known_of journal' p) cs
     unopened_chains cs are =
@@ -113,7 +115,7 @@ module _ (journal journal' : Noted) (p : Pipeline) (is : IsKept journal p) (clie
     opened_kept marks = record {
       kept = subst (λ ds. AllKept ds) (λ i. (sym kept i).items) is.kept;
       current = subst (λ l. IsCurrent l journal'.marks (line_of p')) (sym log) (subst (IsCurrent (journal.log ++ entry ∷ []) journal'.marks) line_is
-          (pushed journal.log journal.marks (line_of p) is.current entry line' journal'.marks (unsent journal.log journal.marks (line_of p) is.current entry line' refl sound_now) refl (sym (append-nil (line_of p).outcomes))
+          (pushed journal.log journal.marks (line_of p) is.current entry refl line' journal'.marks (unsent journal.log journal.marks (line_of p) is.current entry line' refl sound_now) refl (versions-same (line_of p).domains) (sym (append-nil (line_of p).outcomes))
           (λ k. marks k ∙ sym (or_false (mark_at journal.marks k))) (longer ∙ ap (λ (o : Option ℕ). length (line_of p).failures + length (option_to_list o)) (sym opened))
           (still_live journal.log journal.marks (line_of p) is.current entry line' refl (λ n. refl))));
       let_go = as_gone ∙ is.let_go ∙ (λ i. length (sym undecided i).items);
@@ -317,12 +319,12 @@ module _ (journal : Noted) (p : Pipeline) (is : IsKept journal p) (cs : Chains) 
     the_entry = record { client = client; number = entries_of journal.log client; call = ChainBegin chain.id mode }
 
     pub next_kept : ((k : ℕ) → mark_at journal'.marks k ≡ mark_at journal.marks k) → IsKept journal' p
-    next_kept marks = quiet_kept journal journal' p is client (ChainBegin chain.id mode) log refl refl refl (λ k. refl) refl marks
+    next_kept marks = quiet_kept journal journal' p is client (ChainBegin chain.id mode) log refl refl refl refl (λ k. refl) refl marks
 
     pub next_token : IsToken (known_of journal' p) tx
     next_token =
         token_now journal journal' p is client (ChainBegin chain.id mode) log (begun_of tx) (base_of tx) starts.place began_is
-        (starts.schema ∙ sym (table-at (line_of p).domains chain.domain (shown d) at) ∙ ap (world.table_of there) (sym number))
+        (starts.schema ∙ schema-present journal p is chain.domain d at ∙ (λ i. world.table_of there (sym starts.version i) (sym number i))) (starts.version ∙ version-present journal p is chain.domain d at ∙ ap (number_of (schema_version so_far)) (sym number))
 
     pub next_chains : (cs' : Chains) → cs'.domains.items ≡ cs.domains.items → cs'.closed.items ≡ cs.closed.items → cs'.begun.items ≡ noted_with cs.begun.items (Some chain.id) (length journal.log) → cs'.sent.items ≡ cs.sent.items → AreChains (known_of journal' p) cs'
     next_chains cs' domains closed begun sents_same =
@@ -372,7 +374,7 @@ module _ (journal journal' : Noted) (p : Pipeline) (is : IsKept journal p) (clie
   refused_reply = ap (λ (o : Option CallFault). refused_or o (Begun (chained_base (world_in (line_of p).domains) earlier id).commit (stands_on earlier id))) refused
 
   pub refused_kept : ((k : ℕ) → mark_at journal'.marks k ≡ mark_at journal.marks k) → IsKept journal' p
-  refused_kept marks = quiet_kept journal journal' p is client (ChainBegin id mode) log refl refl refl (λ k. refl) refl marks
+  refused_kept marks = quiet_kept journal journal' p is client (ChainBegin id mode) log refl refl refl refl (λ k. refl) refl marks
 
   pub refused_chains : (cs : Chains) → AreChains (known_of journal p) cs → AreChains (known_of journal' p) cs
   refused_chains cs are =

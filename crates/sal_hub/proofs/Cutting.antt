@@ -4,7 +4,7 @@ use Rattle.std.specs.Prelude.{slice_get}
 use Rattle.std.specs.Option.{option_map}
 use Rattle.std.proofs.lemmas.List.{get_or-take, length-map, length-take, map-append, map-set, take-map, take_more}
 use Rattle.std.proofs.lemmas.List.Elements.{All-set}
-use Rattle.std.proofs.lemmas.Option.{same_Some, slice_get-map}
+use Rattle.std.proofs.lemmas.Option.{none-some, same_Some, slice_get-map}
 use Rattle.sal_rows.specs.declared.op.Op.{Op}
 use Rattle.sal_rows.specs.declared.outcome.Outcome.{Outcome}
 use Rattle.sal_rows.specs.Commits.{tree_after, tree_at}
@@ -15,12 +15,15 @@ use Rattle.sal_tx.specs.declared.tx.Submission.{Submission}
 use Rattle.sal_commit.specs.declared.domain.Domain.{Domain as Stored}
 use Rattle.sal_commit.specs.Domains.{IsSame}
 use Rattle.sal_commit.specs.Stamps.{receipts_of}
+use Rattle.sal_commit.specs.Versions.{tables_of}
+use Rattle.sal_schema.specs.declared.table.SchemaTable.{SchemaTable}
 use Rattle.sal_history.specs.World.{Domain}
 use Rattle.sal_history.specs.History.{decide_front, decide_next}
 use Rattle.sal_history.specs.Submissions.{Sent}
 use Rattle.sal_hub.specs.declared.pipeline.Pipeline.{Pipeline}
 use Rattle.sal_hub.specs.Failures.{cut_failures}
-use Rattle.sal_hub.specs.PipelineView.{AllKept, AreDecided, Decides, HasGrown, HaveGrown, PipelineView, DomainView, counts_of, cut_all, is_live_in, line_of, shown, world_in}
+use Rattle.sal_hub.specs.PipelineView.{AllKept, AreDecided, Decides, HasGrown, HaveGrown, PipelineView, DomainView, Reach, counts_of, cut_all, is_live_in, line_of, shown, table_in, world_in}
+use Rattle.sal_hub.proofs.Deciding.{versions-same}
 use Rattle.sal_hub.proofs.Listed.{Grows-then, length-Grows, slice_get_at, take-Grows}
 use Rattle.sal_hub.proofs.Noted.{cut_twice}
 
@@ -145,33 +148,35 @@ HasGrown-then a b c g h = record {
       ∙ ap (cut_failures (length a.outcomes)) h.failures ∙ g.failures;
 }
 
-decide_next-plus : (world : List Domain) (live : ℕ → Bool) (ss : List Sent) (os : List Outcome) (m n : ℕ) → decide_next world live ss os (m + n) ≡ decide_next world live ss os m ++ decide_next world live ss (os ++ decide_next world live ss os m) n
-decide_next-plus world live ss os zero n =
+decide_next-plus : (world : List Domain) (tables : ℕ → SchemaTable) (live : ℕ → Bool) (ss : List Sent) (os : List Outcome) (m n : ℕ) → decide_next world tables live ss os (m + n) ≡ decide_next world tables live ss os m ++ decide_next world tables live ss (os ++ decide_next world tables live ss os m) n
+decide_next-plus world tables live ss os zero n =
     let e : 0 + n ≡ n = omega arith in
-    ap (decide_next world live ss os) e ∙ ap (λ (us : List Outcome). decide_next world live ss us n) (sym (append-nil os))
-decide_next-plus world live ss os (suc m) n =
+    ap (decide_next world tables live ss os) e ∙ ap (λ (us : List Outcome). decide_next world tables live ss us n) (sym (append-nil os))
+decide_next-plus world tables live ss os (suc m) n =
     let e : suc m + n ≡ suc (m + n) = omega arith in
-    let front : List Outcome = decide_front world live ss os (slice_get ss (length os)) in
-    ap (decide_next world live ss os) e
-    ∙ ap (λ (us : List Outcome). front ++ us) (decide_next-plus world live ss (os ++ front) m n)
-    ∙ sym (append_assoc front (decide_next world live ss (os ++ front) m) (decide_next world live ss ((os ++ front) ++ decide_next world live ss (os ++ front) m) n))
-    ∙ ap (λ (us : List Outcome). (front ++ decide_next world live ss (os ++ front) m) ++ decide_next world live ss us n) (append_assoc os front (decide_next world live ss (os ++ front) m))
+    let front : List Outcome = decide_front world tables live ss os (slice_get ss (length os)) in
+    ap (decide_next world tables live ss os) e
+    ∙ ap (λ (us : List Outcome). front ++ us) (decide_next-plus world tables live ss (os ++ front) m n)
+    ∙ sym (append_assoc front (decide_next world tables live ss (os ++ front) m) (decide_next world tables live ss ((os ++ front) ++ decide_next world tables live ss (os ++ front) m) n))
+    ∙ ap (λ (us : List Outcome). (front ++ decide_next world tables live ss (os ++ front) m) ++ decide_next world tables live ss us n) (append_assoc os front (decide_next world tables live ss (os ++ front) m))
 
 pub Decides-none : (line : PipelineView) → Decides line 0 line
-Decides-none line = λ ss sound. record { sound = sound; world = refl; live = λ n. refl; outcomes = sym (append-nil line.outcomes); chains = refl }
+Decides-none line = λ ss sound. record { sound = sound; world = refl; live = λ n. refl; versions = versions-same line.domains; outcomes = sym (append-nil line.outcomes); chains = refl }
 
 AreDecided-then : (ss : List Sent) (a b c : PipelineView) (m n k : ℕ) → k ≡ m + n → AreDecided ss a m b → AreDecided ss b n c → AreDecided ss a k c
 AreDecided-then ss a b c m n k sum g h =
     let w : List Domain = world_in a.domains in
+    let t : ℕ → SchemaTable = table_in a.domains in
     let l : ℕ → Bool = is_live_in a.domains in
     record {
       sound = h.sound;
       world = h.world ∙ g.world;
       live = λ d. h.live d ∙ g.live d;
+      versions = record { tables = λ d. h.versions.tables d ∙ g.versions.tables d; versions = λ d. h.versions.versions d ∙ g.versions.versions d };
       outcomes =
-          h.outcomes ∙ (λ i. g.outcomes i ++ decide_next (g.world i) (λ d. g.live d i) ss (g.outcomes i) n)
-          ∙ append_assoc a.outcomes (decide_next w l ss a.outcomes m) (decide_next w l ss (a.outcomes ++ decide_next w l ss a.outcomes m) n)
-          ∙ ap (λ (us : List Outcome). a.outcomes ++ us) (sym (decide_next-plus w l ss a.outcomes m n) ∙ ap (decide_next w l ss a.outcomes) (sym sum));
+          h.outcomes ∙ (λ i. g.outcomes i ++ decide_next (g.world i) (λ d. g.versions.tables d i) (λ d. g.live d i) ss (g.outcomes i) n)
+          ∙ append_assoc a.outcomes (decide_next w t l ss a.outcomes m) (decide_next w t l ss (a.outcomes ++ decide_next w t l ss a.outcomes m) n)
+          ∙ ap (λ (us : List Outcome). a.outcomes ++ us) (sym (decide_next-plus w t l ss a.outcomes m n) ∙ ap (decide_next w t l ss a.outcomes) (sym sum));
       chains = h.chains ∙ g.chains;
     }
 
@@ -194,7 +199,19 @@ cut_one ds all ks i k d d' within d_is at_k same commits so_far =
     let chains : chains_of d'.commits.items ≡ take k (chains_of d.commits.items) = ap chains_of cs ∙ chains_of-take d.commits.items k in
     let receipts : receipts_of d'.commits.items ≡ take (k + 1) (receipts_of d.commits.items) = ap receipts_of commits ∙ sym (take-map (λ (c : Commit). c.receipt) (k + 1) d.commits.items) in
     let cut : shown d' ≡ record (shown d) { ops = take k (shown d).ops; chains = take k (shown d).chains; receipts = take (k + 1) (shown d).receipts } =
-    λ j. record { number = same.number j; live = same.live j; table = (same.schema j).value; opening = opening j; ops = ops j; chains = chains j; receipts = receipts j } in
+    λ j. record {
+      number = same.number j;
+      live = same.live j;
+      table = (same.schema j).value;
+      first = (same.first j).value;
+      upgrades = tables_of (same.upgrades j).items;
+      version = same.version j;
+      since = same.since j;
+      opening = opening j;
+      ops = ops j;
+      chains = chains j;
+      receipts = receipts j;
+    } in
     let here : slice_get (cut_all all (take i ks)) i ≡ Some (shown d) =
     ap (λ (es : List DomainView). slice_get es i) (sym so_far) ∙ slice_get-map shown ds i ∙ ap (option_map shown) (slice_get_at ds i d within d_is) in
     map-set shown ds i d' ∙ (λ j. set (so_far j) i (cut j)) ∙ cut_more all ks i k (shown d) at_k here ∙ ap (λ n. cut_all all (take n ks)) (sym more)
@@ -210,6 +227,42 @@ counted ds i d within d_is =
     ap (λ (xs : List Stored). counts_of (map shown xs)) (take_more ds i d within ∙ ap (λ (x : Stored). take i ds ++ x ∷ []) (sym d_is))
     ∙ ap counts_of (map-append shown (take i ds) (d ∷ [])) ∙ map-append (λ (x : DomainView). length x.ops) (map shown (take i ds)) (shown d ∷ [])
 
+-- ---- the last upgrade stays
+
+-- each domain has as many commits as it was upgraded at
+own_reach : (ds : List Stored) → AllKept ds → Reach (map shown ds) (counts_of (map shown ds))
+own_reach [] kept n k d at_d at_k = absurd (none-some d at_d)
+own_reach (x ∷ ds) kept zero k d at_d at_k =
+    let count : length (ops_of x.commits.items) ≡ k = same_Some (length (ops_of x.commits.items)) k at_k in
+    let low : x.since ≤ k = omega (arith, x.reached, count, length-ops_of x.commits.items (kept 0 x (omega arith)).opened) in
+    subst (λ (e : DomainView). e.since ≤ k) (same_Some (shown x) d at_d) low
+own_reach (x ∷ ds) kept (suc n) k d at_d at_k = own_reach ds (λ j y short. kept (suc j) y (omega (arith, short))) n k d at_d at_k
+
+grown_since : (ds es : List DomainView) → HaveGrown ds es → (n : ℕ) (e : DomainView) → slice_get es n ≡ Some e → (d : DomainView) × (slice_get ds n ≡ Some d) × (e.since ≡ d.since)
+grown_since [] [] grown n e at = absurd (none-some e at)
+grown_since [] (y ∷ es) grown n e at = absurd grown
+grown_since (d ∷ ds) [] grown n e at = absurd grown
+grown_since (d ∷ ds) (y ∷ es) grown zero e at = (d, refl, ap (λ (x : DomainView). x.since) (sym (same_Some y e at)) ∙ ap (λ (x : DomainView). x.since) grown.0.0)
+grown_since (d ∷ ds) (y ∷ es) grown (suc n) e at = grown_since ds es grown.1 n e at
+
+cut_since : (ds : List DomainView) (ks : List ℕ) (n : ℕ) (e : DomainView) → slice_get (cut_all ds ks) n ≡ Some e → (d : DomainView) × (slice_get ds n ≡ Some d) × (e.since ≡ d.since)
+cut_since [] ks n e at = absurd (none-some e at)
+cut_since (d ∷ ds) [] n e at = (e, at, refl)
+cut_since (d ∷ ds) (k ∷ ks) zero e at = (
+  d,
+  refl,
+  ap (λ (x : DomainView). x.since) (sym (same_Some (let y : DomainView = record d { ops = take k d.ops; chains = take k d.chains; receipts = take (k + 1) d.receipts } in y) e at)),
+)
+cut_since (d ∷ ds) (k ∷ ks) (suc n) e at = cut_since ds ks n e at
+
+-- a domain that is to be cut next
+pub cut_reaches : (ds : List Stored) (all : List DomainView) (ks : List ℕ) (i k : ℕ) (d : Stored) → Reach all ks → i < length ds → d ≡ get_or ds i d → slice_get ks i ≡ Some k → map shown ds ≡ cut_all all (take i ks) → d.since ≤ k
+cut_reaches ds all ks i k d reach within d_is at_k so_far =
+    let here : slice_get (cut_all all (take i ks)) i ≡ Some (shown d) =
+    ap (λ (es : List DomainView). slice_get es i) (sym so_far) ∙ slice_get-map shown ds i ∙ ap (option_map shown) (slice_get_at ds i d within d_is) in
+    let (e, at_e, same) = cut_since all (take i ks) i (shown d) here in
+    subst (λ n. n ≤ k) (sym same) (reach i k e at_e at_k)
+
 -- what was decided since is taken back
 HaveGrown-long : (ds es : List DomainView) → HaveGrown ds es → length es ≡ length ds
 HaveGrown-long [] [] grown = refl
@@ -222,6 +275,12 @@ module _ (old new : Pipeline) (kept : AllKept old.domains.items) (grown : HasGro
   as_many =
       ap length counts_are ∙ length-map (map shown old.domains.items) (λ (d : DomainView). length d.ops)
       ∙ sym (HaveGrown-long (map shown old.domains.items) (map shown new.domains.items) grown.domains) ∙ length-map new.domains.items shown
+
+  pub reaches : Reach (map shown new.domains.items) counts
+  reaches n k e at_e at_k =
+      let (d, at_d, same) = grown_since (map shown old.domains.items) (map shown new.domains.items) grown.domains n e at_e in
+      let low : d.since ≤ k = own_reach old.domains.items kept n k d at_d (ap (λ (ks : List ℕ). slice_get ks n) (sym counts_are) ∙ at_k) in
+      subst (λ m. m ≤ k) (sym same) low
 
   pub taken_back : (ds : List Stored) (gone : ℕ) (ss : List Submission) (os : List Outcome) (fs : List (Option ℕ)) → map shown ds ≡ cut_all (map shown new.domains.items) counts → gone ≡ new.gone → ss ≡ new.waiting.items → os ≡ take (length old.outcomes.items) new.outcomes.items → fs ≡ cut_failures (length old.outcomes.items) new.failures.items
       → ◌≡◌ {A = PipelineView} (record { domains = map shown ds; gone = gone; waiting = ss; outcomes = os; failures = fs }) (line_of old)

@@ -21,13 +21,15 @@ use Rattle.sal_commit.specs.Deciding.{Decides, IsFor}
 use Rattle.sal_commit.specs.Deciding as commit
 use Rattle.sal_commit.specs.Domains.{IsSame}
 use Rattle.sal_commit.specs.Stamps.{IsNewStamp, receipts_of}
+use Rattle.sal_commit.specs.Versions.{tables_of}
 use Rattle.sal_history.specs.Outcome as rules
-use Rattle.sal_history.specs.World.{opening_of, table_of}
+use Rattle.sal_history.specs.World.{last_of, no_table, opening_of, version_from}
+use Rattle.sal_history.proofs.Versions.{last-in}
 use Rattle.sal_history.specs.History.{decide_front, outcome, unmounted_of}
 use Rattle.sal_history.specs.Submissions.{Sent, done, failing, if_done, is_done, is_in}
 use Rattle.sal_hub.specs.declared.pipeline.Pipeline.{Pipeline}
 use Rattle.sal_hub.specs.Failures.{IsWithin, cut_failures, failure_of, failures_after, noted_in, up_to}
-use Rattle.sal_hub.specs.PipelineView.{AllKept, AreDecided, Grows, HasGrown, HaveGrown, IsSound, IsStored, PipelineView, DomainView, Stands, chains_in, commits_in, is_live_in, line_of, opened_as, receipts_in, sent_of, shorter, shown, world_in}
+use Rattle.sal_hub.specs.PipelineView.{AllKept, AreDecided, Grows, HasGrown, HaveGrown, IsSound, IsStored, KeepVersions, PipelineView, DomainView, Stands, chains_in, commits_in, is_live_in, line_of, opened_as, receipts_in, sent_of, shorter, shown, table_in, version_of, world_in}
 use Rattle.sal_hub.proofs.Listed.{slice_get-drop, slice_get-set, slice_get_at}
 use Rattle.sal_hub.proofs.Members.{failing-decide, failing-fixed, failing-none}
 use Rattle.sal_hub.proofs.Noted.{cut_after, cut_fixed, length-after, noted_in-after}
@@ -41,10 +43,19 @@ opening-at (x ∷ ds) zero d Config e = ap (λ (y : DomainView). y.opening Confi
 opening-at (x ∷ ds) zero d Oper e = ap (λ (y : DomainView). y.opening Oper) (same_Some x d e)
 opening-at (x ∷ ds) (suc n) d s e = opening-at ds n d s e
 
-pub table-at : (ds : List DomainView) (n : ℕ) (d : DomainView) → slice_get ds n ≡ Some d → table_of (world_in ds) n ≡ d.table
-table-at [] n d e = cc
-table-at (x ∷ ds) zero d e = ap (λ (y : DomainView). y.table) (same_Some x d e)
-table-at (x ∷ ds) (suc n) d e = table-at ds n d e
+-- its present table
+pub table-at : (ds : List DomainView) (n : ℕ) (d : DomainView) → slice_get ds n ≡ Some d → table_in ds n ≡ d.table
+table-at ds n d e = ap (λ (o : Option DomainView). option_map_or (λ (x : DomainView). x.table) o no_table) e
+
+pub version-here : (ds : List DomainView) (n : ℕ) (d : DomainView) → slice_get ds n ≡ Some d → version_of ds n ≡ d.version
+version-here ds n d e = ap (λ (o : Option DomainView). option_map_or (λ (x : DomainView). x.version) o 0) e
+
+pub world-at : (ds : List DomainView) (n : ℕ) (d : DomainView) → slice_get ds n ≡ Some d → slice_get (world_in ds) n ≡ Some (opened_as d)
+world-at ds n d e = slice_get-map opened_as ds n ∙ ap (option_map opened_as) e
+
+-- the table of its last version
+pub last-at : (ds : List DomainView) (n : ℕ) (d : DomainView) → slice_get ds n ≡ Some d → last_of (world_in ds) n ≡ version_from d.first d.upgrades (length d.upgrades)
+last-at ds n d e = last-in (world_in ds) n (opened_as d) (world-at ds n d e)
 
 -- the flag of a domain
 pub live-here : (ds : List DomainView) (n : ℕ) (d : DomainView) → slice_get ds n ≡ Some d → is_live_in ds n ≡ d.live
@@ -55,13 +66,25 @@ live-within [] n live = cc
 live-within (x ∷ ds) zero live = omega arith
 live-within (x ∷ ds) (suc n) live = omega (arith, live-within ds n live)
 
--- where one domain is replaced by one with its flag
+-- where one domain is replaced by one of which the same is told
+told-set : {X : Type 0} (f : DomainView → X) (z : X) (ds : List DomainView) (i : ℕ) (d e : DomainView) → slice_get ds i ≡ Some d → f e ≡ f d → (n : ℕ) → option_map_or f (slice_get (set ds i e) n) z ≡ option_map_or f (slice_get ds n) z
+told-set f z [] i d e at same n = refl
+told-set f z (x ∷ ds) zero d e at same zero = same ∙ ap f (sym (same_Some x d at))
+told-set f z (x ∷ ds) zero d e at same (suc n) = refl
+told-set f z (x ∷ ds) (suc i) d e at same zero = refl
+told-set f z (x ∷ ds) (suc i) d e at same (suc n) = told-set f z ds i d e at same n
+
 pub live-set : (ds : List DomainView) (i : ℕ) (d e : DomainView) → slice_get ds i ≡ Some d → e.live ≡ d.live → (n : ℕ) → is_live_in (set ds i e) n ≡ is_live_in ds n
-live-set [] i d e at same n = refl
-live-set (x ∷ ds) zero d e at same zero = same ∙ ap (λ (y : DomainView). y.live) (sym (same_Some x d at))
-live-set (x ∷ ds) zero d e at same (suc n) = refl
-live-set (x ∷ ds) (suc i) d e at same zero = refl
-live-set (x ∷ ds) (suc i) d e at same (suc n) = live-set ds i d e at same n
+live-set ds i d e at same n = told-set (λ (x : DomainView). x.live) false ds i d e at same n
+
+pub versions-set : (ds : List DomainView) (i : ℕ) (d e : DomainView) → slice_get ds i ≡ Some d → e.table ≡ d.table → e.version ≡ d.version → KeepVersions ds (set ds i e)
+versions-set ds i d e at table version = record {
+  tables = λ n. told-set (λ (x : DomainView). x.table) no_table ds i d e at table n;
+  versions = λ n. told-set (λ (x : DomainView). x.version) 0 ds i d e at version n;
+}
+
+pub versions-same : (ds : List DomainView) → KeepVersions ds ds
+versions-same ds = record { tables = λ n. refl; versions = λ n. refl }
 
 -- ---- commits
 
@@ -161,7 +184,7 @@ sound-shorter ss line sound =
     }
 
 pub decided-shorter : (ss : List Sent) (old : PipelineView) (n : ℕ) (new : PipelineView) → AreDecided ss old n new → AreDecided ss old n (shorter new)
-decided-shorter ss old n new was = record { sound = sound-shorter ss new was.sound; world = was.world; live = was.live; outcomes = was.outcomes; chains = was.chains }
+decided-shorter ss old n new was = record { sound = sound-shorter ss new was.sound; world = was.world; live = was.live; versions = was.versions; outcomes = was.outcomes; chains = was.chains }
 
 -- ---- one decision
 
@@ -198,9 +221,9 @@ module _ (ss : List Sent) (line : PipelineView) (sound : IsSound ss line) (k : �
   failed-here None = sym (failing-none 1 ss line.outcomes)
   failed-here (Some id) = sound.failures id
 
-  pub outcome-here : commit.decide (failure_of line.failures sub.chain) d sub ≡ outcome (world_in line.domains) (is_live_in line.domains) ss line.outcomes (sent_of sub)
+  pub outcome-here : commit.decide (failure_of line.failures sub.chain) d sub ≡ outcome (world_in line.domains) (table_in line.domains) (is_live_in line.domains) ss line.outcomes (sent_of sub)
   outcome-here =
-      let table : d.schema.value ≡ table_of (world_in line.domains) sub.domain = sym (table-at line.domains sub.domain (shown d) at) in
+      let table : d.schema.value ≡ table_in line.domains sub.domain = sym (table-at line.domains sub.domain (shown d) at) in
       let opening : opening_in d.commits.items ≡ opening_of (world_in line.domains) sub.domain = λ i s. sym (opening-at line.domains sub.domain (shown d) s at) i in
       let live : d.live ≡ is_live_in line.domains sub.domain = sym (live-here line.domains sub.domain (shown d) at) in
       λ i. unwrap_or (option_or (option_map ChainFailed (failed-here sub.chain i)) (unmounted_of (live i) (stored.number i))) (rules.decide (table i) (opening i) (stored.commits i) (rows_in sub.base) (spans sub.base_commit sub.chain (stored.chains i)) sub.changes)
@@ -218,8 +241,20 @@ module _ (ss : List Sent) (line : PipelineView) (sound : IsSound ss line) (k : �
       failures = failures_after line.failures sub.chain (length line.outcomes + 1) (is_done o);
     }
 
-    same : shown d' ≡ record { number = d.number; live = d.live; table = d.schema.value; opening = opening_in d.commits.items; ops = ops_of d'.commits.items; chains = chains_of d'.commits.items; receipts = receipts_of d'.commits.items }
-    same = λ i. record { number = after.same.number i; live = after.same.live i; table = (after.same.schema i).value; opening = after.opening i; ops = ops_of d'.commits.items; chains = chains_of d'.commits.items; receipts = receipts_of d'.commits.items }
+    same : shown d' ≡ record (shown d) { ops = ops_of d'.commits.items; chains = chains_of d'.commits.items; receipts = receipts_of d'.commits.items }
+    same = λ i. record {
+      number = after.same.number i;
+      live = after.same.live i;
+      table = (after.same.schema i).value;
+      first = (after.same.first i).value;
+      upgrades = tables_of (after.same.upgrades i).items;
+      version = after.same.version i;
+      since = after.same.since i;
+      opening = after.opening i;
+      ops = ops_of d'.commits.items;
+      chains = chains_of d'.commits.items;
+      receipts = receipts_of d'.commits.items;
+    }
 
     world-same : world_in now.domains ≡ world_in line.domains
     world-same = map-set_same opened_as line.domains sub.domain (shown d') (shown d) (ap opened_as same ∙ ap opened_as (sym (get_or_from_slice_get line.domains sub.domain (shown d) (shown d) at)))
@@ -293,9 +328,10 @@ module _ (ss : List Sent) (line : PipelineView) (sound : IsSound ss line) (k : �
       };
       world = world-same;
       live = live-set line.domains sub.domain (shown d) (shown d') at after.same.live;
+      versions = versions-set line.domains sub.domain (shown d) (shown d') at (λ i. (after.same.schema i).value) after.same.version;
       outcomes =
           ap (λ (x : Outcome). line.outcomes ++ x ∷ []) (is ∙ outcome-here)
-          ∙ ap (λ (next_one : Option Sent). line.outcomes ++ (decide_front (world_in line.domains) (is_live_in line.domains) ss line.outcomes next_one ++ [])) (sym sent-here);
+          ∙ ap (λ (next_one : Option Sent). line.outcomes ++ (decide_front (world_in line.domains) (table_in line.domains) (is_live_in line.domains) ss line.outcomes next_one ++ [])) (sym sent-here);
       chains = as_many;
     }
 
@@ -343,7 +379,19 @@ module _ (p : Pipeline) (kept : AllKept p.domains.items) (ss : List Sent) (sound
     -- where memory was wanting
     pub grown_nothing : (d' : Domain) (os : List Outcome) → IsSame d d' → d'.commits.items ≡ d.commits.items → os ≡ p.outcomes.items → HasGrown (line_of p) (record { domains = map shown (set p.domains.items sub.domain d'); gone = p.gone; waiting = p.waiting.items; outcomes = os; failures = p.failures.items })
     grown_nothing d' os same commits old =
-        let still : shown d' ≡ shown d = λ i. record { number = same.number i; live = same.live i; table = (same.schema i).value; opening = opening_in (commits i); ops = ops_of (commits i); chains = chains_of (commits i); receipts = receipts_of (commits i) } in
+        let still : shown d' ≡ shown d = λ i. record {
+          number = same.number i;
+          live = same.live i;
+          table = (same.schema i).value;
+          first = (same.first i).value;
+          upgrades = tables_of (same.upgrades i).items;
+          version = same.version i;
+          since = same.since i;
+          opening = opening_in (commits i);
+          ops = ops_of (commits i);
+          chains = chains_of (commits i);
+          receipts = receipts_of (commits i);
+        } in
         let domains : map shown (set p.domains.items sub.domain d') ≡ map shown p.domains.items = map-set_same shown p.domains.items sub.domain d' d (still ∙ ap shown d_is) in
         subst (HasGrown (line_of p)) (λ i. record { domains = sym domains i; gone = p.gone; waiting = p.waiting.items; outcomes = sym old i; failures = p.failures.items }) (grown_none ss (line_of p) sound)
 

@@ -1,25 +1,28 @@
 -- What is kept stays the log's with each call.
-use Rattle.std.proofs.Common.{◌≡◌, ℕ, ◌+◌, ◌≤◌, Bool, true, false, List, [], ◌∷◌, ◌++◌, length, map, Option, None, Some, refl, ap, sym, ◌∙◌, subst, arith, append-nil, length-append, inl, inr}
+use Rattle.std.proofs.Common.{◌≡◌, ℕ, ◌+◌, ◌≤◌, ◌<◌, Bool, true, false, List, [], ◌∷◌, ◌++◌, length, map, Option, None, Some, refl, ap, sym, ◌∙◌, subst, arith, append-nil, length-append, inl, inr}
 use Rattle.std.specs.Prelude.{◌||◌, slice_get}
 use Rattle.std.specs.Option.{option_to_list}
-use Rattle.std.proofs.lemmas.List.{drop-append-le, map-append}
+use Rattle.std.proofs.lemmas.List.{drop-append-le, length-map, map-append}
 use Rattle.std.proofs.lemmas.Option.{none-some}
 use Rattle.sal_rows.specs.declared.op.Op.{Op}
 use Rattle.sal_rows.specs.declared.outcome.Outcome.{Outcome}
 use Rattle.sal_tx.specs.declared.tx.Submission.{Submission}
 use Rattle.sal_history.specs.declared.call.Entry.{Entry}
 use Rattle.sal_history.specs.declared.reply.Reply.{Reply}
-use Rattle.sal_history.specs.World.{Domain}
+use Rattle.sal_history.specs.World.{Domain, OneIsUpgraded, table_of}
+use Rattle.sal_history.specs.Versions.{schema_version, tables_now, upgraded}
+use Rattle.sal_history.proofs.Versions.{schema_version-same}
 use Rattle.sal_history.specs.History.{Answered, chain_domains, commits, decided_by, history, is_live, is_spent, opened_chain, outcomes, reply_to, sent_by, sents, spends}
 use Rattle.sal_history.specs.Services.{mount_call}
 use Rattle.sal_history.specs.Submissions.{Sent, done_chains, done_ops}
+use Rattle.sal_closed.proofs.Versions.{sents_stay_lawful}
 use Rattle.sal_closed.specs.Logs.{AreSentLawful, AreSound, IsSentLawful}
-use Rattle.sal_hub.specs.Current.{IsCurrent, answers}
+use Rattle.sal_hub.specs.Current.{IsCurrent, answers, number_of}
 use Rattle.sal_hub.specs.Journals.{mark_at}
 use Rattle.sal_hub.specs.CommitReceipts.{commit_receipts}
-use Rattle.sal_hub.specs.PipelineView.{IsSound, PipelineView, Stands, chains_in, commits_in, is_live_in, receipts_in, sent_of, world_in}
-use Rattle.sal_hub.proofs.Deciding.{count_is, done-submit}
-use Rattle.sal_hub.proofs.Histories.{chains-push, live-quiet, outcomes-push, sents-push, spent-push}
+use Rattle.sal_hub.specs.PipelineView.{IsSound, KeepVersions, PipelineView, Stands, chains_in, commits_in, is_live_in, opened_as, receipts_in, sent_of, table_in, version_of, world_in}
+use Rattle.sal_hub.proofs.Deciding.{count_is, done-submit, versions-same}
+use Rattle.sal_hub.proofs.Histories.{chains-push, history-push, live-quiet, now_of, outcomes-push, sents-push, spent-push}
 use Rattle.sal_hub.proofs.Listed.{last_or_before}
 use Rattle.sal_hub.proofs.Members.{failing-submit}
 use Rattle.sal_hub.proofs.Numbered.{receipts-submit}
@@ -59,11 +62,15 @@ module _ (log : List Entry) (marks : List Bool) (line : PipelineView) (was : IsC
   pub still_live : (line' : PipelineView) → mount_call e.call ≡ None → ((n : ℕ) → is_live_in line'.domains n ≡ is_live_in line.domains n) → (n : ℕ) → is_live_in line'.domains n ≡ is_live (world_in line.domains) (history (world_in line.domains) (log ++ e ∷ [])) n
   still_live line' unmounted same n = same n ∙ was.live n ∙ sym (live-quiet world log e n unmounted)
 
+  -- the present version stays, where the call is no good upgrade
+  pub still_version : upgraded e.call (reply_to (world_in line.domains) (answers log line) e.client e.call) ≡ false → schema_version (history (world_in line.domains) (log ++ e ∷ [])) ≡ schema_version (answers log line)
+  still_version none = ap schema_version (history-push world log e) ∙ schema_version-same answered (now_of world answered e) none
+
   -- what the call submits, if anything: the submissions with it, and its operations, which are lawful
   abbrev pub Adds : PipelineView → Type 0
   Adds line' =
       IsSound (sents (answers log line) ++ option_to_list (sent_by (answers log line) e.call (reply_to (world_in line.domains) (answers log line) e.client e.call))) line'
-      × ((s : Sent) → sent_by (answers log line) e.call (reply_to (world_in line.domains) (answers log line) e.client e.call) ≡ Some s → IsSentLawful (world_in line.domains) s)
+      × ((s : Sent) → sent_by (answers log line) e.call (reply_to (world_in line.domains) (answers log line) e.client e.call) ≡ Some s → IsSentLawful (tables_now (world_in line.domains) (answers log line)) s)
 
   -- a call that submits nothing
   pub unsent : (line' : PipelineView) → sent_by (answers log line) e.call (reply_to (world_in line.domains) (answers log line) e.client e.call) ≡ None → IsSound (sents (answers log line)) line'
@@ -73,25 +80,34 @@ module _ (log : List Entry) (marks : List Bool) (line : PipelineView) (was : IsC
     λ s e. absurd (none-some s (sym none ∙ e)),
   )
 
-  -- with it, the submissions of the log are lawful
-  lawful-push : ((s : Sent) → sent_by (answers log line) e.call (reply_to (world_in line.domains) (answers log line) e.client e.call) ≡ Some s → IsSentLawful (world_in line.domains) s)
+  -- with it, the submissions of the log are lawful, whether the call is an upgrade or not
+  pub lawful-push : ((s : Sent) → sent_by (answers log line) e.call (reply_to (world_in line.domains) (answers log line) e.client e.call) ≡ Some s → IsSentLawful (tables_now (world_in line.domains) (answers log line)) s)
       → AreSentLawful (world_in line.domains) (history (world_in line.domains) (log ++ e ∷ []))
-  lawful-push new i s at = by (sent_by answered e.call reply) refl (ap (λ (ss : List Sent). slice_get ss i) (sym (sents-push world log e)) ∙ at)
+  lawful-push new i s at =
+      subst (λ (later : List Answered). IsSentLawful (tables_now world later) s) (sym (history-push world log e))
+      (sents_stay_lawful world answered (now_of world answered e) s was.openings
+      (by (sent_by answered e.call reply) refl (ap (λ (ss : List Sent). slice_get ss i) (sym (sents-push world log e)) ∙ at)))
     where
-      by : (o : Option Sent) → sent_by answered e.call reply ≡ o → slice_get (sents answered ++ option_to_list o) i ≡ Some s → IsSentLawful (world_in line.domains) s
+      by : (o : Option Sent) → sent_by answered e.call reply ≡ o → slice_get (sents answered ++ option_to_list o) i ≡ Some s → IsSentLawful (tables_now world answered) s
       by None is there = was.lawful i s (ap (λ (ss : List Sent). slice_get ss i) (sym (append-nil (sents answered))) ∙ there)
       by (Some x) is there = elim (last_or_before (sents answered) x s i there) [
         | inl old ↦ was.lawful i s old
         | inr w ↦ new s (is ∙ ap Some w.1)
       ]
 
-  pub pushed : (line' : PipelineView) (marks' : List Bool) → Adds line' → world_in line'.domains ≡ world_in line.domains
+  long : (line' : PipelineView) → world_in line'.domains ≡ world_in line.domains → length line'.domains ≡ length line.domains
+  long line' same = sym (length-map line'.domains opened_as) ∙ ap length same ∙ length-map line.domains opened_as
+
+  -- the entry with what it leaves, by the versions that its log gives
+  pub pushed_as : (line' : PipelineView) (marks' : List Bool) → Adds line' → world_in line'.domains ≡ world_in line.domains
+      → ((n : ℕ) → table_in line'.domains n ≡ tables_now (world_in line.domains) (history (world_in line.domains) (log ++ e ∷ [])) n)
+      → ((n : ℕ) → n < length line.domains → version_of line'.domains n ≡ number_of (schema_version (history (world_in line.domains) (log ++ e ∷ []))) n)
       → line'.outcomes ≡ line.outcomes ++ decided_by (world_in line.domains) (answers log line) e.call
       → ((k : ℕ) → mark_at marks' k ≡ (mark_at marks k || spends e.call (reply_to (world_in line.domains) (answers log line) e.client e.call) k))
       → length line'.failures ≡ length line.failures + length (option_to_list (opened_chain e.call (reply_to (world_in line.domains) (answers log line) e.client e.call)))
       → ((n : ℕ) → is_live_in line'.domains n ≡ is_live (world_in line.domains) (history (world_in line.domains) (log ++ e ∷ [])) n)
       → IsCurrent (log ++ e ∷ []) marks' line'
-  pushed line' marks' adds same decided marked opened live = record {
+  pushed_as line' marks' adds same tables versions decided marked opened live = record {
     sound = subst (λ (ss : List Sent). IsSound ss line') (sym (sents-push world log e) ∙ (λ i. sents (history (sym same i) (log ++ e ∷ [])))) adds.0;
     outcomes =
         decided ∙ ap (λ (os : List Outcome). os ++ decided_by world answered e.call) was.outcomes ∙ sym (outcomes-push world log e)
@@ -106,15 +122,32 @@ module _ (log : List Entry) (marks : List Bool) (line : PipelineView) (was : IsC
     live = λ n. live n ∙ (λ i. is_live (sym same i) (history (sym same i) (log ++ e ∷ [])) n);
     lawful = subst (λ (w : List Domain). AreSentLawful w (history w (log ++ e ∷ []))) (sym same) (lawful-push adds.1);
     openings = subst AreSound (sym same) was.openings;
+    only = subst OneIsUpgraded (sym same) was.only;
+    tables = λ n. tables n ∙ (λ i. tables_now (sym same i) (history (sym same i) (log ++ e ∷ [])) n);
+    versions = λ n low. versions n (omega (arith, low, long line' same)) ∙ (λ i. number_of (schema_version (history (sym same i) (log ++ e ∷ []))) n);
   }
 
+  -- the same of a call that is no good upgrade: each domain has the version that it had
+  pub pushed : upgraded e.call (reply_to (world_in line.domains) (answers log line) e.client e.call) ≡ false → (line' : PipelineView) (marks' : List Bool) → Adds line' → world_in line'.domains ≡ world_in line.domains
+      → KeepVersions line.domains line'.domains
+      → line'.outcomes ≡ line.outcomes ++ decided_by (world_in line.domains) (answers log line) e.call
+      → ((k : ℕ) → mark_at marks' k ≡ (mark_at marks k || spends e.call (reply_to (world_in line.domains) (answers log line) e.client e.call) k))
+      → length line'.failures ≡ length line.failures + length (option_to_list (opened_chain e.call (reply_to (world_in line.domains) (answers log line) e.client e.call)))
+      → ((n : ℕ) → is_live_in line'.domains n ≡ is_live (world_in line.domains) (history (world_in line.domains) (log ++ e ∷ [])) n)
+      → IsCurrent (log ++ e ∷ []) marks' line'
+  pushed none line' marks' adds same kept decided marked opened live =
+      pushed_as line' marks' adds same
+      (λ n. kept.tables n ∙ was.tables n ∙ ap (λ v. table_of world v n) (sym (still_version none)))
+      (λ n low. kept.versions n ∙ was.versions n low ∙ ap (λ v. number_of v n) (sym (still_version none)))
+      decided marked opened live
+
   -- a call that is none on mounts, and submits, decides, spends and opens nothing
-  pub quiet : (marks' : List Bool) → mount_call e.call ≡ None → sent_by (answers log line) e.call (reply_to (world_in line.domains) (answers log line) e.client e.call) ≡ None → decided_by (world_in line.domains) (answers log line) e.call ≡ []
+  pub quiet : upgraded e.call (reply_to (world_in line.domains) (answers log line) e.client e.call) ≡ false → (marks' : List Bool) → mount_call e.call ≡ None → sent_by (answers log line) e.call (reply_to (world_in line.domains) (answers log line) e.client e.call) ≡ None → decided_by (world_in line.domains) (answers log line) e.call ≡ []
       → ((k : ℕ) → spends e.call (reply_to (world_in line.domains) (answers log line) e.client e.call) k ≡ false) → ((k : ℕ) → mark_at marks' k ≡ mark_at marks k)
       → opened_chain e.call (reply_to (world_in line.domains) (answers log line) e.client e.call) ≡ None
       → IsCurrent (log ++ e ∷ []) marks' line
-  quiet marks' unmounted none nothing unspent same unopened =
-      pushed line marks' (unsent line none was.sound) refl
+  quiet unraised marks' unmounted none nothing unspent same unopened =
+      pushed unraised line marks' (unsent line none was.sound) refl (versions-same line.domains)
       (sym (append-nil line.outcomes) ∙ ap (λ (os : List Outcome). line.outcomes ++ os) (sym nothing))
       (λ k. same k ∙ sym (or_false (mark_at marks k)) ∙ ap (λ b. mark_at marks k || b) (sym (unspent k)))
       (none_more (length line.failures) ∙ ap (λ (o : Option ℕ). length line.failures + length (option_to_list o)) (sym unopened))

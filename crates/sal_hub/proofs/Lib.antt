@@ -14,6 +14,7 @@ pub mod Mounting
 pub mod Noted
 pub mod Notified
 pub mod Numbered
+pub mod OneVersion
 pub mod OpenedDevices
 pub mod Placed
 pub mod Routed
@@ -25,4 +26,6 @@ pub mod Starting
 pub mod Submitting
 pub mod Taking
 pub mod Telling
+pub mod Upgrading
+pub mod Versioned
 pub mod Wholes

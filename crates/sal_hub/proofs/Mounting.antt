@@ -1,7 +1,7 @@
 -- The calls of mounts: what is kept stays the log's, and the answer is the log's.
 use Rattle.std.proofs.Common.{◌≡◌, ℕ, zero, suc, ◌+◌, ◌<◌, Bool, true, false, not, ◌&&◌, ◌||◌, List, [], ◌∷◌, ◌++◌, length, map, get_or, set, Option, None, Some, Err, refl, ap, sym, ◌∙◌, subst, arith, append-nil, if◌then◌else◌, nat_eq}
 use Rattle.std.specs.Prelude.{slice_get}
-use Rattle.std.specs.Option.{option_map, option_or, option_to_list}
+use Rattle.std.specs.Option.{option_map, option_map_or, option_or, option_to_list}
 use Rattle.std.proofs.lemmas.Bool.Decides.{nat_tests}
 use Rattle.std.proofs.lemmas.List.{length-map}
 use Rattle.std.proofs.lemmas.List.Sums.{fold-append}
@@ -20,7 +20,7 @@ use Rattle.sal_history.specs.declared.call.Call.{Call}
 use Rattle.sal_history.specs.declared.call.Call.TheVariants.{Mount, MountAt, Unmount}
 use Rattle.sal_history.specs.declared.call.Entry.{Entry}
 use Rattle.sal_history.specs.declared.reply.Reply.{Reply}
-use Rattle.sal_history.specs.World.{Domain}
+use Rattle.sal_history.specs.World.{Domain, no_table}
 use Rattle.sal_history.specs.History.{Answered, entries_of, history, is_live, reply_to, sents}
 use Rattle.sal_history.specs.Services.{by_mounts, mount_call, mount_fault, mount_reply, mounted, mounting}
 use Rattle.sal_history.specs.Submissions.{Sent}
@@ -30,12 +30,13 @@ use Rattle.sal_hub.specs.Answers.{Fails, Made}
 use Rattle.sal_hub.specs.Current.{IsCurrent, IsKept, answers, known_of}
 use Rattle.sal_hub.specs.Journals.{Noted, mark_at}
 use Rattle.sal_hub.specs.HubHistory.{HubHistory}
-use Rattle.sal_hub.specs.PipelineView.{AllKept, IsSound, PipelineView, DomainView, is_live_in, line_of, opened_as, set_live, shown, with_live, world_in}
+use Rattle.sal_hub.specs.PipelineView.{AllKept, IsSound, KeepVersions, PipelineView, DomainView, is_live_in, line_of, opened_as, set_live, shown, with_live, world_in}
 use Rattle.sal_hub.specs.Mounted.{AreMounted, Enters, IsJotted}
+use Rattle.sal_hub.proofs.Deciding.{versions-same}
 use Rattle.sal_hub.proofs.Histories.{mounting-push}
 use Rattle.sal_hub.proofs.Keeping.{none_more, or_false, pushed, unsent}
 use Rattle.sal_hub.proofs.Living.{is_device_low, live-mounted, live-same, live-unmounted, live_there}
-use Rattle.sal_hub.proofs.Served.{is_serving, serving_undecided, serving_unopened, serving_unsent, serving_unspent}
+use Rattle.sal_hub.proofs.Served.{is_serving, serving_undecided, serving_unopened, serving_unraised, serving_unsent, serving_unspent}
 
 -- ---- a domain that is live from now on, or not
 
@@ -53,6 +54,20 @@ world-with : (ds : List DomainView) (i : ℕ) (b : Bool) → world_in (with_live
 world-with [] i b = refl
 world-with (d ∷ ds) zero b = refl
 world-with (d ∷ ds) (suc i) b = ap (λ (w : List Domain). opened_as d ∷ w) (world-with ds i b)
+
+told-with : {X : Type 0} (f : DomainView → X) (z : X) → ((d : DomainView) (b : Bool) → f (record d { live = b }) ≡ f d) → (ds : List DomainView) (i : ℕ) (b : Bool) (n : ℕ)
+    → option_map_or f (slice_get (with_live ds i b) n) z ≡ option_map_or f (slice_get ds n) z
+told-with f z same [] i b n = refl
+told-with f z same (d ∷ ds) zero b zero = same d b
+told-with f z same (d ∷ ds) zero b (suc n) = refl
+told-with f z same (d ∷ ds) (suc i) b zero = refl
+told-with f z same (d ∷ ds) (suc i) b (suc n) = told-with f z same ds i b n
+
+versions-with : (ds : List DomainView) (i : ℕ) (b : Bool) → KeepVersions ds (with_live ds i b)
+versions-with ds i b = record {
+  tables = λ n. told-with (λ (x : DomainView). x.table) no_table (λ d b. refl) ds i b n;
+  versions = λ n. told-with (λ (x : DomainView). x.version) 0 (λ d b. refl) ds i b n;
+}
 
 length-with : (ds : List DomainView) (i : ℕ) (b : Bool) → length (with_live ds i b) ≡ length ds
 length-with [] i b = refl
@@ -175,16 +190,16 @@ module _ (journal journal' : Noted) (p : Pipeline) (is : IsKept journal p) (r r'
         reply = by_call w answered client call m asks ∙ ap mount_reply reply_is;
       }
 
-      current_now : (line : PipelineView) → line ≡ line_of p' → IsSound (sents (answers journal.log (line_of p))) line → line.outcomes ≡ p.outcomes.items → length line.failures ≡ length p.failures.items
+      current_now : (line : PipelineView) → line ≡ line_of p' → KeepVersions (line_of p).domains line.domains → IsSound (sents (answers journal.log (line_of p))) line → line.outcomes ≡ p.outcomes.items → length line.failures ≡ length p.failures.items
           → ((n : ℕ) → is_live_in line.domains n ≡ is_up (before ++ record { call = m; reply = reply } ∷ []) n) → IsCurrent journal'.log journal'.marks (line_of p')
-      current_now line is_line sound decided failed lives =
+      current_now line is_line versions sound decided failed lives =
           let on : is_serving call ≡ true = serves call m asks in
           let shared : Reply = reply_to w answered client call in
           subst (λ (l : List Entry). IsCurrent l journal'.marks (line_of p')) (sym entered.log)
           (subst (IsCurrent (journal.log ++ entry ∷ []) journal'.marks) is_line
-          (pushed journal.log journal.marks (line_of p) is.current entry line journal'.marks
+          (pushed journal.log journal.marks (line_of p) is.current entry (serving_unraised call on shared) line journal'.marks
           (unsent journal.log journal.marks (line_of p) is.current entry line (serving_unsent answered call on shared) sound)
-          (ap (λ (l : PipelineView). world_in l.domains) is_line ∙ same)
+          (ap (λ (l : PipelineView). world_in l.domains) is_line ∙ same) versions
           (decided ∙ sym (append-nil p.outcomes.items) ∙ ap (λ os. p.outcomes.items ++ os) (sym (serving_undecided w answered call on)))
           (λ k. entered.marks k ∙ sym (or_false (mark_at journal.marks k)) ∙ ap (λ b. mark_at journal.marks k || b) (sym (serving_unspent call on shared k)))
           (failed ∙ none_more (length p.failures.items) ∙ ap (λ (o : Option ℕ). length p.failures.items + length (option_to_list o)) (sym (serving_unopened call on shared)))
@@ -195,7 +210,7 @@ module _ (journal journal' : Noted) (p : Pipeline) (is : IsKept journal p) (r r'
       pub same_kept : IsKept journal' p
       same_kept = record {
         kept = is.kept;
-        current = current_now entered p refl (line_of p) refl is.current.sound refl refl
+        current = current_now entered p refl (line_of p) refl (versions-same (line_of p).domains) is.current.sound refl refl
             (λ n. is.current.live n ∙ sym (live-same before (record { call = m; reply = reply }) no_mount no_unmount n));
         let_go = is.let_go;
       }
@@ -214,7 +229,7 @@ module _ (journal journal' : Noted) (p : Pipeline) (is : IsKept journal p) (r r'
       pub set_kept : IsKept journal' p'
       set_kept = record {
         kept = kept;
-        current = current_now entered p' same_world (set_live (line_of p) domain live) (sym line) (sound-with (sents (answers journal.log (line_of p))) (line_of p) domain live is.current.sound) refl refl flags;
+        current = current_now entered p' same_world (set_live (line_of p) domain live) (sym line) (versions-with (line_of p).domains domain live) (sound-with (sents (answers journal.log (line_of p))) (line_of p) domain live is.current.sound) refl refl flags;
         let_go = ap (λ (l : PipelineView). l.gone) line ∙ is.let_go ∙ ap (λ (l : PipelineView). length l.outcomes) (sym line);
       }
 

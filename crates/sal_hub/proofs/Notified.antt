@@ -27,7 +27,7 @@ use Rattle.sal_hub.specs.HubHistory.{HubHistory, entry_of}
 use Rattle.sal_hub.specs.Notified.{AreNoted, left_by}
 use Rattle.sal_hub.proofs.Beginning.{made_now, quiet_kept}
 use Rattle.sal_hub.proofs.Histories.{length-history, note-push}
-use Rattle.sal_hub.proofs.Served.{is_serving, serving_undecided, serving_unopened, serving_unsent, serving_unspent}
+use Rattle.sal_hub.proofs.Served.{is_serving, serving_undecided, serving_unraised, serving_unopened, serving_unsent, serving_unspent}
 
 -- ---- the calls on notifications, as shared calls
 
@@ -99,7 +99,7 @@ module _ (j j' : Noted) (p : Pipeline) (kept : IsKept j p) (client : ℕ) (c : N
   entered_kept =
       let call : Call = shared c in
       let r : Reply = reply_to old.world answered client (shared c) in
-      quiet_kept j j' p kept client (shared c) log (unmounting c) (serving_unsent answered call (serving c) r) (serving_undecided old.world answered call (serving c)) (serving_unspent call (serving c) r)
+      quiet_kept j j' p kept client (shared c) log (serving_unraised call (serving c) r) (unmounting c) (serving_unsent answered call (serving c) r) (serving_undecided old.world answered call (serving c)) (serving_unspent call (serving c) r)
       (serving_unopened call (serving c) r) marks
 
   longer : note_calls (history (known_of j p).world j'.log) ≡ note_calls (history (known_of j p).world j.log) ++ record { client = client; call = c } ∷ []

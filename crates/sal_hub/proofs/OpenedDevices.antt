@@ -1,6 +1,6 @@
 -- The domains that devices open, and what is refused.
-use Rattle.std.proofs.Common.{◌≡◌, ℕ, zero, suc, ◌+◌, ◌<◌, ◌≤◌, Bool, true, false, not, ◌&&◌, ◌||◌, nat_eq, List, [], ◌∷◌, length, map, Option, None, Some, refl, ap, sym, ◌∙◌, subst, arith, inl, inr, ◌⊎◌}
-use Rattle.std.specs.Prelude.{All, slice_get}
+use Rattle.std.proofs.Common.{◌≡◌, ℕ, zero, suc, ◌+◌, ◌<◌, ◌≤◌, Bool, true, false, not, ◌&&◌, ◌||◌, nat_eq, List, [], ◌∷◌, length, map, Option, None, Some, refl, ap, sym, ◌∙◌, subst, arith, inl, inr, ◌⊎◌, if◌then◌else◌}
+use Rattle.std.specs.Prelude.{All, IsTrue, slice_get}
 use Rattle.std.specs.List.{AllByRecursion}
 use Rattle.std.specs.Option.{option_map, option_or}
 use Rattle.std.proofs.lemmas.Bool.Decides.{nat_tests}
@@ -17,17 +17,21 @@ use Rattle.sal_commit.specs.declared.fault.DomainFault.{DomainFault}
 use Rattle.sal_commit.specs.declared.fault.DomainFault.TheVariants.{Broken as Breaks, NoMemory as Full}
 use Rattle.sal_commit.specs.Opening.{fault_of as domain_fault}
 use Rattle.sal_history.specs.declared.opening.Device.{Device}
+use Rattle.sal_commit.specs.Versions.{tables_of}
+use Rattle.sal_schema.specs.Fitting.{is_closed}
 use Rattle.sal_history.specs.World as world
+use Rattle.sal_history.specs.World.{AreVersions, IsChain, OneIsUpgraded}
+use Rattle.sal_history.proofs.Versions.{at-version, chain-at, first-version}
 use Rattle.sal_closed.specs.Logs.{AreSound, IsSound}
 use Rattle.sal_hub.specs.declared.opening.OpenFault.{OpenFault}
 use Rattle.sal_hub.specs.declared.opening.OpenFault.TheVariants.{Broken, NotConfig, NoMemory}
 use Rattle.sal_hub.specs.declared.pipeline.Pipeline.{Pipeline}
-use Rattle.sal_hub.specs.Current.{IsCurrent, IsKept}
+use Rattle.sal_hub.specs.Current.{IsCurrent, IsKept, number_of}
 use Rattle.sal_hub.specs.Failures.{noted_in}
 use Rattle.sal_hub.specs.Journals.{Noted}
-use Rattle.sal_hub.specs.PipelineView.{AllKept, PipelineView, DomainView, is_live_in, line_of, shown, world_in}
-use Rattle.sal_hub.specs.Opened.{shown_from, shown_of}
-use Rattle.sal_hub.specs.Openings.{AreClosedDevices, domain_of, numbered, opening_fault, state_row, world_of}
+use Rattle.sal_hub.specs.PipelineView.{AllKept, PipelineView, DomainView, is_live_in, line_of, shown, table_in, version_of, world_in}
+use Rattle.sal_hub.specs.Opened.{HaveTables, shown_from, shown_of}
+use Rattle.sal_hub.specs.Openings.{AreClosedDevices, IsClosedDevice, domain_of, numbered, opening_fault, state_row, world_of}
 
 -- ---- one device
 
@@ -93,22 +97,49 @@ live_first k [] some = absurd (omega (arith, some))
 live_first zero (device ∷ devices) some = refl
 live_first (suc k) (device ∷ devices) some = let other : nat_eq (suc k) 0 ≡ false = grind (arith, nat_tests) in live_later 1 devices k (omega arith) ∙ sym other
 
--- what devices with closed opening trees open has sound openings, as each table is one of a schema
-sound_openings : (devices : List Device) → AllByRecursion (λ (d : Device). IsTable d.schema.value) devices → AreClosedDevices devices → AreSound (world_of devices)
-sound_openings [] tables closed k domain at = absurd (none-some domain at)
-sound_openings (device ∷ devices) tables closed zero domain at =
-    subst IsSound (same_Some (domain_of device) domain at) (record { table = tables.0; config = closed.0.config; oper = closed.0.oper })
-sound_openings (device ∷ devices) tables closed (suc k) domain at = sound_openings devices tables.1 closed.1 k domain at
+-- the versions of a device have tables of schemas and extend each other, and its opening trees are closed by version 0
+sound_device : (device : Device) → HaveTables device → IsClosedDevice device → IsChain device.schema.value (tables_of device.upgrades.items) → IsSound (domain_of device)
+sound_device device tables closed chain = record {
+  tables = λ v. at-version IsTable device.schema.value (tables_of device.upgrades.items) v tables.first (recursion_from_All IsTable (tables_of device.upgrades.items) tables.upgrades);
+  chain = λ v. chain-at device.schema.value (tables_of device.upgrades.items) v chain;
+  opening = by;
+}
+  where
+    by : (s : Store) → IsTrue (is_closed device.schema.value (world.tree_of_opening device.opening s))
+    by Config = closed.config
+    by Oper = closed.oper
 
-pub are_sound : (devices : List Device) → All (λ (d : Device). IsTable d.schema.value) devices → AreClosedDevices devices → AreSound (world_of devices)
-are_sound devices tables closed = sound_openings devices (recursion_from_All (λ (d : Device). IsTable d.schema.value) devices tables) closed
+-- what devices with closed opening trees open has sound openings
+sound_openings : (devices : List Device) → AllByRecursion HaveTables devices → AreClosedDevices devices
+    → ((k : ℕ) (d : world.Domain) → slice_get (world_of devices) k ≡ Some d → IsChain d.table d.upgrades) → AreSound (world_of devices)
+sound_openings [] tables closed chains k domain at = absurd (none-some domain at)
+sound_openings (device ∷ devices) tables closed chains zero domain at =
+    subst IsSound (same_Some (domain_of device) domain at) (sound_device device tables.0 closed.0 (chains 0 (domain_of device) refl))
+sound_openings (device ∷ devices) tables closed chains (suc k) domain at = sound_openings devices tables.1 closed.1 (λ j d at_j. chains (suc j) d at_j) k domain at
+
+pub are_sound : (devices : List Device) → All HaveTables devices → AreClosedDevices devices → AreVersions (world_of devices) → AreSound (world_of devices)
+are_sound devices tables closed versions = sound_openings devices (recursion_from_All HaveTables devices tables) closed versions.chain
+
+-- each domain is at version 0
+first_tables : (n : ℕ) (devices : List Device) (k : ℕ) → table_in (shown_from n devices) k ≡ world.table_of (world_of devices) 0 k
+first_tables n [] k = refl
+first_tables n (device ∷ devices) zero = sym (first-version device.schema.value (tables_of device.upgrades.items))
+first_tables n (device ∷ devices) (suc k) = first_tables (n + 1) devices k
+
+first_versions : (n : ℕ) (devices : List Device) (k : ℕ) → version_of (shown_from n devices) k ≡ 0
+first_versions n [] k = refl
+first_versions n (device ∷ devices) zero = refl
+first_versions n (device ∷ devices) (suc k) = first_versions (n + 1) devices k
+
+none_later : (k : ℕ) → 0 ≡ number_of 0 k
+none_later k = elim (nat_eq k 0) as (λ b. ◌≡◌ {A = ℕ} 0 (if b then 0 else 0)) [ true ↦ refl | false ↦ refl ]
 
 or_none : (b : Bool) → b ≡ (b || (false && not false))
 or_none true = refl
 or_none false = refl
 
-pub opened_kept : (devices : List Device) (p : Pipeline) (journal : Noted) → 1 ≤ length devices → AreSound (world_of devices) → AllKept p.domains.items → map shown p.domains.items ≡ shown_from 0 devices → p.gone ≡ 0 → p.waiting.items ≡ [] → p.outcomes.items ≡ [] → p.failures.items ≡ [] → journal ≡ record { log = []; marks = [] } → IsKept journal p
-opened_kept devices p journal some sound kept are zeroth none undecided unopened empty =
+pub opened_kept : (devices : List Device) (p : Pipeline) (journal : Noted) → 1 ≤ length devices → AreSound (world_of devices) → AreVersions (world_of devices) → AllKept p.domains.items → map shown p.domains.items ≡ shown_from 0 devices → p.gone ≡ 0 → p.waiting.items ≡ [] → p.outcomes.items ≡ [] → p.failures.items ≡ [] → journal ≡ record { log = []; marks = [] } → IsKept journal p
+opened_kept devices p journal some sound versions kept are zeroth none undecided unopened empty =
     let line : PipelineView = record { domains = shown_from 0 devices; gone = 0; waiting = []; outcomes = []; failures = [] } in
     let start : IsCurrent [] [] line = record {
       sound = record {
@@ -127,6 +158,9 @@ opened_kept devices p journal some sound kept are zeroth none undecided unopened
       live = λ n. live_first n devices some ∙ or_none (nat_eq n 0);
       lawful = λ i s at. cc;
       openings = subst AreSound (sym (world-shown 0 devices)) sound;
+      only = subst OneIsUpgraded (sym (world-shown 0 devices)) versions.only;
+      tables = λ n. first_tables 0 devices n ∙ ap (λ w. world.table_of w 0 n) (sym (world-shown 0 devices));
+      versions = λ n low. first_versions 0 devices n ∙ none_later n;
     } in
     let same : ◌≡◌ {A = PipelineView} line (line_of p) = λ i. record { domains = sym are i; gone = sym zeroth i; waiting = sym none i; outcomes = sym undecided i; failures = sym unopened i } in
     record {

@@ -34,7 +34,7 @@ use Rattle.sal_hub.specs.Tokens.{IsCall}
 use Rattle.sal_hub.proofs.Beginning.{made_now, quiet_kept}
 use Rattle.sal_hub.proofs.Histories.{listed, rpc-push}
 use Rattle.sal_hub.proofs.Listed.{slice_get_more, slice_get_seam}
-use Rattle.sal_hub.proofs.Served.{is_serving, serving_undecided, serving_unopened, serving_unsent, serving_unspent}
+use Rattle.sal_hub.proofs.Served.{is_serving, serving_undecided, serving_unraised, serving_unopened, serving_unsent, serving_unspent}
 
 -- ---- the calls on the router, as shared calls
 
@@ -102,7 +102,7 @@ module _ (j j' : Noted) (p : Pipeline) (kept : IsKept j p) (client : ℕ) (c : R
   entered_kept =
       let call : Call = shared c in
       let r : Reply = reply_to old.world answered client (shared c) in
-      quiet_kept j j' p kept client (shared c) log (unmounting c) (serving_unsent answered call (serving c) r) (serving_undecided old.world answered call (serving c)) (serving_unspent call (serving c) r)
+      quiet_kept j j' p kept client (shared c) log (serving_unraised call (serving c) r) (unmounting c) (serving_unsent answered call (serving c) r) (serving_undecided old.world answered call (serving c)) (serving_unspent call (serving c) r)
       (serving_unopened call (serving c) r) marks
 
   longer : rpc_calls (history (known_of j p).world j'.log) ≡ rpc_calls (history (known_of j p).world j.log) ++ record { client = client; call = c } ∷ []

@@ -11,13 +11,14 @@ use Rattle.sal_note.specs.Queues as queues
 use Rattle.sal_mount.specs.declared.call.MountCall.{MountCall}
 use Rattle.sal_mount.specs.Register.{IsOf, Register}
 use Rattle.sal_history.specs.declared.call.Call.{Call}
-use Rattle.sal_history.specs.declared.call.Call.TheVariants.{Answer, Begin, Cancel, ChainBegin, CloseChain, Collect, Invoke, Listen, Mount, MountAt, NextCall, Offer, OpenChain, Provide, Pump, Settle, Submit, Subscribe, Take, TakeNotes, Unlisten, Unmount, Withdraw}
+use Rattle.sal_history.specs.declared.call.Call.TheVariants.{Answer, Begin, Cancel, ChainBegin, CloseChain, Collect, Invoke, Listen, Mount, MountAt, NextCall, Offer, OpenChain, Provide, Pump, Settle, Submit, Subscribe, Take, TakeNotes, Unlisten, Unmount, Upgrade, Withdraw}
 use Rattle.sal_history.specs.declared.call.Entry.{Entry}
 use Rattle.sal_history.specs.declared.reply.Reply.{Reply}
 use Rattle.sal_history.specs.World.{Domain}
 use Rattle.sal_history.specs.History.{Answered, began_by, closes, decided_by, history, opened_chain, sent_by, spends}
 use Rattle.sal_history.specs.Services.{mount_call, note_call, note_calls, rpc_call, rpc_calls}
 use Rattle.sal_history.specs.Submissions.{Base}
+use Rattle.sal_history.specs.Versions.{upgraded}
 use Rattle.sal_hub.specs.declared.services.Services.{Services}
 use Rattle.sal_hub.specs.HubHistory.{HubHistory, more}
 use Rattle.sal_hub.specs.Mounted.{AreMounted}
@@ -150,6 +151,10 @@ pub serving_undecided : (world : List Domain) (answered : List Answered) (call :
 serving_undecided world answered (Settle receipt) e = cc
 serving_undecided world answered Pump e = cc
 serving_undecided world answered call e = refl
+
+pub serving_unraised : (call : Call) → is_serving call ≡ true → (reply : Reply) → upgraded call reply ≡ false
+serving_unraised (Upgrade version) e reply = cc
+serving_unraised call e reply = refl
 
 pub serving_unspent : (call : Call) → is_serving call ≡ true → (reply : Reply) (place : ℕ) → spends call reply place ≡ false
 serving_unspent (Submit at ops) e reply place = cc

@@ -1,5 +1,5 @@
 -- What a hub answers of its domains.
-use Rattle.std.proofs.Common.{◌≡◌, ℕ, ◌-◌, ◌<◌, true, List, length, map, get_or, Some, ap, sym, ◌∙◌, subst, arith}
+use Rattle.std.proofs.Common.{◌≡◌, ℕ, zero, suc, ◌-◌, ◌<◌, true, List, [], ◌∷◌, length, map, get_or, None, Some, refl, ap, sym, ◌∙◌, subst, arith}
 use Rattle.std.specs.Prelude.{slice_get}
 use Rattle.std.specs.Option.{option_map}
 use Rattle.std.proofs.lemmas.List.{length-map}
@@ -10,14 +10,17 @@ use Rattle.sal_rows.specs.Clash.{tip}
 use Rattle.sal_graft.specs.Kept.{AreKept, opening_in, ops_of}
 use Rattle.sal_graft.proofs.KeptLemmas.{length-ops_of}
 use Rattle.sal_commit.specs.declared.domain.Domain.{Domain}
-use Rattle.sal_history.specs.History.{commits, newest_tree}
+use Rattle.sal_rules.specs.Breaches.{breach}
+use Rattle.sal_commit.proofs.VersionTables.{present-unbroken}
+use Rattle.sal_history.specs.History.{commits, history, newest_tree}
+use Rattle.sal_history.specs.Versions.{tables_now}
 use Rattle.sal_hub.specs.declared.pipeline.Pipeline.{Pipeline}
 use Rattle.sal_hub.specs.Current.{IsKept, answers, known_of}
 use Rattle.sal_hub.specs.Domains.{AreDomains, IsDomain}
 use Rattle.sal_hub.specs.Journals.{Noted}
 use Rattle.sal_hub.specs.HubHistory.{HubHistory}
 use Rattle.sal_hub.specs.PipelineView.{AllKept, is_live_in, line_of, opened_as, shown, world_in}
-use Rattle.sal_hub.proofs.Deciding.{live-here, live-within, opening-at, table-at}
+use Rattle.sal_hub.proofs.Deciding.{live-here, last-at, live-within, opening-at, table-at}
 use Rattle.sal_hub.proofs.Keeping.{chains-current, commits-current, receipts-current}
 use Rattle.sal_hub.proofs.Listed.{slice_get_at}
 
@@ -33,6 +36,11 @@ known_domain journal p known view n there = omega (arith, there, ap (λ (k : Hub
 
 pub kept_at : (ds : List Domain) (n : ℕ) (d : Domain) → AllKept ds → n < length ds → d ≡ get_or ds n d → AreKept d.commits.items
 kept_at ds n d kept h is = subst (λ (x : Domain). AreKept x.commits.items) (sym is) (kept n d h)
+
+one_of : (ds : List Domain) (k : ℕ) → k < length ds → (d : Domain) × (d ≡ get_or ds k d)
+one_of [] k h = absurd (omega (arith, h))
+one_of (x ∷ ds) zero h = (x, refl)
+one_of (x ∷ ds) (suc k) h = one_of ds k (omega (arith, h))
 
 module _ (journal : Noted) (p : Pipeline) (is : IsKept journal p) where
   pub some_domain : 0 < length p.domains.items
@@ -50,7 +58,8 @@ module _ (journal : Noted) (p : Pipeline) (is : IsKept journal p) where
         record {
           number = stored.number;
           live = sym (live-here (line_of p).domains n (shown d) here) ∙ is.current.live n;
-          schema = sym (table-at (line_of p).domains n (shown d) here);
+          schema = sym (table-at (line_of p).domains n (shown d) here) ∙ is.current.tables n;
+          last = sym (last-at (line_of p).domains n (shown d) here);
           kept = kept_at p.domains.items n d is.kept h at;
           opening = λ i s. sym (opening-at (line_of p).domains n (shown d) s here) i;
           commits = stored.commits ∙ commits-current journal.log journal.marks (line_of p) n is.current;
@@ -63,6 +72,13 @@ module _ (journal : Noted) (p : Pipeline) (is : IsKept journal p) where
 
     pub tip_is : (s : Store) → tip (opening_in d.commits.items) (ops_of d.commits.items) s ≡ newest_tree (world_in (line_of p).domains) journal.log n s
     tip_is s = λ i. tree_after s (domain_is.opening i s) (domain_is.commits i)
+
+  -- the newest trees break no rule of the present version
+  pub unbroken : (n : ℕ) (s : Store) → n < length (known_of journal p).world → breach (tables_now (known_of journal p).world (history (known_of journal p).world journal.log) n) s (newest_tree (known_of journal p).world journal.log n s) ≡ None
+  unbroken n s there =
+      let h : n < length p.domains.items = known_domain journal p (known_of journal p) refl n there in
+      let (d, at) = one_of p.domains.items n h in
+      (λ i. breach (sym (domain_is n d h at).schema i) s (sym (tip_is n d h at s) i)) ∙ present-unbroken d (domain_is n d h at).kept s
 
   pub domains_are : AreDomains (known_of journal p) p.domains.items
   domains_are = record {

@@ -14,16 +14,18 @@ use Rattle.sal_history.specs.World.{Domain}
 use Rattle.sal_history.specs.History.{Answered, decide_front, decide_next, decided_by, entries_of, history, is_live, opened_chain, outcome, outcomes, pumped, reply_to, sent_by, sents, settled, spends}
 use Rattle.sal_history.specs.Services.{mount_call}
 use Rattle.sal_history.specs.Submissions.{Sent}
+use Rattle.sal_history.specs.Versions.{tables_now, upgraded}
+use Rattle.sal_schema.specs.declared.table.SchemaTable.{SchemaTable}
 use Rattle.sal_hub.specs.declared.pipeline.Pipeline.{Pipeline}
 use Rattle.sal_hub.specs.declared.receipt.Receipt.{Receipt}
 use Rattle.sal_hub.specs.Answers.{Made}
 use Rattle.sal_hub.specs.Current.{IsCurrent, IsKept, answers, known_of}
 use Rattle.sal_hub.specs.Journals.{Noted, jotted, mark_at}
 use Rattle.sal_hub.specs.HubHistory.{HubHistory, more}
-use Rattle.sal_hub.specs.PipelineView.{AllKept, AreDecided, PipelineView, is_live_in, line_of, sent_of, world_in}
+use Rattle.sal_hub.specs.PipelineView.{AllKept, AreDecided, PipelineView, is_live_in, line_of, sent_of, table_in, world_in}
 use Rattle.sal_hub.specs.Tokens.{IsGiven}
 use Rattle.sal_hub.proofs.Beginning.{quiet_kept}
-use Rattle.sal_hub.proofs.Deciding.{sent_at}
+use Rattle.sal_hub.proofs.Deciding.{sent_at, versions-same}
 use Rattle.sal_hub.proofs.Histories.{sents-few, sents-push}
 use Rattle.sal_hub.proofs.Keeping.{length-submissions, none_more, or_false, pushed, still_live, unsent}
 use Rattle.sal_hub.proofs.Listed.{slice_get_more, slice_get_none, slice_get_seam, slice_get_some}
@@ -37,7 +39,8 @@ cancel_kept journal journal' p is client place log marks =
     record {
       kept = is.kept;
       current = subst (λ (l : List Entry). IsCurrent l journal'.marks (line_of p)) (sym log)
-          (pushed journal.log journal.marks (line_of p) is.current e (line_of p) journal'.marks (unsent journal.log journal.marks (line_of p) is.current e (line_of p) refl is.current.sound) refl
+          (pushed journal.log journal.marks (line_of p) is.current e refl (line_of p) journal'.marks (unsent journal.log journal.marks (line_of p) is.current e (line_of p) refl is.current.sound) refl
+          (versions-same (line_of p).domains)
           (sym (append-nil (line_of p).outcomes)) (λ k. marks k ∙ swapped (nat_eq place k) (mark_at journal.marks k)) (none_more (length (line_of p).failures))
           (still_live journal.log journal.marks (line_of p) is.current e (line_of p) refl (λ n. refl)));
       let_go = is.let_go;
@@ -76,15 +79,16 @@ module _ (journal journal' : Noted) (p p' : Pipeline) (is : IsKept journal p) (c
   entry = record { client = client; number = entries_of journal.log client; call = call }
 
   -- a call that decides the next n
-  pub decided_kept : mount_call call ≡ None → decided_by (world_in (line_of p).domains) (answers journal.log (line_of p)) call ≡ decide_next (world_in (line_of p).domains) (is_live_in (line_of p).domains) (sents (answers journal.log (line_of p))) p.outcomes.items n
+  pub decided_kept : upgraded call (reply_to (world_in (line_of p).domains) (answers journal.log (line_of p)) client call) ≡ false → mount_call call ≡ None → decided_by (world_in (line_of p).domains) (answers journal.log (line_of p)) call ≡ decide_next (world_in (line_of p).domains) (table_in (line_of p).domains) (is_live_in (line_of p).domains) (sents (answers journal.log (line_of p))) p.outcomes.items n
       → sent_by (answers journal.log (line_of p)) call (reply_to (world_in (line_of p).domains) (answers journal.log (line_of p)) client call) ≡ None
       → ((k : ℕ) → spends call (reply_to (world_in (line_of p).domains) (answers journal.log (line_of p)) client call) k ≡ false)
       → opened_chain call (reply_to (world_in (line_of p).domains) (answers journal.log (line_of p)) client call) ≡ None
       → AllKept p'.domains.items → p'.gone ≡ length p'.outcomes.items → ((k : ℕ) → mark_at journal'.marks k ≡ mark_at journal.marks k) → IsKept journal' p'
-  decided_kept unmounted decides none unspent unopened kept gone marks = record {
+  decided_kept unraised unmounted decides none unspent unopened kept gone marks = record {
     kept = kept;
     current = subst (λ (l : List Entry). IsCurrent l journal'.marks (line_of p')) (sym log)
-        (pushed journal.log journal.marks (line_of p) is.current entry (line_of p') journal'.marks (unsent journal.log journal.marks (line_of p) is.current entry (line_of p') none decided.sound) decided.world
+        (pushed journal.log journal.marks (line_of p) is.current entry unraised (line_of p') journal'.marks (unsent journal.log journal.marks (line_of p) is.current entry (line_of p') none decided.sound) decided.world
+        decided.versions
         (decided.outcomes ∙ ap (λ (os : List Outcome). p.outcomes.items ++ os) (sym decides))
         (λ k. marks k ∙ sym (or_false (mark_at journal.marks k)) ∙ ap (λ b. mark_at journal.marks k || b) (sym (unspent k)))
         (decided.chains ∙ none_more (length (line_of p).failures) ∙ ap (λ (o : Option ℕ). length (line_of p).failures + length (option_to_list o)) (sym unopened))
@@ -97,9 +101,9 @@ module _ (journal journal' : Noted) (p p' : Pipeline) (is : IsKept journal p) (c
 
 -- what is decided, by what is kept
 kept_decides : (journal : Noted) (p : Pipeline) (is : IsKept journal p) (n : ℕ)
-    → decide_next (world_in (line_of p).domains) (is_live (world_in (line_of p).domains) (answers journal.log (line_of p))) (sents (answers journal.log (line_of p))) (outcomes (answers journal.log (line_of p))) n
-    ≡ decide_next (world_in (line_of p).domains) (is_live_in (line_of p).domains) (sents (answers journal.log (line_of p))) p.outcomes.items n
-kept_decides journal p is n = λ i. decide_next (world_in (line_of p).domains) (λ d. sym (is.current.live d) i) (sents (answers journal.log (line_of p))) (sym is.current.outcomes i) n
+    → decide_next (world_in (line_of p).domains) (tables_now (world_in (line_of p).domains) (answers journal.log (line_of p))) (is_live (world_in (line_of p).domains) (answers journal.log (line_of p))) (sents (answers journal.log (line_of p))) (outcomes (answers journal.log (line_of p))) n
+    ≡ decide_next (world_in (line_of p).domains) (table_in (line_of p).domains) (is_live_in (line_of p).domains) (sents (answers journal.log (line_of p))) p.outcomes.items n
+kept_decides journal p is n = λ i. decide_next (world_in (line_of p).domains) (λ d. sym (is.current.tables d) i) (λ d. sym (is.current.live d) i) (sents (answers journal.log (line_of p))) (sym is.current.outcomes i) n
 
 -- a submission that waits, as the log has it
 pub kept_sent : (journal : Noted) (p : Pipeline) (is : IsKept journal p) (i : ℕ) (s : Submission) → slice_get p.waiting.items i ≡ Some s → slice_get (sents (answers journal.log (line_of p))) (p.gone + i) ≡ Some (sent_of s)
@@ -124,13 +128,13 @@ module _ (journal journal' : Noted) (p p' : Pipeline) (is : IsKept journal p) (c
   abbrev n : ℕ
   n = receipt.number
 
-  now_decided : decided_by (world_in (line_of p).domains) (answers journal.log (line_of p)) (Settle n) ≡ decide_next (world_in (line_of p).domains) (is_live_in (line_of p).domains) (sents (answers journal.log (line_of p))) p.outcomes.items (n - length p.outcomes.items)
+  now_decided : decided_by (world_in (line_of p).domains) (answers journal.log (line_of p)) (Settle n) ≡ decide_next (world_in (line_of p).domains) (table_in (line_of p).domains) (is_live_in (line_of p).domains) (sents (answers journal.log (line_of p))) p.outcomes.items (n - length p.outcomes.items)
   now_decided =
-      ap (λ (os : List Outcome). decide_next (world_in (line_of p).domains) (is_live (world_in (line_of p).domains) (answers journal.log (line_of p))) (sents (answers journal.log (line_of p))) (outcomes (answers journal.log (line_of p))) (n - length os)) (sym is.current.outcomes)
+      ap (λ (os : List Outcome). decide_next (world_in (line_of p).domains) (tables_now (world_in (line_of p).domains) (answers journal.log (line_of p))) (is_live (world_in (line_of p).domains) (answers journal.log (line_of p))) (sents (answers journal.log (line_of p))) (outcomes (answers journal.log (line_of p))) (n - length os)) (sym is.current.outcomes)
       ∙ kept_decides journal p is (n - length p.outcomes.items)
 
   pub settled_kept : AllKept p'.domains.items → p'.gone ≡ length p'.outcomes.items → ((k : ℕ) → mark_at journal'.marks k ≡ mark_at journal.marks k) → IsKept journal' p'
-  settled_kept kept gone marks = decided_kept journal journal' p p' is client (Settle n) (n - length p.outcomes.items) log decided refl now_decided refl (λ k. refl) refl kept gone marks
+  settled_kept kept gone marks = decided_kept journal journal' p p' is client (Settle n) (n - length p.outcomes.items) log decided refl refl now_decided refl (λ k. refl) refl kept gone marks
 
   pub settled_made : (o : Outcome) → length journal.log < 1000000 → IsGiven (known_of journal p) receipt → slice_get p'.outcomes.items (receipt.number - 1) ≡ Some o
       → Made (known_of journal p) (known_of journal' p') (record { client = client; number = entries_of journal.log client; call = Settle receipt.number }) (Settled receipt.domain o)
@@ -161,6 +165,9 @@ module _ (journal journal' : Noted) (p : Pipeline) (is : IsKept journal p) (clie
   abbrev lives : ℕ → Bool
   lives = is_live_in (line_of p).domains
 
+  abbrev tables : ℕ → SchemaTable
+  tables = table_in (line_of p).domains
+
   abbrev done : List Answered
   done = answers journal.log (line_of p)
 
@@ -179,10 +186,10 @@ module _ (journal journal' : Noted) (p : Pipeline) (is : IsKept journal p) (clie
     nothing_left = slice_get_none (sents done) (length p.outcomes.items) (omega (arith, none, length-submissions journal.log journal.marks (line_of p) is.current, is.let_go))
 
     nothing_decided : decided_by here done Pump ≡ []
-    nothing_decided = kept_decides journal p is 1 ∙ ap (λ (o : Option Sent). decide_front here lives (sents done) p.outcomes.items o ++ []) nothing_left
+    nothing_decided = kept_decides journal p is 1 ∙ ap (λ (o : Option Sent). decide_front here tables lives (sents done) p.outcomes.items o ++ []) nothing_left
 
     pub idle_kept : ((k : ℕ) → mark_at journal'.marks k ≡ mark_at journal.marks k) → IsKept journal' p
-    idle_kept marks = quiet_kept journal journal' p is client Pump log refl refl nothing_decided (λ k. refl) refl marks
+    idle_kept marks = quiet_kept journal journal' p is client Pump log refl refl refl nothing_decided (λ k. refl) refl marks
 
     pub idle_reply : reply_to (world_in (line_of p).domains) (answers journal.log (line_of p)) client Pump ≡ Nothing
     idle_reply = λ i. pumped (length (outcomes done) + 1) ((is_front ∙ nothing_left) i) (nothing_decided i)
@@ -192,7 +199,7 @@ module _ (journal journal' : Noted) (p : Pipeline) (is : IsKept journal p) (clie
     one_decided = let one : length p.outcomes.items + 1 - length p.outcomes.items ≡ 1 = omega arith in subst (λ n. AreDecided (sents done) (line_of p) n (line_of p')) one decided
 
     pub pumped_kept : AllKept p'.domains.items → p'.gone ≡ length p'.outcomes.items → ((k : ℕ) → mark_at journal'.marks k ≡ mark_at journal.marks k) → IsKept journal' p'
-    pumped_kept kept gone marks = decided_kept journal journal' p p' is client Pump 1 log one_decided refl (kept_decides journal p is 1) refl (λ k. refl) refl kept gone marks
+    pumped_kept kept gone marks = decided_kept journal journal' p p' is client Pump 1 log one_decided refl refl (kept_decides journal p is 1) refl (λ k. refl) refl kept gone marks
 
     module _ (receipt : Receipt) (number : receipt.number ≡ length p.outcomes.items + 1) (of_domain : option_map (λ (s : Submission). s.domain) (slice_get p.waiting.items 0) ≡ Some receipt.domain) where
       -- the submission that is decided, as the log has it
@@ -209,8 +216,8 @@ module _ (journal journal' : Noted) (p : Pipeline) (is : IsKept journal p) (clie
       pumped_made o room within at =
           let (s, there) = waits within in
           let sent : front ≡ Some (sent_of s) = its_front s there in
-          let x : Outcome = outcome here lives (sents done) p.outcomes.items (sent_of s) in
-          let one : decide_next here lives (sents done) p.outcomes.items 1 ≡ x ∷ [] = ap (λ (t : Option Sent). decide_front here lives (sents done) p.outcomes.items t ++ []) sent in
+          let x : Outcome = outcome here tables lives (sents done) p.outcomes.items (sent_of s) in
+          let one : decide_next here tables lives (sents done) p.outcomes.items 1 ≡ x ∷ [] = ap (λ (t : Option Sent). decide_front here tables lives (sents done) p.outcomes.items t ++ []) sent in
           let grown : p'.outcomes.items ≡ p.outcomes.items ++ x ∷ [] = one_decided.outcomes ∙ ap (λ (os : List Outcome). p.outcomes.items ++ os) one in
           let same : x ≡ o = same_Some x o (sym (slice_get_seam p.outcomes.items x []) ∙ ap (λ (os : List Outcome). slice_get os (length p.outcomes.items)) (sym grown) ∙ at) in
           let domain : s.domain ≡ receipt.domain = same_Some s.domain receipt.domain (ap (option_map (λ (t : Submission). t.domain)) (sym there) ∙ of_domain) in

@@ -27,7 +27,9 @@ use Rattle.sal_history.specs.declared.reply.Reply.TheVariants.{Receipt, Refused}
 use Rattle.sal_history.specs.World as world
 use Rattle.sal_history.specs.History.{Answered, commits, entries_of, nowhere, outcomes, reply_to, sent_by, sents, spends, submitted}
 use Rattle.sal_history.specs.Submissions.{Base, Sent}
+use Rattle.sal_history.specs.Versions.{schema_version, tables_now, version_at}
 use Rattle.sal_closed.specs.Lawful.{AreLawful as AreSentOver}
+use Rattle.sal_closed.proofs.Versions.{later_lawful}
 use Rattle.sal_closed.specs.Logs.{IsSentLawful}
 use Rattle.sal_hub.specs.declared.pipeline.Pipeline.{Pipeline}
 use Rattle.sal_hub.specs.Answers.{Fails, Made}
@@ -40,7 +42,8 @@ use Rattle.sal_hub.specs.Submits.{refusal_of, submission_of}
 use Rattle.sal_hub.specs.Tokens.{IsBegun, IsGiven}
 use Rattle.sal_hub.proofs.Beginning.{quiet_kept}
 use Rattle.sal_hub.proofs.Keeping.{commits-current, length-submissions, none_more, pushed, sound-longer, still_live}
-use Rattle.sal_hub.proofs.Deciding.{sent_at}
+use Rattle.sal_hub.proofs.Deciding.{sent_at, versions-same}
+use Rattle.sal_hub.proofs.Versioned.{numbered, version_at-low}
 use Rattle.sal_hub.proofs.Listed.{slice_get_seam}
 use Rattle.sal_hub.proofs.Standing.{IsAt, are_at}
 use Rattle.sal_hub.proofs.Starting.{same_rows}
@@ -126,7 +129,7 @@ module _ (journal journal' : Noted) (p : Pipeline) (is : IsKept journal p) (clie
   pub refused_kept : (f : CallFault) → refusal_of (p.gone + length p.waiting.items - length p.outcomes.items) (mark_at journal.marks place) ≡ Some f → ((k : ℕ) → mark_at journal'.marks k ≡ mark_at journal.marks k) → IsKept journal' p
   refused_kept f e marks =
       let reply = refused_now f e in
-      quiet_kept journal journal' p is client (Submit place ops) log refl (ap (sent_by answered (Submit place ops)) reply) refl (λ k. ap (λ r. spends (Submit place ops) r k) reply) refl marks
+      quiet_kept journal journal' p is client (Submit place ops) log refl refl (ap (sent_by answered (Submit place ops)) reply) refl (λ k. ap (λ r. spends (Submit place ops) r k) reply) refl marks
 
   pub refused_made : (f : CallFault) → length journal.log < 1000000 → refusal_of (p.gone + length p.waiting.items - length p.outcomes.items) (mark_at journal.marks place) ≡ Some f → Made (known_of journal p) (known_of journal' p) (record { client = client; number = entries_of journal.log client; call = Submit place ops }) (Refused f)
   refused_made f room e = record {
@@ -188,19 +191,26 @@ module _ (journal journal' : Noted) (p p' : Pipeline) (is : IsKept journal p) (c
       ∙ ap (λ (o : Option Base). Some (let s : Sent = record { base = unwrap_or o nowhere; ops = tx.changes } in s)) token.began
       ∙ (λ i. Some (let s : Sent = record { base = record { domain = tx.begun.domain; commit = tx.begun.base_commit; chain = tx.begun.chain; trees = λ store. same_rows tx.base store i }; ops = tx.changes } in s))
 
-  -- it is lawful over what its transaction stands on
-  sub_lawful : IsSentLawful new_world (sent_of sub)
-  sub_lawful =
-      subst (λ (trees : Store → List Row). AreSentOver (world.table_of new_world tx.begun.domain) trees [] tx.changes) (λ i store. same_rows tx.base store i)
-      (subst (λ (table : SchemaTable). AreSentOver table (λ s. tx_rows tx.base s) [] tx.changes) token.schema (as_sent tx.begun.schema.value tx.base [] tx.changes right.lawful))
+  -- its schema is the table of the version at its place
+  by_then : tx.begun.schema.value ≡ world.table_of new_world (version_at before tx.begun.place) tx.begun.domain
+  by_then =
+      token.schema ∙ ap (λ v. world.table_of new_world v tx.begun.domain) token.version
+      ∙ sym (numbered new_world (version_at before tx.begun.place) tx.begun.domain is.current.only)
 
-  lawful_now : (s : Sent) → sent_by before (Submit tx.begun.place tx.changes) (reply_to new_world before client (Submit tx.begun.place tx.changes)) ≡ Some s → IsSentLawful new_world s
-  lawful_now s e = subst (IsSentLawful new_world) (same_Some (sent_of sub) s (sym sent_now ∙ e)) sub_lawful
+  -- it is lawful over what its transaction stands on, by the present version as by that at its begin
+  sub_lawful : IsSentLawful (tables_now new_world before) (sent_of sub)
+  sub_lawful =
+      later_lawful new_world (version_at before tx.begun.place) (schema_version before) (sent_of sub) is.current.openings (version_at-low before tx.begun.place)
+      (subst (λ (trees : Store → List Row). AreSentOver (world.table_of new_world (version_at before tx.begun.place) tx.begun.domain) trees [] tx.changes) (λ i store. same_rows tx.base store i)
+      (subst (λ (table : SchemaTable). AreSentOver table (λ s. tx_rows tx.base s) [] tx.changes) by_then (as_sent tx.begun.schema.value tx.base [] tx.changes right.lawful)))
+
+  lawful_now : (s : Sent) → sent_by before (Submit tx.begun.place tx.changes) (reply_to new_world before client (Submit tx.begun.place tx.changes)) ≡ Some s → IsSentLawful (tables_now new_world before) s
+  lawful_now s e = subst (IsSentLawful (tables_now new_world before)) (same_Some (sent_of sub) s (sym sent_now ∙ e)) sub_lawful
 
   current_now : IsCurrent (journal.log ++ made_entry ∷ []) journal'.marks more
   current_now =
-      pushed journal.log journal.marks (line_of p) is.current made_entry more journal'.marks
-      (subst (λ (o : Option Sent). IsSound (sents before ++ option_to_list o) more) (sym sent_now) (sound-longer (sents before) (line_of p) is.current.sound sub stands refl), lawful_now) refl
+      pushed journal.log journal.marks (line_of p) is.current made_entry refl more journal'.marks
+      (subst (λ (o : Option Sent). IsSound (sents before ++ option_to_list o) more) (sym sent_now) (sound-longer (sents before) (line_of p) is.current.sound sub stands refl), lawful_now) refl (versions-same (line_of p).domains)
       (sym (append-nil (line_of p).outcomes))
       (λ k.
       marks k ∙ swapped (nat_eq tx.begun.place k) (mark_at journal.marks k)

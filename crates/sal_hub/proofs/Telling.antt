@@ -81,7 +81,7 @@ module _ (journal : Noted) (p : Pipeline) (is : IsKept journal p) where
         let since = (listened_is (known_of journal p) ls are n l low here).version in
         ap (λ b. if b then taken w done n else Refused (NoListener n)) (sym has_as ∙ some)
         ∙ ap (λ (o : Option Listening). option_map_or (batch_of w done n) o (Refused (NoListener n))) (listener_is (known_of journal p) ls are n l here)
-        ∙ (λ i. Told l.domain (batch (has_own_row (sym of_domain.schema i) l.path) (sym trees i) l.path (sym since i) (sym count i)))
+        ∙ (λ i. Told l.domain (batch (has_own_row (sym of_domain.last i) l.path) (sym trees i) l.path (sym since i) (sym count i)))
 
 -- ---- the entry is the log's next
 

@@ -1,19 +1,26 @@
 -- What a hub keeps is what its log gives.
-use Rattle.std.specs.Prelude.{◌≡◌, ℕ, Bool, List, length}
+use Rattle.std.specs.Prelude.{◌≡◌, ℕ, ◌<◌, Bool, List, length, if◌then◌else◌, nat_eq}
 use Rattle.sal_history.specs.declared.call.Entry.{Entry}
 use Rattle.sal_history.specs.History.{Answered, chain_domains, history, is_live, is_spent, outcomes, sents}
+use Rattle.sal_history.specs.Versions.{schema_version, tables_now}
+use Rattle.sal_history.specs.World.{OneIsUpgraded}
 use Rattle.sal_closed.specs.Logs.{AreSentLawful, AreSound}
 use Rattle.sal_hub.specs.declared.pipeline.Pipeline.{Pipeline}
 use Rattle.sal_hub.specs.Journals.{Noted, mark_at}
 use Rattle.sal_hub.specs.HubHistory.{HubHistory}
-use Rattle.sal_hub.specs.PipelineView.{AllKept, IsSound, PipelineView, is_live_in, line_of, world_in}
+use Rattle.sal_hub.specs.PipelineView.{AllKept, IsSound, PipelineView, is_live_in, line_of, table_in, version_of, world_in}
 
 -- the answered log
 abbrev pub answers : List Entry → PipelineView → List Answered
 answers log line = history (world_in line.domains) log
 
+-- the number of a domain's version, by that of domain 0: no other domain has a later one
+abbrev pub number_of : ℕ → ℕ → ℕ
+number_of version domain = if nat_eq domain 0 then version else 0
+
 -- The submissions, the outcomes, the commits, the marks, the chains that failed and the domains that are live are the log's; the
--- operations of each submission are lawful over what its transaction stands on, and the opening trees of each domain are closed.
+-- operations of each submission are lawful over what its transaction stands on, and the opening trees of each domain are closed. Each
+-- domain has the present version of its schema, and domain 0 alone has more than one.
 pub record IsCurrent (log : List Entry) (noted : List Bool) (line : PipelineView) : Type 0 where
   pub sound : IsSound (sents (answers log line)) line
   pub outcomes : line.outcomes ≡ outcomes (answers log line)
@@ -22,6 +29,9 @@ pub record IsCurrent (log : List Entry) (noted : List Bool) (line : PipelineView
   pub live : (domain : ℕ) → is_live_in line.domains domain ≡ is_live (world_in line.domains) (answers log line) domain
   pub lawful : AreSentLawful (world_in line.domains) (answers log line)
   pub openings : AreSound (world_in line.domains)
+  pub only : OneIsUpgraded (world_in line.domains)
+  pub tables : (domain : ℕ) → table_in line.domains domain ≡ tables_now (world_in line.domains) (answers log line) domain
+  pub versions : (domain : ℕ) → domain < length line.domains → version_of line.domains domain ≡ number_of (schema_version (answers log line)) domain
 
 pub record IsKept (journal : Noted) (p : Pipeline) : Type 0 where
   pub kept : AllKept p.domains.items

@@ -20,4 +20,5 @@ pub mod Services
 pub mod Starts
 pub mod Submits
 pub mod Tokens
+pub mod Upgrades
 pub mod Whole

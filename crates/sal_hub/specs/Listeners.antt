@@ -10,6 +10,7 @@ use Rattle.sal_rows.specs.Batches.{batch, opened}
 use Rattle.sal_schema.specs.Fitting.{has_own_row}
 use Rattle.sal_listen.specs.Given.{trees_of}
 use Rattle.sal_commit.specs.declared.domain.Domain.{Domain}
+use Rattle.sal_commit.specs.Versions.{last_in}
 use Rattle.sal_history.specs.declared.call.Call.{Call}
 use Rattle.sal_history.specs.declared.call.Call.TheVariants.{Listen}
 use Rattle.sal_history.specs.declared.reply.Reply.{Reply}
@@ -68,9 +69,9 @@ call_of ask = Listen ask.domain ask.store ask.path.now
 abbrev pub opened_in : Domain → Ask → Opened
 opened_in d ask = opened (trees_of d.commits.items ask.store) ask.path.now (length d.commits.items - 1)
 
--- what the listener was not told of the domain
+-- what the listener was not told of the domain; whether its path has a row of its own is told by the last version
 abbrev pub batch_in : Domain → Listener → Batch
-batch_in d l = batch (has_own_row d.schema.value l.path) (trees_of d.commits.items l.store) l.path l.version (length d.commits.items - 1)
+batch_in d l = batch (has_own_row (last_in d) l.path) (trees_of d.commits.items l.store) l.path l.version (length d.commits.items - 1)
 
 -- the batch is this one for the listener at the index
 abbrev pub IsBatchFor : List Domain → List Listener → ℕ → Batch → Type 0

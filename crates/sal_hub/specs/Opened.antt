@@ -1,11 +1,30 @@
--- The domains that devices open: the controller's own is live.
-use Rattle.std.specs.Prelude.{ℕ, ◌+◌, List, [], ◌∷◌, nat_eq}
+-- The domains that devices open: the controller's own is live. Each is at version 0 of its schema.
+use Rattle.std.specs.Prelude.{ℕ, ◌+◌, All, List, [], ◌∷◌, nat_eq}
 use Rattle.sal_commit.specs.Opening.{opening_of_device}
+use Rattle.sal_commit.specs.Versions.{tables_of}
+use Rattle.sal_schema.specs.Valid.{IsTable}
 use Rattle.sal_history.specs.declared.opening.Device.{Device}
 use Rattle.sal_hub.specs.PipelineView.{DomainView}
 
 abbrev pub shown_of : ℕ → Device → DomainView
-shown_of n device = record { number = n; live = nat_eq n 0; table = device.schema.value; opening = opening_of_device device; ops = []; chains = []; receipts = 0 ∷ [] }
+shown_of n device = record {
+  number = n;
+  live = nat_eq n 0;
+  table = device.schema.value;
+  first = device.schema.value;
+  upgrades = tables_of device.upgrades.items;
+  version = 0;
+  since = 0;
+  opening = opening_of_device device;
+  ops = [];
+  chains = [];
+  receipts = 0 ∷ [];
+}
+
+-- each version's table is one of a schema
+pub record HaveTables (device : Device) : Type 0 where
+  pub first : IsTable device.schema.value
+  pub upgrades : All IsTable (tables_of device.upgrades.items)
 
 -- numbered from n on
 abbrev pub shown_from : ℕ → List Device → List DomainView

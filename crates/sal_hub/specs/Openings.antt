@@ -12,6 +12,7 @@ use Rattle.sal_schema.specs.Fitting.{is_closed, is_of_state}
 use Rattle.sal_rules.specs.Breaches.{breach}
 use Rattle.sal_history.specs.declared.opening.Device.{Device}
 use Rattle.sal_history.specs.World.{Domain, tree_of_opening}
+use Rattle.sal_commit.specs.Versions.{tables_of}
 use Rattle.sal_commit.specs.declared.fault.DomainFault.{DomainFault}
 use Rattle.sal_commit.specs.declared.fault.DomainFault.TheVariants.{Broken as Breaks, NoMemory as Full}
 use Rattle.sal_hub.specs.declared.opening.OpenFault.{OpenFault}
@@ -19,12 +20,12 @@ use Rattle.sal_hub.specs.declared.opening.OpenFault.TheVariants.{NotConfig, Brok
 
 -- the world that devices make
 abbrev pub domain_of : Device → Domain
-domain_of device = record { table = device.schema.value; opening = device.opening }
+domain_of device = record { table = device.schema.value; upgrades = tables_of device.upgrades.items; opening = device.opening }
 
 abbrev pub world_of : List Device → List Domain
 world_of devices = map domain_of devices
 
--- both opening trees of a device fit at the root by its schema, and so are closed by it
+-- both opening trees of a device fit at the root by version 0 of its schema, and so are closed by it
 pub record IsClosedDevice (device : Device) : Type 0 where
   pub config : IsTrue (is_closed device.schema.value device.opening.config)
   pub oper : IsTrue (is_closed device.schema.value device.opening.oper)

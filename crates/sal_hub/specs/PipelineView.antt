@@ -14,6 +14,7 @@ use Rattle.sal_tx.specs.declared.tx.Submission.{Submission}
 use Rattle.sal_commit.specs.declared.domain.Domain.{Domain}
 use Rattle.sal_commit.specs.Deciding.{LieBelow}
 use Rattle.sal_commit.specs.Stamps.{receipts_of}
+use Rattle.sal_commit.specs.Versions.{tables_of}
 use Rattle.sal_history.specs.World as world
 use Rattle.sal_history.specs.History.{decide_next}
 use Rattle.sal_history.specs.Submissions.{Sent, done_chains, done_ops, failing}
@@ -27,7 +28,13 @@ use Rattle.sal_hub.specs.Failures.{IsWithin, cut_failures, noted_in}
 pub record DomainView : Type 0 where
   pub number : ℕ
   pub live : Bool
+  -- the present version of its schema, version 0, and those from 1 on
   pub table : SchemaTable
+  pub first : SchemaTable
+  pub upgrades : List SchemaTable
+  -- the number of the present version, and the newest commit at the last upgrade
+  pub version : ℕ
+  pub since : ℕ
   pub opening : Store → List Row
   pub ops : List (List Op)
   pub chains : List (Option ℕ)
@@ -45,7 +52,19 @@ pub record PipelineView : Type 0 where
 
 abbrev pub shown : Domain → DomainView
 shown d =
-    record { number = d.number; live = d.live; table = d.schema.value; opening = opening_in d.commits.items; ops = ops_of d.commits.items; chains = chains_of d.commits.items; receipts = receipts_of d.commits.items }
+    record {
+      number = d.number;
+      live = d.live;
+      table = d.schema.value;
+      first = d.first.value;
+      upgrades = tables_of d.upgrades.items;
+      version = d.version;
+      since = d.since;
+      opening = opening_in d.commits.items;
+      ops = ops_of d.commits.items;
+      chains = chains_of d.commits.items;
+      receipts = receipts_of d.commits.items;
+    }
 
 abbrev pub line_of : Pipeline → PipelineView
 line_of p = record { domains = map shown p.domains.items; gone = p.gone; waiting = p.waiting.items; outcomes = p.outcomes.items; failures = p.failures.items }
@@ -54,10 +73,23 @@ line_of p = record { domains = map shown p.domains.items; gone = p.gone; waiting
 abbrev pub is_live_in : List DomainView → ℕ → Bool
 is_live_in domains n = option_map_or (λ (d : DomainView). d.live) (slice_get domains n) false
 
+-- the table of the present version of the domain of this number, without nodes where there is none
+abbrev pub table_in : List DomainView → ℕ → SchemaTable
+table_in domains n = option_map_or (λ (d : DomainView). d.table) (slice_get domains n) world.no_table
+
+-- and its number
+abbrev pub version_of : List DomainView → ℕ → ℕ
+version_of domains n = option_map_or (λ (d : DomainView). d.version) (slice_get domains n) 0
+
+-- each domain has the present version that it had
+pub record KeepVersions (old new : List DomainView) : Type 0 where
+  pub tables : (n : ℕ) → table_in new n ≡ table_in old n
+  pub versions : (n : ℕ) → version_of new n ≡ version_of old n
+
 -- ---- as the log's definitions have it
 
 abbrev pub opened_as : DomainView → world.Domain
-opened_as d = record { table = d.table; opening = record { config = d.opening Config; oper = d.opening Oper } }
+opened_as d = record { table = d.first; upgrades = d.upgrades; opening = record { config = d.opening Config; oper = d.opening Oper } }
 
 abbrev pub world_in : List DomainView → List world.Domain
 world_in domains = map opened_as domains
@@ -114,6 +146,10 @@ HasSents line = (ss : List Sent) × IsSound ss line
 abbrev pub AllKept : List Domain → Type 0
 AllKept ds = All (λ (d : Domain). AreKept d.commits.items) ds
 
+-- so many commits reach to the last upgrade of each domain
+abbrev pub Reach : List DomainView → List ℕ → Type 0
+Reach ds counts = (n k : ℕ) (d : DomainView) → slice_get ds n ≡ Some d → slice_get counts n ≡ Some k → d.since ≤ k
+
 -- ---- what calls do
 
 -- the domain of this number is live or not
@@ -158,12 +194,13 @@ cut_all (d ∷ ds) (k ∷ ks) = record d { ops = take k d.ops; chains = take k d
 abbrev pub counts_of : List DomainView → List ℕ
 counts_of ds = map (λ (d : DomainView). length d.ops) ds
 
--- the next n of the submissions were decided, the same domains are live, and as many chains are known
+-- the next n of the submissions were decided, by the present versions, the same domains are live, and as many chains are known
 pub record AreDecided (ss : List Sent) (old : PipelineView) (n : ℕ) (new : PipelineView) : Type 0 where
   pub sound : IsSound ss new
   pub world : world_in new.domains ≡ world_in old.domains
   pub live : (domain : ℕ) → is_live_in new.domains domain ≡ is_live_in old.domains domain
-  pub outcomes : new.outcomes ≡ old.outcomes ++ decide_next (world_in old.domains) (is_live_in old.domains) ss old.outcomes n
+  pub versions : KeepVersions old.domains new.domains
+  pub outcomes : new.outcomes ≡ old.outcomes ++ decide_next (world_in old.domains) (table_in old.domains) (is_live_in old.domains) ss old.outcomes n
   pub chains : length new.failures ≡ length old.failures
 
 -- the same by any submissions by which it held

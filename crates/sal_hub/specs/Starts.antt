@@ -30,6 +30,7 @@ pub record Starts (d : Domain) (footing : Footing) (member : Option ℕ) (under 
   pub chain : (begun_of tx).chain ≡ member
   pub place : (begun_of tx).place ≡ at
   pub schema : (begun_of tx).schema.value ≡ d.schema.value
+  pub version : (begun_of tx).version ≡ d.version
   pub base : base_of tx ≡ footing.trees
   pub mode : mode_of tx ≡ under
   pub ops : ops_of tx ≡ []

@@ -1,5 +1,5 @@
 -- The tokens that a hub has given: transactions, receipts, chains, listeners and requests.
-use Rattle.std.specs.Prelude.{◌≡◌, ℕ, ◌-◌, ◌<◌, List, [], length, Option, Some, slice_get}
+use Rattle.std.specs.Prelude.{◌≡◌, ℕ, ◌-◌, ◌<◌, List, [], length, Option, Some, if◌then◌else◌, nat_eq, slice_get}
 use Rattle.std.specs.Option.{option_map}
 use Rattle.sal_rows.specs.declared.op.Op.{Op}
 use Rattle.sal_rows.specs.declared.outcome.Mode.{Mode}
@@ -9,6 +9,7 @@ use Rattle.sal_tx.specs.declared.begun.Begun.{Begun}
 use Rattle.sal_tx.specs.declared.tx.Tx.{Tx}
 use Rattle.sal_tx.specs.declared.tx.Tx.TheVariants.{Read, Write}
 use Rattle.sal_tx.specs.Views.{rows_in}
+use Rattle.sal_history.specs.Versions.{version_at}
 use Rattle.sal_history.specs.World.{table_of}
 use Rattle.sal_history.specs.Listeners.{Listening, listener_at}
 use Rattle.sal_history.specs.History.{began_at, chain_domains, history, sents}
@@ -37,11 +38,12 @@ ops_of (Read tx) = []
 ops_of (Write tx) = tx.changes
 
 -- The transaction was begun by the entry at its place: its domain, the number of its base commit, its chain and the trees
--- that it stands on are those that the log gives.
+-- that it stands on are those that the log gives, and its schema is the version that was present there.
 pub record IsBegun (known : HubHistory) (begun : Begun) (trees : Pair) : Type 0 where
   pub before : begun.place < length known.log
   pub began : began_at (history known.world known.log) begun.place ≡ Some (record { domain = begun.domain; commit = begun.base_commit; chain = begun.chain; trees = rows_in trees })
-  pub schema : begun.schema.value ≡ table_of known.world begun.domain
+  pub schema : begun.schema.value ≡ table_of known.world begun.version begun.domain
+  pub version : begun.version ≡ (if nat_eq begun.domain 0 then version_at (history known.world known.log) begun.place else 0)
 
 abbrev pub IsToken : HubHistory → Tx → Type 0
 IsToken known tx = IsBegun known (begun_of tx) (base_of tx)

@@ -1,12 +1,25 @@
-//! Committed trees are closed by their schemas.
+//! Committed trees are closed by the present versions of their schemas, and the newest break no rule of them.
 ghost use Rattle.sal_closed.specs.Logs.{IsClosedLog};
-ghost use Rattle.sal_history.specs.History.{history};
+ghost use Rattle.std.specs.Prelude.{◌≡◌, ◌<◌, ℕ, None, length};
+ghost use Rattle.sal_types.specs.declared.value.Store.{Store};
+ghost use Rattle.sal_rules.specs.Breaches.{breach};
+ghost use Rattle.sal_history.specs.History.{history, newest_tree};
+ghost use Rattle.sal_history.specs.Versions.{tables_now};
 
 use crate::hub::Hub;
 
 impl Hub {
-    /// Does nothing; its contract is a law of each hub. The trees of each domain at each of its commits are closed by its
-    /// schema, and so are those that a transaction stands on: each list entry and presence container above a row has its own
+    /// Does nothing; its contract is a law of each hub. The newest trees of each domain break no structural rule of the present version
+    /// of its schema.
+    pub fn keeps_the_rules(&self)
+        ensures { (domain : ℕ) (s : Store) → domain < length self.now.world → breach (tables_now self.now.world (history self.now.world self.now.log) domain) s (newest_tree self.now.world self.now.log domain s) ≡ None }
+    {
+        // (a part of the hub is borrowed, so that the proof has what the hub's type keeps)
+        let _log = self.journal.entries();
+    }
+
+    /// Does nothing; its contract is a law of each hub. The trees of each domain at each of its commits are closed by the
+    /// present version of its schema, and so are those that a transaction stands on: each list entry and presence container above a row has its own
     /// row, and each entry its key leafs, with the values of its keys.
     pub fn stays_closed(&self)
         ensures { IsClosedLog self.now.world (history self.now.world self.now.log) }

@@ -3,11 +3,11 @@ ghost use Rattle.std.specs.Prelude.{◌≡◌, ◌⊎◌, ◌≤◌, ◌∷◌, 
 ghost use Rattle.std.specs.Option.{option_copied, option_map};
 ghost use Rattle.sal_schema.specs.Fitting.{is_of_state};
 ghost use Rattle.sal_schema.specs.Valid.{IsTable};
-ghost use Rattle.sal_history.specs.declared.opening.Device.{Device as Told};
 ghost use Rattle.sal_graft.specs.Kept.{AreKept};
 ghost use Rattle.sal_hub.specs.declared.opening.OpenFault.TheVariants.{NotConfig, NoMemory as Refused};
 ghost use Rattle.sal_hub.specs.PipelineView.{AllKept, shown};
-ghost use Rattle.sal_hub.specs.Opened.{shown_from, shown_of};
+ghost use Rattle.sal_commit.specs.Versions.{tables_of};
+ghost use Rattle.sal_hub.specs.Opened.{HaveTables, shown_from, shown_of};
 ghost use Rattle.sal_hub.specs.Openings.{IsFaultOf, domain_of, fault_of, numbered, opening_fault, state_row, world_of};
 
 use crate::opening::OpenFault;
@@ -16,6 +16,7 @@ use sal_history::Device;
 use sal_schema::Schema;
 use sal_types::{Duplicate, NoMemory, Row};
 use std::alloc::Global;
+use std::sync::Arc;
 
 /// The domains that the devices open, unless their openings are refused.
 pub(crate) fn open_all(alloc: Global, devices: &[Device]) -> Result<Vec<Domain>, OpenFault>
@@ -33,18 +34,35 @@ pub(crate) fn open_all(alloc: Global, devices: &[Device]) -> Result<Vec<Domain>,
 
 /// Does nothing; its contract is what the types of the schemas keep.
 pub(crate) fn have_tables(devices: &[Device])
-    ensures { All (λ (d : Told). IsTable d.schema.value) devices.now }
+    ensures { All HaveTables devices.now }
 {
     for i in 0..devices.len() {
-        has_table(&devices[i]);
+        has_tables(&devices[i]);
+    }
+}
+
+// Does nothing; its contract is what the types of the device's schemas keep.
+fn has_tables(device: &Device)
+    ensures { HaveTables device.now }
+{
+    is_table(&device.schema);
+    are_tables(&device.upgrades);
+}
+
+// Does nothing; its contract is what the types of the schemas keep.
+fn are_tables(versions: &[Arc<Schema>])
+    ensures { All IsTable (tables_of versions.now) }
+{
+    for i in 0..versions.len() {
+        is_table(&versions[i]);
     }
 }
 
 // Does nothing; its contract is what the type of the schema keeps.
-fn has_table(device: &Device)
-    ensures { IsTable device.now.schema.value }
+fn is_table(schema: &Schema)
+    ensures { IsTable schema.now }
 {
-    let _ = device.schema.len();
+    let _ = schema.len();
 }
 
 // Opens one more domain, behind those that are open.

@@ -8,6 +8,7 @@ ghost use Rattle.sal_tx.specs.Views.{rows_in};
 ghost use Rattle.sal_history.specs.declared.call.Call.TheVariants.{After, Begin, Cancel, ChainBegin, CloseChain, Listen, Mark, OpenChain, Pump, Settle, Submit, Take, Unlisten};
 ghost use Rattle.sal_history.specs.declared.reply.Reply.TheVariants.{Accepted, Batch as Tells, Begun, Chain as Opened, Receipt as Numbered, Settled};
 ghost use Rattle.sal_history.specs.History.{commits, history, newest_tree};
+ghost use Rattle.sal_history.specs.World.{AreVersions};
 ghost use Rattle.sal_hub.specs.declared.chain.Chain.{Chain as ChainToken};
 ghost use Rattle.sal_hub.specs.declared.receipt.Receipt.{Receipt as Given};
 ghost use Rattle.sal_hub.specs.Answers.{Calls, CallsOr};
@@ -95,12 +96,14 @@ fn place_of(tx: &Tx) -> u64
 
 impl Hub {
     /// A hub without calls over the devices, of which the first is the controller's own domain. The opening trees of each fit
-    /// at the root by its schema, as what was read there does, and as `fits_rows` of `sal_data` tests; so all committed trees
-    /// do (`stays_closed`).
+    /// at the root by version 0 of its schema, as what was read there does, and as `fits_rows` of `sal_data` tests; so all committed
+    /// trees do by the present version (`stays_closed`). Each version of a schema extends the one before (`Schema::extends`), and the
+    /// first device alone has more than one.
     pub fn open(alloc: Global, devices: Vec<Device>) -> Result<Hub, OpenFault>
         requires some { 1 ≤ length devices.items }
         requires few { length devices.items ≤ 64 }
         requires closed { AreClosedDevices devices.items }
+        requires versions { AreVersions (world_of devices.items) }
         ensures { MatchResult result (λ hub. (fault_of (world_of devices.items) ≡ None) × (hub ≡ record { world = world_of devices.items; log = [] })) (IsFaultOf (world_of devices.items)) }
     {
         have_tables(&devices);

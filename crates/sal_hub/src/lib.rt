@@ -10,10 +10,11 @@
 //! | `Hub::mount`, `unmount`, `mount_at` | the same, of mounts (MD-SAL `DOMMountPointService`): the domain of a device is live from its mount to its unmount |
 //! | `Hub::provide`, `withdraw`, `invoke`, `next_call`, `answer`, `collect` | the same, of RPCs (MD-SAL `DOMRpcProviderService`, `DOMRpcService`): who answers which RPC, the requests, and what they are answered (`sal_rpc`) |
 //! | `Hub::subscribe`, `offer`, `take_notes` | the same, of notifications (MD-SAL `DOMNotificationService`, `DOMNotificationPublishService`): who gets which, and what waits for whom (`sal_note`) |
+//! | `Hub::upgrade` | the same: the controller's own domain goes over to the next version of its schema, unless a newest tree would break a rule by it |
 //! | `Hub::mark`, `after`, `has_mark` | the same, of marks, by which clients can tell each other how far they are; and a look that makes no entry |
 //! | `Receipt`, `Chain`, `ListenerId`, `CallId` | the tokens of a submission, of a chain, of a listener and of a request |
 //! | `Seen` | what a look for a mark finds |
-//! | `Hub::stays_closed` | does nothing: its contract is the law that committed trees are closed by their schemas |
+//! | `Hub::stays_closed`, `keeps_the_rules` | do nothing: their contracts are the laws that committed trees are closed by the present versions of their schemas, and that the newest break no rule of them |
 //! | `laws` | a function that does nothing, with a law of the tokens as its contract |
 //!
 //! Each call tests first that the log has room, then takes all memory that it needs, and changes what is seen last and all at
@@ -26,13 +27,20 @@
 //!
 //! What is kept beside the log is tied to it by `specs/Current`: the submissions that wait, the outcomes, the marks of spent
 //! transactions and the flags of live domains are those of the answered log, and each submission is lawful over what its
-//! transaction stands on (`sal_closed`), from opening trees that are closed; `specs/PipelineView` says that the commits of each
-//! domain, and the receipts by which chains failed, are those that the outcomes tell. What is kept of chains is tied to the log by
+//! transaction stands on (`sal_closed`), from opening trees that are closed, and each domain has the version that the log's upgrades
+//! give; `specs/PipelineView` says that the commits of each domain, and the receipts by which chains failed, are those that the outcomes
+//! tell. What is kept of chains is tied to the log by
 //! `specs/Chains`, what is kept of listeners by `specs/Listeners`, the marks that were left by `specs/Marks`, and what each
 //! service keeps of its calls by `specs/Services`; `specs/Whole` has them all.
 //!
 //! A domain that is not live begins no transaction, opens no chain and makes no listener, and a submission that is decided after
 //! the unmount is not committed. Listeners of it are answered as before.
+//!
+//! The controller's own domain has all versions of its schema from the start, and `upgrade` goes to the next one. Decisions are by the
+//! present version. A transaction keeps the version of its begin, by which it reads and writes, and what was lawful by that version is
+//! so by each later one (`sal_closed`), so that no submission is looked at. Whether a listened path has a row of its own is told by the
+//! last version. An upgrade makes the plan of the version's rules and checks the newest trees before its entry is added, and takes no
+//! memory behind it.
 //!
 //! The next transaction of a chain begins on the chain's last submission while that is pending: it shares the view of that
 //! submission, and has its base commit. Else it begins at the newest commit. A chain that failed begins no transaction, and its
@@ -61,6 +69,7 @@
 //! | `take` | the same search, and the changes of each commit after the listener's version (`sal_listen`) |
 //! | `unlisten` | the same search |
 //! | `mount`, `unmount`, `mount_at` | the same, and some searches among mounts (`sal_mount`); a mount copies its path twice |
+//! | `upgrade` | one search among the clients, the plan of the version's rules, and the check of both newest trees of domain 0 (`sal_check`); nothing for each entry or commit |
 //! | `submit` | the same, and a copy of the operations for the log, which the commit shares |
 //! | `settle`, `pump` | the decision of each pending submission up to the receipt, or of the first (`sal_commit`), and one number for each domain; where memory is wanting, one look at each chain |
 //! | `provide`, `withdraw` | one search among the clients, two among the registrations, and a copy of the context for the log |
@@ -98,6 +107,7 @@ mod service_calls;
 mod services;
 mod start;
 mod submit;
+mod version_calls;
 
 pub use call_id::CallId;
 pub use chain::Chain;

@@ -273,7 +273,7 @@ fn batch_for(alloc: Global, domain: &Domain, listener: &Listener) -> Result<Batc
     let listened = Listened {
         store: listener.store,
         path: &listener.path,
-        own: domain.schema.has_own_row(&listener.path),
+        own: domain.last_schema().has_own_row(&listener.path),
     };
     batch(alloc, &listened, &domain.commits, listener.version)
 }

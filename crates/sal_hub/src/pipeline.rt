@@ -1,14 +1,17 @@
 //! The domains with their commits, the submissions that wait, and the outcomes.
 ghost use Rattle.std.specs.Prelude.{◌≡◌, ℕ, ◌+◌, ◌-◌, ◌<◌, ◌≤◌, false, true, IfOk, MatchOption, OnErr, OnOk, Some, drop, length, map, slice_get, take};
 ghost use Rattle.sal_graft.specs.Kept.{AreKept};
+ghost use Rattle.sal_commit.specs.declared.domain.Domain.{Domain as Stored};
+ghost use Rattle.sal_commit.specs.Versions.{upgrade_fault, version_in};
+ghost use Rattle.sal_hub.specs.Upgrades.{set_version};
 ghost use Rattle.sal_hub.specs.Answers.{limit};
 ghost use Rattle.sal_hub.specs.Failures as failing;
 ghost use Rattle.sal_hub.specs.Journals.{jotted, mark_at};
-ghost use Rattle.sal_hub.specs.PipelineView.{AllKept, Decides, HasGrown, HasSents, counts_of, cut_all, is_live_in, line_of, set_live, shown};
+ghost use Rattle.sal_hub.specs.PipelineView.{AllKept, Decides, HasGrown, HasSents, Reach, counts_of, cut_all, is_live_in, line_of, set_live, shown};
 
 use crate::failures::{cut_failures, failure_of, is_done, note_failure};
 use crate::journal::Journal;
-use sal_commit::{Domain, decide};
+use sal_commit::{Domain, NextVersion, decide};
 use sal_history::Call;
 use sal_rows::Outcome;
 use sal_tx::Submission;
@@ -65,6 +68,17 @@ impl Pipeline {
         self.domains[domain as usize].live = live;
     }
 
+    /// The controller's own domain goes over to the version, by which its newest trees break no rule. It takes no memory.
+    pub(crate) fn upgrade(&mut self, next: NextVersion)
+        requires kept { AllKept self.old.domains.items }
+        requires there { 0 < length self.old.domains.items }
+        requires next { (d : Stored) → slice_get self.old.domains.items 0 ≡ Some d → (next.schema.value ≡ version_in d next.number) × (upgrade_fault d next.number ≡ None) }
+        ensures kept { AllKept self.new.domains.items }
+        ensures line { line_of self.new ≡ set_version (line_of self.old) next.number }
+    {
+        self.domains[0].upgrade(next);
+    }
+
     // Decides the submission at the index, which is the next one. Where memory is wanting, nothing changes that is seen.
     fn decide_one(&mut self, alloc: Global, index: usize) -> Result<(), NoMemory>
         requires kept { AllKept self.old.domains.items }
@@ -113,6 +127,7 @@ impl Pipeline {
     fn cut_back(&mut self, outcomes: usize, counts: &[u64])
         requires kept { AllKept self.old.domains.items }
         requires long { length counts.now ≡ length self.old.domains.items }
+        requires reach { Reach (map shown self.old.domains.items) counts.now }
         ensures kept { AllKept self.new.domains.items }
         ensures domains { map shown self.new.domains.items ≡ cut_all (map shown self.old.domains.items) counts.now }
         ensures gone { self.new.gone ≡ self.old.gone }
@@ -211,6 +226,7 @@ fn counts_of(alloc: Global, domains: &[Domain]) -> Result<Vec<u64>, NoMemory>
 fn cut_domains(domains: &mut [Domain], counts: &[u64])
     requires kept { AllKept domains.old }
     requires long { length counts.now ≡ length domains.old }
+    requires reach { Reach (map shown domains.old) counts.now }
     ensures kept { AllKept domains.new }
     ensures cut { map shown domains.new ≡ cut_all (map shown domains.old) counts.now }
 {

@@ -93,6 +93,7 @@ fn start(
         on: footing.on,
         chain: wish.chain,
         place,
+        version: domain.version,
         schema: Arc::try_clone(&domain.schema)?,
     };
     let base = footing.trees;

@@ -10,6 +10,8 @@ use Rattle.sal_rows.specs.declared.outcome.Outcome.TheVariants.{Done, ChainFaile
 use Rattle.sal_rows.specs.Spans.{spans}
 use Rattle.sal_history.specs.Outcome.{decide}
 use Rattle.sal_history.specs.Submissions.{Base, Sent, done_chains, done_ops, failing_from}
+use Rattle.sal_schema.specs.declared.table.SchemaTable.{SchemaTable}
+use Rattle.sal_history.specs.Versions.{tables_now}
 use Rattle.sal_history.specs.History.{Answered, decide_front, decide_next, is_live, outcome, unmounted_of}
 use Rattle.sal_script.specs.LoadExamples.{table}
 use Rattle.sal_loads.specs.Rounds.{IsDecided, Round, are_distinct, commit_of, commits_of, has_key, load_world, nothing, trees_behind}
@@ -98,9 +100,12 @@ module _ (decided : IsDecided) (answered : List Answered) where
   abbrev live : ℕ → Bool
   live domain = is_live load_world answered domain
 
+  abbrev tables : ℕ → SchemaTable
+  tables = tables_now load_world answered
+
   -- the next submission is done
   outcome_is : (dec pend : List Sub) (sub : Sub) → has_key (rounds_of dec) sub.round.key ≡ false
-      → outcome load_world live (sents_of (dec ++ sub ∷ pend)) (dones 0 dec) (sent_of sub) ≡ Done (length dec + 1)
+      → outcome load_world tables live (sents_of (dec ++ sub ∷ pend)) (dones 0 dec) (sent_of sub) ≡ Done (length dec + 1)
   outcome_is dec pend sub new =
       let ss : List Sent = sents_of (dec ++ sub ∷ pend) in
       let os : List Outcome = dones 0 dec in
@@ -117,7 +122,7 @@ module _ (decided : IsDecided) (answered : List Answered) where
     pub left : List Sub
     pub same : dec ++ pend ≡ done ++ left
     pub many : length done ≡ length dec + n
-    pub outcomes : dones 0 dec ++ decide_next load_world live (sents_of (dec ++ pend)) (dones 0 dec) n ≡ dones 0 done
+    pub outcomes : dones 0 dec ++ decide_next load_world tables live (sents_of (dec ++ pend)) (dones 0 dec) n ≡ dones 0 done
 
   -- one more is decided, and then the others
   one_more : (dec pend : List Sub) (sub : Sub) (n : ℕ) → has_key (rounds_of dec) sub.round.key ≡ false → AreDecided (dec ++ sub ∷ []) pend n → AreDecided dec (sub ∷ pend) (suc n)
@@ -125,11 +130,11 @@ module _ (decided : IsDecided) (answered : List Answered) where
       let ss : List Sent = sents_of (dec ++ sub ∷ pend) in
       let os : List Outcome = dones 0 dec in
       let all : (dec ++ sub ∷ []) ++ pend ≡ dec ++ sub ∷ pend = append_assoc dec (sub ∷ []) pend in
-      let front : decide_front load_world live ss os (slice_get ss (length os)) ≡ Done (0 + length dec + 1) ∷ [] =
-      ap (decide_front load_world live ss os) (next_sent 0 dec pend sub)
+      let front : decide_front load_world tables live ss os (slice_get ss (length os)) ≡ Done (0 + length dec + 1) ∷ [] =
+      ap (decide_front load_world tables live ss os) (next_sent 0 dec pend sub)
       ∙ ap (λ (o : Outcome). o ∷ []) (outcome_is dec pend sub new)
       ∙ (let same : length dec + 1 ≡ 0 + length dec + 1 = omega arith in ap (λ (k : ℕ). Done k ∷ []) same) in
-      let next : List Outcome → List Outcome = λ (qs : List Outcome). decide_next load_world live ss qs n in
+      let next : List Outcome → List Outcome = λ (qs : List Outcome). decide_next load_world tables live ss qs n in
       record {
         done = rest.done;
         left = rest.left;
@@ -139,7 +144,7 @@ module _ (decided : IsDecided) (answered : List Answered) where
             ap (λ (f : List Outcome). os ++ (f ++ next (os ++ f))) front
             ∙ sym (append_assoc os (Done (0 + length dec + 1) ∷ []) (next (os ++ Done (0 + length dec + 1) ∷ [])))
             ∙ ap (λ (qs : List Outcome). qs ++ next qs) (sym (dones-push 0 dec sub))
-            ∙ ap (λ (subs : List Sub). dones 0 (dec ++ sub ∷ []) ++ decide_next load_world live (sents_of subs) (dones 0 (dec ++ sub ∷ [])) n) (sym all)
+            ∙ ap (λ (subs : List Sub). dones 0 (dec ++ sub ∷ []) ++ decide_next load_world tables live (sents_of subs) (dones 0 (dec ++ sub ∷ [])) n) (sym all)
             ∙ rest.outcomes;
       }
 

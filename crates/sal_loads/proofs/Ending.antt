@@ -59,22 +59,22 @@ module _ (known : AreKnown) (counted : RoundsAreCounted) (all_numbers : SumsAreA
   module _ (state : PlayState) (was : Keeps rounds start state) where
     -- a client that is at its end has all its rounds behind it
     ended_as : (c : ℕ) (run : Run) (rs : List StepReply) (phase : Phase) → c < 4 → IsAt rounds start (history load_world state.log) c phase run
-        → replies_at (arrive (table ∷ []) load_world state.log run.client run.steps) ≡ Some rs → phase ≡ ready rounds 0
+        → replies_at (arrive ((table ∷ []) ∷ []) load_world state.log run.client run.steps) ≡ Some rs → phase ≡ ready rounds 0
     ended_as c run rs (ready round zero) within is end = let same : round ≡ rounds = omega (arith, is.0) in ap (λ k. ready k 0) same
     ended_as c run rs (ready round (suc left)) within is end =
-        absurd (none-some rs (sym (ap (λ (steps : List Move). replies_at (arrive (table ∷ []) load_world state.log run.client steps)) is.1) ∙ end))
+        absurd (none-some rs (sym (ap (λ (steps : List Move). replies_at (arrive ((table ∷ []) ∷ []) load_world state.log run.client steps)) is.1) ∙ end))
     ended_as c run rs (begun round left place) within is end =
         let sizes = known.short start c round low within (omega (arith, is.0, few)) in
-        absurd (none-some rs (sym (ap (λ (steps : List Move). replies_at (arrive (table ∷ []) load_world state.log run.client steps)) is.1
-        ∙ ap replies_at (put_arrives known.path known.values known.accepted state.log run.client (key_of c round) (value_in start c round) place (Settle 0 ∷ rounds_from start c (suc round) left) sizes.0 sizes.1 is.2)) ∙ end))
+        absurd (none-some rs (sym (ap (λ (steps : List Move). replies_at (arrive ((table ∷ []) ∷ []) load_world state.log run.client steps)) is.1
+        ∙ ap replies_at (put_arrives known.path known.values known.accepted state.log run.client (key_of c round) (value_in start c round) place is.2.0 (Settle 0 ∷ rounds_from start c (suc round) left) sizes.0 sizes.1 is.2.1)) ∙ end))
     ended_as c run rs (submitted round left n) within is end =
-        absurd (none-some rs (sym (ap (λ (steps : List Move). replies_at (arrive (table ∷ []) load_world state.log run.client steps)) is.1
+        absurd (none-some rs (sym (ap (λ (steps : List Move). replies_at (arrive ((table ∷ []) ∷ []) load_world state.log run.client steps)) is.1
         ∙ ap replies_at (settle_arrives state.log run.client n (rounds_from start c (suc round) left) is.2)) ∙ end))
 
-    module _ (all : List (List StepReply)) (ended : replies_of (table ∷ []) load_world state.log state.runs ≡ Some all) where
+    module _ (all : List (List StepReply)) (ended : replies_of ((table ∷ []) ∷ []) load_world state.log state.runs ≡ Some all) where
       at_end : (c : ℕ) → c < 4 → was.phases c ≡ ready rounds 0
       at_end c within =
-          let ends = all_end (table ∷ []) load_world state.log state.runs all ended in
+          let ends = all_end ((table ∷ []) ∷ []) load_world state.log state.runs all ended in
           let rs = get_some all c (omega (arith, within, was.size, ends.0)) in
           let last = ends.1 c rs.0 rs.1 in
           ended_as c last.0 rs.0 (was.phases c) within (was.each c last.0 last.1) last.2
@@ -139,25 +139,25 @@ module _ (known : AreKnown) (counted : RoundsAreCounted) (all_numbers : SumsAreA
   abbrev Comes : Played → Type 0
   Comes played = totals_of played.log (trees_in load_world played.log 0) ≡ load_totals rounds start
 
-  ended_by : (index : ℕ) (state : PlayState) (all : Option (List (List StepReply))) (played : Played) → Keeps rounds start state → replies_of (table ∷ []) load_world state.log state.runs ≡ all
-      → end_by (table ∷ []) load_world index state.log all ≡ Ok played → Comes played
+  ended_by : (index : ℕ) (state : PlayState) (all : Option (List (List StepReply))) (played : Played) → Keeps rounds start state → replies_of ((table ∷ []) ∷ []) load_world state.log state.runs ≡ all
+      → end_by ((table ∷ []) ∷ []) load_world index state.log all ≡ Ok played → Comes played
   ended_by index state None played was at is = cc
   ended_by index state (Some all) played was at is = subst Comes (same_Ok (let p : Played = record { log = state.log; replies = all } in p) played is) (totals_are state was all at)
 
-  turned_by : (state next : PlayState) (c : ℕ) (run : Option Run) → slice_get state.runs c ≡ run → Keeps rounds start state → turn_of (table ∷ []) load_world state c run ≡ Some next → Keeps rounds start next
+  turned_by : (state next : PlayState) (c : ℕ) (run : Option Run) → slice_get state.runs c ≡ run → Keeps rounds start state → turn_of ((table ∷ []) ∷ []) load_world state c run ≡ Some next → Keeps rounds start next
   turned_by state next c None at was is = cc
   turned_by state next c (Some run) at was is = turn_keeps known rounds start few low state was c run at next is
 
-  going_on : (index c : ℕ) (order : List ℕ) (state : PlayState) (next : Option PlayState) (played : Played) → turn (table ∷ []) load_world state c ≡ next → Keeps rounds start state
-      → ((s : PlayState) → Keeps rounds start s → play_from (table ∷ []) load_world (index + 1) s order ≡ Ok played → Comes played)
-      → play_by index (λ s. play_from (table ∷ []) load_world (index + 1) s order) next ≡ Ok played → Comes played
+  going_on : (index c : ℕ) (order : List ℕ) (state : PlayState) (next : Option PlayState) (played : Played) → turn ((table ∷ []) ∷ []) load_world state c ≡ next → Keeps rounds start state
+      → ((s : PlayState) → Keeps rounds start s → play_from ((table ∷ []) ∷ []) load_world (index + 1) s order ≡ Ok played → Comes played)
+      → play_by index (λ s. play_from ((table ∷ []) ∷ []) load_world (index + 1) s order) next ≡ Ok played → Comes played
   going_on index c order state None played went was more is = cc
   going_on index c order state (Some next) played went was more is = more next (turned_by state next c (slice_get state.runs c) refl was went) is
 
-  plays : (order : List ℕ) (index : ℕ) (state : PlayState) (played : Played) → Keeps rounds start state → play_from (table ∷ []) load_world index state order ≡ Ok played → Comes played
-  plays [] index state played was is = ended_by index state (replies_of (table ∷ []) load_world state.log state.runs) played was refl is
+  plays : (order : List ℕ) (index : ℕ) (state : PlayState) (played : Played) → Keeps rounds start state → play_from ((table ∷ []) ∷ []) load_world index state order ≡ Ok played → Comes played
+  plays [] index state played was is = ended_by index state (replies_of ((table ∷ []) ∷ []) load_world state.log state.runs) played was refl is
   plays (c ∷ order) index state played was is =
-      going_on index c order state (turn (table ∷ []) load_world state c) played refl was (λ s new rest. plays order (index + 1) s played new rest) is
+      going_on index c order state (turn ((table ∷ []) ∷ []) load_world state c) played refl was (λ s new rest. plays order (index + 1) s played new rest) is
 
 module _ (known : AreKnown) (counted : RoundsAreCounted) (all_numbers : SumsAreAll) where
   pub loads_come_to_one : LoadsComeToOne

@@ -14,6 +14,7 @@ use Rattle.sal_history.specs.declared.call.Entry.{Entry}
 use Rattle.sal_history.specs.declared.reply.Reply.{Reply}
 use Rattle.sal_history.specs.declared.reply.Reply.TheVariants.{Receipt, Refused}
 use Rattle.sal_history.specs.Submissions.{Base, Sent, done_ops}
+use Rattle.sal_history.specs.Versions.{tables_now}
 use Rattle.sal_history.specs.History.{Answered, commits, decide_next, is_live, is_spent, newest_base, nowhere, outcomes, pending, reply_to, sent_by, sents, spends, submitted as answer_to_submit}
 use Rattle.sal_script.specs.Load.{key_of, value_in}
 use Rattle.sal_script.proofs.Listed.{get-push}
@@ -246,7 +247,7 @@ module _ (start : ℕ) (answered : List Answered) (phases : Phases) (was : IsLoa
         given = sents-more answered e ∙ append-nil (sents answered) ∙ was.given ∙ ap sents_of next.same;
         told =
             outcomes-more answered e
-            ∙ (λ i. was.told i ++ decide_next load_world (is_live load_world answered) (was.given i) (was.told i) count)
+            ∙ (λ i. was.told i ++ decide_next load_world (tables_now load_world answered) (is_live load_world answered) (was.given i) (was.told i) count)
             ∙ next.outcomes;
         put = subst (λ (subs : List Sub). ArePut start (set_phase c phase phases) (rounds_of subs)) next.same (put_still start phases (rounds_of (was.dec ++ was.pend)) was.put c phase within same);
         held = λ m low high.

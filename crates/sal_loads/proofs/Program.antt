@@ -40,39 +40,43 @@ program_from start client rounds = let same : 0 + rounds ≡ rounds = omega arit
 abbrev pub put_step : ℕ → ℕ → ℕ → Move
 put_step start client round = Put 0 Config (entry_path (key_of client round)) (entry_data (key_of client round) (value_in start client round))
 
--- a transaction that began at the place and has no write yet
-abbrev pub opened : ℕ → Open
-opened place = record { place = place; domain = 0; mode = Rw; ops = [] }
+-- a transaction that began at the place, by some version, and has no write yet
+abbrev pub opened : ℕ → ℕ → Open
+opened place version = record { place = place; domain = 0; version = version; mode = Rw; ops = [] }
+
+-- the client has it in its first slot
+abbrev pub HasOpened : Client → ℕ → Type 0
+HasOpened client place = (version : ℕ) × (client.transactions 0 ≡ Some (opened place version))
 
 -- and with one
-abbrev pub with_put : ℕ → ℕ → ℕ → Open
-with_put key value place = record { place = place; domain = 0; mode = Rw; ops = put_of key value ∷ [] }
+abbrev pub with_put : ℕ → ℕ → ℕ → ℕ → Open
+with_put key value place version = record { place = place; domain = 0; version = version; mode = Rw; ops = put_of key value ∷ [] }
 
-abbrev pub after_put : ℕ → ℕ → ℕ → Client → Client
-after_put key value place client = replied Accepted (record client { transactions = set_slot 0 (Some (with_put key value place)) client.transactions })
+abbrev pub after_put : ℕ → ℕ → ℕ → ℕ → Client → Client
+after_put key value place version client = replied Accepted (record client { transactions = set_slot 0 (Some (with_put key value place version)) client.transactions })
 
 module _ (path : PathIsRead) (data_read : DataIsRead) (accepted : IsAccepted) where
   -- the put of an entry in a transaction without a write is taken
-  put_meets : (log : List Entry) (client : Client) (key value place : ℕ) → key ≤ 4294967295 → value ≤ 4294967295 → client.transactions 0 ≡ Some (opened place)
-      → meet (table ∷ []) load_world log client (Put 0 Config (entry_path key) (entry_data key value))
-      ≡ local Accepted (record client { transactions = set_slot 0 (Some (with_put key value place)) client.transactions })
-  put_meets log client key value place short small at =
-      ap (write_with (table ∷ []) load_world log 0 Config (entry_path key) (putting (entry_data key value)) client) at
-      ∙ ap (λ (p : Result (List Step) PathTextFault). write_at table load_world log 0 Config p (putting (entry_data key value)) (opened place) client) (path key short)
-      ∙ ap (λ (r : Result (List Row) DataFault). write_act table load_world log 0 Config (entry key) (r >>= (λ rows. Ok (PutAct rows))) (opened place) client) (data_read key value short small)
-      ∙ ap (λ (fault : Option TxFault). accept_unless fault 0 (put_of key value) (opened place) client) (accepted (seen_by load_world log (opened place) Config) key value)
+  put_meets : (log : List Entry) (client : Client) (key value place version : ℕ) → key ≤ 4294967295 → value ≤ 4294967295 → client.transactions 0 ≡ Some (opened place version)
+      → meet ((table ∷ []) ∷ []) load_world log client (Put 0 Config (entry_path key) (entry_data key value))
+      ≡ local Accepted (record client { transactions = set_slot 0 (Some (with_put key value place version)) client.transactions })
+  put_meets log client key value place version short small at =
+      ap (write_with ((table ∷ []) ∷ []) load_world log 0 Config (entry_path key) (putting (entry_data key value)) client) at
+      ∙ ap (λ (p : Result (List Step) PathTextFault). write_at table load_world log 0 Config p (putting (entry_data key value)) (opened place version) client) (path key short)
+      ∙ ap (λ (r : Result (List Row) DataFault). write_act table load_world log 0 Config (entry key) (r >>= (λ rows. Ok (PutAct rows))) (opened place version) client) (data_read key value short small)
+      ∙ ap (λ (fault : Option TxFault). accept_unless fault 0 (put_of key value) (opened place version) client) (accepted (seen_by load_world log (opened place version) Config) key value)
 
   -- so the client comes to its submit
-  pub put_arrives : (log : List Entry) (client : Client) (key value place : ℕ) (rest : List Move) → key ≤ 4294967295 → value ≤ 4294967295 → client.transactions 0 ≡ Some (opened place)
-      → arrive (table ∷ []) load_world log client (Put 0 Config (entry_path key) (entry_data key value) ∷ Submit 0 ∷ rest)
-      ≡ calls (made.Submit place (put_of key value ∷ [])) (Submit 0) (record { client = after_put key value place client; steps = rest })
-  put_arrives log client key value place rest short small at =
-      ap (arrive_by (λ next. arrive (table ∷ []) load_world log next (Submit 0 ∷ rest)) (λ call. calls call (Put 0 Config (entry_path key) (entry_data key value)) (record { client = client; steps = Submit 0 ∷ rest })))
-      (put_meets log client key value place short small at)
+  pub put_arrives : (log : List Entry) (client : Client) (key value place version : ℕ) (rest : List Move) → key ≤ 4294967295 → value ≤ 4294967295 → client.transactions 0 ≡ Some (opened place version)
+      → arrive ((table ∷ []) ∷ []) load_world log client (Put 0 Config (entry_path key) (entry_data key value) ∷ Submit 0 ∷ rest)
+      ≡ calls (made.Submit place (put_of key value ∷ [])) (Submit 0) (record { client = after_put key value place version client; steps = rest })
+  put_arrives log client key value place version rest short small at =
+      ap (arrive_by (λ next. arrive ((table ∷ []) ∷ []) load_world log next (Submit 0 ∷ rest)) (λ call. calls call (Put 0 Config (entry_path key) (entry_data key value)) (record { client = client; steps = Submit 0 ∷ rest })))
+      (put_meets log client key value place version short small at)
 
 -- a client with a receipt comes to its settle
 pub settle_arrives : (log : List Entry) (client : Client) (n : ℕ) (rest : List Move) → client.receipts 0 ≡ Some n
-    → arrive (table ∷ []) load_world log client (Settle 0 ∷ rest) ≡ calls (made.Settle n) (Settle 0) (record { client = client; steps = rest })
+    → arrive ((table ∷ []) ∷ []) load_world log client (Settle 0 ∷ rest) ≡ calls (made.Settle n) (Settle 0) (record { client = client; steps = rest })
 settle_arrives log client n rest at =
-    ap (arrive_by (λ next. arrive (table ∷ []) load_world log next rest) (λ call. calls call (Settle 0) (record { client = client; steps = rest })))
+    ap (arrive_by (λ next. arrive ((table ∷ []) ∷ []) load_world log next rest) (λ call. calls call (Settle 0) (record { client = client; steps = rest })))
     (ap (settle client) at)

@@ -13,14 +13,14 @@ use Rattle.sal_loads.specs.Rounds.{load_world}
 use Rattle.sal_loads.proofs.Answering.{history-push, more_of, now_of, still_free}
 use Rattle.sal_loads.proofs.Loaded.{HasBegun, IsLoaded}
 use Rattle.sal_loads.proofs.Phases.{Phase, Phases, begun, calls_by, four, four_set, ready, set_other, set_own, set_phase, submitted}
-use Rattle.sal_loads.proofs.Program.{opened, put_step, rounds_from}
+use Rattle.sal_loads.proofs.Program.{HasOpened, put_step, rounds_from}
 
 -- what the steps and the slots of a client are that has come to the phase
 abbrev pub IsAt : ℕ → ℕ → List Answered → ℕ → Phase → Run → Type 0
 IsAt rounds start answered c (ready round left) run = (round + left ≡ rounds) × (run.steps ≡ rounds_from start c round left)
 IsAt rounds start answered c (begun round left place) run =
     (suc round + left ≡ rounds) × (run.steps ≡ put_step start c round ∷ Submit 0 ∷ Settle 0 ∷ rounds_from start c (suc round) left)
-    × (run.client.transactions 0 ≡ Some (opened place)) × HasBegun answered c place
+    × HasOpened run.client place × HasBegun answered c place
 IsAt rounds start answered c (submitted round left receipt) run =
     (suc round + left ≡ rounds) × (run.steps ≡ Settle 0 ∷ rounds_from start c (suc round) left)
     × (run.client.receipts 0 ≡ Some receipt) × (receipt ≤ length (sents answered))

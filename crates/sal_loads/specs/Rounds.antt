@@ -23,7 +23,7 @@ use Rattle.sal_script.specs.LoadExamples.{entry, rows, table}
 
 -- the module's table, and no row
 abbrev pub load_world : List Domain
-load_world = record { table = table; opening = record { config = []; oper = [] } } ∷ []
+load_world = record { table = table; upgrades = []; opening = record { config = []; oper = [] } } ∷ []
 
 -- its opening trees
 abbrev pub nothing : Store → List Row

@@ -3,7 +3,7 @@ use Rattle.std.specs.Prelude.{ℕ, Bool, ◌&&◌, ◌||◌, ◌==◌, nat_lt, L
 use Rattle.sal_module.specs.declared.fault.BuildFault.{BuildFault}
 use Rattle.sal_module.specs.declared.fault.BuildFault.TheVariants as variant
 use Rattle.sal_module.specs.declared.fault.Cause.{Cause}
-use Rattle.sal_module.specs.declared.fault.Cause.TheVariants.{UnknownStatement, LeftOut, Missing, Twice, BadArgument, NoModule, ImportCycle, UnknownName, NameCycle, DoubleNode, BadRestriction, BadPattern, BadKey, ConfigUnderState, BadTarget}
+use Rattle.sal_module.specs.declared.fault.Cause.TheVariants.{UnknownStatement, LeftOut, Missing, Twice, BadArgument, NoModule, ImportCycle, UnknownName, NameCycle, DoubleNode, BadRestriction, BadPattern, BadKey, ConfigUnderState, BadTarget, OldIdentity}
 use Rattle.sal_module.specs.declared.fault.Found.{Found}
 use Rattle.sal_module.specs.Keywords.{word_of}
 
@@ -24,6 +24,7 @@ number_of BadPattern = 12
 number_of BadKey = 13
 number_of ConfigUnderState = 14
 number_of BadTarget = 15
+number_of OldIdentity = 16
 
 -- the smaller module first, then the smaller place, and at one place the smaller number
 abbrev pub is_before : Found → Found → Bool
@@ -55,6 +56,7 @@ fault m at BadPattern = variant.BadPattern m at
 fault m at BadKey = variant.BadKey m at
 fault m at ConfigUnderState = variant.ConfigUnderState m at
 fault m at BadTarget = variant.BadTarget m at
+fault m at OldIdentity = variant.OldIdentity m at
 
 abbrev pub fault_of : Found → BuildFault
 fault_of found = fault found.module found.at found.cause

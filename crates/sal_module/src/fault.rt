@@ -66,6 +66,9 @@ pub enum BuildFault {
     /// An augment or a path whose target does not exist or does not fit.
     #[error("bad target")]
     BadTarget { module: u32, at: u32 },
+    /// The `base` of an identity of a later version's module, which names an identity of an earlier version.
+    #[error("old identity")]
+    OldIdentity { module: u32, at: u32 },
     /// More modules or nodes than are taken.
     #[error("too many")]
     TooMany { what: What },
@@ -116,6 +119,7 @@ pub enum Cause {
     BadKey,
     ConfigUnderState,
     BadTarget,
+    OldIdentity,
 }
 
 /// A fault with its place.
@@ -150,6 +154,7 @@ impl Cause {
             Cause::BadKey => 13,
             Cause::ConfigUnderState => 14,
             Cause::BadTarget => 15,
+            Cause::OldIdentity => 16,
         }
     }
 }
@@ -210,6 +215,7 @@ impl Found {
             Cause::BadKey => BuildFault::BadKey { module, at },
             Cause::ConfigUnderState => BuildFault::ConfigUnderState { module, at },
             Cause::BadTarget => BuildFault::BadTarget { module, at },
+            Cause::OldIdentity => BuildFault::OldIdentity { module, at },
         })
     }
 }

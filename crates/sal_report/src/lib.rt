@@ -11,7 +11,8 @@
 //!
 //! What the texts are, to the byte, stands in `sal_script` (`specs/Report`, with its words in `specs/Words`): for all schemas, logs,
 //! replies and trees. Paths are written by `sal_pathtext` and rows by `sal_data`, as JSON (RFC 7951). What is of a domain is written
-//! by its schema, or by one without nodes where it has none; requests, outputs, notifications and mounts are of domain 0.
+//! by the last version of its schema, or by one without nodes where it has none; requests, outputs, notifications, mounts and upgrades are
+//! of domain 0.
 //!
 //! ```
 //! let told = told_domains(alloc, schemas.len() as u32, log)?;

@@ -16,7 +16,7 @@ use std::sync::Arc;
 
 /// The report of a run: the line of the order, a line for each reply by client and step, and a line for each domain with its trees.
 ///
-/// `schemas` has those of the domains by number, `log` the calls in order, `replies` for each client its steps' replies in order, and
+/// `schemas` has those of the domains by number, each by its last version, `log` the calls in order, `replies` for each client its steps' replies in order, and
 /// `trees` what the domains of which is told have at the end. What is of a domain without a schema is written by one without nodes.
 /// It fails only where memory runs out.
 pub fn report(

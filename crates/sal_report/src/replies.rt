@@ -83,7 +83,7 @@ fn push_call(
         Reply::MountAt { mount } => push_mount(text, *mount),
         Reply::Found => push_word(text, "found"),
         Reply::Late => push_word(text, "late"),
-        Reply::Refused { fault } => push_refused(text, schemas.of(0), *fault),
+        Reply::Refused { fault } => push_refused(alloc, text, schemas.of(0), fault),
     }
 }
 
@@ -98,35 +98,53 @@ fn push_begun(text: &mut String, commit: u64, on: Option<u64>) -> Result<(), NoM
 }
 
 // A shared call that was refused, and why.
-fn push_refused(text: &mut String, schema: &Schema, fault: CallFault) -> Result<(), NoMemory>
-    ensures { OnOk result (string_bytes text.new ≡ string_bytes text.old ++ (codes "refused " ++ spec.fault_text schema.now fault)) }
+fn push_refused(
+    alloc: Global,
+    text: &mut String,
+    schema: &Schema,
+    fault: &CallFault,
+) -> Result<(), NoMemory>
+    ensures { OnOk result (string_bytes text.new ≡ string_bytes text.old ++ (codes "refused " ++ spec.fault_text schema.now fault.now)) }
 {
     text.push_str("refused ")?;
-    push_fault(text, schema, fault)
+    push_fault(alloc, text, schema, fault)
 }
 
-fn push_fault(text: &mut String, schema: &Schema, fault: CallFault) -> Result<(), NoMemory>
-    ensures { OnOk result (string_bytes text.new ≡ string_bytes text.old ++ spec.fault_text schema.now fault) }
+fn push_fault(
+    alloc: Global,
+    text: &mut String,
+    schema: &Schema,
+    fault: &CallFault,
+) -> Result<(), NoMemory>
+    ensures { OnOk result (string_bytes text.new ≡ string_bytes text.old ++ spec.fault_text schema.now fault.now) }
 {
     match fault {
         CallFault::HistoryFull => push_word(text, "history-full"),
         CallFault::PipelineFull => push_word(text, "pipeline-full"),
-        CallFault::NoDomain { id } => push_numbered(text, "no-domain", u64::from(id)),
-        CallFault::NoListener { id } => push_numbered(text, "no-listener", id),
+        CallFault::NoDomain { id } => push_numbered(text, "no-domain", u64::from(*id)),
+        CallFault::NoListener { id } => push_numbered(text, "no-listener", *id),
         CallFault::TooManyListeners => push_word(text, "too-many-listeners"),
-        CallFault::NoProvider { rpc } => push_named(text, schema, "no-provider ", rpc),
-        CallFault::ProviderTaken { rpc } => push_named(text, schema, "provider-taken ", rpc),
-        CallFault::NoCall { id } => push_numbered(text, "no-call", id),
+        CallFault::NoProvider { rpc } => push_named(text, schema, "no-provider ", *rpc),
+        CallFault::ProviderTaken { rpc } => push_named(text, schema, "provider-taken ", *rpc),
+        CallFault::NoCall { id } => push_numbered(text, "no-call", *id),
         CallFault::NoteRejected { subscriber } => {
-            push_numbered(text, "note-rejected", u64::from(subscriber))
+            push_numbered(text, "note-rejected", u64::from(*subscriber))
         }
-        CallFault::MountTaken { id } => push_numbered(text, "mount-taken", u64::from(id)),
-        CallFault::DeviceUsed { id } => push_numbered(text, "device-used", u64::from(id)),
+        CallFault::MountTaken { id } => push_numbered(text, "mount-taken", u64::from(*id)),
+        CallFault::DeviceUsed { id } => push_numbered(text, "device-used", u64::from(*id)),
         CallFault::PreviousOpen => push_word(text, "previous-open"),
-        CallFault::ChainFailed { receipt } => push_numbered(text, "chain-failed", receipt),
+        CallFault::ChainFailed { receipt } => push_numbered(text, "chain-failed", *receipt),
         CallFault::ChainClosed => push_word(text, "chain-closed"),
         CallFault::NoMemory => push_word(text, "no-memory"),
         CallFault::TxSpent => push_word(text, "tx-spent"),
+        CallFault::WrongVersion { have } => {
+            push_numbered(text, "wrong-version", u64::from(*have))
+        }
+        CallFault::UpgradeBreach { store, path, rule } => {
+            text.push_str("upgrade-breach ")?;
+            text.push_str(store_word(*store))?;
+            push_breach(alloc, text, schema, path, *rule)
+        }
     }
 }
 
@@ -189,6 +207,7 @@ fn push_refusal(
         StepRefusal::EmptySlot => push_word(text, "empty-slot"),
         StepRefusal::ReadOnly => push_word(text, "read-only"),
         StepRefusal::NoDevice => push_word(text, "no-device"),
+        StepRefusal::NoUpgrade => push_word(text, "no-upgrade"),
         StepRefusal::UnknownName => push_word(text, "unknown-name"),
         StepRefusal::BadPath { fault } => {
             text.push_str("path ")?;

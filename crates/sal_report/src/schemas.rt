@@ -1,7 +1,7 @@
 //! The schemas by which replies and trees are written.
 ghost use Rattle.std.specs.Prelude.{◌≡◌, IfOk, map};
 ghost use Rattle.sal_history.specs.World.{no_table};
-ghost use Rattle.sal_script.specs.Play.{table_in};
+ghost use Rattle.sal_script.specs.Tables.{table_in};
 
 use sal_schema::{Schema, SchemaTable};
 use sal_types::{NoMemory, Seq};
@@ -9,7 +9,7 @@ use std::alloc::Global;
 use std::marker::Model;
 use std::sync::Arc;
 
-/// The schemas of the domains, by number, and one without nodes for a number that none has. A contract sees their tables.
+/// The schemas of the domains, by number, each by its last version, and one without nodes for a number that none has. A contract sees their tables.
 #[derive(Drop)]
 pub(crate) struct Schemas<'a> {
     list: &'a [Arc<Schema>],

@@ -81,7 +81,7 @@ pub enum Outcome {
 
 /// Why a shared call was refused. After `HistoryFull` and `NoMemory` nothing has changed; after any other refusal the log
 /// has the call's entry, and nothing else changed.
-#[derive(Clone, Copy, Debug, PartialEq, Eq, Error)]
+#[derive(Debug, Drop, PartialEq, Eq, Error)]
 pub enum CallFault {
     /// The log has 1,000,000 entries.
     #[error("the history is full")]
@@ -91,37 +91,55 @@ pub enum CallFault {
     PipelineFull,
     /// The domain is not live; to a mount: there is no such device.
     #[error("no live domain {id}")]
-    NoDomain { id: u32 },
+    NoDomain {
+        id: u32,
+    },
     /// The client has no live listener of this id.
     #[error("no live listener {id} of this client")]
-    NoListener { id: u64 },
+    NoListener {
+        id: u64,
+    },
     /// As many listeners are live as may be, 256.
     #[error("too many listeners")]
     TooManyListeners,
     /// Nobody provides the RPC in the context or without one; or, to a withdrawal, the client does not in this context.
     #[error("no provider of rpc {rpc}")]
-    NoProvider { rpc: u32 },
+    NoProvider {
+        rpc: u32,
+    },
     /// The RPC is provided in this context already.
     #[error("rpc {rpc} has its provider")]
-    ProviderTaken { rpc: u32 },
+    ProviderTaken {
+        rpc: u32,
+    },
     /// To an answer: the request was not handed to the client, or is answered. To a collection: the client did not make it.
     #[error("no call {id} of this client")]
-    NoCall { id: u64 },
+    NoCall {
+        id: u64,
+    },
     /// As many notifications wait for this subscriber as may, 64. It is the one with the smallest number of those.
     #[error("the queue of subscriber {subscriber} is full")]
-    NoteRejected { subscriber: u32 },
+    NoteRejected {
+        subscriber: u32,
+    },
     /// This domain is mounted at the path.
     #[error("domain {id} is mounted there")]
-    MountTaken { id: u32 },
+    MountTaken {
+        id: u32,
+    },
     /// The device was mounted before. A device is mounted once at most.
     #[error("device {id} was mounted before")]
-    DeviceUsed { id: u32 },
+    DeviceUsed {
+        id: u32,
+    },
     /// The last transaction of the chain is neither submitted nor cancelled.
     #[error("the chain's previous transaction is open")]
     PreviousOpen,
     /// The submission of the chain with this receipt was decided as something else than done.
     #[error("the chain failed by receipt {receipt}")]
-    ChainFailed { receipt: u64 },
+    ChainFailed {
+        receipt: u64,
+    },
     /// The chain was closed.
     #[error("the chain is closed")]
     ChainClosed,
@@ -130,6 +148,18 @@ pub enum CallFault {
     /// The transaction was submitted or cancelled before.
     #[error("the transaction is spent")]
     TxSpent,
+    /// To an upgrade: it does not lead from the present version of the schema, which has this number.
+    #[error("the schema has version {have}")]
+    WrongVersion {
+        have: u32,
+    },
+    /// To an upgrade: the newest tree of this store would break this rule of the new version at this path.
+    #[error("the newest tree breaks a rule of the new version")]
+    UpgradeBreach {
+        store: Store,
+        path: Path,
+        rule: Rule,
+    },
 }
 
 impl Duplicate for Outcome {

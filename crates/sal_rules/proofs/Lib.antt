@@ -1,1 +1,2 @@
 pub mod DepotTable
+pub mod Versions

@@ -7,3 +7,4 @@ pub mod Refusals
 pub mod Rules
 pub mod Seen
 pub mod Writes
+pub mod Versions

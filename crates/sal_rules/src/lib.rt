@@ -6,10 +6,12 @@
 //! | `Spot` | what a place of a tree stands at |
 //! | `TxFault`, `WriteOnly` | why a write or a read is refused |
 //! | `examples`, `refused` | functions that do nothing, each with worked examples as its contract |
+//! | `laws` | operations under a version of a schema and under each later one, as laws |
 //!
 //! `specs/` has the places of a tree and what each stands at (`Places`), what is seen from a place (`Seen`), the context of a
 //! node and the way from it (`Contexts`), the five structural rules (`Rules`), all breaches with the one that is reported
-//! (`Breaches`), why a write is refused (`Refusals`), and which operations are for a schema (`Writes`).
+//! (`Breaches`), why a write is refused (`Refusals`), which operations are for a schema (`Writes`), and what stays of them under a
+//! later version of it (`Versions`).
 //!
 //! Rules are judged at the entries, the presence containers and the containers that are there, and at the root. What a list
 //! or presence container is the context of is demanded at each of them; what a case is the context of, where a node of the
@@ -21,6 +23,7 @@
 
 pub mod examples;
 pub mod fault;
+pub mod laws;
 pub mod refused;
 pub mod spot;
 

@@ -10,7 +10,6 @@ use mathlib.Core.List.{IsPrefix}
 use Rattle.sal_history.specs.declared.call.Entry.{Entry}
 use Rattle.sal_history.specs.History.{entries_of}
 use Rattle.sal_history.specs.World.{Domain}
-use Rattle.sal_schema.specs.declared.table.SchemaTable.{SchemaTable}
 use Rattle.sal_turn.specs.Entries.{entries_by}
 use Rattle.sal_turn.specs.Lists.{In}
 use Rattle.sal_turn.specs.Seats.{Place, TableId}
@@ -22,7 +21,8 @@ use Rattle.sal_script.specs.Along.{AreLeft, Finishes, IsAt, new_run}
 use Rattle.sal_script.specs.JsonMoves.{have_json_moves}
 use Rattle.sal_script.specs.Limits.{within_limits}
 use Rattle.sal_script.specs.Moves.{Move, clients_of, move_of, moves_of}
-use Rattle.sal_script.specs.Play.{Client, Run, tables_of}
+use Rattle.sal_script.specs.Play.{Client, Run}
+use Rattle.sal_script.specs.Tables.{Versions, versions_of}
 use Rattle.sal_script.specs.declared.reply.StepReply.{StepReply}
 use Rattle.sal_script.specs.declared.script.ScriptStep.{ScriptStep}
 use Rattle.sal_script.proofs.Along.{at_end, at_found_own, at_start}
@@ -81,7 +81,7 @@ moves_short (q ∷ ps) all =
 
 -- ---- one client, before its first step
 
-pub new_stands : (tables : List SchemaTable) (lock : TableId) (programs : List (List ScriptStep)) (s : SeatedRun) (steps : List ScriptStep) → within_limits programs ≡ true → have_json_moves (clients_of programs) ≡ true → IsNew tables lock programs s
+pub new_stands : (tables : List Versions) (lock : TableId) (programs : List (List ScriptStep)) (s : SeatedRun) (steps : List ScriptStep) → within_limits programs ≡ true → have_json_moves (clients_of programs) ≡ true → IsNew tables lock programs s
     → slice_get programs s.run.client.number ≡ Some steps → Stands tables steps s.seat.view s.run (run_of steps s.run)
 new_stands tables lock programs s steps limits json is at =
     let v : SeatView = s.seat.view in
@@ -125,7 +125,7 @@ seated_more lock v w n runs s are is same = record {
       (get-push runs s i t at);
 }
 
-pub seated_new : (tables : List SchemaTable) (lock : TableId) (programs : List (List ScriptStep)) (v : SeatView) (i : ℕ) (s : SeatedRun) → tables ≡ tables_of (known v).world → v.seen ≡ [] → i < length programs → IsSeated lock v i s → IsNew tables lock programs s
+pub seated_new : (tables : List Versions) (lock : TableId) (programs : List (List ScriptStep)) (v : SeatView) (i : ℕ) (s : SeatedRun) → tables ≡ versions_of (known v).world → v.seen ≡ [] → i < length programs → IsSeated lock v i s → IsNew tables lock programs s
 seated_new tables lock programs v i s reads none within is = record {
   lock = is.lock;
   number = is.number ∙ ap (λ (w : SeatView). w.number) (sym is.view);
@@ -133,13 +133,13 @@ seated_new tables lock programs v i s reads none within is = record {
   at = is.at;
   client = is.client;
   sound = is.sound;
-  reads = reads ∙ ap (λ (w : SeatView). tables_of (known w).world) (sym is.view);
+  reads = reads ∙ ap (λ (w : SeatView). versions_of (known w).world) (sym is.view);
   own = ap (λ (w : SeatView). w.own) is.view;
   none = ap (λ (w : SeatView). entries_by maker_of w.number w.seen) is.view ∙ ap (λ (l : List Entry). entries_by maker_of i l) none;
 }
 
 -- the clients on their threads, by the index of their seats
-pub worked_at : (tables : List SchemaTable) (lock : TableId) (programs : List (List ScriptStep)) (v : SeatView) (n : ℕ) (runs : List SeatedRun) (fs : List Finished) → AreSeated lock v n runs → length fs ≡ length runs
+pub worked_at : (tables : List Versions) (lock : TableId) (programs : List (List ScriptStep)) (v : SeatView) (n : ℕ) (runs : List SeatedRun) (fs : List Finished) → AreSeated lock v n runs → length fs ≡ length runs
     → ((i : ℕ) (f : Finished) (r : SeatedRun) → i < length runs → r ≡ get_or runs i r → Worked tables lock programs r.seat (get_or fs i f))
     → (i : ℕ) (f : Finished) → slice_get fs i ≡ Some f → Worked tables lock programs (record { lock = lock; view = newcomer i v }) f
 worked_at tables lock programs v n runs fs are long each i f at =
@@ -265,7 +265,7 @@ begins lock p w at is = record {
   joined = ap (λ (v : SeatView). v.joined) is;
 }
 
-module _ (tables : List SchemaTable) (lock : TableId) (programs : List (List ScriptStep)) (opening place : Place Entry (List Domain)) (replies : Result (List (List StepReply)) RunFault)
+module _ (tables : List Versions) (lock : TableId) (programs : List (List ScriptStep)) (opening place : Place Entry (List Domain)) (replies : Result (List (List StepReply)) RunFault)
     (limits : within_limits programs ≡ true) (begun : IsOpening lock opening) (ran : AreRan tables lock programs opening.view place replies) where
   abbrev v : SeatView
   v = opening.view
@@ -386,7 +386,7 @@ module _ (tables : List SchemaTable) (lock : TableId) (programs : List (List Scr
     pub same_world : (known v).world ≡ hub.world
     same_world = ap (λ (g : Option (List Domain)). unwrap_or g []) (sym ran.joins.ground ∙ world)
 
-    pub are_left : tables ≡ tables_of hub.world → (list : List (List StepReply)) → replies ≡ Ok list → AreLeft hub.world (clients_of programs) hub.log list
+    pub are_left : tables ≡ versions_of hub.world → (list : List (List StepReply)) → replies ≡ Ok list → AreLeft hub.world (clients_of programs) hub.log list
     are_left reads list is = record {
       known = all_known;
       all = ap length (ran.collects.all list is) ∙ (map_long (λ (g : Finished). replies_in g.run) ran.clients ∙ (ran.long ∙ sym (map_long moves_of programs)));
@@ -407,7 +407,7 @@ module _ (tables : List SchemaTable) (lock : TableId) (programs : List (List Scr
           let whole : entries_by maker_of c f.seat.view.seen ≡ f.seat.view.own = subst (λ (n : ℕ). entries_by maker_of n f.seat.view.seen ≡ f.seat.view.own) number ended.whole in
           let closed = at_found_own tables hub.world c (moves_of p.0) f.seat.view.seen hub.log f.seat.view.own last starts whole (theirs c f own.1) at in
           let finishes : Finishes tables hub.world c hub.log (moves_of p.0) (replies_in f.run) = at_end tables hub.world c (moves_of p.0) hub.log (client_of f.run.client) closed in
-          subst (λ (t : List SchemaTable). Finishes t hub.world c hub.log steps rs) reads
+          subst (λ (t : List Versions). Finishes t hub.world c hub.log steps rs) reads
           (subst (λ (ms : List Move). Finishes tables hub.world c hub.log ms rs) p.2
           (subst (λ (r : List StepReply). Finishes tables hub.world c hub.log (moves_of p.0) r) is_rs finishes));
     }

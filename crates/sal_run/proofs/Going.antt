@@ -9,13 +9,13 @@ use mathlib.Core.List.{IsPrefix}
 use Rattle.sal_history.specs.declared.call.Entry.{Entry}
 use Rattle.sal_history.specs.History.{entries_of}
 use Rattle.sal_history.specs.World.{Domain}
-use Rattle.sal_schema.specs.declared.table.SchemaTable.{SchemaTable}
 use Rattle.sal_turn.specs.Entries.{entries_by}
 use Rattle.sal_broker.specs.Seats.{client_of as maker_of}
 use Rattle.sal_hub.specs.HubHistory.{HubHistory, more}
 use Rattle.sal_script.specs.Along.{BeganIn, IsAt, IsListening, ListensIn, along, new_run}
 use Rattle.sal_script.specs.Moves.{Move, moves_of}
-use Rattle.sal_script.specs.Play.{Listener, Open, Run, arrive, go, make, tables_of}
+use Rattle.sal_script.specs.Play.{Listener, Open, Run, arrive, go, make}
+use Rattle.sal_script.specs.Tables.{Versions, versions_of}
 use Rattle.sal_script.specs.declared.script.ScriptStep.{ScriptStep}
 use Rattle.sal_script.proofs.Along.{along-push, at_found_own, made_of, pass_own}
 use Rattle.sal_client.specs.declared.client.ClientState.{ClientState}
@@ -53,7 +53,7 @@ listens_of known c is slot listener at =
 
 -- ---- the client's own call
 
-module _ (tables : List SchemaTable) (c : ℕ) (steps : List Move) (known known' : HubHistory) where
+module _ (tables : List Versions) (c : ℕ) (steps : List Move) (known known' : HubHistory) where
   -- behind a call that it made
   pub at_made : (old now : Run) → GrowsBy c known known' → go tables known.world known.log c old ≡ Some (record { log = known'.log; run = now })
       → BeganIn known'.log now.client → ListensIn known.world c known'.log now.client
@@ -88,7 +88,7 @@ none_behind c log found own begins before after =
 
 -- ---- a client that stands somewhere
 
-module _ (lasts : TokensLast) (tables : List SchemaTable) (steps : List ScriptStep) (c : ℕ) where
+module _ (lasts : TokensLast) (tables : List Versions) (steps : List ScriptStep) (c : ℕ) where
   -- it has answered local steps, and is ready to make a call
   pub stands_asking : (known : HubHistory) (own : List Entry) (wish : Wish) (old new : CodeRun) → Comes tables steps old (Some wish) new → StaysSound old.client new.client → IsProgram steps new → new.client.number ≡ old.client.number
       → StandsIn tables steps c known own old (run_of steps old) → StandsIn tables steps c known own new (asking wish steps new)
@@ -127,7 +127,7 @@ module _ (lasts : TokensLast) (tables : List SchemaTable) (steps : List ScriptSt
       → StandsIn tables steps c known own r now → StandsIn tables steps c found own r now
   stands_found known found own r now same begins mine was = record {
     number = was.number;
-    reads = was.reads ∙ ap (λ (w : List Domain). tables_of w) same;
+    reads = was.reads ∙ ap (λ (w : List Domain). versions_of w) same;
     whole = mine;
     program = was.program;
     sound = subst (λ (w : List Domain). IsSound (record { world = w; log = found.log }) r.client) same longer;
@@ -144,7 +144,7 @@ module _ (lasts : TokensLast) (tables : List SchemaTable) (steps : List ScriptSt
       → StandsIn tables steps c known own old (asking wish steps old) → StandsIn tables steps c known' own' new (run_of steps new)
   stands_made known known' own own' wish old new same makes sound at number mine was = record {
     number = number ∙ was.number;
-    reads = was.reads ∙ ap (λ (w : List Domain). tables_of w) (sym same);
+    reads = was.reads ∙ ap (λ (w : List Domain). versions_of w) (sym same);
     whole = mine;
     program = record { within = subst (λ (n : ℕ). n ≤ length steps) (sym at) was.program.within; short = was.program.short; json = was.program.json };
     sound = sound;

@@ -6,7 +6,6 @@ use Rattle.std.proofs.lemmas.Bool.{eq-eqb}
 use Rattle.std.proofs.lemmas.List.Elements.{filter-append}
 use Rattle.sal_history.specs.declared.call.Entry.{Entry}
 use Rattle.sal_history.specs.World.{Domain}
-use Rattle.sal_schema.specs.declared.table.SchemaTable.{SchemaTable}
 use Rattle.sal_turn.specs.Entries.{entries_by}
 use Rattle.sal_turn.specs.Seats.{TableId}
 use Rattle.sal_turn.specs.Views.{SameRights}
@@ -15,6 +14,7 @@ use Rattle.sal_broker.specs.Turns.{OneMoreAtMost, TurnOf}
 use Rattle.sal_hub.specs.HubHistory.{HubHistory, more}
 use Rattle.sal_script.specs.declared.script.ScriptStep.{ScriptStep}
 use Rattle.sal_script.specs.Play.{Run}
+use Rattle.sal_script.specs.Tables.{Versions}
 use Rattle.sal_client.specs.declared.run.ClientRun.{ClientRun as CodeRun}
 use Rattle.sal_client.specs.declared.wish.Wish.{Wish}
 use Rattle.sal_client.specs.Clients.{IsSound, client_of}
@@ -68,7 +68,7 @@ few_left lock v w h n at hub left enters number same grows turn room =
     let own = ap length enters.own in
     omega (arith, few, own, room)
 
-module _ (lasts : TokensLast) (tables : List SchemaTable) (steps : List ScriptStep) (v : SeatView) where
+module _ (lasts : TokensLast) (tables : List Versions) (steps : List ScriptStep) (v : SeatView) where
   -- the turn's hub, for the client
   pub found_stands : (lock : TableId) (h : Holding) (r : CodeRun) (now : Run) → Enters lock v h → Stands tables steps v r now → StandsIn tables steps v.number h.found v.own r now
   found_stands lock h r now enters was =

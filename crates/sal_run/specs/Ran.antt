@@ -2,12 +2,12 @@
 use Rattle.std.specs.Prelude.{◌≡◌, ℕ, List, [], ◌∷◌, Result, Some, length, slice_get, true}
 use Rattle.sal_history.specs.declared.call.Entry.{Entry}
 use Rattle.sal_history.specs.World.{Domain}
-use Rattle.sal_schema.specs.declared.table.SchemaTable.{SchemaTable}
 use Rattle.sal_turn.specs.Seats.{Place, TableId}
 use Rattle.sal_turn.specs.Views.{newcomer}
 use Rattle.sal_broker.specs.Seats.{SeatView}
 use Rattle.sal_script.specs.declared.reply.StepReply.{StepReply}
 use Rattle.sal_script.specs.declared.script.ScriptStep.{ScriptStep}
+use Rattle.sal_script.specs.Tables.{Versions}
 use Rattle.sal_client.specs.declared.wish.RunFault.{RunFault}
 use Rattle.sal_run.specs.declared.clients.Finished.{Finished}
 use Rattle.sal_run.specs.Joined.{Collects, Joins, upto}
@@ -24,7 +24,7 @@ pub record IsOpening (turn : TableId) (p : Place Entry (List Domain)) : Type 0 w
   pub joined : p.view.joined ≡ []
 
 -- Each client of the programs went through its own at a seat off the opening one, that knew v, and was taken in again at this seat.
-pub record AreRan (tables : List SchemaTable) (lock : TableId) (programs : List (List ScriptStep)) (v : SeatView) (place : Place Entry (List Domain)) (replies : Result (List (List StepReply)) RunFault) : Type 0 where
+pub record AreRan (tables : List Versions) (lock : TableId) (programs : List (List ScriptStep)) (v : SeatView) (place : Place Entry (List Domain)) (replies : Result (List (List StepReply)) RunFault) : Type 0 where
   pub clients : List Finished
   pub long : length clients ≡ length programs
   pub each : (i : ℕ) (f : Finished) → slice_get clients i ≡ Some f → Worked tables lock programs (record { lock = lock; view = newcomer i v }) f

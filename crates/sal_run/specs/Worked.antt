@@ -2,7 +2,6 @@
 use Rattle.std.specs.Prelude.{◌≡◌, ◌<◌, ◌≤◌, [], List, Err, Some, length, slice_get, OnOk}
 use Rattle.sal_history.specs.declared.call.Entry.{Entry}
 use Rattle.sal_history.specs.World.{Domain}
-use Rattle.sal_schema.specs.declared.table.SchemaTable.{SchemaTable}
 use Rattle.sal_turn.specs.Entries.{entries_by}
 use Rattle.sal_turn.specs.Seats.{Place, TableId}
 use Rattle.sal_broker.specs.Seats.{client_of as maker_of, known}
@@ -10,7 +9,8 @@ use Rattle.sal_broker.specs.Turns.{Keeps}
 use Rattle.sal_hub.specs.Answers.{limit}
 use Rattle.sal_hub.specs.HubHistory.{HubHistory}
 use Rattle.sal_script.specs.declared.script.ScriptStep.{ScriptStep}
-use Rattle.sal_script.specs.Play.{new_client, tables_of}
+use Rattle.sal_script.specs.Play.{new_client}
+use Rattle.sal_script.specs.Tables.{Versions, versions_of}
 use Rattle.sal_client.specs.declared.wish.RunFault.TheVariants.{HistoryFull}
 use Rattle.sal_client.specs.Clients.{IsSound, client_of}
 use Rattle.sal_run.specs.declared.clients.SeatedRun.{SeatedRun}
@@ -18,21 +18,21 @@ use Rattle.sal_run.specs.declared.clients.Finished.{Finished}
 use Rattle.sal_run.specs.Stands.{HasEnded}
 
 -- The client is at the beginning of the program of its number, and its seat, of that number too, has no entries.
-pub record IsNew (tables : List SchemaTable) (turn : TableId) (programs : List (List ScriptStep)) (s : SeatedRun) : Type 0 where
+pub record IsNew (tables : List Versions) (turn : TableId) (programs : List (List ScriptStep)) (s : SeatedRun) : Type 0 where
   pub lock : s.seat.lock ≡ turn
   pub number : s.run.client.number ≡ s.seat.view.number
   pub has : s.run.client.number < length programs
   pub at : s.run.at ≡ 0
   pub client : client_of s.run.client ≡ new_client
   pub sound : (log : HubHistory) → IsSound log s.run.client
-  pub reads : tables ≡ tables_of (known s.seat.view).world
+  pub reads : tables ≡ versions_of (known s.seat.view).world
   pub own : s.seat.view.own ≡ []
   pub none : entries_by maker_of s.seat.view.number s.seat.view.seen ≡ []
 
 -- What became of the client of a seat: its entries are at most as many as its steps. Where it came to its end, they are its calls, each
 -- once and in its order, along the log that the seat has seen, and it has its replies. It was stopped by a full history only where the
 -- seat has seen one.
-pub record Worked (tables : List SchemaTable) (lock : TableId) (programs : List (List ScriptStep)) (before : Place Entry (List Domain)) (f : Finished) : Type 0 where
+pub record Worked (tables : List Versions) (lock : TableId) (programs : List (List ScriptStep)) (before : Place Entry (List Domain)) (f : Finished) : Type 0 where
   pub keeps : Keeps lock before f.seat
   pub few : (steps : List ScriptStep) → slice_get programs before.view.number ≡ Some steps → length f.seat.view.own ≤ length steps
   pub ended : OnOk f.end ((steps : List ScriptStep) → slice_get programs before.view.number ≡ Some steps → HasEnded tables steps f.seat.view f.run)

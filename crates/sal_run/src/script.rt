@@ -5,7 +5,7 @@ ghost use Rattle.sal_script.specs.Along.{AreLeft};
 ghost use Rattle.sal_script.specs.JsonMoves.{have_json_moves};
 ghost use Rattle.sal_script.specs.Limits.{within_limits};
 ghost use Rattle.sal_script.specs.Moves.{clients_of};
-ghost use Rattle.sal_script.specs.Play.{tables_of};
+ghost use Rattle.sal_script.specs.Tables.{versions_of};
 ghost use Rattle.sal_run.specs.Ran.{AreRan, IsOpening};
 
 use crate::clients::{Hall, run_clients};
@@ -31,7 +31,7 @@ fn run_all<R: Threads + Wait + Sync, G: Gate>(
     requires limits { IsTrue (within_limits programs.now) }
     requires json { IsTrue (have_json_moves (clients_of programs.now)) }
     requires opening { IsOpening hall.now.sal.now opening }
-    requires reads { hall.now.readers.now ≡ tables_of (known opening.view).world }
+    requires reads { hall.now.readers.now ≡ versions_of (known opening.view).world }
     ensures { IfOk result (λ r. AreRan hall.now.readers.now hall.now.sal.now programs.now opening.view r.0 r.1) }
 {
     let runs = seat_all(alloc, hall.sal, &mut opening, programs.len() as u32)?;
@@ -51,7 +51,7 @@ pub fn run<R: Threads + Wait + Sync, G: Gate>(
     hub: Hub,
     gate: &G,
 ) -> Result<Played, NoMemory>
-    requires tables { readers.now ≡ tables_of hub.world }
+    requires tables { readers.now ≡ versions_of hub.world }
     requires fresh { hub.log ≡ [] }
     ensures left { IfOk result (λ p. AreLeft hub.world (clients_of script.now.clients) p.hub.log p.replies) }
     ensures world { IfOk result (λ p. p.hub.world ≡ hub.world) }

@@ -7,3 +7,7 @@ pub mod Below
 pub mod ExampleTables
 pub mod ShownTables
 pub mod Childless
+pub mod Sameness
+pub mod Fronts
+pub mod Stays
+pub mod Grown

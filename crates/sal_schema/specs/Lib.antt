@@ -9,3 +9,6 @@ pub mod Table
 pub mod Text
 pub mod Valid
 pub mod Values
+pub mod Versions
+pub mod Outlines
+pub mod Same

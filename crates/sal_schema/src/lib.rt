@@ -6,17 +6,20 @@
 //! | `SchemaTable`, `NodeInfo`, `IdentityInfo` | the table as data: nodes, types, modules and identities by their numbers |
 //! | `Kind` | what a node is: a container, a list, a leaf-list, a leaf, a choice, a case, or a part of an RPC or notification |
 //! | `Leafs` | a list of numbers |
+//! | `table_on` | the table of a later version: an older table, extended by the new lines of another one |
 //! | `empty_lists`, `add_to_list` | lists of numbers, one for each place |
+//! | `laws` | what holds of versions, as laws |
 //!
 //! `specs/` has what a table says of a node (`Table`) and of a name (`Names`), which tables are tables of a schema
-//! (`Valid`), which values are of a type (`Values`), which paths and rows fit (`Paths`, `Fitting`), and the table's text
-//! (`Text`). Each look-up answers what these definitions give; `Schema::len` tells that the table is one of a schema.
+//! (`Valid`), which values are of a type (`Values`), which paths and rows fit (`Paths`, `Fitting`), the table's text
+//! (`Text`), and which table is a later version of another (`Versions`). Each look-up answers what these definitions give; `Schema::len` tells that the table is one of a schema.
 //!
 //! ```
 //! let schema = Schema::from_table(alloc, table)?;
 //! let network = schema.child(None, "topo", "network");
 //! let fits = schema.fits(&path);
 //! let text = schema.text(alloc)?;
+//! let later = newer.extends(&schema);     // all numbers of `schema` mean the same in `newer`
 //! ```
 //!
 //! | call | cost, for n nodes |
@@ -26,8 +29,9 @@
 //! | `child`, `rpc`, `notification`, `identity` | a search by halves among the modules, and one among the names of its kind |
 //! | `is_derived`, `fits` | linear in the identities that the identity is derived from; in the steps and their values |
 //! | `text` | linear in the text |
+//! | `extends`, `table_on` | linear in the older table; in both tables |
 //!
-//! Only `from_table` and `text` take memory. No call goes deeper than the types of a union.
+//! Only `from_table`, `text` and `table_on` take memory. No call goes deeper than the types of a union.
 #![tactic(auto)]
 
 mod ends;
@@ -35,6 +39,7 @@ mod examples;
 mod fitting;
 mod indexes;
 mod kind;
+pub mod laws;
 mod lists;
 mod names;
 mod parts;
@@ -42,8 +47,10 @@ mod schema;
 mod table;
 mod text;
 mod values;
+mod versions;
 
 pub use kind::Kind;
 pub use lists::{add_to_list, empty_lists};
 pub use schema::Schema;
 pub use table::{IdentityInfo, Leafs, NodeInfo, SchemaTable};
+pub use versions::table_on;

@@ -58,6 +58,14 @@ impl Schema {
         Ok(joined(table, beside))
     }
 
+    /// The table.
+    pub fn table(&self) -> &SchemaTable
+        ensures table { result.now ≡ self.now }
+        ensures good { IsTable self.now }
+    {
+        &self.table
+    }
+
     /// How many nodes it has. Their numbers are those below.
     pub fn len(&self) -> u32
         ensures count { result ≡ length self.now.nodes }

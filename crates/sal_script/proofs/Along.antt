@@ -8,13 +8,14 @@ use Rattle.std.proofs.lemmas.List.Sums.{fold-append, length-filter, sum_by-appen
 use mathlib.Core.List.{IsPrefix}
 use Rattle.sal_history.specs.declared.call.Call.{Call}
 use Rattle.sal_history.specs.declared.call.Entry.{Entry}
+use Rattle.sal_history.specs.Versions.{schema_version}
 use Rattle.sal_history.specs.World.{Domain}
-use Rattle.sal_history.specs.History.{entries_of, reply}
-use Rattle.sal_schema.specs.declared.table.SchemaTable.{SchemaTable}
+use Rattle.sal_history.specs.History.{entries_of, reply, history}
 use Rattle.sal_script.specs.declared.reply.StepReply.{StepReply}
 use Rattle.sal_script.specs.declared.reply.StepReply.TheVariants.{Called}
 use Rattle.sal_script.specs.Moves.{Move}
-use Rattle.sal_script.specs.Play.{Arrival, Client, Listener, Made, Meeting, Open, Run, arrive, arrive_by, calls, ended, go, keep, local, make, meet, replied, replies_at, shared}
+use Rattle.sal_script.specs.Play.{spot_after, Arrival, Client, Listener, Made, Meeting, Open, Run, arrive, arrive_by, calls, ended, go, keep, local, make, meet, replied, replies_at, shared}
+use Rattle.sal_script.specs.Tables.{Versions}
 use Rattle.sal_script.specs.Along.{Finishes, IsAt, Left, along, finish, new_run, pass}
 use Rattle.sal_script.proofs.Later.{BegunIf, began_longer, keep_begun, meet_begun, meet_later}
 use Rattle.sal_script.proofs.Listening.{keep_listens, listens_longer, listens_same}
@@ -22,7 +23,7 @@ use Rattle.sal_script.proofs.Listening.{keep_listens, listens_longer, listens_sa
 abbrev pub made_of : List Entry → Run → Made
 made_of log run = record { log = log; run = run }
 
-module _ (tables : List SchemaTable) (world : List Domain) (c : ℕ) where
+module _ (tables : List Versions) (world : List Domain) (c : ℕ) where
   -- from some place on
   abbrev pub along_from : Option Made → List Entry → Option Made
   along_from so_far log = fold (λ made e. option_and_then (λ m. pass tables world c m e) made) so_far log
@@ -49,7 +50,7 @@ module _ (tables : List SchemaTable) (world : List Domain) (c : ℕ) where
 
   -- and what it leaves with the client
   abbrev pub after_call : List Entry → Client → Move → Call → Client
-  after_call log client step call = replied (Called (reply world log (entry_at log call))) (keep (length log) step (reply world log (entry_at log call)) client)
+  after_call log client step call = replied (Called (reply world log (entry_at log call))) (keep (spot_after world log) step (reply world log (entry_at log call)) client)
 
   module _ (steps : List Move) where
     -- before its first step
@@ -123,7 +124,7 @@ module _ (tables : List SchemaTable) (world : List Domain) (c : ℕ) where
           ∙ pass_own (made_of log was.called) (entry_at log call) refl
           ∙ ap (make tables world log c) (here ∙ step_on log client step rest (shared call) met);
       answered = λ more. refl;
-      began = keep_begun log (entry_at log call) step (reply world log (entry_at log call)) client was.began;
+      began = keep_begun log (entry_at log call) (schema_version (history world log)) step (reply world log (entry_at log call)) client was.began;
       listens = keep_listens world c log (entries_of log c) client was.listens tables step call met;
     }
       where

@@ -13,6 +13,7 @@ use Rattle.sal_rows.specs.declared.op.Act.{Act}
 use Rattle.sal_rows.specs.declared.outcome.Mode.{Mode}
 use Rattle.sal_rows.specs.declared.outcome.Mode.TheVariants.{Ro, Wo, Rw}
 use Rattle.sal_history.specs.declared.call.Call.{Call}
+use Rattle.sal_history.specs.declared.call.Call.TheVariants as called
 use Rattle.sal_history.specs.declared.call.Entry.{Entry}
 use Rattle.sal_history.specs.declared.reply.Reply.{Reply}
 use Rattle.sal_history.specs.declared.reply.Reply.TheVariants.{Begun, Chain, Accepted as Done, Receipt, Listener as Listening, Batch, CallMade, Request}
@@ -26,9 +27,10 @@ use Rattle.sal_rules.specs.declared.fault.TxFault.{TxFault}
 use Rattle.sal_rules.specs.Refusals.{refusal}
 use Rattle.sal_script.specs.declared.reply.StepReply.{StepReply}
 use Rattle.sal_script.specs.declared.reply.StepReply.TheVariants.{Called}
-use Rattle.sal_script.specs.declared.reply.StepRefusal.TheVariants.{NoDevice}
-use Rattle.sal_script.specs.Moves.{Move, Begin, Put, Merge, Delete, Read, Exists, Submit, Cancel, Settle, OpenChain, ChainBegin, CloseChain, Pump, Listen, Take, Unlisten, Mirror, Provide, Withdraw, Invoke, NextCall, Answer, Collect, Subscribe, Offer, TakeNotes, Mount, Unmount, MountAt, Mark, After}
-use Rattle.sal_script.specs.Play.{Arrival, Client, DataAct, Listener, Made, Meeting, Open, Opened, Run, accept_unless, act_of, arrive, ask, arrive_by, calls, chain_begin, close_chain, deleting, ended, found, has_domain, keep, listen, listen_at, local, look, look_at, look_in, make, meet, merging, mirror, op_of, putting, refused, replied, rows_read, seen_by, settle, shared, submit, submit_in, table_for, table_in, take_batch, cancel, unlisten, write, write_act, write_at, write_in, write_with}
+use Rattle.sal_script.specs.declared.reply.StepRefusal.TheVariants.{NoDevice, NoUpgrade}
+use Rattle.sal_script.specs.Moves.{Move, Begin, Put, Merge, Delete, Read, Exists, Submit, Cancel, Settle, OpenChain, ChainBegin, CloseChain, Pump, Listen, Take, Unlisten, Mirror, Provide, Withdraw, Invoke, NextCall, Answer, Collect, Subscribe, Offer, TakeNotes, Mount, Unmount, MountAt, Mark, After, Upgrade}
+use Rattle.sal_script.specs.Play.{Arrival, Spot, spot_after, upgrade, Client, DataAct, Listener, Made, Meeting, Open, Opened, Run, accept_unless, act_of, arrive, ask, arrive_by, calls, chain_begin, close_chain, deleting, ended, found, keep, listen, listen_at, local, look, look_at, look_in, make, meet, merging, mirror, op_of, putting, refused, replied, rows_read, seen_by, settle, shared, submit, submit_in, table_for, take_batch, cancel, unlisten, write, write_act, write_at, write_in, write_with}
+use Rattle.sal_script.specs.Tables.{Versions, has_domain, has_upgrade, last_in}
 use Rattle.sal_script.specs.Messages.{input_of, note_called, output_of, rpc_called}
 use Rattle.sal_script.specs.Services.{Invocation, OrRefusal, answer, collect, context_of, if_known, in_slot, invoke, mount, mount_at, offer, path_of, provide, rows_of, subscribe, withdraw}
 use Rattle.sal_script.specs.Orders.{Exchange, Kind, answers, asks_mount, collects, exchange_at, exchange_by, exchanges_in, exchanges_of, invokes, kind_of_call, kind_of_step, mounts, offers, provides, subscribes, withdraws}
@@ -104,12 +106,16 @@ listen_at_met : (slot domain : ℕ) (store : Store) (text : List ℕ) (client : 
 listen_at_met slot domain store text client (Err fault) = (refl, refl)
 listen_at_met slot domain store text client (Ok path) = refl
 
-listen_met : (tables : List SchemaTable) (slot domain : ℕ) (store : Store) (text : List ℕ) (client : Client) (path : Result (List Step) PathTextFault) → Met (Listen slot domain store text) client (listen tables domain store path client)
+listen_met : (tables : List Versions) (slot domain : ℕ) (store : Store) (text : List ℕ) (client : Client) (path : Result (List Step) PathTextFault) → Met (Listen slot domain store text) client (listen tables domain store path client)
 listen_met tables slot domain store text client path =
     elim (has_domain tables domain) as (λ has. Met (Listen slot domain store text) client (if has then listen_at domain store path client else refused NoDevice client)) [
       | true ↦ listen_at_met slot domain store text client path
       | false ↦ (refl, refl)
     ]
+
+upgrade_met : (tables : List Versions) (version : ℕ) (client : Client) → Met (Upgrade version) client (upgrade tables version client)
+upgrade_met tables version client =
+    elim (has_upgrade tables version) as (λ has. Met (Upgrade version) client (if has then shared (called.Upgrade version) else refused NoUpgrade client)) [ true ↦ refl | false ↦ (refl, refl) ]
 
 take_met : (slot : ℕ) (client : Client) (listener : Option Listener) → Met (Take slot) client (take_batch client listener)
 take_met slot client None = (refl, refl)
@@ -172,10 +178,10 @@ collect_kind id = all_then collects (in_slot id) _ (λ n. refl)
 
 -- ---- any step
 
-module _ (tables : List SchemaTable) (world : List Domain) (log : List Entry) where
+module _ (tables : List Versions) (world : List Domain) (log : List Entry) where
   -- by the schema of domain 0
-  asked_own : (client : Client) (step : Move) (kind : Kind) (f : SchemaTable → OrRefusal Call) → kind_of_step step ≡ Some kind → ((table : SchemaTable) → AllOf kind (f table)) → Met step client (ask (f (table_in tables 0)) client)
-  asked_own client step kind f is all = asked_met step kind client (f (table_in tables 0)) is (all (table_in tables 0))
+  asked_own : (client : Client) (step : Move) (kind : Kind) (f : SchemaTable → OrRefusal Call) → kind_of_step step ≡ Some kind → ((table : SchemaTable) → AllOf kind (f table)) → Met step client (ask (f (last_in tables 0)) client)
+  asked_own client step kind f is all = asked_met step kind client (f (last_in tables 0)) is (all (last_in tables 0))
 
   -- by the schema of the transaction's domain
   write_in_met : (client : Client) (step : Move) (slot : ℕ) (store : Store) (path : List ℕ) (data_act : DataAct) → Met step client (write_with tables world log slot store path data_act client (client.transactions slot))
@@ -195,7 +201,7 @@ module _ (tables : List SchemaTable) (world : List Domain) (log : List Entry) wh
   met client (ChainBegin chain slot mode) = chain_begin_met slot mode client chain (client.chains chain)
   met client (CloseChain chain) = close_chain_met client chain (client.chains chain)
   met client Pump = refl
-  met client (Listen slot domain store path) = listen_met tables slot domain store path client (read_path (table_in tables domain) path)
+  met client (Listen slot domain store path) = listen_met tables slot domain store path client (read_path (last_in tables domain) path)
   met client (Take slot) = take_met slot client (client.listeners slot)
   met client (Unlisten slot) = unlisten_met slot client (client.listeners slot)
   met client (Mirror slot) = mirror_met world log slot client (client.listeners slot)
@@ -213,6 +219,7 @@ module _ (tables : List SchemaTable) (world : List Domain) (log : List Entry) wh
   met client (MountAt path) = asked_own client (MountAt path) asks_mount (λ table. mount_at table path) refl (λ table. mount_at_kind table path)
   met client (Mark mark) = refl
   met client (After mark) = refl
+  met client (Upgrade version) = upgrade_met tables version client
 
 -- ---- the way to the next call
 
@@ -230,7 +237,7 @@ Reaches steps es (ended client) = (length client.replies ≡ length steps) × (e
 Reaches steps es (calls call step run) =
     (done : List Move) × (steps ≡ done ++ step ∷ run.steps) × (length run.client.replies ≡ length done) × (exchanges_of done run.client.replies ≡ es) × (kind_of_step step ≡ Some (kind_of_call call))
 
-module _ (tables : List SchemaTable) (world : List Domain) (log : List Entry) where
+module _ (tables : List Versions) (world : List Domain) (log : List Entry) where
   reaches_by : (m : Meeting) (step : Move) (rest done : List Move) (client : Client) (es : List Exchange) → Met step client m → length client.replies ≡ length done → exchanges_of done client.replies ≡ es
       → ((next : Client) → length next.replies ≡ length (done ++ step ∷ []) → exchanges_of (done ++ step ∷ []) next.replies ≡ es → Reaches (done ++ step ∷ rest) es (arrive tables world log next rest))
       → Reaches (done ++ step ∷ rest) es (arrive_by (λ next. arrive tables world log next rest) (λ call. calls call step (record { client = client; steps = rest })) m)
@@ -251,17 +258,17 @@ module _ (tables : List SchemaTable) (world : List Domain) (log : List Entry) wh
 
 -- ---- the call
 
-keep_replies : (place : ℕ) (step : Move) (r : Reply) (client : Client) → (keep place step r client).replies ≡ client.replies
-keep_replies place (Begin slot domain mode) (Begun commit on) client = refl
-keep_replies place (ChainBegin chain slot mode) (Begun commit on) client = refl
-keep_replies place (OpenChain chain domain) (Chain id) client = refl
-keep_replies place (Listen slot domain store path) (Listening id at p opened) client = refl
-keep_replies place (Take slot) (Batch domain batch) client = refl
-keep_replies place (Submit slot) (Receipt number) client = refl
-keep_replies place (Cancel slot) Done client = refl
-keep_replies place (Invoke slot name context value) (CallMade id) client = refl
-keep_replies place (NextCall slot) (Request request) client = refl
-keep_replies place step r client = refl
+keep_replies : (spot : Spot) (step : Move) (r : Reply) (client : Client) → (keep spot step r client).replies ≡ client.replies
+keep_replies spot (Begin slot domain mode) (Begun commit on) client = refl
+keep_replies spot (ChainBegin chain slot mode) (Begun commit on) client = refl
+keep_replies spot (OpenChain chain domain) (Chain id) client = refl
+keep_replies spot (Listen slot domain store path) (Listening id at p opened) client = refl
+keep_replies spot (Take slot) (Batch domain batch) client = refl
+keep_replies spot (Submit slot) (Receipt number) client = refl
+keep_replies spot (Cancel slot) Done client = refl
+keep_replies spot (Invoke slot name context value) (CallMade id) client = refl
+keep_replies spot (NextCall slot) (Request request) client = refl
+keep_replies spot step r client = refl
 
 module _ (world : List Domain) (log : List Entry) (e : Entry) where
   abbrev now : Answered
@@ -304,13 +311,13 @@ abbrev pub MakesIf : List Domain → List Entry → ℕ → List Move → Option
 MakesIf world log c steps None = ⊤
 MakesIf world log c steps (Some made) = Makes world log c steps made
 
-pub makes : (tables : List SchemaTable) (world : List Domain) (log : List Entry) (c : ℕ) (steps : List Move) (a : Arrival) → Reaches steps (exchanges_in world log c) a → MakesIf world log c steps (make tables world log c a)
+pub makes : (tables : List Versions) (world : List Domain) (log : List Entry) (c : ℕ) (steps : List Move) (a : Arrival) → Reaches steps (exchanges_in world log c) a → MakesIf world log c steps (make tables world log c a)
 makes tables world log c steps (ended client) reached = tt
 makes tables world log c steps (calls call step run) (done, parts, long, so_far, kind) =
     let e : Entry = record { client = c; number = entries_of log c; call = call } in
     let r : Reply = reply world log e in
-    let kept : List StepReply = (keep (length log) step r run.client).replies in
-    let same : length kept ≡ length run.client.replies = ap length (keep_replies (length log) step r run.client) in
+    let kept : List StepReply = (keep (spot_after world log) step r run.client).replies in
+    let same : length kept ≡ length run.client.replies = ap length (keep_replies (spot_after world log) step r run.client) in
     record {
       entry = e;
       grown = refl;
@@ -321,7 +328,7 @@ makes tables world log c steps (calls call step run) (done, parts, long, so_far,
         parts = parts ∙ sym (append_assoc done (step ∷ []) run.steps);
         long = omega (arith, length-append kept (Called r ∷ []), length-append done (step ∷ []), same, long);
         so_far =
-            ap (λ (rs : List StepReply). exchanges_of (done ++ step ∷ []) (rs ++ Called r ∷ [])) (keep_replies (length log) step r run.client) ∙ exchanges-push done run.client.replies step (Called r) long
+            ap (λ (rs : List StepReply). exchanges_of (done ++ step ∷ []) (rs ++ Called r ∷ [])) (keep_replies (spot_after world log) step r run.client) ∙ exchanges-push done run.client.replies step (Called r) long
             ∙ (λ k. so_far k ++ (let x : Exchange = record { kind = kind k; reply = r } in x) ∷ []) ∙ sym (exchanges-own world log e c refl);
       };
     }

@@ -8,11 +8,11 @@ use Rattle.std.proofs.lemmas.Option.{same_Some, slice_get_within}
 use Rattle.sal_history.specs.declared.call.Entry.{Entry}
 use Rattle.sal_history.specs.World.{Domain}
 use Rattle.sal_history.specs.History.{entries_of}
-use Rattle.sal_schema.specs.declared.table.SchemaTable.{SchemaTable}
 use Rattle.sal_script.specs.declared.reply.StepReply.{StepReply}
 use Rattle.sal_script.specs.Limits.{within_limits}
 use Rattle.sal_script.specs.Moves.{Move}
-use Rattle.sal_script.specs.Play.{Arrival, Client, Made, Meeting, Run, arrive, arrive_by, calls, ended, go, local, make, meet, replied, shared, tables_of}
+use Rattle.sal_script.specs.Play.{Arrival, Client, Made, Meeting, Run, arrive, arrive_by, calls, ended, go, local, make, meet, replied, shared}
+use Rattle.sal_script.specs.Tables.{Versions, versions_of}
 use Rattle.sal_script.specs.Along.{Finishes, IsAt, along, new_run}
 use Rattle.sal_script.specs.OneOrder.{LeftIsShort}
 use Rattle.sal_script.proofs.Along.{along_from, made_of}
@@ -37,7 +37,7 @@ counted own = if own then 1 else 0
 count_more : (c : ℕ) (e : Entry) (log : List Entry) → entries_of (e ∷ log) c ≡ counted (nat_eq e.client c) + entries_of log c
 count_more c e log = sum_by-cons (λ (x : Entry). if nat_eq x.client c then 1 else 0) e log
 
-module _ (tables : List SchemaTable) (world : List Domain) (c : ℕ) where
+module _ (tables : List Versions) (world : List Domain) (c : ℕ) where
   shorter_by : (log : List Entry) (step : Move) (client : Client) (rest : List Move) (m : Meeting) → ((next : Client) → Shorter (length rest) (arrive tables world log next rest))
       → Shorter (suc (length rest)) (arrive_by (λ next. arrive tables world log next rest) (λ call. calls call step (record { client = client; steps = rest })) m)
   shorter_by log step client rest (local r next) more = shorter_than (length rest) (suc (length rest)) (arrive tables world log (replied r next) rest) (omega arith) (more (replied r next))
@@ -151,4 +151,4 @@ log_is_short clients log within known few =
 pub what_is_left_is_short : LeftIsShort
 what_is_left_is_short world clients log replies left within =
     log_is_short clients log within left.known
-    (λ c steps at. let own = get_some replies c (omega (arith, left.all, slice_get_within clients c steps at)) in few_finish (tables_of world) world c steps log own.0 (left.each c steps own.0 at own.1))
+    (λ c steps at. let own = get_some replies c (omega (arith, left.all, slice_get_within clients c steps at)) in few_finish (versions_of world) world c steps log own.0 (left.each c steps own.0 at own.1))

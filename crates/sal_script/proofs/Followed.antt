@@ -23,12 +23,12 @@ use Rattle.sal_rows.proofs.Applied.{IsAscending-apply_ops}
 use Rattle.sal_rows.proofs.Patched.{parts-append, with-after}
 use Rattle.sal_schema.specs.Fitting.{has_own_row}
 use Rattle.sal_history.specs.declared.call.Call.{Call}
-use Rattle.sal_history.specs.declared.call.Call.TheVariants.{Begin, OpenChain, ChainBegin, CloseChain, Submit, Cancel, Settle, Pump, Listen, Take, Unlisten, Provide, Withdraw, Invoke, NextCall, Answer, Collect, Subscribe, Offer, TakeNotes, Mount, Unmount, MountAt, Mark, After}
+use Rattle.sal_history.specs.declared.call.Call.TheVariants.{Begin, OpenChain, ChainBegin, CloseChain, Submit, Cancel, Settle, Pump, Listen, Take, Unlisten, Provide, Withdraw, Invoke, NextCall, Answer, Collect, Subscribe, Offer, TakeNotes, Mount, Unmount, MountAt, Mark, After, Upgrade}
 use Rattle.sal_history.specs.declared.call.Entry.{Entry}
 use Rattle.sal_history.specs.declared.reply.Reply.{Reply}
 use Rattle.sal_history.specs.declared.reply.Reply.TheVariants.{Refused}
 use Rattle.sal_history.specs.Listeners.{Listening, brings_to, has_listener, listener_at, listeners, listens, version}
-use Rattle.sal_history.specs.World.{Domain, opening_of, table_of}
+use Rattle.sal_history.specs.World.{Domain, opening_of, last_of}
 use Rattle.sal_history.specs.History.{Answered, answer, answered_as, batch_of, commits, history, listen_refusal, listening, refused_or, reply_to, taken, trees_at}
 use Rattle.sal_script.specs.Followed.{AreTrees, IsFollowed, followed, follows, opened_at, opens_at, parts_of, tells, told}
 use Rattle.sal_script.proofs.Growing.{Few, commits_left, few_next, trees_left}
@@ -157,7 +157,7 @@ module _ (world : List Domain) (answered : List Answered) (trees : AreTrees worl
 
     moved : Next world answered id l (batch_of_it true id l)
     moved =
-        let own : Bool = has_own_row (table_of world l.domain) l.path in
+        let own : Bool = has_own_row (last_of world l.domain) l.path in
         let at : ℕ → List Row = trees_at world answered l.domain l.store in
         let from : ℕ = version answered id in
         let to : ℕ = length (commits answered l.domain) in
@@ -223,6 +223,7 @@ module _ (world : List Domain) (answered : List Answered) (trees : AreTrees worl
     next_by (MountAt path) at = stays l (was (no_more l at))
     next_by (Mark mark) at = stays l (was (no_more l at))
     next_by (After mark) at = stays l (was (no_more l at))
+    next_by (Upgrade version) at = stays l (was (no_more l at))
 
 -- ---- any log
 
@@ -254,7 +255,7 @@ module _ (world : List Domain) (trees : AreTrees world) where
         parts =
             told_now
             ∙ next.parts
-            ∙ parts_same (has_own_row (table_of world l.domain) l.path) (trees_at world answered l.domain l.store) (trees_at world (answered ++ now ∷ []) l.domain l.store) l.path (to - from) from (length (commits answered l.domain)) within stay
+            ∙ parts_same (has_own_row (last_of world l.domain) l.path) (trees_at world answered l.domain l.store) (trees_at world (answered ++ now ∷ []) l.domain l.store) l.path (to - from) from (length (commits answered l.domain)) within stay
             ∙ (λ i. parts_of world (answered ++ now ∷ []) l (sym begun i) (sym brought i - sym begun i));
         rows = given ∙ next.rows ∙ ap (λ (rows : List Row). under rows l.path) (stay to next.reached) ∙ ap (λ k. under (trees_at world (answered ++ now ∷ []) l.domain l.store k) l.path) (sym brought);
       }

@@ -12,10 +12,12 @@ use Rattle.sal_rows.specs.declared.op.Op.{Op}
 use Rattle.sal_rows.specs.declared.outcome.Outcome.{Outcome}
 use Rattle.sal_rows.specs.Commits.{tree_after}
 use Rattle.sal_history.specs.declared.call.Call.{Call}
-use Rattle.sal_history.specs.declared.call.Call.TheVariants.{Begin, OpenChain, ChainBegin, CloseChain, Submit, Cancel, Settle, Pump, Listen, Take, Unlisten, Provide, Withdraw, Invoke, NextCall, Answer, Collect, Subscribe, Offer, TakeNotes, Mount, Unmount, MountAt, Mark, After}
+use Rattle.sal_history.specs.declared.call.Call.TheVariants.{Begin, OpenChain, ChainBegin, CloseChain, Submit, Cancel, Settle, Pump, Listen, Take, Unlisten, Provide, Withdraw, Invoke, NextCall, Answer, Collect, Subscribe, Offer, TakeNotes, Mount, Unmount, MountAt, Mark, After, Upgrade}
 use Rattle.sal_history.specs.declared.call.Entry.{Entry}
 use Rattle.sal_history.specs.Listeners.{Listening, listener_at, listeners, listens}
 use Rattle.sal_history.specs.Submissions.{Sent, done, done_ops, if_done}
+use Rattle.sal_schema.specs.declared.table.SchemaTable.{SchemaTable}
+use Rattle.sal_history.specs.Versions.{tables_now}
 use Rattle.sal_history.specs.World.{Domain, opening_of}
 use Rattle.sal_history.specs.History.{Answered, answer, answered_as, commits, decide_front, decide_next, decided_by, history, is_live, outcome, outcomes, reply_to, sents, trees_at}
 
@@ -48,18 +50,18 @@ done_front domain [] new (o ∷ os) few = absurd (omega (arith, few))
 done_front domain (s ∷ ss) new [] few = refl
 done_front domain (s ∷ ss) new (o ∷ os) few = ap (λ (ds : List Sent). added domain s o ++ ds) (done_front domain ss new os (omega (arith, few)))
 
-module _ (world : List Domain) (live : ℕ → Bool) where
+module _ (world : List Domain) (tables : ℕ → SchemaTable) (live : ℕ → Bool) where
   -- no more receipts are decided than were given
-  decided_few : (ss : List Sent) (os : List Outcome) (n : ℕ) → length os ≤ length ss → length (os ++ decide_next world live ss os n) ≤ length ss
+  decided_few : (ss : List Sent) (os : List Outcome) (n : ℕ) → length os ≤ length ss → length (os ++ decide_next world tables live ss os n) ≤ length ss
   decided_few ss os zero few = subst (λ (ps : List Outcome). length ps ≤ length ss) (sym (append-nil os)) few
   decided_few ss os (suc n) few = front (slice_get ss (length os)) refl (λ qs le. decided_few ss qs n le)
     where
-      front : (s : Option Sent) → slice_get ss (length os) ≡ s → ((qs : List Outcome) → length qs ≤ length ss → length (qs ++ decide_next world live ss qs n) ≤ length ss)
-          → length (os ++ (decide_front world live ss os s ++ decide_next world live ss (os ++ decide_front world live ss os s) n)) ≤ length ss
-      front None at more = subst (λ (qs : List Outcome). length (os ++ decide_next world live ss qs n) ≤ length ss) (sym (append-nil os)) (more os few)
+      front : (s : Option Sent) → slice_get ss (length os) ≡ s → ((qs : List Outcome) → length qs ≤ length ss → length (qs ++ decide_next world tables live ss qs n) ≤ length ss)
+          → length (os ++ (decide_front world tables live ss os s ++ decide_next world tables live ss (os ++ decide_front world tables live ss os s) n)) ≤ length ss
+      front None at more = subst (λ (qs : List Outcome). length (os ++ decide_next world tables live ss qs n) ≤ length ss) (sym (append-nil os)) (more os few)
       front (Some s) at more =
-          let one : List Outcome = outcome world live ss os s ∷ [] in
-          subst (λ (qs : List Outcome). length qs ≤ length ss) (append_assoc os one (decide_next world live ss (os ++ one) n))
+          let one : List Outcome = outcome world tables live ss os s ∷ [] in
+          subst (λ (qs : List Outcome). length qs ≤ length ss) (append_assoc os one (decide_next world tables live ss (os ++ one) n))
           (more (os ++ one) (omega (arith, slice_get_within ss (length os) s at, length-append os one)))
 
 -- ---- entries
@@ -74,8 +76,8 @@ module _ (world : List Domain) where
   none_more answered few = subst (λ (ps : List Outcome). length ps ≤ length (sents answered)) (sym (append-nil (outcomes answered))) few
 
   decided_by_few : (answered : List Answered) (call : Call) → Few answered → length (outcomes answered ++ decided_by world answered call) ≤ length (sents answered)
-  decided_by_few answered (Settle receipt) few = decided_few world (is_live world answered) (sents answered) (outcomes answered) (receipt - length (outcomes answered)) few
-  decided_by_few answered Pump few = decided_few world (is_live world answered) (sents answered) (outcomes answered) 1 few
+  decided_by_few answered (Settle receipt) few = decided_few world (tables_now world answered) (is_live world answered) (sents answered) (outcomes answered) (receipt - length (outcomes answered)) few
+  decided_by_few answered Pump few = decided_few world (tables_now world answered) (is_live world answered) (sents answered) (outcomes answered) 1 few
   decided_by_few answered (Begin domain mode) few = none_more answered few
   decided_by_few answered (OpenChain domain) few = none_more answered few
   decided_by_few answered (ChainBegin chain mode) few = none_more answered few
@@ -99,6 +101,7 @@ module _ (world : List Domain) where
   decided_by_few answered (MountAt path) few = none_more answered few
   decided_by_few answered (Mark mark) few = none_more answered few
   decided_by_few answered (After mark) few = none_more answered few
+  decided_by_few answered (Upgrade version) few = none_more answered few
 
   pub few_next : (answered : List Answered) (e : Entry) → Few answered → Few (answer world answered e)
   few_next answered e few =

@@ -14,8 +14,8 @@ use Rattle.sal_script.specs.Json.{list_of, data_of}
 use Rattle.sal_script.specs.JsonMoves.{IsJsonMove, AreJsonMoves, HaveJsonMoves, is_json_move, have_json_moves}
 use Rattle.sal_script.specs.JsonScripts.{AreJsonDevices, IsJsonDevice, IsJsonScript}
 use Rattle.sal_script.specs.Laws.{ScriptsAreJson}
-use Rattle.sal_script.specs.Moves.{Move, Begin, Put, Merge, Delete, Read, Exists, Submit, Cancel, Settle, OpenChain, ChainBegin, CloseChain, Pump, Listen, Take, Unlisten, Mirror, Provide, Withdraw, Invoke, NextCall, Answer, Collect, Subscribe, Offer, TakeNotes, Mount, Unmount, MountAt, Mark, After}
-use Rattle.sal_script.specs.Script.{DeviceParts, or_bad, device_place, client_place, step_place, at_most, members_of, list_member, program_of, programs_from, steps_from, clients_from, numbers_of, texts_of, modules_member, opening_member, with_openings, device_in, device_names, device_of, placed, devices_from, devices_member, names, clients_member, own_of, parts_with, parts_of, script_of}
+use Rattle.sal_script.specs.Moves.{Move, Begin, Put, Merge, Delete, Read, Exists, Submit, Cancel, Settle, OpenChain, ChainBegin, CloseChain, Pump, Listen, Take, Unlisten, Mirror, Provide, Withdraw, Invoke, NextCall, Answer, Collect, Subscribe, Offer, TakeNotes, Mount, Unmount, MountAt, Mark, After, Upgrade}
+use Rattle.sal_script.specs.Script.{DeviceParts, OwnParts, or_bad, device_place, client_place, step_place, at_most, members_of, list_member, program_of, programs_from, steps_from, clients_from, numbers_of, texts_of, modules_member, opening_member, with_openings, device_in, device_names, device_of, placed, devices_from, devices_member, names, clients_member, upgrades_member, own_with, own_of, parts_with, parts_of, script_of}
 use Rattle.sal_script.specs.Steps.{step_of}
 use Rattle.sal_script.proofs.JsonSteps.{step_json}
 use Rattle.sal_script.proofs.JsonValues.{AllJson, AllPrograms, Any, If, at_most_json, data_json, get_json, if_any, if_then, list_by_json, list_json, members_json, opening_by_json, or_else_bad}
@@ -94,11 +94,20 @@ devices_member_json ms is =
 
 -- ---- the script
 
-own_json : (ms : Members) → HasJson ms → Given IsJsonDevice (own_of ms)
-own_json ms is =
-    given_then Any IsJsonDevice (or_bad (codes "modules") (modules_member ms)) (with_openings ms) (or_else_bad Any (codes "modules") (modules_member ms) (if_any (modules_member ms))) (λ texts x. openings_json ms is texts)
+-- the openings of domain 0
+abbrev IsJsonOwn : OwnParts → Type 0
+IsJsonOwn own = IsJsonDevice own.device
 
-parts_with_json : (ms : Members) → HasJson ms → (own : DeviceParts) → IsJsonDevice own → Given IsJsonScript (parts_with ms own)
+own_with_json : (ms : Members) → HasJson ms → (texts : List (List ℕ)) → Given IsJsonOwn (own_with ms texts)
+own_with_json ms is texts =
+    given_then Any IsJsonOwn (or_bad (codes "upgrades") (upgrades_member texts ms)) _ (or_else_bad Any (codes "upgrades") (upgrades_member texts ms) (if_any (upgrades_member texts ms))) (λ upgrades x.
+    given_then IsJsonDevice IsJsonOwn (with_openings ms texts) _ (openings_json ms is texts) (λ device is_device. is_device))
+
+own_json : (ms : Members) → HasJson ms → Given IsJsonOwn (own_of ms)
+own_json ms is =
+    given_then Any IsJsonOwn (or_bad (codes "modules") (modules_member ms)) (own_with ms) (or_else_bad Any (codes "modules") (modules_member ms) (if_any (modules_member ms))) (λ texts x. own_with_json ms is texts)
+
+parts_with_json : (ms : Members) → HasJson ms → (own : OwnParts) → IsJsonOwn own → Given IsJsonScript (parts_with ms own)
 parts_with_json ms is own is_own =
     given_then AreJsonDevices IsJsonScript (devices_member ms) _ (devices_member_json ms is) (λ devices are.
     given_then HaveJsonMoves IsJsonScript (clients_member ms) _ (clients_member_json ms is) (λ clients moves.
@@ -106,7 +115,7 @@ parts_with_json ms is own is_own =
     record { config = is_own.config; operational = is_own.operational; devices = are; clients = moves })))
 
 parts_json : (ms : Members) → HasJson ms → Given IsJsonScript (parts_of ms)
-parts_json ms is = given_then IsJsonDevice IsJsonScript (own_of ms) (parts_with ms) (own_json ms is) (parts_with_json ms is)
+parts_json ms is = given_then IsJsonOwn IsJsonScript (own_of ms) (parts_with ms) (own_json ms is) (parts_with_json ms is)
 
 script_json : (bytes : List ℕ) → Given IsJsonScript (script_of bytes)
 script_json bytes =
@@ -147,6 +156,7 @@ move_passes (Unmount domain) is = refl
 move_passes (MountAt path) is = refl
 move_passes (Mark mark) is = refl
 move_passes (After mark) is = refl
+move_passes (Upgrade version) is = refl
 
 moves_pass : (ms : List Move) → AreJsonMoves ms → list_all is_json_move ms ≡ true
 moves_pass [] are = refl

@@ -6,8 +6,8 @@ use Rattle.serde_json.specs.Find.{as_str}
 use Rattle.sal_value.specs.Json.{IsJson}
 use Rattle.sal_script.specs.Json.{text_eq, list_of}
 use Rattle.sal_script.specs.JsonMoves.{IsJsonMove}
-use Rattle.sal_script.specs.Moves.{Move, Begin, Put, Merge, Delete, Read, Exists, Submit, Cancel, Settle, OpenChain, ChainBegin, CloseChain, Listen, Take, Unlisten, Mirror, Provide, Withdraw, Invoke, NextCall, Answer, Collect, Subscribe, Offer, Mount, Unmount, MountAt, Mark, After}
-use Rattle.sal_script.specs.Steps.{slot_of, number_of, mode_of, store_of, begin_of, Naming, Writing, Registering, place_of, write_of, slot_step_of, open_chain_of, chain_begin_of, pump_of, number_step_of, chain_step_named, listen_of, listener_step_named, context_of, registration_of, invoke_of, answer_of, text_step_of, offer_of, take_notes_of, mount_of, note_step_named, service_step_named, step_named, step_from, step_of}
+use Rattle.sal_script.specs.Moves.{Move, Begin, Put, Merge, Delete, Read, Exists, Submit, Cancel, Settle, OpenChain, ChainBegin, CloseChain, Listen, Take, Unlisten, Mirror, Provide, Withdraw, Invoke, NextCall, Answer, Collect, Subscribe, Offer, Mount, Unmount, MountAt, Mark, After, Upgrade}
+use Rattle.sal_script.specs.Steps.{slot_of, number_of, mode_of, store_of, begin_of, Naming, Writing, Registering, place_of, write_of, slot_step_of, open_chain_of, chain_begin_of, pump_of, number_step_of, chain_step_named, listen_of, listener_step_named, context_of, registration_of, invoke_of, answer_of, text_step_of, offer_of, take_notes_of, mount_of, note_step_named, service_step_named, step_named, step_from, step_of, upgrade_of, version_of}
 use Rattle.sal_script.proofs.JsonValues.{AllJson, Any, If, if_any, if_either, if_map, if_then, list_json}
 
 begin_json : (ds : List Data) → If IsJsonMove (begin_of ds)
@@ -68,6 +68,11 @@ number_json step is [] = tt
 number_json step is (m ∷ []) = if_map IsJsonMove step (number_of m) is
 number_json step is (m ∷ n ∷ ds) = tt
 
+upgrade_json : (ds : List Data) → If IsJsonMove (upgrade_of ds)
+upgrade_json [] = tt
+upgrade_json (u ∷ []) = if_map IsJsonMove Upgrade (version_of u) (λ version. tt)
+upgrade_json (u ∷ d ∷ ds) = tt
+
 chain_named_json : (word : List ℕ) (ds : List Data) → If IsJsonMove (chain_step_named word ds)
 chain_named_json word ds =
     if_either IsJsonMove (text_eq word (codes "chain")) (open_chain_of ds) _ (open_chain_json ds)
@@ -75,7 +80,8 @@ chain_named_json word ds =
     (if_either IsJsonMove (text_eq word (codes "close-chain")) (slot_step_of CloseChain ds) _ (slot_json CloseChain (λ slot. tt) ds)
     (if_either IsJsonMove (text_eq word (codes "pump")) (pump_of ds) _ (pump_json ds)
     (if_either IsJsonMove (text_eq word (codes "mark")) (number_step_of Mark ds) _ (number_json Mark (λ mark. tt) ds)
-    (if_either IsJsonMove (text_eq word (codes "after")) (number_step_of After ds) None (number_json After (λ mark. tt) ds) tt)))))
+    (if_either IsJsonMove (text_eq word (codes "after")) (number_step_of After ds) _ (number_json After (λ mark. tt) ds)
+    (if_either IsJsonMove (text_eq word (codes "upgrade")) (upgrade_of ds) None (upgrade_json ds) tt))))))
 
 listen_json : (ds : List Data) → If IsJsonMove (listen_of ds)
 listen_json [] = tt

@@ -14,6 +14,7 @@ use Rattle.sal_rows.specs.declared.outcome.Mode.{Mode}
 use Rattle.sal_rows.specs.declared.outcome.Mode.TheVariants.{Ro, Wo, Rw}
 use Rattle.sal_rows.specs.Apply.{apply_ops}
 use Rattle.sal_history.specs.declared.call.Call.{Call}
+use Rattle.sal_history.specs.declared.call.Call.TheVariants as called
 use Rattle.sal_history.specs.declared.call.Entry.{Entry}
 use Rattle.sal_history.specs.declared.reply.Reply.{Reply}
 use Rattle.sal_history.specs.declared.reply.Reply.TheVariants.{Begun, Chain, Accepted as Done, Receipt, Listener as Listening, Batch, CallMade, Request}
@@ -28,9 +29,10 @@ use Rattle.sal_rules.specs.declared.fault.TxFault.{TxFault}
 use Rattle.sal_rules.specs.Refusals.{refusal}
 use Rattle.sal_script.specs.declared.reply.StepReply.{StepReply}
 use Rattle.sal_script.specs.declared.reply.StepReply.TheVariants.{Mirror as MirrorReply}
-use Rattle.sal_script.specs.declared.reply.StepRefusal.TheVariants.{NoDevice}
-use Rattle.sal_script.specs.Moves.{Move, Begin, Put, Merge, Delete, Read, Exists, Submit, Cancel, Settle, OpenChain, ChainBegin, CloseChain, Pump, Listen, Take, Unlisten, Mirror, Provide, Withdraw, Invoke, NextCall, Answer, Collect, Subscribe, Offer, TakeNotes, Mount, Unmount, MountAt, Mark, After}
-use Rattle.sal_script.specs.Play.{Client, DataAct, Listener, Meeting, Open, Opened, accept_unless, act_of, ask, cancel, chain_begin, close_chain, deleting, domain_in, found, has_domain, keep, listen, listen_at, local, look, look_at, look_in, look_with, meet, merging, mirror, op_of, putting, refused, rows_read, seen_by, set_slot, settle, shared, submit, submit_in, table_for, table_in, take_batch, unlisten, write, write_act, write_at, write_in, write_with}
+use Rattle.sal_script.specs.declared.reply.StepRefusal.TheVariants.{NoDevice, NoUpgrade}
+use Rattle.sal_script.specs.Moves.{Move, Begin, Put, Merge, Delete, Read, Exists, Submit, Cancel, Settle, OpenChain, ChainBegin, CloseChain, Pump, Listen, Take, Unlisten, Mirror, Provide, Withdraw, Invoke, NextCall, Answer, Collect, Subscribe, Offer, TakeNotes, Mount, Unmount, MountAt, Mark, After, Upgrade}
+use Rattle.sal_script.specs.Play.{upgrade, version_for, Client, DataAct, Listener, Meeting, Open, Opened, accept_unless, act_of, ask, cancel, chain_begin, close_chain, deleting, domain_in, found, keep, listen, listen_at, local, look, look_at, look_in, look_with, meet, merging, mirror, op_of, putting, refused, rows_read, seen_by, set_slot, settle, shared, submit, submit_in, table_for, take_batch, unlisten, write, write_act, write_at, write_in, write_with}
+use Rattle.sal_script.specs.Tables.{Versions, has_domain, has_upgrade, last_in}
 use Rattle.sal_script.specs.Services.{OrRefusal, answer, collect, invoke, mount, mount_at, offer, provide, subscribe, withdraw}
 use Rattle.sal_script.specs.Along.{BeganIn}
 use Rattle.sal_script.proofs.Growing.{trees_later}
@@ -101,7 +103,7 @@ module _ (table : SchemaTable) (world : List Domain) (log more : List Entry) whe
   write_later slot store text data_act client None h = refl
   write_later slot store text data_act client (Some tx) h = in_later tx.mode slot store text data_act tx client (h tx refl)
 
-module _ (tables : List SchemaTable) (world : List Domain) (log more : List Entry) where
+module _ (tables : List Versions) (world : List Domain) (log more : List Entry) where
   -- by the schema of the transaction's domain
   write_in_later : (client : Client) (slot : ℕ) (store : Store) (path : List ℕ) (data_act : DataAct) → BeganIn log client
       → write_with tables world (log ++ more) slot store path data_act client (client.transactions slot) ≡ write_with tables world log slot store path data_act client (client.transactions slot)
@@ -144,6 +146,7 @@ module _ (tables : List SchemaTable) (world : List Domain) (log more : List Entr
   meet_later client (MountAt path) was reached = refl
   meet_later client (Mark mark) was reached = refl
   meet_later client (After mark) was reached = refl
+  meet_later client (Upgrade version) was reached = refl
 
 -- ---- transactions began in the log
 
@@ -204,7 +207,7 @@ module _ (table : SchemaTable) (world : List Domain) (over log : List Entry) (cl
   look_begun f store text None = (was, refl)
   look_begun f store text (Some tx) = look_at_begun (λ path. f tx path (seen_by world over tx store)) tx.domain tx.mode (read_path table text)
 
-module _ (tables : List SchemaTable) (world : List Domain) (over log : List Entry) (client : Client) (was : BeganIn log client) where
+module _ (tables : List Versions) (world : List Domain) (over log : List Entry) (client : Client) (was : BeganIn log client) where
   submit_in_begun : (tx : Open) (mode : Mode) → BegunIf log client (submit_in tx mode client)
   submit_in_begun tx Ro = (was, refl)
   submit_in_begun tx Wo = tt
@@ -240,6 +243,9 @@ module _ (tables : List SchemaTable) (world : List Domain) (over log : List Entr
         | true ↦ listen_at_begun domain store path
         | false ↦ (was, refl)
       ]
+
+  upgrade_begun : (version : ℕ) → BegunIf log client (upgrade tables version client)
+  upgrade_begun version = elim (has_upgrade tables version) as (λ has. BegunIf log client (if has then shared (called.Upgrade version) else refused NoUpgrade client)) [ true ↦ tt | false ↦ (was, refl) ]
 
   take_begun : (listener : Option Listener) → BegunIf log client (take_batch client listener)
   take_begun None = (was, refl)
@@ -278,36 +284,37 @@ module _ (tables : List SchemaTable) (world : List Domain) (over log : List Entr
   meet_begun (ChainBegin chain slot mode) = chain_begin_begun mode (client.chains chain)
   meet_begun (CloseChain chain) = close_chain_begun (client.chains chain)
   meet_begun Pump = tt
-  meet_begun (Listen slot domain store path) = listen_begun domain store (read_path (table_in tables domain) path)
+  meet_begun (Listen slot domain store path) = listen_begun domain store (read_path (last_in tables domain) path)
   meet_begun (Take slot) = take_begun (client.listeners slot)
   meet_begun (Unlisten slot) = unlisten_begun (client.listeners slot)
   meet_begun (Mirror slot) = mirror_begun (client.listeners slot)
-  meet_begun (Provide name context) = asked_begun (provide (table_in tables 0) name context)
-  meet_begun (Withdraw name context) = asked_begun (withdraw (table_in tables 0) name context)
-  meet_begun (Invoke slot name context value) = asked_begun (invoke (table_in tables 0) name context value)
+  meet_begun (Provide name context) = asked_begun (provide (last_in tables 0) name context)
+  meet_begun (Withdraw name context) = asked_begun (withdraw (last_in tables 0) name context)
+  meet_begun (Invoke slot name context value) = asked_begun (invoke (last_in tables 0) name context value)
   meet_begun (NextCall slot) = tt
-  meet_begun (Answer slot value) = asked_begun (answer (table_in tables 0) (client.handed slot) value)
+  meet_begun (Answer slot value) = asked_begun (answer (last_in tables 0) (client.handed slot) value)
   meet_begun (Collect slot) = asked_begun (collect (client.invoked slot))
-  meet_begun (Subscribe name) = asked_begun (subscribe (table_in tables 0) name)
-  meet_begun (Offer name value) = asked_begun (offer (table_in tables 0) name value)
+  meet_begun (Subscribe name) = asked_begun (subscribe (last_in tables 0) name)
+  meet_begun (Offer name value) = asked_begun (offer (last_in tables 0) name value)
   meet_begun TakeNotes = tt
-  meet_begun (Mount device path) = asked_begun (mount (table_in tables 0) device path)
+  meet_begun (Mount device path) = asked_begun (mount (last_in tables 0) device path)
   meet_begun (Unmount domain) = tt
-  meet_begun (MountAt path) = asked_begun (mount_at (table_in tables 0) path)
+  meet_begun (MountAt path) = asked_begun (mount_at (last_in tables 0) path)
   meet_begun (Mark mark) = tt
   meet_begun (After mark) = tt
+  meet_begun (Upgrade version) = upgrade_begun version
 
 -- what a shared call leaves, with its entry in the log
-pub keep_begun : (log : List Entry) (e : Entry) (step : Move) (r : Reply) (client : Client) → BeganIn log client → BeganIn (log ++ e ∷ []) (keep (length log) step r client)
-keep_begun log e (Begin slot domain mode) (Begun commit on) client was =
-    began_filled (log ++ e ∷ []) client slot (record { place = length log; domain = domain; mode = mode; ops = [] }) (began_longer log (e ∷ []) client was) (omega (arith, length-append log (e ∷ [])))
-keep_begun log e (ChainBegin chain slot mode) (Begun commit on) client was =
-    began_filled (log ++ e ∷ []) client slot (record { place = length log; domain = domain_in (client.chains chain); mode = mode; ops = [] }) (began_longer log (e ∷ []) client was) (omega (arith, length-append log (e ∷ [])))
-keep_begun log e (OpenChain chain domain) (Chain id) client was = began_longer log (e ∷ []) client was
-keep_begun log e (Submit slot) (Receipt number) client was = began_emptied (log ++ e ∷ []) client slot (began_longer log (e ∷ []) client was)
-keep_begun log e (Cancel slot) Done client was = began_emptied (log ++ e ∷ []) client slot (began_longer log (e ∷ []) client was)
-keep_begun log e (Listen slot domain store path) (Listening id at p opened) client was = began_longer log (e ∷ []) client was
-keep_begun log e (Take slot) (Batch domain batch) client was = began_longer log (e ∷ []) client was
-keep_begun log e (Invoke slot name context value) (CallMade id) client was = began_longer log (e ∷ []) client was
-keep_begun log e (NextCall slot) (Request request) client was = began_longer log (e ∷ []) client was
-keep_begun log e step r client was = began_longer log (e ∷ []) client was
+pub keep_begun : (log : List Entry) (e : Entry) (version : ℕ) (step : Move) (r : Reply) (client : Client) → BeganIn log client → BeganIn (log ++ e ∷ []) (keep (record { place = length log; version = version }) step r client)
+keep_begun log e version (Begin slot domain mode) (Begun commit on) client was =
+    began_filled (log ++ e ∷ []) client slot (record { place = length log; domain = domain; version = version_for domain version; mode = mode; ops = [] }) (began_longer log (e ∷ []) client was) (omega (arith, length-append log (e ∷ [])))
+keep_begun log e version (ChainBegin chain slot mode) (Begun commit on) client was =
+    began_filled (log ++ e ∷ []) client slot (record { place = length log; domain = domain_in (client.chains chain); version = version_for (domain_in (client.chains chain)) version; mode = mode; ops = [] }) (began_longer log (e ∷ []) client was) (omega (arith, length-append log (e ∷ [])))
+keep_begun log e version (OpenChain chain domain) (Chain id) client was = began_longer log (e ∷ []) client was
+keep_begun log e version (Submit slot) (Receipt number) client was = began_emptied (log ++ e ∷ []) client slot (began_longer log (e ∷ []) client was)
+keep_begun log e version (Cancel slot) Done client was = began_emptied (log ++ e ∷ []) client slot (began_longer log (e ∷ []) client was)
+keep_begun log e version (Listen slot domain store path) (Listening id at p opened) client was = began_longer log (e ∷ []) client was
+keep_begun log e version (Take slot) (Batch domain batch) client was = began_longer log (e ∷ []) client was
+keep_begun log e version (Invoke slot name context value) (CallMade id) client was = began_longer log (e ∷ []) client was
+keep_begun log e version (NextCall slot) (Request request) client was = began_longer log (e ∷ []) client was
+keep_begun log e version step r client was = began_longer log (e ∷ []) client was

@@ -7,10 +7,10 @@ use Rattle.std.proofs.lemmas.Option.{same_Some}
 use mathlib.Core.List.{IsPrefix}
 use Rattle.sal_history.specs.declared.call.Entry.{Entry}
 use Rattle.sal_history.specs.World.{Domain}
-use Rattle.sal_schema.specs.declared.table.SchemaTable.{SchemaTable}
 use Rattle.sal_script.specs.declared.reply.StepReply.{StepReply}
 use Rattle.sal_script.specs.Moves.{Move}
-use Rattle.sal_script.specs.Play.{Arrival, Made, Played, Run, PlayState, arrive, calls, cons_replies, end_by, ended, go, make, play_by, play_from, replies_at, replies_of, state_with, start, turn, turn_of, tables_of}
+use Rattle.sal_script.specs.Play.{Arrival, Made, Played, Run, PlayState, arrive, calls, cons_replies, end_by, ended, go, make, play_by, play_from, replies_at, replies_of, state_with, start, turn, turn_of}
+use Rattle.sal_script.specs.Tables.{Versions, versions_of}
 use Rattle.sal_script.specs.Along.{Left, finish, new_run, order_of, pass}
 use Rattle.sal_script.specs.OneOrder.{LeftIsOneOrder}
 use Rattle.sal_script.proofs.Along.{along_from, entry_at, made_of, pass_other, pass_own}
@@ -27,7 +27,7 @@ abbrev head_or : Entry → List Entry → Entry
 head_or e [] = e
 head_or e (x ∷ xs) = x
 
-module _ (tables : List SchemaTable) (world : List Domain) (c : ℕ) where
+module _ (tables : List Versions) (world : List Domain) (c : ℕ) where
   -- one entry more
   abbrev Adds : List Entry → Made → Type 0
   Adds log made = (e : Entry) × (made.log ≡ log ++ e ∷ [])
@@ -113,7 +113,7 @@ module _ (tables : List SchemaTable) (world : List Domain) (c : ℕ) where
 
 -- ---- all of them
 
-module _ (tables : List SchemaTable) (world : List Domain) where
+module _ (tables : List Versions) (world : List Domain) where
   all_reply : (log : List Entry) (runs : List Run) (all : List (List StepReply)) → length runs ≡ length all
       → ((c : ℕ) (run : Run) (rs : List StepReply) → slice_get runs c ≡ Some run → slice_get all c ≡ Some rs → replies_at (arrive tables world log run.client run.steps) ≡ Some rs)
       → replies_of tables world log runs ≡ Some all
@@ -173,7 +173,7 @@ run_at (steps ∷ clients) (suc c) run at = run_at clients c run at
 
 pub what_is_left_is_one_order : LeftIsOneOrder
 what_is_left_is_one_order world clients log replies left =
-    let tables : List SchemaTable = tables_of world in
+    let tables : List Versions = versions_of world in
     let ends : AllEnd tables world replies [] (start clients).runs log log =
     λ c run rs at at_rs.
     let mine = run_at clients c run at in

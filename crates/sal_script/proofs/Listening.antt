@@ -18,11 +18,11 @@ use Rattle.sal_history.specs.declared.reply.Reply.TheVariants.{Begun, Chain, Acc
 use Rattle.sal_history.specs.Listeners.{Listening, has_listener, listener_at, listeners, listens}
 use Rattle.sal_history.specs.World.{Domain}
 use Rattle.sal_history.specs.History.{Answered, answer, answered_as, batch_of, commits, history, listen_refusal, listening, refused_or, reply_to, taken}
-use Rattle.sal_schema.specs.declared.table.SchemaTable.{SchemaTable}
 use Rattle.sal_pathtext.specs.declared.fault.PathTextFault.{PathTextFault}
 use Rattle.sal_pathtext.specs.Read.{read_path}
-use Rattle.sal_script.specs.Moves.{Move, Begin, Put, Merge, Delete, Read, Exists, Submit, Cancel, Settle, OpenChain, ChainBegin, CloseChain, Pump, Listen, Take, Unlisten, Mirror, Provide, Withdraw, Invoke, NextCall, Answer, Collect, Subscribe, Offer, TakeNotes, Mount, Unmount, MountAt, Mark, After}
-use Rattle.sal_script.specs.Play.{Client, Listener, Meeting, Slots, at_version, has_domain, keep, listen, listen_at, local, meet, refused, set_slot, shared, table_in, take_batch}
+use Rattle.sal_script.specs.Moves.{Move, Begin, Put, Merge, Delete, Read, Exists, Submit, Cancel, Settle, OpenChain, ChainBegin, CloseChain, Pump, Listen, Take, Unlisten, Mirror, Provide, Withdraw, Invoke, NextCall, Answer, Collect, Subscribe, Offer, TakeNotes, Mount, Unmount, MountAt, Mark, After, Upgrade}
+use Rattle.sal_script.specs.Play.{Spot, spot_after, Client, Listener, Meeting, Slots, at_version, keep, listen, listen_at, local, meet, refused, set_slot, shared, take_batch}
+use Rattle.sal_script.specs.Tables.{Versions, has_domain, last_in}
 use Rattle.sal_script.specs.declared.reply.StepRefusal.TheVariants.{NoDevice}
 use Rattle.sal_script.specs.Along.{IsListening, ListensIn}
 use Rattle.sal_script.proofs.Growing.{listener_later, more_commits}
@@ -58,20 +58,20 @@ is_listening (Listen slot domain store path) = true
 is_listening (Take slot) = true
 is_listening step = false
 
-same_listeners : (place : ℕ) (step : Move) (r : Reply) (client : Client) → is_listening step ≡ false → (keep place step r client).listeners ≡ client.listeners
-same_listeners place (Begin slot domain mode) (Begun commit on) client quiet = refl
-same_listeners place (ChainBegin chain slot mode) (Begun commit on) client quiet = refl
-same_listeners place (OpenChain chain domain) (Chain id) client quiet = refl
-same_listeners place (Listen slot domain store path) r client quiet = cc
-same_listeners place (Take slot) r client quiet = cc
-same_listeners place (Submit slot) (Receipt number) client quiet = refl
-same_listeners place (Cancel slot) Done client quiet = refl
-same_listeners place (Invoke slot name context value) (CallMade id) client quiet = refl
-same_listeners place (NextCall slot) (Request request) client quiet = refl
-same_listeners place step r client quiet = refl
+same_listeners : (spot : Spot) (step : Move) (r : Reply) (client : Client) → is_listening step ≡ false → (keep spot step r client).listeners ≡ client.listeners
+same_listeners spot (Begin slot domain mode) (Begun commit on) client quiet = refl
+same_listeners spot (ChainBegin chain slot mode) (Begun commit on) client quiet = refl
+same_listeners spot (OpenChain chain domain) (Chain id) client quiet = refl
+same_listeners spot (Listen slot domain store path) r client quiet = cc
+same_listeners spot (Take slot) r client quiet = cc
+same_listeners spot (Submit slot) (Receipt number) client quiet = refl
+same_listeners spot (Cancel slot) Done client quiet = refl
+same_listeners spot (Invoke slot name context value) (CallMade id) client quiet = refl
+same_listeners spot (NextCall slot) (Request request) client quiet = refl
+same_listeners spot step r client quiet = refl
 
 -- the call of a listen
-listen_call : (tables : List SchemaTable) (domain : ℕ) (store : Store) (path : Result (List Step) PathTextFault) (client : Client) (call : Call) → listen tables domain store path client ≡ shared call → (p : List Step) × (call ≡ made.Listen domain store p)
+listen_call : (tables : List Versions) (domain : ℕ) (store : Store) (path : Result (List Step) PathTextFault) (client : Client) (call : Call) → listen tables domain store path client ≡ shared call → (p : List Step) × (call ≡ made.Listen domain store p)
 listen_call tables domain store path client call met = by (has_domain tables domain) path met
   where
     call_in : Meeting → Call
@@ -104,7 +104,7 @@ module _ (world : List Domain) (c : ℕ) (log : List Entry) (number : ℕ) (clie
 
   -- what the client keeps of this answer
   abbrev KeepsBy : Call → Move → Reply → Type 0
-  KeepsBy call step r = ListensIn world c (grown call) (keep (length log) step r client)
+  KeepsBy call step r = ListensIn world c (grown call) (keep (spot_after world log) step r client)
 
   unchanged : (call : Call) → ListensIn world c (grown call) client
   unchanged call = listens_longer world c log (entry_of call ∷ []) client was
@@ -171,11 +171,11 @@ module _ (world : List Domain) (c : ℕ) (log : List Entry) (number : ℕ) (clie
   -- ---- any shared call that the client's step comes to
 
   quiet : (step : Move) (call : Call) → is_listening step ≡ false → KeepsBy call step (reply_to world so_far c call)
-  quiet step call is = listens_same world c (grown call) client (keep (length log) step (reply_to world so_far c call) client) (same_listeners (length log) step (reply_to world so_far c call) client is) (unchanged call)
+  quiet step call is = listens_same world c (grown call) client (keep (spot_after world log) step (reply_to world so_far c call) client) (same_listeners (spot_after world log) step (reply_to world so_far c call) client is) (unchanged call)
 
-  pub keep_listens : (tables : List SchemaTable) (step : Move) (call : Call) → meet tables world log client step ≡ shared call → KeepsBy call step (reply_to world so_far c call)
+  pub keep_listens : (tables : List Versions) (step : Move) (call : Call) → meet tables world log client step ≡ shared call → KeepsBy call step (reply_to world so_far c call)
   keep_listens tables (Listen slot domain store text) call met =
-      let found = listen_call tables domain store (read_path (table_in tables domain) text) client call met in
+      let found = listen_call tables domain store (read_path (last_in tables domain) text) client call met in
       subst (λ (x : Call). KeepsBy x (Listen slot domain store text) (reply_to world so_far c x)) (sym found.1) (listen_keeps slot domain store text found.0 (listen_refusal world so_far domain) refl)
   keep_listens tables (Take slot) call met =
       let found = take_call client (client.listeners slot) call met in
@@ -209,3 +209,4 @@ module _ (world : List Domain) (c : ℕ) (log : List Entry) (number : ℕ) (clie
   keep_listens tables (MountAt path) call met = quiet (MountAt path) call refl
   keep_listens tables (Mark mark) call met = quiet (Mark mark) call refl
   keep_listens tables (After mark) call met = quiet (After mark) call refl
+  keep_listens tables (Upgrade version) call met = quiet (Upgrade version) call refl

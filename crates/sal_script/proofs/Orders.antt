@@ -7,10 +7,10 @@ use Rattle.std.proofs.lemmas.Option.{same_Some, slice_get_within}
 use Rattle.sal_history.specs.declared.call.Entry.{Entry}
 use Rattle.sal_history.specs.World.{Domain}
 use Rattle.sal_history.specs.History.{entries_of}
-use Rattle.sal_schema.specs.declared.table.SchemaTable.{SchemaTable}
 use Rattle.sal_script.specs.declared.reply.StepReply.{StepReply}
 use Rattle.sal_script.specs.Moves.{Move}
-use Rattle.sal_script.specs.Play.{Arrival, IsLegal, Made, Played, Run, PlayState, arrive, calls, cons_replies, end_by, ended, go, new_client, play, play_by, play_from, replies_at, replies_of, state_with, start, turn, turn_of, tables_of}
+use Rattle.sal_script.specs.Play.{Arrival, IsLegal, Made, Played, Run, PlayState, arrive, calls, cons_replies, end_by, ended, go, new_client, play, play_by, play_from, replies_at, replies_of, state_with, start, turn, turn_of}
+use Rattle.sal_script.specs.Tables.{Versions, versions_of}
 use Rattle.sal_script.specs.Orders.{Exchange, Follows, IsNumbered, OrdersEndOrFail, PlaysFollow, exchanges_in, exchanges_of}
 use Rattle.sal_script.proofs.Arriving.{IsOnWay, Makes, MakesIf, Reaches, exchanges-other, makes, reaches}
 use Rattle.sal_script.proofs.Listed.{get-push, get-set, get_some, take_left}
@@ -83,7 +83,7 @@ module _ (world : List Domain) (clients : List (List Move)) (order : List ℕ) (
         each = each-set made m;
       }
 
-module _ (tables : List SchemaTable) (world : List Domain) (clients : List (List Move)) where
+module _ (tables : List Versions) (world : List Domain) (clients : List (List Move)) where
   -- how a client goes on
   going : (log : List Entry) (c : ℕ) (steps : List Move) (run : Run) → IsOnWay world log c steps run → Reaches steps (exchanges_in world log c) (arrive tables world log run.client run.steps)
   going log c steps run way =
@@ -113,7 +113,7 @@ ended_with : (steps : List Move) (es : List Exchange) (a : Arrival) (rs : List S
 ended_with steps es (ended client) rs reached e = subst (λ (xs : List StepReply). (length xs ≡ length steps) × (exchanges_of steps xs ≡ es)) (same_Some client.replies rs e) reached
 ended_with steps es (calls call step run) rs reached e = cc
 
-module _ (tables : List SchemaTable) (world : List Domain) (log : List Entry) where
+module _ (tables : List Versions) (world : List Domain) (log : List Entry) where
   -- the client's way ended with these replies
   abbrev pub EndsWith : List Run → ℕ → List StepReply → Type 0
   EndsWith runs c rs = (run : Run) × (slice_get runs c ≡ Some run) × (replies_at (arrive tables world log run.client run.steps) ≡ Some rs)
@@ -135,7 +135,7 @@ module _ (tables : List SchemaTable) (world : List Domain) (log : List Entry) wh
       subst (λ (xs : List (List StepReply)). (length xs ≡ length (run ∷ runs)) × ((c : ℕ) (rs : List StepReply) → slice_get xs c ≡ Some rs → EndsWith (run ∷ runs) c rs)) p.4
       (ap suc rest.0, first_or_later run runs p.0 p.1 p.2 rest.1)
 
-module _ (tables : List SchemaTable) (world : List Domain) (clients : List (List Move)) where
+module _ (tables : List Versions) (world : List Domain) (clients : List (List Move)) where
   finishes : (order : List ℕ) (state : PlayState) (all : List (List StepReply)) → Stands world clients order state → replies_of tables world state.log state.runs ≡ Some all → Follows world clients order (record { log = state.log; replies = all })
   finishes order state all was e =
       let ends = all_end tables world state.log state.runs all e in
@@ -193,11 +193,11 @@ starts world clients = record {
     no_entry i e at = cc
 
 pub plays_follow_their_order : PlaysFollow
-plays_follow_their_order world clients order played e = plays (tables_of world) world clients order 0 [] (start clients) played (starts world clients) e
+plays_follow_their_order world clients order played e = plays (versions_of world) world clients order 0 [] (start clients) played (starts world clients) e
 
 -- ---- where an order fails
 
-module _ (tables : List SchemaTable) (world : List Domain) where
+module _ (tables : List Versions) (world : List Domain) where
   fails_at_end : (index : ℕ) (log : List Entry) (all : Option (List (List StepReply))) (i : ℕ) → end_by tables world index log all ≡ Err i → i ≤ index
   fails_at_end index log None i e = le_of_eq (sym (same_Err index i e))
   fails_at_end index log (Some all) i e = cc
@@ -219,4 +219,4 @@ module _ (world : List Domain) (clients : List (List Move)) (order : List ℕ) w
 
 pub orders_end_or_fail : OrdersEndOrFail
 orders_end_or_fail world clients order =
-    end_or_fail world clients order (play world clients order) refl (λ i e. let h = fails_within (tables_of world) world order 0 (start clients) i e in omega (arith, h))
+    end_or_fail world clients order (play world clients order) refl (λ i e. let h = fails_within (versions_of world) world order 0 (start clients) i e in omega (arith, h))

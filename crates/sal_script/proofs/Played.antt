@@ -5,10 +5,10 @@ use Rattle.std.specs.Option.{option_map}
 use Rattle.std.proofs.lemmas.Option.{same_Some, slice_get-map}
 use Rattle.sal_history.specs.declared.call.Entry.{Entry}
 use Rattle.sal_history.specs.World.{Domain}
-use Rattle.sal_schema.specs.declared.table.SchemaTable.{SchemaTable}
 use Rattle.sal_script.specs.declared.reply.StepReply.{StepReply}
 use Rattle.sal_script.specs.Moves.{Move}
-use Rattle.sal_script.specs.Play.{Arrival, Made, Played, Run, PlayState, arrive, calls, end_by, ended, go, make, play_by, play_from, replies_of, state_with, start, turn, turn_of, tables_of}
+use Rattle.sal_script.specs.Play.{Arrival, Made, Played, Run, PlayState, arrive, calls, end_by, ended, go, make, play_by, play_from, replies_of, state_with, start, turn, turn_of}
+use Rattle.sal_script.specs.Tables.{Versions, versions_of}
 use Rattle.sal_script.specs.Orders.{Follows}
 use Rattle.sal_script.specs.Along.{Finishes, Left, along, finish, new_run}
 use Rattle.sal_script.specs.OneOrder.{PlayedCanBeLeft}
@@ -17,7 +17,7 @@ use Rattle.sal_script.proofs.Left.{run_at}
 use Rattle.sal_script.proofs.Listed.{get-set}
 use Rattle.sal_script.proofs.Orders.{all_end, plays_follow_their_order, same_Ok}
 
-module _ (tables : List SchemaTable) (world : List Domain) where
+module _ (tables : List Versions) (world : List Domain) where
   -- the client made its next entry
   abbrev Own : List Entry → ℕ → Made → Type 0
   Own log c made = (e : Entry) × (run : Run) × (e.client ≡ c) × (made_of (log ++ e ∷ []) run ≡ made)
@@ -93,7 +93,7 @@ module _ (tables : List SchemaTable) (world : List Domain) where
     plays (c ∷ order) index state played was is =
         going_on index c order state (turn tables world state c) played refl was (λ s new rest. plays order (index + 1) s played new rest) is
 
-starts : (world : List Domain) (clients : List (List Move)) → AllAlong (tables_of world) world clients (start clients)
+starts : (world : List Domain) (clients : List (List Move)) → AllAlong (versions_of world) world clients (start clients)
 starts world clients c steps run at_c at =
     let mine = run_at clients c run at in
     let same : new_run steps ≡ run = ap new_run (same_Some steps mine.0 (sym at_c ∙ mine.1)) ∙ mine.2 in
@@ -106,6 +106,6 @@ what_is_played_can_be_left world clients order played is =
       record {
         known = λ i e at. follows.known i e.client (ap (λ (cs : List ℕ). slice_get cs i) (sym follows.ordered) ∙ slice_get-map (λ (x : Entry). x.client) played.log i ∙ ap (option_map (λ (x : Entry). x.client)) at);
         all = follows.all;
-        each = plays (tables_of world) world clients order 0 (start clients) played (starts world clients) is;
+        each = plays (versions_of world) world clients order 0 (start clients) played (starts world clients) is;
       },
     )

@@ -2,7 +2,8 @@
 use Rattle.std.proofs.Common.{◌≡◌, ℕ, List, [], ◌∷◌, ◌++◌, codes, refl, ap, flat_map}
 use Rattle.std.specs.Prelude.{map}
 use Rattle.sal_history.specs.declared.call.Entry.{Entry}
-use Rattle.sal_script.specs.Play.{Played, tables_of}
+use Rattle.sal_script.specs.Play.{Played}
+use Rattle.sal_script.specs.Tables.{tables_of}
 use Rattle.sal_script.specs.Report.{number, order_line, reply_lines, told_domains, tree_line, trees_in}
 use Rattle.sal_script.specs.Along.{order_of}
 use Rattle.sal_script.specs.OneOrder.{IsOneOrder}

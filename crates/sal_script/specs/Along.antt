@@ -8,10 +8,10 @@ use Rattle.sal_history.specs.declared.call.Entry.{Entry}
 use Rattle.sal_history.specs.Listeners.{listener_at}
 use Rattle.sal_history.specs.World.{Domain}
 use Rattle.sal_history.specs.History.{commits, history}
-use Rattle.sal_schema.specs.declared.table.SchemaTable.{SchemaTable}
 use Rattle.sal_script.specs.declared.reply.StepReply.{StepReply}
 use Rattle.sal_script.specs.Moves.{Move}
-use Rattle.sal_script.specs.Play.{Client, Listener, Made, Open, Run, arrive, go, new_client, replies_at, tables_of}
+use Rattle.sal_script.specs.Play.{Client, Listener, Made, Open, Run, arrive, go, new_client, replies_at}
+use Rattle.sal_script.specs.Tables.{Versions, versions_of}
 
 -- a client before its first step
 abbrev pub new_run : List Move → Run
@@ -22,7 +22,7 @@ pub record Left : Type 0 where
   pub log : List Entry
   pub replies : List StepReply
 
-module _ (tables : List SchemaTable) (world : List Domain) (c : ℕ) where
+module _ (tables : List Versions) (world : List Domain) (c : ℕ) where
   -- one entry more: where it is the client's own, the call that the client comes to next; none where it comes to its end first
   abbrev pub pass : Made → Entry → Option Made
   pass made e = if nat_eq e.client c then go tables world made.log c made.run else Some (record made { log = made.log ++ e ∷ [] })
@@ -59,7 +59,7 @@ ListensIn world c log client = (slot : ℕ) (listener : Listener) → client.lis
 
 -- Where client c with these steps stands while the log grows: it made its calls there, and answered local steps behind the
 -- last of them, which are answered the same over each longer log.
-pub record IsAt (tables : List SchemaTable) (world : List Domain) (c : ℕ) (steps : List Move) (log : List Entry) (now : Run) : Type 0 where
+pub record IsAt (tables : List Versions) (world : List Domain) (c : ℕ) (steps : List Move) (log : List Entry) (now : Run) : Type 0 where
   pub called : Run
   pub follows : along tables world c log (new_run steps) ≡ Some (record { log = log; run = called })
   pub answered : (more : List Entry) → arrive tables world (log ++ more) called.client called.steps ≡ arrive tables world (log ++ more) now.client now.steps
@@ -70,7 +70,7 @@ pub record IsAt (tables : List SchemaTable) (world : List Domain) (c : ℕ) (ste
 pub record AreLeft (world : List Domain) (clients : List (List Move)) (log : List Entry) (replies : List (List StepReply)) : Type 0 where
   pub known : (i : ℕ) (e : Entry) → slice_get log i ≡ Some e → e.client < length clients
   pub all : length replies ≡ length clients
-  pub each : (c : ℕ) (steps : List Move) (rs : List StepReply) → slice_get clients c ≡ Some steps → slice_get replies c ≡ Some rs → Finishes (tables_of world) world c log steps rs
+  pub each : (c : ℕ) (steps : List Move) (rs : List StepReply) → slice_get clients c ≡ Some steps → slice_get replies c ≡ Some rs → Finishes (versions_of world) world c log steps rs
 
 -- the client of each entry, in order
 abbrev pub order_of : List Entry → List ℕ

@@ -23,10 +23,10 @@ use Rattle.sal_script.specs.Examples.{entry, table, world_of}
 
 -- what a client leaves along a log over the schema `plain` without openings
 abbrev pub leaves_along : ℕ → List Entry → List Move → Option Left
-leaves_along c log steps = left_along (table ∷ []) (world_of []) c log steps
+leaves_along c log steps = left_along ((table ∷ []) ∷ []) (world_of []) c log steps
 
 abbrev pub Comes : ℕ → List Entry → List Move → List StepReply → Type 0
-Comes c log steps replies = Finishes (table ∷ []) (world_of []) c log steps replies
+Comes c log steps replies = Finishes ((table ∷ []) ∷ []) (world_of []) c log steps replies
 
 -- ---- two clients that put the same leaf
 

@@ -38,11 +38,11 @@ table = record { nodes = node None (Container false) 0 (codes "box") ∷ leafs 2
 
 -- a world of one domain with these rows in its configuration
 abbrev pub world_of : List Row → List Domain
-world_of rows = record { table = table; opening = record { config = rows; oper = [] } } ∷ []
+world_of rows = record { table = table; upgrades = []; opening = record { config = rows; oper = [] } } ∷ []
 
 -- a script over `plain` without openings
 abbrev pub plain_script : List (List Move) → List ℕ → Parts
-plain_script clients order = record { modules = PLAIN.now ∷ []; config = object no_members; operational = object no_members; devices = []; clients = clients; order = order }
+plain_script clients order = record { modules = PLAIN.now ∷ []; upgrades = []; config = object no_members; operational = object no_members; devices = []; clients = clients; order = order }
 
 -- ---- steps
 

@@ -14,7 +14,7 @@ use Rattle.sal_history.specs.declared.call.Entry.{Entry}
 use Rattle.sal_history.specs.declared.reply.Reply.{Reply}
 use Rattle.sal_history.specs.declared.reply.Reply.TheVariants.{Listener, Batch as Told}
 use Rattle.sal_history.specs.Listeners.{Listening, listener_at, version}
-use Rattle.sal_history.specs.World.{Domain, opening_of, table_of}
+use Rattle.sal_history.specs.World.{Domain, opening_of, last_of}
 use Rattle.sal_history.specs.History.{Answered, commits, history, trees_at}
 
 -- the rows of the listener after a call with this answer: those of its opening, or those that it had with the parts of a batch
@@ -48,7 +48,7 @@ opened_at answered id = fold (λ v a. unwrap_or (opens_at a.entry.call a.reply i
 
 -- the parts of the n commits after k, by the trees at the commits of this log
 abbrev pub parts_of : List Domain → List Answered → Listening → ℕ → ℕ → List Part
-parts_of world answered l k n = parts_after (has_own_row (table_of world l.domain) l.path) (trees_at world answered l.domain l.store) l.path k n
+parts_of world answered l k n = parts_after (has_own_row (last_of world l.domain) l.path) (trees_at world answered l.domain l.store) l.path k n
 
 -- the opening trees of a world are trees
 abbrev pub AreTrees : List Domain → Type 0

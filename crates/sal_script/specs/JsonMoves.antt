@@ -2,7 +2,7 @@
 use Rattle.std.specs.Prelude.{Bool, true, List, [], ◌∷◌, ⊤}
 use Rattle.std.specs.List.{list_all}
 use Rattle.sal_value.specs.Json.{IsJson, is_json}
-use Rattle.sal_script.specs.Moves.{Move, Begin, Put, Merge, Delete, Read, Exists, Submit, Cancel, Settle, OpenChain, ChainBegin, CloseChain, Pump, Listen, Take, Unlisten, Mirror, Provide, Withdraw, Invoke, NextCall, Answer, Collect, Subscribe, Offer, TakeNotes, Mount, Unmount, MountAt, Mark, After}
+use Rattle.sal_script.specs.Moves.{Move, Begin, Put, Merge, Delete, Read, Exists, Submit, Cancel, Settle, OpenChain, ChainBegin, CloseChain, Pump, Listen, Take, Unlisten, Mirror, Provide, Withdraw, Invoke, NextCall, Answer, Collect, Subscribe, Offer, TakeNotes, Mount, Unmount, MountAt, Mark, After, Upgrade}
 
 -- the value of a step
 abbrev pub IsJsonMove : Move → Type 0
@@ -37,6 +37,7 @@ IsJsonMove (Unmount domain) = ⊤
 IsJsonMove (MountAt path) = ⊤
 IsJsonMove (Mark mark) = ⊤
 IsJsonMove (After mark) = ⊤
+IsJsonMove (Upgrade version) = ⊤
 
 -- those of a client's steps
 abbrev pub AreJsonMoves : List Move → Type 0
@@ -82,6 +83,7 @@ is_json_move (Unmount domain) = true
 is_json_move (MountAt path) = true
 is_json_move (Mark mark) = true
 is_json_move (After mark) = true
+is_json_move (Upgrade version) = true
 
 abbrev pub have_json_moves : List (List Move) → Bool
 have_json_moves clients = list_all (λ steps. list_all is_json_move steps) clients

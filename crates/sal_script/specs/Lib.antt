@@ -26,4 +26,6 @@ pub mod ServiceExamples
 pub mod Services
 pub mod SomeOrder
 pub mod Steps
+pub mod Tables
+pub mod UpgradeExamples
 pub mod Words

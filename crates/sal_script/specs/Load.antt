@@ -52,6 +52,7 @@ clients_of rounds start = program_of start 0 rounds ∷ program_of start 1 round
 abbrev pub parts_of : ℕ → ℕ → Parts
 parts_of rounds start = record {
   modules = LOAD_MODULE.now ∷ [];
+  upgrades = [];
   config = object no_members;
   operational = object no_members;
   devices = [];

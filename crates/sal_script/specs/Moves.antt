@@ -39,6 +39,7 @@ pub data Move : Type 0 where
   MountAt : List ℕ → Move
   Mark : ℕ → Move
   After : ℕ → Move
+  Upgrade : ℕ → Move
 
 -- what a step of a script says
 abbrev pub move_of : ScriptStep → Move
@@ -73,6 +74,7 @@ move_of (told.Unmount domain) = Unmount domain
 move_of (told.MountAt path) = MountAt path
 move_of (told.Mark mark) = Mark mark
 move_of (told.After mark) = After mark
+move_of (told.Upgrade version) = Upgrade version
 
 abbrev pub moves_of : List ScriptStep → List Move
 moves_of steps = map move_of steps

@@ -42,6 +42,7 @@ pub data Kind : Type 0 where
   asks_mount : Kind
   leaves_mark : ℕ → Kind
   looks_after : ℕ → Kind
+  upgrades : ℕ → Kind
 
 -- the kind of call that a step can make; none where the client always answers by itself
 abbrev pub kind_of_step : Move → Option Kind
@@ -70,6 +71,7 @@ kind_of_step (asked.Unmount domain) = Some (unmounts domain)
 kind_of_step (asked.MountAt path) = Some asks_mount
 kind_of_step (asked.Mark mark) = Some (leaves_mark mark)
 kind_of_step (asked.After mark) = Some (looks_after mark)
+kind_of_step (asked.Upgrade version) = Some (upgrades version)
 kind_of_step step = None
 
 abbrev pub kind_of_call : Call → Kind
@@ -98,6 +100,7 @@ kind_of_call (made.Unmount domain) = unmounts domain
 kind_of_call (made.MountAt path) = asks_mount
 kind_of_call (made.Mark mark) = leaves_mark mark
 kind_of_call (made.After mark) = looks_after mark
+kind_of_call (made.Upgrade version) = upgrades version
 
 -- a shared call and its answer
 pub record Exchange : Type 0 where

@@ -1,6 +1,6 @@
 -- What a script does in an order: each number of the order lets that client go on to its next shared call, which is
 -- then made and answered by the log; at the end each client answers the local steps that are left.
-use Rattle.std.specs.Prelude.{ℕ, ◌+◌, Bool, List, [], ◌∷◌, ◌++◌, length, map, Option, None, Some, Result, Ok, Err, IsOk, if◌then◌else◌, nat_eq, nat_lt, slice_get, unwrap_or}
+use Rattle.std.specs.Prelude.{ℕ, ◌+◌, Bool, List, [], ◌∷◌, ◌++◌, length, map, Option, None, Some, Result, Ok, Err, IsOk, if◌then◌else◌, nat_eq, slice_get}
 use Rattle.std.specs.List.{slice_set}
 use Rattle.std.specs.Option.{option_map, option_map_or}
 use Rattle.sal_types.specs.declared.value.Store.{Store}
@@ -20,6 +20,7 @@ use Rattle.sal_history.specs.declared.reply.Reply.{Reply}
 use Rattle.sal_history.specs.declared.reply.Reply.TheVariants.{Begun, Chain, Accepted as Done, Receipt, Listener as Listening, Batch, CallMade, Request}
 use Rattle.sal_history.specs.World.{Domain, no_table}
 use Rattle.sal_history.specs.History.{history, reply, trees_at, view, entries_of}
+use Rattle.sal_history.specs.Versions.{schema_version}
 use Rattle.serde_json.specs.Data.{Data}
 use Rattle.sal_schema.specs.declared.table.SchemaTable.{SchemaTable}
 use Rattle.sal_pathtext.specs.declared.fault.PathTextFault.{PathTextFault}
@@ -32,30 +33,18 @@ use Rattle.sal_rules.specs.Refusals.{refusal}
 use Rattle.sal_script.specs.declared.reply.StepReply.{StepReply}
 use Rattle.sal_script.specs.declared.reply.StepReply.TheVariants.{Called, Accepted, Read as ReadReply, Exists as ExistsReply, Mirror as MirrorReply, Refused}
 use Rattle.sal_script.specs.declared.reply.StepRefusal.{StepRefusal}
-use Rattle.sal_script.specs.declared.reply.StepRefusal.TheVariants.{EmptySlot, ReadOnly, NoDevice, BadPath, BadData, Write}
-use Rattle.sal_script.specs.Moves.{Move, Begin, Put, Merge, Delete, Read, Exists, Submit, Cancel, Settle, OpenChain, ChainBegin, CloseChain, Pump, Listen, Take, Unlisten, Mirror, Provide, Withdraw, Invoke, NextCall, Answer, Collect, Subscribe, Offer, TakeNotes, Mount, Unmount, MountAt, Mark, After}
+use Rattle.sal_script.specs.declared.reply.StepRefusal.TheVariants.{EmptySlot, ReadOnly, NoDevice, NoUpgrade, BadPath, BadData, Write}
+use Rattle.sal_script.specs.Moves.{Move, Begin, Put, Merge, Delete, Read, Exists, Submit, Cancel, Settle, OpenChain, ChainBegin, CloseChain, Pump, Listen, Take, Unlisten, Mirror, Provide, Withdraw, Invoke, NextCall, Answer, Collect, Subscribe, Offer, TakeNotes, Mount, Unmount, MountAt, Mark, After, Upgrade}
+use Rattle.sal_script.specs.Tables.{Versions, has_domain, has_upgrade, last_in, table_at, versions_of}
 use Rattle.sal_script.specs.Services.{Invocation, OrRefusal, answer, collect, invoke, mount, mount_at, offer, provide, subscribe, withdraw}
-
--- ---- schemas
-
--- the tables of the domains' schemas, by domain
-abbrev pub tables_of : List Domain → List SchemaTable
-tables_of world = map (λ (d : Domain). d.table) world
-
--- that of a domain, without nodes where the script has none of that number
-abbrev pub table_in : List SchemaTable → ℕ → SchemaTable
-table_in tables domain = unwrap_or (slice_get tables domain) no_table
-
--- the script has a domain of this number: the controller's own, or a device's, mounted or not
-abbrev pub has_domain : List SchemaTable → ℕ → Bool
-has_domain tables domain = nat_lt domain (length tables)
 
 -- ---- clients
 
--- a client's transaction: where it began in the log, its domain and mode, and its operations so far
+-- a client's transaction: where it began in the log, its domain, the version of the domain's schema there, its mode, and its operations so far
 pub record Open : Type 0 where
   pub place : ℕ
   pub domain : ℕ
+  pub version : ℕ
   pub mode : Mode
   pub ops : List Op
 
@@ -110,9 +99,9 @@ abbrev pub ask : OrRefusal Call → Client → Meeting
 ask (Err refusal) client = refused refusal client
 ask (Ok call) client = shared call
 
--- the table by which paths and values are read in a transaction
-abbrev pub table_for : List SchemaTable → Option Open → SchemaTable
-table_for tables tx = option_map_or (λ (o : Open). table_in tables o.domain) tx no_table
+-- the table by which paths and values are read in a transaction: that of the version that was present where it began
+abbrev pub table_for : List Versions → Option Open → SchemaTable
+table_for tables tx = option_map_or (λ (o : Open). table_at tables o.version o.domain) tx no_table
 
 -- what a write does at its path, with a value that is not yet read
 pub data DataAct : Type 0 where
@@ -166,8 +155,12 @@ listen_at domain store (Err fault) client = refused (BadPath fault) client
 listen_at domain store (Ok path) client = shared (made.Listen domain store path)
 
 -- a listen: the first refusal counts, of the domain, and then of the path
-abbrev pub listen : List SchemaTable → ℕ → Store → Result (List Step) PathTextFault → Client → Meeting
+abbrev pub listen : List Versions → ℕ → Store → Result (List Step) PathTextFault → Client → Meeting
 listen tables domain store path client = if has_domain tables domain then listen_at domain store path client else refused NoDevice client
+
+-- an upgrade to a version that the script has
+abbrev pub upgrade : List Versions → ℕ → Client → Meeting
+upgrade tables version client = if has_upgrade tables version then shared (made.Upgrade version) else refused NoUpgrade client
 
 abbrev pub take_batch : Client → Option Listener → Meeting
 take_batch client None = refused EmptySlot client
@@ -239,15 +232,15 @@ module _ (table : SchemaTable) (world : List Domain) (log : List Entry) where
   write slot store text data_act client None = refused EmptySlot client
   write slot store text data_act client (Some tx) = write_in tx.mode slot store text data_act tx client
 
-module _ (tables : List SchemaTable) (world : List Domain) (log : List Entry) where
-  -- by the table of the transaction's domain
+module _ (tables : List Versions) (world : List Domain) (log : List Entry) where
+  -- by the version of the transaction's domain where it began
   abbrev pub write_with : ℕ → Store → List ℕ → DataAct → Client → Option Open → Meeting
   write_with slot store text data_act client tx = write (table_for tables tx) world log slot store text data_act client tx
 
   abbrev pub look_with : (Open → List Step → List Row → StepReply) → Store → List ℕ → Client → Option Open → Meeting
   look_with f store text client tx = look (table_for tables tx) world log f store text client tx
 
-  -- what a client's step comes to after the log
+  -- What a client's step comes to after the log. What a listener, an RPC, a notification or a mount names is read by the last version.
   abbrev pub meet : Client → Move → Meeting
   meet client (Begin slot domain mode) = shared (made.Begin domain mode)
   meet client (Put slot store path value) = write_with slot store path (putting value) client (client.transactions slot)
@@ -262,29 +255,43 @@ module _ (tables : List SchemaTable) (world : List Domain) (log : List Entry) wh
   meet client (ChainBegin chain slot mode) = chain_begin mode client (client.chains chain)
   meet client (CloseChain chain) = close_chain client (client.chains chain)
   meet client Pump = shared made.Pump
-  meet client (Listen listener domain store path) = listen tables domain store (read_path (table_in tables domain) path) client
+  meet client (Listen listener domain store path) = listen tables domain store (read_path (last_in tables domain) path) client
   meet client (Take listener) = take_batch client (client.listeners listener)
   meet client (Unlisten listener) = unlisten client (client.listeners listener)
   meet client (Mirror listener) = mirror world log client (client.listeners listener)
-  meet client (Provide name context) = ask (provide (table_in tables 0) name context) client
-  meet client (Withdraw name context) = ask (withdraw (table_in tables 0) name context) client
-  meet client (Invoke slot name context value) = ask (invoke (table_in tables 0) name context value) client
+  meet client (Provide name context) = ask (provide (last_in tables 0) name context) client
+  meet client (Withdraw name context) = ask (withdraw (last_in tables 0) name context) client
+  meet client (Invoke slot name context value) = ask (invoke (last_in tables 0) name context value) client
   meet client (NextCall slot) = shared made.NextCall
-  meet client (Answer slot value) = ask (answer (table_in tables 0) (client.handed slot) value) client
+  meet client (Answer slot value) = ask (answer (last_in tables 0) (client.handed slot) value) client
   meet client (Collect slot) = ask (collect (client.invoked slot)) client
-  meet client (Subscribe name) = ask (subscribe (table_in tables 0) name) client
-  meet client (Offer name value) = ask (offer (table_in tables 0) name value) client
+  meet client (Subscribe name) = ask (subscribe (last_in tables 0) name) client
+  meet client (Offer name value) = ask (offer (last_in tables 0) name value) client
   meet client TakeNotes = shared made.TakeNotes
-  meet client (Mount device path) = ask (mount (table_in tables 0) device path) client
+  meet client (Mount device path) = ask (mount (last_in tables 0) device path) client
   meet client (Unmount domain) = shared (made.Unmount domain)
-  meet client (MountAt path) = ask (mount_at (table_in tables 0) path) client
+  meet client (MountAt path) = ask (mount_at (last_in tables 0) path) client
   meet client (Mark mark) = shared (made.Mark mark)
   meet client (After mark) = shared (made.After mark)
+  meet client (Upgrade version) = upgrade tables version client
 
--- a transaction that began at the place stands in the slot
-abbrev pub keep_begun : ℕ → ℕ → ℕ → Mode → Client → Client
-keep_begun slot place domain mode client =
-    record client { transactions = set_slot slot (Some (record { place = place; domain = domain; mode = mode; ops = [] })) client.transactions }
+-- a place of the log: how many entries stand before it, and the version of domain 0's schema there
+pub record Spot : Type 0 where
+  pub place : ℕ
+  pub version : ℕ
+
+-- that after a log
+abbrev pub spot_after : List Domain → List Entry → Spot
+spot_after world log = record { place = length log; version = schema_version (history world log) }
+
+-- the version of a domain's schema where domain 0 has this one: every other domain has its one schema
+abbrev pub version_for : ℕ → ℕ → ℕ
+version_for domain version = if nat_eq domain 0 then version else 0
+
+-- a transaction that began there stands in the slot
+abbrev pub keep_begun : ℕ → Spot → ℕ → Mode → Client → Client
+keep_begun slot spot domain mode client =
+    record client { transactions = set_slot slot (Some (record { place = spot.place; domain = domain; version = version_for domain spot.version; mode = mode; ops = [] })) client.transactions }
 
 -- the domain of the chain in a slot; an empty slot begins no transaction
 abbrev pub domain_in : Option Opened → ℕ
@@ -301,20 +308,20 @@ at_version version listener = record listener { version = version }
 abbrev pub keep_taken : ℕ → ℕ → Client → Client
 keep_taken slot version client = record client { listeners = set_slot slot (option_map (at_version version) (client.listeners slot)) client.listeners }
 
--- What the answer to a shared call leaves in the slots; `place` is that of the call's entry. A refusal leaves them as they
+-- What the answer to a shared call leaves in the slots; the spot is that of the call's entry. A refusal leaves them as they
 -- were, and nothing empties the slot of a chain, of a listener or of a request.
-abbrev pub keep : ℕ → Move → Reply → Client → Client
-keep place (Begin slot domain mode) (Begun commit on) client = keep_begun slot place domain mode client
-keep place (ChainBegin chain slot mode) (Begun commit on) client = keep_begun slot place (domain_in (client.chains chain)) mode client
-keep place (OpenChain chain domain) (Chain id) client = record client { chains = set_slot chain (Some (record { id = id; domain = domain })) client.chains }
-keep place (Listen slot domain store text) (Listening id at path opened) client = keep_listening slot (record { id = id; domain = domain; store = store; path = path; version = opened.version }) client
-keep place (Take slot) (Batch domain batch) client = keep_taken slot batch.to client
-keep place (Submit slot) (Receipt number) client =
+abbrev pub keep : Spot → Move → Reply → Client → Client
+keep spot (Begin slot domain mode) (Begun commit on) client = keep_begun slot spot domain mode client
+keep spot (ChainBegin chain slot mode) (Begun commit on) client = keep_begun slot spot (domain_in (client.chains chain)) mode client
+keep spot (OpenChain chain domain) (Chain id) client = record client { chains = set_slot chain (Some (record { id = id; domain = domain })) client.chains }
+keep spot (Listen slot domain store text) (Listening id at path opened) client = keep_listening slot (record { id = id; domain = domain; store = store; path = path; version = opened.version }) client
+keep spot (Take slot) (Batch domain batch) client = keep_taken slot batch.to client
+keep spot (Submit slot) (Receipt number) client =
     record client { transactions = set_slot slot None client.transactions; receipts = set_slot slot (Some number) client.receipts }
-keep place (Cancel slot) Done client = record client { transactions = set_slot slot None client.transactions }
-keep place (Invoke slot name context value) (CallMade id) client = record client { invoked = set_slot slot (Some id) client.invoked }
-keep place (NextCall slot) (Request request) client = record client { handed = set_slot slot (Some (record { id = request.id; rpc = request.rpc })) client.handed }
-keep place step r client = client
+keep spot (Cancel slot) Done client = record client { transactions = set_slot slot None client.transactions }
+keep spot (Invoke slot name context value) (CallMade id) client = record client { invoked = set_slot slot (Some id) client.invoked }
+keep spot (NextCall slot) (Request request) client = record client { handed = set_slot slot (Some (record { id = request.id; rpc = request.rpc })) client.handed }
+keep spot step r client = client
 
 -- a client and the steps that are still to come
 pub record Run : Type 0 where
@@ -356,7 +363,7 @@ cons_replies None rest = None
 cons_replies (Some rs) None = None
 cons_replies (Some rs) (Some rest) = Some (rs ∷ rest)
 
-module _ (tables : List SchemaTable) (world : List Domain) where
+module _ (tables : List Versions) (world : List Domain) where
   -- the client goes on to its next shared call
   abbrev pub arrive : List Entry → Client → List Move → Arrival
   arrive log client [] = ended client
@@ -368,7 +375,7 @@ module _ (tables : List SchemaTable) (world : List Domain) where
   make log c (calls call step run) =
       let e : Entry = record { client = c; number = entries_of log c; call = call } in
       let r = reply world log e in
-      Some (record { log = log ++ e ∷ []; run = record run { client = replied (Called r) (keep (length log) step r run.client) } })
+      Some (record { log = log ++ e ∷ []; run = record run { client = replied (Called r) (keep (spot_after world log) step r run.client) } })
 
   -- client c goes on to its next shared call and makes it
   abbrev pub go : List Entry → ℕ → Run → Option Made
@@ -396,7 +403,7 @@ abbrev pub play_by : ℕ → (PlayState → Result Played ℕ) → Option PlaySt
 play_by index next None = Err index
 play_by index next (Some state) = next state
 
-module _ (tables : List SchemaTable) (world : List Domain) where
+module _ (tables : List Versions) (world : List Domain) where
   abbrev pub end_by : ℕ → List Entry → Option (List (List StepReply)) → Result Played ℕ
   end_by index log None = Err index
   end_by index log (Some replies) = Ok (record { log = log; replies = replies })
@@ -412,7 +419,7 @@ start clients = record { log = []; runs = map (λ steps. record { client = new_c
 
 -- what a script does in an order over its domains, or the index at which the order fails
 abbrev pub play : List Domain → List (List Move) → List ℕ → Result Played ℕ
-play world clients order = play_from (tables_of world) world 0 (start clients) order
+play world clients order = play_from (versions_of world) world 0 (start clients) order
 
 -- the order is one of the clients' shared calls: each once, and in its client's own order
 abbrev pub IsLegal : List Domain → List (List Move) → List ℕ → Type 0

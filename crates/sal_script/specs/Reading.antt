@@ -3,10 +3,11 @@ use Rattle.std.specs.Prelude.{◌≡◌, ℕ, List, map, Result, Ok, Err, MatchR
 use Rattle.sal_script.specs.declared.fault.ScriptFault.{ScriptFault}
 use Rattle.sal_script.specs.declared.fault.ScriptFault.TheVariants.{BadScript, NoMemory}
 use Rattle.sal_script.specs.declared.script.Script.{Script}
+use Rattle.sal_script.specs.declared.script.OwnDomain.{OwnDomain}
 use Rattle.sal_script.specs.declared.script.ScriptDevice.{ScriptDevice}
 use Rattle.serde_json.specs.View.{view}
 use Rattle.sal_script.specs.Moves.{clients_of}
-use Rattle.sal_script.specs.Script.{DeviceParts, Parts}
+use Rattle.sal_script.specs.Script.{DeviceParts, OwnParts, Parts}
 
 -- the fault names the place, unless memory ran out
 abbrev pub IsBadAt : List ℕ → ScriptFault → Type 0
@@ -29,9 +30,13 @@ device d = record { modules = d.modules; config = view d.config; operational = v
 abbrev pub devices : List ScriptDevice → List DeviceParts
 devices ds = map device ds
 
+-- what domain 0 has
+abbrev pub own : OwnDomain → OwnParts
+own o = record { device = device o.device; upgrades = o.upgrades }
+
 -- what a script has
 abbrev pub parts : Script → Parts
-parts script = record { modules = script.modules; config = view script.config; operational = view script.operational; devices = devices script.devices; clients = clients_of script.clients; order = script.order }
+parts script = record { modules = script.modules; upgrades = script.upgrades; config = view script.config; operational = view script.operational; devices = devices script.devices; clients = clients_of script.clients; order = script.order }
 
 -- the script that is read, or the first bad place, unless memory ran out
 abbrev pub ReadsScript : Result Script ScriptFault → Result Parts (List ℕ) → Type 0

@@ -14,18 +14,20 @@ use Rattle.serde_json.specs.Written.{compact_text}
 use Rattle.sal_script.specs.declared.reply.StepReply.{StepReply}
 use Rattle.sal_script.specs.declared.reply.StepReply.TheVariants as step_reply
 use Rattle.sal_script.specs.declared.reply.StepRefusal.{StepRefusal}
-use Rattle.sal_script.specs.declared.reply.StepRefusal.TheVariants.{EmptySlot, ReadOnly, NoDevice, UnknownName, BadPath, BadData, Write}
+use Rattle.sal_script.specs.declared.reply.StepRefusal.TheVariants.{EmptySlot, ReadOnly, NoDevice, NoUpgrade, UnknownName, BadPath, BadData, Write}
 use Rattle.sal_script.specs.declared.trees.DomainTrees.{DomainTrees}
 use Rattle.sal_script.specs.BatchData.{batch_data}
 use Rattle.sal_script.specs.MessageData.{notes_data}
-use Rattle.sal_script.specs.Play.{Played, table_in, tables_of}
+use Rattle.sal_script.specs.Play.{Played}
+use Rattle.sal_script.specs.Tables.{table_in, tables_of}
 pub use Rattle.sal_script.specs.Words.{breach_text, context_text, data_fault_text, fault_text, kind_text, listened_text, mount_text, number, on_text, outcome_text, output_text, path_fault_text, path_text, request_text, rows_text, rule_text, scalar_text, store_text, tree_text, truth_text, tx_fault_text}
 
 -- the line of the order: the client of each entry of the log
 abbrev pub order_line : List Entry → List ℕ
 order_line log = codes "order" ++ (flat_map (λ e. number e.client) log ++ (10 ∷ []))
 
--- What is of a domain is written by that domain's table; RPCs, notifications and mounts are of domain 0.
+-- What is of a domain is written by the table of the last version of its schema; RPCs, notifications, mounts and upgrades are of
+-- domain 0.
 module _ (tables : List SchemaTable) where
   -- ---- replies
 
@@ -33,6 +35,7 @@ module _ (tables : List SchemaTable) where
   refusal_text EmptySlot = codes "empty-slot"
   refusal_text ReadOnly = codes "read-only"
   refusal_text NoDevice = codes "no-device"
+  refusal_text NoUpgrade = codes "no-upgrade"
   refusal_text UnknownName = codes "unknown-name"
   refusal_text (BadPath fault) = codes "path " ++ path_fault_text fault
   refusal_text (BadData domain fault) = codes "data " ++ data_fault_text (table_in tables domain) fault

@@ -7,7 +7,7 @@ use Rattle.serde_json.specs.Find.{as_str, as_object, get_member}
 use Rattle.sal_script.specs.Moves.{Move}
 use Rattle.sal_script.specs.Steps.{number_of, step_of}
 use Rattle.sal_script.specs.declared.script.TheConstants.{PLAIN}
-use Rattle.sal_script.specs.Limits.{are_short}
+use Rattle.sal_script.specs.Limits.{all_texts, are_short}
 use Rattle.sal_script.specs.Json.{list_of, all_named, data_of}
 
 -- what a device has, and the controller's own domain
@@ -16,9 +16,15 @@ pub record DeviceParts : Type 0 where
   pub config : Data
   pub operational : Data
 
--- what a script has; its own modules and openings are those of domain 0
+-- what domain 0 has: its modules and its openings, and the texts of the further modules that each upgrade adds
+pub record OwnParts : Type 0 where
+  pub device : DeviceParts
+  pub upgrades : List (List (List ℕ))
+
+-- what a script has; its own modules, upgrades and openings are those of domain 0
 pub record Parts : Type 0 where
   pub modules : List (List ℕ)
+  pub upgrades : List (List (List ℕ))
   pub config : Data
   pub operational : Data
   pub devices : List DeviceParts
@@ -114,6 +120,18 @@ modules_member ms = given (get_member (codes "modules") ms)
     given None = Some (PLAIN.now ∷ [])
     given (Some d) = texts_of d
 
+-- the texts that each upgrade adds, at most 16 times; an absent member has none
+abbrev pub listed_upgrades : Members → Option (List (List (List ℕ)))
+listed_upgrades ms = option_and_then (all_of texts_in) (option_and_then (at_most 16) (list_member (codes "upgrades") ms))
+
+-- upgrades, where their texts and those of the modules before them have fewer than 2^32 bytes together
+abbrev pub if_short_after : List (List ℕ) → List (List (List ℕ)) → Option (List (List (List ℕ)))
+if_short_after modules upgrades = if are_short (all_texts modules upgrades) then Some upgrades else None
+
+-- the upgrades after these modules
+abbrev pub upgrades_member : List (List ℕ) → Members → Option (List (List (List ℕ)))
+upgrades_member modules ms = option_and_then (if_short_after modules) (listed_upgrades ms)
+
 -- an object
 abbrev pub if_object : Data → Option Data
 if_object d = option_map (λ ms. d) (as_object d)
@@ -165,19 +183,34 @@ devices_member ms = or_bad (codes "devices") (option_and_then (at_most 63) (list
 
 -- the members that a script may have
 abbrev pub names : List (List ℕ)
-names = codes "modules" ∷ codes "config" ∷ codes "operational" ∷ codes "devices" ∷ codes "clients" ∷ codes "order" ∷ []
+names = codes "modules" ∷ codes "upgrades" ∷ codes "config" ∷ codes "operational" ∷ codes "devices" ∷ codes "clients" ∷ codes "order" ∷ []
 
--- behind its own modules and openings
-abbrev pub parts_with : Members → DeviceParts → Result Parts (List ℕ)
+-- after its own modules, upgrades and openings
+abbrev pub parts_with : Members → OwnParts → Result Parts (List ℕ)
 parts_with ms own =
     devices_member ms
     >>= (λ devices. clients_member ms
     >>= (λ clients. or_bad (codes "order") (option_and_then numbers_of (list_member (codes "order") ms))
-    >>= (λ order. Ok (record { modules = own.modules; config = own.config; operational = own.operational; devices = devices; clients = clients; order = order }))))
+    >>= (λ order. Ok (record {
+      modules = own.device.modules;
+      upgrades = own.upgrades;
+      config = own.device.config;
+      operational = own.device.operational;
+      devices = devices;
+      clients = clients;
+      order = order;
+    }))))
+
+-- the texts of the modules with the upgrades and the openings
+abbrev pub own_with : Members → List (List ℕ) → Result OwnParts (List ℕ)
+own_with ms texts =
+    or_bad (codes "upgrades") (upgrades_member texts ms)
+    >>= (λ upgrades. with_openings ms texts
+    >>= (λ device. Ok (record { device = device; upgrades = upgrades })))
 
 -- what domain 0 has
-abbrev pub own_of : Members → Result DeviceParts (List ℕ)
-own_of ms = or_bad (codes "modules") (modules_member ms) >>= with_openings ms
+abbrev pub own_of : Members → Result OwnParts (List ℕ)
+own_of ms = or_bad (codes "modules") (modules_member ms) >>= own_with ms
 
 abbrev pub parts_of : Members → Result Parts (List ℕ)
 parts_of ms = own_of ms >>= parts_with ms

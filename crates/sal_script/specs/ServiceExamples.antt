@@ -43,7 +43,7 @@ messages = record {
 }
 
 abbrev pub bare : SchemaTable → Domain
-bare t = record { table = t; opening = record { config = []; oper = [] } }
+bare t = record { table = t; upgrades = []; opening = record { config = []; oper = [] } }
 
 -- that schema alone, and with a device that has the module `plain`
 abbrev pub alone : List Domain

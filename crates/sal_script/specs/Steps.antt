@@ -1,5 +1,5 @@
 -- Which step a JSON array stands for.
-use Rattle.std.specs.Prelude.{ℕ, ◌^◌, List, [], ◌∷◌, Option, None, Some, option_and_then, codes, if◌then◌else◌}
+use Rattle.std.specs.Prelude.{ℕ, ◌^◌, List, [], ◌∷◌, Option, None, Some, option_and_then, codes, if◌then◌else◌, nat_eq}
 use Rattle.std.specs.Option.{option_map}
 use Rattle.sal_types.specs.declared.value.Store.{Store}
 use Rattle.sal_types.specs.declared.value.Store.TheVariants.{Config, Oper}
@@ -7,7 +7,7 @@ use Rattle.sal_rows.specs.declared.outcome.Mode.{Mode}
 use Rattle.sal_rows.specs.declared.outcome.Mode.TheVariants.{Ro, Wo, Rw}
 use Rattle.serde_json.specs.Data.{Data, null, boolean, number, string, array, object}
 use Rattle.serde_json.specs.Find.{as_str}
-use Rattle.sal_script.specs.Moves.{Move, Begin, Put, Merge, Delete, Read, Exists, Submit, Cancel, Settle, OpenChain, ChainBegin, CloseChain, Pump, Listen, Take, Unlisten, Mirror, Provide, Withdraw, Invoke, NextCall, Answer, Collect, Subscribe, Offer, TakeNotes, Mount, Unmount, MountAt, Mark, After}
+use Rattle.sal_script.specs.Moves.{Move, Begin, Put, Merge, Delete, Read, Exists, Submit, Cancel, Settle, OpenChain, ChainBegin, CloseChain, Pump, Listen, Take, Unlisten, Mirror, Provide, Withdraw, Invoke, NextCall, Answer, Collect, Subscribe, Offer, TakeNotes, Mount, Unmount, MountAt, Mark, After, Upgrade}
 use Rattle.sal_script.specs.Json.{text_eq, list_of, whole_below}
 
 -- ---- numbers and words
@@ -61,7 +61,7 @@ abbrev pub slot_step_of : (ℕ → Move) → List Data → Option Move
 slot_step_of step (t ∷ []) = option_map step (slot_of t)
 slot_step_of step parts = None
 
--- ---- steps of chains, pumps and marks
+-- ---- steps of chains, pumps, marks and upgrades
 
 abbrev pub open_chain_of : List Data → Option Move
 open_chain_of (c ∷ d ∷ []) = option_and_then (λ chain. option_map (OpenChain chain) (number_of d)) (slot_of c)
@@ -80,7 +80,15 @@ abbrev pub number_step_of : (ℕ → Move) → List Data → Option Move
 number_step_of step (n ∷ []) = option_map step (number_of n)
 number_step_of step parts = None
 
--- the step of a chain, a pump or of a mark with this word
+-- a version to which an upgrade leads, from 1 to 16
+abbrev pub version_of : Data → Option ℕ
+version_of d = option_and_then (λ n. if nat_eq n 0 then None else Some n) (whole_below 17 d)
+
+abbrev pub upgrade_of : List Data → Option Move
+upgrade_of (u ∷ []) = option_map Upgrade (version_of u)
+upgrade_of parts = None
+
+-- the step of a chain, a pump, a mark or of an upgrade with this word
 abbrev pub chain_step_named : List ℕ → List Data → Option Move
 chain_step_named word parts =
     if text_eq word (codes "chain") then open_chain_of parts
@@ -88,7 +96,8 @@ chain_step_named word parts =
     else (if text_eq word (codes "close-chain") then slot_step_of CloseChain parts
     else (if text_eq word (codes "pump") then pump_of parts
     else (if text_eq word (codes "mark") then number_step_of Mark parts
-    else (if text_eq word (codes "after") then number_step_of After parts else None)))))
+    else (if text_eq word (codes "after") then number_step_of After parts
+    else (if text_eq word (codes "upgrade") then upgrade_of parts else None))))))
 
 -- ---- steps of listeners
 
@@ -97,7 +106,7 @@ listen_of (l ∷ d ∷ s ∷ p ∷ []) =
     option_and_then (λ listener. option_and_then (λ domain. option_and_then (λ store. option_map (Listen listener domain store) (as_str p)) (store_of s)) (number_of d)) (slot_of l)
 listen_of parts = None
 
--- the step of a listener with this word, or else of a chain, a pump or of a mark
+-- the step of a listener with this word, or else of a chain, a pump, a mark or of an upgrade
 abbrev pub listener_step_named : List ℕ → List Data → Option Move
 listener_step_named word parts =
     if text_eq word (codes "listen") then listen_of parts

@@ -11,7 +11,7 @@ use Rattle.sal_rows.specs.declared.outcome.Outcome.TheVariants.{Done, Conflict, 
 use Rattle.sal_rows.specs.declared.outcome.Rule.{Rule}
 use Rattle.sal_rows.specs.declared.outcome.Rule.TheVariants.{Mandatory, MinElements, MaxElements, Unique, TwoCases}
 use Rattle.sal_rows.specs.declared.outcome.CallFault.{CallFault}
-use Rattle.sal_rows.specs.declared.outcome.CallFault.TheVariants.{HistoryFull, PipelineFull, NoDomain, NoListener, TooManyListeners, NoProvider, ProviderTaken, NoCall, NoteRejected, MountTaken, DeviceUsed, PreviousOpen, ChainFailed, ChainClosed, NoMemory, TxSpent}
+use Rattle.sal_rows.specs.declared.outcome.CallFault.TheVariants.{HistoryFull, PipelineFull, NoDomain, NoListener, TooManyListeners, NoProvider, ProviderTaken, NoCall, NoteRejected, MountTaken, DeviceUsed, PreviousOpen, ChainFailed, ChainClosed, NoMemory, TxSpent, WrongVersion, UpgradeBreach}
 use Rattle.sal_rpc.specs.declared.call.Request.{Request}
 use Rattle.json.specs.Print.{quoted}
 use Rattle.serde_json.specs.Written.{compact_text}
@@ -129,6 +129,8 @@ module _ (table : SchemaTable) where
   fault_text ChainClosed = codes "chain-closed"
   fault_text NoMemory = codes "no-memory"
   fault_text TxSpent = codes "tx-spent"
+  fault_text (WrongVersion have) = codes "wrong-version" ++ number have
+  fault_text (UpgradeBreach store path rule) = codes "upgrade-breach " ++ (store_text store ++ breach_text path rule)
 
   -- a space, and the path of a context, or a dash where there is none
   abbrev pub context_text : Option (List Step) → List ℕ

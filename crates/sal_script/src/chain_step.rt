@@ -1,15 +1,16 @@
-//! The steps of chains, pumps and marks, from the parts of JSON arrays.
+//! The steps of chains, pumps, marks and upgrades, from the parts of JSON arrays.
 ghost use Rattle.std.specs.Prelude.{◌≡◌, map, option_map};
 ghost use Rattle.serde_json.specs.View.{view};
 ghost use Rattle.sal_script.specs.Moves.{move_of};
 ghost use Rattle.sal_script.specs.Moves as move;
 ghost use Rattle.sal_script.specs.Steps as spec;
 
-use crate::script::ScriptStep;
+use crate::script::{MAX_UPGRADES, ScriptStep};
 use crate::step::{mode_of, number_alone, number_of, slot_alone, slot_of};
+use crate::values::whole_below;
 use serde_json::Value;
 
-// The step of a chain, a pump or of a mark with this word and these parts behind it.
+// The step of a chain, a pump, a mark or of an upgrade with this word and these parts behind it.
 pub(crate) fn chain_step_named(word: &str, parts: &[Value]) -> Option<ScriptStep>
     ensures { option_map move_of result ≡ spec.chain_step_named word.now (map view parts.now) }
 {
@@ -20,6 +21,7 @@ pub(crate) fn chain_step_named(word: &str, parts: &[Value]) -> Option<ScriptStep
         "pump" => pump_of(parts),
         "mark" => mark_of(parts),
         "after" => after_of(parts),
+        "upgrade" => upgrade_of(parts),
         _ => None,
     }
 }
@@ -75,4 +77,25 @@ fn after_of(parts: &[Value]) -> Option<ScriptStep>
 {
     let mark = number_alone(parts)?;
     Some(ScriptStep::After { mark })
+}
+
+fn upgrade_of(parts: &[Value]) -> Option<ScriptStep>
+    ensures { option_map move_of result ≡ spec.upgrade_of (map view parts.now) }
+{
+    let [version] = parts else {
+        return None;
+    };
+    let version = version_of(version)?;
+    Some(ScriptStep::Upgrade { version })
+}
+
+// A version to which an upgrade leads.
+fn version_of(value: &Value) -> Option<u32>
+    ensures { result ≡ spec.version_of (view value.now) }
+{
+    match whole_below(MAX_UPGRADES as u64 + 1, value) {
+        Some(0) => None,
+        Some(version) => Some(version as u32),
+        None => None,
+    }
 }

@@ -1,7 +1,7 @@
 //! What domains have, in the members of a script and of each device: the texts of modules and the data of openings.
 ghost use Rattle.std.specs.Prelude.{◌≡◌, [], ◌∷◌, codes, map, option_and_then, option_map, IfOk, IfErr, IsTrue};
 ghost use Rattle.std.specs.List.{list_all};
-ghost use Rattle.serde_json.specs.Find.{as_str, get_member};
+ghost use Rattle.serde_json.specs.Find.{get_member};
 ghost use Rattle.serde_json.specs.View.{view, members_view};
 ghost use Rattle.sal_value.specs.Json.{HasJson, is_json};
 ghost use Rattle.sal_script.specs.Reading.{Reads, device, devices};
@@ -11,13 +11,11 @@ ghost use Rattle.sal_script.specs.declared.script.TheConstants.{PLAIN};
 
 use crate::fault::{ScriptFault, bad, bad_device};
 use crate::script::{MAX_DEVICES, PLAIN, ScriptDevice};
-use crate::values::{at_most, list_member, list_of, member, members_of};
+use crate::texts::{are_short, listed_texts};
+use crate::values::{at_most, list_member, member, members_of};
 use sal_types::{Seq, Str};
 use serde_json::{Map, Value};
 use std::alloc::Global;
-
-/// The most bytes that the texts of a domain's modules have together.
-const MAX_BYTES: usize = (1 << 32) - 1;
 
 // ---- modules
 
@@ -51,41 +49,10 @@ fn texts_in(alloc: Global, value: &Value) -> Result<Vec<Str>, ScriptFault>
     ensures texts { Reads (λ texts. texts.items) result (spec.or_bad (codes "modules") (spec.texts_of (view value.now))) }
     ensures short { IfOk result (λ texts. IsTrue (are_short texts.items)) }
 {
-    match listed_texts(alloc, value) {
+    match listed_texts(alloc, "modules", value) {
         Ok(texts) => short_texts(alloc, texts),
         Err(fault) => Err(fault),
     }
-}
-
-// The texts in an array.
-fn listed_texts(alloc: Global, value: &Value) -> Result<Vec<Str>, ScriptFault>
-    ensures { Reads (λ texts. texts.items) result (spec.or_bad (codes "modules") (spec.texts_in (view value.now))) }
-{
-    match list_of(value) {
-        Some(list) => texts_of(alloc, list),
-        None => Err(bad(alloc, "modules")),
-    }
-}
-
-// These texts.
-fn texts_of(alloc: Global, list: &[Value]) -> Result<Vec<Str>, ScriptFault>
-    ensures { Reads (λ texts. texts.items) result (spec.or_bad (codes "modules") (spec.all_of as_str (map view list.now))) }
-{
-    let mut texts = Vec::with_capacity(alloc, list.len())?;
-    for value in list {
-        match text_of(value) {
-            Some(text) => texts.push(Str::new(alloc, text)?)?,
-            None => return Err(bad(alloc, "modules")),
-        }
-    }
-    Ok(texts)
-}
-
-// The text of a module.
-fn text_of(value: &Value) -> Option<&str>
-    ensures text { option_map (λ text. text.now) result ≡ as_str (view value.now) }
-{
-    value.as_str()
 }
 
 // These texts, where they have fewer than 2^32 bytes together.
@@ -97,21 +64,6 @@ fn short_texts(alloc: Global, texts: Vec<Str>) -> Result<Vec<Str>, ScriptFault>
         return Err(bad(alloc, "modules"));
     }
     Ok(texts)
-}
-
-// Whether texts have fewer than 2^32 bytes together.
-fn are_short(texts: &[Str]) -> bool
-    ensures { result ≡ are_short texts.now }
-{
-    let mut room = MAX_BYTES;
-    for text in texts {
-        let bytes = text.as_str().len();
-        if bytes > room {
-            return false;
-        }
-        room -= bytes;
-    }
-    true
 }
 
 // ---- openings

@@ -15,16 +15,17 @@
 //! begins their transactions and closes them; decides what is pending first, of whatever client; and leaves marks and looks
 //! for them. It listens to a store at a path, takes what changed there, and looks at its mirror, which follows by what was
 //! taken. It provides RPCs, makes requests into slots and collects their answers, and is handed requests into slots and answers
-//! them; it subscribes to notifications, offers and takes them; and it mounts devices, each a domain with a schema of its own.
+//! them; it subscribes to notifications, offers and takes them; it mounts devices, each a domain with a schema of its own; and it
+//! upgrades the schema of domain 0 to its next version, for which the script has further modules.
 //!
 //! Names and paths are texts and values are JSON, of any kind. They are read when the step is answered, so a text that is no path is
-//! refused then, and is no fault of the script. What a transaction or a listener is told goes by the schema of its domain; RPCs,
-//! notifications and mounts are domain 0's, and go by its schema.
+//! refused then, and is no fault of the script. A transaction goes by the version of its domain's schema that was present where it
+//! began, a listener by the last version; RPCs, notifications and mounts are domain 0's, and go by the last version of its schema.
 //!
 //! `specs/Script` says which script bytes stand for, with the steps of `specs/Moves` by their forms in `specs/Steps`; `specs/Play`
 //! what a script does in an order, with the calls on services in `specs/Services`; and `specs/Report` the text of that, with its
 //! words in `specs/Words`, and batches, inputs, outputs and notifications as JSON in `specs/BatchData` and `specs/MessageData`. `examples`, `chain_examples`, `listener_examples`, `service_examples`,
-//! `along_examples` and `load_examples` have worked examples, each proved by computing it. `specs/Load` has a load's script and its summary.
+//! `upgrade_examples`, `along_examples` and `load_examples` have worked examples, each proved by computing it. `specs/Load` has a load's script and its summary.
 //! `laws` says of the values of a script that was read that each name stands once in its object, and that what they say at a
 //! path that was read fits the schema; and of what is played, that its log is in the order that was given and has the shared
 //! calls of each client, each once and in the client's own order (`specs/Orders`); and of what clients leave that run at the same
@@ -54,7 +55,10 @@ pub mod script;
 pub mod service_examples;
 mod service_step;
 mod step;
+mod texts;
 pub mod trees;
+pub mod upgrade_examples;
+mod upgrades;
 mod values;
 
 pub use fault::ScriptFault;
@@ -62,6 +66,7 @@ pub use load::{LOAD_CLIENTS, LOAD_MODULE, MAX_ROUNDS, MAX_START, load_script};
 pub use read::read_script;
 pub use reply::{StepRefusal, StepReply};
 pub use script::{
-    MAX_CLIENTS, MAX_DEVICES, MAX_PROGRAM, PLAIN, Program, Script, ScriptDevice, ScriptStep,
+    MAX_CLIENTS, MAX_DEVICES, MAX_PROGRAM, MAX_UPGRADES, PLAIN, Program, Script, ScriptDevice,
+    ScriptStep,
 };
 pub use trees::DomainTrees;

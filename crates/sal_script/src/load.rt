@@ -44,11 +44,12 @@ pub fn load_script(alloc: Global, rounds: u32, start: u32) -> Result<Script, NoM
 fn over_nothing(alloc: Global, clients: Vec<Program>) -> Result<Script, NoMemory>
     requires limits { IsTrue (within_limits clients.items) }
     requires json { IsTrue (have_json_moves (clients_of clients.items)) }
-    ensures { IfOk result (λ script. parts script ≡ record { modules = LOAD_MODULE.now ∷ []; config = object no_members; operational = object no_members; devices = []; clients = clients_of clients.items; order = [] }) }
+    ensures { IfOk result (λ script. parts script ≡ record { modules = LOAD_MODULE.now ∷ []; upgrades = []; config = object no_members; operational = object no_members; devices = []; clients = clients_of clients.items; order = [] }) }
 {
     let modules = modules(alloc)?;
     Ok(Script {
         modules: Seq::from_items(modules),
+        upgrades: Seq::new(alloc),
         config: Value::Object(Map::new(alloc)),
         operational: Value::Object(Map::new(alloc)),
         devices: Seq::new(alloc),

@@ -4,21 +4,24 @@ ghost use Rattle.serde_json.specs.View.{view, members_view};
 ghost use Rattle.sal_value.specs.Json.{HasJson};
 ghost use Rattle.sal_script.specs.JsonMoves.{have_json_moves};
 ghost use Rattle.sal_script.specs.Json.{data_of};
-ghost use Rattle.sal_script.specs.Reading.{Reads, ReadsScript, device, devices, parts};
+ghost use Rattle.sal_script.specs.Reading.{Reads, ReadsScript, devices, parts};
 ghost use Rattle.sal_script.specs.Moves.{clients_of, moves_of};
 ghost use Rattle.sal_script.specs.Limits.{are_few, within_limits};
 ghost use Rattle.sal_script.specs.Script as spec;
 
-use crate::device::{devices_in, modules_of, with_openings};
+use crate::device::devices_in;
 use crate::fault::{ScriptFault, bad, bad_client, bad_step};
-use crate::script::{MAX_CLIENTS, MAX_PROGRAM, Program, Script, ScriptDevice, ScriptStep};
+use crate::script::{
+    MAX_CLIENTS, MAX_PROGRAM, OwnDomain, Program, Script, ScriptDevice, ScriptStep,
+};
 use crate::step::step_of;
+use crate::upgrades::own_of;
 use crate::values::{at_most, list_member, list_of, member, members_of, whole_below};
 use sal_types::Seq;
 use serde_json::{Map, Value};
 use std::alloc::Global;
 
-/// The script that bytes stand for, or the first bad place: the bytes as JSON, the object's members, `modules`, `config`,
+/// The script that bytes stand for, or the first bad place: the bytes as JSON, the object's members, `modules`, `upgrades`, `config`,
 /// `operational`, `devices` and each device, `clients` and each client, the steps of each client, `order`.
 pub fn read_script(alloc: Global, bytes: &[u8]) -> Result<Script, ScriptFault>
     ensures { ReadsScript result (spec.script_of bytes.now) }
@@ -48,6 +51,7 @@ fn script_members(alloc: Global, value: &Value) -> Result<&Map<String, Value>, S
 {
     let names = &[
         "modules",
+        "upgrades",
         "config",
         "operational",
         "devices",
@@ -63,7 +67,7 @@ fn script_members(alloc: Global, value: &Value) -> Result<&Map<String, Value>, S
 // What a script has but its order.
 #[derive(Drop)]
 struct Beginning {
-    own: ScriptDevice,
+    own: OwnDomain,
     devices: Vec<ScriptDevice>,
     clients: Vec<Program>,
 }
@@ -77,32 +81,25 @@ fn parts_of(alloc: Global, members: &Map<String, Value>) -> Result<Script, Scrip
     let domains = with_devices(alloc, members, own)?;
     let beginning = with_clients(alloc, members, domains)?;
     let order = order_of(alloc, members)?;
+    let own = beginning.own;
+    let device = own.device;
     Ok(Script {
-        modules: beginning.own.modules,
-        config: beginning.own.config,
-        operational: beginning.own.operational,
+        modules: device.modules,
+        upgrades: own.upgrades,
+        config: device.config,
+        operational: device.operational,
         devices: Seq::from_items(beginning.devices),
         clients: Seq::from_items(beginning.clients),
         order: Seq::from_items(order),
     })
 }
 
-// What domain 0 has.
-fn own_of(alloc: Global, members: &Map<String, Value>) -> Result<ScriptDevice, ScriptFault>
-    requires { HasJson (members_view members.now.entries) }
-    ensures { Reads device result (spec.own_of (members_view members.now.entries)) }
-{
-    let modules = modules_of(alloc, members)?;
-    let own = with_openings(alloc, members, modules)?;
-    Ok(own)
-}
-
 // This with the devices.
 fn with_devices(
     alloc: Global,
     members: &Map<String, Value>,
-    own: ScriptDevice,
-) -> Result<(ScriptDevice, Vec<ScriptDevice>), ScriptFault>
+    own: OwnDomain,
+) -> Result<(OwnDomain, Vec<ScriptDevice>), ScriptFault>
     requires { HasJson (members_view members.now.entries) }
     ensures devices { Reads (λ read. devices read.1.items) result (spec.devices_member (members_view members.now.entries)) }
     ensures few { IfOk result (λ read. IsTrue (are_few read.1.items)) }
@@ -116,7 +113,7 @@ fn with_devices(
 fn with_clients(
     alloc: Global,
     members: &Map<String, Value>,
-    domains: (ScriptDevice, Vec<ScriptDevice>),
+    domains: (OwnDomain, Vec<ScriptDevice>),
 ) -> Result<Beginning, ScriptFault>
     requires { HasJson (members_view members.now.entries) }
     ensures clients { Reads (λ read. clients_of read.clients.items) result (spec.clients_member (members_view members.now.entries)) }

@@ -15,6 +15,8 @@ pub enum StepRefusal {
     ReadOnly,
     /// The script has no such domain.
     NoDevice,
+    /// Domain 0 has no such version of its schema.
+    NoUpgrade,
     /// Domain 0 has no RPC, or no notification, of this name.
     UnknownName,
     /// The text is no path of the schema.

@@ -3,7 +3,7 @@ ghost use Rattle.std.specs.Prelude.{IsTrue, ◌&&◌};
 ghost use Rattle.serde_json.specs.View.{view};
 ghost use Rattle.sal_value.specs.Json.{is_json};
 ghost use Rattle.sal_script.specs.JsonMoves.{have_json_moves};
-ghost use Rattle.sal_script.specs.Limits.{are_few, are_short, within_limits};
+ghost use Rattle.sal_script.specs.Limits.{all_texts, are_few, are_short, within_limits};
 ghost use Rattle.sal_script.specs.Moves.{clients_of};
 
 use sal_rows::Mode;
@@ -15,6 +15,9 @@ pub const MAX_CLIENTS: usize = 16;
 
 /// How many devices a script has at most.
 pub const MAX_DEVICES: usize = 63;
+
+/// How many upgrades domain 0 has at most.
+pub const MAX_UPGRADES: usize = 16;
 
 /// How many steps a client has at most.
 pub const MAX_PROGRAM: usize = 60000;
@@ -178,6 +181,10 @@ pub enum ScriptStep {
     After {
         mark: u32,
     },
+    /// Upgrades the schema of domain 0 to the version, which is from 1 to 16.
+    Upgrade {
+        version: u32,
+    },
 }
 
 /// The steps of a client, in order.
@@ -193,17 +200,27 @@ pub struct ScriptDevice {
     ghost opening: { IsTrue (is_json (view config) && is_json (view operational)) },
 }
 
-/// A script: the texts of its modules, together shorter than 4 GiB, the data of its opening trees, at most 63 devices, at most 16
-/// clients with at most 60,000 steps each, and the order of their shared calls. The device at index `i` is domain `i + 1`.
+/// Domain 0: what it has as a device, and the texts of the modules that each upgrade adds; all texts together are shorter than 4 GiB.
+#[derive(Drop)]
+pub(crate) struct OwnDomain {
+    pub device: ScriptDevice,
+    pub upgrades: Seq<Seq<Str>>,
+    ghost short: { IsTrue (are_short (all_texts device.modules upgrades)) },
+}
+
+/// A script: the texts of its modules and those that each upgrade of domain 0 adds, together shorter than 4 GiB, the data of its opening
+/// trees, at most 63 devices, at most 16 clients with at most 60,000 steps each, and the order of their shared calls. The device at index
+/// `i` is domain `i + 1`; the upgrade at index `i` leads to version `i + 1` of the schema of domain 0.
 #[derive(Drop)]
 pub struct Script {
     pub modules: Seq<Str>,
+    pub upgrades: Seq<Seq<Str>>,
     pub config: Value,
     pub operational: Value,
     pub devices: Seq<ScriptDevice>,
     pub clients: Seq<Program>,
     pub order: Seq<u32>,
-    ghost short: { IsTrue (are_short modules) },
+    ghost short: { IsTrue (are_short (all_texts modules upgrades)) },
     ghost few: { IsTrue (are_few devices) },
     ghost limits: { IsTrue (within_limits clients) },
     ghost opening: { IsTrue (is_json (view config) && is_json (view operational)) },

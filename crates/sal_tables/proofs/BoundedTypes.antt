@@ -1,4 +1,6 @@
 -- Types have their bits or digits, ranges within them and bases that are there, and none is a leafref.
+use Rattle.sal_grouping.proofs.Parts.{TreeNode}
+use Rattle.sal_tables.proofs.Grown.{AreGrown, built-grown}
 use Rattle.std.proofs.Common.{◌≡◌, ℕ, suc, ◌+◌, Bool, true, not, ◌&&◌, nat_lt, nat_le, IsTrue, List, [], ◌∷◌, length, refl, ap, subst, inl, inr}
 use Rattle.std.specs.List.{list_all, list_any}
 use Rattle.std.specs.Option.{option_to_list}
@@ -20,7 +22,7 @@ use Rattle.sal_build.specs.Leafrefs as leafrefs
 use Rattle.sal_tables.specs.Laws.{TypesAreBounded, is_bounded, of_each}
 use Rattle.sal_tables.proofs.Entries.{TypeEntry}
 use Rattle.sal_tables.proofs.BoundedRanges.{narrowed-lie}
-use Rattle.sal_tables.proofs.Built.{built_ok, forest_of}
+use Rattle.sal_tables.proofs.Built.{IsBuiltOn, built_on, forest_by, nodes_of}
 use Rattle.sal_tables.proofs.FilledTypes.{stated, is_stated}
 use Rattle.sal_tables.proofs.GoodIdentities.{base-there}
 use Rattle.sal_tables.proofs.JudgedTypes.{below-pass, builtin-raw, Keeps, judged-closed}
@@ -91,12 +93,15 @@ pub infos-length : (edges : List (List ℕ)) (i : ℕ) (some : List Identity) �
 infos-length edges i [] = refl
 infos-length edges i (one ∷ some) = ap (λ n. suc n) (infos-length edges (i + 1) some)
 
-pub types_are_bounded : TypesAreBounded
-types_are_bounded stmts table e =
-    let built = built_ok stmts table e in
-    let forest = forest_of stmts in
+pub types-are-bounded-on : (stmts : List Stmt) (nodes : List TreeNode) (table : SchemaTable) → IsBuiltOn stmts nodes table → AreGrown stmts nodes
+    → IsTrue (list_all (λ ty. of_each (is_bounded (length table.identities)) (out-YangType ty)) table.types)
+types-are-bounded-on stmts nodes table built grown =
+    let forest = forest_by stmts nodes in
     let number = length (identities_of stmts) in
     let quiet = judged-closed (is_bounded number) nothing_more (is_raw number) refl refl (builtin-raw (is_raw number) refl (builtins-raw number)) stmts (keeps-bounded stmts) forest in
     let same_count = infos-length (edges_of stmts) 0 (identities_of stmts) in
     subst (λ (t : SchemaTable). IsTrue (list_all (λ ty. of_each (is_bounded (length t.identities)) (out-YangType ty)) t.types)) built.is
     (subst (λ n. IsTrue (list_all (λ ty. of_each (is_bounded n) (out-YangType ty)) (leafrefs.types_of stmts forest))) same_count quiet)
+
+pub types_are_bounded : TypesAreBounded
+types_are_bounded stmts table e = types-are-bounded-on stmts (nodes_of stmts) table (built_on stmts table e) (built-grown stmts)

@@ -1,5 +1,5 @@
 -- What each pass found of modules that have a table.
-use Rattle.std.proofs.Common.{◌≡◌, ◌≤◌, true, false, nat_lt, List, [], ◌∷◌, length, map, Option, Some, None, is_some, Result, Ok, Err, refl, sym, ap, ◌∙◌, inl, inr, arith}
+use Rattle.std.proofs.Common.{◌≡◌, ℕ, ◌≤◌, true, false, nat_lt, List, [], ◌∷◌, ◌++◌, length, map, Option, Some, None, is_some, Result, Ok, Err, refl, sym, ap, ◌∙◌, inl, inr, arith}
 use Rattle.std.proofs.lemmas.Bool.{cases_Bool}
 use Rattle.std.proofs.lemmas.Bool.Decides.{nat_tests}
 use Rattle.sal_types.specs.Reading.{◌>>=◌}
@@ -21,6 +21,7 @@ use Rattle.sal_schema.specs.declared.table.SchemaTable.{SchemaTable}
 use Rattle.sal_build.specs.Build as spec
 use Rattle.sal_build.specs.Build.{build, table_of}
 use Rattle.sal_build.specs.Lists as lists
+use Rattle.sal_build.specs.OldBases as old_bases
 use Rattle.sal_build.specs.Types as types
 
 -- ---- steps
@@ -94,7 +95,7 @@ pub record IsExpanded (stmts : List Stmt) : Type 0 where
   pub targets : target_faults (rows_of stmts) (progress_of stmts).1 ≡ []
   pub children : child_faults (rows_of stmts) (nodes_of stmts) ≡ []
 
-sized_ok : (now other : Progress) → sized now ≡ Ok other → (length now.0 ≤ 65536) × (now ≡ other)
+pub sized_ok : (now other : Progress) → sized now ≡ Ok other → (length now.0 ≤ 65536) × (now ≡ other)
 sized_ok now other e = elim (cases_Bool (nat_lt 65536 (length now.0))) [
   | inl many ↦ (let no = rw many at e in cc)
   | inr few ↦ (grind (arith, nat_tests), same_ok now other (rw few at e))
@@ -124,6 +125,20 @@ expanded_ok stmts nodes e =
       is ∙ same4,
     ))))
 
+abbrev pub forest_by : List Stmt → List TreeNode → List Branch
+forest_by stmts nodes = map (branch_of (rows_of stmts)) nodes
+
+-- the table of these nodes, where no pass found a fault
+pub record IsBuiltOn (stmts : List Stmt) (nodes : List TreeNode) (table : SchemaTable) : Type 0 where
+  pub checked : IsChecked stmts
+  pub tree : name_faults stmts (rows_of stmts) ≡ []
+  pub few : length nodes ≤ 65536
+  pub children : child_faults (rows_of stmts) nodes ≡ []
+  pub names : spec.name_faults stmts (forest_by stmts nodes) ≡ []
+  pub types : types.other_faults stmts ≡ []
+  pub lists : lists.all_faults stmts (forest_by stmts nodes) ≡ []
+  pub is : table_of stmts (forest_by stmts nodes) ≡ table
+
 pub record IsBuilt (stmts : List Stmt) (table : SchemaTable) : Type 0 where
   pub checked : IsChecked stmts
   pub expanded : IsExpanded stmts
@@ -132,8 +147,31 @@ pub record IsBuilt (stmts : List Stmt) (table : SchemaTable) : Type 0 where
   pub lists : lists.all_faults stmts (forest_of stmts) ≡ []
   pub is : table_of stmts (forest_of stmts) ≡ table
 
-judged_all : (stmts : List Stmt) (forest : List Branch) (table : SchemaTable) → spec.judged stmts forest ≡ Ok table
-    → (spec.name_faults stmts forest ≡ []) × (types.other_faults stmts ≡ []) × (lists.all_faults stmts forest ≡ []) × (table_of stmts forest ≡ table)
+-- what no pass found of these nodes, and their table
+abbrev pub IsJudged : List Stmt → List Branch → SchemaTable → Type 0
+IsJudged stmts forest table =
+    (spec.name_faults stmts forest ≡ []) × (types.other_faults stmts ≡ []) × (lists.all_faults stmts forest ≡ []) × (table_of stmts forest ≡ table)
+
+first-none : {X : Type 0} (xs ys : List X) → xs ++ ys ≡ [] → xs ≡ []
+first-none [] ys e = refl
+first-none (x ∷ xs) ys e = cc
+
+pub judged_on_all : (old : ℕ) (stmts : List Stmt) (forest : List Branch) (table : SchemaTable) → spec.judged_on old stmts forest ≡ Ok table → IsJudged stmts forest table
+judged_on_all old stmts forest table e =
+    let named = unless_any (spec.name_faults stmts forest) forest in
+    let typed = λ (forest : List Branch). unless_any (spec.other_faults old stmts) forest in
+    let listed = λ (forest : List Branch). unless_any (lists.all_faults stmts forest) forest in
+    bind_ok ((named >>= typed) >>= listed) (λ f. Ok (table_of stmts f)) table e (λ f1 e1 e2.
+    bind_ok (named >>= typed) listed f1 e1 (λ f2 e3 e4.
+    bind_ok named typed f2 e3 (λ f3 e5 e6.
+    let (names, same1) = unless_ok (spec.name_faults stmts forest) forest f3 e5 in
+    let (others, same2) = unless_ok (spec.other_faults old stmts) f3 f2 e6 in
+    let (keys, same3) = unless_ok (lists.all_faults stmts f2) f2 f1 e4 in
+    let two : forest ≡ f2 = same1 ∙ same2 in
+    let typeless = first-none (types.other_faults stmts) (old_bases.all_faults old stmts) others in
+    (names, typeless, ap (lists.all_faults stmts) two ∙ keys, ap (table_of stmts) (two ∙ same3) ∙ same_ok _ _ e2))))
+
+pub judged_all : (stmts : List Stmt) (forest : List Branch) (table : SchemaTable) → spec.judged stmts forest ≡ Ok table → IsJudged stmts forest table
 judged_all stmts forest table e =
     let named = unless_any (spec.name_faults stmts forest) forest in
     let typed = λ (forest : List Branch). unless_any (types.other_faults stmts) forest in
@@ -158,3 +196,8 @@ built_ok stmts table e =
     let is : forest_of stmts ≡ forest = ap (map (branch_of (rows_of stmts))) same1 ∙ same_ok _ _ e7 in
     let found = judged_all stmts (forest_of stmts) table (ap (λ (m : List Stmt). spec.judged m (forest_of stmts)) same ∙ ap (spec.judged modules) is ∙ e4) in
     record { checked = good; expanded = grown; names = found.0; types = found.1; lists = found.2; is = found.3 })))
+
+pub built_on : (stmts : List Stmt) (table : SchemaTable) → build stmts ≡ Ok table → IsBuiltOn stmts (nodes_of stmts) table
+built_on stmts table e =
+    let it = built_ok stmts table e in
+    record { checked = it.checked; tree = it.expanded.names; few = it.expanded.few; children = it.expanded.children; names = it.names; types = it.types; lists = it.lists; is = it.is }

@@ -1,4 +1,6 @@
 -- There are no more identities than statements: each is one of those in the block of a module.
+use Rattle.sal_grouping.proofs.Parts.{TreeNode}
+use Rattle.sal_tables.proofs.Grown.{AreGrown, built-grown}
 use Rattle.std.proofs.Common.{◌≡◌, ℕ, zero, suc, ◌+◌, ◌≤◌, List, [], ◌∷◌, length, refl, subst, inl, inr, arith, length-append}
 use Rattle.std.specs.List.{flat_map, enumerate_from, sum_by}
 use Rattle.std.proofs.lemmas.Bool.{cases_Bool}
@@ -11,7 +13,7 @@ use Rattle.sal_typedefs.specs.Names.{count, steps_of}
 use Rattle.sal_build.specs.Identities.{Identity, identity_here, identities_in, identities_of, edges_of}
 use Rattle.sal_tables.specs.Laws.{IdentitiesAreStatements}
 use Rattle.sal_tables.proofs.BoundedTypes.{infos-length}
-use Rattle.sal_tables.proofs.Built.{built_ok}
+use Rattle.sal_tables.proofs.Built.{IsBuiltOn, built_on, nodes_of}
 
 -- a statement counts, whatever stands in it
 count-some : (levels : ℕ) (stmt : Stmt) → 1 ≤ count levels stmt
@@ -43,8 +45,11 @@ modules-few n (stmt ∷ stmts) =
       sum_by-cons (count 64) stmt stmts,
     )
 
-pub identities_are_statements : IdentitiesAreStatements
-identities_are_statements stmts table e =
-    let built = built_ok stmts table e in
+pub identities-are-statements-on : (stmts : List Stmt) (nodes : List TreeNode) (table : SchemaTable) → IsBuiltOn stmts nodes table → AreGrown stmts nodes
+    → length table.identities ≤ steps_of stmts
+identities-are-statements-on stmts nodes table built grown =
     let same = infos-length (edges_of stmts) 0 (identities_of stmts) in
     subst (λ (t : SchemaTable). length t.identities ≤ steps_of stmts) built.is (omega (arith, same, modules-few 0 stmts))
+
+pub identities_are_statements : IdentitiesAreStatements
+identities_are_statements stmts table e = identities-are-statements-on stmts (nodes_of stmts) table (built_on stmts table e) (built-grown stmts)

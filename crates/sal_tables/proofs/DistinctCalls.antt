@@ -1,4 +1,6 @@
 -- Each name of a module stands for one RPC and for one notification: they stand at the top, where the tree's pass compares their names.
+use Rattle.sal_tables.specs.Readable.{has_own_places}
+use Rattle.sal_tables.proofs.Grown.{AreGrown, built-grown}
 use Rattle.std.proofs.Common.{◌≡◌, ℕ, ◌+◌, ◌<◌, Bool, true, false, not, ◌&&◌, IsTrue, List, [], ◌∷◌, map, take, length, Option, Some, None, refl, sym, ap, ◌∙◌, subst, inl, inr, arith}
 use Rattle.std.specs.Prelude.{◌||◌, option_map, unwrap_or, is_none, if◌then◌else◌}
 use Rattle.std.specs.List.{list_all, list_any, slice_get}
@@ -31,11 +33,11 @@ use Rattle.sal_build.specs.Nodes.{kind_among, kind_in, argument_in, name_in, has
 use Rattle.sal_build.specs.Nodes as nodes
 use Rattle.sal_build.specs.Table.{info_of}
 use Rattle.sal_tables.specs.Laws.{CallNamesDiffer}
-use Rattle.sal_tables.proofs.Built.{built_ok, nodes_of}
+use Rattle.sal_tables.proofs.Built.{IsBuiltOn, built_on, nodes_of}
 use Rattle.sal_tables.proofs.Distinct.{called-same, true-is, all-more, pairwise, pairs, are_apart, distinct-pairs}
 use Rattle.sal_tables.proofs.DistinctNodes.{each-same, each-infos, all-two, is_fit, nodes-fit, is_fresh, fresh-from, is_double, none-double, is_itself, is_known, known-fresh, same-keys}
-use Rattle.sal_tables.proofs.HeldRows.{AreHeld, is_call, rows-held}
-use Rattle.sal_tables.proofs.LoneCalls.{calls-alone}
+use Rattle.sal_tables.proofs.HeldRows.{is_call, rows-held}
+use Rattle.sal_tables.proofs.LoneCalls.{calls-alone, is_alone_in}
 use Rattle.sal_tables.proofs.NamedNodes.{none-fits}
 use Rattle.sal_tables.proofs.OwnStatements.{AreOwn, own-rows}
 use Rattle.sal_tables.proofs.Quiet.{both}
@@ -166,12 +168,9 @@ module _ (kind : Kind) (keyword : Keyword) (calls : IsKindOfCalls kind keyword) 
   seen-stmt k stmt (Some implied.Input) name e is h = record { same_kind = calls.input; same_name = λ t. absurd (implied-name word.Input t refl) }
   seen-stmt k stmt (Some implied.Output) name e is h = record { same_kind = calls.output; same_name = λ t. absurd (implied-name word.Output t refl) }
 
-  module _ (stmts : List Stmt) (owns : AreOwn stmts (rows_of stmts)) where
+  module _ (stmts : List Stmt) (owns : AreOwn stmts (rows_of stmts)) (all : List TreeNode) (grown : AreGrown stmts all) where
     abbrev rows : List TreeRow
     rows = rows_of stmts
-
-    abbrev all : List TreeNode
-    all = nodes_of stmts
 
     abbrev forest : List Branch
     forest = map (branch_of rows) all
@@ -190,7 +189,7 @@ module _ (kind : Kind) (keyword : Keyword) (calls : IsKindOfCalls kind keyword) 
     abbrev name_at : ℕ → TreeNode → List Named
     name_at k node = if is_keyword keyword (tree.kind_of rows node) then named None node.module (tree.name_of rows node) k ∷ [] else []
 
-    same-name : (k : ℕ) (node : TreeNode) → k < length all → IsTrue (is_fit stmts owns k node) → kind_at kind k (info_of stmts forest k (branch_of rows node)) ≡ name_at k node
+    same-name : (k : ℕ) (node : TreeNode) → k < length all → IsTrue (is_fit stmts owns all grown k node) → kind_at kind k (info_of stmts forest k (branch_of rows node)) ≡ name_at k node
     same-name k node h fit =
         let view = seen-row node.row node.implied (slice_get rows node.row) refl (and_second (is_before k node.parent) (is_seed node.implied (keyword_at rows node.row)) fit) in
         elim (cases_Bool (is_keyword keyword (tree.kind_of rows node))) [
@@ -206,7 +205,7 @@ module _ (kind : Kind) (keyword : Keyword) (calls : IsKindOfCalls kind keyword) 
     -- ---- no two have one name
 
     abbrev is_good : ℕ → TreeNode → Bool
-    is_good k node = is_known stmts owns k node && (is_none node.parent || not (is_call (tree.kind_of rows node)))
+    is_good k node = is_known stmts owns all grown k node && (is_none node.parent || not (is_call (tree.kind_of rows node)))
 
     top-is : (parent : Option ℕ) → IsTrue (is_none parent || false) → parent ≡ None
     top-is None h = refl
@@ -214,7 +213,7 @@ module _ (kind : Kind) (keyword : Keyword) (calls : IsKindOfCalls kind keyword) 
 
     at-top : (k : ℕ) (node : TreeNode) → IsTrue (is_good k node) → is_keyword keyword (tree.kind_of rows node) ≡ true → node.parent ≡ None
     at-top k node h t =
-        let alone = and_second (is_known stmts owns k node) (is_none node.parent || not (is_call (tree.kind_of rows node))) h in
+        let alone = and_second (is_known stmts owns all grown k node) (is_none node.parent || not (is_call (tree.kind_of rows node))) h in
         let call = calls.call (tree.kind_of rows node) t in
         let only : IsTrue (is_none node.parent || false) = rw call at alone in
         top-is node.parent only
@@ -222,7 +221,7 @@ module _ (kind : Kind) (keyword : Keyword) (calls : IsKindOfCalls kind keyword) 
     top-parent : (node : TreeNode) → node.parent ≡ None → data_parent (length all) rows all node.parent ≡ None
     top-parent node e = ap (data_parent (length all) rows all) e ∙ data-stop (length all) rows all None refl
 
-    apart-two : (i : ℕ) (x : TreeNode) (j : ℕ) (y : TreeNode) → IsTrue (and_both is_good (λ i x j y. not (is_double stmts owns y x)) i x j y) → IsTrue (are_apart (name_at i x) (name_at j y))
+    apart-two : (i : ℕ) (x : TreeNode) (j : ℕ) (y : TreeNode) → IsTrue (and_both is_good (λ i x j y. not (is_double stmts owns all grown y x)) i x j y) → IsTrue (are_apart (name_at i x) (name_at j y))
     apart-two i x j y h = elim (cases_Bool (is_keyword keyword (tree.kind_of rows x))) [
       | inr f ↦ rw f refl
       | inl t ↦
@@ -232,19 +231,19 @@ module _ (kind : Kind) (keyword : Keyword) (calls : IsKindOfCalls kind keyword) 
                 (elim (cases_Bool (is_called (name_of_parts None x.module (tree.name_of rows x)) (named None y.module (tree.name_of rows y) j))) [
                   | inr f ↦ rw (t, u, f) refl
                   | inl e ↦
-                      (let goods = and_first (is_good i x && is_good j y) (not (is_double stmts owns y x)) h in
+                      (let goods = and_first (is_good i x && is_good j y) (not (is_double stmts owns all grown y x)) h in
                       let good_x = and_first (is_good i x) (is_good j y) goods in
                       let good_y = and_second (is_good i x) (is_good j y) goods in
                       let alike = called-same None None x.module y.module j (tree.name_of rows x) (tree.name_of rows y) e in
                       let parents = top-parent y (at-top j y good_y u) ∙ sym (top-parent x (at-top i x good_x t)) in
-                      let keys = same-keys stmts owns x y (calls.no_case (tree.kind_of rows x) t) (calls.no_case (tree.kind_of rows y) u) parents alike.1.0 alike.1.1 in
+                      let keys = same-keys stmts owns all grown x y (calls.no_case (tree.kind_of rows x) t) (calls.no_case (tree.kind_of rows y) u) parents alike.1.0 alike.1.1 in
                       let plain_x = calls.no_choice (tree.kind_of rows x) t in
                       let plain_y = calls.no_choice (tree.kind_of rows y) u in
-                      let known : IsTrue (is_known stmts owns j y) = and_first (is_known stmts owns j y) (is_none y.parent || not (is_call (tree.kind_of rows y))) good_y in
-                      let itself : is_itself stmts owns y ≡ true = rw plain_y at known in
+                      let known : IsTrue (is_known stmts owns all grown j y) = and_first (is_known stmts owns all grown j y) (is_none y.parent || not (is_call (tree.kind_of rows y))) good_y in
+                      let itself : is_itself stmts owns all grown y ≡ true = rw plain_y at known in
                       let has : same_key (key_of rows all y) (key_of rows all x) ≡ true = ap (same_key (key_of rows all y)) (sym keys) ∙ itself in
-                      let double : is_double stmts owns y x ≡ true = rw (plain_x, plain_y) has in
-                      let no = true-is (is_double stmts owns y x) (and_second (is_good i x && is_good j y) (not (is_double stmts owns y x)) h) in
+                      let double : is_double stmts owns all grown y x ≡ true = rw (plain_x, plain_y) has in
+                      let no = true-is (is_double stmts owns all grown y x) (and_second (is_good i x && is_good j y) (not (is_double stmts owns all grown y x)) h) in
                       absurd (wrong (sym no ∙ double)))
                 ])
           ])
@@ -253,24 +252,26 @@ module _ (kind : Kind) (keyword : Keyword) (calls : IsKindOfCalls kind keyword) 
     alone : (k : ℕ) (node : TreeNode) → IsTrue (are_distinct (name_at k node))
     alone k node = elim (cases_Bool (is_keyword keyword (tree.kind_of rows node))) [ inl t ↦ rw t refl | inr f ↦ rw f refl ]
 
-    calls-distinct : AreHeld rows → child_faults rows all ≡ [] → IsTrue (are_distinct (kind_names kind table))
-    calls-distinct held quiet =
-        let fresh = fresh-from stmts owns [] all 0 refl refl (nodes-fit stmts owns) quiet in
-        let news = all-more (is_fresh stmts owns) (λ k node. not (list_any (is_double stmts owns node) (take k all))) 0 all (λ k node less h. none-double stmts owns k node h) fresh in
-        let known = all-more (is_fresh stmts owns) (is_known stmts owns) 0 all (λ k node less h. known-fresh stmts owns k node h) fresh in
-        let top = all-from (λ node. is_none node.parent || not (is_call (tree.kind_of rows node))) 0 all (calls-alone stmts held) in
-        let good = all-two (is_known stmts owns) (λ k node. is_none node.parent || not (is_call (tree.kind_of rows node))) 0 all known top in
-        let apart = pairwise-both is_good (λ i x j y. not (is_double stmts owns y x)) 0 all good (pairs (is_double stmts owns) all [] all 0 refl refl news) in
-        let names = distinct-pairs name_at (and_both is_good (λ i x j y. not (is_double stmts owns y x))) alone apart-two 0 all apart in
+    calls-distinct : IsTrue (list_all (is_alone_in rows) all) → child_faults rows all ≡ [] → IsTrue (are_distinct (kind_names kind table))
+    calls-distinct lone quiet =
+        let fresh = fresh-from stmts owns all grown [] all 0 refl refl (nodes-fit stmts owns all grown) quiet in
+        let news = all-more (is_fresh stmts owns all grown) (λ k node. not (list_any (is_double stmts owns all grown node) (take k all))) 0 all (λ k node less h. none-double stmts owns all grown k node h) fresh in
+        let known = all-more (is_fresh stmts owns all grown) (is_known stmts owns all grown) 0 all (λ k node less h. known-fresh stmts owns all grown k node h) fresh in
+        let top = all-from (λ node. is_none node.parent || not (is_call (tree.kind_of rows node))) 0 all lone in
+        let good = all-two (is_known stmts owns all grown) (λ k node. is_none node.parent || not (is_call (tree.kind_of rows node))) 0 all known top in
+        let apart = pairwise-both is_good (λ i x j y. not (is_double stmts owns all grown y x)) 0 all good (pairs (is_double stmts owns all grown) all [] all 0 refl refl news) in
+        let names = distinct-pairs name_at (and_both is_good (λ i x j y. not (is_double stmts owns all grown y x))) alone apart-two 0 all apart in
         let same = each-infos stmts forest (kind_at kind) (branch_of rows) 0 all
-        ∙ each-same (λ k node. kind_at kind k (info_of stmts forest k (branch_of rows node))) name_at (is_fit stmts owns) (length all) (λ k node h fit. same-name k node h fit) 0 all (omega arith) (nodes-fit stmts owns) in
+        ∙ each-same (λ k node. kind_at kind k (info_of stmts forest k (branch_of rows node))) name_at (is_fit stmts owns all grown) (length all) (λ k node h fit. same-name k node h fit) 0 all (omega arith) (nodes-fit stmts owns all grown) in
         subst (λ (list : List Named). IsTrue (are_distinct list)) (sym same) names
 
-pub call_names_differ : CallNamesDiffer
-call_names_differ stmts table differ e =
-    let built = built_ok stmts table e in
-    let owns = own-rows stmts differ built.checked.profile in
-    let held = rows-held stmts built.checked.profile in (
-      subst (λ (t : SchemaTable). IsTrue (are_distinct (kind_names kinds.Rpc t))) built.is (calls-distinct kinds.Rpc word.Rpc rpcs stmts owns held built.expanded.children),
-      subst (λ (t : SchemaTable). IsTrue (are_distinct (kind_names kinds.Notification t))) built.is (calls-distinct kinds.Notification word.Notification notifications stmts owns held built.expanded.children),
+pub call-names-differ-on : (stmts : List Stmt) (nodes : List TreeNode) (table : SchemaTable) → IsTrue (list_all has_own_places stmts) → IsBuiltOn stmts nodes table → AreGrown stmts nodes → IsTrue (list_all (is_alone_in (rows_of stmts)) nodes)
+    → IsTrue (are_distinct (kind_names kinds.Rpc table)) × IsTrue (are_distinct (kind_names kinds.Notification table))
+call-names-differ-on stmts nodes table differ built grown lone =
+    let owns = own-rows stmts differ built.checked.profile in (
+      subst (λ (t : SchemaTable). IsTrue (are_distinct (kind_names kinds.Rpc t))) built.is (calls-distinct kinds.Rpc word.Rpc rpcs stmts owns nodes grown lone built.children),
+      subst (λ (t : SchemaTable). IsTrue (are_distinct (kind_names kinds.Notification t))) built.is (calls-distinct kinds.Notification word.Notification notifications stmts owns nodes grown lone built.children),
     )
+
+pub call_names_differ : CallNamesDiffer
+call_names_differ stmts table differ e = call-names-differ-on stmts (nodes_of stmts) table differ (built_on stmts table e) (built-grown stmts) (calls-alone stmts (rows-held stmts (built_on stmts table e).checked.profile))

@@ -1,4 +1,5 @@
 -- No two identities of one module have one name.
+use Rattle.sal_tables.proofs.Grown.{AreGrown, built-grown}
 use Rattle.std.proofs.Common.{◌≡◌, ℕ, zero, suc, ◌+◌, Bool, true, false, not, ◌&&◌, ◌==◌, nat_lt, IsTrue, List, [], ◌∷◌, ◌++◌, fold, take, length, Option, Some, None, refl, sym, ap, ◌∙◌, subst, inl, inr, arith, append_assoc, append-nil, length-append}
 use Rattle.std.specs.Prelude.{◌||◌, is_none}
 use Rattle.std.specs.List.{list_all, list_any, flat_map, enumerate_from, position_from}
@@ -7,11 +8,11 @@ use Rattle.std.proofs.lemmas.Bool.Decides.{nat_tests}
 use Rattle.sal_stmt.specs.declared.stmt.Stmt.{Stmt}
 use Rattle.sal_module.specs.declared.keyword.Keyword.{Keyword}
 use Rattle.sal_module.specs.declared.keyword.Keyword.TheVariants as word
-use Rattle.sal_module.specs.Keywords.{same, same_keyword, word_of, keyword_of}
+use Rattle.sal_module.specs.Keywords.{same, word_of, keyword_of}
 use Rattle.sal_module.specs.Keywords as keywords
 use Rattle.sal_module.specs.Profile.{module_faults}
 use Rattle.sal_module.specs.Statements.{is_named, subs_of, argument_of}
-use Rattle.sal_grouping.proofs.Parts.{TreeRow}
+use Rattle.sal_grouping.proofs.Parts.{TreeRow, TreeNode}
 use Rattle.sal_grouping.specs.Names.{double_faults, row_faults, name_faults}
 use Rattle.sal_grouping.specs.Rows.{part_of, part_among, row_of, with_row, with_rows, rows_of, is_block, is_number, defines, first_of}
 use Rattle.sal_schema.specs.declared.names.Named.{Named}
@@ -21,7 +22,7 @@ use Rattle.sal_schema.specs.Table.{each_from, all_from}
 use Rattle.sal_schema.proofs.Conjuncts.{and_first, and_second}
 use Rattle.sal_build.specs.Identities.{Identity, identity_here, identities_in, identities_of, edges_of, infos_from}
 use Rattle.sal_tables.specs.Laws.{IdentityNamesDiffer}
-use Rattle.sal_tables.proofs.Built.{built_ok}
+use Rattle.sal_tables.proofs.Built.{IsBuiltOn, built_on, nodes_of}
 use Rattle.sal_tables.proofs.Distinct.{called-same, same-itself, false-is, true-is, pairs, are_apart, distinct-pairs}
 use Rattle.sal_build.proofs.LeafWord.{same-text}
 use Rattle.sal_tables.proofs.NamedModules.{rule-named}
@@ -282,11 +283,14 @@ apart i x j y h = elim (cases_Bool (is_called (name_of_parts None x.0 (argument_
     wrong : true ≡ false → ⊥
     wrong e = cc
 
-pub identity_names_differ : IdentityNamesDiffer
-identity_names_differ stmts table e =
-    let built = built_ok stmts table e in
+pub identity-names-differ-on : (stmts : List Stmt) (nodes : List TreeNode) (table : SchemaTable) → IsBuiltOn stmts nodes table → AreGrown stmts nodes
+    → IsTrue (are_distinct (identity_names table))
+identity-names-differ-on stmts nodes table built grown =
     let all = identities_of stmts in
-    let new = modules-new stmts built.expanded.names all 0 stmts [] [] built.checked.profile refl (itself (rows_of stmts)) refl in
+    let new = modules-new stmts built.tree all 0 stmts [] [] built.checked.profile refl (itself (rows_of stmts)) refl in
     let apart-all = pairs (λ (y x : Identity). is_alike y x) all [] all 0 refl refl new in
     let names = distinct-pairs name_at (λ i (x : Identity) j (y : Identity). not (is_alike y x)) (λ i x. refl) apart 0 all apart-all in
     subst (λ (t : SchemaTable). IsTrue (are_distinct (identity_names t))) built.is (subst (λ names. IsTrue (are_distinct names)) (infos-names (edges_of stmts) 0 all) names)
+
+pub identity_names_differ : IdentityNamesDiffer
+identity_names_differ stmts table e = identity-names-differ-on stmts (nodes_of stmts) table (built_on stmts table e) (built-grown stmts)

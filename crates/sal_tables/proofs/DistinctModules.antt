@@ -1,4 +1,6 @@
 -- No two modules have one name.
+use Rattle.sal_grouping.proofs.Parts.{TreeNode}
+use Rattle.sal_tables.proofs.Grown.{AreGrown, built-grown}
 use Rattle.std.proofs.Common.{◌≡◌, ℕ, ◌+◌, true, false, not, IsTrue, List, [], ◌∷◌, ◌++◌, map, take, None, refl, sym, ap, ◌∙◌, subst, inl, inr}
 use Rattle.std.specs.List.{list_any, flat_map, enumerate_from}
 use Rattle.std.proofs.lemmas.Bool.{cases_Bool}
@@ -10,7 +12,7 @@ use Rattle.sal_schema.specs.declared.table.SchemaTable.{SchemaTable}
 use Rattle.sal_schema.specs.Names.{is_called, are_distinct, named, name_of_parts, module_at, module_names}
 use Rattle.sal_schema.specs.Table.{each_from, all_from}
 use Rattle.sal_tables.specs.Laws.{ModuleNamesDiffer}
-use Rattle.sal_tables.proofs.Built.{built_ok}
+use Rattle.sal_tables.proofs.Built.{IsBuiltOn, built_on, nodes_of}
 use Rattle.sal_tables.proofs.Distinct.{called-same, same-itself, false-is, true-is, pairs, are_apart, distinct-pairs}
 use Rattle.sal_tables.proofs.Quiet.{both, front-nil}
 
@@ -50,10 +52,13 @@ each-map : {X Y Z : Type 0} (f : ℕ → Y → List Z) (g : X → Y) (i : ℕ) (
 each-map f g i [] = refl
 each-map f g i (x ∷ xs) = ap (λ rest. f i (g x) ++ rest) (each-map f g (i + 1) xs)
 
-pub module_names_differ : ModuleNamesDiffer
-module_names_differ stmts table e =
-    let built = built_ok stmts table e in
+pub module-names-differ-on : (stmts : List Stmt) (nodes : List TreeNode) (table : SchemaTable) → IsBuiltOn stmts nodes table → AreGrown stmts nodes
+    → IsTrue (are_distinct (module_names table))
+module-names-differ-on stmts nodes table built grown =
     let new = new-names stmts 0 stmts built.checked.graph in
     let apart-all = pairs (λ (y x : Stmt). has_name (argument_of y) x) stmts [] stmts 0 refl refl new in
     let names = distinct-pairs (λ i (x : Stmt). module_at i (argument_of x)) (λ i (x : Stmt) j (y : Stmt). not (has_name (argument_of y) x)) (λ i x. refl) apart 0 stmts apart-all in
     subst (λ (t : SchemaTable). IsTrue (are_distinct (module_names t))) built.is (subst (λ names. IsTrue (are_distinct names)) (each-map module_at argument_of 0 stmts) names)
+
+pub module_names_differ : ModuleNamesDiffer
+module_names_differ stmts table e = module-names-differ-on stmts (nodes_of stmts) table (built_on stmts table e) (built-grown stmts)

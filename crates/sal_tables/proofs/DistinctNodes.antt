@@ -1,8 +1,9 @@
 -- Below each parent, looked for through choices and cases, no two nodes for data have one name: the tree's pass says so of their statements,
 -- and the statement of each is its own.
+use Rattle.sal_tables.specs.Readable.{has_own_places}
 use Rattle.std.proofs.Common.{◌≡◌, ℕ, zero, suc, ◌+◌, ◌-◌, ◌<◌, ◌≤◌, Bool, true, false, not, ◌&&◌, IsTrue, List, [], ◌∷◌, ◌++◌, map, take, length, Option, Some, None, refl, sym, ap, ◌∙◌, subst, inl, inr, arith, append_assoc, length-append}
 use Rattle.std.specs.Prelude.{◌||◌, option_map, option_and_then, unwrap_or, is_none, if◌then◌else◌}
-use Rattle.std.specs.List.{list_any, flat_map, slice_get, enumerate_from, position_from}
+use Rattle.std.specs.List.{list_all, list_any, flat_map, slice_get, enumerate_from, position_from}
 use Rattle.std.specs.Option.{option_map_or}
 use Rattle.std.proofs.lemmas.Bool.{cases_Bool}
 use Rattle.std.proofs.lemmas.Bool.Decides.{nat_tests}
@@ -37,9 +38,9 @@ use Rattle.sal_build.specs.Build.{table_of}
 use Rattle.sal_build.specs.Nodes.{kind_among, kind_in, argument_in, name_in, has}
 use Rattle.sal_build.specs.Nodes as nodes
 use Rattle.sal_build.specs.Table.{info_of, infos_from}
-use Rattle.sal_tables.proofs.Built.{built_ok, nodes_of}
+use Rattle.sal_tables.proofs.Built.{IsBuiltOn, built_on, nodes_of}
 use Rattle.sal_tables.proofs.Distinct.{called-same, true-is, false-is, all-more, pairwise, pairs, are_apart, distinct-pairs}
-use Rattle.sal_tables.proofs.Grown.{built-good}
+use Rattle.sal_tables.proofs.Grown.{AreGrown, built-grown}
 use Rattle.sal_tables.proofs.NamedNodes.{none-fits}
 use Rattle.sal_tables.proofs.Numbers.{infos-length}
 use Rattle.sal_tables.proofs.OwnStatements.{AreOwn, own-rows, middle-got}
@@ -185,12 +186,9 @@ pairwise-with good r i (x ∷ xs) h k =
 
 -- ---- the tree
 
-module _ (stmts : List Stmt) (owns : AreOwn stmts (rows_of stmts)) where
+module _ (stmts : List Stmt) (owns : AreOwn stmts (rows_of stmts)) (all : List TreeNode) (grown : AreGrown stmts all) where
   abbrev rows : List TreeRow
   rows = rows_of stmts
-
-  abbrev all : List TreeNode
-  all = nodes_of stmts
 
   abbrev forest : List Branch
   forest = map (branch_of rows) all
@@ -203,7 +201,7 @@ module _ (stmts : List Stmt) (owns : AreOwn stmts (rows_of stmts)) where
   is_fit k node = is_before k node.parent && is_seed node.implied (keyword_at rows node.row)
 
   pub nodes-fit : IsTrue (all_from is_fit 0 all)
-  nodes-fit = built-good is_fit stmts (λ owner k parent seed h before fit. both (is_before k parent) (is_seed seed.1 (keyword_at rows seed.0)) before fit)
+  nodes-fit = grown is_fit (λ owner k parent seed h before fit. both (is_before k parent) (is_seed seed.1 (keyword_at rows seed.0)) before fit)
 
   -- ---- one node
 
@@ -380,8 +378,11 @@ module _ (stmts : List Stmt) (owns : AreOwn stmts (rows_of stmts)) where
       ∙ each-same (λ k node. data_at table k (info_of stmts forest k (branch_of rows node))) name_at is_fit (length all) (λ k node h fit. same-name k node h fit) 0 all (omega arith) nodes-fit in
       subst (λ (list : List Named). IsTrue (are_distinct list)) (sym same) names
 
-pub data_names_differ : DataNamesDiffer
-data_names_differ stmts table differ e =
-    let built = built_ok stmts table e in
+pub data-names-differ-on : (stmts : List Stmt) (nodes : List TreeNode) (table : SchemaTable) → IsTrue (list_all has_own_places stmts) → IsBuiltOn stmts nodes table → AreGrown stmts nodes
+    → IsTrue (are_distinct (data_names table))
+data-names-differ-on stmts nodes table differ built grown =
     let owns = own-rows stmts differ built.checked.profile in
-    subst (λ (t : SchemaTable). IsTrue (are_distinct (data_names t))) built.is (data-distinct stmts owns built.expanded.children)
+    subst (λ (t : SchemaTable). IsTrue (are_distinct (data_names t))) built.is (data-distinct stmts owns nodes grown built.children)
+
+pub data_names_differ : DataNamesDiffer
+data_names_differ stmts table differ e = data-names-differ-on stmts (nodes_of stmts) table differ (built_on stmts table e) (built-grown stmts)

@@ -1,4 +1,5 @@
 -- The identities of a table that modules have.
+use Rattle.sal_grouping.proofs.Parts.{TreeNode}
 use Rattle.std.proofs.Common.{◌≡◌, ℕ, zero, suc, ◌+◌, ◌-◌, ◌<◌, Bool, true, not, ◌&&◌, ◌==◌, nat_lt, IsTrue, List, [], ◌∷◌, ◌++◌, filter, map, take, length, get_or, Option, Some, None, refl, sym, ap, ◌∙◌, subst, inl, inr, arith, append_assoc, length-append}
 use Rattle.std.specs.Prelude.{◌||◌, option_map, option_and_then}
 use Rattle.std.specs.List.{list_all, flat_map, enumerate_from, slice_get, sum_by, position_from}
@@ -32,8 +33,8 @@ use Rattle.sal_build.specs.Identities.{Identity, identity_here, identities_in, i
 use Rattle.sal_tables.specs.Laws.{IdentitiesAreGood}
 use Rattle.sal_grouping.specs.declared.forest.Branch.{Branch}
 use Rattle.sal_build.specs.Types as types
-use Rattle.sal_tables.proofs.Built.{built_ok, forest_of}
-use Rattle.sal_tables.proofs.Grown.{position-below}
+use Rattle.sal_tables.proofs.Built.{IsBuiltOn, built_on, forest_by, nodes_of}
+use Rattle.sal_tables.proofs.Grown.{position-below, AreGrown, built-grown}
 use Rattle.sal_tables.proofs.NamedModules.{rule-named, good-argument, identifier-given}
 use Rattle.sal_tables.proofs.Quiet.{both, front-nil, all-joined, flat-quiet, numbered-flat, from-quiet}
 use Rattle.sal_tables.proofs.Underived.{derived-inside, is_free, is_other, not-itself, none-among}
@@ -220,12 +221,15 @@ module _ (stmts : List Stmt) (forest : List Branch) (names : IsTrue (list_all (i
       both (is_good_identity (table_of stmts forest) i (info_of (edges_of stmts) i one)) (all_from (is_good_identity (table_of stmts forest)) (i + 1) (infos_from (edges_of stmts) (i + 1) rest)) (good-one done rest i one count is)
       (good-from (done ++ one ∷ []) rest (i + 1) (omega (arith, length-append done (one ∷ []))) (is ∙ sym (append_assoc done (one ∷ []) rest)))
 
-pub identities_are_good : IdentitiesAreGood
-identities_are_good stmts table e =
-    let built = built_ok stmts table e in
-    let forest = forest_of stmts in
+pub identities-are-good-on : (stmts : List Stmt) (nodes : List TreeNode) (table : SchemaTable) → IsBuiltOn stmts nodes table → AreGrown stmts nodes
+    → IsTrue (all_from (is_good_identity table) 0 table.identities)
+identities-are-good-on stmts nodes table built grown =
+    let forest = forest_by stmts nodes in
     let names = numbered-flat module_faults identities_in (is_named_well (length stmts)) (length stmts) (λ m stmt h quiet. named-in (length stmts) m stmt h quiet) 0 stmts (omega arith) built.checked.profile in
     let (named, leads) = front-nil (types.name_faults stmts ++ all_faults stmts) _ built.names in
     let (typed, quiet) = front-nil (types.name_faults stmts) (all_faults stmts) named in
     let free = from-quiet (faults_of stmts (edges_of stmts)) (λ i one. list_all (is_free (edges_of stmts) i (length (edges_of stmts))) (bases_of stmts one)) (free-bases stmts) 0 (identities_of stmts) quiet in
     subst (λ (t : SchemaTable). IsTrue (all_from (is_good_identity t) 0 t.identities)) built.is (good-from stmts forest names free [] (identities_of stmts) 0 refl refl)
+
+pub identities_are_good : IdentitiesAreGood
+identities_are_good stmts table e = identities-are-good-on stmts (nodes_of stmts) table (built_on stmts table e) (built-grown stmts)

@@ -1,5 +1,5 @@
 -- What holds of each node of the whole tree, augments carried out.
-use Rattle.std.proofs.Common.{◌≡◌, ℕ, zero, suc, ◌+◌, ◌*◌, ◌<◌, ◌≤◌, Bool, true, ◌==◌, nat_lt, IsTrue, List, [], ◌∷◌, fold, length, Option, Some, None, refl, ap, subst, inl, inr, arith}
+use Rattle.std.proofs.Common.{◌≡◌, ℕ, zero, suc, ◌+◌, ◌-◌, ◌*◌, ◌<◌, ◌≤◌, Bool, true, ◌==◌, nat_lt, IsTrue, List, [], ◌∷◌, fold, length, Option, Some, None, refl, ap, subst, inl, inr, arith}
 use Rattle.std.specs.Prelude.{option_and_then, is_none}
 use Rattle.std.specs.List.{list_all, slice_get, position_from, enumerate_from}
 use Rattle.std.proofs.lemmas.Bool.{cases_Bool}
@@ -13,6 +13,7 @@ use Rattle.sal_grouping.specs.Expand.{built}
 use Rattle.sal_grouping.specs.Groupings.{Step, path_of, named_of}
 use Rattle.sal_grouping.specs.Growth.{Seed, node_of, grown, seeds_in, trees_until, trees_of}
 use Rattle.sal_grouping.specs.Rows.{part_of, row_of, with_row, with_rows, rows_of, top_of}
+use Rattle.sal_grouping.specs.Versions.{trees_from, new_augments, nodes_on}
 use Rattle.sal_schema.specs.Table.{all_from}
 use Rattle.sal_schema.proofs.Conjuncts.{and_first, and_second}
 use Rattle.sal_tables.proofs.Quiet.{both}
@@ -49,7 +50,7 @@ rows-from count n (stmt ∷ stmts) rows h good = rows-from count (n + 1) stmts (
 pub rows-of-modules : (stmts : List Stmt) → IsTrue (list_all (is_of_module (length stmts)) (rows_of stmts))
 rows-of-modules stmts = rows-from (length stmts) 0 stmts [] (omega arith) refl
 
-at-row : (count k : ℕ) (rows : List TreeRow) (row : TreeRow) → IsTrue (list_all (is_of_module count) rows) → slice_get rows k ≡ Some row → row.module < count
+pub at-row : (count k : ℕ) (rows : List TreeRow) (row : TreeRow) → IsTrue (list_all (is_of_module count) rows) → slice_get rows k ≡ Some row → row.module < count
 at-row count k [] row h e = cc
 at-row count zero (r ∷ rows) row h e =
     let is : r ≡ row = cc in
@@ -83,6 +84,15 @@ follow-below rows forest from (step ∷ path) target h e =
     nothing target e = cc
 
 -- ---- the tree
+
+-- the test holds of each node that grows by these statements, wherever it stands
+abbrev pub HoldsOfGrown : List Stmt → (ℕ → TreeNode → Bool) → Type 0
+HoldsOfGrown stmts test =
+    (owner k : ℕ) (parent : Option ℕ) (seed : Seed) → owner < length stmts → IsTrue (is_before k parent) → IsTrue (fits (rows_of stmts) seed) → IsTrue (test k (node_of owner parent seed))
+
+-- what holds of each that grows holds of these
+abbrev pub AreGrown : List Stmt → List TreeNode → Type 0
+AreGrown stmts nodes = (test : ℕ → TreeNode → Bool) → HoldsOfGrown stmts test → IsTrue (all_from test 0 nodes)
 
 module _ (test : ℕ → TreeNode → Bool) (stmts : List Stmt)
     (each : (owner k : ℕ) (parent : Option ℕ) (seed : Seed) → owner < length stmts → IsTrue (is_before k parent) → IsTrue (fits (rows_of stmts) seed) → IsTrue (test k (node_of owner parent seed))) where
@@ -149,3 +159,18 @@ module _ (test : ℕ → TreeNode → Bool) (stmts : List Stmt)
 
   pub built-good : Good (built stmts (rows_of stmts) (named_of stmts (rows_of stmts))).0
   built-good = rounds-good (length (augments_of rows)) (trees_of stmts rows named, augments_of rows) (trees-good (length stmts) (omega arith))
+
+  -- ---- behind the nodes of an older version
+
+  from-good : (old : ℕ) (before : List TreeNode) → Good before → (n : ℕ) → old + n ≤ length stmts → Good (trees_from n stmts rows named old before)
+  unfolding trees_from
+  from-good old before good zero h = good
+  from-good old before good (suc n) h =
+      grown-good (old + n) None (trees_from n stmts rows named old before) (seeds_in rows named None (top_of stmts (old + n))) (omega arith) refl (seeds-fit rows named None (top_of stmts (old + n))) (from-good old before good n (omega arith))
+
+  pub on-good : (old : ℕ) (before : List TreeNode) → old ≤ length stmts → Good before → Good (nodes_on stmts old before).0
+  on-good old before h good =
+      rounds-good (length (new_augments old rows)) (trees_from (length stmts - old) stmts rows named old before, new_augments old rows) (from-good old before good (length stmts - old) (omega arith))
+
+pub built-grown : (stmts : List Stmt) → AreGrown stmts (built stmts (rows_of stmts) (named_of stmts (rows_of stmts))).0
+built-grown stmts test h = built-good test stmts h

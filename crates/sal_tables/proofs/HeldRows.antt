@@ -11,7 +11,7 @@ use Rattle.sal_module.specs.declared.keyword.Keyword.TheVariants as word
 use Rattle.sal_module.specs.Keywords.{keyword_of, word_of, words}
 use Rattle.sal_module.specs.Profile.{is_prefixed, allows, allows_keyword, is_judged, level_faults, tree_faults, module_faults, sub_faults}
 use Rattle.sal_module.specs.Statements.{is_named, subs_of}
-use Rattle.sal_module.specs.Table.{Rule, rule_of, rule_at}
+use Rattle.sal_module.specs.Table.{rule_of, rule_at}
 use Rattle.sal_module.specs.Table as table
 use Rattle.sal_module.proofs.Levels.{tree_faults-more, below}
 use Rattle.sal_grouping.proofs.Parts.{TreeRow}
@@ -227,7 +227,7 @@ module _ (m : ℕ) where
 
 -- ---- rows that stay where they are
 
-fold-stable : {X : Type 0} (step : List TreeRow → X → List TreeRow) (k : ℕ) (row : TreeRow) → ((rows : List TreeRow) (x : X) → slice_get rows k ≡ Some row → slice_get (step rows x) k ≡ Some row) → (rows : List TreeRow) (xs : List X)
+pub fold-stable : {X : Type 0} (step : List TreeRow → X → List TreeRow) (k : ℕ) (row : TreeRow) → ((rows : List TreeRow) (x : X) → slice_get rows k ≡ Some row → slice_get (step rows x) k ≡ Some row) → (rows : List TreeRow) (xs : List X)
     → slice_get rows k ≡ Some row → slice_get (fold step rows xs) k ≡ Some row
 fold-stable step k row each rows [] at = at
 fold-stable step k row each rows (x ∷ xs) at = fold-stable step k row each (step rows x) xs (each rows x at)
@@ -236,7 +236,7 @@ row-stable : (m : ℕ) (around : Option ℕ) (rows : List TreeRow) (stmt : Stmt)
 row-stable m around rows stmt None k row at = at
 row-stable m around rows stmt (Some keyword) k row at = got-front rows (row_of m around stmt keyword ∷ []) k row at
 
-tree-stable : (m levels : ℕ) (around : Option ℕ) (rows : List TreeRow) (stmt : Stmt) (k : ℕ) (row : TreeRow) → slice_get rows k ≡ Some row → slice_get (with_rows levels m around rows stmt) k ≡ Some row
+pub tree-stable : (m levels : ℕ) (around : Option ℕ) (rows : List TreeRow) (stmt : Stmt) (k : ℕ) (row : TreeRow) → slice_get rows k ≡ Some row → slice_get (with_rows levels m around rows stmt) k ≡ Some row
 unfolding with_rows
 tree-stable m zero around rows stmt k row at = row-stable m around rows stmt (part_of stmt) k row at
 tree-stable m (suc levels) around rows stmt k row at = elim (cases_Bool (is_none (part_of stmt))) [

@@ -1,4 +1,5 @@
 -- Just lists have keys, each at least one and none twice: the profile asks for the statement, and its names are judged.
+use Rattle.sal_tables.specs.Readable.{has_own_places}
 use Rattle.std.proofs.Common.{◌≡◌, ℕ, ◌+◌, ◌<◌, Bool, true, false, not, ◌&&◌, ◌==◌, nat_eq, IsTrue, List, [], ◌∷◌, ◌++◌, filter, map, length, Option, Some, None, refl, sym, ap, ◌∙◌, subst, inl, inr, arith, append-nil}
 use Rattle.std.specs.Prelude.{◌||◌, option_map, is_some, is_none, if◌then◌else◌}
 use Rattle.std.specs.List.{list_all, list_any, flat_map, enumerate_from, slice_get}
@@ -33,8 +34,8 @@ use Rattle.sal_build.specs.Lists.{keys_named, given, has_none, is_missing, diffe
 use Rattle.sal_build.specs.Lists as lists
 use Rattle.sal_build.specs.Nodes.{kind_among, kind_in, kind_of, has}
 use Rattle.sal_build.specs.Table.{infos_from}
-use Rattle.sal_tables.proofs.Built.{built_ok, forest_of, nodes_of}
-use Rattle.sal_tables.proofs.Grown.{built-good}
+use Rattle.sal_tables.proofs.Built.{IsBuiltOn, built_on, forest_by, nodes_of}
+use Rattle.sal_tables.proofs.Grown.{AreGrown, built-grown}
 use Rattle.sal_build.proofs.LeafWord.{same-text}
 use Rattle.sal_tables.proofs.NamedNodes.{rule_given, rule-by, none-fits}
 use Rattle.sal_tables.proofs.OwnStatements.{AreOwn, own-rows, not-extension, block-quiet}
@@ -151,8 +152,8 @@ module _ (stmts : List Stmt) (owns : AreOwn stmts (rows_of stmts)) where
       let own = owns k row e in
       subst (λ (o : Option Stmt). IsTrue (is_keyed_at o side)) (sym own.found) (keyed-good row.keyword own.stmt side own.keyword (λ is. one-key row.module own.stmt (own.keyword ∙ is) own.part own.good))
 
-  nodes-keyed : IsTrue (all_from is_keyed_node 0 (nodes_of stmts))
-  nodes-keyed = built-good is_keyed_node stmts (λ owner k parent seed h before fit. row-keyed seed.0 seed.1 (slice_get (rows_of stmts) seed.0) refl fit)
+  nodes-keyed : (nodes : List TreeNode) → AreGrown stmts nodes → IsTrue (all_from is_keyed_node 0 nodes)
+  nodes-keyed nodes grown = grown is_keyed_node (λ owner k parent seed h before fit. row-keyed seed.0 seed.1 (slice_get (rows_of stmts) seed.0) refl fit)
 
 -- ---- its keys
 
@@ -222,10 +223,13 @@ infos-keyed stmts forest k (node ∷ nodes) h quiet =
     both (agree (is_list (kind_of stmts b)) (not (is_empty (keys_of stmts forest k b))) && all_differ nat_eq (keys_of stmts forest k b)) _
     (node-keys stmts forest k b (and_first (test k node) (all_from test (k + 1) nodes) h) here) (infos-keyed stmts forest (k + 1) nodes (and_second (test k node) (all_from test (k + 1) nodes) h) rest)
 
-pub keys_are_there : KeysAreThere
-keys_are_there stmts table differ e =
-    let built = built_ok stmts table e in
+pub keys-are-there-on : (stmts : List Stmt) (nodes : List TreeNode) (table : SchemaTable) → IsTrue (list_all has_own_places stmts) → IsBuiltOn stmts nodes table → AreGrown stmts nodes
+    → IsTrue (list_all (λ (node : NodeInfo). agree (is_list node.kind) (not (is_empty node.keys)) && all_differ nat_eq node.keys) table.nodes)
+keys-are-there-on stmts nodes table differ built grown =
     let owns = own-rows stmts differ built.checked.profile in
-    let forest = forest_of stmts in
+    let forest = forest_by stmts nodes in
     subst (λ (t : SchemaTable). IsTrue (list_all (λ (node : NodeInfo). agree (is_list node.kind) (not (is_empty node.keys)) && all_differ nat_eq node.keys) t.nodes)) built.is
-    (infos-keyed stmts forest 0 (nodes_of stmts) (nodes-keyed stmts owns) built.lists)
+    (infos-keyed stmts forest 0 nodes (nodes-keyed stmts owns nodes grown) built.lists)
+
+pub keys_are_there : KeysAreThere
+keys_are_there stmts table differ e = keys-are-there-on stmts (nodes_of stmts) table differ (built_on stmts table e) (built-grown stmts)

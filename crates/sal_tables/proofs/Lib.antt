@@ -45,3 +45,7 @@ pub mod WholeTables
 pub mod OrderedTexts
 pub mod ReadableTexts
 pub mod Counted
+pub mod Staged
+pub mod Appending
+pub mod PartOf
+pub mod Extending

@@ -1,5 +1,5 @@
 -- Where nodes stand: each below a node that can hold it.
-use Rattle.std.proofs.Common.{◌≡◌, ℕ, zero, suc, ◌*◌, ◌<◌, ◌≤◌, Bool, true, false, not, ◌&&◌, ◌==◌, nat_lt, IsTrue, List, [], ◌∷◌, ◌++◌, fold, map, length, Option, Some, None, refl, sym, ap, ◌∙◌, subst, inl, inr, arith, append_assoc, append-nil}
+use Rattle.std.proofs.Common.{◌≡◌, ℕ, zero, suc, ◌+◌, ◌-◌, ◌*◌, ◌<◌, ◌≤◌, Bool, true, false, not, ◌&&◌, ◌==◌, nat_lt, IsTrue, List, [], ◌∷◌, ◌++◌, fold, map, length, Option, Some, None, refl, sym, ap, ◌∙◌, subst, inl, inr, arith, append_assoc, append-nil}
 use Rattle.std.specs.Prelude.{◌||◌, find, option_and_then, option_map, is_some}
 use Rattle.std.specs.List.{list_all, flat_map, slice_get, enumerate_from}
 use Rattle.std.specs.Option.{option_map_or}
@@ -19,6 +19,7 @@ use Rattle.sal_grouping.specs.Frames.{with_seed}
 use Rattle.sal_grouping.specs.Groupings.{named_of, path_of}
 use Rattle.sal_grouping.specs.Growth.{Seed, is_node, used_by, nodes_at, nodes_within, nodes_in, plain, in_choice, param_or, param, seeds_in, below_row, below, node_of, grow, grown, trees_until, trees_of}
 use Rattle.sal_grouping.specs.Rows.{is_inside, inside, keyword_at, is_keyword, top_of, rows_of}
+use Rattle.sal_grouping.specs.Versions.{trees_from, new_augments, nodes_on}
 use Rattle.sal_schema.specs.Valid.{agree}
 use Rattle.sal_schema.proofs.Conjuncts.{and_first, and_second}
 use Rattle.sal_tables.proofs.Distinct.{false-is}
@@ -139,6 +140,11 @@ all-both : {X : Type 0} (a b : X → Bool) (xs : List X) → IsTrue (list_all a 
 all-both a b [] h k = refl
 all-both a b (x ∷ xs) h k =
     both (a x && b x) (list_all (λ x. a x && b x) xs) (both (a x) (b x) (and_first (a x) (list_all a xs) h) (and_first (b x) (list_all b xs) k)) (all-both a b xs (and_second (a x) (list_all a xs) h) (and_second (b x) (list_all b xs) k))
+
+-- it stands at the top where it can, or below a node that can hold it
+abbrev pub is_linked_in : List TreeRow → List TreeNode → TreeNode → Bool
+is_linked_in rows forest node =
+    option_map_or (λ p. option_map_or (λ (above : TreeNode). can_be_under (kind_of rows above) (kind_of rows node)) (slice_get forest p) false) node.parent (can_be_on_top (kind_of rows node))
 
 module _ (stmts : List Stmt) (held : AreHeld (rows_of stmts)) where
   abbrev rows : List TreeRow
@@ -505,3 +511,16 @@ module _ (stmts : List Stmt) (held : AreHeld (rows_of stmts)) where
 
     pub nodes-linked : AreLinked (built stmts (rows_of stmts) (named_of stmts (rows_of stmts))).0
     nodes-linked = rounds-linked (length (augments_of rows)) (trees_of stmts rows named, augments_of rows) (trees-linked (length stmts) (omega arith))
+
+    -- ---- behind the nodes of an older version
+
+    from-linked : (old : ℕ) (before : List TreeNode) → AreLinked before → (n : ℕ) → old + n ≤ length stmts → AreLinked (trees_from n stmts rows named old before)
+    unfolding trees_from
+    from-linked old before good zero h = good
+    from-linked old before good (suc n) h =
+        let forest = trees_from n stmts rows named old before in
+        (grow-linked (2 * length rows) (old + n) None forest (seeds_in rows named None (top_of stmts (old + n))) (top-link (old + n) forest (omega arith)) (from-linked old before good n (omega arith))).linked
+
+    pub on-linked : (old : ℕ) (before : List TreeNode) → old ≤ length stmts → AreLinked before → AreLinked (nodes_on stmts old before).0
+    on-linked old before h good =
+        rounds-linked (length (new_augments old rows)) (trees_from (length stmts - old) stmts rows named old before, new_augments old rows) (from-linked old before good (length stmts - old) (omega arith))

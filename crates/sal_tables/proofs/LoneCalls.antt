@@ -1,5 +1,5 @@
 -- RPCs and notifications stand at the top: in no other statement than a module has the profile a place for them.
-use Rattle.std.proofs.Common.{◌≡◌, ℕ, zero, suc, ◌+◌, ◌*◌, Bool, true, false, not, ◌&&◌, ◌==◌, IsTrue, List, [], ◌∷◌, ◌++◌, fold, map, length, Option, Some, None, refl, sym, ap, ◌∙◌, subst, inl, inr, arith, append_assoc, length-append}
+use Rattle.std.proofs.Common.{◌≡◌, ℕ, zero, suc, ◌+◌, ◌-◌, ◌*◌, nat_le, Bool, true, false, not, ◌&&◌, ◌==◌, IsTrue, List, [], ◌∷◌, ◌++◌, fold, map, length, Option, Some, None, refl, sym, ap, ◌∙◌, subst, inl, inr, arith, append_assoc, length-append}
 use Rattle.std.specs.Prelude.{◌||◌, find, option_and_then, option_map, unwrap_or, is_some, is_none, if◌then◌else◌}
 use Rattle.std.specs.List.{list_all, flat_map, slice_get, enumerate_from}
 use Rattle.std.specs.Option.{option_map_or}
@@ -18,6 +18,7 @@ use Rattle.sal_grouping.specs.Frames.{with_seed}
 use Rattle.sal_grouping.specs.Groupings.{from_block, grouping_in, grouping_of, module_of, local_name, named_by, named_of, path_of}
 use Rattle.sal_grouping.specs.Growth.{Seed, is_node, used_by, nodes_at, nodes_within, nodes_in, plain, in_choice, param_or, param, seeds_in, below_row, below, node_of, grow, grown, trees_until, trees_of}
 use Rattle.sal_grouping.specs.Rows.{option_list, is_block, is_inside, is_number, inside, around_of, keyword_at, is_keyword, defines, first_of, top_of, rows_of}
+use Rattle.sal_grouping.specs.Versions.{trees_from, new_augment_at, new_augments, nodes_on}
 use Rattle.sal_schema.proofs.Conjuncts.{and_first, and_second}
 use Rattle.sal_tables.proofs.HeldRows.{AreHeld, is_held, is_call, can_stand}
 use Rattle.sal_tables.proofs.OwnStatements.{middle-got}
@@ -89,6 +90,10 @@ quiet-inside parent child alone h =
     nothing-more : (b : Bool) → IsTrue (b || false) → IsTrue b
     nothing-more true h = refl
     nothing-more false h = h
+
+-- a call has no parent
+abbrev pub is_alone_in : List TreeRow → TreeNode → Bool
+is_alone_in rows node = is_none node.parent || not (is_call (kind_of rows node))
 
 module _ (stmts : List Stmt) (held : AreHeld (rows_of stmts)) where
   abbrev rows : List TreeRow
@@ -363,3 +368,27 @@ module _ (stmts : List Stmt) (held : AreHeld (rows_of stmts)) where
 
   pub calls-alone : Good (built stmts (rows_of stmts) (named_of stmts (rows_of stmts))).0
   calls-alone = (rounds-right (length (augments_of rows)) (trees_of stmts rows named, augments_of rows) (record { good = trees-good (length stmts); left = augments-are [] rows 0 refl refl })).good
+
+  -- ---- behind the nodes of an older version
+
+  from-alone : (old : ℕ) (before : List TreeNode) → Good before → (n : ℕ) → Good (trees_from n stmts rows named old before)
+  unfolding trees_from
+  from-alone old before good zero = good
+  from-alone old before good (suc n) =
+      grow-good (2 * length rows) (old + n) None (trees_from n stmts rows named old before) (seeds_in rows named None (top_of stmts (old + n))) (top-suit (nodes_in rows named (top_of stmts (old + n))) (seeds-fit rows named None (top_of stmts (old + n)))) (from-alone old before good n)
+
+  new-are : (old : ℕ) (done rest : List TreeRow) (k : ℕ) → k ≡ length done → rows ≡ done ++ rest → IsTrue (list_all is_augment (flat_map (λ (entry : ℕ × TreeRow). new_augment_at old entry.0 entry.1) (enumerate_from k rest)))
+  new-are old done [] k count is = refl
+  new-are old done (row ∷ rest) k count is =
+      let at : slice_get rows k ≡ Some row = ap (λ (xs : List TreeRow). slice_get xs k) is ∙ middle-got done rest row k count in
+      let own : IsTrue (list_all is_augment (augment_at k row)) = elim (cases_Bool (same_keyword row.keyword word.Augment)) [
+        | inl t ↦ rw t (both (is_augment k) true (ap (λ (o : Option TreeRow). is_keyword word.Augment (option_map (λ (row : TreeRow). row.keyword) o)) at ∙ t) refl)
+        | inr f ↦ rw f refl
+      ] in
+      let here : IsTrue (list_all is_augment (new_augment_at old k row)) = elim (cases_Bool (nat_le old row.module)) [ inl t ↦ rw t own | inr f ↦ rw f refl ] in
+      all-joined is_augment (new_augment_at old k row) (flat_map (λ (entry : ℕ × TreeRow). new_augment_at old entry.0 entry.1) (enumerate_from (k + 1) rest)) here
+      (new-are old (done ++ row ∷ []) rest (k + 1) (omega (arith, length-append done (row ∷ []))) (is ∙ sym (append_assoc done (row ∷ []) rest)))
+
+  pub on-alone : (old : ℕ) (before : List TreeNode) → Good before → Good (nodes_on stmts old before).0
+  on-alone old before good =
+      (rounds-right (length (new_augments old rows)) (trees_from (length stmts - old) stmts rows named old before, new_augments old rows) (record { good = from-alone old before good (length stmts - old); left = new-are old [] rows 0 refl refl })).good

@@ -1,4 +1,6 @@
 -- Modules are named by identifiers: the profile says so.
+use Rattle.sal_grouping.proofs.Parts.{TreeNode}
+use Rattle.sal_tables.proofs.Grown.{AreGrown, built-grown}
 use Rattle.std.proofs.Common.{◌≡◌, ℕ, true, false, not, IsTrue, List, [], ◌∷◌, ◌++◌, Option, Some, None, refl, sym, ap, ◌∙◌, inl, inr, subst}
 use Rattle.std.proofs.lemmas.Bool.{cases_Bool}
 use Rattle.std.specs.List.{list_all}
@@ -11,7 +13,7 @@ use Rattle.sal_module.specs.declared.argument.Form.TheVariants.{Identifier}
 use Rattle.sal_module.specs.Arguments.{is_bad_argument}
 use Rattle.sal_module.specs.Keywords.{word_of, keyword_of}
 use Rattle.sal_module.specs.Keywords as keywords
-use Rattle.sal_module.specs.Table.{Rule, rule_of, rule_at}
+use Rattle.sal_module.specs.Table.{rule_of, rule_at}
 use Rattle.sal_module.specs.Table as table
 use Rattle.sal_module.specs.Profile.{level_faults, tree_faults, module_faults, argument_faults, left_out_faults}
 use Rattle.sal_module.specs.Statements.{is_named, argument_of}
@@ -22,7 +24,7 @@ use Rattle.sal_schema.proofs.Conjuncts.{and_first, and_second}
 use Rattle.sal_grouping.proofs.IndexLists.{not-false}
 use Rattle.sal_tables.specs.Laws.{ModulesAreNamed}
 use Rattle.sal_build.proofs.LeafWord.{same-text}
-use Rattle.sal_tables.proofs.Built.{built_ok}
+use Rattle.sal_tables.proofs.Built.{IsBuiltOn, built_on, nodes_of}
 use Rattle.sal_tables.proofs.Quiet.{both, front-nil, numbered-quiet, all-map}
 
 -- ---- identifiers
@@ -72,8 +74,11 @@ module-named m stmt e = elim (cases_Bool (is_named word.Module stmt)) [
   | inr f ↦ let no = rw f at e in cc
 ]
 
-pub modules_are_named : ModulesAreNamed
-modules_are_named stmts table e =
-    let built = built_ok stmts table e in
+pub modules-are-named-on : (stmts : List Stmt) (nodes : List TreeNode) (table : SchemaTable) → IsBuiltOn stmts nodes table → AreGrown stmts nodes
+    → IsTrue (list_all valid.is_identifier table.modules)
+modules-are-named-on stmts nodes table built grown =
     let named = numbered-quiet module_faults (λ stmt. valid.is_identifier (argument_of stmt)) module-named 0 stmts built.checked.profile in
     subst (λ (t : SchemaTable). IsTrue (list_all valid.is_identifier t.modules)) built.is (all-map argument_of valid.is_identifier stmts named)
+
+pub modules_are_named : ModulesAreNamed
+modules_are_named stmts table e = modules-are-named-on stmts (nodes_of stmts) table (built_on stmts table e) (built-grown stmts)

@@ -1,4 +1,5 @@
 -- Nodes are named by identifiers: the statement of each is its own, and the profile says so.
+use Rattle.sal_tables.specs.Readable.{has_own_places}
 use Rattle.std.proofs.Common.{◌≡◌, ℕ, ◌+◌, Bool, true, false, IsTrue, List, [], ◌∷◌, map, Option, Some, None, refl, sym, ap, ◌∙◌, subst}
 use Rattle.std.specs.Prelude.{option_map, option_and_then, unwrap_or}
 use Rattle.std.specs.List.{list_all, slice_get}
@@ -27,8 +28,8 @@ use Rattle.sal_schema.proofs.Conjuncts.{and_first, and_second}
 use Rattle.sal_tables.specs.Laws.{NodesAreNamed}
 use Rattle.sal_build.specs.Nodes.{kind_among, kind_in, argument_in, name_in, name_of, has}
 use Rattle.sal_build.specs.Table.{infos_from}
-use Rattle.sal_tables.proofs.Built.{built_ok, forest_of, nodes_of}
-use Rattle.sal_tables.proofs.Grown.{built-good}
+use Rattle.sal_tables.proofs.Built.{IsBuiltOn, built_on, forest_by, nodes_of}
+use Rattle.sal_tables.proofs.Grown.{AreGrown, built-grown}
 use Rattle.sal_tables.proofs.NamedModules.{good-argument, identifier-given}
 use Rattle.sal_tables.proofs.OwnStatements.{AreOwn, own-rows}
 use Rattle.sal_tables.proofs.Quiet.{both}
@@ -106,8 +107,8 @@ module _ (stmts : List Stmt) (owns : AreOwn stmts (rows_of stmts)) where
       subst (λ (o : Option Stmt). IsTrue (is_identifier (name_in (kind_in o side) (argument_in o)))) (sym own.found)
       (name-good row.keyword own.stmt side own.keyword h (node-argument row.module row.keyword own.stmt own.keyword own.good))
 
-  nodes-named : IsTrue (all_from is_named_node 0 (nodes_of stmts))
-  nodes-named = built-good is_named_node stmts (λ owner k parent seed h before fit. row-named seed.0 seed.1 (slice_get (rows_of stmts) seed.0) refl fit)
+  nodes-named : (nodes : List TreeNode) → AreGrown stmts nodes → IsTrue (all_from is_named_node 0 nodes)
+  nodes-named nodes grown = grown is_named_node (λ owner k parent seed h before fit. row-named seed.0 seed.1 (slice_get (rows_of stmts) seed.0) refl fit)
 
   infos-named : (forest : List Branch) (k : ℕ) (nodes : List TreeNode) → IsTrue (all_from is_named_node k nodes)
       → IsTrue (list_all (λ (node : NodeInfo). is_identifier node.name) (infos_from stmts forest k (map (branch_of (rows_of stmts)) nodes)))
@@ -116,8 +117,11 @@ module _ (stmts : List Stmt) (owns : AreOwn stmts (rows_of stmts)) where
       both (is_named_node k node) (list_all (λ (node : NodeInfo). is_identifier node.name) (infos_from stmts forest (k + 1) (map (branch_of (rows_of stmts)) nodes)))
       (and_first (is_named_node k node) (all_from is_named_node (k + 1) nodes) h) (infos-named forest (k + 1) nodes (and_second (is_named_node k node) (all_from is_named_node (k + 1) nodes) h))
 
-pub nodes_are_named : NodesAreNamed
-nodes_are_named stmts table differ e =
-    let built = built_ok stmts table e in
+pub nodes-are-named-on : (stmts : List Stmt) (nodes : List TreeNode) (table : SchemaTable) → IsTrue (list_all has_own_places stmts) → IsBuiltOn stmts nodes table → AreGrown stmts nodes
+    → IsTrue (list_all (λ (node : NodeInfo). is_identifier node.name) table.nodes)
+nodes-are-named-on stmts nodes table differ built grown =
     let owns = own-rows stmts differ built.checked.profile in
-    subst (λ (t : SchemaTable). IsTrue (list_all (λ (node : NodeInfo). is_identifier node.name) t.nodes)) built.is (infos-named stmts owns (forest_of stmts) 0 (nodes_of stmts) (nodes-named stmts owns))
+    subst (λ (t : SchemaTable). IsTrue (list_all (λ (node : NodeInfo). is_identifier node.name) t.nodes)) built.is (infos-named stmts owns (forest_by stmts nodes) 0 nodes (nodes-named stmts owns nodes grown))
+
+pub nodes_are_named : NodesAreNamed
+nodes_are_named stmts table differ e = nodes-are-named-on stmts (nodes_of stmts) table differ (built_on stmts table e) (built-grown stmts)

@@ -23,8 +23,8 @@ use Rattle.sal_tables.specs.Laws.{NumbersAreThere, TablesAreSmall}
 use Rattle.sal_build.specs.Leafrefs.{node_type}
 use Rattle.sal_build.specs.Nodes.{kind_of}
 use Rattle.sal_build.specs.Table.{is_typed, types_before, info_of, infos_from}
-use Rattle.sal_tables.proofs.Built.{built_ok, forest_of, nodes_of}
-use Rattle.sal_tables.proofs.Grown.{built-good}
+use Rattle.sal_tables.proofs.Built.{IsBuiltOn, built_on, forest_by, nodes_of}
+use Rattle.sal_tables.proofs.Grown.{AreGrown, built-grown}
 use Rattle.sal_tables.proofs.InfoLists.{infos-numbered}
 use Rattle.sal_tables.proofs.Quiet.{both}
 use Rattle.sal_tables.proofs.Shapes.{is_before}
@@ -36,7 +36,7 @@ infos-length stmts forest k [] = refl
 infos-length stmts forest k (b ∷ rest) = ap (λ n. suc n) (infos-length stmts forest (k + 1) rest)
 
 -- each node that has a type gives one
-types-count : (stmts : List Stmt) (forest : List Branch) (k : ℕ) (rest : List Branch)
+pub types-count : (stmts : List Stmt) (forest : List Branch) (k : ℕ) (rest : List Branch)
     → length (flat_map (λ (entry : ℕ × Branch). if has_type (kind_of stmts entry.1) then node_type stmts forest entry.0 ∷ [] else []) (enumerate_from k rest)) ≡ length (filter (is_typed stmts) rest)
 types-count stmts forest k [] = refl
 types-count stmts forest k (b ∷ rest) = elim (cases_Bool (has_type (kind_of stmts b))) [
@@ -57,19 +57,22 @@ take-front [] ys k e = let none : k ≡ 0 = omega arith in rw none refl
 take-front (x ∷ xs) ys zero e = absurd (omega arith)
 take-front (x ∷ xs) ys (suc k) e = let less : k ≡ length xs = omega arith in ap (λ zs. x ∷ zs) (take-front xs ys k less)
 
-pub tables_are_small : TablesAreSmall
-tables_are_small stmts table e =
-    let built = built_ok stmts table e in
-    let forest = forest_of stmts in
+pub tables-are-small-on : (stmts : List Stmt) (nodes : List TreeNode) (table : SchemaTable) → IsBuiltOn stmts nodes table → AreGrown stmts nodes
+    → (length table.nodes < 2 ^ 32) × (length table.types < 2 ^ 32) × (length table.modules < 2 ^ 32)
+tables-are-small-on stmts all table built grown =
+    let forest = forest_by stmts all in
     let Small : SchemaTable → Type 0 = λ t. (length t.nodes < 2 ^ 32) × (length t.types < 2 ^ 32) × (length t.modules < 2 ^ 32) in
     let nodes = infos-length stmts forest 0 forest in
     let types = types-count stmts forest 0 forest in
     let few = filter-few (is_typed stmts) forest in
-    let count = length-map (nodes_of stmts) (branch_of (rows_of stmts)) in
+    let count = length-map all (branch_of (rows_of stmts)) in
     let modules = length-map stmts argument_of in
-    let limit = built.expanded.few in
+    let limit = built.few in
     let limit2 = built.checked.few in
     subst Small built.is (omega arith, omega arith, omega arith)
+
+pub tables_are_small : TablesAreSmall
+tables_are_small stmts table e = tables-are-small-on stmts (nodes_of stmts) table (built_on stmts table e) (built-grown stmts)
 
 -- ---- numbers
 
@@ -80,8 +83,8 @@ is_placed count k node = is_before k node.parent && nat_lt node.module count
 placed : (count : ℕ) (owner k : ℕ) (parent : Option ℕ) (seed : Seed) → owner < count → IsTrue (is_before k parent) → IsTrue (is_placed count k (node_of owner parent seed))
 placed count owner k parent seed h before = both (is_before k parent) (nat_lt owner count) before (grind (arith, nat_tests))
 
-nodes-placed : (stmts : List Stmt) → IsTrue (all_from (is_placed (length stmts)) 0 (nodes_of stmts))
-nodes-placed stmts = built-good (is_placed (length stmts)) stmts (λ owner k parent seed h before fit. placed (length stmts) owner k parent seed h before)
+nodes-placed : (stmts : List Stmt) (nodes : List TreeNode) → AreGrown stmts nodes → IsTrue (all_from (is_placed (length stmts)) 0 nodes)
+nodes-placed stmts nodes grown = grown (is_placed (length stmts)) (λ owner k parent seed h before fit. placed (length stmts) owner k parent seed h before)
 
 -- and of the branches
 abbrev pub is_placed_branch : ℕ → ℕ → Branch → Bool
@@ -93,8 +96,8 @@ branches-placed count rows k (node ∷ nodes) h =
     both (is_placed count k node) (all_from (is_placed_branch count) (k + 1) (map (branch_of rows) nodes)) (and_first (is_placed count k node) (all_from (is_placed count) (k + 1) nodes) h)
     (branches-placed count rows (k + 1) nodes (and_second (is_placed count k node) (all_from (is_placed count) (k + 1) nodes) h))
 
-pub forest-placed : (stmts : List Stmt) → IsTrue (all_from (is_placed_branch (length stmts)) 0 (forest_of stmts))
-forest-placed stmts = branches-placed (length stmts) (rows_of stmts) 0 (nodes_of stmts) (nodes-placed stmts)
+pub forest-placed : (stmts : List Stmt) (nodes : List TreeNode) → AreGrown stmts nodes → IsTrue (all_from (is_placed_branch (length stmts)) 0 (forest_by stmts nodes))
+forest-placed stmts nodes grown = branches-placed (length stmts) (rows_of stmts) 0 nodes (nodes-placed stmts nodes grown)
 
 from-at : {X : Type 0} (test : ℕ → X → Bool) (i k : ℕ) (done rest : List X) (x : X) → k ≡ i + length done → IsTrue (all_from test i (done ++ x ∷ rest)) → IsTrue (test k x)
 from-at test i k [] rest x e h = let here : i ≡ k = omega arith in subst (λ n. IsTrue (test n x)) here (and_first (test i x) (all_from test (i + 1) rest) h)
@@ -120,8 +123,11 @@ node-numbers stmts forest good done rest k b count is =
     ] in
     both (is_before k b.parent && nat_lt b.module (length table.modules)) _ (both (is_before k b.parent) (nat_lt b.module (length table.modules)) parent known) type
 
+pub numbers-are-there-on : (stmts : List Stmt) (nodes : List TreeNode) (table : SchemaTable) → IsBuiltOn stmts nodes table → AreGrown stmts nodes
+    → IsTrue (all_from (has_numbers table) 0 table.nodes)
+numbers-are-there-on stmts nodes table built grown =
+    let forest = forest_by stmts nodes in
+    subst (λ (t : SchemaTable). IsTrue (all_from (has_numbers t) 0 t.nodes)) built.is (infos-numbered stmts forest (has_numbers (table_of stmts forest)) (node-numbers stmts forest (forest-placed stmts nodes grown)) [] forest 0 refl refl)
+
 pub numbers_are_there : NumbersAreThere
-numbers_are_there stmts table e =
-    let built = built_ok stmts table e in
-    let forest = forest_of stmts in
-    subst (λ (t : SchemaTable). IsTrue (all_from (has_numbers t) 0 t.nodes)) built.is (infos-numbered stmts forest (has_numbers (table_of stmts forest)) (node-numbers stmts forest (forest-placed stmts)) [] forest 0 refl refl)
+numbers_are_there stmts table e = numbers-are-there-on stmts (nodes_of stmts) table (built_on stmts table e) (built-grown stmts)

@@ -1,4 +1,5 @@
 -- Enumerations and bits have distinct names, and as many distinct places; those of bits lie below 64.
+use Rattle.sal_grouping.proofs.Parts.{TreeNode}
 use Rattle.std.proofs.Common.{◌≡◌, ℕ, Bool, true, false, ◌&&◌, ◌==◌, nat_eq, nat_lt, IsTrue, List, [], ◌∷◌, map, length, Some, None, refl, sym, ap, ◌∙◌, subst, inl, inr, arith}
 use Rattle.std.specs.Prelude.{◌||◌, unwrap_or}
 use Rattle.std.specs.List.{list_all, list_any, flat_map, enumerate_from, position_from, slice_index}
@@ -22,11 +23,11 @@ use Rattle.sal_schema.proofs.Conjuncts.{and_first, and_second}
 use Rattle.sal_build.proofs.LeafWord.{same-text}
 use Rattle.sal_tables.specs.Laws.{NamesArePlaced, is_placed, of_each}
 use Rattle.sal_tables.proofs.Entries.{TypeEntry, TypeNumbering, enums, bits}
-use Rattle.sal_tables.proofs.Built.{built_ok, forest_of}
+use Rattle.sal_tables.proofs.Built.{IsBuiltOn, built_on, forest_by, nodes_of}
 use Rattle.sal_tables.proofs.Differing.{differ-map, differ-more, found-passes, found-good, numbered-length, numbered-differ, same-place, some-position, same-names}
 use Rattle.sal_tables.proofs.Distinct.{same-itself}
 use Rattle.sal_tables.proofs.FilledTypes.{stated, is_stated}
-use Rattle.sal_tables.proofs.Grown.{position-below}
+use Rattle.sal_tables.proofs.Grown.{position-below, AreGrown, built-grown}
 use Rattle.sal_tables.proofs.JudgedTypes.{below-pass, builtin-raw, Keeps, judged-closed}
 use Rattle.sal_tables.proofs.ListedNames.{same_names, size, same_sizes, is_small, names-apart, own-bits, is_of, of-found, chosen-all, chosen-bits}
 use Rattle.sal_tables.proofs.Quiet.{both, front-nil, all-map}
@@ -202,8 +203,11 @@ keeps-placed modules m base stmt below raw derived all quiet =
     let (absent, listed, digits) = restrictions-quiet base m stmt quiet in
     kept modules m base stmt below all (layer_of base stmt) (λ f. rw f (derived f)) (ap (λ n. flat_map (faults_by base m stmt) (option_to_list n)) (of-layer modules m base stmt below all) ∙ listed)
 
-pub names_are_placed : NamesArePlaced
-names_are_placed stmts table e =
-    let built = built_ok stmts table e in
+pub names-are-placed-on : (stmts : List Stmt) (nodes : List TreeNode) (table : SchemaTable) → IsBuiltOn stmts nodes table → AreGrown stmts nodes
+    → IsTrue (list_all (λ ty. of_each is_placed (out-YangType ty)) table.types)
+names-are-placed-on stmts nodes table built grown =
     subst (λ (t : SchemaTable). IsTrue (list_all (λ ty. of_each is_placed (out-YangType ty)) t.types)) built.is
-    (judged-closed is_placed agrees is_raw refl refl (builtin-raw is_raw refl builtins-raw) stmts (keeps-placed stmts) (forest_of stmts))
+    (judged-closed is_placed agrees is_raw refl refl (builtin-raw is_raw refl builtins-raw) stmts (keeps-placed stmts) (forest_by stmts nodes))
+
+pub names_are_placed : NamesArePlaced
+names_are_placed stmts table e = names-are-placed-on stmts (nodes_of stmts) table (built_on stmts table e) (built-grown stmts)

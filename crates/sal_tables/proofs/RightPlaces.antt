@@ -1,4 +1,6 @@
 -- Nodes of a table stand below nodes that can hold them: as their statements do, and the statement of each is its own.
+use Rattle.sal_tables.specs.Readable.{has_own_places}
+use Rattle.sal_tables.proofs.Grown.{AreGrown, built-grown}
 use Rattle.std.proofs.Common.{◌≡◌, ℕ, ◌+◌, Bool, true, false, not, ◌&&◌, IsTrue, List, [], ◌∷◌, map, Option, Some, None, refl, sym, ap, ◌∙◌, subst}
 use Rattle.std.specs.Prelude.{◌||◌, option_map, is_none}
 use Rattle.std.specs.List.{list_all, slice_get}
@@ -27,11 +29,11 @@ use Rattle.sal_build.specs.Nodes.{kind_among, kind_in, has}
 use Rattle.sal_build.specs.Nodes as nodes
 use Rattle.sal_build.specs.Table.{info_of, infos_from}
 use Rattle.sal_tables.specs.Laws.{NodesStandRight}
-use Rattle.sal_tables.proofs.Built.{built_ok, nodes_of}
+use Rattle.sal_tables.proofs.Built.{IsBuiltOn, built_on, nodes_of}
 use Rattle.sal_tables.proofs.DistinctNodes.{is_fit, nodes-fit, got-map}
-use Rattle.sal_tables.proofs.HeldRows.{AreHeld, is_call, is_leafy, rows-held}
-use Rattle.sal_tables.proofs.LinkedNodes.{is_param, can_be_under, can_be_on_top, is_linked, nodes-linked}
-use Rattle.sal_tables.proofs.LoneCalls.{is_alone, calls-alone}
+use Rattle.sal_tables.proofs.HeldRows.{is_call, is_leafy, rows-held}
+use Rattle.sal_tables.proofs.LinkedNodes.{is_param, can_be_under, can_be_on_top, is_linked_in, nodes-linked}
+use Rattle.sal_tables.proofs.LoneCalls.{is_alone_in, calls-alone}
 use Rattle.sal_tables.proofs.NamedNodes.{none-fits}
 use Rattle.sal_tables.proofs.OwnStatements.{AreOwn, own-rows}
 use Rattle.sal_tables.proofs.Quiet.{both}
@@ -72,12 +74,9 @@ like-stmt keyword stmt (Some implied.Case) e h = record { typed = refl; choice =
 like-stmt keyword stmt (Some implied.Input) e h = record { typed = refl; choice = refl; cases = refl; rpc = refl; param = refl; call = refl }
 like-stmt keyword stmt (Some implied.Output) e h = record { typed = refl; choice = refl; cases = refl; rpc = refl; param = refl; call = refl }
 
-module _ (stmts : List Stmt) (owns : AreOwn stmts (rows_of stmts)) (held : AreHeld (rows_of stmts)) where
+module _ (stmts : List Stmt) (owns : AreOwn stmts (rows_of stmts)) (all : List TreeNode) (grown : AreGrown stmts all) where
   abbrev rows : List TreeRow
   rows = rows_of stmts
-
-  abbrev all : List TreeNode
-  all = nodes_of stmts
 
   abbrev forest : List Branch
   forest = map (branch_of rows) all
@@ -95,7 +94,7 @@ module _ (stmts : List Stmt) (owns : AreOwn stmts (rows_of stmts)) (held : AreHe
       let own = owns k row e in
       subst (λ (o : Option Stmt). IsLike (kind_in o side) (tree.kind_among (Some row.keyword) side)) (sym own.found) (like-stmt row.keyword own.stmt side own.keyword h)
 
-  like : (k : ℕ) (node : TreeNode) → IsTrue (is_fit stmts owns k node) → IsLike (kind node) (tree.kind_of rows node)
+  like : (k : ℕ) (node : TreeNode) → IsTrue (is_fit stmts owns all grown k node) → IsLike (kind node) (tree.kind_of rows node)
   like k node fit = row-like node.row node.implied (slice_get rows node.row) refl (and_second (is_before k node.parent) (is_seed node.implied (keyword_at rows node.row)) fit)
 
   -- what is below it, by the kinds of both
@@ -104,7 +103,7 @@ module _ (stmts : List Stmt) (owns : AreOwn stmts (rows_of stmts)) (held : AreHe
   right-pair node above below over h =
       (λ i. (not (over.typed i) && agree (below.cases i) (over.choice i)) && agree (below.param i) (over.rpc i)) ∙ h
 
-  alone : (node : TreeNode) → IsLike (kind node) (tree.kind_of rows node) → IsTrue (is_alone stmts held node) → IsTrue (not (is_rpc (kind node) || is_notification (kind node)) || is_none node.parent)
+  alone : (node : TreeNode) → IsLike (kind node) (tree.kind_of rows node) → IsTrue (is_alone_in rows node) → IsTrue (not (is_rpc (kind node) || is_notification (kind node)) || is_none node.parent)
   alone node seen h = ap (λ b. not b || is_none node.parent) seen.call ∙ turned (is_none node.parent) (is_call (tree.kind_of rows node)) h
 
   abbrev fits_there : NodeInfo → Bool
@@ -129,30 +128,32 @@ module _ (stmts : List Stmt) (owns : AreOwn stmts (rows_of stmts)) (held : AreHe
       elim (slice_get all p) as (λ o. slice_get all p ≡ o → IsTrue (option_map_or (λ (above : TreeNode). can_be_under (tree.kind_of rows above) (tree.kind_of rows node)) o false) → IsTrue (fits_there (info_of stmts forest k (branch_of rows node)))) [
         | None ↦ λ at h. absurd (wrong h)
         | Some above ↦ λ at h.
-            let fit : IsTrue (is_fit stmts owns (0 + p) above) = at-place (is_fit stmts owns) 0 p all above (nodes-fit stmts owns) at in
+            let fit : IsTrue (is_fit stmts owns all grown (0 + p) above) = at-place (is_fit stmts owns all grown) 0 p all above (nodes-fit stmts owns all grown) at in
             let info = info-got stmts forest 0 p forest (branch_of rows above) (got-map (branch_of rows) all p above at) in
             let over = λ (test : Kind → Bool). ap (λ (o : Option NodeInfo). option_map_or test (option_map (λ (info : NodeInfo). info.kind) o) false) info in
             let pair = right-pair node above seen (like (0 + p) above fit) h in
             rw e ((λ i. (not (over has_type i) && agree (is_case (kind node)) (over is_choice i)) && agree (is_parameters (kind node)) (over is_rpc i)) ∙ pair)
       ] refl h
 
-  infos-right : (k : ℕ) (some : List TreeNode) → IsTrue (all_from (is_fit stmts owns) k some) → IsTrue (list_all (is_alone stmts held) some) → IsTrue (list_all (is_linked stmts held all) some)
+  infos-right : (k : ℕ) (some : List TreeNode) → IsTrue (all_from (is_fit stmts owns all grown) k some) → IsTrue (list_all (is_alone_in rows) some) → IsTrue (list_all (is_linked_in rows all) some)
       → IsTrue (list_all (stands_right table) (infos_from stmts forest k (map (branch_of rows) some)))
   infos-right k [] fit lone linked = refl
   infos-right k (node ∷ some) fit lone linked =
-      let here = and_first (is_fit stmts owns k node) (all_from (is_fit stmts owns) (k + 1) some) fit in
+      let here = and_first (is_fit stmts owns all grown k node) (all_from (is_fit stmts owns all grown) (k + 1) some) fit in
       let seen = like k node here in
       let info = info_of stmts forest k (branch_of rows node) in
-      let placed : IsTrue (fits_there info) = below-right k node node.parent refl seen (and_first (is_linked stmts held all node) (list_all (is_linked stmts held all) some) linked) in
-      let top = alone node seen (and_first (is_alone stmts held node) (list_all (is_alone stmts held) some) lone) in
+      let placed : IsTrue (fits_there info) = below-right k node node.parent refl seen (and_first (is_linked_in rows all node) (list_all (is_linked_in rows all) some) linked) in
+      let top = alone node seen (and_first (is_alone_in rows node) (list_all (is_alone_in rows) some) lone) in
       both (stands_right table info) (list_all (stands_right table) (infos_from stmts forest (k + 1) (map (branch_of rows) some))) (both (fits_there info) (not (is_rpc (kind node) || is_notification (kind node)) || is_none node.parent) placed top)
-      (infos-right (k + 1) some (and_second (is_fit stmts owns k node) (all_from (is_fit stmts owns) (k + 1) some) fit) (and_second (is_alone stmts held node) (list_all (is_alone stmts held) some) lone)
-      (and_second (is_linked stmts held all node) (list_all (is_linked stmts held all) some) linked))
+      (infos-right (k + 1) some (and_second (is_fit stmts owns all grown k node) (all_from (is_fit stmts owns all grown) (k + 1) some) fit) (and_second (is_alone_in rows node) (list_all (is_alone_in rows) some) lone)
+      (and_second (is_linked_in rows all node) (list_all (is_linked_in rows all) some) linked))
+
+pub nodes-stand-right-on : (stmts : List Stmt) (nodes : List TreeNode) (table : SchemaTable) → IsTrue (list_all has_own_places stmts) → IsBuiltOn stmts nodes table → AreGrown stmts nodes → IsTrue (list_all (is_alone_in (rows_of stmts)) nodes) → IsTrue (list_all (is_linked_in (rows_of stmts) nodes) nodes)
+    → IsTrue (list_all (stands_right table) table.nodes)
+nodes-stand-right-on stmts nodes table differ built grown lone linked =
+    let owns = own-rows stmts differ built.checked.profile in
+    subst (λ (t : SchemaTable). IsTrue (list_all (stands_right t) t.nodes)) built.is
+    (infos-right stmts owns nodes grown 0 nodes (nodes-fit stmts owns nodes grown) lone linked)
 
 pub nodes_stand_right : NodesStandRight
-nodes_stand_right stmts table differ e =
-    let built = built_ok stmts table e in
-    let owns = own-rows stmts differ built.checked.profile in
-    let held = rows-held stmts built.checked.profile in
-    subst (λ (t : SchemaTable). IsTrue (list_all (stands_right t) t.nodes)) built.is
-    (infos-right stmts owns held 0 (nodes_of stmts) (nodes-fit stmts owns) (calls-alone stmts held) (nodes-linked stmts held built.checked.profile))
+nodes_stand_right stmts table differ e = nodes-stand-right-on stmts (nodes_of stmts) table differ (built_on stmts table e) (built-grown stmts) (calls-alone stmts (rows-held stmts (built_on stmts table e).checked.profile)) (nodes-linked stmts (rows-held stmts (built_on stmts table e).checked.profile) (built_on stmts table e).checked.profile)

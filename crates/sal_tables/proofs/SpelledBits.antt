@@ -34,11 +34,11 @@ use Rattle.sal_build.specs.Leafrefs.{type_in, type_of, stated_type, own_types}
 use Rattle.sal_build.specs.Nodes.{kind_of}
 use Rattle.sal_tables.specs.Laws.{BitsAreSpelled, is_spelled, of_each}
 use Rattle.sal_tables.specs.Readable.{has_own_places, is_shallow, is_readable}
-use Rattle.sal_tables.proofs.Built.{built_ok, nodes_of, forest_of}
+use Rattle.sal_tables.proofs.Built.{IsBuiltOn, built_on, forest_by, nodes_of}
 use Rattle.sal_tables.proofs.Differing.{found-passes}
 use Rattle.sal_tables.proofs.Entries.{TypeEntry, TypeNumbering, bits}
 use Rattle.sal_tables.proofs.FilledTypes.{stated, is_stated, rolled, empty-stated, types-filled}
-use Rattle.sal_tables.proofs.Grown.{built-good}
+use Rattle.sal_tables.proofs.Grown.{AreGrown, built-grown}
 use Rattle.sal_tables.proofs.JudgedTypes.{below-pass, builtin-raw}
 use Rattle.sal_tables.proofs.ListedNames.{entry-name}
 use Rattle.sal_tables.proofs.NamedModules.{good-argument, identifier-given, rule-named}
@@ -175,9 +175,9 @@ module _ (modules : List Stmt) where
       abbrev is_well_typed : ℕ → TreeNode → Bool
       is_well_typed k node = is_well (type_of modules (branch_of (rows_of modules) node))
 
-      nodes-spelled : IsTrue (all_from is_well_typed 0 (nodes_of modules))
-      nodes-spelled =
-          built-good is_well_typed modules (λ owner k parent seed h before fit.
+      nodes-spelled : (nodes : List TreeNode) → AreGrown modules nodes → IsTrue (all_from is_well_typed 0 nodes)
+      nodes-spelled nodes grown =
+          grown is_well_typed (λ owner k parent seed h before fit.
           row-spelled seed.0 seed.1 (has_type (kind_of modules (branch_of (rows_of modules) (node_of owner parent seed)))) (slice_get (rows_of modules) seed.0) refl fit)
 
       own-spelled : (k : ℕ) (nodes : List TreeNode) → IsTrue (all_from is_well_typed k nodes) → IsTrue (list_all (is_stated is_spelled) (own_types modules (map (branch_of (rows_of modules)) nodes)))
@@ -200,11 +200,14 @@ all-shallow (stmt ∷ stmts) h =
     both (is_shallow 64 stmt) (list_all (is_shallow 64) stmts) (and_second (has_own_places stmt) (is_shallow 64 stmt) (and_first (is_readable stmt) (list_all is_readable stmts) h))
     (all-shallow stmts (and_second (is_readable stmt) (list_all is_readable stmts) h))
 
-pub bits_are_spelled : BitsAreSpelled
-bits_are_spelled stmts table readable e =
-    let built = built_ok stmts table e in
+pub bits-are-spelled-on : (stmts : List Stmt) (nodes : List TreeNode) (table : SchemaTable) → IsTrue (list_all is_readable stmts) → IsBuiltOn stmts nodes table → AreGrown stmts nodes
+    → IsTrue (list_all (λ ty. of_each is_spelled (out-YangType ty)) table.types)
+bits-are-spelled-on stmts nodes table readable built grown =
     let shallow = all-shallow stmts readable in
     let are = modules-sound stmts built.checked.profile shallow in
     let sited = sited-rows is_shallow shallow-down stmts (own-places stmts readable) shallow built.checked.profile in
     subst (λ (t : SchemaTable). IsTrue (list_all (λ ty. of_each is_spelled (out-YangType ty)) t.types)) built.is
-    (types-filled is_spelled refl stmts (forest_of stmts) (own-spelled stmts are sited 0 (nodes_of stmts) (nodes-spelled stmts are sited)))
+    (types-filled is_spelled refl stmts (forest_by stmts nodes) (own-spelled stmts are sited 0 nodes (nodes-spelled stmts are sited nodes grown)))
+
+pub bits_are_spelled : BitsAreSpelled
+bits_are_spelled stmts table readable e = bits-are-spelled-on stmts (nodes_of stmts) table readable (built_on stmts table e) (built-grown stmts)

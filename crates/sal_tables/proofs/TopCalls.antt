@@ -1,4 +1,6 @@
 -- RPCs and notifications of a table stand at the top: as their statements do, and the statement of each is its own.
+use Rattle.sal_tables.specs.Readable.{has_own_places}
+use Rattle.sal_tables.proofs.Grown.{AreGrown, built-grown}
 use Rattle.std.proofs.Common.{◌≡◌, ℕ, ◌+◌, Bool, true, false, not, IsTrue, List, [], ◌∷◌, map, Option, Some, None, refl, sym, ap, ◌∙◌, subst}
 use Rattle.std.specs.Prelude.{◌||◌, option_map, is_none}
 use Rattle.std.specs.List.{list_all, slice_get}
@@ -24,10 +26,10 @@ use Rattle.sal_build.specs.Nodes.{kind_among, kind_in, has}
 use Rattle.sal_build.specs.Nodes as nodes
 use Rattle.sal_build.specs.Table.{infos_from}
 use Rattle.sal_tables.specs.Laws.{CallsStandAtTheTop, stands_at_the_top}
-use Rattle.sal_tables.proofs.Built.{built_ok, forest_of, nodes_of}
+use Rattle.sal_tables.proofs.Built.{IsBuiltOn, built_on, forest_by, nodes_of}
 use Rattle.sal_tables.proofs.DistinctNodes.{is_fit, nodes-fit}
-use Rattle.sal_tables.proofs.HeldRows.{AreHeld, is_call, rows-held}
-use Rattle.sal_tables.proofs.LoneCalls.{is_alone, calls-alone}
+use Rattle.sal_tables.proofs.HeldRows.{is_call, rows-held}
+use Rattle.sal_tables.proofs.LoneCalls.{is_alone_in, calls-alone}
 use Rattle.sal_tables.proofs.NamedNodes.{none-fits}
 use Rattle.sal_tables.proofs.OwnStatements.{AreOwn, own-rows}
 use Rattle.sal_tables.proofs.Quiet.{both}
@@ -63,7 +65,7 @@ turned true b h = or_right (not b) true refl
 turned false true h = absurd (wrong h)
 turned false false h = refl
 
-module _ (stmts : List Stmt) (owns : AreOwn stmts (rows_of stmts)) (held : AreHeld (rows_of stmts)) where
+module _ (stmts : List Stmt) (owns : AreOwn stmts (rows_of stmts)) (all : List TreeNode) (grown : AreGrown stmts all) where
   abbrev rows : List TreeRow
   rows = rows_of stmts
 
@@ -74,20 +76,22 @@ module _ (stmts : List Stmt) (owns : AreOwn stmts (rows_of stmts)) (held : AreHe
       let own = owns k row e in
       subst (λ (o : Option Stmt). is_operation (kind_in o side) ≡ is_call (tree.kind_among (Some row.keyword) side)) (sym own.found) (seen-call row.keyword own.stmt side own.keyword h)
 
-  infos-top : (forest : List Branch) (k : ℕ) (some : List TreeNode) → IsTrue (all_from (is_fit stmts owns) k some) → IsTrue (list_all (is_alone stmts held) some)
+  infos-top : (forest : List Branch) (k : ℕ) (some : List TreeNode) → IsTrue (all_from (is_fit stmts owns all grown) k some) → IsTrue (list_all (is_alone_in rows) some)
       → IsTrue (list_all stands_at_the_top (infos_from stmts forest k (map (branch_of rows) some)))
   infos-top forest k [] fit alone = refl
   infos-top forest k (node ∷ some) fit alone =
-      let here = and_first (is_fit stmts owns k node) (all_from (is_fit stmts owns) (k + 1) some) fit in
+      let here = and_first (is_fit stmts owns all grown k node) (all_from (is_fit stmts owns all grown) (k + 1) some) fit in
       let same = row-call node.row node.implied (slice_get rows node.row) refl (and_second (is_before k node.parent) (is_seed node.implied (keyword_at rows node.row)) here) in
-      let one = turned (is_none node.parent) (is_call (tree.kind_of rows node)) (and_first (is_alone stmts held node) (list_all (is_alone stmts held) some) alone) in
+      let one = turned (is_none node.parent) (is_call (tree.kind_of rows node)) (and_first (is_alone_in rows node) (list_all (is_alone_in rows) some) alone) in
       let top : IsTrue (not (is_operation (nodes.kind_of stmts (branch_of rows node))) || is_none node.parent) = ap (λ b. not b || is_none node.parent) same ∙ one in
       both (not (is_operation (nodes.kind_of stmts (branch_of rows node))) || is_none node.parent) (list_all stands_at_the_top (infos_from stmts forest (k + 1) (map (branch_of rows) some))) top
-      (infos-top forest (k + 1) some (and_second (is_fit stmts owns k node) (all_from (is_fit stmts owns) (k + 1) some) fit) (and_second (is_alone stmts held node) (list_all (is_alone stmts held) some) alone))
+      (infos-top forest (k + 1) some (and_second (is_fit stmts owns all grown k node) (all_from (is_fit stmts owns all grown) (k + 1) some) fit) (and_second (is_alone_in rows node) (list_all (is_alone_in rows) some) alone))
+
+pub calls-stand-at-the-top-on : (stmts : List Stmt) (nodes : List TreeNode) (table : SchemaTable) → IsTrue (list_all has_own_places stmts) → IsBuiltOn stmts nodes table → AreGrown stmts nodes → IsTrue (list_all (is_alone_in (rows_of stmts)) nodes)
+    → IsTrue (list_all stands_at_the_top table.nodes)
+calls-stand-at-the-top-on stmts nodes table differ built grown lone =
+    let owns = own-rows stmts differ built.checked.profile in
+    subst (λ (t : SchemaTable). IsTrue (list_all stands_at_the_top t.nodes)) built.is (infos-top stmts owns nodes grown (forest_by stmts nodes) 0 nodes (nodes-fit stmts owns nodes grown) lone)
 
 pub calls_stand_at_the_top : CallsStandAtTheTop
-calls_stand_at_the_top stmts table differ e =
-    let built = built_ok stmts table e in
-    let owns = own-rows stmts differ built.checked.profile in
-    let held = rows-held stmts built.checked.profile in
-    subst (λ (t : SchemaTable). IsTrue (list_all stands_at_the_top t.nodes)) built.is (infos-top stmts owns held (forest_of stmts) 0 (nodes_of stmts) (nodes-fit stmts owns) (calls-alone stmts held))
+calls_stand_at_the_top stmts table differ e = calls-stand-at-the-top-on stmts (nodes_of stmts) table differ (built_on stmts table e) (built-grown stmts) (calls-alone stmts (rows-held stmts (built_on stmts table e).checked.profile))

@@ -37,10 +37,10 @@ use Rattle.sal_build.specs.Types as types
 use Rattle.sal_build.proofs.Fillings.{type-zero, type-suc}
 use Rattle.sal_build.proofs.LeafWord.{same-text}
 use Rattle.sal_tables.specs.Laws.{UnionsHaveMembers, has_members}
-use Rattle.sal_tables.specs.Readable.{is_shallow}
+use Rattle.sal_tables.specs.Readable.{is_readable, is_shallow}
 use Rattle.sal_tables.proofs.Entries.{TypeEntry}
-use Rattle.sal_tables.proofs.Built.{built_ok, forest_of, nodes_of}
-use Rattle.sal_tables.proofs.Grown.{built-good}
+use Rattle.sal_tables.proofs.Built.{IsBuiltOn, built_on, forest_by, nodes_of}
+use Rattle.sal_tables.proofs.Grown.{AreGrown, built-grown}
 use Rattle.sal_tables.proofs.Members.{found-in}
 use Rattle.sal_tables.proofs.NamedNodes.{none-fits}
 use Rattle.sal_tables.proofs.OwnSites.{HaveSites, own-sites}
@@ -313,9 +313,9 @@ module _ (stmts : List Stmt) (shallow : IsTrue (list_all (is_shallow 64) stmts))
       let own = sites k row e in
       subst (λ (o : Option Site). IsTrue (has_some (stated_type stmts (option_and_then type_in o)))) (sym own.found) (inside-has own.site own.opened own.read)
 
-  nodes-have : IsTrue (all_from has_own 0 (nodes_of stmts))
-  nodes-have =
-      built-good has_own stmts (λ owner k parent seed h before fit.
+  nodes-have : (nodes : List TreeNode) → AreGrown stmts nodes → IsTrue (all_from has_own 0 nodes)
+  nodes-have nodes grown =
+      grown has_own (λ owner k parent seed h before fit.
       row-has (has_type (kind_of stmts (branch_of (rows_of stmts) (node_of owner parent seed)))) seed.0 seed.1 (slice_get (rows_of stmts) seed.0) refl fit)
 
   owns-have : (k : ℕ) (nodes : List TreeNode) → IsTrue (all_from has_own k nodes) → IsTrue (list_all has_some (own_types stmts (map (branch_of (rows_of stmts)) nodes)))
@@ -324,8 +324,8 @@ module _ (stmts : List Stmt) (shallow : IsTrue (list_all (is_shallow 64) stmts))
       both (has_own k node) (list_all has_some (own_types stmts (map (branch_of (rows_of stmts)) nodes))) (and_first (has_own k node) (all_from has_own (k + 1) nodes) h)
       (owns-have (k + 1) nodes (and_second (has_own k node) (all_from has_own (k + 1) nodes) h))
 
-  all-have : IsTrue (list_all has_some (leafrefs.types_of stmts (forest_of stmts)))
-  all-have = types-have stmts (forest_of stmts) (owns-have 0 (nodes_of stmts) nodes-have)
+  all-have : (nodes : List TreeNode) → AreGrown stmts nodes → IsTrue (list_all has_some (leafrefs.types_of stmts (forest_by stmts nodes)))
+  all-have nodes grown = types-have stmts (forest_by stmts nodes) (owns-have 0 nodes (nodes-have nodes grown))
 
 judged-has : (stmts : List Stmt) → IsTrue (list_all (is_shallow 64) stmts) → profile_faults stmts ≡ [] → types.name_faults stmts ≡ [] → (site : Site) → IsTyped stmts site → IsTrue (has_some (sound_type (judgement stmts site)))
 judged-has stmts shallow profile quiet site typed = elim (cases_Bool (is_faulty (judgement stmts site))) [
@@ -336,12 +336,15 @@ judged-has stmts shallow profile quiet site typed = elim (cases_Bool (is_faulty 
   ])
 ]
 
-pub unions_have_members : UnionsHaveMembers
-unions_have_members stmts table readable e =
-    let built = built_ok stmts table e in
+pub unions-have-members-on : (stmts : List Stmt) (nodes : List TreeNode) (table : SchemaTable) → IsTrue (list_all is_readable stmts) → IsBuiltOn stmts nodes table → AreGrown stmts nodes
+    → IsTrue (list_all (λ ty. has_members (out-YangType ty)) table.types)
+unions-have-members-on stmts nodes table readable built grown =
     let shallow = all-shallow stmts readable in
-    let (front, referred) = front-nil (types.name_faults stmts ++ identities.all_faults stmts) (leafrefs.all_faults stmts (forest_of stmts)) built.names in
+    let (front, referred) = front-nil (types.name_faults stmts ++ identities.all_faults stmts) (leafrefs.all_faults stmts (forest_by stmts nodes)) built.names in
     let (quiet, derived) = front-nil (types.name_faults stmts) (identities.all_faults stmts) front in
     let sites = own-sites stmts shallow (own-places stmts readable) in
     subst (λ (t : SchemaTable). IsTrue (list_all (λ ty. has_members (out-YangType ty)) t.types)) built.is
-    (all-have stmts shallow (judged-has stmts shallow built.checked.profile quiet) sites)
+    (all-have stmts shallow (judged-has stmts shallow built.checked.profile quiet) sites nodes grown)
+
+pub unions_have_members : UnionsHaveMembers
+unions_have_members stmts table readable e = unions-have-members-on stmts (nodes_of stmts) table readable (built_on stmts table e) (built-grown stmts)

@@ -1,4 +1,6 @@
 -- The leafs that lists name by `unique` and `key`.
+use Rattle.sal_grouping.proofs.Parts.{TreeNode}
+use Rattle.sal_tables.proofs.Grown.{AreGrown, built-grown}
 use Rattle.std.proofs.Common.{◌≡◌, ℕ, zero, suc, ◌+◌, ◌<◌, Bool, true, false, cond, ◌&&◌, nat_lt, nat_eq, IsTrue, List, [], ◌∷◌, ◌++◌, map, length, Option, Some, None, refl, sym, ap, ◌∙◌, subst, inl, inr, arith}
 use Rattle.std.specs.Prelude.{IfSome, option_map, option_and_then}
 use Rattle.std.specs.List.{list_all, flat_map, slice_get, position_from}
@@ -28,7 +30,7 @@ use Rattle.sal_tables.specs.Laws.{UniquesAreBelow, KeysAreInside}
 use Rattle.sal_build.specs.Lists.{is_list_at, unless_list, given, leaf_below, unique_leaf, uniques_named, uniques_in, uniques_of, key_leaf, keys_named, keys_in, keys_of, block_of, own_stmt, words_of, steps_of}
 use Rattle.sal_build.specs.Nodes as nodes
 use Rattle.sal_build.specs.Table.{info_of, infos_from}
-use Rattle.sal_tables.proofs.Built.{built_ok, forest_of}
+use Rattle.sal_tables.proofs.Built.{IsBuiltOn, built_on, forest_by, nodes_of}
 use Rattle.sal_tables.proofs.InfoLists.{infos-numbered}
 use Rattle.sal_tables.proofs.Numbers.{infos-length, is_placed_branch, forest-placed}
 use Rattle.sal_tables.proofs.Quiet.{both, all-joined}
@@ -262,17 +264,23 @@ middle-got [] rest x k e = let none : k ≡ 0 = omega arith in rw none refl
 middle-got (y ∷ done) rest x zero e = absurd (omega arith)
 middle-got (y ∷ done) rest x (suc k) e = middle-got done rest x k (omega arith)
 
-pub uniques_are_below : UniquesAreBelow
-uniques_are_below stmts table e =
-    let built = built_ok stmts table e in
-    let forest = forest_of stmts in
+pub uniques-are-below-on : (stmts : List Stmt) (nodes : List TreeNode) (table : SchemaTable) → IsBuiltOn stmts nodes table → AreGrown stmts nodes
+    → IsTrue (all_from (has_its_uniques table) 0 table.nodes)
+uniques-are-below-on stmts nodes table built grown =
+    let forest = forest_by stmts nodes in
     subst (λ (t : SchemaTable). IsTrue (all_from (has_its_uniques t) 0 t.nodes)) built.is (infos-numbered stmts forest (has_its_uniques (table_of stmts forest)) (λ done rest k b count is.
-    uniques-below stmts forest (forest-placed stmts) k b (ap (λ xs. slice_get xs k) is ∙ middle-got done rest b k count)) [] forest 0 refl refl)
+    uniques-below stmts forest (forest-placed stmts nodes grown) k b (ap (λ xs. slice_get xs k) is ∙ middle-got done rest b k count)) [] forest 0 refl refl)
 
-pub keys_are_inside : KeysAreInside
-keys_are_inside stmts table e =
-    let built = built_ok stmts table e in
-    let forest = forest_of stmts in
+pub uniques_are_below : UniquesAreBelow
+uniques_are_below stmts table e = uniques-are-below-on stmts (nodes_of stmts) table (built_on stmts table e) (built-grown stmts)
+
+pub keys-are-inside-on : (stmts : List Stmt) (nodes : List TreeNode) (table : SchemaTable) → IsBuiltOn stmts nodes table → AreGrown stmts nodes
+    → IsTrue (all_from (λ n (node : NodeInfo). list_all (λ leaf. is_kind is_leaf table leaf && is_same (parent_of table leaf) (Some n)) node.keys) 0 table.nodes)
+keys-are-inside-on stmts nodes table built grown =
+    let forest = forest_by stmts nodes in
     subst (λ (t : SchemaTable). IsTrue (all_from (λ n (node : NodeInfo). list_all (λ leaf. is_kind is_leaf t leaf && is_same (parent_of t leaf) (Some n)) node.keys) 0 t.nodes)) built.is
     (infos-numbered stmts forest (λ n (node : NodeInfo). list_all (λ leaf. is_kind is_leaf (table_of stmts forest) leaf && is_same (parent_of (table_of stmts forest) leaf) (Some n)) node.keys) (λ done rest k b count is.
-    keys-inside stmts forest (forest-placed stmts) k b) [] forest 0 refl refl)
+    keys-inside stmts forest (forest-placed stmts nodes grown) k b) [] forest 0 refl refl)
+
+pub keys_are_inside : KeysAreInside
+keys_are_inside stmts table e = keys-are-inside-on stmts (nodes_of stmts) table (built_on stmts table e) (built-grown stmts)

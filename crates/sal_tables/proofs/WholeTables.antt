@@ -8,29 +8,34 @@ use Rattle.sal_schema.specs.declared.table.NodeInfo.{NodeInfo}
 use Rattle.sal_schema.specs.declared.table.SchemaTable.{SchemaTable}
 use Rattle.sal_schema.specs.Kinds.{is_leaf, is_list}
 use Rattle.sal_schema.specs.Table.{all_from, is_kind, is_same, parent_of}
-use Rattle.sal_schema.specs.Valid.{is_identifier, are_named, agree, all_differ, is_empty, is_good_layer, is_good_type_layer, is_good_type}
+use Rattle.sal_schema.specs.Valid.{IsTable, is_identifier, are_named, agree, all_differ, is_empty, is_good_layer, is_good_type_layer, is_good_type}
 use Rattle.sal_schema.proofs.Conjuncts.{and_first, and_second}
 use Rattle.sal_typedefs.specs.Names.{steps_of}
 use Rattle.sal_tables.specs.Laws.{TablesAreTables, of_each, is_bounded, is_placed, is_spelled, has_members}
-use Rattle.sal_tables.specs.Readable.{is_readable}
-use Rattle.sal_tables.proofs.BoundedTypes.{types_are_bounded}
-use Rattle.sal_tables.proofs.CountedIdentities.{identities_are_statements}
-use Rattle.sal_tables.proofs.DistinctCalls.{call_names_differ}
-use Rattle.sal_tables.proofs.DistinctIdentities.{identity_names_differ}
-use Rattle.sal_tables.proofs.DistinctModules.{module_names_differ}
-use Rattle.sal_tables.proofs.DistinctNodes.{data_names_differ}
-use Rattle.sal_tables.proofs.GoodIdentities.{identities_are_good}
-use Rattle.sal_tables.proofs.KeyedLists.{keys_are_there}
-use Rattle.sal_tables.proofs.NamedModules.{modules_are_named}
-use Rattle.sal_tables.proofs.NamedNodes.{nodes_are_named}
-use Rattle.sal_tables.proofs.Numbers.{numbers_are_there, tables_are_small}
-use Rattle.sal_tables.proofs.PlacedNames.{names_are_placed}
+use Rattle.sal_stmt.specs.declared.stmt.Stmt.{Stmt}
+use Rattle.sal_grouping.proofs.Parts.{TreeNode}
+use Rattle.sal_tables.specs.Readable.{is_readable, are_readable}
+use Rattle.sal_tables.proofs.Built.{IsBuiltOn, built_on, nodes_of}
+use Rattle.sal_tables.proofs.HeldRows.{rows-held}
+use Rattle.sal_tables.proofs.Staged.{IsGrown, first-grown}
+use Rattle.sal_tables.proofs.BoundedTypes.{types-are-bounded-on}
+use Rattle.sal_tables.proofs.CountedIdentities.{identities-are-statements-on}
+use Rattle.sal_tables.proofs.DistinctCalls.{call-names-differ-on}
+use Rattle.sal_tables.proofs.DistinctIdentities.{identity-names-differ-on}
+use Rattle.sal_tables.proofs.DistinctModules.{module-names-differ-on}
+use Rattle.sal_tables.proofs.DistinctNodes.{data-names-differ-on}
+use Rattle.sal_tables.proofs.GoodIdentities.{identities-are-good-on}
+use Rattle.sal_tables.proofs.KeyedLists.{keys-are-there-on}
+use Rattle.sal_tables.proofs.NamedModules.{modules-are-named-on}
+use Rattle.sal_tables.proofs.NamedNodes.{nodes-are-named-on}
+use Rattle.sal_tables.proofs.Numbers.{numbers-are-there-on, tables-are-small-on}
+use Rattle.sal_tables.proofs.PlacedNames.{names-are-placed-on}
 use Rattle.sal_tables.proofs.Quiet.{both}
-use Rattle.sal_tables.proofs.RightPlaces.{nodes_stand_right}
-use Rattle.sal_tables.proofs.SpelledBits.{own-places, bits_are_spelled}
-use Rattle.sal_tables.proofs.TypedLeafs.{leafs_are_typed}
-use Rattle.sal_tables.proofs.UnionMembers.{unions_have_members}
-use Rattle.sal_tables.proofs.Uniques.{keys_are_inside, uniques_are_below}
+use Rattle.sal_tables.proofs.RightPlaces.{nodes-stand-right-on}
+use Rattle.sal_tables.proofs.SpelledBits.{own-places, bits-are-spelled-on}
+use Rattle.sal_tables.proofs.TypedLeafs.{leafs-are-typed-on}
+use Rattle.sal_tables.proofs.UnionMembers.{unions-have-members-on}
+use Rattle.sal_tables.proofs.Uniques.{keys-are-inside-on, uniques-are-below-on}
 
 wrong : false ≡ true → ⊥
 wrong e = cc
@@ -99,30 +104,37 @@ joined a b i (x ∷ xs) h k =
 fewer : (few count high : ℕ) → few ≤ count → IsTrue (nat_lt count high) → few < high
 fewer few count high h k = grind (arith, nat_tests)
 
-pub tables_are_tables : TablesAreTables
-tables_are_tables stmts table readable e =
+pub tables-good : (stmts : List Stmt) (nodes : List TreeNode) (table : SchemaTable) → IsTrue (are_readable stmts) → IsBuiltOn stmts nodes table → IsGrown stmts nodes → IsTable table
+tables-good stmts all table readable built grown =
     let each = and_first (list_all is_readable stmts) (nat_lt (steps_of stmts) (2 ^ 32)) readable in
     let count = and_second (list_all is_readable stmts) (nat_lt (steps_of stmts) (2 ^ 32)) readable in
     let differ = own-places stmts each in
-    let (nodes, types, modules) = tables_are_small stmts table e in
-    let (rpcs, notifications) = call_names_differ stmts table differ e in
+    let (nodes, types, modules) = tables-are-small-on stmts all table built grown.each in
+    let (rpcs, notifications) = call-names-differ-on stmts all table differ built grown.each grown.alone in
     record {
-      small = record { nodes = nodes; types = types; modules = modules; identities = fewer (length table.identities) (steps_of stmts) (2 ^ 32) (identities_are_statements stmts table e) count };
-      numbers = numbers_are_there stmts table e;
-      places = nodes_stand_right stmts table differ e;
-      names = nodes_are_named stmts table differ e;
-      leaf_types = leafs_are_typed stmts table e;
+      small = record { nodes = nodes; types = types; modules = modules; identities = fewer (length table.identities) (steps_of stmts) (2 ^ 32) (identities-are-statements-on stmts all table built grown.each) count };
+      numbers = numbers-are-there-on stmts all table built grown.each;
+      places = nodes-stand-right-on stmts all table differ built grown.each grown.alone grown.linked;
+      names = nodes-are-named-on stmts all table differ built grown.each;
+      leaf_types = leafs-are-typed-on stmts all table built grown.each;
       keys = joined (λ (node : NodeInfo). agree (is_list node.kind) (not (is_empty node.keys)) && all_differ nat_eq node.keys)
-          (λ n (node : NodeInfo). list_all (λ leaf. is_kind is_leaf table leaf && is_same (parent_of table leaf) (Some n)) node.keys) 0 table.nodes (keys_are_there stmts table differ e) (keys_are_inside stmts table e);
-      uniques = uniques_are_below stmts table e;
-      module_names = modules_are_named stmts table e;
-      identities = identities_are_good stmts table e;
-      types = good-types table table.types (types_are_bounded stmts table e) (names_are_placed stmts table e) (bits_are_spelled stmts table each e) (unions_have_members stmts table each e);
+          (λ n (node : NodeInfo). list_all (λ leaf. is_kind is_leaf table leaf && is_same (parent_of table leaf) (Some n)) node.keys) 0 table.nodes (keys-are-there-on stmts all table differ built grown.each)
+          (keys-are-inside-on stmts all table built grown.each);
+      uniques = uniques-are-below-on stmts all table built grown.each;
+      module_names = modules-are-named-on stmts all table built grown.each;
+      identities = identities-are-good-on stmts all table built grown.each;
+      types = good-types table table.types (types-are-bounded-on stmts all table built grown.each) (names-are-placed-on stmts all table built grown.each) (bits-are-spelled-on stmts all table each built grown.each)
+          (unions-have-members-on stmts all table each built grown.each);
       distinct = record {
-        modules = module_names_differ stmts table e;
-        identities = identity_names_differ stmts table e;
+        modules = module-names-differ-on stmts all table built grown.each;
+        identities = identity-names-differ-on stmts all table built grown.each;
         rpcs = rpcs;
         notifications = notifications;
-        data_nodes = data_names_differ stmts table differ e;
+        data_nodes = data-names-differ-on stmts all table differ built grown.each;
       };
     }
+
+pub tables_are_tables : TablesAreTables
+tables_are_tables stmts table readable e =
+    let built = built_on stmts table e in
+    tables-good stmts (nodes_of stmts) table readable built (first-grown stmts (rows-held stmts built.checked.profile) built.checked.profile)

@@ -3,6 +3,7 @@ ghost use Rattle.std.specs.Prelude.{◌≡◌, true, false, codes, [], ◌∷◌
 ghost use Rattle.sal_restrict.specs.declared.yang_type.YangType.TheOpen.{YangType-F};
 ghost use Rattle.sal_tables.specs.Laws.{has_members, is_bounded, is_placed, is_spelled, BitsAreSpelled, CallNamesDiffer, CallsStandAtTheTop, DataNamesDiffer, IdentitiesAreGood, IdentitiesAreStatements, IdentityNamesDiffer, KeysAreInside, KeysAreThere, LeafsAreTyped, ModuleNamesDiffer, ModulesAreNamed, NamesArePlaced, NodesAreNamed, NodesStandRight, NumbersAreThere, TablesAreSmall, TablesAreTables, TypesAreBounded, TypesAreFlat, UnionsHaveMembers, UniquesAreBelow};
 ghost use Rattle.sal_stmt.specs.Text.{made};
+ghost use Rattle.sal_tables.specs.Versions.{VersionsExtend, VersionsAreTables, FirstIsTable, FirstIsBuilt};
 ghost use Rattle.sal_tables.specs.Readable.{are_readable, has_own_places, is_shallow, ReadIsCounted, ReadIsInOrder, ReadIsReadable};
 
 /// The statements of a text of fewer than 2 ^ 32 bytes stand in its order: each before those in its block, and these before the next one.
@@ -131,6 +132,22 @@ pub fn unions_have_members()
 /// Of statements as they are read from texts the table is one of a schema.
 pub fn tables_are_tables()
     ensures { TablesAreTables }
+{}
+
+/// The next version extends the older one.
+pub fn versions_extend()
+    ensures { VersionsExtend }
+{}
+
+/// The first version has the table of `build`, or its fault; of statements as they are read from texts it is the table of a schema.
+pub fn first_versions_are_tables()
+    ensures table { FirstIsTable }
+    ensures built { FirstIsBuilt }
+{}
+
+/// Of statements as they are read from texts the next version has the table of a schema where the older one has.
+pub fn versions_are_tables()
+    ensures { VersionsAreTables }
 {}
 
 /// Types that the tests of the laws let pass, and types that they refuse.

@@ -3,6 +3,8 @@
 //! | item | what it is |
 //! |---|---|
 //! | `build` | the schema of modules, or their first fault |
+//! | `build_first`, `build_on` | the first version of modules, and the next one, in which all numbers stay |
+//! | `SchemaVersion` | a version: its schema, and the nodes from which the next version grows |
 //! | `laws` | functions that do nothing, each with a law as its contract |
 //!
 //! A law says of all statements that have a table by the definition `build` of `sal_build`, or of those that are as they are read from texts
@@ -12,12 +14,17 @@
 //! ```
 //! let schema = build(alloc, &stmts)?;
 //! let text = schema.text(alloc)?; // a line for each node
+//! let first = build_first(alloc, &stmts[..1])?;
+//! let second = build_on(alloc, &stmts, &first, 1)?; // second.schema.extends(&first.schema)
 //! ```
 //!
-//! Costs: `build` costs what `table_of_modules` of `sal_build` and `Schema::from_table` cost. A law costs nothing.
+//! Costs: `build` costs what `table_of_modules` of `sal_build` and `Schema::from_table` cost. `build_on` costs that for all
+//! statements, a second tree of nodes and a copy of both tables; a version keeps 32 bytes a node beside its schema. A law costs nothing.
 #![tactic(auto)]
 
 pub mod laws;
 mod schema;
+mod versions;
 
 pub use schema::build;
+pub use versions::{SchemaVersion, build_first, build_on};

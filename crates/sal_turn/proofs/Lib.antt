@@ -3,6 +3,7 @@ pub mod Draw
 pub mod EachSeat
 pub mod Enter
 pub mod Few
+pub mod Grown
 pub mod Join
 pub mod Joined
 pub mod Lists

@@ -4,4 +4,5 @@ pub mod Rule
 pub mod Seats
 pub mod Stages
 pub mod Tells
+pub mod Turns
 pub mod Views

@@ -31,7 +31,7 @@
 //! | `open` | the table's memory: two words and one slot |
 //! | `enter` | two loads where the lock is free, one atomic step for the ticket, and a load for each look; see below where it is not |
 //! | `value`, `peek` | none |
-//! | `leave` | two atomic steps, two loads that look for sleepers, and a call of the system for each that it wakes |
+//! | `leave` | two atomic steps, two loads that look for sleepers, a step more to call one, and a call of the system for each that it wakes |
 //! | `split`, `join` | one or two atomic steps |
 //! | `close` | the table's memory is given back |
 //!
@@ -46,27 +46,40 @@
 //! and then sleeps until a turn ends. A thread that runs may so take many turns while a woken one is on its way. With its
 //! ticket a seat waits at the *door* of that ticket, in the same way; that is short, unless two seats drew at one time.
 //!
+//! **One seat is called at a time.** To wake a sleeper may cost more than a turn. So who leaves *calls* a seat outside only where
+//! none is called. A flag says whether one is (`is_called`): the leaver sets it and wakes one that sleeps. The seat that was woken
+//! clears it as it goes to draw its ticket; then it leaves in its turn, and calls the next. Where it finds the lock busy after all
+//! its looks, it goes to sleep again. A seat that goes to sleep clears the flag too, whoever set it, behind its announcement and
+//! before its last look: so the next that leaves calls one.
+//!
 //! **Nobody is passed by for ever.** A seat that has slept 64 times outside draws its ticket in any case. From then on only
 //! the tickets before its own come first: one for each other seat at most. How many turns go by while it sleeps, and until a
 //! thread that was woken runs, is up to the system. Fairness is not claimed.
 //!
 //! **No wake-up is lost.** No proof sees sleepers, so this is an argument. All steps on words have one order, the same for all
-//! threads. A seat that is to sleep announces it (`prepare_wait`), looks again, and sleeps only where that look finds the lock
-//! busy (outside), or another turn served (at a door). Who leaves changes the turn served (`Pass`), and then looks for seats
-//! that are announced: it wakes all at the door of the next ticket, and one of those that sleep outside. A seat that is
-//! announced and does not sleep yet stays awake.
+//! threads; the flag is a word too. A seat that is to sleep announces it (`prepare_wait`), looks again, and sleeps only where that
+//! look finds the lock busy (outside), or another turn served (at a door). Who leaves changes the turn served (`Pass`), and then
+//! looks for seats that are announced: it wakes all at the door of the next ticket, and calls one of those that sleep outside,
+//! unless one is called. A seat that is announced and does not sleep yet stays awake when others are woken.
 //!
 //! - *At a door.* The turn of a ticket comes by one `Pass`. If the seat was announced when the leaver looked, it is woken. Else
 //!   its own look comes behind the `Pass`, and finds its turn. Of two seats with one door, the one whose turn it is not sleeps
 //!   again, and the `Pass` that brings its turn comes later.
-//! - *Outside.* Suppose that a seat sleeps and is never woken. Its look found the lock busy: either a ticket was out then, or a
-//!   turn ended between the two loads. So there is a `Pass` behind its announcement. Take the last `Pass` of all. Its leaver
-//!   finds that a seat is announced, and wakes one that sleeps, this one or another. The look of the woken seat comes behind
-//!   the last `Pass`. It finds the lock free, and the seat draws; or it finds a ticket out; or the seat draws without a look, as
-//!   it has slept 64 times. In each case a ticket is out, and its turn ends by one `Pass` more. So there was no last one.
+//! - *Outside.* Suppose that a seat sleeps and is never woken. It was announced, then cleared the flag, and then its look found the
+//!   lock busy: either a ticket was out, or a turn ended between the two loads. So there is a `Pass` behind its clearing. Take the
+//!   last `Pass` of all, and what its leaver then finds.
+//!   - The flag is clear. The leaver sets it, finds that a seat is announced, and wakes one that sleeps. All that this one does
+//!     after its sleep comes behind the last `Pass`.
+//!   - The flag is set. It was set behind the clearing, by a leaver that finds a seat announced, and wakes one that sleeps. This one
+//!     clears the flag after its sleep, as it goes to draw or to sleep. Nobody did so between the setting and the look of the last
+//!     leaver, so its clearing comes behind the last `Pass`, and all that it does from then on.
 //!
-//! So a seat that was woken and finds the lock busy may sleep again: whoever keeps it out wakes one in turn. And where nobody
-//! else comes, each that was woken leaves and wakes the next, until none sleeps.
+//!   In both cases there is a seat that draws a ticket behind the last `Pass`, or looks behind it before it sleeps. The look finds
+//!   the lock free, and the seat does not sleep: it looks again or draws. Or the look finds a ticket out. In the end a ticket
+//!   is out behind the last `Pass`, and its turn ends by one `Pass` more. So there was no last one.
+//!
+//! So a seat that was woken and finds the lock busy may sleep again: whoever keeps it out calls one in turn. And where nobody
+//! else comes, each that was woken leaves and calls the next, until none sleeps.
 #![tactic(auto)]
 
 mod chronicle;

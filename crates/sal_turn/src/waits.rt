@@ -4,6 +4,8 @@ use crate::turn::{NEXT_TICKET, TURN_SERVED, Turn};
 use crossbeam_utils::Backoff;
 use crossbeam_utils::sync::EventCount;
 use std::sync::Wait;
+use std::sync::atomic::AtomicBool;
+use std::sync::atomic::Ordering::SeqCst;
 
 // So many times a seat sleeps outside at most. Then it draws its ticket in any case.
 const MOST_SLEEPS: u32 = 64;
@@ -18,6 +20,8 @@ const DOORS: u64 = 8;
 #[derive(Drop)]
 pub(crate) struct Sleepers {
     outside: EventCount,
+    // Whether a seat outside is called: it was woken, and has neither gone to draw its ticket nor gone to sleep again.
+    is_called: AtomicBool,
     doors: [EventCount; 8],
 }
 
@@ -25,6 +29,7 @@ impl Sleepers {
     pub(crate) fn new() -> Sleepers {
         Sleepers {
             outside: EventCount::new(),
+            is_called: AtomicBool::new(false),
             doors: [
                 EventCount::new(),
                 EventCount::new(),
@@ -42,10 +47,17 @@ impl Sleepers {
         &self.doors[(ticket % DOORS) as usize]
     }
 
-    /// Wakes those at the door of the ticket, and one of those outside. The turn of the ticket has come.
+    /// Wakes those at the door of the ticket, and calls one of those outside unless one is called. The turn of the ticket has come.
     pub(crate) fn wake(&self, ticket: u64) {
         self.door(ticket).notify_all();
-        self.outside.notify_one();
+        if !self.is_called.load(SeqCst) && !self.is_called.swap(true, SeqCst) {
+            self.outside.notify_one();
+        }
+    }
+
+    // Lets the next leaver call a seat.
+    fn end_call(&self) {
+        self.is_called.store(false, SeqCst);
     }
 }
 
@@ -68,18 +80,28 @@ impl<V: Chronicle> Turn<V> {
         false
     }
 
+    // Sleeps until the seat is woken, if a look behind the announcement finds the lock busy.
+    fn sleep_outside<R: Wait>(&self, rt: &R) {
+        let key = self.sleepers.outside.prepare_wait();
+        self.sleepers.end_call();
+        if self.is_free() {
+            return;
+        }
+        key.wait(rt);
+    }
+
     /// Waits until a look finds the lock free, or the seat has slept `MOST_SLEEPS` times.
     pub(crate) fn wait_outside<R: Wait>(&self, rt: &R) {
-        for _ in 0..MOST_SLEEPS {
-            if self.is_free_soon() {
-                return;
-            }
-            let key = self.sleepers.outside.prepare_wait();
-            if self.is_free() {
-                return;
-            }
-            key.wait(rt);
+        if self.is_free_soon() {
+            return;
         }
+        for _ in 0..MOST_SLEEPS {
+            self.sleep_outside(rt);
+            if self.is_free_soon() {
+                break;
+            }
+        }
+        self.sleepers.end_call();
     }
 
     // Whether one of some looks finds that the ticket's turn has come.

@@ -2,7 +2,7 @@
 use sal_schema::Schema;
 use std::sync::Arc;
 
-/// How a transaction was begun: in which domain, at which commit, and over which schema.
+/// How a transaction was begun: in which domain, at which commit, and over which version of its schema.
 #[derive(Drop)]
 pub struct Begun {
     pub domain: u32,
@@ -13,6 +13,8 @@ pub struct Begun {
     pub chain: Option<u64>,
     /// The place of the entry of the log that began it.
     pub place: u64,
-    /// The schema of its domain as it was then.
+    /// The number of the version of its domain's schema that was present then.
+    pub version: u32,
+    /// That version.
     pub schema: Arc<Schema>,
 }

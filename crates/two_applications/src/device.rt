@@ -1,5 +1,5 @@
 //! The domain that the applications share: a YANG module, and trees without data.
-ghost use Rattle.std.specs.Prelude.{IfOk};
+ghost use Rattle.std.specs.Prelude.{◌≡◌, IfOk, []};
 ghost use Rattle.sal.specs.Openings.{IsClosedDevice};
 
 use sal::{Device, Schema, empty_device, schema_of};
@@ -21,7 +21,8 @@ pub(crate) fn schema(alloc: Global) -> anyhow::Result<Schema> {
 
 /// The domain over the schema, without data before the first commit.
 pub(crate) fn device(alloc: Global, schema: Schema) -> anyhow::Result<Device>
-    ensures { IfOk result IsClosedDevice }
+    ensures closed { IfOk result IsClosedDevice }
+    ensures versions { IfOk result (λ d. d.upgrades.items ≡ []) }
 {
     Ok(empty_device(alloc, Arc::new(alloc, schema)?))
 }

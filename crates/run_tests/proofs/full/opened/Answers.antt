@@ -3,7 +3,10 @@ use Rattle.std.proofs.Common.{◌≡◌, IsTrue, List, [], sym, subst, refl}
 use Rattle.sal_types.specs.declared.row.Row.{Row}
 use Rattle.sal_schema.specs.declared.table.SchemaTable.{SchemaTable}
 use Rattle.sal_schema.specs.Fitting.{is_closed}
-use Rattle.sal_hub.specs.Openings.{AreClosedDevices}
+use Rattle.sal_history.specs.declared.opening.Device.{Device}
+use Rattle.sal_history.specs.World.{AreVersions}
+use Rattle.sal_hub.specs.Openings.{AreClosedDevices, world_of}
+use Rattle.sal_hub.proofs.OneVersion.{one_version}
 use Rattle.run_tests.proofs.full.opened.Goals as goal
 
 -- no rows are closed by any schema
@@ -14,3 +17,8 @@ pub open-requires-clause-closed : goal.open-requires-clause-closed
 open-requires-clause-closed c =
     let table = c.args.schema.value in
     subst AreClosedDevices (sym c.in_ok-devices.ensures.items) (record { config = closed table c.new.result c.new.ensures; oper = closed table c.new-2.result c.new-2.ensures }, tt)
+
+pub open-requires-clause-versions : goal.open-requires-clause-versions
+open-requires-clause-versions c =
+    let device : Device = record { schema = c.args.schema; upgrades = c.new-3.result; opening = record { config = c.new.result; oper = c.new-2.result } } in
+    subst (λ (devices : List Device). AreVersions (world_of devices)) (sym c.in_ok-devices.ensures.items) (one_version device c.new-3.ensures.items)

@@ -3,7 +3,7 @@ use Rattle.std.proofs.Common.{◌∷◌, [], ◌+◌, ◌++◌, List, length, le
 use Rattle.std.specs.Prelude.{IfErr}
 use Rattle.std.specs.List.{list_any}
 use Rattle.sal_schema.specs.declared.table.SchemaTable.{SchemaTable}
-use Rattle.sal_client.specs.Malformed.{is_malformed, shared_tables, IsFirstMalformed, IsMalformed}
+use Rattle.sal_client.specs.Malformed.{is_malformed, shared_tables, IsFirstMalformed, IsUnreadable}
 use Rattle.sal_client.proofs.Faults.{err_so}
 use Rattle.sal_client.proofs.Compiled.{first_malformed, next_table, none_more}
 use Rattle.sal_client.proofs.readers.add_all.Goals as goal
@@ -25,4 +25,4 @@ returns-in_err-add-clause-refused c =
     let was = c.loop-schema.invariant in
     let e = c.in_err-add.field-0.0 in
     err_so (λ r. IfErr r (IsFirstMalformed (shared_tables c.args.schemas.now))) _ e c.from_residual.ensures.1
-    (first_malformed c.args.schemas.now c.loop-schema.schema-index schema e c.loop-schema-test.true c.schema-item.is (subst (λ n. IsMalformed n schema.value e) was.long c.in_err-add.ensures.refused) (sym (ap (list_any is_malformed) was.made) ∙ was.formed))
+    (first_malformed c.args.schemas.now c.loop-schema.schema-index schema e c.loop-schema-test.true c.schema-item.is (subst (λ n. IsUnreadable n schema.value e) was.long c.in_err-add.ensures.refused) (sym (ap (list_any is_malformed) was.made) ∙ was.formed))

@@ -4,9 +4,9 @@ use Rattle.sal_script.specs.Load.{parts_of}
 use Rattle.sal_script.specs.Moves.{clients_of}
 use Rattle.sal_script.specs.Script.{Parts}
 use Rattle.sal_script.specs.declared.script.Script.{Script}
-use Rattle.sal_command.specs.Loads.{load_prepared}
-use Rattle.sal_command.specs.Scripted.{Prepared, prepared_of, seen}
-use Rattle.sal_command.proofs.Statuses.{same_made}
+use Rattle.sal_prepare.specs.Loads.{load_prepared}
+use Rattle.sal_prepare.specs.Scripted.{Prepared, prepared_of, seen}
+use Rattle.sal_prepare.proofs.Statuses.{same_made}
 use Rattle.sal_command.proofs.loaded.prepare_load.Goals as goal
 
 pub returns-clause-clients : goal.returns-clause-clients

@@ -2,8 +2,8 @@
 use Rattle.std.proofs.Common.{◌≡◌, ℕ, List, Result, ap, sym, subst}
 use Rattle.sal_types.specs.Reading.{◌>>=◌}
 use Rattle.sal_script.specs.Reading.{parts}
-use Rattle.sal_command.specs.declared.status.Status.{Status}
-use Rattle.sal_command.specs.Scripted.{Prepared}
+use Rattle.sal_prepare.specs.declared.status.Status.{Status}
+use Rattle.sal_prepare.specs.Scripted.{Prepared}
 use Rattle.sal_command.specs.Top.{IsPlayOr, play_over, sim_text}
 use Rattle.sal_command.proofs.top.sim_text.Goals as goal
 

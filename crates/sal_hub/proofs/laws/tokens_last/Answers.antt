@@ -1,9 +1,11 @@
 -- The front of the log stays; submissions and chains are only added.
-use Rattle.std.proofs.Common.{◌-◌, ◌∷◌, [], List, ℕ, ap, ◌∙◌, arith, length-append}
+use Rattle.std.proofs.Common.{◌-◌, ◌∷◌, [], List, ℕ, ap, sym, if◌then◌else◌, nat_eq, ◌∙◌, arith, length-append}
 use Rattle.std.specs.Prelude.{slice_get}
 use Rattle.std.specs.Option.{option_to_list}
-use Rattle.sal_history.specs.History.{chain_domains, history, opened_chain, reply_to}
-use Rattle.sal_hub.proofs.Histories.{began_at-push, chains-push}
+use Rattle.sal_history.specs.Versions.{version_at}
+use Rattle.sal_history.proofs.Versions.{version_at-stays}
+use Rattle.sal_history.specs.History.{Answered, chain_domains, history, opened_chain, reply_to}
+use Rattle.sal_hub.proofs.Histories.{began_at-push, chains-push, history-push, length-history, now_of}
 use Rattle.sal_hub.proofs.Listed.{slice_get_more}
 use Rattle.sal_hub.proofs.Listened.{named_last, made_last}
 use Rattle.sal_hub.proofs.Routed.{call_last}
@@ -15,6 +17,11 @@ returns-clause-begun c = λ known e begun base was. record {
   before = omega (arith, was.before, length-append known.log (e ∷ []));
   began = began_at-push known.world known.log e begun.place was.before ∙ was.began;
   schema = was.schema;
+  version =
+      was.version
+      ∙ ap (λ v. if nat_eq begun.domain 0 then v else 0)
+      (sym (ap (λ (answered : List Answered). version_at answered begun.place) (history-push known.world known.log e)
+      ∙ version_at-stays (history known.world known.log) (now_of known.world (history known.world known.log) e) begun.place (omega (arith, was.before, length-history known.world known.log))));
 }
 
 pub returns-clause-given : goal.returns-clause-given

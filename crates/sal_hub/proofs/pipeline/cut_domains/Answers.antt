@@ -2,11 +2,22 @@
 use Rattle.std.proofs.Common.{◌≡◌, ◌<◌, ap, length, map, get_or, arith}
 use Rattle.std.proofs.lemmas.Option.{slice_get-get_or}
 use Rattle.sal_hub.specs.PipelineView.{shown}
-use Rattle.sal_hub.proofs.Cutting.{cut_none, cut_one, kept_one}
+use Rattle.sal_hub.proofs.Cutting.{cut_none, cut_one, cut_reaches, kept_one}
 use Rattle.sal_hub.proofs.pipeline.cut_domains.Goals as goal
 
 pub loop-i-init : goal.loop-i-init
 loop-i-init c = record { kept = c.requires.kept; cut = cut_none (map shown c.args.domains.now) }
+
+pub cut_to-requires : goal.cut_to-requires
+cut_to-requires c =
+    let ds = c.loop-i.domains in
+    let ks = c.args.counts.now in
+    let i = c.loop-i.i in
+    let inside : i < length ks = omega arith in
+    let within : i < length ds = omega arith in
+    let d = get_or ds i c.index-domains-i.result in
+    let d_is : d ≡ get_or ds i d = ap (get_or ds i) c.index-domains-i.is in
+    record { since = cut_reaches ds (map shown c.args.domains.now) ks i (get_or ks i 0) d c.requires.reach within d_is (slice_get-get_or ks i 0 inside) c.loop-i.invariant.cut }
 
 pub loop-i-preserved : goal.loop-i-preserved
 loop-i-preserved c =

@@ -1,7 +1,7 @@
 -- The hub that is left when all seats are joined.
 use Rattle.std.proofs.Common.{rules, ◌≡◌, List, Err, true, ap, sym, ◌∙◌, subst}
 use Rattle.sal_history.specs.World.{Domain}
-use Rattle.sal_script.specs.Play.{tables_of}
+use Rattle.sal_script.specs.Tables.{versions_of}
 use Rattle.sal_broker.specs.Seats.{SeatView, known}
 use Rattle.sal_script.specs.declared.script.ScriptStep.{ScriptStep}
 use Rattle.sal_script.specs.Along.{AreLeft}
@@ -43,6 +43,6 @@ returns-in-Ok-clause-left g c =
     c.close-hub.result closed.world closed.seen closed.own closed.joined closed.others in
     let left =
     are_left c.args.readers.now c.in_ok-sal.sal programs c.in_ok-sal.opening c.in_ok-joined.joined c.in_ok-joined.replies limits begun c.in_ok-joined.ensures
-    c.close-hub.result closed.world closed.seen closed.own closed.joined closed.others (c.requires.tables ∙ ap (λ (w : List Domain). tables_of w) same) c.in-Ok.replies c.in-Ok.is in
+    c.close-hub.result closed.world closed.seen closed.own closed.joined closed.others (c.requires.tables ∙ ap (λ (w : List Domain). versions_of w) same) c.in-Ok.replies c.in-Ok.is in
     subst (λ (ps : List (List ScriptStep)). AreLeft c.args.hub.world (clients_of ps) c.close-hub.result.log c.in-Ok.replies) c.items-programs.ensures
     (subst (λ (w : List Domain). AreLeft w (clients_of programs) c.close-hub.result.log c.in-Ok.replies) (sym same) left)

@@ -8,6 +8,6 @@ invariant_of-result c =
       short = c.in_ok-beginning.beginning.own.short;
       few = rw (c.from_items.ensures, beginning.domains.1) domains.few;
       limits = rw c.from_items-2.ensures beginning.limits;
-      opening = c.in_ok-beginning.beginning.own.opening;
+      opening = c.in_ok-beginning.beginning.own.device.opening;
       json = rw c.from_items-2.ensures beginning.json;
     }

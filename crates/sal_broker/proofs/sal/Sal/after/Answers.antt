@@ -8,5 +8,5 @@ returns-clause-turn g c = (
   c.enter_after-held.result.hub,
   c.last_look-answer.new.held.hub,
   search rules,
-  record { number = search rules; world = search rules; seen = search rules; mine = search rules; now = search rules; own = search rules },
+  record { number = search rules; over = search rules; seen = search rules; mine = search rules; now = search rules; own = search rules },
 )

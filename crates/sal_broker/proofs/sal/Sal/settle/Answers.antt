@@ -5,5 +5,5 @@ use Rattle.sal_broker.proofs.sal.Sal.settle.Goals as goal
 pub returns-clause-turn : goal.returns-clause-turn
 returns-clause-turn g c = (
   search rules,
-  (c.number-client.result, c.hub.result.now, c.settle-answer.new.self, c.settle-answer.ensures.answer, record { number = search rules; world = search rules; seen = search rules; mine = search rules; now = search rules; own = search rules }),
+  (c.number-client.result, c.hub.result.now, c.settle-answer.new.self, c.settle-answer.ensures.answer, record { number = search rules; over = search rules; seen = search rules; mine = search rules; now = search rules; own = search rules }),
 )

@@ -15,5 +15,5 @@ leave-requires-clause-added g c =
 pub returns-clause-turn : goal.returns-clause-turn
 returns-clause-turn g c = (
   search rules,
-  (c.number-client.result, c.hub.result.now, c.submit-answer.new.self, c.submit-answer.ensures.answer, record { number = search rules; world = search rules; seen = search rules; mine = search rules; now = search rules; own = search rules }),
+  (c.number-client.result, c.hub.result.now, c.submit-answer.new.self, c.submit-answer.ensures.answer, record { number = search rules; over = search rules; seen = search rules; mine = search rules; now = search rules; own = search rules }),
 )

@@ -3,14 +3,14 @@ use Rattle.std.proofs.Common.{◌∙◌, None, ap, refl, sym}
 use Rattle.sal_history.specs.History.{history, is_live}
 use Rattle.sal_history.specs.declared.call.Call.TheVariants.{Begin as BeginCall}
 use Rattle.sal_script.specs.declared.reply.StepReply.TheVariants.{Called}
-use Rattle.sal_hub.specs.Tokens.{begun_of}
+use Rattle.sal_hub.specs.Tokens.{base_of, begun_of}
 use Rattle.sal_client.specs.declared.wish.Wish.TheVariants.{Begin}
 use Rattle.sal_client.specs.Slots.{held}
 use Rattle.sal_client.specs.Clients.{IsOwn, client_of, open_of}
 use Rattle.sal_client.proofs.Places.{seen-filled}
 use Rattle.sal_client.proofs.Domains.{begun_live, live_within}
 use Rattle.sal_client.proofs.Soundness.{IsSound-filled}
-use Rattle.sal_client.proofs.Answering.{in_world, kept_begun}
+use Rattle.sal_client.proofs.Answering.{begun_by, in_world, kept_begun}
 use Rattle.sal_client.proofs.Leaving.{leaves_made, leaves_refused, sound_behind}
 use Rattle.sal_client.proofs.client.ClientState.begin.Goals as goal
 
@@ -22,6 +22,7 @@ returns-in_ok-fill_slot-in-Ok c =
     let wish = Begin c.args.slot c.args.domain c.args.mode in
     let call = BeginCall c.args.domain c.args.mode in
     let made = c.in-Ok.ensures.answer in
+    let fresh = c.in-Ok.ensures.fresh in
     let last = c.tokens_last.ensures in
     let live = begun_live (is_live known.world (history known.world known.log) c.args.domain) _ (begun_of tx).base_commit (begun_of tx).on _ made.reply in
     let own : IsOwn c.begin.new.self tx = record {
@@ -30,7 +31,7 @@ returns-in_ok-fill_slot-in-Ok c =
     } in
     let was = sound_behind wish known c.begin.new.self old call (last.begun, last.given, last.opened, last.called) refl _ made c.requires.sound in
     leaves_made wish known c.begin.new.self old call _ (record { number = refl; replies = refl }) (λ tables read. refl) _ c.called.result made (c.called.ensures ∙ ap Called c.begun-reply.ensures)
-    (kept_begun known c.args.slot c.args.domain None c.args.mode tx (client_of old) _ c.in-Ok.ensures.fresh (seen-filled open_of (held old.transactions) (held c.fill_slot.new.slots) c.args.slot tx c.in_ok-fill_slot-in-Ok.ensures))
+    (kept_begun known c.args.slot c.args.domain None c.args.mode tx (client_of old) _ fresh (begun_by c.args.domain (begun_of tx) (base_of tx) made c.in-Ok.ensures.token fresh.place fresh.domain) (seen-filled open_of (held old.transactions) (held c.fill_slot.new.slots) c.args.slot tx c.in_ok-fill_slot-in-Ok.ensures))
     (IsSound-filled c.begin.new.self old _ c.args.slot tx was own c.in_ok-fill_slot-in-Ok.ensures refl refl (refl, refl, refl))
 
 pub returns-in-Err : goal.returns-in-Err

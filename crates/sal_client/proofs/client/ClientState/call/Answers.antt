@@ -1,4 +1,8 @@
 -- Each kind of call, for the wish that it is for.
+use Rattle.std.proofs.Common.{subst}
+use Rattle.sal_script.specs.Tables.{versions_of}
+use Rattle.sal_client.specs.declared.wish.Wish.{Wish}
+use Rattle.sal_client.specs.Wishes.{ReadBy}
 use Rattle.sal_client.proofs.Leaving.{leaves_for}
 use Rattle.sal_client.proofs.client.ClientState.call.Goals as goal
 
@@ -49,3 +53,9 @@ returns-in-Mark c = leaves_for c.args.wish _ c.args.hub.now c.mark.new.hub c.arg
 
 pub returns-in-After : goal.returns-in-After
 returns-in-After c = leaves_for c.args.wish _ c.args.hub.now c.after.new.hub c.args.self.now c.args.self.now c.after.result c.in-After.is c.after.ensures
+
+pub returns-in-Upgrade : goal.returns-in-Upgrade
+returns-in-Upgrade c = leaves_for c.args.wish _ c.args.hub.now c.upgrade.new.hub c.args.self.now c.args.self.now c.upgrade.result c.in-Upgrade.is c.upgrade.ensures
+
+pub upgrade-requires-clause-read : goal.upgrade-requires-clause-read
+upgrade-requires-clause-read c = subst (λ (w : Wish). ReadBy (versions_of c.args.hub.now.world) w) c.in-Upgrade.is c.requires.read

@@ -4,7 +4,8 @@ use Rattle.std.specs.Option.{option_map}
 use Rattle.serde_json.specs.View.{view}
 use Rattle.sal_history.specs.declared.call.Call.TheVariants as made
 use Rattle.sal_history.specs.declared.reply.Reply.TheVariants.{Accepted}
-use Rattle.sal_script.specs.Play.{ask, table_in}
+use Rattle.sal_script.specs.Play.{ask}
+use Rattle.sal_script.specs.Tables.{last_in}
 use Rattle.sal_script.specs.Services.{answer}
 use Rattle.sal_client.specs.declared.rpcs.RpcWish.{RpcWish}
 use Rattle.sal_client.specs.declared.rpcs.RpcWish.TheVariants as wishes
@@ -38,5 +39,5 @@ returns-in-Answer c =
     let client = c.args.self.now in
     let last = c.tokens_last.ensures in
     subst (λ (w : RpcWish). Leaves (Rpc w) c.args.hub.now client c.answer.new.self client c.answer_to-in-Answer.result) (sym c.in-Answer.is)
-    (leaves_slots (Rpc (wishes.Answer c.in-Answer.slot c.in-Answer.answer)) c.args.hub.now c.answer.new.self client (made.Answer c.in-Answer.answer.request.id c.in-Answer.answer.output) (last.begun, last.given, last.opened, last.called) refl c.requires.sound (λ tables read. ap (λ o. ask (answer (table_in tables 0) (option_map invocation_of o) (view c.in-Answer.answer.value.value)) (client_of client)) (subst (λ (w : RpcWish). CanMake (Rpc w) client) c.in-Answer.is c.requires.can) ∙ ap (λ o. ask o (client_of client)) read) (λ r. refl)
+    (leaves_slots (Rpc (wishes.Answer c.in-Answer.slot c.in-Answer.answer)) c.args.hub.now c.answer.new.self client (made.Answer c.in-Answer.answer.request.id c.in-Answer.answer.output) (last.begun, last.given, last.opened, last.called) refl c.requires.sound (λ tables read. ap (λ o. ask (answer (last_in tables 0) (option_map invocation_of o) (view c.in-Answer.answer.value.value)) (client_of client)) (subst (λ (w : RpcWish). CanMake (Rpc w) client) c.in-Answer.is c.requires.can) ∙ ap (λ o. ask o (client_of client)) read) (λ r. refl)
     (λ _. Accepted) c.answer.result c.answer_to-in-Answer.result c.answer.ensures.answer (subst (λ q. IsAnswer q c.answer_to-in-Answer.result) c.accepted-in-Answer.ensures c.answer_to-in-Answer.ensures))

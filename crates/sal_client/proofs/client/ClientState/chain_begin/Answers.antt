@@ -5,14 +5,14 @@ use Rattle.sal_history.specs.History.{domain_of, history}
 use Rattle.sal_history.specs.declared.call.Call.TheVariants.{ChainBegin as ChainBeginCall}
 use Rattle.sal_script.specs.Play.{chain_begin}
 use Rattle.sal_script.specs.declared.reply.StepReply.TheVariants.{Called}
-use Rattle.sal_hub.specs.Tokens.{begun_of}
+use Rattle.sal_hub.specs.Tokens.{base_of, begun_of}
 use Rattle.sal_client.specs.declared.wish.Wish.TheVariants.{ChainBegin}
 use Rattle.sal_client.specs.Slots.{held}
 use Rattle.sal_client.specs.Clients.{IsOwn, chain_of, client_of, open_of}
 use Rattle.sal_client.proofs.Places.{seen-filled}
 use Rattle.sal_client.proofs.Domains.{chained_live, domain-chain, live_within}
 use Rattle.sal_client.proofs.Soundness.{IsSound-filled}
-use Rattle.sal_client.proofs.Answering.{in_world, kept_in_chain}
+use Rattle.sal_client.proofs.Answering.{begun_by, in_world, kept_in_chain}
 use Rattle.sal_client.proofs.Leaving.{leaves_made, leaves_refused, sound_behind}
 use Rattle.sal_client.proofs.client.ClientState.chain_begin.Goals as goal
 
@@ -28,6 +28,7 @@ returns-in_ok-fill_slot-in-Ok c =
     let wish = ChainBegin c.args.from c.args.slot c.args.mode in
     let call = ChainBeginCall chain.id c.args.mode in
     let made = c.in-Ok.ensures.answer in
+    let fresh = c.in-Ok.ensures.fresh in
     let last = c.tokens_last.ensures in
     let found : held old.chains c.args.from ≡ Some chain = c.filled-chain.ensures in
     let filled = seen-filled open_of (held old.transactions) (held c.fill_slot.new.slots) c.args.slot tx c.in_ok-fill_slot-in-Ok.ensures in
@@ -40,7 +41,7 @@ returns-in_ok-fill_slot-in-Ok c =
     } in
     let was = sound_behind wish known c.chain_begin.new.self old call (last.begun, last.given, last.opened, last.called) refl _ made c.requires.sound in
     leaves_made wish known c.chain_begin.new.self old call _ (record { number = refl; replies = refl }) (λ tables read. ap (λ o. chain_begin c.args.mode (client_of old) (option_map chain_of o)) found) _ c.called.result made (c.called.ensures ∙ ap Called c.begun-reply.ensures)
-    (kept_in_chain known c.args.from c.args.slot (chain_of chain) c.args.mode tx (client_of old) _ (ap (option_map chain_of) found) c.in-Ok.ensures.fresh filled)
+    (kept_in_chain known c.args.from c.args.slot (chain_of chain) c.args.mode tx (client_of old) _ (ap (option_map chain_of) found) fresh (begun_by chain.domain (begun_of tx) (base_of tx) made c.in-Ok.ensures.token fresh.place fresh.domain) filled)
     (IsSound-filled c.chain_begin.new.self old _ c.args.slot tx was own c.in_ok-fill_slot-in-Ok.ensures refl refl (refl, refl, refl))
 
 pub returns-in-Err : goal.returns-in-Err

@@ -1,5 +1,6 @@
 -- The request stands in its slot, if one waited.
-use Rattle.std.proofs.Common.{◌∙◌, ap, length, refl}
+use Rattle.std.proofs.Common.{◌∙◌, ap, refl}
+use Rattle.sal_script.specs.Play.{spot_after}
 use Rattle.sal_history.specs.declared.call.Call.TheVariants.{NextCall as NextCallCall}
 use Rattle.sal_script.specs.declared.reply.StepReply.TheVariants.{Called}
 use Rattle.sal_client.specs.declared.rpcs.RpcWish.TheVariants.{NextCall}
@@ -19,7 +20,7 @@ returns-in_ok-put_handed-in-Ok c =
     let last = c.tokens_last.ensures in
     let was = sound_behind wish known c.next_call.new.self old NextCallCall (last.begun, last.given, last.opened, last.called) refl _ made c.requires.sound in
     leaves_made wish known c.next_call.new.self old NextCallCall _ (record { number = refl; replies = refl }) (λ tables read. refl) _ c.called.result made (c.called.ensures ∙ ap Called c.handed.ensures)
-    (kept_handed old (held c.put_handed.new.slots) c.args.slot (length known.log) c.in-Ok.found c.in_ok-put_handed-in-Ok.ensures) (IsSound-same c.next_call.new.self old _ was refl refl refl (refl, refl, refl))
+    (kept_handed old (held c.put_handed.new.slots) c.args.slot (spot_after known.world known.log) c.in-Ok.found c.in_ok-put_handed-in-Ok.ensures) (IsSound-same c.next_call.new.self old _ was refl refl refl (refl, refl, refl))
 
 pub returns-in-Err : goal.returns-in-Err
 returns-in-Err c =

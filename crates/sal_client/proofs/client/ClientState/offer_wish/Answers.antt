@@ -5,7 +5,7 @@ use Rattle.sal_types.specs.Reading.{◌>>=◌}
 use Rattle.sal_history.specs.declared.call.Call.TheVariants as made
 use Rattle.sal_script.specs.Messages.{note_called}
 use Rattle.sal_script.specs.Moves as asked
-use Rattle.sal_script.specs.Play.{table_in}
+use Rattle.sal_script.specs.Tables.{last_in}
 use Rattle.sal_script.specs.Services as services
 use Rattle.sal_client.specs.Faults.{Refuses}
 use Rattle.sal_client.specs.Wishes.{Wants}
@@ -17,7 +17,7 @@ pub returns-in_err-note : goal.returns-in_err-note
 returns-in_err-note c =
     let tables = c.args.readers.now in
     let client = c.args.self.now in
-    let table = table_in tables 0 in
+    let table = last_in tables 0 in
     let name = c.args.name.now in
     let value = view c.args.value.now in
     let e = c.in_err-note.field-0.0 in
@@ -30,7 +30,7 @@ pub returns-in_err-rows : goal.returns-in_err-rows
 returns-in_err-rows c =
     let tables = c.args.readers.now in
     let client = c.args.self.now in
-    let table = table_in tables 0 in
+    let table = last_in tables 0 in
     let name = c.args.name.now in
     let value = view c.args.value.now in
     let note = c.in_ok-note.note in

@@ -3,7 +3,7 @@ use Rattle.std.proofs.Common.{Ok, refl, ◌∙◌, subst}
 use Rattle.sal_history.specs.declared.call.Call.TheVariants as made
 use Rattle.sal_script.specs.Messages.{note_called}
 use Rattle.sal_script.specs.Moves as asked
-use Rattle.sal_script.specs.Play.{table_in}
+use Rattle.sal_script.specs.Tables.{last_in}
 use Rattle.sal_script.specs.Services as services
 use Rattle.sal_client.specs.Faults.{Refuses}
 use Rattle.sal_client.specs.Wishes.{Wants}
@@ -15,7 +15,7 @@ pub returns-in_err-note : goal.returns-in_err-note
 returns-in_err-note c =
     let tables = c.args.readers.now in
     let client = c.args.self.now in
-    let table = table_in tables 0 in
+    let table = last_in tables 0 in
     let name = c.args.name.now in
     let e = c.in_err-note.field-0.0 in
     let refuses = subst (λ t. Refuses e (services.if_known (note_called t name))) (c.schema.ensures ∙ c.own.ensures) c.in_err-note.ensures in

@@ -8,7 +8,8 @@ use Rattle.sal_schema.specs.declared.table.SchemaTable.{SchemaTable}
 use Rattle.sal_rules.specs.Writes.{IsForSchema}
 use Rattle.sal_script.specs.declared.reply.StepReply.TheVariants.{Accepted, Refused}
 use Rattle.sal_script.specs.declared.reply.StepRefusal.TheVariants.{Write as WriteRefused}
-use Rattle.sal_script.specs.Play.{Open, table_in, write_op}
+use Rattle.sal_script.specs.Play.{Open, write_op}
+use Rattle.sal_script.specs.Tables.{table_at}
 use Rattle.sal_client.specs.Slots.{held}
 use Rattle.sal_hub.specs.HubHistory.{HubHistory}
 use Rattle.sal_client.specs.Clients.{IsOfSchema, IsOwn, IsSteady, client_of, open_of, opened}
@@ -32,7 +33,7 @@ returns c =
     record {
       answers = λ known is of tx at.
           let same : tx ≡ open_of (Write taken) = same_Some tx (open_of (Write taken)) (sym at ∙ found) in
-          ap (λ (t : Open). write_op (table_in tables t.domain) known.world known.log c.args.slot c.args.op t (client_of old)) same
+          ap (λ (t : Open). write_op (table_at tables t.version t.domain) known.world known.log c.args.slot c.args.op t (client_of old)) same
           ∙ written known tables taken (is.transactions c.args.slot (Write taken) holds) of c.args.slot c.args.op c.write.new.self c.write.result c.in_ok-reply-in-Some-Write.reply (client_of old) _ c.write.ensures.outcome c.write.ensures.err (subst (λ d. MatchResult c.write.result (λ _. c.in_ok-reply-in-Some-Write.reply ≡ Accepted) (λ fault. c.in_ok-reply-in-Some-Write.reply ≡ Refused (WriteRefused d fault))) c.domain-domain.ensures reply.reply) reply.memory found
           (seen-filled open_of (held old.transactions) (held c.fill_slot.new.slots) c.args.slot (Write c.write.new.self) filled);
       sound = record {

@@ -1,5 +1,7 @@
 -- The client answers its local steps, and makes the shared call that it comes to.
-use Rattle.std.proofs.Common.{ℕ, Option, subst}
+use Rattle.std.proofs.Common.{ℕ, List, Option, subst}
+use Rattle.sal_script.specs.Tables.{Versions}
+use Rattle.sal_client.specs.Wishes.{ReadBy}
 use Rattle.sal_client.specs.declared.wish.Wish.{Wish}
 use Rattle.sal_client.specs.Clients.{client_of}
 use Rattle.sal_client.specs.Runs.{Comes, MakesNext}
@@ -21,3 +23,8 @@ returns-in-Ok-clause-goes g c =
     let comes = subst (λ (o : Option Wish). Comes tables steps old o mid) c.in-Some.is c.in_ok-next.ensures.comes in
     goes tables old.client.number known c.make.new.hub wish steps old mid c.make.new.self comes
     (λ read. subst (λ (n : ℕ). MakesNext tables n known wish (client_of mid.client) c.make.new.hub (client_of c.make.new.self.client)) c.in_ok-next.ensures.number (c.in-Ok.ensures.makes tables read)) c.in-Ok.ensures.at c.requires.run.sound c.requires.tables
+
+pub make-requires-clause-read : goal.make-requires-clause-read
+make-requires-clause-read g c =
+    let comes = subst (λ (o : Option Wish). Comes c.args.readers.now c.args.steps.now c.args.self.now o c.next.new.self) c.in-Some.is c.in_ok-next.ensures.comes in
+    subst (λ (tables : List Versions). ReadBy tables c.in-Some.wish) c.requires.tables comes.2

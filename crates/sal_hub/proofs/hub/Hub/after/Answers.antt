@@ -15,7 +15,7 @@ invariant_of-self-then-has c =
     let p = c.self.inside.pipeline in
     let whole = c.self.invariant in
     whole_steady j c.add.new.self p p c.self.inside.chains c.self.inside.marks c.self.inside.listeners c.self.inside.services whole
-    (quiet_kept j c.add.new.self p whole.kept c.args.client (After c.args.mark) c.in-Ok.ensures.log refl refl refl (λ k. refl) refl c.in-Ok.ensures.marks)
+    (quiet_kept j c.add.new.self p whole.kept c.args.client (After c.args.mark) c.in-Ok.ensures.log refl refl refl refl (λ k. refl) refl c.in-Ok.ensures.marks)
     (entry_of (known_of j p) c.args.client (After c.args.mark)) (λ m. refl) refl refl (longer_now j c.add.new.self p c.self.inside.chains c.self.inside.marks c.self.inside.listeners c.self.inside.services whole c.args.client (After c.args.mark) c.in-Ok.ensures.log) refl (λ id. refl) (λ id. refl) refl
 
 pub returns-then-has-clause-answer : goal.returns-then-has-clause-answer
@@ -32,7 +32,7 @@ invariant_of-self-2 c =
     let p = c.self.inside.pipeline in
     let whole = c.self.invariant in
     whole_steady j c.add.new.self p p c.self.inside.chains c.self.inside.marks c.self.inside.listeners c.self.inside.services whole
-    (quiet_kept j c.add.new.self p whole.kept c.args.client (After c.args.mark) c.in-Ok.ensures.log refl refl refl (λ k. refl) refl c.in-Ok.ensures.marks)
+    (quiet_kept j c.add.new.self p whole.kept c.args.client (After c.args.mark) c.in-Ok.ensures.log refl refl refl refl (λ k. refl) refl c.in-Ok.ensures.marks)
     (entry_of (known_of j p) c.args.client (After c.args.mark)) (λ m. refl) refl refl (longer_now j c.add.new.self p c.self.inside.chains c.self.inside.marks c.self.inside.listeners c.self.inside.services whole c.args.client (After c.args.mark) c.in-Ok.ensures.log) refl (λ id. refl) (λ id. refl) refl
 
 pub returns-clause-answer : goal.returns-clause-answer

@@ -33,7 +33,7 @@ invariant_of-self c =
     let long : length c.close_chain.new.closed ≡ cs.closed.len = ap length done.closed ∙ length-set c.deref_mut.result.now (c.id.result - 1) true ∙ c.deref_mut.ensures.len in
     let room : length j.log < 1000000 = grind (arith, common_steps) in
     let cs' : Chains = record { domains = cs.domains; closed = with_items cs.closed c.close_chain.new.closed; begun = cs.begun; sent = cs.sent } in
-    close_whole j c.close_chain.new.journal p p cs ms c.self.inside.listeners c.self.inside.services whole (quiet_kept j c.close_chain.new.journal p whole.kept c.args.client (CloseChain chain.id) log refl refl refl (λ k. refl) refl done.marks)
+    close_whole j c.close_chain.new.journal p p cs ms c.self.inside.listeners c.self.inside.services whole (quiet_kept j c.close_chain.new.journal p whole.kept c.args.client (CloseChain chain.id) log refl refl refl refl (λ k. refl) refl done.marks)
     c.args.client (entries_of j.log c.args.client) chain.id token.0 high c.in-Ok-true.field-0 was (longer_now j c.close_chain.new.journal p cs ms c.self.inside.listeners c.self.inside.services whole c.args.client (CloseChain chain.id) log)
     cs' room refl (with_items_is cs.closed c.close_chain.new.closed long ∙ closed) refl refl
 
@@ -55,7 +55,7 @@ invariant_of-self-2 c =
     let long : length c.close_chain.new.closed ≡ cs.closed.len = ap length done.closed ∙ length-set c.deref_mut.result.now (c.id.result - 1) true ∙ c.deref_mut.ensures.len in
     let room : length j.log < 1000000 = grind (arith, common_steps) in
     let cs' : Chains = record { domains = cs.domains; closed = with_items cs.closed c.close_chain.new.closed; begun = cs.begun; sent = cs.sent } in
-    close_whole j c.close_chain.new.journal p p cs ms c.self.inside.listeners c.self.inside.services whole (quiet_kept j c.close_chain.new.journal p whole.kept c.args.client (CloseChain chain.id) log refl refl refl (λ k. refl) refl done.marks)
+    close_whole j c.close_chain.new.journal p p cs ms c.self.inside.listeners c.self.inside.services whole (quiet_kept j c.close_chain.new.journal p whole.kept c.args.client (CloseChain chain.id) log refl refl refl refl (λ k. refl) refl done.marks)
     c.args.client (entries_of j.log c.args.client) chain.id token.0 high c.in-Ok-false.field-0 was (longer_now j c.close_chain.new.journal p cs ms c.self.inside.listeners c.self.inside.services whole c.args.client (CloseChain chain.id) log)
     cs' room refl (with_items_is cs.closed c.close_chain.new.closed long ∙ closed) refl refl
 

@@ -13,5 +13,5 @@ invariant_of-self-2 c =
     let cs = c.self.inside.chains in
     let ms = c.self.inside.marks in
     let whole = c.self.invariant in
-    mark_whole j c.leave.new.journal p p cs ms c.self.inside.listeners c.self.inside.services whole (quiet_kept j c.leave.new.journal p whole.kept c.args.client (Mark c.args.mark) c.in-Ok.ensures.log refl refl refl (λ k. refl) refl c.in-Ok.ensures.spent)
+    mark_whole j c.leave.new.journal p p cs ms c.self.inside.listeners c.self.inside.services whole (quiet_kept j c.leave.new.journal p whole.kept c.args.client (Mark c.args.mark) c.in-Ok.ensures.log refl refl refl refl (λ k. refl) refl c.in-Ok.ensures.spent)
     c.args.client (entries_of j.log c.args.client) c.args.mark c.leave.new.marks (longer_now j c.leave.new.journal p cs ms c.self.inside.listeners c.self.inside.services whole c.args.client (Mark c.args.mark) c.in-Ok.ensures.log) c.in-Ok.ensures.marked

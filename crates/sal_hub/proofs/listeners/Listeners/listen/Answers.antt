@@ -12,7 +12,7 @@ use Rattle.sal_hub.proofs.listeners.Listeners.listen.Goals as goal
 pub returns-in-Ok-clause-kept : goal.returns-in-Ok-clause-kept
 returns-in-Ok-clause-kept c =
     let ask = c.args.ask.now in
-    quiet_kept c.args.journal.now c.enter.new.journal c.args.pipeline.now c.requires.kept ask.client (call_of ask) c.in-Ok.ensures.log refl refl refl (λ k. refl) refl c.in-Ok.ensures.marks
+    quiet_kept c.args.journal.now c.enter.new.journal c.args.pipeline.now c.requires.kept ask.client (call_of ask) c.in-Ok.ensures.log refl refl refl refl (λ k. refl) refl c.in-Ok.ensures.marks
 
 pub returns-in-Ok-clause-listeners : goal.returns-in-Ok-clause-listeners
 returns-in-Ok-clause-listeners c =
@@ -22,7 +22,7 @@ returns-in-Ok-clause-listeners c =
 pub returns-in-Ok-make-clause-kept : goal.returns-in-Ok-make-clause-kept
 returns-in-Ok-make-clause-kept c =
     let ask = c.args.ask.now in
-    quiet_kept c.args.journal.now c.make.new.journal c.args.pipeline.now c.requires.kept ask.client (call_of ask) c.in-Ok-make.ensures.log refl refl refl (λ k. refl) refl c.in-Ok-make.ensures.marks
+    quiet_kept c.args.journal.now c.make.new.journal c.args.pipeline.now c.requires.kept ask.client (call_of ask) c.in-Ok-make.ensures.log refl refl refl refl (λ k. refl) refl c.in-Ok-make.ensures.marks
 
 pub returns-in-Ok-make-clause-listeners : goal.returns-in-Ok-make-clause-listeners
 returns-in-Ok-make-clause-listeners c =

@@ -25,7 +25,7 @@ tell-requires-clause-high c =
 
 pub returns-in-Ok-clause-kept : goal.returns-in-Ok-clause-kept
 returns-in-Ok-clause-kept c =
-    quiet_kept c.args.journal.now c.add.new.self c.args.pipeline.now c.requires.kept c.args.client (Take c.number-number.result) c.in-Ok.ensures.log refl refl refl (λ k. refl) refl c.in-Ok.ensures.marks
+    quiet_kept c.args.journal.now c.add.new.self c.args.pipeline.now c.requires.kept c.args.client (Take c.number-number.result) c.in-Ok.ensures.log refl refl refl refl (λ k. refl) refl c.in-Ok.ensures.marks
 
 pub returns-in-Ok-clause-listeners : goal.returns-in-Ok-clause-listeners
 returns-in-Ok-clause-listeners c =
@@ -47,7 +47,7 @@ returns-in-Ok-clause-answer c =
 
 pub returns-in-Ok-tell-clause-kept : goal.returns-in-Ok-tell-clause-kept
 returns-in-Ok-tell-clause-kept c =
-    quiet_kept c.args.journal.now c.tell.new.journal c.args.pipeline.now c.requires.kept c.args.client (Take c.number-number.result) c.in-Ok-tell.ensures.log refl refl refl (λ k. refl) refl c.in-Ok-tell.ensures.marks
+    quiet_kept c.args.journal.now c.tell.new.journal c.args.pipeline.now c.requires.kept c.args.client (Take c.number-number.result) c.in-Ok-tell.ensures.log refl refl refl refl (λ k. refl) refl c.in-Ok-tell.ensures.marks
 
 pub returns-in-Ok-tell-clause-listeners : goal.returns-in-Ok-tell-clause-listeners
 returns-in-Ok-tell-clause-listeners c =

@@ -20,7 +20,7 @@ has-requires-clause-high c =
 
 pub returns-then-not-has-clause-kept : goal.returns-then-not-has-clause-kept
 returns-then-not-has-clause-kept c =
-    quiet_kept c.args.journal.now c.add.new.self c.args.pipeline.now c.requires.kept c.args.client (Unlisten c.number-number.result) c.in-Ok.ensures.log refl refl refl (λ k. refl) refl c.in-Ok.ensures.marks
+    quiet_kept c.args.journal.now c.add.new.self c.args.pipeline.now c.requires.kept c.args.client (Unlisten c.number-number.result) c.in-Ok.ensures.log refl refl refl refl (λ k. refl) refl c.in-Ok.ensures.marks
 
 pub returns-then-not-has-clause-listeners : goal.returns-then-not-has-clause-listeners
 returns-then-not-has-clause-listeners c =
@@ -53,7 +53,7 @@ take_out-requires-clause-some c =
 
 pub returns-clause-kept : goal.returns-clause-kept
 returns-clause-kept c =
-    quiet_kept c.args.journal.now c.add.new.self c.args.pipeline.now c.requires.kept c.args.client (Unlisten c.number-number.result) c.in-Ok.ensures.log refl refl refl (λ k. refl) refl c.in-Ok.ensures.marks
+    quiet_kept c.args.journal.now c.add.new.self c.args.pipeline.now c.requires.kept c.args.client (Unlisten c.number-number.result) c.in-Ok.ensures.log refl refl refl refl (λ k. refl) refl c.in-Ok.ensures.marks
 
 pub returns-clause-listeners : goal.returns-clause-listeners
 returns-clause-listeners c =

@@ -3,8 +3,8 @@ use Rattle.std.proofs.Common.{◌≡◌, ◌-◌, List, drop, length, map, take,
 use Rattle.std.proofs.lemmas.Grind.{common_steps}
 use Rattle.sal_commit.specs.declared.domain.Domain.{Domain}
 use Rattle.sal_hub.specs.Failures.{cut_failures}
-use Rattle.sal_hub.specs.PipelineView.{AreDecided, PipelineView, counts_of, cut_all, line_of, shown}
-use Rattle.sal_hub.proofs.Cutting.{as_many, taken_back}
+use Rattle.sal_hub.specs.PipelineView.{AreDecided, PipelineView, Reach, counts_of, cut_all, line_of, shown}
+use Rattle.sal_hub.proofs.Cutting.{as_many, reaches, taken_back}
 use Rattle.sal_hub.proofs.Deciding.{decided-shorter}
 use Rattle.sal_hub.proofs.pipeline.Pipeline.settle.Goals as goal
 
@@ -12,6 +12,13 @@ pub cut_back-requires-clause-long : goal.cut_back-requires-clause-long
 cut_back-requires-clause-long c =
     let counts : c.in_ok-counts.counts.items ≡ counts_of (map shown c.args.self.now.domains.items) = c.in_ok-counts.ensures ∙ ap (λ (ds : List Domain). counts_of (map shown ds)) c.deref.ensures.value in
     ap length c.deref-in-Err.ensures.value ∙ as_many c.args.self.now c.decide_upto.new.self c.requires.kept c.in-Err.ensures.grown c.in_ok-counts.counts.items counts
+
+pub cut_back-requires-clause-reach : goal.cut_back-requires-clause-reach
+cut_back-requires-clause-reach c =
+    let old = c.args.self.now in
+    let new = c.decide_upto.new.self in
+    let counts : c.in_ok-counts.counts.items ≡ counts_of (map shown old.domains.items) = c.in_ok-counts.ensures ∙ ap (λ (ds : List Domain). counts_of (map shown ds)) c.deref.ensures.value in
+    subst (Reach (map shown new.domains.items)) (sym c.deref-in-Err.ensures.value) (reaches old new c.requires.kept c.in-Err.ensures.grown c.in_ok-counts.counts.items counts)
 
 pub returns-clause-same : goal.returns-clause-same
 returns-clause-same c =

@@ -1,5 +1,7 @@
 -- The client makes its call on the hub that its turn found.
-use Rattle.std.proofs.Common.{sym, ◌∙◌, subst}
+use Rattle.std.proofs.Common.{List, sym, ◌∙◌, subst}
+use Rattle.sal_script.specs.Tables.{Versions, versions_of}
+use Rattle.sal_client.specs.Wishes.{ReadBy}
 use Rattle.sal_hub.specs.HubHistory.{HubHistory}
 use Rattle.sal_client.specs.Clients.{IsSound, client_of}
 use Rattle.sal_client.specs.Runs.{MakesNext, asking}
@@ -12,6 +14,13 @@ make-made-requires-clause-sound g c =
     let enters = c.turn_for-held.ensures in
     let found = found_stands (last.begun, last.given, last.opened, last.called) c.args.self.now.readers.now c.args.self.now.steps.now c.args.seat.view c.args.self.now.sal.now c.turn_for-held.result c.args.run.now (asking c.args.wish c.args.self.now.steps.now c.args.run.now) enters c.requires.stands in
     subst (λ (k : HubHistory). IsSound k c.args.run.now.client) (sym (c.hub.ensures.value ∙ enters.hub)) found.sound
+
+pub make-made-requires-clause-read : goal.make-made-requires-clause-read
+make-made-requires-clause-read g c =
+    let last = c.tokens_last.ensures in
+    let enters = c.turn_for-held.ensures in
+    let found = found_stands (last.begun, last.given, last.opened, last.called) c.args.self.now.readers.now c.args.self.now.steps.now c.args.seat.view c.args.self.now.sal.now c.turn_for-held.result c.args.run.now (asking c.args.wish c.args.self.now.steps.now c.args.run.now) enters c.requires.stands in
+    subst (λ (k : HubHistory). ReadBy (versions_of k.world) c.args.wish) (sym (c.hub.ensures.value ∙ enters.hub)) (subst (λ (tables : List Versions). ReadBy tables c.args.wish) found.reads c.requires.read)
 
 pub returns-in-Ok-clause-few : goal.returns-in-Ok-clause-few
 returns-in-Ok-clause-few g c =

@@ -1,6 +1,0 @@
--- What is read at the root is whole.
-use Rattle.sal_command.proofs.SoundWorlds.{worlds_are_sound}
-use Rattle.sal_command.proofs.laws.openings_are_closed.Goals as goal
-
-pub returns : goal.returns
-returns c = worlds_are_sound c.rows_that_were_read_are_whole.ensures.whole

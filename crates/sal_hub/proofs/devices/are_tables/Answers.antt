@@ -1,0 +1,36 @@
+-- One schema more has such a table.
+use Rattle.std.proofs.Common.{rules, ◌≡◌, ℕ, ◌<◌, ◌≤◌, zero, suc, List, [], ◌∷◌, length, get_or, ap, ◌∙◌, subst, arith}
+use Rattle.std.specs.declared.alloc.Global.{Global}
+use Rattle.std.specs.declared.sync.Arc.{Arc}
+use Rattle.std.proofs.lemmas.List.{length-map}
+use Rattle.std.proofs.lemmas.List.Elements.{All-from_all_within, AllWithin-more, AllWithin-none, AllWithin-upto}
+use Rattle.sal_schema.specs.declared.table.SchemaTable.{SchemaTable}
+use Rattle.sal_schema.specs.Valid.{IsTable}
+use Rattle.sal_commit.specs.Versions.{tables_of}
+use Rattle.sal_hub.proofs.devices.are_tables.Goals as goal
+
+-- the table of the schema at the index
+table_of_schema : (versions : List (Arc SchemaTable Global)) (i : ℕ) (s : Arc SchemaTable Global) (d : SchemaTable) → i < length versions → s ≡ get_or versions i s → s.value ≡ get_or (tables_of versions) i d
+table_of_schema [] i s d within is = absurd (omega (arith, within))
+table_of_schema (x ∷ xs) zero s d within is = ap (λ (y : Arc SchemaTable Global). y.value) is
+table_of_schema (x ∷ xs) (suc i) s d within is = table_of_schema xs i s d (omega (arith, within)) is
+
+pub loop-i-init : goal.loop-i-init
+loop-i-init c = AllWithin-none IsTable (tables_of c.args.versions.now) 0
+
+pub loop-i-preserved : goal.loop-i-preserved
+loop-i-preserved c =
+    let l = c.loop-i in
+    let versions = c.args.versions.now in
+    let here = c.index-versions-i.result in
+    let within : l.i < length versions = search rules in
+    AllWithin-more IsTable (tables_of versions) 0 l.i l.invariant
+    (λ d. subst IsTable (c.deref.ensures ∙ table_of_schema versions l.i here d within c.index-versions-i.is) c.is_table.ensures)
+
+pub returns : goal.returns
+returns c =
+    let l = c.loop-i in
+    let versions = c.args.versions.now in
+    let past : length versions ≤ l.i = search rules in
+    let all : length (tables_of versions) ≤ l.i = omega (arith, past, length-map versions (λ (s : Arc SchemaTable Global). s.value)) in
+    All-from_all_within IsTable (tables_of versions) (AllWithin-upto IsTable (tables_of versions) 0 l.i (length (tables_of versions)) all l.invariant)

@@ -1,0 +1,12 @@
+-- The domains so far, and then the others.
+use Rattle.std.proofs.Common.{◌≡◌, drop}
+use Rattle.sal_hub.specs.Openings.{world_of}
+use Rattle.sal_script.specs.Reading.{parts}
+use Rattle.sal_prepare.specs.Each.{each_from}
+use Rattle.sal_prepare.specs.Scripted.{domains_of, opening_by}
+use Rattle.sal_prepare.proofs.Each.{before}
+use Rattle.sal_prepare.proofs.openings.devices_of.Given as goal
+
+abbrev pub invariant-loop-number : goal.invariant-loop-number
+invariant-loop-number l =
+    before (world_of l.devices.items) (each_from (opening_by l.readers) l.number (drop l.number (domains_of (parts l.script)))) ≡ each_from (opening_by l.readers) 0 (domains_of (parts l.script))

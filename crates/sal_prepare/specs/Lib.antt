@@ -1,0 +1,5 @@
+pub mod Each
+pub mod Loads
+pub mod Openings
+pub mod Scripted
+pub mod Statuses

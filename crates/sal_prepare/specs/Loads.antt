@@ -1,0 +1,12 @@
+-- What a load is played over: its own script is always a script, with the world of its own module.
+use Rattle.std.specs.Prelude.{◌≡◌, ℕ, Ok}
+use Rattle.sal_script.specs.Load.{parts_of}
+pub use Rattle.sal_loads.specs.Rounds.{load_world}
+use Rattle.sal_prepare.specs.Scripted.{Prepared, prepared_of}
+
+abbrev pub load_prepared : ℕ → ℕ → Prepared
+load_prepared rounds start = record { parts = parts_of rounds start; world = load_world }
+
+-- whatever its numbers are
+abbrev pub LoadsArePrepared : Type 0
+LoadsArePrepared = (rounds start : ℕ) → prepared_of (parts_of rounds start) ≡ Ok (load_prepared rounds start)

@@ -1,0 +1,7 @@
+-- It begins with the older list where what is left does.
+use Rattle.std.proofs.Common.{◌≡◌, drop}
+use Rattle.sal_schema.specs.Same.{begins, same_numbers}
+use Rattle.sal_schema.proofs.versions.names_begin.Given as goal
+
+abbrev pub invariant-loop-i : goal.invariant-loop-i
+invariant-loop-i l = begins same_numbers l.older l.newer ≡ begins same_numbers (drop l.i l.older) (drop l.i l.newer)

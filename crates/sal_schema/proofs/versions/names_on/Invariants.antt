@@ -1,0 +1,10 @@
+-- The older ones so far, and then all of them with what is left of the whole.
+use Rattle.std.proofs.Common.{◌≡◌, ◌++◌, take, drop}
+use Rattle.sal_schema.specs.Versions.{on}
+use Rattle.sal_schema.proofs.versions.names_on.Given as goal
+
+abbrev pub invariant-loop-name : goal.invariant-loop-name
+invariant-loop-name l = l.list.items ≡ take l.name-index l.older
+
+abbrev pub invariant-loop-i : goal.invariant-loop-i
+invariant-loop-i l = l.list.items ++ drop l.i l.whole ≡ on l.older l.whole

@@ -1,0 +1,32 @@
+-- What a call does for a caller with a seat: one turn, and in it something on the value that was found. `entries`, `client_of` and `base` are what
+-- the value shows of itself: its entries, their clients and its ground. `known` is the value as far as a seat has seen it.
+use Rattle.std.specs.Prelude.{◌≡◌, ℕ, ◌+◌, ◌++◌, List, Some, length, drop}
+use mathlib.Core.List.{IsPrefix}
+use Rattle.sal_turn.specs.Entries.{entries_by}
+use Rattle.sal_turn.specs.Seats.{Place, TableId}
+use Rattle.sal_turn.specs.Views.{SameRights}
+use Rattle.sal_turn.specs.declared.view.View.{View}
+
+-- the seat is at the same lock, with the number, the ground and the rights that it had
+abbrev pub Keeps : {E G : Type 0} → TableId → Place E G → Place E G → Type 0
+Keeps lock old new = (new.lock ≡ lock) × SameRights old.view new.view
+
+module _ {V E G : Type 0} (entries : V → List E) (client_of : E → ℕ) (base : V → G) (known : View E G → V) where
+  -- A turn of a seat that knew v found a value, over the seat's ground: its entries begin with all that the seat had seen, and those of the
+  -- seat's number are the seat's own. The turn left a value, and then the seat knows w: it has seen the entries of that value, and its own
+  -- entries have grown by what was added.
+  pub record TurnOf (v : View E G) (client : ℕ) (found left : V) (w : View E G) : Type 0 where
+    pub number : client ≡ v.number
+    pub over : v.ground ≡ Some (base found)
+    pub seen : IsPrefix v.seen (entries found)
+    pub mine : entries_by client_of v.number (entries found) ≡ v.own
+    pub now : known w ≡ left
+    pub own : w.own ≡ v.own ++ drop (length (entries found)) (entries left)
+
+  -- in the last turn that the call took this was done, for the seat's client, from the value that was found to the value that was left
+  abbrev pub InLastTurn : View E G → View E G → (ℕ → V → V → Type 0) → Type 0
+  InLastTurn v w Does = (client : ℕ) × (found left : V) × Does client found left × TurnOf v client found left w
+
+  -- the call took one turn, and in it this was done
+  abbrev pub InTurn : View E G → View E G → (ℕ → V → V → Type 0) → Type 0
+  InTurn v w Does = (w.turns ≡ v.turns + 1) × InLastTurn v w Does

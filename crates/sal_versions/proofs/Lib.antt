@@ -1,0 +1,13 @@
+pub mod Bound
+pub mod LoadForest
+pub mod LoadNodes
+pub mod LoadProfile
+pub mod LoadSites
+pub mod LoadTable
+pub mod LoadText
+pub mod LoadTypes
+pub mod LoadVersion
+pub mod ReadTexts
+pub mod Statements
+pub mod VersionChain
+pub mod VersionTexts

@@ -1,0 +1,4 @@
+pub mod Loads
+pub mod Schemas
+pub mod Shared
+pub mod Versions

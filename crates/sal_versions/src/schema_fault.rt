@@ -1,0 +1,178 @@
+//! Why modules build no schema, as a text.
+ghost use Rattle.std.specs.Prelude.{◌≡◌, MatchResult, IfOk, option_map, string_bytes};
+ghost use Rattle.sal_versions.specs.Schemas as spec;
+
+use sal_module::{BuildFault, What};
+use sal_stmt::StmtFault;
+use sal_types::{NoMemory, Str};
+use std::alloc::{AllocError, AllocFailed, Global};
+
+/// Why modules build no schema.
+#[derive(Debug, Drop, PartialEq, Eq)]
+pub enum SchemaFault {
+    /// The first fault: `module 0 unclosed 9`, or `build missing 0 0 namespace`, or of an upgrade `upgrade 1 module 1 unclosed 9`.
+    Bad { text: Str },
+    /// Memory ran out.
+    NoMemory,
+}
+
+impl From<NoMemory> for SchemaFault {
+    ghost use Rattle.sal_versions.specs.declared.schema_fault.SchemaFault.TheVariants.{NoMemory};
+
+    ghost from_gives = { λ _ e. e ≡ NoMemory };
+
+    fn from(_refused: NoMemory) -> SchemaFault {
+        SchemaFault::NoMemory
+    }
+}
+
+impl From<AllocError> for SchemaFault {
+    ghost use Rattle.sal_versions.specs.declared.schema_fault.SchemaFault.TheVariants.{NoMemory};
+
+    ghost from_gives = { λ _ e. e ≡ NoMemory };
+
+    fn from(_refused: AllocError) -> SchemaFault {
+        SchemaFault::NoMemory
+    }
+}
+
+impl<T: Drop> From<AllocFailed<T>> for SchemaFault {
+    ghost use Rattle.sal_versions.specs.declared.schema_fault.SchemaFault.TheVariants.{NoMemory};
+
+    ghost from_gives = { λ _ e. e ≡ NoMemory };
+
+    fn from(_refused: AllocFailed<T>) -> SchemaFault {
+        SchemaFault::NoMemory
+    }
+}
+
+// The fault with this text.
+fn told(text: Result<String, AllocError>) -> SchemaFault
+    ensures { MatchResult text (λ made. spec.IsTold (string_bytes made) result) (λ _. result ≡ SchemaFault.NoMemory) }
+{
+    match text {
+        Ok(text) => SchemaFault::Bad {
+            text: Str::from_string(text),
+        },
+        Err(_) => SchemaFault::NoMemory,
+    }
+}
+
+// The word of a fault of a text, and its place; none for want of memory.
+fn stmt_words(fault: StmtFault) -> Option<(&'static str, u32)>
+    ensures { option_map (λ p. (p.0.now, p.1)) result ≡ spec.stmt_words fault }
+{
+    match fault {
+        StmtFault::BadToken { at } => Some(("bad-token", at)),
+        StmtFault::BadEscape { at } => Some(("bad-escape", at)),
+        StmtFault::Unclosed { at } => Some(("unclosed", at)),
+        StmtFault::TooDeep { at } => Some(("too-deep", at)),
+        StmtFault::TextAfter { at } => Some(("text-after", at)),
+        StmtFault::NoMemory => None,
+    }
+}
+
+// A fault in the text of the module with this number.
+pub(crate) fn of_text(alloc: Global, number: usize, fault: StmtFault) -> SchemaFault
+    ensures told { spec.IsTold (spec.stmt_text number (spec.stmt_words fault)) result }
+    ensures memory { fault ≡ StmtFault.NoMemory → result ≡ SchemaFault.NoMemory }
+{
+    match stmt_words(fault) {
+        Some((word, at)) => told(format!(in alloc; "module {number} {word} {at}")),
+        None => SchemaFault::NoMemory,
+    }
+}
+
+// A fault of modules.
+pub(crate) fn of_modules(alloc: Global, fault: &BuildFault) -> SchemaFault
+    ensures told { spec.IsTold (spec.build_text fault.now) result }
+    ensures memory { fault.now ≡ BuildFault.NoMemory → result ≡ SchemaFault.NoMemory }
+{
+    match fault {
+        BuildFault::NoMemory => SchemaFault::NoMemory,
+        _ => told(build_text(alloc, fault)),
+    }
+}
+
+// The same fault, of an upgrade with this number.
+pub(crate) fn of_upgrade(alloc: Global, number: usize, fault: SchemaFault) -> SchemaFault
+    ensures { spec.IsOfUpgrade number fault result }
+{
+    match fault {
+        SchemaFault::Bad { text } => {
+            let text = text.as_str();
+            told(format!(in alloc; "upgrade {number} {text}"))
+        }
+        SchemaFault::NoMemory => SchemaFault::NoMemory,
+    }
+}
+
+// The text of a fault of modules.
+fn build_text(alloc: Global, fault: &BuildFault) -> Result<String, AllocError>
+    ensures { IfOk result (λ text. string_bytes text ≡ spec.build_text fault.now) }
+{
+    match fault {
+        BuildFault::UnknownStatement { module, at } => {
+            placed(alloc, "unknown-statement", *module, *at)
+        }
+        BuildFault::LeftOut { module, at } => placed(alloc, "left-out", *module, *at),
+        BuildFault::Missing {
+            module,
+            at,
+            keyword,
+        } => with_keyword(alloc, "missing", *module, *at, keyword),
+        BuildFault::Twice {
+            module,
+            at,
+            keyword,
+        } => with_keyword(alloc, "twice", *module, *at, keyword),
+        BuildFault::BadArgument { module, at } => placed(alloc, "bad-argument", *module, *at),
+        BuildFault::NoModule { module, at } => placed(alloc, "no-module", *module, *at),
+        BuildFault::ImportCycle { module, at } => placed(alloc, "import-cycle", *module, *at),
+        BuildFault::UnknownName { module, at } => placed(alloc, "unknown-name", *module, *at),
+        BuildFault::NameCycle { module, at } => placed(alloc, "name-cycle", *module, *at),
+        BuildFault::DoubleNode { module, at } => placed(alloc, "double-node", *module, *at),
+        BuildFault::BadRestriction { module, at } => {
+            placed(alloc, "bad-restriction", *module, *at)
+        }
+        BuildFault::BadPattern { module, at } => placed(alloc, "bad-pattern", *module, *at),
+        BuildFault::BadKey { module, at } => placed(alloc, "bad-key", *module, *at),
+        BuildFault::ConfigUnderState { module, at } => {
+            placed(alloc, "config-under-state", *module, *at)
+        }
+        BuildFault::BadTarget { module, at } => placed(alloc, "bad-target", *module, *at),
+        BuildFault::OldIdentity { module, at } => placed(alloc, "old-identity", *module, *at),
+        BuildFault::TooMany { what } => too_many(alloc, *what),
+        BuildFault::NoMemory => Ok(String::new(alloc)),
+    }
+}
+
+// A fault at a place of a module.
+fn placed(alloc: Global, word: &str, module: u32, at: u32) -> Result<String, AllocError>
+    ensures { IfOk result (λ text. string_bytes text ≡ spec.placed word.now «module» at) }
+{
+    format!(in alloc; "build {word} {module} {at}")
+}
+
+// A fault at a place of a module, with the keyword that it speaks of.
+fn with_keyword(
+    alloc: Global,
+    word: &str,
+    module: u32,
+    at: u32,
+    keyword: &Str,
+) -> Result<String, AllocError>
+    ensures { IfOk result (λ text. string_bytes text ≡ spec.with_keyword word.now «module» at keyword.now) }
+{
+    let keyword = keyword.as_str();
+    format!(in alloc; "build {word} {module} {at} {keyword}")
+}
+
+fn too_many(alloc: Global, what: What) -> Result<String, AllocError>
+    ensures { IfOk result (λ text. string_bytes text ≡ spec.too_many what) }
+{
+    match what {
+        What::Modules => String::from_str(alloc, "build too-many modules"),
+        What::Nodes => String::from_str(alloc, "build too-many nodes"),
+    }
+}

@@ -9,8 +9,8 @@ use Rattle.sal_stmt.specs.declared.stmt.Stmt.{Stmt}
 use Rattle.sal_stmt.specs.Text.{read}
 use Rattle.sal_stmt.specs.Words.{Text}
 use Rattle.sal_schema.specs.declared.table.SchemaTable.{SchemaTable}
-use Rattle.sal_build.specs.Build.{build}
-use Rattle.sal_tables.specs.Readable.{are_readable, ReadIsReadable}
+use Rattle.sal_module_table.specs.Build.{build}
+use Rattle.sal_build.specs.Readable.{are_readable, ReadIsReadable}
 use Rattle.sal.specs.Modules.{AreRead, IsSchemaOf, texts_in}
 
 -- ---- how long texts are

@@ -26,9 +26,9 @@ pub use Rattle.sal_rows.specs.Apply
 pub use Rattle.sal_rows.specs.Patch
 pub use Rattle.sal_types.specs.Reading
 pub use Rattle.sal_listen.specs.Mirrors
-pub use Rattle.sal_tables.specs.Readable
-pub use Rattle.sal_tables.specs.Versions as BuiltVersions
-pub use Rattle.sal_build.specs.Build
-pub use Rattle.sal_build.specs.Versions as NextVersions
+pub use Rattle.sal_build.specs.Readable
+pub use Rattle.sal_build.specs.Versions as BuiltVersions
+pub use Rattle.sal_module_table.specs.Build
+pub use Rattle.sal_module_table.specs.Versions as NextVersions
 pub use Rattle.sal_stmt.specs.Text
 pub use Rattle.sal_json.specs.Patterns

@@ -5,7 +5,7 @@ use Rattle.sal_stmt.specs.declared.stmt.Stmt.{Stmt}
 use Rattle.sal_stmt.specs.Text.{read}
 use Rattle.sal_stmt.specs.Words.{Text}
 use Rattle.sal_schema.specs.declared.table.SchemaTable.{SchemaTable}
-use Rattle.sal_build.specs.Build.{build}
+use Rattle.sal_module_table.specs.Build.{build}
 
 -- the texts behind references
 abbrev pub texts_in : List (Bor Text) → List Text

@@ -5,6 +5,7 @@
 //! | `Sal`, `Seat` | the broker; a thread's place at it |
 //! | `Held` | a turn at the broker in the caller's hands |
 //! | `Device`, `Opening`, `OpenFault` | a domain before the first commit, its opening trees, why they are refused |
+//! | `Rules` | the version rules, 1 or 2 |
 //! | `Hub` | what a closed broker leaves: its log and its trees |
 //! | `Mode`, `Tx`, `ReadTx`, `WriteTx`, `TxFault`, `WriteOnly` | transactions, and why a write or a read is refused |
 //! | `Receipt`, `Outcome`, `ClashKind`, `Rule` | a submission, and what became of it |
@@ -30,7 +31,7 @@
 //! ```
 //! let schema = Arc::new(alloc, schema_of(alloc, &[TEXT])?)?;
 //! let devices = vec![in alloc; empty_device(alloc, schema)]?;
-//! let (sal, mut seat) = Sal::open(alloc, devices)?;
+//! let (sal, mut seat) = Sal::open(alloc, devices, Rules::One)?;
 //! let Tx::Write(mut tx) = sal.begin(rt, alloc, &mut seat, 0, Mode::Rw)? else { .. };
 //! if is_for(tx.schema(), Store::Config, &path, &rows) {
 //!     tx.put(alloc, Store::Config, path, rows)?;
@@ -54,6 +55,8 @@ mod writes;
 pub use devices::empty_device;
 pub use modules::{SchemaFault, schema_of};
 pub use sal_broker::{Held, MAX_LOOKS, OPENING_NUMBER, Sal, Seat};
+pub use sal_build::laws::what_is_read_is_readable;
+pub use sal_build::{SchemaVersion, build, build_first, build_on};
 pub use sal_data::{DataFault, fits_rows, read_data, write_data};
 pub use sal_history::{Device, Opening};
 pub use sal_hub::{
@@ -67,13 +70,11 @@ pub use sal_note::{Note, NoteList};
 pub use sal_pathtext::{PathTextFault, read_path, write_path};
 pub use sal_rows::{
     Act, Batch, Breach, CallFault, CandidateKind, Change, ChangeList, ClashKind, Mode, Op, Opened,
-    Ops, OutOfOrder, Outcome, Part, Rows, Rule,
+    Ops, OutOfOrder, Outcome, Part, Rows, Rule, Rules,
 };
 pub use sal_rpc::Request;
 pub use sal_schema::{Kind, Schema};
 pub use sal_stmt::{Stmt, StmtFault, read_module};
-pub use sal_tables::laws::what_is_read_is_readable;
-pub use sal_tables::{SchemaVersion, build, build_first, build_on};
 pub use sal_tx::{Begun, ReadTx, Tx, TxFault, WriteOnly, WriteTx};
 pub use sal_types::{
     Atom, Bytes, Cell, Duplicate, Keys, MAX_STEPS, NoMemory, Path, PathFault, Row, Seq, Step,

@@ -3,11 +3,11 @@ ghost use Rattle.std.specs.Prelude.{◌<◌, ◌^◌, ◌∷◌, [], IfOk, IsTru
 ghost use Rattle.std.specs.List.{sum_by};
 ghost use Rattle.sal.specs.Modules.{AreRead, IsSchemaOf, texts_in};
 
+use sal_build::build;
+use sal_build::laws::what_is_read_is_readable;
 use sal_module::BuildFault;
 use sal_schema::Schema;
 use sal_stmt::{Stmt, StmtFault, read_module};
-use sal_tables::build;
-use sal_tables::laws::what_is_read_is_readable;
 use sal_types::NoMemory;
 use std::alloc::{AllocError, AllocFailed, Global};
 use thiserror::Error;

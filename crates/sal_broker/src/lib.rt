@@ -25,7 +25,7 @@
 //! only in the log that is found.
 //!
 //! ```
-//! let (sal, mut opening) = Sal::open(alloc, devices)?;
+//! let (sal, mut opening) = Sal::open(alloc, devices, Rules::One)?;
 //! let mut seat = sal.split(&mut opening, 0);
 //! let tx = sal.begin(rt, alloc, &mut seat, 0, Mode::Rw)?;
 //! let hub = sal.close(sal.join(opening, seat));

@@ -18,6 +18,7 @@ use crate::shared::Shared;
 use crate::waiting::Growth;
 use sal_history::Device;
 use sal_hub::{Hub, OpenFault};
+use sal_rows::Rules;
 use sal_turn::Turn;
 use sal_types::NoMemory;
 use std::alloc::Global;
@@ -43,17 +44,17 @@ impl Model for Sal {
 }
 
 impl Sal {
-    /// A broker without calls over the devices, of which the first is the controller's own domain, and its opening seat. The
-    /// opening trees of each fit at the root by version 0 of its schema, and each version extends the one before; the first device
+    /// A broker without calls over the devices, of which the first is the controller's own domain, under the version rules, and its opening
+    /// seat. The opening trees of each fit at the root by version 0 of its schema, and each version extends the one before; the first device
     /// alone has more than one (`Hub::open`).
-    pub fn open(alloc: Global, devices: Vec<Device>) -> Result<(Sal, Seat), OpenFault>
+    pub fn open(alloc: Global, devices: Vec<Device>, rules: Rules) -> Result<(Sal, Seat), OpenFault>
         requires some { 1 ≤ length devices.items }
         requires few { length devices.items ≤ 64 }
         requires closed { AreClosedDevices devices.items }
-        requires versions { AreVersions (world_of devices.items) }
-        ensures { MatchResult result (λ r. (fault_of (world_of devices.items) ≡ None) × (r.1.lock ≡ r.0) × (r.1.view ≡ opener 65535 (world_of devices.items))) (IsFaultOf (world_of devices.items)) }
+        requires versions { AreVersions (world_of rules devices.items) }
+        ensures { MatchResult result (λ r. (fault_of (world_of rules devices.items) ≡ None) × (r.1.lock ≡ r.0) × (r.1.view ≡ opener 65535 (world_of rules devices.items))) (IsFaultOf (world_of rules devices.items)) }
     {
-        let hub = Hub::open(alloc, devices)?;
+        let hub = Hub::open(alloc, devices, rules)?;
         let opened = Sal::over(alloc, hub)?;
         Ok(opened)
     }

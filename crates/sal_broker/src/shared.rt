@@ -1,6 +1,7 @@
 //! The hub, as the lock keeps it: a value with entries and a world that no turn changes.
 use sal_history::{Device, Entry};
 use sal_hub::Hub;
+use sal_rows::Rules;
 use sal_turn::Chronicle;
 use std::marker::Model;
 
@@ -10,9 +11,10 @@ pub(crate) struct Shared {
     pub(crate) hub: Hub,
 }
 
-/// The domains of a hub with their opening trees. No value of it is made.
+/// The domains of a hub with their opening trees and their version rules. No value of it is made.
 pub(crate) struct World {
     devices: Vec<Device>,
+    rules: Rules,
 }
 
 impl Model for World {
@@ -26,7 +28,7 @@ impl Model for World {
 
     ghost coded = { Prim.hlevel (codes, e.the_row.coded) };
 
-    ghost view = { λ w. world_of w.devices.items };
+    ghost view = { λ w. world_of w.rules w.devices.items };
 }
 
 impl Chronicle for Shared {

@@ -1,41 +1,42 @@
--- Versions of modules: each table with the nodes from which the next one grows, or the first fault.
-use Rattle.std.specs.Prelude.{ℕ, List, map, Result, Ok}
+-- Versions of schemas.
+use Rattle.std.specs.Prelude.{◌≡◌, ℕ, ◌≤◌, List, [], ◌∷◌, length, take, Ok, IsTrue}
 use Rattle.sal_types.specs.Reading.{◌>>=◌}
 use Rattle.sal_stmt.specs.declared.stmt.Stmt.{Stmt}
-use Rattle.sal_module.specs.declared.fault.BuildFault.{BuildFault}
-use Rattle.sal_module.specs.Modules.{check}
-use Rattle.sal_grouping.specs.declared.forest.Branch.{Branch}
-use Rattle.sal_grouping.specs.declared.node.Node.{Node}
-use Rattle.sal_grouping.specs.Expand.{expand, expanded, branch_of}
-use Rattle.sal_grouping.specs.Rows.{rows_of}
-use Rattle.sal_grouping.specs.Versions.{expanded_on}
-use Rattle.sal_schema.specs.declared.table.SchemaTable.{SchemaTable}
-use Rattle.sal_schema.specs.Versions.{table_on}
-use Rattle.sal_build.specs.Build.{judged, judged_on}
-use Rattle.sal_build.specs.declared.versions.Version.{Version}
+use Rattle.sal_schema.specs.Valid.{IsTable}
+use Rattle.sal_schema.specs.Versions.{Extends}
+use Rattle.sal_module_table.specs.declared.versions.Version.{Version}
+use Rattle.sal_module_table.specs.Build.{build}
+use Rattle.sal_module_table.specs.Versions.{first, next, version}
+use Rattle.sal_build.specs.Readable.{are_readable}
+use Rattle.sal_build.specs.declared.versions.SchemaVersion.{SchemaVersion}
 
-abbrev pub branches : List Stmt → List Node → List Branch
-branches stmts nodes = map (branch_of (rows_of stmts)) nodes
+-- the version as one with a table in place of a schema
+abbrev pub tabled : SchemaVersion → Version
+tabled v = version v.growth v.schema
 
-abbrev pub version : List Node → SchemaTable → Version
-version nodes table = record { growth = nodes; table = table }
+-- The version of these statements that is reached through older ones. The counts tell how many of the statements each older one has, the last one first.
+abbrev pub IsReached : List ℕ → List Stmt → Version → Type 0
+IsReached [] stmts v = first stmts ≡ Ok v
+IsReached (old ∷ olds) stmts v = (older : Version) × (old ≤ length stmts) × IsReached olds (take old stmts) older × (next stmts old older ≡ Ok v)
 
--- the version of these nodes, where no part that judges the table finds a fault
-abbrev pub made : List Stmt → List Node → Result Version BuildFault
-made stmts nodes = judged stmts (branches stmts nodes) >>= (λ table. Ok (version nodes table))
+-- a version of these statements, through any older ones
+abbrev pub IsVersionOf : List Stmt → Version → Type 0
+IsVersionOf stmts v = (olds : List ℕ) × IsReached olds stmts v
 
--- The same for a later version. Its table is the older one, extended by the lines of new numbers; the modules before number `old` are the older ones.
-abbrev pub made_on : List Stmt → ℕ → SchemaTable → List Node → Result Version BuildFault
-made_on stmts old older nodes = judged_on old stmts (branches stmts nodes) >>= (λ whole. Ok (version nodes (table_on older whole)))
+-- Each version extends the older one.
+abbrev pub VersionsExtend : Type 0
+VersionsExtend = (stmts : List Stmt) (old : ℕ) (older v : Version) → next stmts old older ≡ Ok v → Extends v.table older.table
 
--- The first version: the table that `build` gives, with its nodes.
-abbrev pub first : List Stmt → Result Version BuildFault
-first stmts =
-    check stmts >>= (λ modules. expanded modules (rows_of modules) >>= made modules)
+-- Of statements as they are read from texts, the next version has the table of a schema where the older one has.
+abbrev pub VersionsAreTables : Type 0
+VersionsAreTables =
+    (stmts : List Stmt) (old : ℕ) (older v : Version) → IsTrue (are_readable stmts) → old ≤ length stmts → IsVersionOf (take old stmts) older
+    → IsTable older.table → next stmts old older ≡ Ok v → IsTable v.table
 
--- A later version of all these statements, of which the first `old` are those of the older version. Its faults are those of `build` over all of them,
--- and that of an identity whose base is an old one. The nodes of the older version keep their numbers, and the new nodes follow. At the older numbers
--- the table says what the older one says, and at the new numbers what all statements say.
-abbrev pub next : List Stmt → ℕ → Version → Result Version BuildFault
-next stmts old older =
-    check stmts >>= (λ modules. expand modules >>= (λ all. expanded_on modules old older.growth) >>= made_on modules old older.table)
+-- Of statements as they are read from texts, the first version has the table of a schema.
+abbrev pub FirstIsTable : Type 0
+FirstIsTable = (stmts : List Stmt) (v : Version) → IsTrue (are_readable stmts) → first stmts ≡ Ok v → IsTable v.table
+
+-- The first version has the table of `build`, or its fault.
+abbrev pub FirstIsBuilt : Type 0
+FirstIsBuilt = (stmts : List Stmt) → (first stmts >>= (λ (v : Version). Ok v.table)) ≡ build stmts

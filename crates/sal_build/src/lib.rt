@@ -1,55 +1,30 @@
-//! From YANG modules to the table of their schema (RFC 7950), or to the first fault.
+//! The schema of YANG modules (RFC 7950), and laws: the table that modules have is one of a schema, part by part.
 //!
 //! | item | what it is |
 //! |---|---|
-//! | `table_of_modules` | the table of modules, or their first fault |
-//! | `first_version` | the same table with the nodes from which a later version grows |
-//! | `next_version` | the table of a later version of modules, in which the numbers of the older one stay, or its first fault |
-//! | `Version`, `Older` | a version, and what of the older version the next one is made from |
-//! | `Key` | what a node is found by: its parent, its module and its name |
-//! | `examples` | worked examples, as laws |
+//! | `build` | the schema of modules, or their first fault |
+//! | `build_first`, `build_on` | the first version of modules, and the next one, in which all numbers stay |
+//! | `SchemaVersion` | a version: its schema, and the nodes from which the next version grows |
+//! | `laws` | functions that do nothing, each with a law as its contract |
 //!
-//! `specs/Build.antt` has the whole: the table of modules, or their first fault. It puts together what a statement says of its
-//! node (`Nodes`), what a node has from above (`Inherited`), nodes by name (`Children`), keys and unique leafs (`Lists`), the
-//! nodes of the table (`Table`), identities (`Identities`), type statements (`Types`), where leafrefs lead (`Leafrefs`) and the
-//! types of nodes (`Filled`). `Versions` has the first version of modules and the next one, `OldBases` the fault that a later version
-//! alone can have.
+//! A law says of all statements that have a table by the definition `build` of `sal_module_table`, or of those that are as they are read from texts
+//! (`specs/Readable`), that a part of `IsTable` holds of that table (`specs/Laws`). `tables_are_tables` puts them together, and
+//! `build` stands on it: nothing tests the table.
 //!
 //! ```
-//! let table = table_of_modules(alloc, &stmts)?;
-//! let nodes = table.nodes.items().len();
+//! let schema = build(alloc, &stmts)?;
+//! let text = schema.text(alloc)?; // a line for each node
+//! let first = build_first(alloc, &stmts[..1])?;
+//! let second = build_on(alloc, &stmts, &first, 1)?; // second.schema.extends(&first.schema)
 //! ```
 //!
-//! Cost: linear in the statements and the nodes, times the logarithm of the nodes, where no type rests on many others. Each type
-//! statement is judged with all that it rests on; an augment's target is looked for along the tree, and augments in rounds. No call
-//! nests deeper than blocks do, but where identities or leafrefs go in a circle.
-//! `next_version` costs what `table_of_modules` costs for all statements, once more for the tree of nodes, and a copy of both tables.
+//! Costs: `build` costs what `table_of_modules` of `sal_module_table` and `Schema::from_table` cost. `build_on` costs that for all
+//! statements, a second tree of nodes and a copy of both tables; a version keeps 32 bytes a node beside its schema. A law costs nothing.
 #![tactic(auto)]
 
-mod append;
-mod child;
-mod circles;
-mod derived;
-mod fill;
-mod identities;
-mod info;
-mod inherited;
-mod leafrefs;
-mod lists;
-mod node;
-mod nodes;
-mod old_bases;
-mod order;
-mod paths;
+pub mod laws;
 mod schema;
-mod tables;
-mod typed;
-mod types;
-mod vectors;
 mod versions;
-mod walk;
-mod words;
 
-pub use child::Key;
-pub use schema::table_of_modules;
-pub use versions::{Older, Version, first_version, next_version};
+pub use schema::build;
+pub use versions::{SchemaVersion, build_first, build_on};

@@ -1,103 +1,83 @@
-//! Versions of modules: the table of each, and the nodes from which the next version grows.
-ghost use Rattle.std.specs.Prelude.{◌≤◌, ◌<◌, ◌^◌, length};
+//! Versions of the schema of modules: the next version keeps the numbers of the older one.
+ghost use Rattle.std.specs.Prelude.{◌≡◌, ◌≤◌, IfOk, IsTrue, length, take};
 ghost use Rattle.sal_types.specs.Reading.{GivesUnless};
 ghost use Rattle.sal_module.specs.declared.fault.BuildFault.{BuildFault as Fault};
-ghost use Rattle.sal_typedefs.specs.Names.{steps_of};
-ghost use Rattle.sal_build.specs.Build as build_spec;
-ghost use Rattle.sal_build.specs.Versions as spec;
+ghost use Rattle.sal_module_table.specs.Build.{build};
+ghost use Rattle.sal_module_table.specs.Versions as build_spec;
+ghost use Rattle.sal_schema.specs.Valid.{IsTable};
+ghost use Rattle.sal_schema.specs.Versions.{Extends};
+ghost use Rattle.sal_build.specs.Readable.{are_readable};
+ghost use Rattle.sal_build.specs.Versions.{IsVersionOf, tabled};
 
-use crate::schema::{judge, judge_on};
-use sal_grouping::{Growth, expand, first_growth, next_growth};
-use sal_module::{BuildFault, Modules, check};
-use sal_schema::{SchemaTable, table_on};
+use crate::laws::{first_versions_are_tables, versions_are_tables, versions_extend};
+use sal_grouping::Growth;
+use sal_module::BuildFault;
+use sal_module_table::{Older, Version, first_version, next_version};
+use sal_schema::Schema;
 use sal_stmt::Stmt;
+use sal_types::NoMemory;
 use std::alloc::Global;
 
-/// A version of modules: its table, and the nodes from which the next one grows.
+/// A version of a schema, and the nodes from which the next version grows.
 #[derive(Drop)]
-pub struct Version {
+pub struct SchemaVersion {
     pub growth: Growth,
-    pub table: SchemaTable,
+    pub schema: Schema,
 }
 
-/// The table of these nodes, or the first fault of types, then of lists.
-fn judged(alloc: Global, modules: &Modules, growth: &Growth) -> Result<SchemaTable, BuildFault>
-    requires { steps_of modules.now < 2 ^ 32 }
-    ensures { GivesUnless Fault.NoMemory (λ table. table) result (build_spec.judged modules.now (spec.branches modules.now growth.now)) }
+fn with_schema(alloc: Global, version: Version) -> Result<SchemaVersion, NoMemory>
+    requires { IsTable version.table }
+    ensures { IfOk result (λ v. tabled v ≡ version) }
 {
-    let forest = growth.forest(alloc, modules)?;
-    judge(alloc, modules, &forest)
+    let Version { growth, table } = version;
+    let schema = Schema::from_table(alloc, table)?;
+    Ok(SchemaVersion { growth, schema })
 }
 
-fn with_table(alloc: Global, modules: &Modules, growth: Growth) -> Result<Version, BuildFault>
-    requires { steps_of modules.now < 2 ^ 32 }
-    ensures { GivesUnless Fault.NoMemory (λ version. version) result (spec.made modules.now growth) }
+fn versioned(alloc: Global, stmts: &[Stmt]) -> Result<SchemaVersion, BuildFault>
+    requires { IsTrue (are_readable stmts.now) }
+    ensures version { GivesUnless Fault.NoMemory tabled result (build_spec.first stmts.now) }
+    ensures of { IfOk result (λ v. IsVersionOf stmts.now (tabled v)) }
 {
-    let table = judged(alloc, modules, &growth)?;
-    Ok(Version { growth, table })
+    first_versions_are_tables();
+    let version = first_version(alloc, stmts)?;
+    Ok(with_schema(alloc, version)?)
 }
 
-/// The first version of modules, or their first fault: the table of `table_of_modules`, with its nodes.
-pub fn first_version(alloc: Global, stmts: &[Stmt]) -> Result<Version, BuildFault>
-    requires { steps_of stmts.now < 2 ^ 32 }
-    ensures { GivesUnless Fault.NoMemory (λ version. version) result (spec.first stmts.now) }
+/// The first version of these modules, or their first fault: the schema of `build`, with its nodes.
+pub fn build_first(alloc: Global, stmts: &[Stmt]) -> Result<SchemaVersion, BuildFault>
+    requires { IsTrue (are_readable stmts.now) }
+    ensures version { GivesUnless Fault.NoMemory tabled result (build_spec.first stmts.now) }
+    ensures of { IfOk result (λ v. IsVersionOf stmts.now (tabled v)) }
+    ensures schema { GivesUnless Fault.NoMemory (λ v. v.schema) result (build stmts.now) }
 {
-    let modules = check(alloc, stmts)?;
-    let growth = first_growth(alloc, &modules)?;
-    with_table(alloc, &modules, growth)
+    versioned(alloc, stmts)
 }
 
-/// The table of these nodes, or the first fault of types, then of lists. The modules before number `old` are those of an earlier version.
-fn judged_on(
-    alloc: Global,
-    modules: &Modules,
-    old: u32,
-    growth: &Growth,
-) -> Result<SchemaTable, BuildFault>
-    requires { steps_of modules.now < 2 ^ 32 }
-    ensures { GivesUnless Fault.NoMemory (λ table. table) result (build_spec.judged_on old modules.now (spec.branches modules.now growth.now)) }
-{
-    let forest = growth.forest(alloc, modules)?;
-    judge_on(alloc, modules, old, &forest)
-}
-
-/// The older version of modules, from which the next one is made.
-#[derive(Drop)]
-pub struct Older<'a> {
-    /// Its nodes.
-    pub growth: &'a Growth,
-    /// Its table.
-    pub table: &'a SchemaTable,
-    /// How many of the next version's modules it has. They come first.
-    pub count: usize,
-}
-
-fn with_table_on(
-    alloc: Global,
-    modules: &Modules,
-    older: &Older,
-    growth: Growth,
-) -> Result<Version, BuildFault>
-    requires counted { steps_of modules.now < 2 ^ 32 }
-    requires old { older.now.count ≤ length modules.now }
-    ensures { GivesUnless Fault.NoMemory (λ version. version) result (spec.made_on modules.now older.now.count older.now.table.now growth) }
-{
-    let whole = judged_on(alloc, modules, older.count as u32, &growth)?;
-    let table = table_on(alloc, older.table, &whole)?;
-    Ok(Version { growth, table })
-}
-
-/// The next version, of all these statements, or their first fault. The first of the statements are those of the older version.
+/// The next version, of all these statements, or their first fault. The first `old` statements are those of the older version.
 ///
-/// The faults are those of all statements at once, and that of an identity of a new module whose base is an identity of an old one. What the older table
-/// says of its numbers stays. The trees of the new modules follow, then the nodes of their augments.
-pub fn next_version(alloc: Global, stmts: &[Stmt], older: &Older) -> Result<Version, BuildFault>
-    requires counted { steps_of stmts.now < 2 ^ 32 }
-    requires old { older.now.count ≤ length stmts.now }
-    ensures { GivesUnless Fault.NoMemory (λ version. version) result (spec.next stmts.now older.now.count (spec.version older.now.growth.now older.now.table.now)) }
+/// The faults are those of `build` over all statements, and `OldIdentity`. The numbers of the older version stay, with all that it says of them. The new
+/// modules' own nodes follow, then the nodes of their augments.
+pub fn build_on(
+    alloc: Global,
+    stmts: &[Stmt],
+    older: &SchemaVersion,
+    old: usize,
+) -> Result<SchemaVersion, BuildFault>
+    requires readable { IsTrue (are_readable stmts.now) }
+    requires old { old ≤ length stmts.now }
+    requires older { IsVersionOf (take old stmts.now) (tabled older.now) }
+    ensures version { GivesUnless Fault.NoMemory tabled result (build_spec.next stmts.now old (tabled older.now)) }
+    ensures of { IfOk result (λ v. IsVersionOf stmts.now (tabled v)) }
+    ensures extends { IfOk result (λ v. Extends v.schema older.now.schema) }
 {
-    let modules = check(alloc, stmts)?;
-    let _forest = expand(alloc, &modules)?;
-    let growth = next_growth(alloc, &modules, older.count as u32, older.growth)?;
-    with_table_on(alloc, &modules, older, growth)
+    versions_extend();
+    versions_are_tables();
+    let before = Older {
+        growth: &older.growth,
+        table: older.schema.table(),
+        count: old,
+    };
+    let version = next_version(alloc, stmts, &before)?;
+    Ok(with_schema(alloc, version)?)
 }

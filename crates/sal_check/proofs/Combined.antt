@@ -26,9 +26,7 @@ use Rattle.sal_check.proofs.Counted.{seen-at, seen-all}
 use Rattle.sal_check.proofs.Members.{In}
 use Rattle.sal_check.proofs.SeenTrees.{further-seen}
 use Rattle.sal_check.proofs.Walked.{find-in}
-
-abbrev Entries : Type 0
-Entries = List (Step × Tree)
+use Rattle.sal_node.proofs.Entries.{Entries}
 
 pub all_cells_in-push : (vs : List (Vec (Bor Cell) Global)) (v : Vec (Bor Cell) Global) → all_cells_in (vs ++ v ∷ []) ≡ all_cells_in vs ++ cells_in v.items ∷ []
 all_cells_in-push [] v = refl

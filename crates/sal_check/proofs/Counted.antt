@@ -9,24 +9,9 @@ use Rattle.sal_node.specs.declared.node.Child.{Child}
 use Rattle.sal_tree.specs.Grow.{kids_in}
 use Rattle.sal_tree.proofs.Laws.{AllFull, grove-full}
 use Rattle.sal_check.specs.Nodes.{own_steps}
-
-abbrev Entries : Type 0
-Entries = List (Step × Tree)
-
-pub seen-at : (cs : List (Bor Child)) (i : ℕ) (c : Bor Child) → i < length cs → c ≡ get_or cs i c → take (i + 1) (seen cs) ≡ take i (seen cs) ++ ((c.now.step, c.now.node.value) ∷ [])
-seen-at [] i c l at = absurd (omega arith)
-seen-at (d ∷ cs) zero c l at = ap (λ (e : Bor Child). (e.now.step, e.now.node.value) ∷ []) (sym at)
-seen-at (d ∷ cs) (suc i) c l at = ap (λ n. take n (seen (d ∷ cs))) (let q : suc i + 1 ≡ suc (i + 1) = omega arith in q) ∙ ap (λ (es : Entries). (d.now.step, d.now.node.value) ∷ es) (seen-at cs i c (omega arith) at)
-
-take_all : (es : Entries) (n : ℕ) → length es ≤ n → take n es ≡ es
-take_all [] zero l = refl
-take_all [] (suc n) l = refl
-take_all (e ∷ es) zero l = absurd (omega arith)
-take_all (e ∷ es) (suc n) l = ap (λ (fs : Entries). e ∷ fs) (take_all es n (omega arith))
-
-seen-length : (cs : List (Bor Child)) → length (seen cs) ≡ length cs
-seen-length [] = refl
-seen-length (c ∷ cs) = ap suc (seen-length cs)
+use Rattle.sal_node.proofs.Entries.{Entries}
+pub use Rattle.sal_tree.proofs.ByChildren.{seen-at}
+use Rattle.sal_tree.proofs.ByChildren.{take_all, seen-length}
 
 pub seen-all : (cs : List (Bor Child)) (i : ℕ) → length cs ≤ i → take i (seen cs) ≡ seen cs
 seen-all cs i l = take_all (seen cs) i (omega (arith, seen-length cs))

@@ -15,6 +15,7 @@ use Rattle.sal_types.specs.Order.{cell_cmp}
 use Rattle.sal_rules.specs.Rules.{same_cells, has_double}
 use Rattle.sal_check.specs.Uniques.{Holds, Key, cells_in, all_cells_in, key_cmp}
 use Rattle.sal_check.proofs.There.{take-all}
+use Rattle.sal_tree.proofs.Cells.{or_false}
 
 pub same-IsEquivalence : IsEquivalence same_cells
 same-IsEquivalence = eq_by_cmp_equiv (lists_total cell_laws.total-law)
@@ -24,10 +25,6 @@ cmp-cells [] [] = refl
 cmp-cells [] (y ∷ ys) = refl
 cmp-cells (x ∷ xs) [] = refl
 cmp-cells (x ∷ xs) (y ∷ ys) = ap (ordering_then (cell_cmp x.now y.now)) (cmp-cells xs ys)
-
-or_false : (b : Bool) → (b || false) ≡ b
-or_false true = refl
-or_false false = refl
 
 any-push : (f : List Cell → Bool) (xs : List (List Cell)) (c : List Cell) → list_any f (xs ++ c ∷ []) ≡ (list_any f xs || f c)
 any-push f [] c = or_false (f c)

@@ -20,9 +20,7 @@ use Rattle.sal_rules.specs.Rules.{cells_at, has_double}
 use Rattle.sal_check.specs.Uniques.{all_cells_in, combination}
 use Rattle.sal_check.proofs.Counted.{seen-at, seen-all}
 use Rattle.sal_check.proofs.NearKids.{new-any}
-
-abbrev Entries : Type 0
-Entries = List (Step × Tree)
+use Rattle.sal_node.proofs.Entries.{Entries}
 
 abbrev Cells : Type 0
 Cells = List (List Cell)

@@ -13,7 +13,8 @@ mod NearRows
 pub mod NearTrees
 mod Plans
 mod SeenTrees
+mod Stated
 mod There
 mod Trails
 mod Twins
-mod Walked
+pub mod Walked

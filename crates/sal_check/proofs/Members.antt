@@ -1,30 +1,13 @@
 -- What is in a list.
-use Rattle.std.proofs.Common.{◌≡◌, Bool, true, false, cond, List, [], ◌∷◌, ◌++◌, inl, inr, refl, sym, subst, map, ◌∙◌}
+use Rattle.std.proofs.Common.{◌≡◌, Bool, true, false, cond, List, [], ◌∷◌, ◌++◌, inl, inr, refl, sym, map, ◌∙◌}
 use Rattle.std.specs.Prelude.{◌⊎◌}
 use Rattle.std.specs.List.{filter, flat_map}
-
-abbrev pub In : {X : Type 0} → X → List X → Type 0
-In x [] = ⊥
-In x (y ∷ ys) = (x ≡ y) ⊎ In x ys
-
-pub In-front : {X : Type 0} (x : X) (xs ys : List X) → In x xs → In x (xs ++ ys)
-In-front x [] ys i = absurd i
-In-front x (y ∷ xs) ys (inl e) = inl e
-In-front x (y ∷ xs) ys (inr i) = inr (In-front x xs ys i)
-
-pub In-back : {X : Type 0} (x : X) (xs ys : List X) → In x ys → In x (xs ++ ys)
-In-back x [] ys i = i
-In-back x (y ∷ xs) ys i = inr (In-back x xs ys i)
+pub use Rattle.sal_types.proofs.Shared.{In, In-front, In-back, In-flat}
 
 pub In-either : {X : Type 0} (x : X) (xs ys : List X) → In x (xs ++ ys) → In x xs ⊎ In x ys
 In-either x [] ys i = inr i
 In-either x (y ∷ xs) ys (inl e) = inl (inl e)
 In-either x (y ∷ xs) ys (inr i) = elim (In-either x xs ys i) [ inl h ↦ inl (inr h) | inr h ↦ inr h ]
-
-pub In-flat : {X Y : Type 0} (f : X → List Y) (xs : List X) (x : X) (y : Y) → In x xs → In y (f x) → In y (flat_map f xs)
-In-flat f [] x y h i = absurd h
-In-flat f (z ∷ xs) x y (inl e) i = In-front y (f z) (flat_map f xs) (subst (λ w. In y (f w)) e i)
-In-flat f (z ∷ xs) x y (inr h) i = In-back y (f z) (flat_map f xs) (In-flat f xs x y h i)
 
 pub In-from : {X Y : Type 0} (f : X → List Y) (xs : List X) (y : Y) → In y (flat_map f xs) → (x : X) × In x xs × In y (f x)
 In-from f [] y i = absurd i

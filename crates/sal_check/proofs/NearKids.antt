@@ -3,16 +3,13 @@ use Rattle.std.proofs.Common.{◌≡◌, ℕ, zero, suc, ◌<◌, ◌≤◌, tru
 use Rattle.std.specs.Prelude.{nat_eq}
 use Rattle.std.specs.List.{list_any}
 use Rattle.std.specs.Borrow.{Bor}
-use Rattle.sal_types.specs.declared.value.Step.{Step}
-use Rattle.sal_node.specs.Tree.{Tree, Forest, bare, grown, pairs, size_of, weight, IsGrove}
+use Rattle.sal_node.specs.Tree.{Forest, bare, grown, pairs, size_of, weight, IsGrove}
 use Rattle.sal_node.specs.Shape.{seen, made_by}
 use Rattle.sal_node.specs.declared.node.Child.{Child}
 use Rattle.sal_tree.proofs.Laws.{AllFull, grove-full}
 use Rattle.sal_check.specs.Near.{is_new}
 use Rattle.sal_check.proofs.Counted.{full-at}
-
-abbrev Entries : Type 0
-Entries = List (Step × Tree)
+use Rattle.sal_node.proofs.Entries.{Entries}
 
 pub new-any : (stamps : List ℕ) (s : ℕ) → is_new stamps s ≡ list_any (nat_eq s) stamps
 new-any [] s = refl

@@ -1,6 +1,5 @@
 -- The walk over two trees finds the breaches of the later one, where the earlier one has none and is kept but for new stamps.
-use Rattle.std.proofs.Common.{◌≡◌, ℕ, Bool, true, false, cond, ◌&&◌, ◌||◌, not, List, [], ◌∷◌, ◌++◌, inl, inr, Option, Some, None, refl, sym, ap, subst, ◌∙◌, arith, length, map}
-use Rattle.std.proofs.lemmas.Bool.Decides.{nat_tests}
+use Rattle.std.proofs.Common.{◌≡◌, ℕ, Bool, true, false, cond, ◌&&◌, ◌||◌, not, List, [], ◌∷◌, ◌++◌, inl, inr, Option, Some, None, refl, sym, ap, subst, ◌∙◌, length, map}
 use Rattle.std.specs.Prelude.{◌==◌, nat_le, nat_lt, if◌then◌else◌}
 use Rattle.std.specs.List.{fold, flat_map, list_any}
 use Rattle.std.specs.FinMap.{find}
@@ -34,7 +33,9 @@ use Rattle.sal_check.proofs.Combined.{combinations-seen}
 use Rattle.sal_check.proofs.Freshly.{agree-freshly}
 use Rattle.sal_check.proofs.Members.{In}
 use Rattle.sal_check.proofs.NearRows.{too_many-local, repeats-local}
-use Rattle.sal_check.proofs.Walked.{find-in, breach-found}
+use Rattle.sal_check.proofs.Walked.{find-in, breach-found, either_right}
+use Rattle.sal_tree.proofs.Spans.{same_test}
+use Rattle.sal_rows.proofs.Named.{not_true}
 
 -- ---- lists
 
@@ -60,17 +61,6 @@ least-none [] e = refl
 least-none (x ∷ xs) e = absurd (some_kept x xs e)
 
 -- ---- stamps
-
-same_test : (a b : ℕ) → a ≡ b → (a == b) ≡ true
-same_test a b e = grind (arith, nat_tests)
-
-either_right : (a b : Bool) → b ≡ true → (a || b) ≡ true
-either_right true b e = refl
-either_right false b e = e
-
-not_true : (b : Bool) → not b ≡ true → b ≡ false
-not_true true e = cc
-not_true false e = refl
 
 one_of : (stamps : List ℕ) (s : ℕ) → IsOneOf stamps s → is_new stamps s ≡ true
 one_of [] s h = absurd h

@@ -15,6 +15,7 @@ use Rattle.sal_tree.proofs.Cells.{cell-rows_of, has-rows_of}
 use Rattle.sal_tree.proofs.Laws.{eq, missing, at-append}
 use Rattle.sal_check.specs.Nodes.{own_steps, seen_in}
 use Rattle.sal_rules.specs.Seen.{entries, step_past, seen_from, further}
+pub use Rattle.sal_tree.proofs.Edited.{at_none}
 
 entries-append : (xs ys : List Row) (p : List Step) → entries (xs ++ ys) p ≡ entries xs p ++ entries ys p
 entries-append xs ys p = flat_map-append (λ (row : Row). step_past p row.path) xs ys
@@ -68,10 +69,6 @@ entries-below x [] y p = nothing (eq y x)
 entries-below x (row ∷ rows) y p =
     ap (λ l. (if eq y x then step_past p row.path else []) ++ l) (entries-below x rows y p)
     ∙ elim (eq y x) as (λ b. (if b then step_past p row.path else []) ++ cond b (entries rows p) [] ≡ cond b (step_past p row.path ++ entries rows p) []) [ true ↦ refl | false ↦ refl ]
-
-pub at_none : (p : List Step) → at None p ≡ None
-at_none [] = refl
-at_none (x ∷ p) = at_none p
 
 entries-node : (t : Tree) (p : List Step) → ((y : Step) (q : List Step) → entries (rows_in t.kids) (y ∷ q) ≡ own_steps (kids_in (at (find step_cmp y (pairs t.kids)) q))) → entries (rows_of t) p ≡ own_steps (kids_in (at (Some t) p))
 entries-node t [] hyp = entries-append (here t.cell) (rows_in t.kids) [] ∙ ap (λ l. l ++ entries (rows_in t.kids) []) (entries-here_root t.cell) ∙ entries-in_root t.kids

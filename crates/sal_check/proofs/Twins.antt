@@ -14,9 +14,7 @@ use Rattle.sal_rules.specs.Rules.{has_double, same_cells}
 use Rattle.sal_check.proofs.Doubles.{same-IsEquivalence}
 use Rattle.sal_check.proofs.Members.{In, In-back, In-flat, In-from}
 use Rattle.sal_check.proofs.Walked.{find-in}
-
-abbrev pub Entries : Type 0
-Entries = List (Step × Tree)
+pub use Rattle.sal_node.proofs.Entries.{Entries}
 
 -- ---- lists of cells
 

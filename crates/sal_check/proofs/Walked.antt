@@ -28,31 +28,22 @@ use Rattle.sal_rows.specs.declared.outcome.Rule.TheVariants.{Mandatory, MinEleme
 use Rattle.sal_rules.specs.declared.spot.Spot.{Spot}
 use Rattle.sal_rules.specs.Breaches.{breach_of, breaches_at, breaches_from, breaches, breach, least, numbers, rules_of, is_looked_at, node_of_rule}
 use Rattle.sal_rules.specs.Contexts.{stand}
-use Rattle.sal_check.specs.Nodes.{seen_in, slot, is_judged_in, judged, found_at, found_below, found}
+use Rattle.sal_check.specs.Nodes.{seen_in, slot, states, is_judged_in, judged, found_at, found_below, found}
 use Rattle.sal_rules.specs.Places.{places, root_spot, after_step, spot_of}
 use Rattle.sal_rules.specs.Rules.{broken}
 use Rattle.sal_rules.specs.Seen.{Seen, seen_from}
 use Rattle.sal_check.proofs.Least.{least-same}
 use Rattle.sal_check.proofs.Members.{In, In-front, In-back, In-either, In-flat, In-from, In-map, In-from_map, In-kept, In-was}
 use Rattle.sal_check.proofs.SeenTrees.{seen-rows_of, at_none}
+use Rattle.sal_check.proofs.Stated.{left_true, right_true, either_left, broken-states}
+pub use Rattle.sal_check.proofs.Stated.{either_right}
+use Rattle.sal_tree.proofs.Follows.{some_same}
 
 -- ---- tests
 
-left_true : (a b : Bool) → (a && b) ≡ true → a ≡ true
-left_true true b e = refl
-left_true false b e = e
-
-right_true : (a b : Bool) → (a && b) ≡ true → b ≡ true
-right_true true b e = e
-right_true false b e = cc
-
-either_left : (a b : Bool) → a ≡ true → (a || b) ≡ true
-either_left true b e = refl
-either_left false b e = cc
-
-either_right : (a b : Bool) → b ≡ true → (a || b) ≡ true
-either_right true b e = refl
-either_right false b e = e
+both_true : (a b : Bool) → a ≡ true → b ≡ true → (a && b) ≡ true
+both_true true b e f = f
+both_true false b e f = cc
 
 same_number : (a b : ℕ) → nat_eq a b ≡ true → nat_eq (a + 1) (b + 1) ≡ true
 same_number a b e = grind (arith, nat_tests)
@@ -63,24 +54,27 @@ same_slot None (Some b) e = cc
 same_slot (Some a) None e = cc
 same_slot (Some a) (Some b) e = same_number a b e
 
-some_same : (a b : Tree) → Some a ≡ Some b → a ≡ b
-some_same a b e = cc
-
 -- ---- which nodes are judged where
 
 module _ (table : SchemaTable) (see : Seen) (m : Option ℕ) where
-  at_stand : (n : ℕ) (a b : Bool) → (a && (is_same (stand table n) m && b)) ≡ true → is_judged_in table (slot m) n ≡ true
+  abbrev is_at : ℕ → Bool
+  is_at n = nat_eq (slot (stand table n)) (slot m) || nat_eq (slot (data_parent table n)) (slot m)
+
+  at_stand : (n : ℕ) (a b : Bool) → (a && (is_same (stand table n) m && b)) ≡ true → is_at n ≡ true
   at_stand n a b e = either_left _ _ (same_slot (stand table n) m (left_true _ b (right_true a _ e)))
 
-  at_parent : (n : ℕ) (a b : Bool) → (a && (is_same (data_parent table n) m && b)) ≡ true → is_judged_in table (slot m) n ≡ true
+  at_parent : (n : ℕ) (a b : Bool) → (a && (is_same (data_parent table n) m && b)) ≡ true → is_at n ≡ true
   at_parent n a b e = either_right (nat_eq (slot (stand table n)) (slot m)) _ (same_slot (data_parent table n) m (left_true _ b (right_true a _ e)))
 
+  broken-at : (rule : Rule) → broken table see m rule ≡ true → is_at (node_of_rule rule) ≡ true
+  broken-at (Mandatory n) e = at_stand n _ _ e
+  broken-at (MinElements n) e = at_stand n _ _ e
+  broken-at (MaxElements n) e = at_parent n _ _ e
+  broken-at (Unique n) e = at_parent n _ _ e
+  broken-at (TwoCases n) e = at_parent n _ _ e
+
   broken-judged : (rule : Rule) → broken table see m rule ≡ true → is_judged_in table (slot m) (node_of_rule rule) ≡ true
-  broken-judged (Mandatory n) e = at_stand n _ _ e
-  broken-judged (MinElements n) e = at_stand n _ _ e
-  broken-judged (MaxElements n) e = at_parent n _ _ e
-  broken-judged (Unique n) e = at_parent n _ _ e
-  broken-judged (TwoCases n) e = at_parent n _ _ e
+  broken-judged rule e = both_true (states table (node_of_rule rule)) (is_at (node_of_rule rule)) (broken-states table see m rule e) (broken-at rule e)
 
   rule_of_node : (n : ℕ) (rule : Rule) → In rule (rules_of n) → node_of_rule rule ≡ n
   rule_of_node n rule (inl e) = ap node_of_rule e

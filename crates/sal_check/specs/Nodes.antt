@@ -1,6 +1,6 @@
 -- The same, seen in a tree of nodes: how the walk over a tree comes to its breaches.
-use Rattle.std.specs.Prelude.{◌≡◌, ◌<◌, ℕ, ◌+◌, slice_index_or, Bool, ◌||◌, nat_eq, List, [], ◌∷◌, ◌++◌, length, Option, Some, None, is_some, if◌then◌else◌}
-use Rattle.std.specs.List.{filter}
+use Rattle.std.specs.Prelude.{◌≡◌, ◌<◌, ℕ, ◌+◌, slice_index_or, Bool, ◌||◌, ◌&&◌, nat_eq, nat_lt, List, [], ◌∷◌, ◌++◌, length, Option, Some, None, is_some, if◌then◌else◌}
+use Rattle.std.specs.List.{filter, list_any}
 use Rattle.std.specs.declared.alloc.Global.{Global}
 use Rattle.std.specs.declared.vec.Vec.{Vec}
 use Rattle.std.specs.Borrow.{Bor}
@@ -9,12 +9,14 @@ use Rattle.sal_types.specs.declared.value.Step.{Step}
 use Rattle.sal_node.specs.Tree.{Tree, Forest, bare, grown}
 use Rattle.sal_tree.specs.Grow.{at, kids_in, cell_in, present}
 use Rattle.sal_schema.specs.declared.table.SchemaTable.{SchemaTable}
-use Rattle.sal_schema.specs.Table.{data_parent}
+use Rattle.sal_schema.specs.Kinds.{is_choice}
+use Rattle.sal_schema.specs.Table.{data_parent, is_kind, max_elements, uniques_of}
 use Rattle.sal_rows.specs.declared.outcome.Breach.{Breach}
 use Rattle.sal_rules.specs.declared.spot.Spot.{Spot}
-use Rattle.sal_rules.specs.Breaches.{breaches_from, first}
+use Rattle.sal_rules.specs.Breaches.{breaches_from, first, numbers}
 use Rattle.sal_rules.specs.Contexts.{stand}
 use Rattle.sal_rules.specs.Places.{after_step}
+use Rattle.sal_rules.specs.Rules.{has_minimum, is_required}
 use Rattle.sal_rules.specs.Seen.{Seen}
 
 -- ---- what is seen
@@ -34,8 +36,12 @@ abbrev pub slot : Option ℕ → ℕ
 slot None = 0
 slot (Some n) = n + 1
 
+-- a rule is stated at the node: no other node has one that is broken
+abbrev pub states : SchemaTable → ℕ → Bool
+states table n = is_required table n || (has_minimum table n || (is_some (max_elements table n) || (nat_lt 0 (length (uniques_of table n)) || is_kind is_choice table n)))
+
 abbrev pub is_judged_in : SchemaTable → ℕ → ℕ → Bool
-is_judged_in table k n = nat_eq (slot (stand table n)) k || nat_eq (slot (data_parent table n)) k
+is_judged_in table k n = states table n && (nat_eq (slot (stand table n)) k || nat_eq (slot (data_parent table n)) k)
 
 abbrev pub judged_in : SchemaTable → ℕ → List ℕ
 judged_in table k = filter (is_judged_in table k) (first (length table.nodes))
@@ -43,10 +49,11 @@ judged_in table k = filter (is_judged_in table k) (first (length table.nodes))
 abbrev pub judged : SchemaTable → Option ℕ → List ℕ
 judged table m = judged_in table (slot m)
 
--- the lists are those of the root and of each node
-pub record AreJudged (table : SchemaTable) (lists : List (Vec ℕ Global)) : Type 0 where
+-- the lists are those of the root and of each node, and it is told whether there is anything to judge
+pub record AreJudged (table : SchemaTable) (lists : List (Vec ℕ Global)) (any : Bool) : Type 0 where
   pub count : length lists ≡ length table.nodes + 1
   pub each : (k : ℕ) (d : Vec ℕ Global) → k < length lists → (slice_index_or lists k d).items ≡ judged_in table k
+  pub some : any ≡ list_any (states table) (numbers table)
 
 -- ---- the walk
 

@@ -75,6 +75,9 @@ const ROOT: Spot = Spot {
 fn whole(walk: &Walk, root: &Root) -> Result<Option<Breach>, NoMemory>
     ensures { IfOk result (λ r. r ≡ breach walk.now.schema.now walk.now.store (rows_of root.now)) }
 {
+    if walk.is_bare() {
+        return Ok(None);
+    }
     let place = Place {
         trail: &[],
         spot: ROOT,
@@ -88,6 +91,9 @@ fn changed(near: &Near, before: &Root, after: &Root) -> Result<Option<Breach>, N
     requires keeps { Keeps near.now.stamps.now before.now after.now }
     ensures { IfOk result (λ r. r ≡ breach near.now.walk.schema.now near.now.walk.store (rows_of after.now)) }
 {
+    if near.walk.is_bare() {
+        return Ok(None);
+    }
     let old = before.node();
     let place = Place {
         trail: &[],

@@ -6,14 +6,17 @@ ghost use Rattle.std.specs.declared.vec.Vec.{Vec as Vector};
 ghost use Rattle.sal_check.specs.Nodes.{slot, judged, AreJudged};
 
 use crate::climb::stand;
+use crate::rules::states;
 use sal_schema::{Schema, add_to_list, empty_lists};
 use sal_types::NoMemory;
 use std::alloc::Global;
 
-/// For the root, and then for each node, the nodes that are judged where it stands.
+/// For the root, and then for each node, the nodes that are judged where it stands: those that state a rule.
 #[derive(Drop)]
 pub(crate) struct Lists {
     pub(crate) lists: Vec<Vec<u32>>,
+    /// Whether one of them has a node.
+    pub(crate) any: bool,
 }
 
 // Puts the number into two lists, or once where they are the same.
@@ -47,20 +50,25 @@ fn slot(node: Option<u32>) -> usize
 impl Lists {
     /// Those of a schema.
     pub(crate) fn of(alloc: Global, schema: &Schema) -> Result<Lists, NoMemory>
-        ensures { IfOk result (λ made. AreJudged schema.now made.lists.items) }
+        ensures { IfOk result (λ made. AreJudged schema.now made.lists.items made.any) }
     {
         let mut lists = empty_lists(alloc, schema.len() as usize + 1)?;
+        let mut any = false;
         for number in 0..schema.len() {
+            if !states(schema, number) {
+                continue;
+            }
+            any = true;
             let stand = slot(stand(schema, number));
             let parent = slot(schema.data_parent(number));
             add_to_both(&mut lists, stand, parent, number)?;
         }
-        Ok(Lists { lists })
+        Ok(Lists { lists, any })
     }
 
     /// The nodes that are judged where this one stands.
     pub(crate) fn judged(&self, schema: &Schema, at: Option<u32>) -> &[u32]
-        requires { AreJudged schema.now self.now.lists.items }
+        requires { AreJudged schema.now self.now.lists.items self.now.any }
         ensures numbers { result.now ≡ judged schema.now at }
         ensures within { All (λ n. n < length schema.now.nodes) result.now }
     {

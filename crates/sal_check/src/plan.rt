@@ -8,12 +8,12 @@ use sal_types::NoMemory;
 use std::alloc::Global;
 use std::sync::Arc;
 
-/// A schema, and which of its nodes are judged at which places of its trees.
+/// A schema, and which of its nodes are judged at which places of its trees: those that state a rule.
 #[derive(Drop)]
 pub struct Plan {
     pub schema: Arc<Schema>,
     pub(crate) lists: Lists,
-    pub ghost judged: { AreJudged schema.value lists.lists.items },
+    pub ghost judged: { AreJudged schema.value lists.lists.items lists.any },
 }
 
 impl Plan {

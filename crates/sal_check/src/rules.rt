@@ -5,7 +5,7 @@ ghost use Rattle.sal_node.specs.Tree.{IsGrove};
 ghost use Rattle.sal_schema.specs.Kinds as kinds;
 ghost use Rattle.sal_schema.specs.Table.{is_kind};
 ghost use Rattle.sal_tree.specs.Grow.{IsSound};
-ghost use Rattle.sal_check.specs.Nodes.{seen_in};
+ghost use Rattle.sal_check.specs.Nodes.{seen_in, states};
 ghost use Rattle.sal_rules.specs.Rules as spec;
 ghost use Rattle.sal_rows.specs.declared.outcome.Rule.TheVariants.{Mandatory, MinElements, MaxElements, TwoCases};
 
@@ -100,6 +100,24 @@ pub(crate) fn has_minimum(schema: &Schema, number: u32) -> bool
     ensures { result ≡ spec.has_minimum schema.now number }
 {
     schema.kind(number).has_entries() && schema.min_elements(number) > 0
+}
+
+fn is_choice(kind: Kind) -> bool
+    ensures { result ≡ kinds.is_choice kind }
+{
+    kind == Kind::Choice
+}
+
+/// Whether a rule is stated at the node.
+pub(crate) fn states(schema: &Schema, number: u32) -> bool
+    requires { number < length schema.now.nodes }
+    ensures { result ≡ states schema.now number }
+{
+    is_required(schema, number)
+        || has_minimum(schema, number)
+        || schema.max_elements(number).is_some()
+        || schema.uniques(number).len() > 0
+        || is_choice(schema.kind(number))
 }
 
 // ---- the rules

@@ -19,7 +19,7 @@ pub(crate) fn longer<'a>(
 ) -> Result<Vec<&'a Step>, NoMemory>
     ensures { IfOk result (λ list. steps_in list.items ≡ steps_in trail.now ++ step.now ∷ []) }
 {
-    let mut list = Vec::with_capacity(alloc, trail.len())?;
+    let mut list = Vec::with_capacity(alloc, trail.len() + 1)?;
     for above in trail {
         list.push(*above)?;
     }

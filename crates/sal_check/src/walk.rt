@@ -1,10 +1,10 @@
 //! The walk over a tree.
-ghost use Rattle.std.specs.Prelude.{◌≡◌, ◌<◌, length, IfOk, Some};
-ghost use Rattle.std.specs.List.{All, fold, flat_map};
+ghost use Rattle.std.specs.Prelude.{◌≡◌, ◌<◌, length, not, IfOk, Some};
+ghost use Rattle.std.specs.List.{All, fold, flat_map, list_any};
 ghost use Rattle.sal_node.specs.Tree.{IsGrove};
 ghost use Rattle.sal_rules.specs.Breaches as spec;
 ghost use Rattle.sal_check.specs.Near as near;
-ghost use Rattle.sal_check.specs.Nodes.{seen_in, steps_in, found, found_at, AreJudged};
+ghost use Rattle.sal_check.specs.Nodes.{seen_in, steps_in, states, found, found_at, AreJudged};
 ghost use Rattle.sal_rules.specs.Rules.{broken};
 
 use crate::breach::keep;
@@ -28,7 +28,7 @@ pub(crate) struct Walk<'a> {
     pub(crate) schema: &'a Schema,
     pub(crate) lists: &'a Lists,
     pub(crate) store: Store,
-    ghost judged: { AreJudged schema.now lists.now.lists.items },
+    ghost judged: { AreJudged schema.now lists.now.lists.items lists.now.any },
 }
 
 /// A place of a tree: the steps from the root to it, what it stands at, and its node.
@@ -79,7 +79,7 @@ pub(crate) fn rules_of(number: u32) -> [Rule; 5]
 impl<'w> Walk<'w> {
     /// A walk over the trees of a store.
     pub(crate) fn new(alloc: Global, schema: &'w Schema, lists: &'w Lists, store: Store) -> Walk<'w>
-        requires { AreJudged schema.now lists.now.lists.items }
+        requires { AreJudged schema.now lists.now.lists.items lists.now.any }
         ensures schema { result.schema.now ≡ schema.entry.now }
         ensures store { result.store ≡ store }
     {
@@ -89,6 +89,13 @@ impl<'w> Walk<'w> {
             lists,
             store,
         }
+    }
+
+    /// Whether no rule is stated in the schema: then no tree breaks one.
+    pub(crate) fn is_bare(&self) -> bool
+        ensures { result ≡ not (list_any (states self.now.schema.now) (spec.numbers self.now.schema.now)) }
+    {
+        !self.lists.any
     }
 
     fn is_broken(&self, place: &Place, rule: Rule) -> Result<bool, NoMemory>

@@ -6,6 +6,7 @@ pub mod Faults
 pub mod Following
 pub mod Going
 pub mod Heard
+pub mod Held
 pub mod Invoked
 pub mod Leaving
 pub mod Looking

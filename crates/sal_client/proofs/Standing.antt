@@ -11,13 +11,13 @@ use Rattle.sal_history.specs.declared.call.Entry.{Entry}
 use Rattle.sal_script.specs.declared.reply.StepReply.{StepReply}
 use Rattle.sal_script.specs.declared.script.ScriptStep.{ScriptStep}
 use Rattle.sal_script.specs.Limits.{within_limits}
-use Rattle.sal_script.specs.Play.{Arrival, Client, Made, Run, PlayState, arrive, calls, cons_replies, ended, go, make, new_client, replies_at, replies_of, state_with, turn, turn_of}
+use Rattle.sal_script.specs.Play.{Arrival, Client, Made, Run, PlayState, arrive, calls, cons_replies, ended, go, make, new_client, replies_at, replies_of, state_with, advance, advance_of}
 use Rattle.sal_script.specs.Tables.{Versions}
 use Rattle.sal_client.specs.declared.run.ClientRun.{ClientRun as CodeRun}
 use Rattle.sal_hub.specs.HubHistory.{HubHistory, more}
 use Rattle.sal_hub.specs.Answers.{limit}
 use Rattle.sal_client.specs.Clients.{client_of, IsSound}
-use Rattle.sal_client.specs.Runs.{AreRuns, Goes, IsRun, Turns, answered, moves_from, replies_in, run_of, runs_of, stand_of}
+use Rattle.sal_client.specs.Runs.{AreRuns, Goes, IsRun, Advances, answered, moves_from, replies_in, run_of, runs_of, stand_of}
 use Rattle.sal_client.specs.Wishes.{GrowsBy}
 use Rattle.sal_client.proofs.Soundness.{IsSound-other, TokensLast}
 use Rattle.sal_history.specs.World.{Domain}
@@ -105,17 +105,17 @@ AreRuns-set lasts known known' ps rs c p old new are (e, by, is) on h at_p at_ol
 
 -- ---- one number of the order
 
-pub turn-none : (tables : List Versions) (known : HubHistory) (ps : List (List ScriptStep)) (rs : List CodeRun) (c : ℕ) → AreRuns known ps rs → length rs ≤ c → turn tables known.world (stand_of ps known.log rs) c ≡ None
-turn-none tables known ps rs c are h = ap (turn_of tables known.world (stand_of ps known.log rs) c) (runs_of-none ps rs c are.long h)
+pub advance-none : (tables : List Versions) (known : HubHistory) (ps : List (List ScriptStep)) (rs : List CodeRun) (c : ℕ) → AreRuns known ps rs → length rs ≤ c → advance tables known.world (stand_of ps known.log rs) c ≡ None
+advance-none tables known ps rs c are h = ap (advance_of tables known.world (stand_of ps known.log rs) c) (runs_of-none ps rs c are.long h)
 
-pub turn-made : (tables : List Versions) (world : List Domain) (log log' : List Entry) (ps : List (List ScriptStep)) (rs : List CodeRun) (c : ℕ) (p : List ScriptStep) (old new : CodeRun) → length rs ≡ length ps → c < length rs → p ≡ get_or ps c p → old ≡ get_or rs c old → go tables world log c (run_of p old) ≡ Some (record { log = log'; run = run_of p new }) → turn tables world (stand_of ps log rs) c ≡ Some (stand_of ps log' (set rs c new))
-turn-made tables world log log' ps rs c p old new long h at_p at_old goes =
-    ap (turn_of tables world (stand_of ps log rs) c) (runs_of-at ps rs c p old long h at_p at_old) ∙ ap (state_with (stand_of ps log rs) c) goes
+pub advance-made : (tables : List Versions) (world : List Domain) (log log' : List Entry) (ps : List (List ScriptStep)) (rs : List CodeRun) (c : ℕ) (p : List ScriptStep) (old new : CodeRun) → length rs ≡ length ps → c < length rs → p ≡ get_or ps c p → old ≡ get_or rs c old → go tables world log c (run_of p old) ≡ Some (record { log = log'; run = run_of p new }) → advance tables world (stand_of ps log rs) c ≡ Some (stand_of ps log' (set rs c new))
+advance-made tables world log log' ps rs c p old new long h at_p at_old goes =
+    ap (advance_of tables world (stand_of ps log rs) c) (runs_of-at ps rs c p old long h at_p at_old) ∙ ap (state_with (stand_of ps log rs) c) goes
     ∙ ap (λ (us : List Run). Some (let s : PlayState = record { log = log'; runs = us } in s)) (sym (runs_of-set ps rs c p new long h at_p))
 
-pub turn-ended : (tables : List Versions) (world : List Domain) (log : List Entry) (ps : List (List ScriptStep)) (rs : List CodeRun) (c : ℕ) (p : List ScriptStep) (old : CodeRun) (client : Client) → length rs ≡ length ps → c < length rs → p ≡ get_or ps c p → old ≡ get_or rs c old → arrive tables world log (client_of old.client) (moves_from old.at p) ≡ ended client → turn tables world (stand_of ps log rs) c ≡ None
-turn-ended tables world log ps rs c p old client long h at_p at_old arrived =
-    ap (turn_of tables world (stand_of ps log rs) c) (runs_of-at ps rs c p old long h at_p at_old) ∙ ap (λ a. state_with (stand_of ps log rs) c (make tables world log c a)) arrived
+pub advance-ended : (tables : List Versions) (world : List Domain) (log : List Entry) (ps : List (List ScriptStep)) (rs : List CodeRun) (c : ℕ) (p : List ScriptStep) (old : CodeRun) (client : Client) → length rs ≡ length ps → c < length rs → p ≡ get_or ps c p → old ≡ get_or rs c old → arrive tables world log (client_of old.client) (moves_from old.at p) ≡ ended client → advance tables world (stand_of ps log rs) c ≡ None
+advance-ended tables world log ps rs c p old client long h at_p at_old arrived =
+    ap (advance_of tables world (stand_of ps log rs) c) (runs_of-at ps rs c p old long h at_p at_old) ∙ ap (λ a. state_with (stand_of ps log rs) c (make tables world log c a)) arrived
 
 -- ---- the end
 
@@ -187,14 +187,14 @@ AreRuns-fresh known ps rs none limits json long fresh = record {
 
 -- ---- what the simulation does
 
-pub turned : TokensLast → (tables : List Versions) (made : Bool) (known known' : HubHistory) (ps : List (List ScriptStep)) (rs : List CodeRun) (c : ℕ) (p : List ScriptStep) (old new : CodeRun) → AreRuns known ps rs → c < length rs → p ≡ get_or ps c p → old ≡ get_or rs c old → Goes tables made old.client.number known p old known' new → IsRun known' p new → new.client.number ≡ old.client.number → Turns tables made ps c known rs known' (set rs c new)
+pub turned : TokensLast → (tables : List Versions) (made : Bool) (known known' : HubHistory) (ps : List (List ScriptStep)) (rs : List CodeRun) (c : ℕ) (p : List ScriptStep) (old new : CodeRun) → AreRuns known ps rs → c < length rs → p ≡ get_or ps c p → old ≡ get_or rs c old → Goes tables made old.client.number known p old known' new → IsRun known' p new → new.client.number ≡ old.client.number → Advances tables made ps c known rs known' (set rs c new)
 turned lasts tables true known known' ps rs c p old new are h at_p at_old goes run number =
     let same = (are.each c p old h at_p at_old).1 in (
-      turn-made tables known.world known.log known'.log ps rs c p old new are.long h at_p at_old (subst (λ n. go tables known.world known.log n (run_of p old) ≡ Some (let made : Made = record { log = known'.log; run = run_of p new } in made)) same goes.0),
+      advance-made tables known.world known.log known'.log ps rs c p old new are.long h at_p at_old (subst (λ n. go tables known.world known.log n (run_of p old) ≡ Some (let made : Made = record { log = known'.log; run = run_of p new } in made)) same goes.0),
       AreRuns-set lasts known known' ps rs c p old new are (subst (λ n. GrowsBy n known known') same goes.1) goes.2 h at_p at_old run (number ∙ same),
       ap (λ (k : HubHistory). k.world) goes.1.2,
     )
-turned lasts tables false known known' ps rs c p old new are h at_p at_old goes run number = turn-ended tables known.world known.log ps rs c p old (client_of new.client) are.long h at_p at_old goes.0
+turned lasts tables false known known' ps rs c p old new are h at_p at_old goes run number = advance-ended tables known.world known.log ps rs c p old (client_of new.client) are.long h at_p at_old goes.0
 
 -- where lists are the same from an index on, so is what stands there
 get_drop : {X : Type 0} (xs : List X) (i : ℕ) (d : X) → get_or (drop i xs) 0 d ≡ get_or xs i d

@@ -7,7 +7,7 @@ use Rattle.sal_script.specs.declared.reply.StepReply.{StepReply}
 use Rattle.sal_script.specs.declared.script.ScriptStep.{ScriptStep}
 use Rattle.sal_script.specs.JsonMoves.{is_json_move}
 use Rattle.sal_script.specs.Moves.{Move, clients_of, moves_of}
-use Rattle.sal_script.specs.Play.{Client, Played, Run, PlayState, arrive, ended, go, play_from, replies_of, start, turn}
+use Rattle.sal_script.specs.Play.{Client, Played, Run, PlayState, arrive, ended, go, play_from, replies_of, start, advance}
 use Rattle.sal_script.specs.Tables.{Versions}
 use Rattle.sal_hub.specs.HubHistory.{HubHistory}
 use Rattle.sal_client.specs.declared.run.ClientRun.{ClientRun as CodeRun}
@@ -84,10 +84,10 @@ pub record AreRuns (known : HubHistory) (ps : List (List ScriptStep)) (rs : List
   pub each : (i : ℕ) (p : List ScriptStep) (r : CodeRun) → i < length rs → p ≡ slice_index_or ps i p → r ≡ slice_index_or rs i r → IsRun known p r × (r.client.number ≡ i)
 
 -- one number of an order, or its failure
-abbrev pub Turns : List Versions → Bool → List (List ScriptStep) → ℕ → HubHistory → List CodeRun → HubHistory → List CodeRun → Type 0
-Turns tables true ps c known rs known' rs' =
-    (turn tables known.world (stand_of ps known.log rs) c ≡ Some (stand_of ps known'.log rs')) × AreRuns known' ps rs' × (known'.world ≡ known.world)
-Turns tables false ps c known rs known' rs' = turn tables known.world (stand_of ps known.log rs) c ≡ None
+abbrev pub Advances : List Versions → Bool → List (List ScriptStep) → ℕ → HubHistory → List CodeRun → HubHistory → List CodeRun → Type 0
+Advances tables true ps c known rs known' rs' =
+    (advance tables known.world (stand_of ps known.log rs) c ≡ Some (stand_of ps known'.log rs')) × AreRuns known' ps rs' × (known'.world ≡ known.world)
+Advances tables false ps c known rs known' rs' = advance tables known.world (stand_of ps known.log rs) c ≡ None
 
 -- the replies of a client to its steps
 abbrev pub replies_in : CodeRun → List StepReply

@@ -1,7 +1,17 @@
 -- What slots hold.
-use Rattle.std.specs.Prelude.{ℕ, Option}
-use Rattle.std.specs.Ordering.{nat_cmp}
-use Rattle.std.specs.BTreeMap.{BTreeMap, get}
+use Rattle.std.specs.Prelude.{ℕ, zero, suc, List, [], ◌∷◌, Option, None, Vec, if◌then◌else◌, nat_eq}
+use Rattle.std.specs.declared.alloc.Global.{Global}
+use Rattle.sal_client.specs.declared.slots.Slot.{Slot}
 
-abbrev pub held : {X : Type 0} → BTreeMap ℕ X → ℕ → Option X
-held slots k = get nat_cmp slots k
+-- what a slot holds by this list; one that does not stand there is empty
+abbrev pub held_in : {X : Type 0} → List (Slot X) → ℕ → Option X
+held_in [] k = None
+held_in (slot ∷ rest) k = if nat_eq k slot.number then slot.value else held_in rest k
+
+-- where it stands, or the length where it does not
+abbrev pub place_in : {X : Type 0} → List (Slot X) → ℕ → ℕ
+place_in [] k = 0
+place_in (slot ∷ rest) k = if nat_eq k slot.number then 0 else suc (place_in rest k)
+
+abbrev pub held : {X : Type 0} → Vec (Slot X) Global → ℕ → Option X
+held slots k = held_in slots.items k

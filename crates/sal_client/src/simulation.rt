@@ -6,7 +6,7 @@ ghost use Rattle.sal_hub.specs.HubHistory.{HubHistory};
 ghost use Rattle.sal_script.specs.JsonMoves.{have_json_moves};
 ghost use Rattle.sal_script.specs.Moves.{clients_of};
 ghost use Rattle.sal_script.specs.Play as play_spec;
-ghost use Rattle.sal_client.specs.Runs.{replies_in, stand_of, AreRuns, Begins, Ends, Follows, PlaysAs, Turns};
+ghost use Rattle.sal_client.specs.Runs.{replies_in, stand_of, AreRuns, Begins, Ends, Follows, PlaysAs, Advances};
 
 use crate::readers::Readers;
 use crate::run::ClientRun;
@@ -65,7 +65,7 @@ fn into_replies(alloc: Global, runs: Vec<ClientRun>) -> Result<Seq<Seq<StepReply
 
 impl Simulation {
     // One number of the order: false where no client has it, or where that client has no shared call left.
-    fn turn<G: Gate>(
+    fn advance<G: Gate>(
         &mut self,
         alloc: Global,
         readers: &Readers,
@@ -75,7 +75,7 @@ impl Simulation {
     ) -> Result<bool, NoMemory>
         requires runs { AreRuns self.old.hub programs.now self.old.runs.items }
         requires tables { readers.now ≡ versions_of self.old.hub.world }
-        ensures { IfOk result (λ made. Turns readers.now made programs.now client self.old.hub self.old.runs.items self.new.hub self.new.runs.items) }
+        ensures { IfOk result (λ made. Advances readers.now made programs.now client self.old.hub self.old.runs.items self.new.hub self.new.runs.items) }
     {
         laws::tokens_last();
         let index = client as usize;
@@ -101,7 +101,7 @@ impl Simulation {
         ensures { Follows readers.now programs.now order.now self.old.hub self.old.runs.items self.new.hub self.new.runs.items result }
     {
         for i in 0..order.len() {
-            match self.turn(alloc, readers, programs, order[i], gate) {
+            match self.advance(alloc, readers, programs, order[i], gate) {
                 Ok(true) => {}
                 Ok(false) => return Err(PlayFault::BadOrder { index: i as u64 }),
                 Err(NoMemory) => return Err(PlayFault::NoMemory),

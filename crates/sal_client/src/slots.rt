@@ -2,20 +2,27 @@
 ghost use Rattle.std.specs.Prelude.{◌≡◌, None, Some, IsSome, OnOk};
 ghost use Rattle.std.specs.Option.{option_copied};
 ghost use Rattle.sal_script.specs.Play.{set_slot};
-ghost use Rattle.sal_client.specs.Slots.{held};
+ghost use Rattle.sal_client.specs.Slots.{held, place_in};
 
 use sal_types::NoMemory;
 use std::alloc::Global;
-use std::collections::BTreeMap;
 
-/// What the slots 0 to 255 hold; an empty one holds nothing.
-pub type Slots<T> = BTreeMap<u8, T>;
+/// A slot that was filled, with what it holds now.
+#[derive(Drop)]
+pub struct Slot<T> {
+    number: u8,
+    value: Option<T>,
+}
+
+/// What the slots 0 to 255 hold; an empty one holds nothing. A slot stands in the list once it was filled, and stays there: a client
+/// has few, and those are looked through.
+pub type Slots<T> = Vec<Slot<T>>;
 
 /// Slots that are all empty. It takes no memory.
 pub fn empty_slots<T>(alloc: Global) -> Slots<T>
     ensures { held result ≡ (λ k. None) }
 {
-    BTreeMap::new(alloc)
+    Vec::new(alloc)
 }
 
 /// Takes out what the slot holds.
@@ -23,14 +30,28 @@ pub fn take_slot<T: Drop>(slots: &mut Slots<T>, slot: u8) -> Option<T>
     ensures value { result ≡ held slots.old slot }
     ensures after { held slots.new ≡ set_slot slot None (held slots.old) }
 {
-    slots.remove(&slot)
+    let place = place_of(slots, slot);
+    if place < slots.len() {
+        slots[place].value.take()
+    } else {
+        None
+    }
 }
 
 /// Puts the value into the slot, over what it holds.
 pub fn fill_slot<T: Drop>(slots: &mut Slots<T>, slot: u8, value: T) -> Result<(), NoMemory>
     ensures { OnOk result (held slots.new ≡ set_slot slot (Some value) (held slots.old)) }
 {
-    slots.insert(slot, value)?;
+    let place = place_of(slots, slot);
+    let filled = Slot {
+        number: slot,
+        value: Some(value),
+    };
+    if place < slots.len() {
+        slots[place] = filled;
+    } else {
+        slots.push(filled)?;
+    }
     Ok(())
 }
 
@@ -49,5 +70,22 @@ pub fn filled<T>(slots: &Slots<T>, slot: u8) -> &T
 pub fn look_at<T>(slots: &Slots<T>, slot: u8) -> Option<&T>
     ensures { option_copied result ≡ held slots.now slot }
 {
-    slots.get(&slot)
+    for it in slots {
+        if it.number == slot {
+            return it.value.as_ref();
+        }
+    }
+    None
+}
+
+// Where the slot stands, or the length where it does not.
+fn place_of<T>(slots: &[Slot<T>], slot: u8) -> usize
+    ensures { result ≡ place_in slots.now slot }
+{
+    for (place, it) in slots.iter().enumerate() {
+        if it.number == slot {
+            return place;
+        }
+    }
+    slots.len()
 }

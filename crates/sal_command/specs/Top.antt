@@ -10,7 +10,7 @@ use Rattle.sal_script.specs.Script.{Parts, script_of}
 use Rattle.sal_script.specs.Play.{Played, play}
 use Rattle.sal_script.specs.Report.{report}
 use Rattle.sal_script.specs.SomeOrder.{IsReportInSomeOrder}
-use Rattle.sal_loads.specs.Numbers.{load_text}
+use Rattle.sal_script_laws.specs.Numbers.{load_text}
 use Rattle.sal_owner_script.specs.Replies as replies
 use Rattle.sal_versions.specs.Schemas.{table_of}
 use Rattle.sal_prepare.specs.Scripted.{Comes, IsStatusOf, Prepared, or_schema, or_script, prepared}
@@ -71,9 +71,9 @@ IsMadeBy make bytes answer = make bytes ≡ answer
 
 -- a text was written, whole or, at a write fault, a front of it
 abbrev pub Written : List ℕ → Option (List ℕ) → Option (List ℕ) → Status → Type 0
-Written text told told' Done = Appends told told' text
-Written text told told' WriteFault = (rest : List ℕ) × TakesFront told told' text rest
-Written text told told' status = ⊥
+Written text given given' Done = Appends given given' text
+Written text given given' WriteFault = (rest : List ℕ) × TakesFront given given' text rest
+Written text given given' status = ⊥
 
 -- all bytes of the input, of which there are not too many, and what they come to
 pub record ReadsInput (comes : List ℕ → Result (List ℕ) Status → Type 0) (before after : Option (List ℕ)) (answer : Result (List ℕ) Status) : Type 0 where
@@ -82,37 +82,37 @@ pub record ReadsInput (comes : List ℕ → Result (List ℕ) Status → Type 0)
   pub within : length bytes ≤ 16777216
   pub come : comes bytes answer
 
--- What a form did whose input comes to a text or to a status: of its input, told before and after, and of its output, told
+-- What a form did whose input comes to a text or to a status: of its input, as it was before and after, and of its output,
 -- likewise. Where memory ran out, or a read failed, nothing was written.
 abbrev pub TextAnswers : (List ℕ → Result (List ℕ) Status → Type 0) → Option (List ℕ) → Option (List ℕ) → Option (List ℕ) → Option (List ℕ) → Status → Type 0
-TextAnswers comes before after told told' Done = (text : List ℕ) × ReadsInput comes before after (Ok text) × Written text told told' Done
-TextAnswers comes before after told told' WriteFault = (text : List ℕ) × ReadsInput comes before after (Ok text) × Written text told told' WriteFault
-TextAnswers comes before after told told' TooLong = TakesSome before after (λ bytes. length bytes ≡ 16777217) × (told' ≡ told)
-TextAnswers comes before after told told' (BadScript place) = ReadsInput comes before after (Err (BadScript place)) × (told' ≡ told)
-TextAnswers comes before after told told' (BadSchema device text) = ReadsInput comes before after (Err (BadSchema device text)) × (told' ≡ told)
-TextAnswers comes before after told told' (BadOpening text) = ReadsInput comes before after (Err (BadOpening text)) × (told' ≡ told)
-TextAnswers comes before after told told' (BadOrder index) = ReadsInput comes before after (Err (BadOrder index)) × (told' ≡ told)
-TextAnswers comes before after told told' ReadFault = told' ≡ told
-TextAnswers comes before after told told' NoMemory = told' ≡ told
-TextAnswers comes before after told told' BadWords = ⊥
+TextAnswers comes before after given given' Done = (text : List ℕ) × ReadsInput comes before after (Ok text) × Written text given given' Done
+TextAnswers comes before after given given' WriteFault = (text : List ℕ) × ReadsInput comes before after (Ok text) × Written text given given' WriteFault
+TextAnswers comes before after given given' TooLong = TakesSome before after (λ bytes. length bytes ≡ 16777217) × (given' ≡ given)
+TextAnswers comes before after given given' (BadScript place) = ReadsInput comes before after (Err (BadScript place)) × (given' ≡ given)
+TextAnswers comes before after given given' (BadSchema device text) = ReadsInput comes before after (Err (BadSchema device text)) × (given' ≡ given)
+TextAnswers comes before after given given' (BadOpening text) = ReadsInput comes before after (Err (BadOpening text)) × (given' ≡ given)
+TextAnswers comes before after given given' (BadOrder index) = ReadsInput comes before after (Err (BadOrder index)) × (given' ≡ given)
+TextAnswers comes before after given given' ReadFault = given' ≡ given
+TextAnswers comes before after given given' NoMemory = given' ≡ given
+TextAnswers comes before after given given' BadWords = ⊥
 
 -- What a form did that reads no input, and comes to a text whatever its words say. Where memory ran out nothing was written.
 abbrev pub OwnAnswers : (List ℕ → Type 0) → Option (List ℕ) → Option (List ℕ) → Status → Type 0
-OwnAnswers comes told told' Done = (text : List ℕ) × comes text × Written text told told' Done
-OwnAnswers comes told told' WriteFault = (text : List ℕ) × comes text × Written text told told' WriteFault
-OwnAnswers comes told told' NoMemory = told' ≡ told
-OwnAnswers comes told told' status = ⊥
+OwnAnswers comes given given' Done = (text : List ℕ) × comes text × Written text given given' Done
+OwnAnswers comes given given' WriteFault = (text : List ℕ) × comes text × Written text given given' WriteFault
+OwnAnswers comes given given' NoMemory = given' ≡ given
+OwnAnswers comes given given' status = ⊥
 
 -- what the command did, by the form of its words
 abbrev pub Answers : Option Form → Option (List ℕ) → Option (List ℕ) → Option (List ℕ) → Option (List ℕ) → Status → Type 0
-Answers None before after told told' status = (status ≡ BadWords) × (after ≡ before) × (told' ≡ told)
-Answers (Some Run) before after told told' status = TextAnswers RunsTo before after told told' status
-Answers (Some Sim) before after told told' status = TextAnswers (IsMadeBy sim_text) before after told told' status
-Answers (Some (Load rounds start)) before after told told' status = (after ≡ before) × OwnAnswers (LoadsTo rounds start) told told' status
-Answers (Some Schema) before after told told' status = TextAnswers (IsMadeBy schema_text) before after told told' status
-Answers (Some Owner) before after told told' status = TextAnswers (IsMadeBy owner_text) before after told told' status
-Answers (Some Help) before after told told' status = (after ≡ before) × Written HELP.now told told' status
-Answers (Some Version) before after told told' status = (after ≡ before) × Written VERSION.now told told' status
+Answers None before after given given' status = (status ≡ BadWords) × (after ≡ before) × (given' ≡ given)
+Answers (Some Run) before after given given' status = TextAnswers RunsTo before after given given' status
+Answers (Some Sim) before after given given' status = TextAnswers (IsMadeBy sim_text) before after given given' status
+Answers (Some (Load rounds start)) before after given given' status = (after ≡ before) × OwnAnswers (LoadsTo rounds start) given given' status
+Answers (Some Schema) before after given given' status = TextAnswers (IsMadeBy schema_text) before after given given' status
+Answers (Some Owner) before after given given' status = TextAnswers (IsMadeBy owner_text) before after given given' status
+Answers (Some Help) before after given given' status = (after ≡ before) × Written HELP.now given given' status
+Answers (Some Version) before after given given' status = (after ≡ before) × Written VERSION.now given given' status
 
 -- ---- when it is done
 

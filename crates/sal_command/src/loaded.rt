@@ -9,14 +9,15 @@ ghost use Rattle.sal_command.specs.Top as spec;
 
 use crate::reported::summary_of;
 use sal_io::Gate;
-use sal_loads::laws::loads_come_to_one;
 use sal_prepare::laws as own_laws;
 use sal_prepare::scripted::{Prepared, prepare_script};
 use sal_prepare::status::Status;
 use sal_run::run;
 use sal_script::{laws, load_script};
+use sal_script_laws::laws::loads_come_to_one;
 use sal_types::{NoMemory, Str};
 use std::alloc::Global;
+use std::mem;
 use std::sync::Wait;
 use std::thread::Threads;
 
@@ -56,7 +57,7 @@ fn prepare_load(alloc: Global, rounds: u32, start: u32) -> Result<Prepared, Stat
     Ok(prepared)
 }
 
-// Runs the clients of a load over a hub without calls.
+// Runs the clients of a load over a hub without calls. What they left is not let go: the process ends next, and gives back all at once.
 fn run_load<R: Threads + Wait + Sync, G: Gate>(
     rt: &R,
     alloc: Global,
@@ -74,5 +75,7 @@ fn run_load<R: Threads + Wait + Sync, G: Gate>(
     let Prepared { read, hub } = prepared;
     let left = run(rt, alloc, &read.readers, &read.script, hub, gate)?;
     let text = summary_of(alloc, rounds, start, &left)?;
+    mem::forget(left);
+    mem::forget(read);
     Ok(text)
 }

@@ -4,9 +4,10 @@ ghost use Rattle.sal_io.specs.Causes.{Rose};
 ghost use Rattle.sal_command.specs.Words.{form_of};
 ghost use Rattle.sal_script.specs.Moves.{clients_of};
 ghost use Rattle.sal_client.specs.Runs.{PlaysAs};
-ghost use Rattle.sal_script.specs.Along.{AreLeft};
+ghost use Rattle.sal_script.specs.Along.{AreLogOf};
 ghost use Rattle.sal_script.specs.Play.{play as play_spec};
 ghost use Rattle.sal_script.specs.Reading.{parts};
+ghost use Rattle.sal_script.specs.Report.{report};
 ghost use Rattle.sal_script.specs.SomeOrder.{IsReportInSomeOrder};
 ghost use Rattle.sal_script.specs.Tables.{tables_of, versions_of};
 ghost use Rattle.sal_prepare.specs.Scripted.{tables_in};
@@ -25,6 +26,7 @@ use sal_schema::Schema;
 use sal_script::{Script, ScriptFault, laws};
 use sal_types::{NoMemory, Str};
 use std::alloc::Global;
+use std::mem;
 use std::sync::{Arc, Wait};
 use std::thread::Threads;
 
@@ -74,7 +76,8 @@ pub const VERSION: &str = "mdsal 0.1.0\n";
 /// Runs the command: the words of its command line, its input, its output, and the gate that a client passes before
 /// each of its steps. With `run` and `load` it starts a thread for each client and waits for them. What a report of a played
 /// script says of its order is the law `plays_follow_their_order` of `sal_script`; that its first line tells one order and no
-/// other is `first_lines_tell_one_order`.
+/// other is `first_lines_tell_one_order`. It does not free what it played, since a process ends behind it: a caller that goes on keeps
+/// that memory taken.
 pub fn mdsal<R: Threads + Wait + Sync, S: Source, K: Sink, G: Gate>(
     rt: &R,
     alloc: Global,
@@ -268,7 +271,7 @@ fn run_over<R: Threads + Wait + Sync, G: Gate>(
 {
     laws::what_is_left_is_reported();
     let (left, schemas) = left_over(rt, alloc, read, hub, gate)?;
-    let text = report_of(alloc, &schemas, &left)?;
+    let text = last_report(alloc, &schemas, left)?;
     Ok(text)
 }
 
@@ -282,7 +285,7 @@ fn left_over<R: Threads + Wait + Sync, G: Gate>(
 ) -> Result<(Played, Vec<Arc<Schema>>), NoMemory>
     requires readers { read.readers ≡ versions_of hub.world }
     requires fresh { hub.log ≡ [] }
-    ensures left { IfOk result (λ it. AreLeft hub.world (clients_of read.script.clients) it.0.hub.log it.0.replies) }
+    ensures left { IfOk result (λ it. AreLogOf hub.world (clients_of read.script.clients) it.0.hub.log it.0.replies) }
     ensures world { IfOk result (λ it. it.0.hub.world ≡ hub.world) }
     ensures schemas { IfOk result (λ it. it.1 ≡ read.schemas) }
 {
@@ -313,7 +316,7 @@ fn play_over<G: Gate>(alloc: Global, read: ReadScript, hub: Hub, gate: &G) -> Re
     ensures { spec.IsPlayOr (spec.play_over (parts read.script) hub.world) result }
 {
     match played_over(alloc, read, hub, gate) {
-        Ok((played, schemas)) => match report_of(alloc, &schemas, &played) {
+        Ok((played, schemas)) => match last_report(alloc, &schemas, played) {
             Ok(text) => Ok(text),
             Err(NoMemory) => Err(Status::NoMemory),
         },
@@ -343,6 +346,17 @@ fn played_over<G: Gate>(
         Ok(played) => Ok((played, schemas)),
         Err(fault) => Err(fault),
     }
+}
+
+// The report of what was played. That is not let go: the process ends next, and gives back all at once.
+fn last_report(alloc: Global, schemas: &[Arc<Schema>], played: Played) -> Result<Str, NoMemory>
+    requires schemas { tables_in schemas.now ≡ tables_of played.hub.world }
+    requires few { length schemas.now ≤ 64 }
+    ensures { IfOk result (λ text. text ≡ report played.hub.world (record { log = played.hub.log; replies = played.replies })) }
+{
+    let text = report_of(alloc, schemas, &played)?;
+    mem::forget(played);
+    Ok(text)
 }
 
 // Writes the text.

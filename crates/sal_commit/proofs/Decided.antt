@@ -135,4 +135,5 @@ IsSame-trans old new newest a b = record {
   upgrades = b.upgrades ∙ a.upgrades;
   version = b.version ∙ a.version;
   since = b.since ∙ a.since;
+  rules = b.rules ∙ a.rules;
 }

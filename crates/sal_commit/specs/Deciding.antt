@@ -40,9 +40,9 @@ pub record IsFor (d : Domain) (sub : Submission) : Type 0 where
 abbrev pub spans_of : Domain → Submission → List Span
 spans_of d sub = spans sub.base_commit sub.chain (chains_of d.commits.items)
 
--- the conflict of a submission with the commits after its base
+-- the conflict of a submission with the commits after its base, by the domain's version rules
 abbrev pub conflict : Domain → Submission → Option Outcome
-conflict d sub = outcome.conflict d.schema.value (opening_in d.commits.items) (ops_of d.commits.items) (rows_in sub.base) (spans_of d sub) sub.changes
+conflict d sub = outcome.conflict d.schema.value (opening_in d.commits.items) (ops_of d.commits.items) d.rules (rows_in sub.base) (spans_of d sub) sub.changes
 
 -- the outcome that names the rule that rows of a store break
 abbrev pub invalid_over : SchemaTable → Store → List Row → Option Outcome
@@ -56,7 +56,7 @@ breached d sub = option_or (invalid d sub Config) (invalid d sub Oper)
 
 -- the outcome of a submission at the newest commit of the domain, where its chain has not failed and the domain is live
 abbrev pub judge : Domain → Submission → Outcome
-judge d sub = outcome.decide d.schema.value (opening_in d.commits.items) (ops_of d.commits.items) (rows_in sub.base) (spans_of d sub) sub.changes
+judge d sub = outcome.decide d.schema.value (opening_in d.commits.items) (ops_of d.commits.items) d.rules (rows_in sub.base) (spans_of d sub) sub.changes
 
 -- the outcome that names the domain, where it is not live any more
 abbrev pub gone : Domain → Option Outcome

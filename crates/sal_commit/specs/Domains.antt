@@ -11,6 +11,7 @@ pub record IsSame (old new : Domain) : Type 0 where
   pub upgrades : new.upgrades ≡ old.upgrades
   pub version : new.version ≡ old.version
   pub since : new.since ≡ old.since
+  pub rules : new.rules ≡ old.rules
 
 -- there is room for one more commit
 abbrev pub is_roomy : Domain → Type 0

@@ -47,3 +47,4 @@ pub record Upgrades (old : Domain) (next : ℕ) (new : Domain) : Type 0 where
   pub schema : new.schema.value ≡ version_in old next
   pub since : new.since ≡ length old.commits.items - 1
   pub commits : new.commits.items ≡ old.commits.items
+  pub rules : new.rules ≡ old.rules

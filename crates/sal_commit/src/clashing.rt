@@ -21,7 +21,13 @@ pub(crate) fn conflict_in(
     ensures { IfOk result (λ o. o ≡ spec.conflict domain.now sub.now) }
 {
     let spans = foreign_spans(alloc, sub.base_commit, sub.chain, &domain.commits)?;
-    let found = conflict(sub.changes.lookups(), &sub.base, &spans, &domain.commits);
+    let found = conflict(
+        sub.changes.lookups(),
+        &sub.base,
+        &spans,
+        &domain.commits,
+        domain.rules,
+    );
     match found {
         None => Ok(None),
         Some(clash) => named(alloc, sub.changes.ops(), clash),
@@ -43,7 +49,7 @@ fn named(alloc: Global, ops: &[Op], clash: Clash) -> Result<Option<Outcome>, NoM
 fn conflict_of(alloc: Global, found: Clash, op: &Op) -> Result<Outcome, NoMemory>
     ensures { IfOk result (λ o. o ≡ outcome.conflict_of found op.now) }
 {
-    let path = first_steps(alloc, &op.path, found.depth)?;
+    let path = first_steps(alloc, op.path_by(found.row), found.depth)?;
     Ok(Outcome::Conflict {
         store: op.store,
         path,

@@ -13,6 +13,7 @@ use crate::opening::{first_commits, sound_trees};
 use crate::versions::{shared, shared_all};
 use sal_check::Plan;
 use sal_history::Device;
+use sal_rows::Rules;
 use sal_schema::Schema;
 use sal_tree::Commit;
 use sal_types::NoMemory;
@@ -23,7 +24,7 @@ use std::sync::Arc;
 /// on. Commit `k` stands at index `k`. From the newest commit at the last upgrade on, no tree of a commit breaks a structural rule
 /// by the present version; the plan of rules is that of this version. Each commit was made of the one before it: what its
 /// operations touch has the stamp of its receipt, and every other node stayed. So where nodes of two neighbours have one path and
-/// one stamp, they are the same.
+/// one stamp, they are the same. Its submissions are decided by its version rules.
 #[derive(Drop)]
 pub struct Domain {
     pub number: u32,
@@ -39,6 +40,7 @@ pub struct Domain {
     pub version: u32,
     /// The number of the newest commit at the last upgrade, 0 before the first one.
     pub since: u64,
+    pub rules: Rules,
     pub commits: Vec<Commit>,
     pub(crate) plan: Plan,
     pub ghost planned: { plan.schema.value ≡ schema.value },
@@ -51,16 +53,18 @@ impl Domain {
     ghost use Rattle.sal_commit.specs.Domains.{IsSame, is_roomy};
     ghost use Rattle.sal_commit.specs.Versions.{tables_of};
 
-    /// The domain of this number over the versions and the opening trees of a device, unless one of these breaks a
-    /// structural rule by version 0, which is the present one then.
+    /// The domain of this number over the versions and the opening trees of a device, with these version rules, unless one of the trees
+    /// breaks a structural rule by version 0, which is the present one then.
     pub fn open(
         alloc: Global,
         number: u32,
         device: &Device,
         live: bool,
+        rules: Rules,
     ) -> Result<Domain, DomainFault>
         ensures parts { IfOk result (λ d. (d.number ≡ number) × (d.live ≡ live) × (d.schema.value ≡ device.now.schema.value)) }
         ensures first { IfOk result (λ d. (d.first.value ≡ device.now.schema.value) × (d.version ≡ 0) × (d.since ≡ 0)) }
+        ensures rules { IfOk result (λ d. d.rules ≡ rules) }
         ensures upgrades { IfOk result (λ d. tables_of d.upgrades.items ≡ tables_of device.now.upgrades.items) }
         ensures kept { IfOk result (λ d. AreKept d.commits.items) }
         ensures commits { IfOk result (λ d. ops_of d.commits.items ≡ []) }
@@ -83,6 +87,7 @@ impl Domain {
             upgrades,
             version: 0,
             since: 0,
+            rules,
             commits,
             plan,
         })

@@ -2,7 +2,7 @@
 //!
 //! | item | what it is |
 //! |---|---|
-//! | `Domain` | a domain: its number, the versions of its schema with the present one, and its commits, the opening first; from the last upgrade on no tree of a commit breaks a structural rule, and each was made of the one before it by the commit's operations and the stamp of its receipt |
+//! | `Domain` | a domain: its number, its version rules, the versions of its schema with the present one, and its commits, the opening first; from the last upgrade on no tree of a commit breaks a structural rule, and each was made of the one before it by the commit's operations and the stamp of its receipt |
 //! | `NextVersion`, `Domain::next_version`, `upgrade` | the next version with the plan of its rules, where the newest trees break none; and the domain at that version |
 //! | `DomainFault` | why a domain is not opened |
 //! | `can` | whether a submission's chain has failed, its domain is not live, or it conflicts with the foreign commits after its base |

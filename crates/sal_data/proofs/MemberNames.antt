@@ -10,8 +10,8 @@ use Rattle.sal_schema.specs.declared.table.SchemaTable.{SchemaTable}
 use Rattle.sal_schema.specs.Names.{child_of}
 use Rattle.sal_schema.specs.Table.{is_data_child, is_same, module_of, module_name, name_of}
 use Rattle.sal_schema.specs.Valid.{IsTable}
-use Rattle.sal_table.specs.Lookups.{own_module}
-use Rattle.sal_table.proofs.Children.{IsChild, child, module_name-is, module_of-is, name_of-is, child_of-name, own_module-is, same-is}
+use Rattle.sal_schema.specs.Lookups.{own_module}
+use Rattle.sal_schema.proofs.Children.{IsChild, child, module_name-is, module_of-is, name_of-is, child_of-name, own_module-is, same-is}
 use Rattle.sal_json.specs.Named.{is_colon}
 use Rattle.sal_json.proofs.IdentTexts.{no_colon, colon-at, take-front, drop-front, colon-there}
 use Rattle.sal_data.specs.Members.{is_qualified, member_name, if_qualified, qualified_child, plain_child, child_called, name_fault, member_node}

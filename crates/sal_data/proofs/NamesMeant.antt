@@ -22,8 +22,8 @@ use Rattle.sal_schema.specs.Table.{each_from, data_node, data_parent, is_data_ch
 use Rattle.sal_schema.specs.Valid.{IsTable, is_identifier}
 use Rattle.sal_schema.proofs.Facts.{slice_get_some, slice_get_there, module_is_there, numbers_at}
 use Rattle.sal_schema.proofs.Numbered.{list_all-at}
-use Rattle.sal_table.specs.Lookups.{own_module}
-use Rattle.sal_table.proofs.Children.{first_default, module_known}
+use Rattle.sal_schema.specs.Lookups.{own_module}
+use Rattle.sal_schema.proofs.Children.{first_default, module_known}
 use Rattle.sal_json.specs.Named.{is_colon}
 use Rattle.sal_json.proofs.Chosen.{from_some, same_ok}
 use Rattle.sal_data.specs.Members.{is_qualified, member_name, has_module, if_qualified, qualified_child, plain_child, child_called, name_fault, member_node}

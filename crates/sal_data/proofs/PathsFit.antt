@@ -12,12 +12,9 @@ use Rattle.sal_schema.specs.Paths.{may_follow, are_of_nodes, may_pick, step_fits
 use Rattle.sal_schema.specs.Values.{is_of_node}
 use Rattle.sal_data.proofs.Fronts.{length-more}
 use Rattle.sal_data.proofs.KindFacts.{leaf_list-entries, leaf_list-list, list-entries, list-leaf_list}
+use Rattle.sal_types.proofs.Shared.{slice_get-end}
 
 -- ---- the end of a path
-
-slice_get-end : {X : Type 0} (xs : List X) (x : X) → slice_get (xs ++ x ∷ []) (length xs) ≡ Some x
-slice_get-end [] x = refl
-slice_get-end (y ∷ xs) x = slice_get-end xs x
 
 pub less_one : (k n : ℕ) → k ≡ n + 1 → k - 1 ≡ n
 less_one k n e = omega arith

@@ -25,7 +25,7 @@ use Rattle.sal_schema.specs.Valid.{IsTable, has_its_keys, agree, is_empty, all_d
 use Rattle.sal_schema.specs.Values.{is_of_node}
 use Rattle.sal_schema.proofs.Facts.{slice_get_some, closest-Some}
 use Rattle.sal_schema.proofs.Numbered.{all_from-at}
-use Rattle.sal_table.proofs.Children.{same-is}
+use Rattle.sal_schema.proofs.Children.{same-is}
 use Rattle.sal_json.proofs.Chosen.{same_ok}
 use Rattle.sal_data.specs.Laws.{IsReadable, IsJson, AreJson, HasJson, step_values}
 use Rattle.sal_data.specs.Members.{member_name, member_node}
@@ -41,6 +41,7 @@ use Rattle.sal_data.proofs.Composed.{node_rows-leaf}
 use Rattle.sal_data.proofs.RowsRead.{a_row, KeyRows, KeyRows-more, WholeIn, IsFit, ReadAt, ReadBelow, none_below, joined_rows, at_plain, at_one, at_marked}
 use Rattle.sal_data.proofs.ReadParts.{bind_ok, followed_parts, member_parts, members_all, EntryParts, entry_parts, item_parts, value_fits, value_readable, leaf_parts, item_value, KeysRead, keys_parts, keys_fit, array_parts, object_parts, other_parts}
 use Rattle.sal_data.proofs.KindFacts.{entries-leaf, entries-presence, leaf-data, leaf-presence, leaf_list-entries, list-entries}
+use Rattle.sal_schema.proofs.Childless.{stays}
 
 -- ---- kinds
 
@@ -72,9 +73,6 @@ not_empty leaf (x ∷ leafs) h = grind (arith, nat_tests)
 some_number : (n l : ℕ) → n < l → (m : ℕ) × (l ≡ suc m)
 some_number n zero h = absurd (omega arith)
 some_number n (suc m) h = (m, refl)
-
-abbrev stays : Kind → Bool
-stays kind = not (is_choice_or_case kind)
 
 module _ (table : SchemaTable) (good : IsTable table) where
   -- ---- the keys of a list are its children

@@ -14,7 +14,7 @@ use Rattle.sal_schema.specs.declared.table.SchemaTable.{SchemaTable}
 use Rattle.sal_schema.specs.Fitting.{fits, has_own_row}
 use Rattle.sal_schema.specs.Paths.{fits_path, last_step, node_of}
 use Rattle.sal_schema.specs.Valid.{IsTable}
-pub use Rattle.sal_value.specs.Json.{IsJson, AreJson, HasJson}
+pub use Rattle.sal_json_laws.specs.Json.{IsJson, AreJson, HasJson}
 use Rattle.sal_data.specs.Read.{node_scalar, read_data}
 use Rattle.sal_data.specs.Written.{scalar_json, write_data}
 

@@ -6,7 +6,7 @@ use Rattle.sal_types.specs.declared.value.Step.{Step}
 use Rattle.sal_schema.specs.declared.table.SchemaTable.{SchemaTable}
 use Rattle.sal_schema.specs.Table.{is_same, module_of, name_of}
 use Rattle.sal_schema.specs.Names.{child_of}
-use Rattle.sal_table.specs.Lookups.{own_module, full_name}
+use Rattle.sal_schema.specs.Lookups.{own_module, full_name}
 use Rattle.sal_json.specs.Named.{is_colon}
 use Rattle.sal_data.specs.declared.fault.DataFault.{DataFault}
 use Rattle.sal_data.specs.declared.fault.DataFault.TheVariants.{UnknownMember, NeedsModule}

@@ -10,7 +10,7 @@ use crate::fault::DataFault;
 use crate::members::member_for;
 use crate::reader::Reader;
 use crate::seen::Seen;
-use sal_table::lookups::keys_at;
+use sal_schema::lookups::keys_at;
 use sal_types::{Cell, Duplicate, NoMemory, Path, PathFault, Row, Seq, Step, Value};
 use serde_json::{Map, Value as Json};
 use std::alloc::Global;

@@ -12,7 +12,7 @@ use crate::cells::{cell_at, cell_below};
 use crate::ends::node_at_end;
 use sal_rows::Rows;
 use sal_schema::Schema;
-use sal_table::lookups::{is_leaf, keys_at};
+use sal_schema::lookups::{is_leaf, keys_at};
 use sal_types::{Cell, Path, Row, Step, Value};
 
 /// Whether a cell is one for the node at the end of the path, and of its type.

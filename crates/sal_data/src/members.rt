@@ -5,12 +5,12 @@ ghost use Rattle.serde_json.specs.Find.{get_member};
 ghost use Rattle.sal_types.specs.Reading.{GivesUnless};
 ghost use Rattle.sal_schema.specs.Names.{child_of};
 ghost use Rattle.sal_schema.specs.Table.{module_name};
-ghost use Rattle.sal_table.specs.Lookups as lookups;
+ghost use Rattle.sal_schema.specs.Lookups as lookups;
 ghost use Rattle.sal_data.specs.Members as spec;
 
 use crate::fault::DataFault;
 use sal_schema::Schema;
-use sal_table::lookups::{module_at, name_at, own_module, push_full_name};
+use sal_schema::lookups::{module_at, name_at, own_module, push_full_name};
 use sal_types::{Duplicate, NoMemory, Path, Str};
 use serde_json::{Map, Value as Json};
 use std::alloc::Global;

@@ -8,7 +8,7 @@ ghost use Rattle.sal_data.specs.Read as spec;
 use crate::fault::DataFault;
 use sal_json::{Patterns, ScalarFault, read_scalar};
 use sal_schema::Schema;
-use sal_table::lookups::{module_at, type_at};
+use sal_schema::lookups::{module_at, type_at};
 use sal_types::{Duplicate, NoMemory, Path, Value};
 use serde_json::Value as Json;
 use std::alloc::Global;

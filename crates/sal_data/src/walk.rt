@@ -12,7 +12,7 @@ use crate::fault::DataFault;
 use crate::members::member_node;
 use crate::reader::Reader;
 use crate::seen::Seen;
-use sal_table::lookups::{has_entries, is_leaf, is_leaf_list, is_list, is_presence};
+use sal_schema::lookups::{has_entries, is_leaf, is_leaf_list, is_list, is_presence};
 use sal_types::{Cell, Duplicate, Path, Row, Step};
 use serde_json::{Map, Value as Json};
 

@@ -12,7 +12,7 @@ use crate::written_names::put_member;
 use sal_json::write_scalar;
 use sal_rows::Rows;
 use sal_schema::Schema;
-use sal_table::lookups::{is_leaf, is_leaf_list, is_list, module_at, type_at};
+use sal_schema::lookups::{is_leaf, is_leaf_list, is_list, module_at, type_at};
 use sal_types::{Cell, NoMemory, Path, Row, Step, Value};
 use serde_json::{Map, Value as Json};
 use std::alloc::Global;

@@ -6,7 +6,7 @@ ghost use Rattle.sal_data.specs.Members as spec;
 
 use crate::members::{full_name, is_qualified};
 use sal_schema::Schema;
-use sal_table::lookups::name_at;
+use sal_schema::lookups::name_at;
 use sal_types::NoMemory;
 use serde_json::{Map, Value as Json};
 use std::alloc::Global;

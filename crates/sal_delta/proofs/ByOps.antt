@@ -23,10 +23,7 @@ use Rattle.sal_rows.proofs.Applied.{cell-apply_ops}
 use Rattle.sal_rows.proofs.Differing.{Rises, same_changes, at-changes_under, rises-changes}
 use Rattle.sal_delta.specs.ByOps.{change_of, found_at, found_at_rows, found_below, found_by, found_by_all}
 use Rattle.sal_delta.specs.Ordered.{marks, in_order}
-use Rattle.sal_delta.proofs.InOrder.{last_at, last-append, last-rising, rises-ordered, at-ordered}
-
-abbrev Both : Type 0
-Both = Option Cell × Option Cell
+use Rattle.sal_delta.proofs.InOrder.{last_at, last-append, last-rising, rises-ordered, at-ordered, Both}
 
 -- ---- prefixes
 

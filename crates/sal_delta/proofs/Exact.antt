@@ -2,7 +2,6 @@
 use Rattle.std.proofs.Common.{◌≡◌, true, false, List, [], ◌∷◌, ◌++◌, Option, Some, None, map, refl, ap, sym, ◌∙◌, subst, if◌then◌else◌}
 use Rattle.std.specs.Prelude.{T}
 use Rattle.std.specs.Ordering.{match_ordering, is_eq, is_lt, ordering_reverse}
-use Rattle.std.specs.declared.cmp.Ordering.{Ordering}
 use Rattle.std.specs.declared.cmp.Ordering.TheVariants.{Less, Equal, Greater}
 use Rattle.std.specs.FinMap.Entries.{below_all}
 use Rattle.sal_types.specs.declared.value.Step.{Step}
@@ -28,13 +27,11 @@ use Rattle.sal_tree.proofs.Cells.{ascending-rows_of}
 use Rattle.sal_delta.specs.ByOps.{change_of}
 use Rattle.sal_delta.specs.Merge.{gone, come, met, merge_row, merge, rows_at, moved}
 use Rattle.sal_delta.proofs.Tops.{alike-under, walked-under}
+use Rattle.sal_tree.proofs.Laws.{less_T}
 
 none-behind : (p : List Step) (ys : List Row) → Behind p ys → cell ys p ≡ None
 none-behind p [] h = refl
 none-behind p (y ∷ ys) h = ap (λ o. if is_eq o then Some y.cell else cell ys p) (less _ (first (is_lt (path_cmp p y.path)) (below_all path_cmp p (entries ys)) h)) ∙ none-behind p ys (behind-rest p y ys h)
-
-less_T : (o : Ordering) → o ≡ Less → T (is_lt o)
-less_T o e = subst (λ r. T (is_lt r)) (sym e) tt
 
 behind-less : (p q : List Step) (ys : List Row) → path_cmp p q ≡ Less → Behind q ys → Behind p ys
 behind-less p q [] e h = tt

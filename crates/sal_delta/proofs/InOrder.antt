@@ -19,7 +19,7 @@ use Rattle.sal_rows.proofs.Patched.{less}
 use Rattle.sal_delta.specs.declared.ordered.Cells.{Cells}
 use Rattle.sal_delta.specs.Ordered.{marks, marks_of, put_mark, in_order}
 
-abbrev Both : Type 0
+abbrev pub Both : Type 0
 Both = Option Cell × Option Cell
 
 -- what the last of the changes at a path says

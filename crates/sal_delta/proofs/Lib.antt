@@ -2,6 +2,6 @@ mod ByOps
 pub mod Exact
 mod Merges
 mod Nexts
-mod InOrder
+pub mod InOrder
 mod Tops
 mod Walks

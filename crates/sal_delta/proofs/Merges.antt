@@ -11,15 +11,11 @@ use Rattle.sal_types.specs.declared.value.Cell.{Cell}
 use Rattle.sal_types.specs.declared.row.Row.{Row}
 use Rattle.sal_types.specs.Order.{step_cmp, path_cmp, step_cmp-IsTotalOrder, path_cmp-IsTotalOrder}
 use Rattle.sal_types.specs.contracts.value.CellOrd.TheImpl.Laws as cell_ord_laws
-use Rattle.sal_node.specs.Tree.{Tree}
-use Rattle.sal_node.proofs.Entries.{first, second, less}
+use Rattle.sal_node.proofs.Entries.{first, second, less, Entries}
 use Rattle.sal_tree.specs.Rows.{here, below, rows_of}
 use Rattle.sal_rows.specs.declared.change.Change.{Change}
 use Rattle.sal_rows.specs.Changes.{same_cell}
 use Rattle.sal_delta.specs.Merge.{gone, come, met, merge_row, merge, rows_below, from_step}
-
-abbrev Entries : Type 0
-Entries = List (Step × Tree)
 
 -- the first of the rows, if there is one, stands after the row
 abbrev pub HeadAfter : Row → List Row → Type 0

@@ -15,7 +15,7 @@ use Rattle.sal_node.specs.Shape.{tree_at, seen}
 use Rattle.sal_node.specs.declared.node.Child.{Child}
 use Rattle.std.specs.Borrow.{Bor}
 use Rattle.sal_delta.specs.declared.compare.Place.{Place}
-use Rattle.sal_node.proofs.Entries.{first, second, both, below_less, find-front, sorted-front}
+use Rattle.sal_node.proofs.Entries.{first, second, both, below_less, find-front, sorted-front, Entries}
 use Rattle.sal_tree.specs.Grow.{kid, kids_in, IsSound}
 use Rattle.sal_tree.proofs.Laws.{sorted-kids}
 use Rattle.sal_tree.specs.Rows.{below, rows_of}
@@ -23,9 +23,6 @@ use Rattle.sal_rows.specs.declared.change.Change.{Change}
 use Rattle.sal_delta.specs.Merge.{merge, rows_at, rows_below, from_step}
 use Rattle.sal_delta.specs.Spots.{Spot, spots, pair_of, next_of, is_over, noted, AreSpots, AgreeFrom}
 use Rattle.sal_delta.proofs.Merges.{both-front, merge-itself, precede-below}
-
-abbrev Entries : Type 0
-Entries = List (Step × Tree)
 
 -- each entry is the child of the node at its step
 abbrev pub AreKids : Option Tree → Entries → Type 0
@@ -182,10 +179,6 @@ seen-drop cs n = ap seen (take_rest cs n) ∙ by_drop cs n
     by_drop cs zero = refl
     by_drop [] (suc n) = refl
     by_drop (c ∷ cs) (suc n) = by_drop cs n
-
-pub seen-length : (cs : List (Bor Child)) → length (seen cs) ≡ length cs
-seen-length [] = refl
-seen-length (c ∷ cs) = ap suc (seen-length cs)
 
 -- the next step of the comparison
 pub compared-more : (o u : Option Tree) (es fs es' fs' : Entries) (was now : List Spot) (n : ℕ × ℕ) → Comparing o u es fs → noted was ++ merge (rows_below es) (rows_below fs) ≡ merge (rows_below (kids_in o)) (rows_below (kids_in u)) → AreSpots o u was

@@ -1,5 +1,5 @@
 -- The search for conflicts, step by step.
-use Rattle.std.proofs.Common.{◌≡◌, ℕ, zero, suc, ◌+◌, ◌-◌, ◌<◌, ◌≤◌, Bool, true, false, List, [], ◌∷◌, ◌++◌, ◌&&◌, ◌||◌, length, take, drop, get_or, None, Some, refl, ap, sym, ◌∙◌, cond, arith, reverse}
+use Rattle.std.proofs.Common.{◌≡◌, ℕ, zero, suc, ◌+◌, ◌-◌, ◌<◌, ◌≤◌, Bool, List, [], ◌∷◌, ◌++◌, ◌&&◌, ◌||◌, length, take, drop, get_or, None, Some, refl, ap, sym, ◌∙◌, cond, arith, reverse}
 use Rattle.std.specs.Prelude.{is_some, not, find}
 use Rattle.std.specs.Option.{option_or}
 use Rattle.std.proofs.lemmas.List.{take_more, drop_more, get_or_default}
@@ -11,6 +11,7 @@ use Rattle.sal_types.specs.Prefix.{is_prefix}
 use Rattle.sal_rows.specs.declared.op.Op.{Op}
 use Rattle.sal_rows.specs.Apply.{same_store, checks_path}
 use Rattle.sal_rows.specs.Commits.{numbers_after, numbers_in}
+use Rattle.sal_rows.specs.declared.clash.Rules.{Rules}
 use Rattle.sal_rows.specs.declared.clash.Span.{Span}
 use Rattle.sal_rows.specs.PathClash.{is_covered}
 use Rattle.sal_mod.specs.Covers.{covers}
@@ -20,20 +21,17 @@ use Rattle.sal_rows.specs.Clash.{op_clash, clash_from, lost_parent, tip, depths_
 use Rattle.sal_graft.specs.Rows.{lost_depth}
 use Rattle.sal_graft.proofs.Setting.{is_set-last}
 use Rattle.sal_rows.proofs.Numbers.{numbers_over-push, find_part}
+use Rattle.sal_rows.proofs.Rising.{and_assoc}
 
 -- ---- operation by operation
 
 -- what is left of the operations from an index on
-pub clash_from-at : (opening : Store → List Row) (commits : List (List Op)) (base : Store → List Row) (spans : List Span) (ops : List Op) (i : ℕ) (op : Op) → i < length ops → op ≡ get_or ops i op
-    → clash_from opening commits base spans (take i ops) (drop i ops) ≡ option_or (op_clash opening commits base spans (take i ops) op) (clash_from opening commits base spans (take (i + 1) ops) (drop (i + 1) ops))
-clash_from-at opening commits base spans ops i op h at =
+pub clash_from-at : (opening : Store → List Row) (commits : List (List Op)) (rules : Rules) (base : Store → List Row) (spans : List Span) (ops : List Op) (i : ℕ) (op : Op) → i < length ops → op ≡ get_or ops i op
+    → clash_from opening commits rules base spans (take i ops) (drop i ops) ≡ option_or (op_clash opening commits rules base spans (take i ops) op) (clash_from opening commits rules base spans (take (i + 1) ops) (drop (i + 1) ops))
+clash_from-at opening commits rules base spans ops i op h at =
     let front : take (i + 1) ops ≡ take i ops ++ op ∷ [] = take_more ops i op h ∙ ap (λ (o : Op). take i ops ++ o ∷ []) (sym at) in
     let rest : drop i ops ≡ op ∷ drop (i + 1) ops = drop_more ops i op h ∙ ap (λ (o : Op). o ∷ drop (i + 1) ops) (sym at) in
-    ap (clash_from opening commits base spans (take i ops)) rest ∙ ap (λ (done : List Op). option_or (op_clash opening commits base spans (take i ops) op) (clash_from opening commits base spans done (drop (i + 1) ops))) (sym front)
-
-and_assoc : (a b c : Bool) → (a && (b && c)) ≡ ((a && b) && c)
-and_assoc true b c = refl
-and_assoc false b c = refl
+    ap (clash_from opening commits rules base spans (take i ops)) rest ∙ ap (λ (done : List Op). option_or (op_clash opening commits rules base spans (take i ops) op) (clash_from opening commits rules base spans done (drop (i + 1) ops))) (sym front)
 
 -- the two tests for a cover are one
 any_covers : (ops : List Op) (s : Store) (p : List Step) → list_any (covers s p) ops ≡ is_covered ops s p

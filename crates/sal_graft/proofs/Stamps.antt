@@ -20,11 +20,9 @@ use Rattle.sal_tree.specs.declared.commit.Commit.{Commit}
 use Rattle.sal_graft.specs.Kept.{AreKept, IsSpanOf, opening_in, ops_of, tree_in}
 use Rattle.sal_graft.specs.Following.{AreFollowing, filled, stamp_of}
 use Rattle.sal_graft.proofs.Following.{Tells, receipts-rise, stamped-at, tells}
+use Rattle.sal_tree.proofs.Spans.{same_test}
 
 -- ---- one stamp, or two
-
-same_test : (a b : ℕ) → a ≡ b → (a == b) ≡ true
-same_test a b e = grind (arith, nat_tests)
 
 other_test : (a b : ℕ) → a < b → (a == b) ≡ false
 other_test a b e = grind (arith, nat_tests)

@@ -1,6 +1,6 @@
 //! Which later commit a submission clashes with, by the stamps in the trees of the kept commits.
 //!
-//! `conflict` answers the clash of the definitions (`Clash` in `sal_rows`, with both its tests) over the trees of the
+//! `conflict` answers the clash of the definitions (`Clash` in `sal_rows`, with all its tests, by the version rules) over the trees of the
 //! kept commits, which are those that their operations make of the opening (`AreKept`), each made of the one before it: what it
 //! touched has the stamp of its receipt, and every other node stayed (`AreFollowing`). So a path is unchanged over a span exactly
 //! where nothing stands there at either end, or at both ends something with one stamp, and what stands there at the end tells
@@ -11,19 +11,22 @@
 //!
 //! ```
 //! let spans = foreign_spans(alloc, 3, chain, &commits)?;
-//! let found = conflict(&changes, &base, &spans, &commits);
+//! let found = conflict(&changes, &base, &spans, &commits, Rules::One);
 //! ```
 //!
 //! | call | cost |
 //! |---|---|
 //! | `conflict`, for each put or delete that nothing covers | two searches for its path at the ends of each span that has a commit, whatever commits lie between; no memory |
 //! | `conflict`, for each put and merge | one search in the base for each step above its path, and two in the newest tree where that finds a row |
+//! | `conflict` under version rules 2, for each leaf of a merge that nothing covers | one search in the base and one in the newest tree; no memory |
 //! | the commit that a conflict names, where something stands at its path at the end of the span | one search for the path, and one by halves for the receipt |
 //! | the same, where nothing stands there | a look back through the commits of the span, at the operations of each and their rows |
 //! | `foreign_spans` | the list of the spans, and a look at the chain of each commit after the base; of no chain one span, and no look |
 #![tactic(auto)]
 
 mod foreign;
+mod ground;
+mod leafs;
 mod naming;
 mod search;
 mod span;

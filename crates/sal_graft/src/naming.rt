@@ -10,11 +10,10 @@ ghost use Rattle.sal_tree.specs.declared.commit.Commit.{Commit as Kept};
 ghost use Rattle.sal_graft.specs.Following.{AreFollowing};
 ghost use Rattle.sal_graft.specs.Kept.{AreKept, IsSpanOf, opening_in, ops_of, tree_in};
 
-use crate::span::tree_of;
 use crate::standing::node_at;
 use crate::touched::is_touched;
 use sal_rows::Span;
-use sal_tree::Commit;
+use sal_tree::{Commit, tree_of};
 use sal_types::{Step, Store};
 
 /// The last commit in the spans that touched the path.

@@ -4,22 +4,12 @@ ghost use Rattle.sal_rows.specs.Commits as commits_spec;
 ghost use Rattle.sal_rows.specs.Commits.{kind_by};
 ghost use Rattle.sal_types.specs.Tree.{has};
 ghost use Rattle.sal_graft.specs.Following.{AreFollowing};
-ghost use Rattle.sal_graft.specs.Kept.{AreKept, IsSpanOf, opening_in, ops_of, tree_in};
+ghost use Rattle.sal_graft.specs.Kept.{AreKept, IsSpanOf, opening_in, ops_of};
 
 use crate::standing::{is_alike, stands};
 use sal_rows::{ClashKind, Span};
-use sal_tree::{Commit, Pair, Root};
+use sal_tree::{Commit, Root, tree_of};
 use sal_types::{Step, Store};
-
-/// The tree of the store.
-pub(crate) fn tree_of(pair: &Pair, store: Store) -> &Root
-    ensures { result.now ≡ tree_in pair.now store }
-{
-    match store {
-        Store::Config => &pair.config,
-        Store::Oper => &pair.oper,
-    }
-}
 
 /// The first span over which the path is not unchanged.
 pub(crate) fn changed_span(
@@ -73,7 +63,8 @@ pub(crate) fn kind_over(commits: &[Commit], span: Span, store: Store, steps: &[S
     kind_by(was, is)
 }
 
-fn kind_by(was: bool, is: bool) -> ClashKind
+/// How what was there or not, and is there or not, differs.
+pub(crate) fn kind_by(was: bool, is: bool) -> ClashKind
     ensures { result ≡ kind_by was is }
 {
     if !was {

@@ -15,6 +15,7 @@ use Rattle.sal_grouping.specs.Indexes.{with_first}
 use Rattle.sal_grouping.specs.Children.{is_choice, key_of, key_cmp, same_key, has_key, first_with, is_first}
 use Rattle.sal_grouping.proofs.IndexLists.{with_first-miss}
 use Rattle.sal_grouping.proofs.Places.{position_from-take}
+use Rattle.sal_types.proofs.Shared.{got-at}
 
 same_key-IsEquivalence : IsEquivalence same_key
 same_key-IsEquivalence = eq_by_cmp_equiv key_ord_laws.total-law
@@ -88,11 +89,6 @@ pub got-within : {X : Type 0} (xs : List X) (k : ℕ) (x : X) → slice_get xs k
 got-within [] k x e = cc
 got-within (y ∷ xs) zero x e = omega arith
 got-within (y ∷ xs) (suc k) x e = omega (arith, got-within xs k x e)
-
-pub got-at : {X : Type 0} (xs : List X) (k : ℕ) (x : X) → slice_get xs k ≡ Some x → x ≡ get_or xs k x
-got-at [] k x e = cc
-got-at (y ∷ xs) zero x e = cc
-got-at (y ∷ xs) (suc k) x e = got-at xs k x e
 
 module _ (rows : List Row) (forest : List Node) (k : ℕ) (node : Node) (at : slice_get forest k ≡ Some node) where
   one-more : (q : Key) → first_with rows forest q (take (k + 1) forest) ≡ with_first (first_with rows forest q (take k forest)) (has_key rows forest q node) k

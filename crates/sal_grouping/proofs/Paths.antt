@@ -4,9 +4,7 @@ use Rattle.std.proofs.lemmas.Bool.{cases_Bool}
 use Rattle.std.specs.List.{slice_split, position_or_len}
 use Rattle.std.proofs.lemmas.List.Splits.{slice_split_first}
 use Rattle.std.proofs.lemmas.Str.Pattern.{IsSplitOnceResult, split_once_first}
-
-abbrev pub names : List ℕ → List (List ℕ)
-names t = slice_split (λ c. c == 47) t
+pub use Rattle.sal_module.proofs.Paths.{names}
 
 names-last : (t : List ℕ) → length t ≤ position_or_len (λ c. c == 47) t → names t ≡ t ∷ []
 names-last [] h = refl

@@ -1,5 +1,5 @@
 -- Blocks that are gone through, from one statement to the next.
-use Rattle.std.proofs.Common.{◌≡◌, ℕ, zero, suc, ◌+◌, ◌-◌, ◌<◌, ◌≤◌, List, [], ◌∷◌, ◌++◌, drop, Bool, true, false, not, ◌&&◌, get_or, Option, Some, None, unwrap_or, refl, sym, ap, ◌∙◌, arith, append_assoc, append-nil}
+use Rattle.std.proofs.Common.{◌≡◌, ℕ, zero, suc, ◌+◌, ◌-◌, ◌<◌, ◌≤◌, List, [], ◌∷◌, ◌++◌, drop, Bool, true, false, not, get_or, Option, Some, None, unwrap_or, refl, sym, ap, ◌∙◌, arith, append_assoc, append-nil}
 use Rattle.std.specs.List.{flat_map, list_all, slice_get}
 use Rattle.sal_grouping.specs.declared.rows.Row.{Row}
 use Rattle.sal_grouping.specs.declared.nodes.Visit.{Visit}
@@ -8,6 +8,7 @@ use Rattle.sal_grouping.specs.Growth.{is_node, used_by, nodes_at, nodes_within}
 use Rattle.sal_grouping.specs.Plan.{is_bare, AreBare}
 use Rattle.sal_grouping.specs.Visits.{left_of, all_left, steps_at, steps_within, steps_of, all_steps}
 use Rattle.sal_grouping.proofs.IndexLists.{not-true}
+use Rattle.sal_module.proofs.Rounds.{and-true}
 
 -- ---- lists
 
@@ -21,10 +22,6 @@ drop-none [] zero e = refl
 drop-none [] (suc i) e = refl
 drop-none (y ∷ xs) zero e = cc
 drop-none (y ∷ xs) (suc i) e = drop-none xs i e
-
-and-true : (a b : Bool) → (a && b) ≡ true → (a ≡ true) × (b ≡ true)
-and-true true b h = (refl, h)
-and-true false b h = absurd (let no : false ≡ true = h in cc)
 
 none-map : (f : ℕ → List ℕ) (p : ℕ → Bool) → ((k : ℕ) → p k ≡ true → f k ≡ []) → (xs : List ℕ) → list_all p xs ≡ true → flat_map f xs ≡ []
 none-map f p each [] all = refl

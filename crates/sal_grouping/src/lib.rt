@@ -52,6 +52,7 @@ mod versions;
 mod whole;
 
 pub use forest::{Branch, Forest, Implied};
+pub use look_up::local_name;
 pub use node::Node;
 pub use reach::{ranking, reaches};
 pub use versions::{Growth, first_growth, next_growth};

@@ -27,7 +27,7 @@ pub(crate) fn module_of(modules: &Modules, number: u32, text: &str) -> Option<u3
 }
 
 /// A name without its prefix.
-pub(crate) fn local_name<'s>(text: &'s str) -> &'s str
+pub fn local_name<'s>(text: &'s str) -> &'s str
     ensures { result.now ≡ spec.local_name text.now }
 {
     match text.split_once(':') {

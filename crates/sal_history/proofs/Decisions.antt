@@ -1,8 +1,8 @@
 -- What one decision tells: the commit and the path that a conflict names, and that nothing is broken where it is done.
-use Rattle.std.proofs.Common.{◌≡◌, ℕ, zero, suc, Bool, true, false, ◌+◌, ◌-◌, ◌≤◌, List, [], ◌∷◌, ◌++◌, length, take, drop, Option, None, Some, refl, ap, sym, ◌∙◌, subst, arith}
+use Rattle.std.proofs.Common.{◌≡◌, ◌⊎◌, inl, inr, ℕ, zero, suc, Bool, true, false, ◌+◌, ◌-◌, ◌≤◌, List, [], ◌∷◌, ◌++◌, length, take, drop, Option, None, Some, refl, ap, sym, ◌∙◌, subst, arith}
 use Rattle.std.specs.Prelude.{Any, IsTrue, slice_get, unwrap_or, option_and_then}
-use Rattle.std.specs.Option.{option_or, option_map}
-use Rattle.std.proofs.lemmas.List.{length-map, take-append-drop}
+use Rattle.std.specs.Option.{option_or, option_map, option_map_or}
+use Rattle.std.proofs.lemmas.List.{length-map, take-append-drop, take_all}
 use Rattle.std.proofs.lemmas.List.Sums.{fold-append}
 use Rattle.sal_types.specs.declared.value.Store.{Store}
 use Rattle.sal_types.specs.declared.value.Store.TheVariants.{Config, Oper}
@@ -16,7 +16,7 @@ use Rattle.sal_rows.specs.declared.outcome.Breach.{Breach}
 use Rattle.sal_rows.specs.declared.outcome.ClashKind.{ClashKind}
 use Rattle.sal_rows.specs.declared.outcome.Outcome.{Outcome}
 use Rattle.sal_rows.specs.declared.outcome.Outcome.TheVariants.{ChainFailed as FailedBy, Conflict, Done, Invalid, Unmounted}
-use Rattle.sal_rows.specs.Apply.{apply_ops}
+use Rattle.sal_rows.specs.Apply.{apply_ops, rows_of_act}
 use Rattle.sal_rows.specs.Commits.{next_tree, touches_at, tree_after, tree_at}
 use Rattle.sal_rows.specs.Quiet.{AreSpans, with_own}
 use Rattle.sal_rows.specs.Spans.{own_commits, spans}
@@ -25,14 +25,15 @@ use Rattle.sal_rows.specs.PathClash.{Difference as Found, IsNamedIn}
 use Rattle.sal_schema.specs.declared.table.SchemaTable.{SchemaTable}
 use Rattle.sal_rules.specs.Breaches.{breach}
 use Rattle.sal_rows.specs.declared.clash.Clash.{Clash}
-use Rattle.sal_rows.specs.Clash.{clash, tip}
+use Rattle.sal_rows.specs.declared.clash.Rules.{Rules}
+use Rattle.sal_rows.specs.Clash.{clash, is_leaf, path_by, tip}
 use Rattle.sal_rows.specs.Named as naming
 use Rattle.sal_rows.proofs.Named.{IsWithin, names_within}
 use Rattle.sal_history.specs.Outcome.{conflict_of}
 use Rattle.sal_history.specs.Submissions.{Base, Sent, done, done_chains, done_ops, failing}
-use Rattle.sal_history.specs.World.{Domain, opening_of}
+use Rattle.sal_history.specs.World.{Domain, opening_of, rules_of}
 use Rattle.sal_history.specs.History.{outcome, unmounted_of}
-use Rattle.sal_history.specs.Laws.{ConflictsNameALaterCommit, DoneLeavesNoBreach, IsLaterTouch, IsOwnPlace, own_tree}
+use Rattle.sal_history.specs.Laws.{ConflictsNameALaterCommit, DoneLeavesNoBreach, IsLaterTouch, IsOwnLeaf, IsOwnPlace, own_tree}
 use Rattle.sal_history.proofs.Spans.{are, first, lies, rest, split}
 
 -- what holds of an element of a list holds of some element
@@ -45,12 +46,22 @@ any_get P (y ∷ xs) (suc i) x e p = let rest = any_get P xs i x e p in (suc res
 prefix-take : (n : ℕ) (p : List Step) → is_prefix (take n p) p ≡ true
 prefix-take n p = ap (is_prefix (take n p)) (sym (take-append-drop n p)) ∙ is_prefix-append (take n p) (drop n p)
 
+-- where a conflict is placed is the operation's own path, above it, or a leaf that it merges
+own_place : (rules : Rules) (op : Op) (depth : ℕ) (row : Option ℕ) (path : List Step) → naming.IsPlaced rules op depth row → take depth (path_by op row) ≡ path → IsTrue (is_prefix path op.path) ⊎ IsOwnLeaf rules op path
+own_place rules op depth None path placed at = inl (subst (λ (q : List Step). is_prefix q op.path ≡ true) at (prefix-take depth op.path))
+own_place rules op depth (Some i) path placed at =
+    let (row, there, leaf, whole) = placed.1 in
+    let here : path_by op (Some i) ≡ row.path = ap (λ (o : Option Row). option_map_or (λ (r : Row). r.path) o op.path) there in
+    let all : take depth row.path ≡ row.path = take_all depth row.path (omega (arith, whole)) in
+    let same : row.path ≡ path = sym all ∙ ap (take depth) (sym here) ∙ at in
+    inr (placed.0, any_get (λ (r : Row). (r.path ≡ path) × (is_leaf r.cell ≡ true)) (rows_of_act op.act) i row there (same, leaf))
+
 -- ---- the three parts of a decision
 
 abbrev broken_in : Store → Option Breach → Option Outcome
 broken_in s b = option_map (λ (x : Breach). Invalid s x.path x.rule) b
 
-abbrev clashing : List Op → Option Clash → Option Outcome
+abbrev pub clashing : List Op → Option Clash → Option Outcome
 clashing ops o = option_and_then (λ c. option_map (conflict_of c) (slice_get ops c.op)) o
 
 abbrev decided : Option Outcome → Option Breach → Option Breach → ℕ → Outcome
@@ -109,6 +120,9 @@ module _ (world : List Domain) (tables : ℕ → SchemaTable) (live : ℕ → Bo
   abbrev own : List ℕ
   own = own_commits s.base.commit s.base.chain chains
 
+  abbrev rules : Rules
+  rules = rules_of world domain
+
   abbrev pieces : List Span
   pieces = spans s.base.commit s.base.chain chains
 
@@ -123,7 +137,7 @@ module _ (world : List Domain) (tables : ℕ → SchemaTable) (live : ℕ → Bo
   as_many = length-map (done domain ss os) (λ x. x.base.chain) ∙ sym (length-map (done domain ss os) (λ x. x.ops))
 
   pub named_within : (store : Store) (path : List Step) (kind : ClashKind) (commit : ℕ) → s.base.commit ≤ length commits → IsWithinOwn world ss os s.base → outcome world tables live ss os s ≡ Conflict store path kind commit
-      → IsLaterTouch world ss os s store path commit × IsOwnPlace s store path
+      → IsLaterTouch world ss os s store path commit × IsOwnPlace rules s store path
   named_within store path kind commit base_le within all =
       let a = s.base.commit in
       let t = length chains in
@@ -135,35 +149,35 @@ module _ (world : List Domain) (tables : ℕ → SchemaTable) (live : ℕ → Bo
       let spanned : AreSpans (length commits) head tail = subst (λ n. AreSpans n head tail) as_many (are s.base.chain chains (t - a) a a t (omega arith) ends) in
       let agrees : IsWithin s.base.trees (λ u. with_own commits u (tree_at opening commits u a) tail) = λ u q there.
       within u q there ∙ ap (λ (l : List Span). cell (with_own commits u (tree_at opening commits u a) (drop 1 l)) q) parts in
-      elim (clash opening commits s.base.trees pieces s.ops) as (λ (o : Option Clash). clash opening commits s.base.trees pieces s.ops ≡ o → decision o ≡ Conflict store path kind commit
-      → IsLaterTouch world ss os s store path commit × IsOwnPlace s store path) [
+      elim (clash opening commits rules s.base.trees pieces s.ops) as (λ (o : Option Clash). clash opening commits rules s.base.trees pieces s.ops ≡ o → decision o ≡ Conflict store path kind commit
+      → IsLaterTouch world ss os s store path commit × IsOwnPlace rules s store path) [
         | None ↦ λ e h. absurd (no_conflict (broken Config) (broken Oper) (length commits + 1) store path kind commit h)
         | Some c ↦ λ e h.
-            let found = names_within opening commits s.base.trees head tail s.ops c spanned agrees (ap (λ (l : List Span). clash opening commits s.base.trees l s.ops) (sym parts) ∙ e) in
+            let found = names_within opening commits rules s.base.trees head tail s.ops c spanned agrees (ap (λ (l : List Span). clash opening commits rules s.base.trees l s.ops) (sym parts) ∙ e) in
             let op : Op = found.0 in
             let is : conflict_of c op ≡ Conflict store path kind commit =
             sym (ap (λ (x : Option Op). decided (option_map (conflict_of c) x) (broken Config) (broken Oper) (length commits + 1)) found.1) ∙ h in
             let at_store : op.store ≡ store = cc in
-            let at_path : take c.depth op.path ≡ path = cc in
+            let at_path : take c.depth (path_by op c.row) ≡ path = cc in
             let at_commit : c.commit ≡ commit = cc in
             let same : naming.place_of op c ≡ record { store = store; path = path; kind = c.kind; commit = commit } =
             λ i. record { store = at_store i; path = at_path i; kind = c.kind; commit = at_commit i } in
             let here : Any (IsNamedIn opening commits (record { store = store; path = path; kind = c.kind; commit = commit })) (head ∷ tail) =
             subst (λ (d : Found). Any (IsNamedIn opening commits d) (head ∷ tail)) same found.3 in
             let lying = lies s.base.chain chains (IsTrue (touches_at opening commits store path commit)) commit (t - a) a a t (omega arith) ends (λ j low high. absurd (omega (arith, low, high))) here in
-            let above : is_prefix path op.path ≡ true = subst (λ (q : List Step). is_prefix q op.path ≡ true) at_path (prefix-take c.depth op.path) in (
+            let own : IsTrue (is_prefix path op.path) ⊎ IsOwnLeaf rules op path = own_place rules op c.depth c.row path found.2 at_path in (
               (lying.0, omega (arith, lying.1, as_many), lying.2, lying.3),
-              any_get (λ (x : Op). (x.store ≡ store) × IsTrue (is_prefix path x.path)) s.ops c.op op found.1 (at_store, above),
+              any_get (λ (x : Op). (x.store ≡ store) × (IsTrue (is_prefix path x.path) ⊎ IsOwnLeaf rules x path)) s.ops c.op op found.1 (at_store, own),
             )
-      ] refl (went (failing s.base.chain ss os) (live domain) domain (decision (clash opening commits s.base.trees pieces s.ops)) (Conflict store path kind commit) all (λ n e. cc) (λ n e. cc)).1
+      ] refl (went (failing s.base.chain ss os) (live domain) domain (decision (clash opening commits rules s.base.trees pieces s.ops)) (Conflict store path kind commit) all (λ n e. cc) (λ n e. cc)).1
 
   -- a submission is decided, in itself, only while its chain has not failed and its domain is live
   abbrev here : Outcome
-  here = decision (clash opening commits s.base.trees pieces s.ops)
+  here = decision (clash opening commits rules s.base.trees pieces s.ops)
 
   when_done : (commit : ℕ) → outcome world tables live ss os s ≡ Done commit → (broken Config ≡ None) × (broken Oper ≡ None) × (commit ≡ length commits + 1)
   when_done commit all =
-      none_broken s.ops (clash opening commits s.base.trees pieces s.ops) (broken Config) (broken Oper) (length commits + 1) commit (went (failing s.base.chain ss os) (live domain) domain here (Done commit) all (λ n e. cc) (λ n e. cc)).1
+      none_broken s.ops (clash opening commits rules s.base.trees pieces s.ops) (broken Config) (broken Oper) (length commits + 1) commit (went (failing s.base.chain ss os) (live domain) domain here (Done commit) all (λ n e. cc) (λ n e. cc)).1
 
   pub unbroken : (commit : ℕ) (store : Store) → outcome world tables live ss os s ≡ Done commit → breach (tables domain) store (tree_after store (opening store) (commits ++ s.ops ∷ [])) ≡ None
   unbroken commit store all =

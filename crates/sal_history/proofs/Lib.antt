@@ -1,5 +1,5 @@
 mod Bases
-mod Decisions
+pub mod Decisions
 mod Logs
 mod Noted
 mod Numbers
@@ -7,6 +7,6 @@ mod Placed
 mod Receipts
 mod Routed
 mod Spans
-mod Unbroken
+pub mod Unbroken
 pub mod Versions
-mod Waiting
+pub mod Waiting

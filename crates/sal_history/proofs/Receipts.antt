@@ -18,7 +18,7 @@ use Rattle.sal_rows.specs.declared.outcome.Outcome.TheVariants.{Conflict, Done}
 use Rattle.sal_rows.specs.Commits.{touches_at}
 use Rattle.sal_rows.specs.Spans.{is_of_chain, is_own}
 use Rattle.sal_schema.specs.declared.table.SchemaTable.{SchemaTable}
-use Rattle.sal_history.specs.World.{Domain, opening_of}
+use Rattle.sal_history.specs.World.{Domain, opening_of, rules_of}
 use Rattle.sal_history.specs.Submissions.{Base, Sent, done, failing, if_done, is_done, is_in}
 use Rattle.sal_history.specs.History.{decide_front, decide_next, nowhere, outcome}
 use Rattle.sal_history.specs.Laws.{IsBase, IsLaterTouch, IsOwnPlace}
@@ -50,10 +50,10 @@ Stands world ss os before b = failing b.chain ss os ≡ None → StandsOn world 
 abbrev IsNamedOver : List Domain → List Sent → Sent → Store → List Step → ℕ → Type 0
 IsNamedOver world ds s store path commit =
     ((s.base.commit < commit) × (commit ≤ length (ops_in ds)) × (touches_at (opening_of world s.base.domain) (ops_in ds) store path commit ≡ true) × (is_own s.base.chain (chains_in ds) commit ≡ false))
-    × IsOwnPlace s store path
+    × IsOwnPlace (rules_of world s.base.domain) s store path
 
 abbrev pub IsNamed : List Domain → List Sent → List Outcome → Sent → Store → List Step → ℕ → Type 0
-IsNamed world ss os s store path commit = IsLaterTouch world ss os s store path commit × IsOwnPlace s store path
+IsNamed world ss os s store path commit = IsLaterTouch world ss os s store path commit × IsOwnPlace (rules_of world s.base.domain) s store path
 
 -- of the submissions and the outcomes, with the bases of the open transactions
 pub record Known (world : List Domain) (IsOpen : Base → Type 0) (ss : List Sent) (os : List Outcome) : Type 0 where

@@ -31,7 +31,7 @@ use Rattle.sal_history.proofs.Placed.{are_answered, take_next}
 use Rattle.sal_history.proofs.Versions.{IsGoodUpgrade, good-upgrade, one-table, schema_version-next, tables-same}
 use Rattle.sal_history.proofs.Waiting.{done-more, done-next}
 
-done_is : (o : Outcome) → is_done o ≡ true → (n : ℕ) × (o ≡ Done n)
+pub done_is : (o : Outcome) → is_done o ≡ true → (n : ℕ) × (o ≡ Done n)
 done_is (Done n) e = (n, refl)
 done_is (Conflict store path kind commit) e = cc
 done_is (Invalid store path rule) e = cc

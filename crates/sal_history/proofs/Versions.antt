@@ -25,6 +25,7 @@ use Rattle.sal_history.specs.declared.reply.Reply.TheVariants.{Accepted}
 use Rattle.sal_history.specs.History.{fault_if, refused_or, reply_to, trees_of, upgrade_refusal}
 use Rattle.sal_history.specs.Versions.{breach_in, broken_by, is_upgrade, schema_version, tables_now, upgraded, version_at}
 use Rattle.sal_history.specs.World.{Domain, IsChain, last_of, table_of, version_from, version_in}
+use Rattle.sal_types.proofs.Shared.{not_false}
 
 -- ---- the tables of a chain of versions
 
@@ -131,10 +132,6 @@ fault_none false fault e = refl
 map_none : {X Y : Type 0} (f : X → Y) (o : Option X) → option_map f o ≡ None → o ≡ None
 map_none f None e = refl
 map_none f (Some x) e = cc
-
-not_false : (b : Bool) → not b ≡ false → b ≡ true
-not_false true e = refl
-not_false false e = cc
 
 -- where nothing is broken by a table, no tree has a breach
 pub none-broken : (table : SchemaTable) (trees : Store → List Row) (s : Store) → broken_by table trees ≡ None → breach table s (trees s) ≡ None

@@ -19,7 +19,7 @@ waiting chain (s ∷ ss) (o ∷ os) = waiting chain ss os
 abbrev pub added : ℕ → Sent → Outcome → List Sent
 added domain s o = if nat_eq s.base.domain domain then if_done o s else []
 
-done_none : (domain : ℕ) (ss : List Sent) → done domain ss [] ≡ []
+pub done_none : (domain : ℕ) (ss : List Sent) → done domain ss [] ≡ []
 done_none domain [] = refl
 done_none domain (s ∷ ss) = refl
 

@@ -3,10 +3,12 @@ use Rattle.std.specs.Prelude.{ℕ, true, false, List, [], ◌∷◌, ◌++◌, S
 use Rattle.sal_types.specs.declared.value.Step.{Step}
 use Rattle.sal_types.specs.declared.value.Step.TheVariants.{Node, Key, Item}
 use Rattle.sal_types.specs.declared.row.Row.{Row}
+use Rattle.sal_rows.specs.declared.clash.Rules.TheVariants.{One}
 use Rattle.sal_schema.specs.declared.kind.Kind.TheVariants.{Container, List as Entries, LeafList, Leaf as Scalar}
 use Rattle.sal_schema.specs.declared.table.SchemaTable.{SchemaTable}
 use Rattle.sal_rules.specs.Examples.{info, node, table, number, mark, held}
 use Rattle.sal_history.specs.World.{Domain}
+pub use Rattle.sal_rows.specs.Examples.{depot, name}
 
 -- The depot (0) with its name (1) and its items (2), each with an id (3), a code (4) that no other has, and a note (5);
 -- and a `config false` container (6) with at most two entries seen (7).
@@ -24,13 +26,7 @@ depots = table (
 
 -- a world of one domain with these rows in its configuration
 abbrev pub stocked : List Row → List Domain
-stocked rows = record { table = depots; upgrades = []; opening = record { config = rows; oper = [] } } ∷ []
-
-abbrev pub depot : List Step
-depot = Node 0 ∷ []
-
-abbrev pub name : List Step
-name = Node 0 ∷ Node 1 ∷ []
+stocked rows = record { table = depots; upgrades = []; opening = record { config = rows; oper = [] }; rules = One } ∷ []
 
 -- the list of the items, and one item of it
 abbrev pub items : List Step

@@ -1,12 +1,11 @@
 -- Worked examples: clients and their calls; the leafs a and b of a container box, and the operations on them.
-use Rattle.std.specs.Prelude.{ℕ, false, List, [], ◌∷◌, codes, map, Some, None}
+use Rattle.std.specs.Prelude.{ℕ, false, List, [], ◌∷◌, map, Some, None}
 use Prim.Native.String.{String}
 use Rattle.sal_types.specs.declared.value.Store.TheVariants.{Config, Oper}
-use Rattle.sal_types.specs.declared.value.Atom.TheVariants.{Text}
 use Rattle.sal_types.specs.declared.value.Step.{Step}
 use Rattle.sal_types.specs.declared.value.Step.TheVariants.{Node}
-use Rattle.sal_types.specs.declared.value.Cell.TheVariants.{Leaf}
 use Rattle.sal_types.specs.declared.row.Row.{Row}
+use Rattle.sal_rows.specs.declared.clash.Rules.TheVariants.{One, Two}
 use Rattle.sal_rows.specs.declared.op.Op.{Op}
 use Rattle.sal_rows.specs.declared.op.Act.TheVariants.{Put, Merge, Delete}
 use Rattle.sal_rows.specs.declared.outcome.Mode.TheVariants.{Ro, Rw}
@@ -20,6 +19,7 @@ use Rattle.sal_history.specs.declared.call.Entry.{Entry}
 use Rattle.sal_history.specs.declared.reply.Reply.{Reply}
 use Rattle.sal_history.specs.History.{history, outcomes}
 use Rattle.sal_history.specs.World.{Domain}
+pub use Rattle.sal_rows.specs.Examples.{leaf}
 
 -- ---- boxes
 
@@ -36,16 +36,16 @@ a = Node 0 ∷ Node 1 ∷ []
 abbrev pub b : List Step
 b = Node 0 ∷ Node 2 ∷ []
 
--- a leaf's row with a text
-abbrev pub leaf : List Step → String → Row
-leaf path text = record { path = path; cell = Leaf (record { member = 0; atom = Text (codes text) }) }
-
 -- a world of one domain with these rows in its configuration, or in its operational tree
 abbrev pub opened : List Row → List Domain
-opened rows = record { table = boxes; upgrades = []; opening = record { config = rows; oper = [] } } ∷ []
+opened rows = record { table = boxes; upgrades = []; opening = record { config = rows; oper = [] }; rules = One } ∷ []
+
+-- the same under version rules 2
+abbrev pub ruled : List Row → List Domain
+ruled rows = record { table = boxes; upgrades = []; opening = record { config = rows; oper = [] }; rules = Two } ∷ []
 
 abbrev pub opened_oper : List Row → List Domain
-opened_oper rows = record { table = boxes; upgrades = []; opening = record { config = []; oper = rows } } ∷ []
+opened_oper rows = record { table = boxes; upgrades = []; opening = record { config = []; oper = rows }; rules = One } ∷ []
 
 -- ---- operations
 

@@ -31,7 +31,7 @@ use Rattle.sal_mount.specs.declared.call.MountCall.TheVariants as mount_calls
 use Rattle.sal_history.specs.Services.{by_mounts, by_notes, by_router, is_live_among, rpc_of, rpc_reply}
 use Rattle.sal_history.specs.Submissions.{Base, Sent, done_chains, done_ops, failing, last_from, pending_receipt, view_of}
 use Rattle.sal_history.specs.Versions.{broken_by, schema_version, tables_now}
-use Rattle.sal_history.specs.World.{Domain, last_of, opening_of, table_of}
+use Rattle.sal_history.specs.World.{Domain, last_of, opening_of, rules_of, table_of}
 
 -- the submissions, by receipt from 1 on
 abbrev pub sents : List Answered → List Sent
@@ -207,12 +207,12 @@ module _ (world : List Domain) where
   taken answered id = option_map_or (batch_of answered id) (listener_at answered id) (Refused (NoListener id))
 
   -- The outcome of a submission, decided after these outcomes by these tables, while these domains are live. Where a smaller receipt of its chain
-  -- was not done, that one is named; else where its domain is not live any more, that domain. Else it is decided over the commits
-  -- of its domain; those after its base that are not of its chain are foreign.
+  -- was not done, that one is named; else where its domain is not live any more, that domain. Else it is decided by the rules
+  -- of its domain over the commits of this; those after its base that are not of its chain are foreign.
   abbrev pub outcome : (ℕ → SchemaTable) → (ℕ → Bool) → List Sent → List Outcome → Sent → Outcome
   outcome tables live ss os s =
       unwrap_or (option_or (option_map FailedBy (failing s.base.chain ss os)) (unmounted_of (live s.base.domain) s.base.domain))
-      (decide (tables s.base.domain) (opening_of world s.base.domain) (done_ops s.base.domain ss os) s.base.trees
+      (decide (tables s.base.domain) (opening_of world s.base.domain) (done_ops s.base.domain ss os) (rules_of world s.base.domain) s.base.trees
       (spans s.base.commit s.base.chain (done_chains s.base.domain ss os)) s.ops)
 
   -- the outcome of the front of what is pending, after these outcomes

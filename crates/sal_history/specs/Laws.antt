@@ -1,10 +1,13 @@
 -- What a conflict names, what a submission that is done leaves, and what a chain is spared.
-use Rattle.std.specs.Prelude.{◌≡◌, ℕ, Bool, false, [], ◌∷◌, ◌++◌, ◌<◌, ◌≤◌, List, length, take, drop, Some, None, Any, IsTrue, slice_get}
+use Rattle.std.specs.Prelude.{◌≡◌, ◌⊎◌, ℕ, Bool, true, false, [], ◌∷◌, ◌++◌, ◌<◌, ◌≤◌, List, length, take, drop, Some, None, Any, IsTrue, slice_get}
 use Rattle.sal_types.specs.declared.value.Store.{Store}
 use Rattle.sal_types.specs.declared.value.Step.{Step}
 use Rattle.sal_types.specs.declared.row.Row.{Row}
 use Rattle.sal_types.specs.Prefix.{is_prefix}
+use Rattle.sal_rows.specs.declared.clash.Rules.{Rules}
 use Rattle.sal_rows.specs.declared.op.Op.{Op}
+use Rattle.sal_rows.specs.Apply.{rows_of_act}
+use Rattle.sal_rows.specs.Clash.{checks_leafs, is_leaf}
 use Rattle.sal_rows.specs.declared.outcome.ClashKind.{ClashKind}
 use Rattle.sal_rows.specs.declared.outcome.Outcome.{Outcome}
 use Rattle.sal_rows.specs.declared.outcome.Outcome.TheVariants.{Conflict, Done}
@@ -13,7 +16,7 @@ use Rattle.sal_rows.specs.Spans.{is_own, spans}
 use Rattle.sal_rows.specs.Quiet.{with_own}
 use Rattle.sal_schema.specs.declared.table.SchemaTable.{SchemaTable}
 use Rattle.sal_rules.specs.Breaches.{breach}
-use Rattle.sal_history.specs.World.{Domain, opening_of}
+use Rattle.sal_history.specs.World.{Domain, opening_of, rules_of}
 use Rattle.sal_history.specs.declared.call.Entry.{Entry}
 use Rattle.sal_history.specs.Submissions.{Base, Sent, done_chains, done_ops}
 use Rattle.sal_history.specs.History.{history, outcome, outcomes, sents}
@@ -37,24 +40,30 @@ IsLaterTouch world ss os s store path commit =
     × IsTrue (touches_at (opening_of world s.base.domain) (done_ops s.base.domain ss os) store path commit)
     × (is_own s.base.chain (done_chains s.base.domain ss os) commit ≡ false)
 
--- the path is one of the submission's operations, in that store, or stands above one
-abbrev pub IsOwnPlace : Sent → Store → List Step → Type 0
-IsOwnPlace s store path = Any (λ (op : Op). (op.store ≡ store) × IsTrue (is_prefix path op.path)) s.ops
+-- the path is that of a leaf that a merge names, which version rules 2 look at
+abbrev pub IsOwnLeaf : Rules → Op → List Step → Type 0
+IsOwnLeaf rules op path = (checks_leafs rules op.act ≡ true) × Any (λ (row : Row). (row.path ≡ path) × (is_leaf row.cell ≡ true)) (rows_of_act op.act)
+
+-- the path is one of the submission's operations, in that store, or stands above one; or it is that of a leaf that one of them merges,
+-- under version rules 2
+abbrev pub IsOwnPlace : Rules → Sent → Store → List Step → Type 0
+IsOwnPlace rules s store path = Any (λ (op : Op). (op.store ≡ store) × (IsTrue (is_prefix path op.path) ⊎ IsOwnLeaf rules op path)) s.ops
 
 -- A submission with such a base, decided after these outcomes as a conflict, names such a commit and such a path.
 abbrev pub ConflictsNameALaterCommit : Type 0
 ConflictsNameALaterCommit =
     (world : List Domain) (tables : ℕ → SchemaTable) (live : ℕ → Bool) (ss : List Sent) (os : List Outcome) (s : Sent) (store : Store) (path : List Step) (kind : ClashKind) (commit : ℕ)
     → IsBase world ss os s.base → outcome world tables live ss os s ≡ Conflict store path kind commit
-    → IsLaterTouch world ss os s store path commit × IsOwnPlace s store path
+    → IsLaterTouch world ss os s store path commit × IsOwnPlace (rules_of world s.base.domain) s store path
 
 -- Each receipt of a log that was decided as a conflict names a commit that was done before it, came after the base of its
--- transaction, touched the path, and is not of its chain; and the path is at or above one of its operations.
+-- transaction, touched the path, and is not of its chain; and the path is at or above one of its operations, or under version rules 2
+-- that of a leaf that it merges.
 abbrev pub ConflictsOfALogNameALaterCommit : Type 0
 ConflictsOfALogNameALaterCommit =
     (world : List Domain) (log : List Entry) (i : ℕ) (s : Sent) (store : Store) (path : List Step) (kind : ClashKind) (commit : ℕ)
     → slice_get (sents (history world log)) i ≡ Some s → slice_get (outcomes (history world log)) i ≡ Some (Conflict store path kind commit)
-    → IsLaterTouch world (sents (history world log)) (take i (outcomes (history world log))) s store path commit × IsOwnPlace s store path
+    → IsLaterTouch world (sents (history world log)) (take i (outcomes (history world log))) s store path commit × IsOwnPlace (rules_of world s.base.domain) s store path
 
 -- A submission that is done after these outcomes leaves trees without a breach by the table by which it was decided, in both stores.
 abbrev pub DoneLeavesNoBreach : Type 0

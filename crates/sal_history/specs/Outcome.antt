@@ -1,4 +1,4 @@
--- How a submission is decided at its domain's newest commit: the first that applies of a conflict, a breach of the
+-- How a submission is decided at its domain's newest commit: the first that applies of a conflict by the domain's version rules, a breach of the
 -- configuration, a breach of the operational tree, and done. The steps are those of canCommit, preCommit and commit of
 -- the MD-SAL developer guide's three-phase commit.
 use Rattle.std.specs.Prelude.{◌+◌, List, length, take, Option, slice_get, unwrap_or, option_and_then}
@@ -14,23 +14,24 @@ use Rattle.sal_rows.specs.declared.clash.Span.{Span}
 use Rattle.sal_schema.specs.declared.table.SchemaTable.{SchemaTable}
 use Rattle.sal_rules.specs.Breaches.{breach}
 use Rattle.sal_rows.specs.declared.clash.Clash.{Clash}
-use Rattle.sal_rows.specs.Clash.{clash, tip}
+use Rattle.sal_rows.specs.declared.clash.Rules.{Rules}
+use Rattle.sal_rows.specs.Clash.{clash, path_by, tip}
 
 -- a clash of the operation, named by its store and its place
 abbrev pub conflict_of : Clash → Op → Outcome
-conflict_of c op = Conflict op.store (take c.depth op.path) c.kind c.commit
+conflict_of c op = Conflict op.store (take c.depth (path_by op c.row)) c.kind c.commit
 
 -- the domain's schema, its opening trees and the commits so far
 module _ (table : SchemaTable) (opening : Store → List Row) (commits : List (List Op)) where
   -- the first clash of the operations with the foreign commits, which lie in the spans
-  abbrev pub conflict : (Store → List Row) → List Span → List Op → Option Outcome
-  conflict base spans ops = option_and_then (λ c. option_map (conflict_of c) (slice_get ops c.op)) (clash opening commits base spans ops)
+  abbrev pub conflict : Rules → (Store → List Row) → List Span → List Op → Option Outcome
+  conflict rules base spans ops = option_and_then (λ c. option_map (conflict_of c) (slice_get ops c.op)) (clash opening commits rules base spans ops)
 
   -- the store after the operations would break a structural rule
   abbrev pub invalid : Store → List Op → Option Outcome
   invalid s ops = option_map (λ b. Invalid s b.path b.rule) (breach table s (apply_ops (tip opening commits s) s ops))
 
   -- the outcome of operations over base trees; both stores change together, as the next commit
-  abbrev pub decide : (Store → List Row) → List Span → List Op → Outcome
-  decide base spans ops =
-      unwrap_or (option_or (conflict base spans ops) (option_or (invalid Config ops) (invalid Oper ops))) (Done (length commits + 1))
+  abbrev pub decide : Rules → (Store → List Row) → List Span → List Op → Outcome
+  decide rules base spans ops =
+      unwrap_or (option_or (conflict rules base spans ops) (option_or (invalid Config ops) (invalid Oper ops))) (Done (length commits + 1))

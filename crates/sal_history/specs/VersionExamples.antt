@@ -3,6 +3,7 @@ use Rattle.std.specs.Prelude.{true, List, [], ◌∷◌, ◌++◌, Some, None}
 use Rattle.sal_types.specs.declared.value.Step.{Step}
 use Rattle.sal_types.specs.declared.value.Step.TheVariants.{Node}
 use Rattle.sal_types.specs.declared.row.Row.{Row}
+use Rattle.sal_rows.specs.declared.clash.Rules.TheVariants.{One}
 use Rattle.sal_rows.specs.declared.op.Op.{Op}
 use Rattle.sal_rows.specs.declared.outcome.Mode.TheVariants.{Rw}
 use Rattle.sal_schema.specs.declared.kind.Kind.TheVariants.{Container, Leaf as Scalar}
@@ -26,11 +27,11 @@ noted = table (node None (Container true) ∷ node (Some 0) Scalar ∷ mandatory
 
 -- a world of one domain with these versions, and these rows in its configuration and its operational tree
 abbrev pub upgradable : List Row → List Row → List Domain
-upgradable config oper = record { table = plain; upgrades = owned ∷ noted ∷ []; opening = record { config = config; oper = oper } } ∷ []
+upgradable config oper = record { table = plain; upgrades = owned ∷ noted ∷ []; opening = record { config = config; oper = oper }; rules = One } ∷ []
 
 -- and a device of one version
 abbrev pub with_device : List Domain
-with_device = upgradable [] [] ++ record { table = plain; upgrades = []; opening = record { config = []; oper = [] } } ∷ []
+with_device = upgradable [] [] ++ record { table = plain; upgrades = []; opening = record { config = []; oper = [] }; rules = One } ∷ []
 
 abbrev pub owner : List Step
 owner = Node 0 ∷ Node 2 ∷ []

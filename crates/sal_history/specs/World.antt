@@ -1,18 +1,22 @@
--- The world: the domains, each with the tables of its schema's versions and its opening trees. Domain 0 is the controller's own.
+-- The world: the domains, each with the tables of its schema's versions, its opening trees and its version rules. Domain 0 is the
+-- controller's own.
 use Rattle.std.specs.Prelude.{◌≡◌, ℕ, zero, suc, List, [], ◌∷◌, length, Option, None, Some, slice_get}
 use Rattle.sal_types.specs.declared.value.Store.{Store}
 use Rattle.sal_types.specs.declared.value.Store.TheVariants.{Config, Oper}
 use Rattle.sal_types.specs.declared.row.Row.{Row}
+use Rattle.sal_rows.specs.declared.clash.Rules.{Rules}
+use Rattle.sal_rows.specs.declared.clash.Rules.TheVariants.{One}
 use Rattle.sal_schema.specs.declared.table.SchemaTable.{SchemaTable}
 use Rattle.sal_schema.specs.Versions.{Extends}
 use Rattle.sal_history.specs.declared.opening.Opening.{Opening}
 
--- A domain: the table of version 0 of its schema, those of the versions after it, and its opening trees, which are read by version 0.
--- Domain 0 alone may have more than one version.
+-- A domain: the table of version 0 of its schema, those of the versions after it, its opening trees, which are read by version 0, and
+-- the version rules by which its submissions are decided. Domain 0 alone may have more than one version.
 pub record Domain : Type 0 where
   pub table : SchemaTable
   pub upgrades : List SchemaTable
   pub opening : Opening
+  pub rules : Rules
 
 -- the opening tree of a store
 abbrev pub tree_of_opening : Opening → Store → List Row
@@ -26,6 +30,14 @@ opening_of world domain s = at (slice_get world domain)
     at : Option Domain → List Row
     at None = []
     at (Some d) = tree_of_opening d.opening s
+
+-- the version rules of a domain, 1 where the world has none of that number
+abbrev pub rules_of : List Domain → ℕ → Rules
+rules_of world domain = at (slice_get world domain)
+  where
+    at : Option Domain → Rules
+    at None = One
+    at (Some d) = d.rules
 
 -- a table without nodes
 abbrev pub no_table : SchemaTable

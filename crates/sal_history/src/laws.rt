@@ -5,12 +5,12 @@ ghost use Rattle.sal_history.specs.VersionLaws.{NewestTreesKeepTheRules, Upgrade
 ghost use Rattle.sal_history.specs.ServiceLaws.{AnswersAreCollected, CollectedAsGiven, HandedOnceInALog, HandedToItsProvider, TakenOnceInOrder};
 
 /// A conflict names a later commit, not of its own chain, that touched its path, which is one of the transaction's own or
-/// stands above one.
+/// stands above one, or under version rules 2 is that of a leaf that it merges.
 ///
 /// Of one decision: let a submission stand on a commit of its domain, and its base trees be those at that commit with the
 /// later commits of its own chain on top. If it is decided as a conflict, then the commit that it names is one of the
 /// domain's, came after the base, is not of the submission's chain, and touched the path of the conflict in its store; and
-/// one of its operations is of that store, at or below that path. Of each log, without a condition: so does each receipt
+/// one of its operations is of that store, at or below that path, or a merge of a leaf there. Of each log, without a condition: so does each receipt
 /// that was decided as a conflict, over the commits that were done before it, whatever it stood on when it began.
 pub fn conflicts_name_a_later_commit()
     ensures decision { ConflictsNameALaterCommit }

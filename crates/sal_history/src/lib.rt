@@ -6,15 +6,15 @@
 //! | `SharedOps` | the operations of a submission, which the log and the commit have together |
 //! | `Reply` | what a shared call is answered |
 //! | `Device`, `Opening` | the versions of a domain's schema with its opening trees; its trees before the first commit |
-//! | `examples`, `chain_examples`, `listener_examples`, `service_examples`, `version_examples` | functions that do nothing, each with worked examples of a log's meaning as its contract |
+//! | `examples`, `chain_examples`, `listener_examples`, `rule_examples`, `service_examples`, `version_examples` | functions that do nothing, each with worked examples of a log's meaning as its contract |
 //! | `laws` | functions that do nothing, each with a law of the log's meaning as its contract |
 //!
 //! `specs/History` answers a log entry by entry: receipts, outcomes, commits, trees, base and view of a transaction. It
 //! keeps the list of calls and nothing else: every tree is computed from the opening, every conflict by looking through the
 //! later commits. What it says:
 //!
-//! - The world is a list of domains, each with the tables of its schema's versions and its opening trees (`specs/World`). Domain 0,
-//!   the controller's own, alone has more than one version, and is always live; that of a device is from its mount to its unmount, once. Transactions begin, and chains
+//! - The world is a list of domains, each with the tables of its schema's versions, its opening trees and its version rules
+//!   (`specs/World`). Domain 0, the controller's own, alone has more than one version, and is always live; that of a device is from its mount to its unmount, once. Transactions begin, and chains
 //!   and listeners are opened, in live domains alone.
 //! - A transaction without a chain stands on its domain's newest commit when it begins, and sees that commit's trees under
 //!   its own writes.
@@ -30,7 +30,8 @@
 //!   whoever begins a transaction in it. A closed chain begins none either; what was begun or submitted stays.
 //! - Else where the submission's domain is not live any more when it is decided, the outcome is that it is unmounted.
 //! - Else an outcome is decided at the domain's newest commit (`specs/Outcome`), as the first of these that applies. A conflict
-//!   with a commit after the base names the store, the place, how that differs, and the commit (`sal_rows`). The commits
+//!   by the domain's version rules with a commit after the base names the store, the place, how that differs, and the commit
+//!   (`sal_rows`). The commits
 //!   of the submission's own chain are cut out: it is checked against the spans between them. A breach of a structural rule
 //!   in the configuration after the operations, and else in the operational tree, names the store, the path and the rule
 //!   (`sal_rules`). Or it is done: both stores change together, as the next commit.
@@ -46,7 +47,8 @@
 //!
 //! What a refused client is told. In each log, the commit that a receipt's conflict names was done before that receipt,
 //! came after the base of its transaction, is not of its own chain, and touched the path that the conflict names, and that
-//! path is at or above one of the transaction's operations (`laws::conflicts_name_a_later_commit`). So a chain never
+//! path is at or above one of the transaction's operations, or under version rules 2 that of a leaf that one of them merges
+//! (`laws::conflicts_name_a_later_commit`). So a chain never
 //! conflicts with itself; unless it has failed, what one of its submissions saw of pending ones is what they left as
 //! commits; and commits stand in the order of receipts (`laws::chains_keep_to_themselves`). A submission that is decided as
 //! done leaves no breach, in either store (`laws::done_leaves_no_breach`), by the version at its decision; so the newest trees break
@@ -67,6 +69,7 @@ pub mod laws;
 pub mod listener_examples;
 pub mod opening;
 pub mod reply;
+pub mod rule_examples;
 pub mod service_examples;
 pub mod shared;
 pub mod version_examples;

@@ -27,7 +27,7 @@ use Rattle.sal_hub.specs.declared.start.Footing.{Footing}
 use Rattle.sal_hub.specs.Answers.{Made}
 use Rattle.sal_hub.specs.Current.{IsCurrent, IsKept, answers, known_of, number_of}
 use Rattle.sal_hub.specs.Journals.{Noted, jotted, mark_at}
-use Rattle.sal_hub.specs.PipelineView.{IsStored, is_live_in, line_of, shown, world_in}
+use Rattle.sal_hub.specs.PipelineView.{IsStored, is_live_in, queue_of, shown, world_in}
 use Rattle.sal_hub.specs.Starts.{IsNewest, Starts}
 use Rattle.sal_hub.specs.Tokens.{IsBegun, IsToken, base_of, begun_of}
 use Rattle.sal_hub.proofs.Deciding.{opening-at}
@@ -41,33 +41,33 @@ use Rattle.sal_hub.proofs.Versioned.{schema-present, version-present}
 
 module _ (journal journal' : Noted) (p : Pipeline) (is : IsKept journal p) (client : ℕ) (call : Call) (log : journal'.log ≡ jotted journal.log client call) where
   abbrev w : List world.Domain
-  w = world_in (line_of p).domains
+  w = world_in (queue_of p).domains
 
   abbrev answered : List Answered
-  answered = answers journal.log (line_of p)
+  answered = answers journal.log (queue_of p)
 
   abbrev entry : Entry
   entry = record { client = client; number = entries_of journal.log client; call = call }
 
   -- one that is none on mounts, and submits, decides, spends and opens nothing
-  pub quiet_kept : upgraded call (reply_to (world_in (line_of p).domains) (answers journal.log (line_of p)) client call) ≡ false → mount_call call ≡ None → sent_by (answers journal.log (line_of p)) call (reply_to (world_in (line_of p).domains) (answers journal.log (line_of p)) client call) ≡ None
-      → decided_by (world_in (line_of p).domains) (answers journal.log (line_of p)) call ≡ []
-      → ((k : ℕ) → spends call (reply_to (world_in (line_of p).domains) (answers journal.log (line_of p)) client call) k ≡ false)
-      → opened_chain call (reply_to (world_in (line_of p).domains) (answers journal.log (line_of p)) client call) ≡ None
+  pub quiet_kept : upgraded call (reply_to (world_in (queue_of p).domains) (answers journal.log (queue_of p)) client call) ≡ false → mount_call call ≡ None → sent_by (answers journal.log (queue_of p)) call (reply_to (world_in (queue_of p).domains) (answers journal.log (queue_of p)) client call) ≡ None
+      → decided_by (world_in (queue_of p).domains) (answers journal.log (queue_of p)) call ≡ []
+      → ((k : ℕ) → spends call (reply_to (world_in (queue_of p).domains) (answers journal.log (queue_of p)) client call) k ≡ false)
+      → opened_chain call (reply_to (world_in (queue_of p).domains) (answers journal.log (queue_of p)) client call) ≡ None
       → ((k : ℕ) → mark_at journal'.marks k ≡ mark_at journal.marks k) → IsKept journal' p
   quiet_kept unraised unmounted none nothing unspent unopened marks = record {
     kept = is.kept;
-    current = subst (λ (l : List Entry). IsCurrent l journal'.marks (line_of p)) (sym log) (quiet journal.log journal.marks (line_of p) is.current entry unraised journal'.marks unmounted none nothing unspent marks unopened);
+    current = subst (λ (l : List Entry). IsCurrent l journal'.marks (queue_of p)) (sym log) (quiet journal.log journal.marks (queue_of p) is.current entry unraised journal'.marks unmounted none nothing unspent marks unopened);
     let_go = is.let_go;
   }
 
-  pub made_now : (r : Reply) → length journal.log < 1000000 → reply_to (world_in (line_of p).domains) (answers journal.log (line_of p)) client call ≡ r → Made (known_of journal p) (known_of journal' p) (record { client = client; number = entries_of journal.log client; call = call }) r
+  pub made_now : (r : Reply) → length journal.log < 1000000 → reply_to (world_in (queue_of p).domains) (answers journal.log (queue_of p)) client call ≡ r → Made (known_of journal p) (known_of journal' p) (record { client = client; number = entries_of journal.log client; call = call }) r
   made_now r room reply = record { room = room; log = λ i. record { world = w; log = log i }; reply = reply }
 
   -- the transaction that it begins
   pub token_now : (begun : Token) (base : Pair) → begun.place ≡ length journal.log
-      → began_by (world_in (line_of p).domains) (answers journal.log (line_of p)) call (reply_to (world_in (line_of p).domains) (answers journal.log (line_of p)) client call) ≡ Some (record { domain = begun.domain; commit = begun.base_commit; chain = begun.chain; trees = rows_in base })
-      → begun.schema.value ≡ world.table_of (world_in (line_of p).domains) begun.version begun.domain → begun.version ≡ number_of (schema_version (answers journal.log (line_of p))) begun.domain → IsBegun (known_of journal' p) begun base
+      → began_by (world_in (queue_of p).domains) (answers journal.log (queue_of p)) call (reply_to (world_in (queue_of p).domains) (answers journal.log (queue_of p)) client call) ≡ Some (record { domain = begun.domain; commit = begun.base_commit; chain = begun.chain; trees = rows_in base })
+      → begun.schema.value ≡ world.table_of (world_in (queue_of p).domains) begun.version begun.domain → begun.version ≡ number_of (schema_version (answers journal.log (queue_of p))) begun.domain → IsBegun (known_of journal' p) begun base
   token_now begun base place began schema version = record {
     before = omega (arith, place, ap length log, length-append journal.log (entry ∷ []));
     began =
@@ -88,22 +88,22 @@ module _ (journal journal' : Noted) (p : Pipeline) (is : IsKept journal p) (clie
 
 module _ (journal : Noted) (p : Pipeline) (is : IsKept journal p) (domain : ℕ) (d : Domain) (at : slice_get (map shown p.domains.items) domain ≡ Some (shown d)) (footing : Footing) (newest : IsNewest d footing) where
   abbrev here : List world.Domain
-  here = world_in (line_of p).domains
+  here = world_in (queue_of p).domains
 
   abbrev before : List Answered
-  before = answers journal.log (line_of p)
+  before = answers journal.log (queue_of p)
 
-  stored : IsStored (sents before) (line_of p) domain (shown d)
+  stored : IsStored (sents before) (queue_of p) domain (shown d)
   stored = is.current.sound.domains domain (shown d) at
 
   the_commits : ops_of d.commits.items ≡ commits before domain
-  the_commits = stored.commits ∙ commits-current journal.log journal.marks (line_of p) domain is.current
+  the_commits = stored.commits ∙ commits-current journal.log journal.marks (queue_of p) domain is.current
 
-  pub newest_commit : footing.commit ≡ length (commits (answers journal.log (line_of p)) domain)
+  pub newest_commit : footing.commit ≡ length (commits (answers journal.log (queue_of p)) domain)
   newest_commit = newest.commit ∙ ap length the_commits
 
-  pub newest_trees : (s : Store) → kept_rows footing.trees s ≡ trees_of (world_in (line_of p).domains) (answers journal.log (line_of p)) domain s
-  newest_trees s = newest.trees s ∙ (λ i. tree_after s (sym (opening-at (line_of p).domains domain (shown d) s at) i) (the_commits i))
+  pub newest_trees : (s : Store) → kept_rows footing.trees s ≡ trees_of (world_in (queue_of p).domains) (answers journal.log (queue_of p)) domain s
+  newest_trees s = newest.trees s ∙ (λ i. tree_after s (sym (opening-at (queue_of p).domains domain (shown d) s at) i) (the_commits i))
 
   pub number_is : d.number ≡ domain
   number_is = stored.number
@@ -114,15 +114,15 @@ module _ (journal journal' : Noted) (p : Pipeline) (is : IsKept journal p) (clie
   pub begin_kept : ((k : ℕ) → mark_at journal'.marks k ≡ mark_at journal.marks k) → IsKept journal' p
   begin_kept marks = quiet_kept journal journal' p is client (Begin domain mode) log refl refl refl refl (λ k. refl) refl marks
 
-  pub begin_refused : is_live_in (line_of p).domains domain ≡ false → reply_to (world_in (line_of p).domains) (answers journal.log (line_of p)) client (Begin domain mode) ≡ Refused (NoDomain domain)
-  begin_refused dead = ap (λ b. if b then Begun (length (commits (answers journal.log (line_of p)) domain)) None else Refused (NoDomain domain)) (sym (is.current.live domain) ∙ dead)
+  pub begin_refused : is_live_in (queue_of p).domains domain ≡ false → reply_to (world_in (queue_of p).domains) (answers journal.log (queue_of p)) client (Begin domain mode) ≡ Refused (NoDomain domain)
+  begin_refused dead = ap (λ b. if b then Begun (length (commits (answers journal.log (queue_of p)) domain)) None else Refused (NoDomain domain)) (sym (is.current.live domain) ∙ dead)
 
-  module _ (d : Domain) (live : is_live_in (line_of p).domains domain ≡ true) (at : slice_get (map shown p.domains.items) domain ≡ Some (shown d)) (tx : Tx) (footing : Footing) (newest : IsNewest d footing) (starts : Starts d footing None mode (length journal.log) tx) where
+  module _ (d : Domain) (live : is_live_in (queue_of p).domains domain ≡ true) (at : slice_get (map shown p.domains.items) domain ≡ Some (shown d)) (tx : Tx) (footing : Footing) (newest : IsNewest d footing) (starts : Starts d footing None mode (length journal.log) tx) where
     abbrev there : List world.Domain
-    there = world_in (line_of p).domains
+    there = world_in (queue_of p).domains
 
     abbrev so_far : List Answered
-    so_far = answers journal.log (line_of p)
+    so_far = answers journal.log (queue_of p)
 
     number : (begun_of tx).domain ≡ domain
     number = starts.domain ∙ number_is journal p is domain d at footing newest
@@ -144,5 +144,5 @@ module _ (journal journal' : Noted) (p : Pipeline) (is : IsKept journal p) (clie
         (starts.schema ∙ schema-present journal p is domain d at ∙ (λ i. world.table_of there (sym starts.version i) (sym number i)))
         (starts.version ∙ version-present journal p is domain d at ∙ ap (number_of (schema_version so_far)) (sym number))
 
-    pub begin_reply : reply_to (world_in (line_of p).domains) (answers journal.log (line_of p)) client (Begin domain mode) ≡ Begun (begun_of tx).base_commit (begun_of tx).on
+    pub begin_reply : reply_to (world_in (queue_of p).domains) (answers journal.log (queue_of p)) client (Begin domain mode) ≡ Begun (begun_of tx).base_commit (begun_of tx).on
     begin_reply = reply_live ∙ (λ i. Begun (sym commit i) (sym (starts.on ∙ newest.alone) i))

@@ -32,7 +32,7 @@ use Rattle.sal_hub.specs.Current.{IsCurrent, IsKept, answers, known_of, number_o
 use Rattle.sal_hub.specs.Failures.{IsWithin, flag_in, noted_in, noted_with}
 use Rattle.sal_hub.specs.Journals.{Noted, jotted, mark_at}
 use Rattle.sal_hub.specs.HubHistory.{HubHistory, more}
-use Rattle.sal_hub.specs.PipelineView.{AllKept, IsSound, PipelineView, is_live_in, line_of, sent_of, shown, world_in}
+use Rattle.sal_hub.specs.PipelineView.{AllKept, IsSound, PipelineView, is_live_in, queue_of, sent_of, shown, world_in}
 use Rattle.sal_hub.specs.Starts.{Starts}
 use Rattle.sal_hub.specs.Tokens.{IsChain, IsFresh, IsToken, base_of, begun_of}
 use Rattle.sal_hub.proofs.Beginning.{made_now, newest_commit, newest_trees, quiet_kept, token_now}
@@ -50,23 +50,23 @@ use Rattle.sal_hub.proofs.Starting.{same_rows}
 use Rattle.sal_hub.proofs.Versioned.{schema-present, version-present}
 
 -- the known with the entry
-known_is : (journal journal' : Noted) (p p' : Pipeline) (e : Entry) → journal'.log ≡ journal.log ++ e ∷ [] → world_in (line_of p').domains ≡ world_in (line_of p).domains → more (known_of journal p) e ≡ known_of journal' p'
+known_is : (journal journal' : Noted) (p p' : Pipeline) (e : Entry) → journal'.log ≡ journal.log ++ e ∷ [] → world_in (queue_of p').domains ≡ world_in (queue_of p).domains → more (known_of journal p) e ≡ known_of journal' p'
 known_is journal journal' p p' e log same = λ i. let known : HubHistory = record { world = sym same i; log = sym log i } in known
 
 -- ---- open
 
 module _ (journal journal' : Noted) (p : Pipeline) (is : IsKept journal p) (client domain : ℕ) (log : journal'.log ≡ jotted journal.log client (OpenChain domain)) where
   abbrev w : List world.Domain
-  w = world_in (line_of p).domains
+  w = world_in (queue_of p).domains
 
   abbrev answered : List Answered
-  answered = answers journal.log (line_of p)
+  answered = answers journal.log (queue_of p)
 
   abbrev entry : Entry
   entry = record { client = client; number = entries_of journal.log client; call = OpenChain domain }
 
-  module _ (dead : is_live_in (line_of p).domains domain ≡ false) where
-    pub unopened_reply : reply_to (world_in (line_of p).domains) (answers journal.log (line_of p)) client (OpenChain domain) ≡ Refused (NoDomain domain)
+  module _ (dead : is_live_in (queue_of p).domains domain ≡ false) where
+    pub unopened_reply : reply_to (world_in (queue_of p).domains) (answers journal.log (queue_of p)) client (OpenChain domain) ≡ Refused (NoDomain domain)
     unopened_reply = ap (λ b. if b then Opened (length (chain_domains answered) + 1) else Refused (NoDomain domain)) (sym (is.current.live domain) ∙ dead)
 
     unopened : opened_chain (OpenChain domain) (reply_to w answered client (OpenChain domain)) ≡ None
@@ -80,48 +80,48 @@ module _ (journal journal' : Noted) (p : Pipeline) (is : IsKept journal p) (clie
         subst (λ known. AreChains known cs) (known_is journal journal' p p entry log refl)
         (steady (known_of journal p) entry cs are cs (record { domains = refl; closed = refl; begun = refl; sent = refl }) unopened (λ id. refl) (λ id. refl) refl)
 
-  module _ (p' : Pipeline) (live : is_live_in (line_of p).domains domain ≡ true) (kept : p'.domains ≡ p.domains) (as_gone : p'.gone ≡ p.gone) (same : p'.waiting ≡ p.waiting) (undecided : p'.outcomes ≡ p.outcomes) (failures : p'.failures.items ≡ p.failures.items ++ None ∷ []) where
+  module _ (p' : Pipeline) (live : is_live_in (queue_of p).domains domain ≡ true) (kept : p'.domains ≡ p.domains) (as_gone : p'.gone ≡ p.gone) (same : p'.waiting ≡ p.waiting) (undecided : p'.outcomes ≡ p.outcomes) (failures : p'.failures.items ≡ p.failures.items ++ None ∷ []) where
     opened_reply : reply_to w answered client (OpenChain domain) ≡ Opened (length (chain_domains answered) + 1)
     opened_reply = ap (λ b. if b then Opened (length (chain_domains answered) + 1) else Refused (NoDomain domain)) (sym (is.current.live domain) ∙ live)
 
     opened : opened_chain (OpenChain domain) (reply_to w answered client (OpenChain domain)) ≡ Some domain
     opened = ap (opened_chain (OpenChain domain)) opened_reply
 
-    abbrev line' : PipelineView
-    line' = record (line_of p) { failures = (line_of p).failures ++ None ∷ [] }
+    abbrev queue' : PipelineView
+    queue' = record (queue_of p) { failures = (queue_of p).failures ++ None ∷ [] }
 
-    line_is : line' ≡ line_of p'
-    line_is = λ i. record { domains = map shown (sym kept i).items; gone = sym as_gone i; waiting = (sym same i).items; outcomes = (sym undecided i).items; failures = sym failures i }
+    queue_is : queue' ≡ queue_of p'
+    queue_is = λ i. record { domains = map shown (sym kept i).items; gone = sym as_gone i; waiting = (sym same i).items; outcomes = (sym undecided i).items; failures = sym failures i }
 
     wider : (n : ℕ) (chain : Option ℕ) → IsWithin n chain → IsWithin (n + 1) chain
     wider n chain within id at = ((within id at).0, omega (arith, (within id at).1))
 
-    longer : length line'.failures ≡ length (line_of p).failures + 1
-    longer = length-append (line_of p).failures (None ∷ [])
+    longer : length queue'.failures ≡ length (queue_of p).failures + 1
+    longer = length-append (queue_of p).failures (None ∷ [])
 
-    sound_now : IsSound (sents answered) line'
+    sound_now : IsSound (sents answered) queue'
     sound_now = record {
       some = is.current.sound.some;
       within = is.current.sound.within;
       behind = is.current.sound.behind;
       domains = λ n d at. let had = is.current.sound.domains n d at in record { number = had.number; commits = had.commits; chains = had.chains; receipts = had.receipts };
       waiting = is.current.sound.waiting;
-      standing = λ i s at. let had = is.current.sound.standing i s at in record { domain = had.domain; base = had.base; chain = subst (λ n. IsWithin n s.chain) (sym longer) (wider (length (line_of p).failures) s.chain had.chain); view = had.view; below = had.below };
+      standing = λ i s at. let had = is.current.sound.standing i s at in record { domain = had.domain; base = had.base; chain = subst (λ n. IsWithin n s.chain) (sym longer) (wider (length (queue_of p).failures) s.chain had.chain); view = had.view; below = had.below };
       numbers = is.current.sound.numbers;
-      failures = λ k. noted_in-push (line_of p).failures k ∙ is.current.sound.failures k;
+      failures = λ k. noted_in-push (queue_of p).failures k ∙ is.current.sound.failures k;
     }
 
     pub opened_kept : ((k : ℕ) → mark_at journal'.marks k ≡ mark_at journal.marks k) → IsKept journal' p'
     opened_kept marks = record {
       kept = subst (λ ds. AllKept ds) (λ i. (sym kept i).items) is.kept;
-      current = subst (λ l. IsCurrent l journal'.marks (line_of p')) (sym log) (subst (IsCurrent (journal.log ++ entry ∷ []) journal'.marks) line_is
-          (pushed journal.log journal.marks (line_of p) is.current entry refl line' journal'.marks (unsent journal.log journal.marks (line_of p) is.current entry line' refl sound_now) refl (versions-same (line_of p).domains) (sym (append-nil (line_of p).outcomes))
-          (λ k. marks k ∙ sym (or_false (mark_at journal.marks k))) (longer ∙ ap (λ (o : Option ℕ). length (line_of p).failures + length (option_to_list o)) (sym opened))
-          (still_live journal.log journal.marks (line_of p) is.current entry line' refl (λ n. refl))));
+      current = subst (λ l. IsCurrent l journal'.marks (queue_of p')) (sym log) (subst (IsCurrent (journal.log ++ entry ∷ []) journal'.marks) queue_is
+          (pushed journal.log journal.marks (queue_of p) is.current entry refl queue' journal'.marks (unsent journal.log journal.marks (queue_of p) is.current entry queue' refl sound_now) refl (versions-same (queue_of p).domains) (sym (append-nil (queue_of p).outcomes))
+          (λ k. marks k ∙ sym (or_false (mark_at journal.marks k))) (longer ∙ ap (λ (o : Option ℕ). length (queue_of p).failures + length (option_to_list o)) (sym opened))
+          (still_live journal.log journal.marks (queue_of p) is.current entry queue' refl (λ n. refl))));
       let_go = as_gone ∙ is.let_go ∙ (λ i. length (sym undecided i).items);
     }
 
-    same_world : world_in (line_of p').domains ≡ w
+    same_world : world_in (queue_of p').domains ≡ w
     same_world = λ i. world_in (map shown (kept i).items)
 
     module _ (cs cs' : Chains) (are : AreChains (known_of journal p) cs) (adds : Adds cs domain cs') where
@@ -158,45 +158,45 @@ module _ (journal journal' : Noted) (p : Pipeline) (is : IsKept journal p) (clie
 
 module _ (journal : Noted) (p : Pipeline) (is : IsKept journal p) (cs : Chains) (are : AreChains (known_of journal p) cs) (chain : Chain) (token : IsChain (known_of journal p) chain) where
   abbrev here : List world.Domain
-  here = world_in (line_of p).domains
+  here = world_in (queue_of p).domains
 
   abbrev done : List Answered
-  done = answers journal.log (line_of p)
+  done = answers journal.log (queue_of p)
 
   pub id_within : chain.id ≤ length cs.domains.items
   id_within =
       let low : chain.id - 1 < length (chain_domains done) = slice_get_within (chain_domains done) (chain.id - 1) chain.domain token.1 in
       omega (arith, low, token.0, ap length are.domains)
 
-  pub closed_is : (x : Bool) → x ≡ get_or cs.closed.items (chain.id - 1) x → x ≡ is_closed (answers journal.log (line_of p)) chain.id
+  pub closed_is : (x : Bool) → x ≡ get_or cs.closed.items (chain.id - 1) x → x ≡ is_closed (answers journal.log (queue_of p)) chain.id
   closed_is x at = sym (flag_at cs.closed.items chain.id x token.0 (omega (arith, id_within, are.even.closed)) at) ∙ are.closed chain.id
 
-  pub failed_is : (x : Option ℕ) → x ≡ get_or p.failures.items (chain.id - 1) x → x ≡ failed_by (answers journal.log (line_of p)) chain.id
+  pub failed_is : (x : Option ℕ) → x ≡ get_or p.failures.items (chain.id - 1) x → x ≡ failed_by (answers journal.log (queue_of p)) chain.id
   failed_is x at =
       sym (noted_at p.failures.items chain.id x token.0 (omega (arith, id_within, ap length are.domains, is.current.chains)) at)
       ∙ is.current.sound.failures chain.id ∙ (λ i. failing (Some chain.id) (sents done) (is.current.outcomes i))
 
-  pub begun_is : (x : Option ℕ) → x ≡ get_or cs.begun.items (chain.id - 1) x → x ≡ last_begun (answers journal.log (line_of p)) chain.id
+  pub begun_is : (x : Option ℕ) → x ≡ get_or cs.begun.items (chain.id - 1) x → x ≡ last_begun (answers journal.log (queue_of p)) chain.id
   begun_is x at = sym (noted_at cs.begun.items chain.id x token.0 (omega (arith, id_within, are.even.begun)) at) ∙ are.begun chain.id
 
-  pub open_is : (x : Option ℕ) → x ≡ get_or cs.begun.items (chain.id - 1) x → is_open journal.marks x ≡ has_open (answers journal.log (line_of p)) chain.id
+  pub open_is : (x : Option ℕ) → x ≡ get_or cs.begun.items (chain.id - 1) x → is_open journal.marks x ≡ has_open (answers journal.log (queue_of p)) chain.id
   open_is x at = λ i. option_map_or (λ place. not (is.current.marks place i)) (begun_is x at i) false
 
-  pub sent_is : (x : Option ℕ) → x ≡ get_or cs.sent.items (chain.id - 1) x → x ≡ last_receipt (sents (answers journal.log (line_of p))) (Some chain.id)
+  pub sent_is : (x : Option ℕ) → x ≡ get_or cs.sent.items (chain.id - 1) x → x ≡ last_receipt (sents (answers journal.log (queue_of p))) (Some chain.id)
   sent_is x at = sym (noted_at cs.sent.items chain.id x token.0 (omega (arith, id_within, are.even.sent)) at) ∙ are.sent chain.id
 
   pub sent_within : (x : Option ℕ) → x ≡ get_or cs.sent.items (chain.id - 1) x → IsWithin (p.gone + length p.waiting.items) x
   sent_within x at = λ n some.
       let h = last_from-within 1 (is_in (Some chain.id)) (sents done) n (sym (sent_is x at) ∙ some) in
-      let long : length (sents done) ≡ p.gone + length p.waiting.items = sym (length-submissions journal.log journal.marks (line_of p) is.current) in
+      let long : length (sents done) ≡ p.gone + length p.waiting.items = sym (length-submissions journal.log journal.marks (queue_of p) is.current) in
       (omega (arith, h.0), omega (arith, h.1, long))
 
-  pub domain_is : domain_of (answers journal.log (line_of p)) chain.id ≡ chain.domain
+  pub domain_is : domain_of (answers journal.log (queue_of p)) chain.id ≡ chain.domain
   domain_is = ap (λ (o : Option ℕ). unwrap_or o 0) token.1
 
-  pub refused_by : (closed : Bool) (failed : Option ℕ) (waits : Bool) (live : Bool) → closed ≡ is_closed (answers journal.log (line_of p)) chain.id → failed ≡ failed_by (answers journal.log (line_of p)) chain.id
-      → waits ≡ has_open (answers journal.log (line_of p)) chain.id → live ≡ is_live_in (line_of p).domains chain.domain
-      → option_or (fault_if closed ChainClosed) (option_or (option_map ChainFailed failed) (option_or (fault_if waits PreviousOpen) (fault_if (not live) (NoDomain chain.domain)))) ≡ chain_refusal (world_in (line_of p).domains) (answers journal.log (line_of p)) chain.id
+  pub refused_by : (closed : Bool) (failed : Option ℕ) (waits : Bool) (live : Bool) → closed ≡ is_closed (answers journal.log (queue_of p)) chain.id → failed ≡ failed_by (answers journal.log (queue_of p)) chain.id
+      → waits ≡ has_open (answers journal.log (queue_of p)) chain.id → live ≡ is_live_in (queue_of p).domains chain.domain
+      → option_or (fault_if closed ChainClosed) (option_or (option_map ChainFailed failed) (option_or (fault_if waits PreviousOpen) (fault_if (not live) (NoDomain chain.domain)))) ≡ chain_refusal (world_in (queue_of p).domains) (answers journal.log (queue_of p)) chain.id
   refused_by closed failed waits live a b c d =
       let e : live ≡ is_live here done (domain_of done chain.id) = d ∙ is.current.live chain.domain ∙ ap (is_live here done) (sym domain_is) in
       λ i. option_or (fault_if (a i) ChainClosed) (option_or (option_map ChainFailed (b i)) (option_or (fault_if (c i) PreviousOpen) (fault_if (not (e i)) (NoDomain (sym domain_is i)))))
@@ -207,11 +207,11 @@ of_chain : (id : ℕ) (chain : Option ℕ) → is_of_chain (Some id) chain ≡ t
 of_chain id None e = cc
 of_chain id (Some k) e = let same : k ≡ id = grind (arith, nat_tests) in ap Some same
 
-module _ (journal : Noted) (p : Pipeline) (is : IsKept journal p) (cs : Chains) (are : AreChains (known_of journal p) cs) (chain : Chain) (token : IsChain (known_of journal p) chain) (allowed : chain_refusal (world_in (line_of p).domains) (answers journal.log (line_of p)) chain.id ≡ None) where
-  live_now : is_live_in (line_of p).domains chain.domain ≡ true
+module _ (journal : Noted) (p : Pipeline) (is : IsKept journal p) (cs : Chains) (are : AreChains (known_of journal p) cs) (chain : Chain) (token : IsChain (known_of journal p) chain) (allowed : chain_refusal (world_in (queue_of p).domains) (answers journal.log (queue_of p)) chain.id ≡ None) where
+  live_now : is_live_in (queue_of p).domains chain.domain ≡ true
   live_now =
-      is.current.live chain.domain ∙ ap (is_live (world_in (line_of p).domains) (answers journal.log (line_of p))) (sym (domain_is journal p is cs are chain token))
-      ∙ allowed_live (world_in (line_of p).domains) (answers journal.log (line_of p)) chain.id allowed
+      is.current.live chain.domain ∙ ap (is_live (world_in (queue_of p).domains) (answers journal.log (queue_of p))) (sym (domain_is journal p is cs are chain token))
+      ∙ allowed_live (world_in (queue_of p).domains) (answers journal.log (queue_of p)) chain.id allowed
 
   pub domain_within : chain.domain < length p.domains.items
   domain_within = live_within journal p is chain.domain live_now
@@ -219,14 +219,14 @@ module _ (journal : Noted) (p : Pipeline) (is : IsKept journal p) (cs : Chains) 
   pub domain_at : (d : Domain) → d ≡ get_or p.domains.items chain.domain d → slice_get (map shown p.domains.items) chain.domain ≡ Some (shown d)
   domain_at d at = shown_at p.domains.items chain.domain d domain_within at
 
-module _ (journal : Noted) (p : Pipeline) (is : IsKept journal p) (cs : Chains) (are : AreChains (known_of journal p) cs) (chain : Chain) (token : IsChain (known_of journal p) chain) (allowed : chain_refusal (world_in (line_of p).domains) (answers journal.log (line_of p)) chain.id ≡ None)
+module _ (journal : Noted) (p : Pipeline) (is : IsKept journal p) (cs : Chains) (are : AreChains (known_of journal p) cs) (chain : Chain) (token : IsChain (known_of journal p) chain) (allowed : chain_refusal (world_in (queue_of p).domains) (answers journal.log (queue_of p)) chain.id ≡ None)
     (d : Domain) (at : slice_get (map shown p.domains.items) chain.domain ≡ Some (shown d)) (sent : Option ℕ) (sent_at : sent ≡ get_or cs.sent.items (chain.id - 1) sent) (footing : Footing) (stands : IsFooting (pending_of (length p.outcomes.items) sent) p d footing)
     (mode : Mode) (tx : Tx) (starts : Starts d footing (Some chain.id) mode (length journal.log) tx) (client : ℕ) where
   abbrev there : List world.Domain
-  there = world_in (line_of p).domains
+  there = world_in (queue_of p).domains
 
   abbrev so_far : List Answered
-  so_far = answers journal.log (line_of p)
+  so_far = answers journal.log (queue_of p)
 
   abbrev begun_base : Base
   begun_base = record { domain = (begun_of tx).domain; commit = (begun_of tx).base_commit; chain = (begun_of tx).chain; trees = rows_in (base_of tx) }
@@ -302,7 +302,7 @@ module _ (journal : Noted) (p : Pipeline) (is : IsKept journal p) (cs : Chains) 
   the_reply : reply_to there so_far client (ChainBegin chain.id mode) ≡ Begun (chained_base there so_far chain.id).commit (stands_on so_far chain.id)
   the_reply = ap (λ (o : Option CallFault). refused_or o (Begun (chained_base there so_far chain.id).commit (stands_on so_far chain.id))) allowed
 
-  pub next_reply : reply_to (world_in (line_of p).domains) (answers journal.log (line_of p)) client (ChainBegin chain.id mode) ≡ Begun (begun_of tx).base_commit (begun_of tx).on
+  pub next_reply : reply_to (world_in (queue_of p).domains) (answers journal.log (queue_of p)) client (ChainBegin chain.id mode) ≡ Begun (begun_of tx).base_commit (begun_of tx).on
   next_reply = the_reply ∙ (λ i. Begun (base_is i).commit (sym on_is i))
 
   began_is : began_by there so_far (ChainBegin chain.id mode) (reply_to there so_far client (ChainBegin chain.id mode)) ≡ Some begun_base
@@ -363,15 +363,15 @@ module _ (old new : HubHistory) (e : Entry) where
   fails_of false None false true n f is made = let same : NoDomain n ≡ f = same_Some (NoDomain n) f is in subst (Fails old new e) same (subst (λ g. Made old new e (Refused g)) (sym same) made)
   fails_of false None false false n f is made = cc
 
-module _ (journal journal' : Noted) (p : Pipeline) (is : IsKept journal p) (client id : ℕ) (mode : Mode) (log : journal'.log ≡ jotted journal.log client (ChainBegin id mode)) (f : CallFault) (refused : chain_refusal (world_in (line_of p).domains) (answers journal.log (line_of p)) id ≡ Some f) where
+module _ (journal journal' : Noted) (p : Pipeline) (is : IsKept journal p) (client id : ℕ) (mode : Mode) (log : journal'.log ≡ jotted journal.log client (ChainBegin id mode)) (f : CallFault) (refused : chain_refusal (world_in (queue_of p).domains) (answers journal.log (queue_of p)) id ≡ Some f) where
   abbrev earlier : List Answered
-  earlier = answers journal.log (line_of p)
+  earlier = answers journal.log (queue_of p)
 
   abbrev refused_entry : Entry
   refused_entry = record { client = client; number = entries_of journal.log client; call = ChainBegin id mode }
 
-  refused_reply : reply_to (world_in (line_of p).domains) earlier client (ChainBegin id mode) ≡ Refused f
-  refused_reply = ap (λ (o : Option CallFault). refused_or o (Begun (chained_base (world_in (line_of p).domains) earlier id).commit (stands_on earlier id))) refused
+  refused_reply : reply_to (world_in (queue_of p).domains) earlier client (ChainBegin id mode) ≡ Refused f
+  refused_reply = ap (λ (o : Option CallFault). refused_or o (Begun (chained_base (world_in (queue_of p).domains) earlier id).commit (stands_on earlier id))) refused
 
   pub refused_kept : ((k : ℕ) → mark_at journal'.marks k ≡ mark_at journal.marks k) → IsKept journal' p
   refused_kept marks = quiet_kept journal journal' p is client (ChainBegin id mode) log refl refl refl refl (λ k. refl) refl marks
@@ -380,9 +380,9 @@ module _ (journal journal' : Noted) (p : Pipeline) (is : IsKept journal p) (clie
   refused_chains cs are =
       subst (λ known. AreChains known cs) (known_is journal journal' p p refused_entry log refl)
       (steady (known_of journal p) refused_entry cs are cs (record { domains = refl; closed = refl; begun = refl; sent = refl }) refl (λ k. refl)
-      (λ k. ap (λ r. option_map_or (λ (b : Base). is_of_chain (Some k) b.chain) (began_by (world_in (line_of p).domains) earlier (ChainBegin id mode) r) false) refused_reply) refl)
+      (λ k. ap (λ r. option_map_or (λ (b : Base). is_of_chain (Some k) b.chain) (began_by (world_in (queue_of p).domains) earlier (ChainBegin id mode) r) false) refused_reply) refl)
 
   pub refused_fails : length journal.log < 1000000 → Fails (known_of journal p) (known_of journal' p) (record { client = client; number = entries_of journal.log client; call = ChainBegin id mode }) f
   refused_fails room =
-      fails_of (known_of journal p) (known_of journal' p) refused_entry (is_closed earlier id) (failed_by earlier id) (has_open earlier id) (not (is_live (world_in (line_of p).domains) earlier (domain_of earlier id))) (domain_of earlier id) f refused
+      fails_of (known_of journal p) (known_of journal' p) refused_entry (is_closed earlier id) (failed_by earlier id) (has_open earlier id) (not (is_live (world_in (queue_of p).domains) earlier (domain_of earlier id))) (domain_of earlier id) f refused
       (made_now journal journal' p is client (ChainBegin id mode) log (Refused f) room refused_reply)

@@ -22,7 +22,7 @@ use Rattle.sal_history.specs.History.{decide_front, decide_next}
 use Rattle.sal_history.specs.Submissions.{Sent}
 use Rattle.sal_hub.specs.declared.pipeline.Pipeline.{Pipeline}
 use Rattle.sal_hub.specs.Failures.{cut_failures}
-use Rattle.sal_hub.specs.PipelineView.{AllKept, AreDecided, Decides, HasGrown, HaveGrown, PipelineView, DomainView, Reach, counts_of, cut_all, is_live_in, line_of, shown, table_in, world_in}
+use Rattle.sal_hub.specs.PipelineView.{AllKept, AreDecided, Decides, HasGrown, HaveGrown, PipelineView, DomainView, Reach, counts_of, cut_all, is_live_in, queue_of, shown, table_in, world_in}
 use Rattle.sal_hub.proofs.Deciding.{versions-same}
 use Rattle.sal_hub.proofs.Listed.{Grows-then, length-Grows, slice_get_at, take-Grows}
 use Rattle.sal_hub.proofs.Noted.{cut_twice}
@@ -160,8 +160,8 @@ decide_next-plus world tables live ss os (suc m) n =
     ∙ sym (append_assoc front (decide_next world tables live ss (os ++ front) m) (decide_next world tables live ss ((os ++ front) ++ decide_next world tables live ss (os ++ front) m) n))
     ∙ ap (λ (us : List Outcome). (front ++ decide_next world tables live ss (os ++ front) m) ++ decide_next world tables live ss us n) (append_assoc os front (decide_next world tables live ss (os ++ front) m))
 
-pub Decides-none : (line : PipelineView) → Decides line 0 line
-Decides-none line = λ ss sound. record { sound = sound; world = refl; live = λ n. refl; versions = versions-same line.domains; outcomes = sym (append-nil line.outcomes); chains = refl }
+pub Decides-none : (queue : PipelineView) → Decides queue 0 queue
+Decides-none queue = λ ss sound. record { sound = sound; world = refl; live = λ n. refl; versions = versions-same queue.domains; outcomes = sym (append-nil queue.outcomes); chains = refl }
 
 AreDecided-then : (ss : List Sent) (a b c : PipelineView) (m n k : ℕ) → k ≡ m + n → AreDecided ss a m b → AreDecided ss b n c → AreDecided ss a k c
 AreDecided-then ss a b c m n k sum g h =
@@ -207,6 +207,7 @@ cut_one ds all ks i k d d' within d_is at_k same commits so_far =
       upgrades = tables_of (same.upgrades j).items;
       version = same.version j;
       since = same.since j;
+      rules = same.rules j;
       opening = opening j;
       ops = ops j;
       chains = chains j;
@@ -270,7 +271,7 @@ HaveGrown-long [] (e ∷ es) grown = absurd grown
 HaveGrown-long (d ∷ ds) [] grown = absurd grown
 HaveGrown-long (d ∷ ds) (e ∷ es) grown = ap suc (HaveGrown-long ds es grown.1)
 
-module _ (old new : Pipeline) (kept : AllKept old.domains.items) (grown : HasGrown (line_of old) (line_of new)) (counts : List ℕ) (counts_are : counts ≡ counts_of (map shown old.domains.items)) where
+module _ (old new : Pipeline) (kept : AllKept old.domains.items) (grown : HasGrown (queue_of old) (queue_of new)) (counts : List ℕ) (counts_are : counts ≡ counts_of (map shown old.domains.items)) where
   pub as_many : length counts ≡ length new.domains.items
   as_many =
       ap length counts_are ∙ length-map (map shown old.domains.items) (λ (d : DomainView). length d.ops)
@@ -283,7 +284,7 @@ module _ (old new : Pipeline) (kept : AllKept old.domains.items) (grown : HasGro
       subst (λ m. m ≤ k) (sym same) low
 
   pub taken_back : (ds : List Stored) (gone : ℕ) (ss : List Submission) (os : List Outcome) (fs : List (Option ℕ)) → map shown ds ≡ cut_all (map shown new.domains.items) counts → gone ≡ new.gone → ss ≡ new.waiting.items → os ≡ take (length old.outcomes.items) new.outcomes.items → fs ≡ cut_failures (length old.outcomes.items) new.failures.items
-      → ◌≡◌ {A = PipelineView} (record { domains = map shown ds; gone = gone; waiting = ss; outcomes = os; failures = fs }) (line_of old)
+      → ◌≡◌ {A = PipelineView} (record { domains = map shown ds; gone = gone; waiting = ss; outcomes = os; failures = fs }) (queue_of old)
   taken_back ds gone ss os fs cut as_gone same taken forgotten =
       let domains : map shown ds ≡ map shown old.domains.items = cut ∙ ap (cut_all (map shown new.domains.items)) counts_are ∙ cut_back (map shown old.domains.items) (map shown new.domains.items) (level old.domains.items kept) grown.domains in
       let outcomes : os ≡ old.outcomes.items = taken ∙ take-Grows old.outcomes.items new.outcomes.items grown.outcomes in

@@ -23,13 +23,13 @@ use Rattle.sal_commit.specs.Domains.{IsSame}
 use Rattle.sal_commit.specs.Stamps.{IsNewStamp, receipts_of}
 use Rattle.sal_commit.specs.Versions.{tables_of}
 use Rattle.sal_history.specs.Outcome as rules
-use Rattle.sal_history.specs.World.{last_of, no_table, opening_of, version_from}
+use Rattle.sal_history.specs.World.{last_of, no_table, opening_of, rules_of, version_from}
 use Rattle.sal_history.proofs.Versions.{last-in}
 use Rattle.sal_history.specs.History.{decide_front, outcome, unmounted_of}
 use Rattle.sal_history.specs.Submissions.{Sent, done, failing, if_done, is_done, is_in}
 use Rattle.sal_hub.specs.declared.pipeline.Pipeline.{Pipeline}
 use Rattle.sal_hub.specs.Failures.{IsWithin, cut_failures, failure_of, failures_after, noted_in, up_to}
-use Rattle.sal_hub.specs.PipelineView.{AllKept, AreDecided, Grows, HasGrown, HaveGrown, IsSound, IsStored, KeepVersions, PipelineView, DomainView, Stands, chains_in, commits_in, is_live_in, line_of, opened_as, receipts_in, sent_of, shorter, shown, table_in, version_of, world_in}
+use Rattle.sal_hub.specs.PipelineView.{AllKept, AreDecided, Grows, HasGrown, HaveGrown, IsSound, IsStored, KeepVersions, PipelineView, DomainView, Stands, chains_in, commits_in, is_live_in, queue_of, opened_as, receipts_in, sent_of, shorter, shown, table_in, version_of, world_in}
 use Rattle.sal_hub.proofs.Listed.{slice_get-drop, slice_get-set, slice_get_at}
 use Rattle.sal_hub.proofs.Members.{failing-decide, failing-fixed, failing-none}
 use Rattle.sal_hub.proofs.Noted.{cut_after, cut_fixed, length-after, noted_in-after}
@@ -42,6 +42,12 @@ opening-at [] n d s e = cc
 opening-at (x ∷ ds) zero d Config e = ap (λ (y : DomainView). y.opening Config) (same_Some x d e)
 opening-at (x ∷ ds) zero d Oper e = ap (λ (y : DomainView). y.opening Oper) (same_Some x d e)
 opening-at (x ∷ ds) (suc n) d s e = opening-at ds n d s e
+
+-- its version rules
+pub rules-at : (ds : List DomainView) (n : ℕ) (d : DomainView) → slice_get ds n ≡ Some d → rules_of (world_in ds) n ≡ d.rules
+rules-at [] n d e = cc
+rules-at (x ∷ ds) zero d e = ap (λ (y : DomainView). y.rules) (same_Some x d e)
+rules-at (x ∷ ds) (suc n) d e = rules-at ds n d e
 
 -- its present table
 pub table-at : (ds : List DomainView) (n : ℕ) (d : DomainView) → slice_get ds n ≡ Some d → table_in ds n ≡ d.table
@@ -147,39 +153,39 @@ HaveGrown-set (x ∷ ds) zero d e at same ops chains receipts =
 HaveGrown-set (x ∷ ds) (suc i) d e at same ops chains receipts = ((refl, Grows-same x.ops, Grows-same x.chains, Grows-same x.receipts), HaveGrown-set ds i d e at same ops chains receipts)
 
 -- the failures are no later than the outcomes
-pub cut_none_late : (ss : List Sent) (line : PipelineView) → IsSound ss line → cut_failures (length line.outcomes) line.failures ≡ line.failures
-cut_none_late ss line sound =
-    cut_fixed (length line.outcomes) line.failures (λ k.
-    subst (λ (o : Option ℕ). up_to (length line.outcomes) o ≡ o) (sym (sound.failures k)) (failing-fixed (Some k) ss line.outcomes))
+pub cut_none_late : (ss : List Sent) (queue : PipelineView) → IsSound ss queue → cut_failures (length queue.outcomes) queue.failures ≡ queue.failures
+cut_none_late ss queue sound =
+    cut_fixed (length queue.outcomes) queue.failures (λ k.
+    subst (λ (o : Option ℕ). up_to (length queue.outcomes) o ≡ o) (sym (sound.failures k)) (failing-fixed (Some k) ss queue.outcomes))
 
 -- ---- what waits
 
 -- a submission that waits, among all
-pub sent_at : (ss : List Sent) (line : PipelineView) → IsSound ss line → (i : ℕ) (s : Submission) → slice_get line.waiting i ≡ Some s → slice_get ss (line.gone + i) ≡ Some (sent_of s)
-sent_at ss line sound i s at =
-    sym (slice_get-drop ss line.gone i) ∙ ap (λ (xs : List Sent). slice_get xs i) (sym sound.waiting) ∙ slice_get-map sent_of line.waiting i ∙ ap (option_map sent_of) at
+pub sent_at : (ss : List Sent) (queue : PipelineView) → IsSound ss queue → (i : ℕ) (s : Submission) → slice_get queue.waiting i ≡ Some s → slice_get ss (queue.gone + i) ≡ Some (sent_of s)
+sent_at ss queue sound i s at =
+    sym (slice_get-drop ss queue.gone i) ∙ ap (λ (xs : List Sent). slice_get xs i) (sym sound.waiting) ∙ slice_get-map sent_of queue.waiting i ∙ ap (option_map sent_of) at
 
 -- how many there were
-pub count_is : (ss : List Sent) (line : PipelineView) → IsSound ss line → line.gone + length line.waiting ≡ length ss
-count_is ss line sound =
-    let long : length line.waiting ≡ length ss - line.gone = sym (length-map line.waiting sent_of) ∙ ap length sound.waiting ∙ length-drop line.gone ss in
+pub count_is : (ss : List Sent) (queue : PipelineView) → IsSound ss queue → queue.gone + length queue.waiting ≡ length ss
+count_is ss queue sound =
+    let long : length queue.waiting ≡ length ss - queue.gone = sym (length-map queue.waiting sent_of) ∙ ap length sound.waiting ∙ length-drop queue.gone ss in
     omega (arith, long, sound.within, sound.behind)
 
 -- what is decided is let go
-pub sound-shorter : (ss : List Sent) (line : PipelineView) → IsSound ss line → IsSound ss (shorter line)
-sound-shorter ss line sound =
-    let more : ℕ = length line.outcomes - line.gone in
-    let all : line.gone + more ≡ length line.outcomes = omega (arith, sound.behind) in
+pub sound-shorter : (ss : List Sent) (queue : PipelineView) → IsSound ss queue → IsSound ss (shorter queue)
+sound-shorter ss queue sound =
+    let more : ℕ = length queue.outcomes - queue.gone in
+    let all : queue.gone + more ≡ length queue.outcomes = omega (arith, sound.behind) in
     record {
       some = sound.some;
       within = sound.within;
       behind = omega arith;
       domains = λ n d at. let had = sound.domains n d at in record { number = had.number; commits = had.commits; chains = had.chains; receipts = had.receipts };
-      waiting = sym (drop-map sent_of more line.waiting) ∙ ap (drop more) sound.waiting ∙ drop-drop more line.gone ss ∙ ap (λ n. drop n ss) all;
+      waiting = sym (drop-map sent_of more queue.waiting) ∙ ap (drop more) sound.waiting ∙ drop-drop more queue.gone ss ∙ ap (λ n. drop n ss) all;
       standing = λ i s at.
-          let had = sound.standing (more + i) s (sym (slice_get-drop line.waiting more i) ∙ at) in
+          let had = sound.standing (more + i) s (sym (slice_get-drop queue.waiting more i) ∙ at) in
           record { domain = had.domain; base = had.base; chain = had.chain; view = had.view; below = had.below };
-      numbers = λ i s at. omega (arith, all, sound.numbers (more + i) s (sym (slice_get-drop line.waiting more i) ∙ at));
+      numbers = λ i s at. omega (arith, all, sound.numbers (more + i) s (sym (slice_get-drop queue.waiting more i) ∙ at));
       failures = sound.failures;
     }
 
@@ -188,15 +194,15 @@ decided-shorter ss old n new was = record { sound = sound-shorter ss new was.sou
 
 -- ---- one decision
 
-module _ (ss : List Sent) (line : PipelineView) (sound : IsSound ss line) (k : ℕ) (place : line.gone + k ≡ length line.outcomes) (sub : Submission) (next : slice_get line.waiting k ≡ Some sub) (d : Domain) (kept : AreKept d.commits.items) (at : slice_get line.domains sub.domain ≡ Some (shown d)) where
-  stored : IsStored ss line sub.domain (shown d)
+module _ (ss : List Sent) (queue : PipelineView) (sound : IsSound ss queue) (k : ℕ) (place : queue.gone + k ≡ length queue.outcomes) (sub : Submission) (next : slice_get queue.waiting k ≡ Some sub) (d : Domain) (kept : AreKept d.commits.items) (at : slice_get queue.domains sub.domain ≡ Some (shown d)) where
+  stored : IsStored ss queue sub.domain (shown d)
   stored = sound.domains sub.domain (shown d) at
 
-  stands : Stands ss line sub
+  stands : Stands ss queue sub
   stands = sound.standing k sub next
 
   -- the commits of its domain
-  long : length d.commits.items - 1 ≡ length (commits_in ss line sub.domain)
+  long : length d.commits.items - 1 ≡ length (commits_in ss queue sub.domain)
   long = sym (length-ops_of d.commits.items kept.opened) ∙ ap length stored.commits
 
   pub can_decide : IsFor d sub
@@ -206,39 +212,40 @@ module _ (ss : List Sent) (line : PipelineView) (sound : IsSound ss line) (k : �
     below = stands.below;
   }
 
-  its_number : sub.receipt ≡ length line.outcomes + 1
+  its_number : sub.receipt ≡ length queue.outcomes + 1
   its_number = sound.numbers k sub next ∙ ap (λ n. n + 1) place
 
   -- the commits of its domain have smaller receipts
-  pub new_stamp : (stamp : ℕ) → stamp ≡ stamp_of (length line.outcomes + 1) → IsNewStamp d.commits.items sub.receipt stamp
+  pub new_stamp : (stamp : ℕ) → stamp ≡ stamp_of (length queue.outcomes + 1) → IsNewStamp d.commits.items sub.receipt stamp
   new_stamp stamp is = record {
     own = is ∙ ap stamp_of (sym its_number);
     later = λ c at_c.
-        omega (arith, its_number, receipt-decided sub.domain ss line.outcomes d.commits.items (length d.commits.items - 1) c stored.receipts (omega (arith, kept.opened)) at_c);
+        omega (arith, its_number, receipt-decided sub.domain ss queue.outcomes d.commits.items (length d.commits.items - 1) c stored.receipts (omega (arith, kept.opened)) at_c);
   }
 
-  failed-here : (chain : Option ℕ) → failure_of line.failures chain ≡ failing chain ss line.outcomes
-  failed-here None = sym (failing-none 1 ss line.outcomes)
+  failed-here : (chain : Option ℕ) → failure_of queue.failures chain ≡ failing chain ss queue.outcomes
+  failed-here None = sym (failing-none 1 ss queue.outcomes)
   failed-here (Some id) = sound.failures id
 
-  pub outcome-here : commit.decide (failure_of line.failures sub.chain) d sub ≡ outcome (world_in line.domains) (table_in line.domains) (is_live_in line.domains) ss line.outcomes (sent_of sub)
+  pub outcome-here : commit.decide (failure_of queue.failures sub.chain) d sub ≡ outcome (world_in queue.domains) (table_in queue.domains) (is_live_in queue.domains) ss queue.outcomes (sent_of sub)
   outcome-here =
-      let table : d.schema.value ≡ table_in line.domains sub.domain = sym (table-at line.domains sub.domain (shown d) at) in
-      let opening : opening_in d.commits.items ≡ opening_of (world_in line.domains) sub.domain = λ i s. sym (opening-at line.domains sub.domain (shown d) s at) i in
-      let live : d.live ≡ is_live_in line.domains sub.domain = sym (live-here line.domains sub.domain (shown d) at) in
-      λ i. unwrap_or (option_or (option_map ChainFailed (failed-here sub.chain i)) (unmounted_of (live i) (stored.number i))) (rules.decide (table i) (opening i) (stored.commits i) (rows_in sub.base) (spans sub.base_commit sub.chain (stored.chains i)) sub.changes)
+      let table : d.schema.value ≡ table_in queue.domains sub.domain = sym (table-at queue.domains sub.domain (shown d) at) in
+      let opening : opening_in d.commits.items ≡ opening_of (world_in queue.domains) sub.domain = λ i s. sym (opening-at queue.domains sub.domain (shown d) s at) i in
+      let ruled : d.rules ≡ rules_of (world_in queue.domains) sub.domain = sym (rules-at queue.domains sub.domain (shown d) at) in
+      let live : d.live ≡ is_live_in queue.domains sub.domain = sym (live-here queue.domains sub.domain (shown d) at) in
+      λ i. unwrap_or (option_or (option_map ChainFailed (failed-here sub.chain i)) (unmounted_of (live i) (stored.number i))) (rules.decide (table i) (opening i) (stored.commits i) (ruled i) (rows_in sub.base) (spans sub.base_commit sub.chain (stored.chains i)) sub.changes)
 
-  sent-here : slice_get ss (length line.outcomes) ≡ Some (sent_of sub)
-  sent-here = ap (slice_get ss) (sym place) ∙ sent_at ss line sound k sub next
+  sent-here : slice_get ss (length queue.outcomes) ≡ Some (sent_of sub)
+  sent-here = ap (slice_get ss) (sym place) ∙ sent_at ss queue sound k sub next
 
-  module _ (o : Outcome) (is : o ≡ commit.decide (failure_of line.failures sub.chain) d sub) (d' : Domain) (after : Decides d sub o d') where
+  module _ (o : Outcome) (is : o ≡ commit.decide (failure_of queue.failures sub.chain) d sub) (d' : Domain) (after : Decides d sub o d') where
     abbrev now : PipelineView
     now = record {
-      domains = set line.domains sub.domain (shown d');
-      gone = line.gone;
-      waiting = line.waiting;
-      outcomes = line.outcomes ++ o ∷ [];
-      failures = failures_after line.failures sub.chain (length line.outcomes + 1) (is_done o);
+      domains = set queue.domains sub.domain (shown d');
+      gone = queue.gone;
+      waiting = queue.waiting;
+      outcomes = queue.outcomes ++ o ∷ [];
+      failures = failures_after queue.failures sub.chain (length queue.outcomes + 1) (is_done o);
     }
 
     same : shown d' ≡ record (shown d) { ops = ops_of d'.commits.items; chains = chains_of d'.commits.items; receipts = receipts_of d'.commits.items }
@@ -250,76 +257,77 @@ module _ (ss : List Sent) (line : PipelineView) (sound : IsSound ss line) (k : �
       upgrades = tables_of (after.same.upgrades i).items;
       version = after.same.version i;
       since = after.same.since i;
+      rules = after.same.rules i;
       opening = after.opening i;
       ops = ops_of d'.commits.items;
       chains = chains_of d'.commits.items;
       receipts = receipts_of d'.commits.items;
     }
 
-    world-same : world_in now.domains ≡ world_in line.domains
-    world-same = map-set_same opened_as line.domains sub.domain (shown d') (shown d) (ap opened_as same ∙ ap opened_as (sym (get_or_from_slice_get line.domains sub.domain (shown d) (shown d) at)))
+    world-same : world_in now.domains ≡ world_in queue.domains
+    world-same = map-set_same opened_as queue.domains sub.domain (shown d') (shown d) (ap opened_as same ∙ ap opened_as (sym (get_or_from_slice_get queue.domains sub.domain (shown d) (shown d) at)))
 
-    commits-more : (n : ℕ) → commits_in ss now n ≡ commits_in ss line n ++ map ops_in (added n (sent_of sub) o)
-    commits-more n = told-decide ops_in n ss line.outcomes (sent_of sub) o sent-here
+    commits-more : (n : ℕ) → commits_in ss now n ≡ commits_in ss queue n ++ map ops_in (added n (sent_of sub) o)
+    commits-more n = told-decide ops_in n ss queue.outcomes (sent_of sub) o sent-here
 
-    chains-more : (n : ℕ) → chains_in ss now n ≡ chains_in ss line n ++ map chain_of (added n (sent_of sub) o)
-    chains-more n = told-decide chain_of n ss line.outcomes (sent_of sub) o sent-here
+    chains-more : (n : ℕ) → chains_in ss now n ≡ chains_in ss queue n ++ map chain_of (added n (sent_of sub) o)
+    chains-more n = told-decide chain_of n ss queue.outcomes (sent_of sub) o sent-here
 
-    receipts-more : (n : ℕ) → receipts_in ss now n ≡ receipts_in ss line n ++ added_receipt n (sent_of sub) o sub.receipt
+    receipts-more : (n : ℕ) → receipts_in ss now n ≡ receipts_in ss queue n ++ added_receipt n (sent_of sub) o sub.receipt
     receipts-more n =
-        let number : 1 + length line.outcomes ≡ sub.receipt = omega (arith, its_number) in
-        ap (λ (rs : List ℕ). 0 ∷ rs) (receipts-decide 1 n ss line.outcomes (sent_of sub) o sent-here) ∙ ap (λ r. receipts_in ss line n ++ added_receipt n (sent_of sub) o r) number
+        let number : 1 + length queue.outcomes ≡ sub.receipt = omega (arith, its_number) in
+        ap (λ (rs : List ℕ). 0 ∷ rs) (receipts-decide 1 n ss queue.outcomes (sent_of sub) o sent-here) ∙ ap (λ r. receipts_in ss queue n ++ added_receipt n (sent_of sub) o r) number
 
     domain-now : (n : ℕ) (e : DomainView) → slice_get now.domains n ≡ Some e → IsStored ss now n e
-    domain-now n e at_e = elim (slice_get-set line.domains sub.domain (shown d') n e at_e) [
+    domain-now n e at_e = elim (slice_get-set queue.domains sub.domain (shown d') n e at_e) [
       | inl w ↦
           subst (IsStored ss now n) w.1 (record {
             number = after.same.number ∙ stored.number ∙ sym w.0;
             commits =
-                after.commits ∙ ap (λ (cs : List (List Op)). cs ++ if_done o sub.changes) (stored.commits ∙ ap (commits_in ss line) (sym w.0))
-                ∙ ap (λ (cs : List (List Op)). commits_in ss line n ++ cs) (sym (told-here ops_in n (sent_of sub) o w.0)) ∙ sym (commits-more n);
+                after.commits ∙ ap (λ (cs : List (List Op)). cs ++ if_done o sub.changes) (stored.commits ∙ ap (commits_in ss queue) (sym w.0))
+                ∙ ap (λ (cs : List (List Op)). commits_in ss queue n ++ cs) (sym (told-here ops_in n (sent_of sub) o w.0)) ∙ sym (commits-more n);
             chains =
-                after.chains ∙ ap (λ (cs : List (Option ℕ)). cs ++ if_done o sub.chain) (stored.chains ∙ ap (chains_in ss line) (sym w.0))
-                ∙ ap (λ (cs : List (Option ℕ)). chains_in ss line n ++ cs) (sym (told-here chain_of n (sent_of sub) o w.0)) ∙ sym (chains-more n);
+                after.chains ∙ ap (λ (cs : List (Option ℕ)). cs ++ if_done o sub.chain) (stored.chains ∙ ap (chains_in ss queue) (sym w.0))
+                ∙ ap (λ (cs : List (Option ℕ)). chains_in ss queue n ++ cs) (sym (told-here chain_of n (sent_of sub) o w.0)) ∙ sym (chains-more n);
             receipts =
-                after.receipts ∙ ap (λ (rs : List ℕ). rs ++ if_done o sub.receipt) (stored.receipts ∙ ap (receipts_in ss line) (sym w.0))
-                ∙ ap (λ (rs : List ℕ). receipts_in ss line n ++ rs) (sym (receipt-here n (sent_of sub) o sub.receipt w.0)) ∙ sym (receipts-more n);
+                after.receipts ∙ ap (λ (rs : List ℕ). rs ++ if_done o sub.receipt) (stored.receipts ∙ ap (receipts_in ss queue) (sym w.0))
+                ∙ ap (λ (rs : List ℕ). receipts_in ss queue n ++ rs) (sym (receipt-here n (sent_of sub) o sub.receipt w.0)) ∙ sym (receipts-more n);
           })
       | inr w ↦
           let was = sound.domains n e w.1 in
           record {
             number = was.number;
-            commits = was.commits ∙ sym (append-nil (commits_in ss line n)) ∙ ap (λ (cs : List (List Op)). commits_in ss line n ++ cs) (sym (told-other ops_in n (sent_of sub) o w.0)) ∙ sym (commits-more n);
-            chains = was.chains ∙ sym (append-nil (chains_in ss line n)) ∙ ap (λ (cs : List (Option ℕ)). chains_in ss line n ++ cs) (sym (told-other chain_of n (sent_of sub) o w.0)) ∙ sym (chains-more n);
-            receipts = was.receipts ∙ sym (append-nil (receipts_in ss line n)) ∙ ap (λ (rs : List ℕ). receipts_in ss line n ++ rs) (sym (receipt-other n (sent_of sub) o sub.receipt w.0)) ∙ sym (receipts-more n);
+            commits = was.commits ∙ sym (append-nil (commits_in ss queue n)) ∙ ap (λ (cs : List (List Op)). commits_in ss queue n ++ cs) (sym (told-other ops_in n (sent_of sub) o w.0)) ∙ sym (commits-more n);
+            chains = was.chains ∙ sym (append-nil (chains_in ss queue n)) ∙ ap (λ (cs : List (Option ℕ)). chains_in ss queue n ++ cs) (sym (told-other chain_of n (sent_of sub) o w.0)) ∙ sym (chains-more n);
+            receipts = was.receipts ∙ sym (append-nil (receipts_in ss queue n)) ∙ ap (λ (rs : List ℕ). receipts_in ss queue n ++ rs) (sym (receipt-other n (sent_of sub) o sub.receipt w.0)) ∙ sym (receipts-more n);
           }
     ]
 
-    as_many : length now.failures ≡ length line.failures
-    as_many = length-after line.failures sub.chain (length line.outcomes + 1) (is_done o)
+    as_many : length now.failures ≡ length queue.failures
+    as_many = length-after queue.failures sub.chain (length queue.outcomes + 1) (is_done o)
 
-    stands-now : (s : Submission) → Stands ss line s → Stands ss now s
+    stands-now : (s : Submission) → Stands ss queue s → Stands ss now s
     stands-now s was = record {
-      domain = omega (arith, was.domain, length-set line.domains sub.domain (shown d'));
-      base = omega (arith, was.base, ap length (commits-more s.domain), length-append (commits_in ss line s.domain) (map ops_in (added s.domain (sent_of sub) o)));
+      domain = omega (arith, was.domain, length-set queue.domains sub.domain (shown d'));
+      base = omega (arith, was.base, ap length (commits-more s.domain), length-append (commits_in ss queue s.domain) (map ops_in (added s.domain (sent_of sub) o)));
       chain = subst (λ n. IsWithin n s.chain) (sym as_many) was.chain;
       view = was.view;
       below = was.below;
     }
 
-    failures-now : (id : ℕ) → noted_in now.failures id ≡ failing (Some id) ss (line.outcomes ++ o ∷ [])
+    failures-now : (id : ℕ) → noted_in now.failures id ≡ failing (Some id) ss (queue.outcomes ++ o ∷ [])
     failures-now id =
-        let following : 1 + length line.outcomes ≡ length line.outcomes + 1 = omega arith in
-        noted_in-after line.failures sub.chain (length line.outcomes + 1) (is_done o) id stands.chain
+        let following : 1 + length queue.outcomes ≡ length queue.outcomes + 1 = omega arith in
+        noted_in-after queue.failures sub.chain (length queue.outcomes + 1) (is_done o) id stands.chain
         ∙ (λ i. option_or (sound.failures id i) (if is_in (Some id) (sent_of sub) && not (is_done o) then Some (sym following i) else None))
-        ∙ sym (failing-decide 1 (Some id) ss line.outcomes (sent_of sub) o sent-here)
+        ∙ sym (failing-decide 1 (Some id) ss queue.outcomes (sent_of sub) o sent-here)
 
-    pub decided-one : AreDecided ss line 1 now
+    pub decided-one : AreDecided ss queue 1 now
     decided-one = record {
       sound = record {
-        some = omega (arith, sound.some, length-set line.domains sub.domain (shown d'));
-        within = omega (arith, length-append line.outcomes (o ∷ []), slice_get_within ss (length line.outcomes) (sent_of sub) sent-here);
-        behind = omega (arith, length-append line.outcomes (o ∷ []), sound.behind);
+        some = omega (arith, sound.some, length-set queue.domains sub.domain (shown d'));
+        within = omega (arith, length-append queue.outcomes (o ∷ []), slice_get_within ss (length queue.outcomes) (sent_of sub) sent-here);
+        behind = omega (arith, length-append queue.outcomes (o ∷ []), sound.behind);
         domains = domain-now;
         waiting = sound.waiting;
         standing = λ i s at_s. stands-now s (sound.standing i s at_s);
@@ -327,30 +335,30 @@ module _ (ss : List Sent) (line : PipelineView) (sound : IsSound ss line) (k : �
         failures = failures-now;
       };
       world = world-same;
-      live = live-set line.domains sub.domain (shown d) (shown d') at after.same.live;
-      versions = versions-set line.domains sub.domain (shown d) (shown d') at (λ i. (after.same.schema i).value) after.same.version;
+      live = live-set queue.domains sub.domain (shown d) (shown d') at after.same.live;
+      versions = versions-set queue.domains sub.domain (shown d) (shown d') at (λ i. (after.same.schema i).value) after.same.version;
       outcomes =
-          ap (λ (x : Outcome). line.outcomes ++ x ∷ []) (is ∙ outcome-here)
-          ∙ ap (λ (next_one : Option Sent). line.outcomes ++ (decide_front (world_in line.domains) (table_in line.domains) (is_live_in line.domains) ss line.outcomes next_one ++ [])) (sym sent-here);
+          ap (λ (x : Outcome). queue.outcomes ++ x ∷ []) (is ∙ outcome-here)
+          ∙ ap (λ (next_one : Option Sent). queue.outcomes ++ (decide_front (world_in queue.domains) (table_in queue.domains) (is_live_in queue.domains) ss queue.outcomes next_one ++ [])) (sym sent-here);
       chains = as_many;
     }
 
-    pub grown-one : HasGrown line now
+    pub grown-one : HasGrown queue now
     grown-one = record {
-      domains = HaveGrown-set line.domains sub.domain (shown d) (shown d') at same (if_done o sub.changes, after.commits) (if_done o sub.chain, after.chains) (if_done o sub.receipt, after.receipts);
+      domains = HaveGrown-set queue.domains sub.domain (shown d) (shown d') at same (if_done o sub.changes, after.commits) (if_done o sub.chain, after.chains) (if_done o sub.receipt, after.receipts);
       gone = refl;
       waiting = refl;
       outcomes = (o ∷ [], refl);
-      failures = cut_after (length line.outcomes) line.failures sub.chain (is_done o) stands.chain ∙ cut_none_late ss line sound;
+      failures = cut_after (length queue.outcomes) queue.failures sub.chain (is_done o) stands.chain ∙ cut_none_late ss queue sound;
     }
 
 -- nothing was decided
-pub grown_none : (ss : List Sent) (line : PipelineView) → IsSound ss line → HasGrown line line
-grown_none ss line sound = record { domains = HaveGrown-same line.domains; gone = refl; waiting = refl; outcomes = Grows-same line.outcomes; failures = cut_none_late ss line sound }
+pub grown_none : (ss : List Sent) (queue : PipelineView) → IsSound ss queue → HasGrown queue queue
+grown_none ss queue sound = record { domains = HaveGrown-same queue.domains; gone = refl; waiting = refl; outcomes = Grows-same queue.outcomes; failures = cut_none_late ss queue sound }
 
 -- ---- the same of a pipeline
 
-module _ (p : Pipeline) (kept : AllKept p.domains.items) (ss : List Sent) (sound : IsSound ss (line_of p)) (index : ℕ) (here : index ≡ length p.outcomes.items) (given : index < p.gone + length p.waiting.items) (sub : Submission) (sub_is : sub ≡ get_or p.waiting.items (index - p.gone) sub) where
+module _ (p : Pipeline) (kept : AllKept p.domains.items) (ss : List Sent) (sound : IsSound ss (queue_of p)) (index : ℕ) (here : index ≡ length p.outcomes.items) (given : index < p.gone + length p.waiting.items) (sub : Submission) (sub_is : sub ≡ get_or p.waiting.items (index - p.gone) sub) where
   place : p.gone + (index - p.gone) ≡ length p.outcomes.items
   place = omega (arith, here, sound.behind)
 
@@ -371,13 +379,13 @@ module _ (p : Pipeline) (kept : AllKept p.domains.items) (ss : List Sent) (sound
     kept_here = subst (λ (x : Domain). AreKept x.commits.items) (sym d_is) (kept sub.domain d domain_within)
 
     pub can_now : IsFor d sub
-    can_now = can_decide ss (line_of p) sound (index - p.gone) place sub next d kept_here at
+    can_now = can_decide ss (queue_of p) sound (index - p.gone) place sub next d kept_here at
 
     pub stamp_now : (stamp : ℕ) → stamp ≡ stamp_of (index + 1) → IsNewStamp d.commits.items sub.receipt stamp
-    stamp_now stamp is = new_stamp ss (line_of p) sound (index - p.gone) place sub next d kept_here at stamp (is ∙ ap (λ n. stamp_of (n + 1)) here)
+    stamp_now stamp is = new_stamp ss (queue_of p) sound (index - p.gone) place sub next d kept_here at stamp (is ∙ ap (λ n. stamp_of (n + 1)) here)
 
     -- where memory was wanting
-    pub grown_nothing : (d' : Domain) (os : List Outcome) → IsSame d d' → d'.commits.items ≡ d.commits.items → os ≡ p.outcomes.items → HasGrown (line_of p) (record { domains = map shown (set p.domains.items sub.domain d'); gone = p.gone; waiting = p.waiting.items; outcomes = os; failures = p.failures.items })
+    pub grown_nothing : (d' : Domain) (os : List Outcome) → IsSame d d' → d'.commits.items ≡ d.commits.items → os ≡ p.outcomes.items → HasGrown (queue_of p) (record { domains = map shown (set p.domains.items sub.domain d'); gone = p.gone; waiting = p.waiting.items; outcomes = os; failures = p.failures.items })
     grown_nothing d' os same commits old =
         let still : shown d' ≡ shown d = λ i. record {
           number = same.number i;
@@ -387,21 +395,22 @@ module _ (p : Pipeline) (kept : AllKept p.domains.items) (ss : List Sent) (sound
           upgrades = tables_of (same.upgrades i).items;
           version = same.version i;
           since = same.since i;
+          rules = same.rules i;
           opening = opening_in (commits i);
           ops = ops_of (commits i);
           chains = chains_of (commits i);
           receipts = receipts_of (commits i);
         } in
         let domains : map shown (set p.domains.items sub.domain d') ≡ map shown p.domains.items = map-set_same shown p.domains.items sub.domain d' d (still ∙ ap shown d_is) in
-        subst (HasGrown (line_of p)) (λ i. record { domains = sym domains i; gone = p.gone; waiting = p.waiting.items; outcomes = sym old i; failures = p.failures.items }) (grown_none ss (line_of p) sound)
+        subst (HasGrown (queue_of p)) (λ i. record { domains = sym domains i; gone = p.gone; waiting = p.waiting.items; outcomes = sym old i; failures = p.failures.items }) (grown_none ss (queue_of p) sound)
 
     module _ (o : Outcome) (is : o ≡ commit.decide (failure_of p.failures.items sub.chain) d sub) (d' : Domain) (after : Decides d sub o d') (os : List Outcome) (os_is : os ≡ p.outcomes.items ++ o ∷ []) (fs : List (Option ℕ)) (fs_are : fs ≡ failures_after p.failures.items sub.chain (length p.outcomes.items + 1) (is_done o)) where
       made : ◌≡◌ {A = PipelineView} (record { domains = set (map shown p.domains.items) sub.domain (shown d'); gone = p.gone; waiting = p.waiting.items; outcomes = p.outcomes.items ++ o ∷ []; failures = failures_after p.failures.items sub.chain (length p.outcomes.items + 1) (is_done o) })
           (record { domains = map shown (set p.domains.items sub.domain d'); gone = p.gone; waiting = p.waiting.items; outcomes = os; failures = fs })
-      made = λ i. let line : PipelineView = record { domains = sym (map-set shown p.domains.items sub.domain d') i; gone = p.gone; waiting = p.waiting.items; outcomes = sym os_is i; failures = sym fs_are i } in line
+      made = λ i. let queue : PipelineView = record { domains = sym (map-set shown p.domains.items sub.domain d') i; gone = p.gone; waiting = p.waiting.items; outcomes = sym os_is i; failures = sym fs_are i } in queue
 
-      pub decided_now : AreDecided ss (line_of p) 1 (record { domains = map shown (set p.domains.items sub.domain d'); gone = p.gone; waiting = p.waiting.items; outcomes = os; failures = fs })
-      decided_now = subst (AreDecided ss (line_of p) 1) made (decided-one ss (line_of p) sound (index - p.gone) place sub next d kept_here at o is d' after)
+      pub decided_now : AreDecided ss (queue_of p) 1 (record { domains = map shown (set p.domains.items sub.domain d'); gone = p.gone; waiting = p.waiting.items; outcomes = os; failures = fs })
+      decided_now = subst (AreDecided ss (queue_of p) 1) made (decided-one ss (queue_of p) sound (index - p.gone) place sub next d kept_here at o is d' after)
 
-      pub grown_now : HasGrown (line_of p) (record { domains = map shown (set p.domains.items sub.domain d'); gone = p.gone; waiting = p.waiting.items; outcomes = os; failures = fs })
-      grown_now = subst (HasGrown (line_of p)) made (grown-one ss (line_of p) sound (index - p.gone) place sub next d kept_here at o is d' after)
+      pub grown_now : HasGrown (queue_of p) (record { domains = map shown (set p.domains.items sub.domain d'); gone = p.gone; waiting = p.waiting.items; outcomes = os; failures = fs })
+      grown_now = subst (HasGrown (queue_of p)) made (grown-one ss (queue_of p) sound (index - p.gone) place sub next d kept_here at o is d' after)

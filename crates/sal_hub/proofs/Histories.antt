@@ -2,7 +2,7 @@
 use Rattle.std.proofs.Common.{◌≡◌, ℕ, ◌+◌, ◌<◌, ◌≤◌, Bool, true, false, List, [], ◌∷◌, ◌++◌, length, Option, None, Some, refl, ap, ◌∙◌, arith, append-nil, length-append, if◌then◌else◌}
 use Rattle.std.specs.Prelude.{option_and_then, ◌||◌}
 use Rattle.std.specs.Option.{option_or, option_to_list}
-use Rattle.std.specs.List.{cons_option, fold, list_any}
+use Rattle.std.specs.List.{fold, list_any}
 use Rattle.std.proofs.lemmas.Grind.{flat_map-append}
 use Rattle.std.proofs.lemmas.List.Folds.{list_any-append}
 use Rattle.std.proofs.lemmas.List.Sums.{fold-append}
@@ -17,11 +17,7 @@ use Rattle.sal_history.specs.Services.{mount_call, mounting, note_asked, note_ca
 use Rattle.sal_history.specs.Submissions.{Sent}
 use Rattle.sal_hub.proofs.Listed.{slice_get_left}
 use Rattle.sal_hub.proofs.Members.{last_from-push}
-
--- at most one more
-pub listed : {X : Type 0} (xs : List X) (o : Option X) → xs ++ cons_option o [] ≡ xs ++ option_to_list o
-listed xs None = refl
-listed xs (Some x) = refl
+pub use Rattle.sal_types.proofs.Shared.{listed}
 
 module _ (world : List Domain) where
   abbrev pub now_of : List Answered → Entry → Answered

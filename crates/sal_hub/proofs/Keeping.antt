@@ -15,8 +15,8 @@ use Rattle.sal_history.proofs.Versions.{schema_version-same}
 use Rattle.sal_history.specs.History.{Answered, chain_domains, commits, decided_by, history, is_live, is_spent, opened_chain, outcomes, reply_to, sent_by, sents, spends}
 use Rattle.sal_history.specs.Services.{mount_call}
 use Rattle.sal_history.specs.Submissions.{Sent, done_chains, done_ops}
-use Rattle.sal_closed.proofs.Versions.{sents_stay_lawful}
-use Rattle.sal_closed.specs.Logs.{AreSentLawful, AreSound, IsSentLawful}
+use Rattle.sal_history_laws.proofs.Versions.{sents_stay_lawful}
+use Rattle.sal_history_laws.specs.Logs.{AreSentLawful, AreSound, IsSentLawful}
 use Rattle.sal_hub.specs.Current.{IsCurrent, answers, number_of}
 use Rattle.sal_hub.specs.Journals.{mark_at}
 use Rattle.sal_hub.specs.CommitReceipts.{commit_receipts}
@@ -26,10 +26,7 @@ use Rattle.sal_hub.proofs.Histories.{chains-push, history-push, live-quiet, now_
 use Rattle.sal_hub.proofs.Listed.{last_or_before}
 use Rattle.sal_hub.proofs.Members.{failing-submit}
 use Rattle.sal_hub.proofs.Numbered.{receipts-submit}
-
-pub or_false : (b : Bool) → (b || false) ≡ b
-or_false true = refl
-or_false false = refl
+pub use Rattle.sal_tree.proofs.Cells.{or_false}
 
 pub or_true : (b : Bool) → (b || true) ≡ true
 or_true true = refl
@@ -39,50 +36,50 @@ pub none_more : (n : ℕ) → n ≡ n + 0
 none_more n = omega arith
 
 -- the commits that are kept are the log's
-pub commits-current : (log : List Entry) (marks : List Bool) (line : PipelineView) (n : ℕ) → IsCurrent log marks line → commits_in (sents (answers log line)) line n ≡ commits (answers log line) n
-commits-current log marks line n was = λ i. done_ops n (sents (answers log line)) (was.outcomes i)
+pub commits-current : (log : List Entry) (marks : List Bool) (queue : PipelineView) (n : ℕ) → IsCurrent log marks queue → commits_in (sents (answers log queue)) queue n ≡ commits (answers log queue) n
+commits-current log marks queue n was = λ i. done_ops n (sents (answers log queue)) (was.outcomes i)
 
-pub chains-current : (log : List Entry) (marks : List Bool) (line : PipelineView) (n : ℕ) → IsCurrent log marks line → chains_in (sents (answers log line)) line n ≡ done_chains n (sents (answers log line)) (outcomes (answers log line))
-chains-current log marks line n was = λ i. done_chains n (sents (answers log line)) (was.outcomes i)
+pub chains-current : (log : List Entry) (marks : List Bool) (queue : PipelineView) (n : ℕ) → IsCurrent log marks queue → chains_in (sents (answers log queue)) queue n ≡ done_chains n (sents (answers log queue)) (outcomes (answers log queue))
+chains-current log marks queue n was = λ i. done_chains n (sents (answers log queue)) (was.outcomes i)
 
-pub receipts-current : (log : List Entry) (marks : List Bool) (line : PipelineView) (n : ℕ) → IsCurrent log marks line → receipts_in (sents (answers log line)) line n ≡ commit_receipts n (sents (answers log line)) (outcomes (answers log line))
-receipts-current log marks line n was = λ i. commit_receipts n (sents (answers log line)) (was.outcomes i)
+pub receipts-current : (log : List Entry) (marks : List Bool) (queue : PipelineView) (n : ℕ) → IsCurrent log marks queue → receipts_in (sents (answers log queue)) queue n ≡ commit_receipts n (sents (answers log queue)) (outcomes (answers log queue))
+receipts-current log marks queue n was = λ i. commit_receipts n (sents (answers log queue)) (was.outcomes i)
 
-module _ (log : List Entry) (marks : List Bool) (line : PipelineView) (was : IsCurrent log marks line) (e : Entry) where
+module _ (log : List Entry) (marks : List Bool) (queue : PipelineView) (was : IsCurrent log marks queue) (e : Entry) where
   abbrev world : List Domain
-  world = world_in line.domains
+  world = world_in queue.domains
 
   abbrev answered : List Answered
-  answered = answers log line
+  answered = answers log queue
 
   abbrev reply : Reply
   reply = reply_to world answered e.client e.call
 
   -- the same domains are live, where the call is none on mounts
-  pub still_live : (line' : PipelineView) → mount_call e.call ≡ None → ((n : ℕ) → is_live_in line'.domains n ≡ is_live_in line.domains n) → (n : ℕ) → is_live_in line'.domains n ≡ is_live (world_in line.domains) (history (world_in line.domains) (log ++ e ∷ [])) n
-  still_live line' unmounted same n = same n ∙ was.live n ∙ sym (live-quiet world log e n unmounted)
+  pub still_live : (queue' : PipelineView) → mount_call e.call ≡ None → ((n : ℕ) → is_live_in queue'.domains n ≡ is_live_in queue.domains n) → (n : ℕ) → is_live_in queue'.domains n ≡ is_live (world_in queue.domains) (history (world_in queue.domains) (log ++ e ∷ [])) n
+  still_live queue' unmounted same n = same n ∙ was.live n ∙ sym (live-quiet world log e n unmounted)
 
   -- the present version stays, where the call is no good upgrade
-  pub still_version : upgraded e.call (reply_to (world_in line.domains) (answers log line) e.client e.call) ≡ false → schema_version (history (world_in line.domains) (log ++ e ∷ [])) ≡ schema_version (answers log line)
+  pub still_version : upgraded e.call (reply_to (world_in queue.domains) (answers log queue) e.client e.call) ≡ false → schema_version (history (world_in queue.domains) (log ++ e ∷ [])) ≡ schema_version (answers log queue)
   still_version none = ap schema_version (history-push world log e) ∙ schema_version-same answered (now_of world answered e) none
 
   -- what the call submits, if anything: the submissions with it, and its operations, which are lawful
   abbrev pub Adds : PipelineView → Type 0
-  Adds line' =
-      IsSound (sents (answers log line) ++ option_to_list (sent_by (answers log line) e.call (reply_to (world_in line.domains) (answers log line) e.client e.call))) line'
-      × ((s : Sent) → sent_by (answers log line) e.call (reply_to (world_in line.domains) (answers log line) e.client e.call) ≡ Some s → IsSentLawful (tables_now (world_in line.domains) (answers log line)) s)
+  Adds queue' =
+      IsSound (sents (answers log queue) ++ option_to_list (sent_by (answers log queue) e.call (reply_to (world_in queue.domains) (answers log queue) e.client e.call))) queue'
+      × ((s : Sent) → sent_by (answers log queue) e.call (reply_to (world_in queue.domains) (answers log queue) e.client e.call) ≡ Some s → IsSentLawful (tables_now (world_in queue.domains) (answers log queue)) s)
 
   -- a call that submits nothing
-  pub unsent : (line' : PipelineView) → sent_by (answers log line) e.call (reply_to (world_in line.domains) (answers log line) e.client e.call) ≡ None → IsSound (sents (answers log line)) line'
-      → Adds line'
-  unsent line' none sound = (
-    subst (λ (ss : List Sent). IsSound ss line') (sym (append-nil (sents answered)) ∙ ap (λ (o : Option Sent). sents answered ++ option_to_list o) (sym none)) sound,
+  pub unsent : (queue' : PipelineView) → sent_by (answers log queue) e.call (reply_to (world_in queue.domains) (answers log queue) e.client e.call) ≡ None → IsSound (sents (answers log queue)) queue'
+      → Adds queue'
+  unsent queue' none sound = (
+    subst (λ (ss : List Sent). IsSound ss queue') (sym (append-nil (sents answered)) ∙ ap (λ (o : Option Sent). sents answered ++ option_to_list o) (sym none)) sound,
     λ s e. absurd (none-some s (sym none ∙ e)),
   )
 
   -- with it, the submissions of the log are lawful, whether the call is an upgrade or not
-  pub lawful-push : ((s : Sent) → sent_by (answers log line) e.call (reply_to (world_in line.domains) (answers log line) e.client e.call) ≡ Some s → IsSentLawful (tables_now (world_in line.domains) (answers log line)) s)
-      → AreSentLawful (world_in line.domains) (history (world_in line.domains) (log ++ e ∷ []))
+  pub lawful-push : ((s : Sent) → sent_by (answers log queue) e.call (reply_to (world_in queue.domains) (answers log queue) e.client e.call) ≡ Some s → IsSentLawful (tables_now (world_in queue.domains) (answers log queue)) s)
+      → AreSentLawful (world_in queue.domains) (history (world_in queue.domains) (log ++ e ∷ []))
   lawful-push new i s at =
       subst (λ (later : List Answered). IsSentLawful (tables_now world later) s) (sym (history-push world log e))
       (sents_stay_lawful world answered (now_of world answered e) s was.openings
@@ -95,20 +92,20 @@ module _ (log : List Entry) (marks : List Bool) (line : PipelineView) (was : IsC
         | inr w ↦ new s (is ∙ ap Some w.1)
       ]
 
-  long : (line' : PipelineView) → world_in line'.domains ≡ world_in line.domains → length line'.domains ≡ length line.domains
-  long line' same = sym (length-map line'.domains opened_as) ∙ ap length same ∙ length-map line.domains opened_as
+  long : (queue' : PipelineView) → world_in queue'.domains ≡ world_in queue.domains → length queue'.domains ≡ length queue.domains
+  long queue' same = sym (length-map queue'.domains opened_as) ∙ ap length same ∙ length-map queue.domains opened_as
 
   -- the entry with what it leaves, by the versions that its log gives
-  pub pushed_as : (line' : PipelineView) (marks' : List Bool) → Adds line' → world_in line'.domains ≡ world_in line.domains
-      → ((n : ℕ) → table_in line'.domains n ≡ tables_now (world_in line.domains) (history (world_in line.domains) (log ++ e ∷ [])) n)
-      → ((n : ℕ) → n < length line.domains → version_of line'.domains n ≡ number_of (schema_version (history (world_in line.domains) (log ++ e ∷ []))) n)
-      → line'.outcomes ≡ line.outcomes ++ decided_by (world_in line.domains) (answers log line) e.call
-      → ((k : ℕ) → mark_at marks' k ≡ (mark_at marks k || spends e.call (reply_to (world_in line.domains) (answers log line) e.client e.call) k))
-      → length line'.failures ≡ length line.failures + length (option_to_list (opened_chain e.call (reply_to (world_in line.domains) (answers log line) e.client e.call)))
-      → ((n : ℕ) → is_live_in line'.domains n ≡ is_live (world_in line.domains) (history (world_in line.domains) (log ++ e ∷ [])) n)
-      → IsCurrent (log ++ e ∷ []) marks' line'
-  pushed_as line' marks' adds same tables versions decided marked opened live = record {
-    sound = subst (λ (ss : List Sent). IsSound ss line') (sym (sents-push world log e) ∙ (λ i. sents (history (sym same i) (log ++ e ∷ [])))) adds.0;
+  pub pushed_as : (queue' : PipelineView) (marks' : List Bool) → Adds queue' → world_in queue'.domains ≡ world_in queue.domains
+      → ((n : ℕ) → table_in queue'.domains n ≡ tables_now (world_in queue.domains) (history (world_in queue.domains) (log ++ e ∷ [])) n)
+      → ((n : ℕ) → n < length queue.domains → version_of queue'.domains n ≡ number_of (schema_version (history (world_in queue.domains) (log ++ e ∷ []))) n)
+      → queue'.outcomes ≡ queue.outcomes ++ decided_by (world_in queue.domains) (answers log queue) e.call
+      → ((k : ℕ) → mark_at marks' k ≡ (mark_at marks k || spends e.call (reply_to (world_in queue.domains) (answers log queue) e.client e.call) k))
+      → length queue'.failures ≡ length queue.failures + length (option_to_list (opened_chain e.call (reply_to (world_in queue.domains) (answers log queue) e.client e.call)))
+      → ((n : ℕ) → is_live_in queue'.domains n ≡ is_live (world_in queue.domains) (history (world_in queue.domains) (log ++ e ∷ [])) n)
+      → IsCurrent (log ++ e ∷ []) marks' queue'
+  pushed_as queue' marks' adds same tables versions decided marked opened live = record {
+    sound = subst (λ (ss : List Sent). IsSound ss queue') (sym (sents-push world log e) ∙ (λ i. sents (history (sym same i) (log ++ e ∷ [])))) adds.0;
     outcomes =
         decided ∙ ap (λ (os : List Outcome). os ++ decided_by world answered e.call) was.outcomes ∙ sym (outcomes-push world log e)
         ∙ (λ i. outcomes (history (sym same i) (log ++ e ∷ [])));
@@ -124,54 +121,54 @@ module _ (log : List Entry) (marks : List Bool) (line : PipelineView) (was : IsC
     openings = subst AreSound (sym same) was.openings;
     only = subst OneIsUpgraded (sym same) was.only;
     tables = λ n. tables n ∙ (λ i. tables_now (sym same i) (history (sym same i) (log ++ e ∷ [])) n);
-    versions = λ n low. versions n (omega (arith, low, long line' same)) ∙ (λ i. number_of (schema_version (history (sym same i) (log ++ e ∷ []))) n);
+    versions = λ n low. versions n (omega (arith, low, long queue' same)) ∙ (λ i. number_of (schema_version (history (sym same i) (log ++ e ∷ []))) n);
   }
 
   -- the same of a call that is no good upgrade: each domain has the version that it had
-  pub pushed : upgraded e.call (reply_to (world_in line.domains) (answers log line) e.client e.call) ≡ false → (line' : PipelineView) (marks' : List Bool) → Adds line' → world_in line'.domains ≡ world_in line.domains
-      → KeepVersions line.domains line'.domains
-      → line'.outcomes ≡ line.outcomes ++ decided_by (world_in line.domains) (answers log line) e.call
-      → ((k : ℕ) → mark_at marks' k ≡ (mark_at marks k || spends e.call (reply_to (world_in line.domains) (answers log line) e.client e.call) k))
-      → length line'.failures ≡ length line.failures + length (option_to_list (opened_chain e.call (reply_to (world_in line.domains) (answers log line) e.client e.call)))
-      → ((n : ℕ) → is_live_in line'.domains n ≡ is_live (world_in line.domains) (history (world_in line.domains) (log ++ e ∷ [])) n)
-      → IsCurrent (log ++ e ∷ []) marks' line'
-  pushed none line' marks' adds same kept decided marked opened live =
-      pushed_as line' marks' adds same
+  pub pushed : upgraded e.call (reply_to (world_in queue.domains) (answers log queue) e.client e.call) ≡ false → (queue' : PipelineView) (marks' : List Bool) → Adds queue' → world_in queue'.domains ≡ world_in queue.domains
+      → KeepVersions queue.domains queue'.domains
+      → queue'.outcomes ≡ queue.outcomes ++ decided_by (world_in queue.domains) (answers log queue) e.call
+      → ((k : ℕ) → mark_at marks' k ≡ (mark_at marks k || spends e.call (reply_to (world_in queue.domains) (answers log queue) e.client e.call) k))
+      → length queue'.failures ≡ length queue.failures + length (option_to_list (opened_chain e.call (reply_to (world_in queue.domains) (answers log queue) e.client e.call)))
+      → ((n : ℕ) → is_live_in queue'.domains n ≡ is_live (world_in queue.domains) (history (world_in queue.domains) (log ++ e ∷ [])) n)
+      → IsCurrent (log ++ e ∷ []) marks' queue'
+  pushed none queue' marks' adds same kept decided marked opened live =
+      pushed_as queue' marks' adds same
       (λ n. kept.tables n ∙ was.tables n ∙ ap (λ v. table_of world v n) (sym (still_version none)))
       (λ n low. kept.versions n ∙ was.versions n low ∙ ap (λ v. number_of v n) (sym (still_version none)))
       decided marked opened live
 
   -- a call that is none on mounts, and submits, decides, spends and opens nothing
-  pub quiet : upgraded e.call (reply_to (world_in line.domains) (answers log line) e.client e.call) ≡ false → (marks' : List Bool) → mount_call e.call ≡ None → sent_by (answers log line) e.call (reply_to (world_in line.domains) (answers log line) e.client e.call) ≡ None → decided_by (world_in line.domains) (answers log line) e.call ≡ []
-      → ((k : ℕ) → spends e.call (reply_to (world_in line.domains) (answers log line) e.client e.call) k ≡ false) → ((k : ℕ) → mark_at marks' k ≡ mark_at marks k)
-      → opened_chain e.call (reply_to (world_in line.domains) (answers log line) e.client e.call) ≡ None
-      → IsCurrent (log ++ e ∷ []) marks' line
+  pub quiet : upgraded e.call (reply_to (world_in queue.domains) (answers log queue) e.client e.call) ≡ false → (marks' : List Bool) → mount_call e.call ≡ None → sent_by (answers log queue) e.call (reply_to (world_in queue.domains) (answers log queue) e.client e.call) ≡ None → decided_by (world_in queue.domains) (answers log queue) e.call ≡ []
+      → ((k : ℕ) → spends e.call (reply_to (world_in queue.domains) (answers log queue) e.client e.call) k ≡ false) → ((k : ℕ) → mark_at marks' k ≡ mark_at marks k)
+      → opened_chain e.call (reply_to (world_in queue.domains) (answers log queue) e.client e.call) ≡ None
+      → IsCurrent (log ++ e ∷ []) marks' queue
   quiet unraised marks' unmounted none nothing unspent same unopened =
-      pushed unraised line marks' (unsent line none was.sound) refl (versions-same line.domains)
-      (sym (append-nil line.outcomes) ∙ ap (λ (os : List Outcome). line.outcomes ++ os) (sym nothing))
+      pushed unraised queue marks' (unsent queue none was.sound) refl (versions-same queue.domains)
+      (sym (append-nil queue.outcomes) ∙ ap (λ (os : List Outcome). queue.outcomes ++ os) (sym nothing))
       (λ k. same k ∙ sym (or_false (mark_at marks k)) ∙ ap (λ b. mark_at marks k || b) (sym (unspent k)))
-      (none_more (length line.failures) ∙ ap (λ (o : Option ℕ). length line.failures + length (option_to_list o)) (sym unopened))
-      (still_live line unmounted (λ n. refl))
+      (none_more (length queue.failures) ∙ ap (λ (o : Option ℕ). length queue.failures + length (option_to_list o)) (sym unopened))
+      (still_live queue unmounted (λ n. refl))
 
 -- ---- a submission more
 
-module _ (ss : List Sent) (line : PipelineView) (sound : IsSound ss line) (s : Submission) (stands : Stands ss line s) (number : s.receipt ≡ line.gone + length line.waiting + 1) where
+module _ (ss : List Sent) (queue : PipelineView) (sound : IsSound ss queue) (s : Submission) (stands : Stands ss queue s) (number : s.receipt ≡ queue.gone + length queue.waiting + 1) where
   abbrev longer : PipelineView
-  longer = record { domains = line.domains; gone = line.gone; waiting = line.waiting ++ s ∷ []; outcomes = line.outcomes; failures = line.failures }
+  longer = record { domains = queue.domains; gone = queue.gone; waiting = queue.waiting ++ s ∷ []; outcomes = queue.outcomes; failures = queue.failures }
 
   abbrev all : List Sent
   all = ss ++ sent_of s ∷ []
 
-  commits-longer : (n : ℕ) → commits_in all longer n ≡ commits_in ss line n
-  commits-longer n = ap (map (λ (x : Sent). x.ops)) (done-submit n ss line.outcomes (sent_of s) sound.within)
+  commits-longer : (n : ℕ) → commits_in all longer n ≡ commits_in ss queue n
+  commits-longer n = ap (map (λ (x : Sent). x.ops)) (done-submit n ss queue.outcomes (sent_of s) sound.within)
 
-  chains-longer : (n : ℕ) → chains_in all longer n ≡ chains_in ss line n
-  chains-longer n = ap (map (λ (x : Sent). x.base.chain)) (done-submit n ss line.outcomes (sent_of s) sound.within)
+  chains-longer : (n : ℕ) → chains_in all longer n ≡ chains_in ss queue n
+  chains-longer n = ap (map (λ (x : Sent). x.base.chain)) (done-submit n ss queue.outcomes (sent_of s) sound.within)
 
-  receipts-longer : (n : ℕ) → receipts_in all longer n ≡ receipts_in ss line n
-  receipts-longer n = ap (λ (rs : List ℕ). 0 ∷ rs) (receipts-submit 1 n ss line.outcomes (sent_of s) sound.within)
+  receipts-longer : (n : ℕ) → receipts_in all longer n ≡ receipts_in ss queue n
+  receipts-longer n = ap (λ (rs : List ℕ). 0 ∷ rs) (receipts-submit 1 n ss queue.outcomes (sent_of s) sound.within)
 
-  stands-longer : (t : Submission) → Stands ss line t → Stands all longer t
+  stands-longer : (t : Submission) → Stands ss queue t → Stands all longer t
   stands-longer t was = record {
     domain = was.domain;
     base = subst (λ (cs : List (List Op)). t.base_commit ≤ length cs) (sym (commits-longer t.domain)) was.base;
@@ -187,19 +184,19 @@ module _ (ss : List Sent) (line : PipelineView) (sound : IsSound ss line) (s : S
     behind = sound.behind;
     domains = λ n d at. let had = sound.domains n d at in record { number = had.number; commits = had.commits ∙ sym (commits-longer n); chains = had.chains ∙ sym (chains-longer n); receipts = had.receipts ∙ sym (receipts-longer n) };
     waiting =
-        map-append sent_of line.waiting (s ∷ []) ∙ ap (λ (xs : List Sent). xs ++ sent_of s ∷ []) sound.waiting
-        ∙ sym (drop-append-le line.gone ss (sent_of s ∷ []) (omega (arith, sound.behind, sound.within)));
-    standing = λ i t at. elim (last_or_before line.waiting s t i at) [
+        map-append sent_of queue.waiting (s ∷ []) ∙ ap (λ (xs : List Sent). xs ++ sent_of s ∷ []) sound.waiting
+        ∙ sym (drop-append-le queue.gone ss (sent_of s ∷ []) (omega (arith, sound.behind, sound.within)));
+    standing = λ i t at. elim (last_or_before queue.waiting s t i at) [
       | inl old ↦ stands-longer t (sound.standing i t old)
-      | inr w ↦ stands-longer t (subst (Stands ss line) w.1 stands)
+      | inr w ↦ stands-longer t (subst (Stands ss queue) w.1 stands)
     ];
-    numbers = λ i t at. elim (last_or_before line.waiting s t i at) [
+    numbers = λ i t at. elim (last_or_before queue.waiting s t i at) [
       | inl old ↦ sound.numbers i t old
-      | inr w ↦ ap (λ (x : Submission). x.receipt) (sym w.1) ∙ number ∙ ap (λ k. line.gone + k + 1) (sym w.0)
+      | inr w ↦ ap (λ (x : Submission). x.receipt) (sym w.1) ∙ number ∙ ap (λ k. queue.gone + k + 1) (sym w.0)
     ];
-    failures = λ k. sound.failures k ∙ sym (failing-submit 1 (Some k) ss line.outcomes (sent_of s) sound.within);
+    failures = λ k. sound.failures k ∙ sym (failing-submit 1 (Some k) ss queue.outcomes (sent_of s) sound.within);
   }
 
 -- how many submissions and outcomes there are
-pub length-submissions : (log : List Entry) (marks : List Bool) (line : PipelineView) → IsCurrent log marks line → line.gone + length line.waiting ≡ length (sents (answers log line))
-length-submissions log marks line was = count_is (sents (answers log line)) line was.sound
+pub length-submissions : (log : List Entry) (marks : List Bool) (queue : PipelineView) → IsCurrent log marks queue → queue.gone + length queue.waiting ≡ length (sents (answers log queue))
+length-submissions log marks queue was = count_is (sents (answers log queue)) queue was.sound

@@ -4,6 +4,7 @@ use Rattle.std.specs.Prelude.{slice_get}
 use Rattle.std.proofs.lemmas.Option.{same_Some}
 use Rattle.std.proofs.Math.Seq.{take-append_seam}
 use Rattle.sal_hub.specs.PipelineView.{Grows}
+pub use Rattle.sal_types.proofs.Lists.{last_or_before}
 
 -- what code reads at an index
 pub slice_get_at : {X : Type 0} (xs : List X) (i : ℕ) (x : X) → i < length xs → x ≡ get_or xs i x → slice_get xs i ≡ Some x
@@ -33,17 +34,6 @@ slice_get-set (x ∷ xs) (suc i) y (suc n) z e =
     elim (slice_get-set xs i y n z e) [
       | inl w ↦ inl (ap suc w.0, w.1)
       | inr w ↦ inr (λ h. w.0 (omega (arith, h)), w.1)
-    ]
-
--- and with one more at its end
-pub last_or_before : {X : Type 0} (xs : List X) (y z : X) (i : ℕ) → slice_get (xs ++ y ∷ []) i ≡ Some z → (slice_get xs i ≡ Some z) ⊎ ((i ≡ length xs) × (y ≡ z))
-last_or_before [] y z zero e = inr (refl, same_Some y z e)
-last_or_before [] y z (suc i) e = cc
-last_or_before (x ∷ xs) y z zero e = inl e
-last_or_before (x ∷ xs) y z (suc i) e =
-    elim (last_or_before xs y z i e) [
-      | inl old ↦ inl old
-      | inr w ↦ inr (ap suc w.0, w.1)
     ]
 
 pub slice_get_left : {X : Type 0} (xs ys : List X) (k : ℕ) → k < length xs → slice_get (xs ++ ys) k ≡ slice_get xs k

@@ -29,7 +29,7 @@ pub is_device_low : (devices n : ℕ) → is_device devices n ≡ true → n < d
 is_device_low devices n is = grind (arith, nat_tests)
 
 -- what is mounted is a device
-accepted_device : (b : Bool) (f : MountFault) (o : Option MountFault) → refused_or (option_or (fault_if (not b) f) o) ≡ Accepted → b ≡ true
+pub accepted_device : (b : Bool) (f : MountFault) (o : Option MountFault) → refused_or (option_or (fault_if (not b) f) o) ≡ Accepted → b ≡ true
 accepted_device true f o e = refl
 accepted_device false f o e = cc
 

@@ -7,10 +7,7 @@ use Rattle.std.proofs.lemmas.Option.{same_Some}
 use Rattle.sal_rows.specs.declared.outcome.Outcome.{Outcome}
 use Rattle.sal_history.specs.Submissions.{Sent, failing, failing_from, is_done, is_in, last_from}
 use Rattle.sal_hub.specs.Failures.{up_to}
-
-or_assoc : {X : Type 0} (a b c : Option X) → option_or (option_or a b) c ≡ option_or a (option_or b c)
-or_assoc None b c = refl
-or_assoc (Some x) b c = refl
+use Rattle.sal_rows.proofs.Applied.{or_assoc}
 
 -- ---- the last that passes a test
 

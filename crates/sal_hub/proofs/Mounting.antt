@@ -30,12 +30,12 @@ use Rattle.sal_hub.specs.Answers.{Fails, Made}
 use Rattle.sal_hub.specs.Current.{IsCurrent, IsKept, answers, known_of}
 use Rattle.sal_hub.specs.Journals.{Noted, mark_at}
 use Rattle.sal_hub.specs.HubHistory.{HubHistory}
-use Rattle.sal_hub.specs.PipelineView.{AllKept, IsSound, KeepVersions, PipelineView, DomainView, is_live_in, line_of, opened_as, set_live, shown, with_live, world_in}
+use Rattle.sal_hub.specs.PipelineView.{AllKept, IsSound, KeepVersions, PipelineView, DomainView, is_live_in, queue_of, opened_as, set_live, shown, with_live, world_in}
 use Rattle.sal_hub.specs.Mounted.{AreMounted, Enters, IsJotted}
 use Rattle.sal_hub.proofs.Deciding.{versions-same}
 use Rattle.sal_hub.proofs.Histories.{mounting-push}
 use Rattle.sal_hub.proofs.Keeping.{none_more, or_false, pushed, unsent}
-use Rattle.sal_hub.proofs.Living.{is_device_low, live-mounted, live-same, live-unmounted, live_there}
+use Rattle.sal_hub.proofs.Living.{is_device_low, live-mounted, live-same, live-unmounted, live_there, accepted_device}
 use Rattle.sal_hub.proofs.Served.{is_serving, serving_undecided, serving_unopened, serving_unraised, serving_unsent, serving_unspent}
 
 -- ---- a domain that is live from now on, or not
@@ -81,7 +81,7 @@ shown-with (x ∷ ds) zero b d d' h is same = ap (λ (e : DomainView). e ∷ map
 shown-with (x ∷ ds) (suc i) b d d' h is same = ap (λ (es : List DomainView). shown x ∷ es) (shown-with ds i b d d' (omega (arith, h)) is same)
 
 pub line_with : (p : Pipeline) (i : ℕ) (b : Bool) (d d' : Stored) → i < length p.domains.items → d ≡ get_or p.domains.items i d → shown d' ≡ record (shown d) { live = b }
-    → ◌≡◌ {A = PipelineView} (record { domains = map shown (set p.domains.items i d'); gone = p.gone; waiting = p.waiting.items; outcomes = p.outcomes.items; failures = p.failures.items }) (set_live (line_of p) i b)
+    → ◌≡◌ {A = PipelineView} (record { domains = map shown (set p.domains.items i d'); gone = p.gone; waiting = p.waiting.items; outcomes = p.outcomes.items; failures = p.failures.items }) (set_live (queue_of p) i b)
 line_with p i b d d' h is same = λ j. record { domains = shown-with p.domains.items i b d d' h is same j; gone = p.gone; waiting = p.waiting.items; outcomes = p.outcomes.items; failures = p.failures.items }
 
 -- nothing else of a domain changes
@@ -96,13 +96,13 @@ at-with (d ∷ ds) zero b (suc n) e at = (e, at, refl)
 at-with (d ∷ ds) (suc i) b zero e at = (e, at, refl)
 at-with (d ∷ ds) (suc i) b (suc n) e at = at-with ds i b n e at
 
-sound-with : (ss : List Sent) (line : PipelineView) (i : ℕ) (b : Bool) → IsSound ss line → IsSound ss (set_live line i b)
-sound-with ss line i b sound = record {
-  some = omega (arith, sound.some, length-with line.domains i b);
+sound-with : (ss : List Sent) (queue : PipelineView) (i : ℕ) (b : Bool) → IsSound ss queue → IsSound ss (set_live queue i b)
+sound-with ss queue i b sound = record {
+  some = omega (arith, sound.some, length-with queue.domains i b);
   within = sound.within;
   behind = sound.behind;
   domains = λ n e at. (
-      let (d, was, same) = at-with line.domains i b n e at in
+      let (d, was, same) = at-with queue.domains i b n e at in
       let had = sound.domains n d was in
       record {
         number = ap (λ (x : DomainView). x.number) same ∙ had.number;
@@ -112,7 +112,7 @@ sound-with ss line i b sound = record {
       }
       );
   waiting = sound.waiting;
-  standing = λ k s at. let had = sound.standing k s at in record { domain = omega (arith, had.domain, length-with line.domains i b); base = had.base; chain = had.chain; view = had.view; below = had.below };
+  standing = λ k s at. let had = sound.standing k s at in record { domain = omega (arith, had.domain, length-with queue.domains i b); base = had.base; chain = had.chain; view = had.view; below = had.below };
   numbers = sound.numbers;
   failures = sound.failures;
 }
@@ -123,10 +123,6 @@ accepted_fresh : (a b : Bool) (f g : MountFault) (o : Option MountFault) → ref
 accepted_fresh true b f g o e = cc
 accepted_fresh false true f g o e = cc
 accepted_fresh false false f g o e = refl
-
-accepted_device : (b : Bool) (f : MountFault) (o : Option MountFault) → refused_or (option_or (fault_if (not b) f) o) ≡ Accepted → b ≡ true
-accepted_device true f o e = refl
-accepted_device false f o e = cc
 
 unmount_accepted : (a b : Bool) (f : MountFault) → (if not a && b then Accepted else Refused f) ≡ Accepted → (a ≡ false) × (b ≡ true)
 unmount_accepted true b f e = cc
@@ -150,10 +146,10 @@ serves call m e = cc
 
 module _ (journal journal' : Noted) (p : Pipeline) (is : IsKept journal p) (r r' : Register) (are : AreMounted (known_of journal p) r) (client : ℕ) (call : Call) (m : MountCall) (asks : mount_call call ≡ Some m) where
   abbrev w : List Domain
-  w = world_in (line_of p).domains
+  w = world_in (queue_of p).domains
 
   abbrev answered : List Answered
-  answered = answers journal.log (line_of p)
+  answered = answers journal.log (queue_of p)
 
   abbrev entry : Entry
   entry = record { client = client; number = entries_of journal.log client; call = call }
@@ -162,7 +158,7 @@ module _ (journal journal' : Noted) (p : Pipeline) (is : IsKept journal p) (r r'
   before = mounted (length w) answered
 
   module _ (reply : MountReply) (makes : Makes r r' m reply) where
-    pub reply_is : reply_by (length (world_in (line_of p).domains)) (mounted (length (world_in (line_of p).domains)) (answers journal.log (line_of p))) m ≡ reply
+    pub reply_is : reply_by (length (world_in (queue_of p).domains)) (mounted (length (world_in (queue_of p).domains)) (answers journal.log (queue_of p))) m ≡ reply
     reply_is = ap (λ n. reply_by n (made_of n (mounting answered)) m) (sym are.devices) ∙ makes.answer (mounting answered) are.calls
 
     calls_more : mounting (history w (journal.log ++ entry ∷ [])) ≡ mounting answered ++ m ∷ []
@@ -176,7 +172,7 @@ module _ (journal journal' : Noted) (p : Pipeline) (is : IsKept journal p) (r r'
     live_more : (n : ℕ) → is_live w (history w (journal.log ++ entry ∷ [])) n ≡ is_up (before ++ record { call = m; reply = reply } ∷ []) n
     live_more n = ap (λ (made : List Once). is_up made n) made_more
 
-    module _ (entered : IsJotted journal journal' client call) (p' : Pipeline) (same : world_in (line_of p').domains ≡ world_in (line_of p).domains) where
+    module _ (entered : IsJotted journal journal' client call) (p' : Pipeline) (same : world_in (queue_of p').domains ≡ world_in (queue_of p).domains) where
       pub mounts_now : AreMounted (known_of journal' p') r'
       mounts_now = record {
         devices = makes.devices ∙ are.devices ∙ ap length (sym same);
@@ -190,15 +186,15 @@ module _ (journal journal' : Noted) (p : Pipeline) (is : IsKept journal p) (r r'
         reply = by_call w answered client call m asks ∙ ap mount_reply reply_is;
       }
 
-      current_now : (line : PipelineView) → line ≡ line_of p' → KeepVersions (line_of p).domains line.domains → IsSound (sents (answers journal.log (line_of p))) line → line.outcomes ≡ p.outcomes.items → length line.failures ≡ length p.failures.items
-          → ((n : ℕ) → is_live_in line.domains n ≡ is_up (before ++ record { call = m; reply = reply } ∷ []) n) → IsCurrent journal'.log journal'.marks (line_of p')
-      current_now line is_line versions sound decided failed lives =
+      current_now : (queue : PipelineView) → queue ≡ queue_of p' → KeepVersions (queue_of p).domains queue.domains → IsSound (sents (answers journal.log (queue_of p))) queue → queue.outcomes ≡ p.outcomes.items → length queue.failures ≡ length p.failures.items
+          → ((n : ℕ) → is_live_in queue.domains n ≡ is_up (before ++ record { call = m; reply = reply } ∷ []) n) → IsCurrent journal'.log journal'.marks (queue_of p')
+      current_now queue is_line versions sound decided failed lives =
           let on : is_serving call ≡ true = serves call m asks in
           let shared : Reply = reply_to w answered client call in
-          subst (λ (l : List Entry). IsCurrent l journal'.marks (line_of p')) (sym entered.log)
+          subst (λ (l : List Entry). IsCurrent l journal'.marks (queue_of p')) (sym entered.log)
           (subst (IsCurrent (journal.log ++ entry ∷ []) journal'.marks) is_line
-          (pushed journal.log journal.marks (line_of p) is.current entry (serving_unraised call on shared) line journal'.marks
-          (unsent journal.log journal.marks (line_of p) is.current entry line (serving_unsent answered call on shared) sound)
+          (pushed journal.log journal.marks (queue_of p) is.current entry (serving_unraised call on shared) queue journal'.marks
+          (unsent journal.log journal.marks (queue_of p) is.current entry queue (serving_unsent answered call on shared) sound)
           (ap (λ (l : PipelineView). world_in l.domains) is_line ∙ same) versions
           (decided ∙ sym (append-nil p.outcomes.items) ∙ ap (λ os. p.outcomes.items ++ os) (sym (serving_undecided w answered call on)))
           (λ k. entered.marks k ∙ sym (or_false (mark_at journal.marks k)) ∙ ap (λ b. mark_at journal.marks k || b) (sym (serving_unspent call on shared k)))
@@ -210,27 +206,27 @@ module _ (journal journal' : Noted) (p : Pipeline) (is : IsKept journal p) (r r'
       pub same_kept : IsKept journal' p
       same_kept = record {
         kept = is.kept;
-        current = current_now entered p refl (line_of p) refl (versions-same (line_of p).domains) is.current.sound refl refl
+        current = current_now entered p refl (queue_of p) refl (versions-same (queue_of p).domains) is.current.sound refl refl
             (λ n. is.current.live n ∙ sym (live-same before (record { call = m; reply = reply }) no_mount no_unmount n));
         let_go = is.let_go;
       }
 
     -- one that changes whether a domain is live
-    module _ (entered : IsJotted journal journal' client call) (p' : Pipeline) (kept : AllKept p'.domains.items) (domain : ℕ) (live : Bool) (line : line_of p' ≡ set_live (line_of p) domain live) (low : domain < length p.domains.items)
+    module _ (entered : IsJotted journal journal' client call) (p' : Pipeline) (kept : AllKept p'.domains.items) (domain : ℕ) (live : Bool) (queue : queue_of p' ≡ set_live (queue_of p) domain live) (low : domain < length p.domains.items)
         (lives : (n : ℕ) → is_up (before ++ record { call = m; reply = reply } ∷ []) n ≡ (if nat_eq domain n then live else is_live w answered n)) where
-      same_world : world_in (line_of p').domains ≡ w
-      same_world = ap (λ (l : PipelineView). world_in l.domains) line ∙ world-with (line_of p).domains domain live
+      same_world : world_in (queue_of p').domains ≡ w
+      same_world = ap (λ (l : PipelineView). world_in l.domains) queue ∙ world-with (queue_of p).domains domain live
 
-      flags : (n : ℕ) → is_live_in (with_live (line_of p).domains domain live) n ≡ is_up (before ++ record { call = m; reply = reply } ∷ []) n
+      flags : (n : ℕ) → is_live_in (with_live (queue_of p).domains domain live) n ≡ is_up (before ++ record { call = m; reply = reply } ∷ []) n
       flags n =
-          live-with (line_of p).domains domain live (omega (arith, low, length-map p.domains.items shown)) n
+          live-with (queue_of p).domains domain live (omega (arith, low, length-map p.domains.items shown)) n
           ∙ ap (λ b. if nat_eq domain n then live else b) (is.current.live n) ∙ sym (lives n)
 
       pub set_kept : IsKept journal' p'
       set_kept = record {
         kept = kept;
-        current = current_now entered p' same_world (set_live (line_of p) domain live) (sym line) (versions-with (line_of p).domains domain live) (sound-with (sents (answers journal.log (line_of p))) (line_of p) domain live is.current.sound) refl refl flags;
-        let_go = ap (λ (l : PipelineView). l.gone) line ∙ is.let_go ∙ ap (λ (l : PipelineView). length l.outcomes) (sym line);
+        current = current_now entered p' same_world (set_live (queue_of p) domain live) (sym queue) (versions-with (queue_of p).domains domain live) (sound-with (sents (answers journal.log (queue_of p))) (queue_of p) domain live is.current.sound) refl refl flags;
+        let_go = ap (λ (l : PipelineView). l.gone) queue ∙ is.let_go ∙ ap (λ (l : PipelineView). length l.outcomes) (sym queue);
       }
 
 -- ---- a call that is refused, or for which memory is wanting
@@ -263,10 +259,10 @@ module _ (journal journal' : Noted) (p : Pipeline) (is : IsKept journal p) (r r'
 
 module _ (journal journal' : Noted) (p : Pipeline) (is : IsKept journal p) (r r' : Register) (are : AreMounted (known_of journal p) r) (client : ℕ) (path : List Step) (device : ℕ) (makes : Makes r r' (asked.Mount path device) Accepted) where
   abbrev world : List Domain
-  world = world_in (line_of p).domains
+  world = world_in (queue_of p).domains
 
   abbrev so_far : List Once
-  so_far = mounted (length world) (answers journal.log (line_of p))
+  so_far = mounted (length world) (answers journal.log (queue_of p))
 
   accepted : reply_by (length world) so_far (asked.Mount path device) ≡ Accepted
   accepted = reply_is journal journal' p is r r' are client (Mount path device) (asked.Mount path device) refl Accepted makes
@@ -275,48 +271,48 @@ module _ (journal journal' : Noted) (p : Pipeline) (is : IsKept journal p) (r r'
   pub mount_low : device < length p.domains.items
   mount_low =
       let it : is_device (length world) device ≡ true = accepted_device (is_device (length world) device) (NoDomain device) (option_or (fault_if (was_mounted so_far device) (DeviceUsed device)) (option_map MountTaken (mount_at so_far path))) accepted in
-      omega (arith, is_device_low (length world) device it, length-map (line_of p).domains opened_as, length-map p.domains.items shown)
+      omega (arith, is_device_low (length world) device it, length-map (queue_of p).domains opened_as, length-map p.domains.items shown)
 
   -- and was not unmounted
   fresh : is_unmounted so_far device ≡ false
   fresh =
-      let register : IsRegister so_far r = subst (λ n. IsRegister (made_of n (mounting (answers journal.log (line_of p)))) r) are.devices are.calls in
+      let register : IsRegister so_far r = subst (λ n. IsRegister (made_of n (mounting (answers journal.log (queue_of p)))) r) are.devices are.calls in
       register.mounted_first device (accepted_fresh (not (is_device (length world) device)) (was_mounted so_far device) (NoDomain device) (DeviceUsed device) (option_map MountTaken (mount_at so_far path)) accepted)
 
-  module _ (entered : IsJotted journal journal' client (Mount path device)) (p' : Pipeline) (kept : AllKept p'.domains.items) (line : line_of p' ≡ set_live (line_of p) device true) where
+  module _ (entered : IsJotted journal journal' client (Mount path device)) (p' : Pipeline) (kept : AllKept p'.domains.items) (queue : queue_of p' ≡ set_live (queue_of p) device true) where
     pub mount_kept : IsKept journal' p'
-    mount_kept = set_kept journal journal' p is r r' are client (Mount path device) (asked.Mount path device) refl Accepted makes entered p' kept device true line mount_low (live-mounted so_far path device fresh)
+    mount_kept = set_kept journal journal' p is r r' are client (Mount path device) (asked.Mount path device) refl Accepted makes entered p' kept device true queue mount_low (live-mounted so_far path device fresh)
 
     pub mount_mounts : AreMounted (known_of journal' p') r'
-    mount_mounts = mounts_now journal journal' p is r r' are client (Mount path device) (asked.Mount path device) refl Accepted makes entered p' (ap (λ (l : PipelineView). world_in l.domains) line ∙ world-with (line_of p).domains device true)
+    mount_mounts = mounts_now journal journal' p is r r' are client (Mount path device) (asked.Mount path device) refl Accepted makes entered p' (ap (λ (l : PipelineView). world_in l.domains) queue ∙ world-with (queue_of p).domains device true)
 
     pub mount_answer : length journal.log < 1000000 → Made (known_of journal p) (known_of journal' p') (record { client = client; number = entries_of journal.log client; call = Mount path device }) (mount_reply Accepted)
-    mount_answer room = answer_now journal journal' p is r r' are client (Mount path device) (asked.Mount path device) refl Accepted makes entered p' (ap (λ (l : PipelineView). world_in l.domains) line ∙ world-with (line_of p).domains device true) room
+    mount_answer room = answer_now journal journal' p is r r' are client (Mount path device) (asked.Mount path device) refl Accepted makes entered p' (ap (λ (l : PipelineView). world_in l.domains) queue ∙ world-with (queue_of p).domains device true) room
 
 -- ---- unmount
 
 module _ (journal journal' : Noted) (p : Pipeline) (is : IsKept journal p) (r r' : Register) (are : AreMounted (known_of journal p) r) (client domain : ℕ) (makes : Makes r r' (asked.Unmount domain) Accepted) where
   abbrev there : List Domain
-  there = world_in (line_of p).domains
+  there = world_in (queue_of p).domains
 
   abbrev earlier : List Once
-  earlier = mounted (length there) (answers journal.log (line_of p))
+  earlier = mounted (length there) (answers journal.log (queue_of p))
 
   was_live : (nat_eq domain 0 ≡ false) × (is_up earlier domain ≡ true)
   was_live = unmount_accepted (nat_eq domain 0) (is_up earlier domain) (NoDomain domain) (reply_is journal journal' p is r r' are client (Unmount domain) (asked.Unmount domain) refl Accepted makes)
 
   pub unmount_low : domain < length p.domains.items
   unmount_low =
-      let long : length there ≡ length p.domains.items = length-map (line_of p).domains opened_as ∙ length-map p.domains.items shown in
-      let some : 0 < length there = omega (arith, is.current.sound.some, length-map (line_of p).domains opened_as) in
-      omega (arith, live_there there some (answers journal.log (line_of p)) domain was_live.1, long)
+      let long : length there ≡ length p.domains.items = length-map (queue_of p).domains opened_as ∙ length-map p.domains.items shown in
+      let some : 0 < length there = omega (arith, is.current.sound.some, length-map (queue_of p).domains opened_as) in
+      omega (arith, live_there there some (answers journal.log (queue_of p)) domain was_live.1, long)
 
-  module _ (entered : IsJotted journal journal' client (Unmount domain)) (p' : Pipeline) (kept : AllKept p'.domains.items) (line : line_of p' ≡ set_live (line_of p) domain false) where
+  module _ (entered : IsJotted journal journal' client (Unmount domain)) (p' : Pipeline) (kept : AllKept p'.domains.items) (queue : queue_of p' ≡ set_live (queue_of p) domain false) where
     pub unmount_kept : IsKept journal' p'
-    unmount_kept = set_kept journal journal' p is r r' are client (Unmount domain) (asked.Unmount domain) refl Accepted makes entered p' kept domain false line unmount_low (live-unmounted earlier domain was_live.0)
+    unmount_kept = set_kept journal journal' p is r r' are client (Unmount domain) (asked.Unmount domain) refl Accepted makes entered p' kept domain false queue unmount_low (live-unmounted earlier domain was_live.0)
 
     pub unmount_mounts : AreMounted (known_of journal' p') r'
-    unmount_mounts = mounts_now journal journal' p is r r' are client (Unmount domain) (asked.Unmount domain) refl Accepted makes entered p' (ap (λ (l : PipelineView). world_in l.domains) line ∙ world-with (line_of p).domains domain false)
+    unmount_mounts = mounts_now journal journal' p is r r' are client (Unmount domain) (asked.Unmount domain) refl Accepted makes entered p' (ap (λ (l : PipelineView). world_in l.domains) queue ∙ world-with (queue_of p).domains domain false)
 
     pub unmount_answer : length journal.log < 1000000 → Made (known_of journal p) (known_of journal' p') (record { client = client; number = entries_of journal.log client; call = Unmount domain }) (mount_reply Accepted)
-    unmount_answer room = answer_now journal journal' p is r r' are client (Unmount domain) (asked.Unmount domain) refl Accepted makes entered p' (ap (λ (l : PipelineView). world_in l.domains) line ∙ world-with (line_of p).domains domain false) room
+    unmount_answer room = answer_now journal journal' p is r r' are client (Unmount domain) (asked.Unmount domain) refl Accepted makes entered p' (ap (λ (l : PipelineView). world_in l.domains) queue ∙ world-with (queue_of p).domains domain false) room

@@ -19,7 +19,7 @@ use Rattle.sal_hub.specs.Current.{IsKept, answers, known_of}
 use Rattle.sal_hub.specs.Domains.{AreDomains, IsDomain}
 use Rattle.sal_hub.specs.Journals.{Noted}
 use Rattle.sal_hub.specs.HubHistory.{HubHistory}
-use Rattle.sal_hub.specs.PipelineView.{AllKept, is_live_in, line_of, opened_as, shown, world_in}
+use Rattle.sal_hub.specs.PipelineView.{AllKept, is_live_in, queue_of, opened_as, shown, world_in}
 use Rattle.sal_hub.proofs.Deciding.{live-here, last-at, live-within, opening-at, table-at}
 use Rattle.sal_hub.proofs.Keeping.{chains-current, commits-current, receipts-current}
 use Rattle.sal_hub.proofs.Listed.{slice_get_at}
@@ -27,12 +27,12 @@ use Rattle.sal_hub.proofs.Listed.{slice_get_at}
 pub shown_at : (ds : List Domain) (n : ℕ) (d : Domain) → n < length ds → d ≡ get_or ds n d → slice_get (map shown ds) n ≡ Some (shown d)
 shown_at ds n d h is = slice_get-map shown ds n ∙ ap (option_map shown) (slice_get_at ds n d h is)
 
-pub live_at : (p : Pipeline) (n : ℕ) (d : Domain) → n < length p.domains.items → d ≡ get_or p.domains.items n d → is_live_in (line_of p).domains n ≡ d.live
-live_at p n d h is = live-here (line_of p).domains n (shown d) (shown_at p.domains.items n d h is)
+pub live_at : (p : Pipeline) (n : ℕ) (d : Domain) → n < length p.domains.items → d ≡ get_or p.domains.items n d → is_live_in (queue_of p).domains n ≡ d.live
+live_at p n d h is = live-here (queue_of p).domains n (shown d) (shown_at p.domains.items n d h is)
 
 -- a domain of the world
 pub known_domain : (journal : Noted) (p : Pipeline) (known : HubHistory) → known_of journal p ≡ known → (n : ℕ) → n < length known.world → n < length p.domains.items
-known_domain journal p known view n there = omega (arith, there, ap (λ (k : HubHistory). length k.world) view, length-map (line_of p).domains opened_as, length-map p.domains.items shown)
+known_domain journal p known view n there = omega (arith, there, ap (λ (k : HubHistory). length k.world) view, length-map (queue_of p).domains opened_as, length-map p.domains.items shown)
 
 pub kept_at : (ds : List Domain) (n : ℕ) (d : Domain) → AllKept ds → n < length ds → d ≡ get_or ds n d → AreKept d.commits.items
 kept_at ds n d kept h is = subst (λ (x : Domain). AreKept x.commits.items) (sym is) (kept n d h)
@@ -47,8 +47,8 @@ module _ (journal : Noted) (p : Pipeline) (is : IsKept journal p) where
   some_domain = omega (arith, is.current.sound.some, length-map p.domains.items shown)
 
   -- a domain that is live is one that there is
-  pub live_within : (n : ℕ) → is_live_in (line_of p).domains n ≡ true → n < length p.domains.items
-  live_within n live = omega (arith, live-within (line_of p).domains n live, length-map p.domains.items shown)
+  pub live_within : (n : ℕ) → is_live_in (queue_of p).domains n ≡ true → n < length p.domains.items
+  live_within n live = omega (arith, live-within (queue_of p).domains n live, length-map p.domains.items shown)
 
   module _ (n : ℕ) (d : Domain) (h : n < length p.domains.items) (at : d ≡ get_or p.domains.items n d) where
     pub domain_is : IsDomain (known_of journal p) n d
@@ -57,20 +57,20 @@ module _ (journal : Noted) (p : Pipeline) (is : IsKept journal p) where
         let stored = is.current.sound.domains n (shown d) here in
         record {
           number = stored.number;
-          live = sym (live-here (line_of p).domains n (shown d) here) ∙ is.current.live n;
-          schema = sym (table-at (line_of p).domains n (shown d) here) ∙ is.current.tables n;
-          last = sym (last-at (line_of p).domains n (shown d) here);
+          live = sym (live-here (queue_of p).domains n (shown d) here) ∙ is.current.live n;
+          schema = sym (table-at (queue_of p).domains n (shown d) here) ∙ is.current.tables n;
+          last = sym (last-at (queue_of p).domains n (shown d) here);
           kept = kept_at p.domains.items n d is.kept h at;
-          opening = λ i s. sym (opening-at (line_of p).domains n (shown d) s here) i;
-          commits = stored.commits ∙ commits-current journal.log journal.marks (line_of p) n is.current;
-          chains = stored.chains ∙ chains-current journal.log journal.marks (line_of p) n is.current;
-          receipts = stored.receipts ∙ receipts-current journal.log journal.marks (line_of p) n is.current;
+          opening = λ i s. sym (opening-at (queue_of p).domains n (shown d) s here) i;
+          commits = stored.commits ∙ commits-current journal.log journal.marks (queue_of p) n is.current;
+          chains = stored.chains ∙ chains-current journal.log journal.marks (queue_of p) n is.current;
+          receipts = stored.receipts ∙ receipts-current journal.log journal.marks (queue_of p) n is.current;
         }
 
-    pub count_is : length d.commits.items - 1 ≡ length (commits (answers journal.log (line_of p)) n)
+    pub count_is : length d.commits.items - 1 ≡ length (commits (answers journal.log (queue_of p)) n)
     count_is = sym (length-ops_of d.commits.items domain_is.kept.opened) ∙ ap length domain_is.commits
 
-    pub tip_is : (s : Store) → tip (opening_in d.commits.items) (ops_of d.commits.items) s ≡ newest_tree (world_in (line_of p).domains) journal.log n s
+    pub tip_is : (s : Store) → tip (opening_in d.commits.items) (ops_of d.commits.items) s ≡ newest_tree (world_in (queue_of p).domains) journal.log n s
     tip_is s = λ i. tree_after s (domain_is.opening i s) (domain_is.commits i)
 
   -- the newest trees break no rule of the present version

@@ -22,7 +22,7 @@ use Rattle.sal_hub.specs.Answers.{Made}
 use Rattle.sal_hub.specs.Current.{IsCurrent, IsKept, answers, known_of}
 use Rattle.sal_hub.specs.Journals.{Noted, jotted, mark_at}
 use Rattle.sal_hub.specs.HubHistory.{HubHistory, more}
-use Rattle.sal_hub.specs.PipelineView.{AllKept, AreDecided, PipelineView, is_live_in, line_of, sent_of, table_in, world_in}
+use Rattle.sal_hub.specs.PipelineView.{AllKept, AreDecided, PipelineView, is_live_in, queue_of, sent_of, table_in, world_in}
 use Rattle.sal_hub.specs.Tokens.{IsGiven}
 use Rattle.sal_hub.proofs.Beginning.{quiet_kept}
 use Rattle.sal_hub.proofs.Deciding.{sent_at, versions-same}
@@ -38,11 +38,11 @@ cancel_kept journal journal' p is client place log marks =
     let e : Entry = record { client = client; number = entries_of journal.log client; call = Cancel place } in
     record {
       kept = is.kept;
-      current = subst (λ (l : List Entry). IsCurrent l journal'.marks (line_of p)) (sym log)
-          (pushed journal.log journal.marks (line_of p) is.current e refl (line_of p) journal'.marks (unsent journal.log journal.marks (line_of p) is.current e (line_of p) refl is.current.sound) refl
-          (versions-same (line_of p).domains)
-          (sym (append-nil (line_of p).outcomes)) (λ k. marks k ∙ swapped (nat_eq place k) (mark_at journal.marks k)) (none_more (length (line_of p).failures))
-          (still_live journal.log journal.marks (line_of p) is.current e (line_of p) refl (λ n. refl)));
+      current = subst (λ (l : List Entry). IsCurrent l journal'.marks (queue_of p)) (sym log)
+          (pushed journal.log journal.marks (queue_of p) is.current e refl (queue_of p) journal'.marks (unsent journal.log journal.marks (queue_of p) is.current e (queue_of p) refl is.current.sound) refl
+          (versions-same (queue_of p).domains)
+          (sym (append-nil (queue_of p).outcomes)) (λ k. marks k ∙ swapped (nat_eq place k) (mark_at journal.marks k)) (none_more (length (queue_of p).failures))
+          (still_live journal.log journal.marks (queue_of p) is.current e (queue_of p) refl (λ n. refl)));
       let_go = is.let_go;
     }
 
@@ -51,7 +51,7 @@ cancel_kept journal journal' p is client place log marks =
 -- there are no more submissions than entries
 pub few : (journal : Noted) (p : Pipeline) → IsKept journal p → p.gone + length p.waiting.items ≤ length journal.log
 few journal p is =
-    omega (arith, length-submissions journal.log journal.marks (line_of p) is.current, sents-few (world_in (line_of p).domains) journal.log)
+    omega (arith, length-submissions journal.log journal.marks (queue_of p) is.current, sents-few (world_in (queue_of p).domains) journal.log)
 
 -- the submission of a receipt that was given is of its domain
 pub given_at : (known : HubHistory) (receipt : Receipt) → IsGiven known receipt → (s : Sent) × (slice_get (sents (history known.world known.log)) (receipt.number - 1) ≡ Some s) × (s.base.domain ≡ receipt.domain)
@@ -65,49 +65,49 @@ given_at known receipt given = found (slice_get (sents (history known.world know
 pub given_within : (journal : Noted) (p : Pipeline) (receipt : Receipt) → IsKept journal p → IsGiven (known_of journal p) receipt → receipt.number ≤ p.gone + length p.waiting.items
 given_within journal p receipt is given =
     let (s, at, same) = given_at (known_of journal p) receipt given in
-    let low : receipt.number - 1 < length (sents (answers journal.log (line_of p))) = slice_get_within (sents (answers journal.log (line_of p))) (receipt.number - 1) s at in
-    omega (arith, low, given.0, length-submissions journal.log journal.marks (line_of p) is.current)
+    let low : receipt.number - 1 < length (sents (answers journal.log (queue_of p))) = slice_get_within (sents (answers journal.log (queue_of p))) (receipt.number - 1) s at in
+    omega (arith, low, given.0, length-submissions journal.log journal.marks (queue_of p) is.current)
 
-module _ (journal journal' : Noted) (p p' : Pipeline) (is : IsKept journal p) (client : ℕ) (call : Call) (n : ℕ) (log : journal'.log ≡ jotted journal.log client call) (decided : AreDecided (sents (answers journal.log (line_of p))) (line_of p) n (line_of p')) where
+module _ (journal journal' : Noted) (p p' : Pipeline) (is : IsKept journal p) (client : ℕ) (call : Call) (n : ℕ) (log : journal'.log ≡ jotted journal.log client call) (decided : AreDecided (sents (answers journal.log (queue_of p))) (queue_of p) n (queue_of p')) where
   abbrev w : List Domain
-  w = world_in (line_of p).domains
+  w = world_in (queue_of p).domains
 
   abbrev answered : List Answered
-  answered = answers journal.log (line_of p)
+  answered = answers journal.log (queue_of p)
 
   abbrev entry : Entry
   entry = record { client = client; number = entries_of journal.log client; call = call }
 
   -- a call that decides the next n
-  pub decided_kept : upgraded call (reply_to (world_in (line_of p).domains) (answers journal.log (line_of p)) client call) ≡ false → mount_call call ≡ None → decided_by (world_in (line_of p).domains) (answers journal.log (line_of p)) call ≡ decide_next (world_in (line_of p).domains) (table_in (line_of p).domains) (is_live_in (line_of p).domains) (sents (answers journal.log (line_of p))) p.outcomes.items n
-      → sent_by (answers journal.log (line_of p)) call (reply_to (world_in (line_of p).domains) (answers journal.log (line_of p)) client call) ≡ None
-      → ((k : ℕ) → spends call (reply_to (world_in (line_of p).domains) (answers journal.log (line_of p)) client call) k ≡ false)
-      → opened_chain call (reply_to (world_in (line_of p).domains) (answers journal.log (line_of p)) client call) ≡ None
+  pub decided_kept : upgraded call (reply_to (world_in (queue_of p).domains) (answers journal.log (queue_of p)) client call) ≡ false → mount_call call ≡ None → decided_by (world_in (queue_of p).domains) (answers journal.log (queue_of p)) call ≡ decide_next (world_in (queue_of p).domains) (table_in (queue_of p).domains) (is_live_in (queue_of p).domains) (sents (answers journal.log (queue_of p))) p.outcomes.items n
+      → sent_by (answers journal.log (queue_of p)) call (reply_to (world_in (queue_of p).domains) (answers journal.log (queue_of p)) client call) ≡ None
+      → ((k : ℕ) → spends call (reply_to (world_in (queue_of p).domains) (answers journal.log (queue_of p)) client call) k ≡ false)
+      → opened_chain call (reply_to (world_in (queue_of p).domains) (answers journal.log (queue_of p)) client call) ≡ None
       → AllKept p'.domains.items → p'.gone ≡ length p'.outcomes.items → ((k : ℕ) → mark_at journal'.marks k ≡ mark_at journal.marks k) → IsKept journal' p'
   decided_kept unraised unmounted decides none unspent unopened kept gone marks = record {
     kept = kept;
-    current = subst (λ (l : List Entry). IsCurrent l journal'.marks (line_of p')) (sym log)
-        (pushed journal.log journal.marks (line_of p) is.current entry unraised (line_of p') journal'.marks (unsent journal.log journal.marks (line_of p) is.current entry (line_of p') none decided.sound) decided.world
+    current = subst (λ (l : List Entry). IsCurrent l journal'.marks (queue_of p')) (sym log)
+        (pushed journal.log journal.marks (queue_of p) is.current entry unraised (queue_of p') journal'.marks (unsent journal.log journal.marks (queue_of p) is.current entry (queue_of p') none decided.sound) decided.world
         decided.versions
         (decided.outcomes ∙ ap (λ (os : List Outcome). p.outcomes.items ++ os) (sym decides))
         (λ k. marks k ∙ sym (or_false (mark_at journal.marks k)) ∙ ap (λ b. mark_at journal.marks k || b) (sym (unspent k)))
-        (decided.chains ∙ none_more (length (line_of p).failures) ∙ ap (λ (o : Option ℕ). length (line_of p).failures + length (option_to_list o)) (sym unopened))
-        (still_live journal.log journal.marks (line_of p) is.current entry (line_of p') unmounted decided.live));
+        (decided.chains ∙ none_more (length (queue_of p).failures) ∙ ap (λ (o : Option ℕ). length (queue_of p).failures + length (option_to_list o)) (sym unopened))
+        (still_live journal.log journal.marks (queue_of p) is.current entry (queue_of p') unmounted decided.live));
     let_go = gone;
   }
 
-  pub decided_made : (r : Reply) → length journal.log < 1000000 → reply_to (world_in (line_of p).domains) (answers journal.log (line_of p)) client call ≡ r → Made (known_of journal p) (known_of journal' p') (record { client = client; number = entries_of journal.log client; call = call }) r
+  pub decided_made : (r : Reply) → length journal.log < 1000000 → reply_to (world_in (queue_of p).domains) (answers journal.log (queue_of p)) client call ≡ r → Made (known_of journal p) (known_of journal' p') (record { client = client; number = entries_of journal.log client; call = call }) r
   decided_made r room reply = record { room = room; log = λ i. record { world = decided.world i; log = log i }; reply = reply }
 
 -- what is decided, by what is kept
 kept_decides : (journal : Noted) (p : Pipeline) (is : IsKept journal p) (n : ℕ)
-    → decide_next (world_in (line_of p).domains) (tables_now (world_in (line_of p).domains) (answers journal.log (line_of p))) (is_live (world_in (line_of p).domains) (answers journal.log (line_of p))) (sents (answers journal.log (line_of p))) (outcomes (answers journal.log (line_of p))) n
-    ≡ decide_next (world_in (line_of p).domains) (table_in (line_of p).domains) (is_live_in (line_of p).domains) (sents (answers journal.log (line_of p))) p.outcomes.items n
-kept_decides journal p is n = λ i. decide_next (world_in (line_of p).domains) (λ d. sym (is.current.tables d) i) (λ d. sym (is.current.live d) i) (sents (answers journal.log (line_of p))) (sym is.current.outcomes i) n
+    → decide_next (world_in (queue_of p).domains) (tables_now (world_in (queue_of p).domains) (answers journal.log (queue_of p))) (is_live (world_in (queue_of p).domains) (answers journal.log (queue_of p))) (sents (answers journal.log (queue_of p))) (outcomes (answers journal.log (queue_of p))) n
+    ≡ decide_next (world_in (queue_of p).domains) (table_in (queue_of p).domains) (is_live_in (queue_of p).domains) (sents (answers journal.log (queue_of p))) p.outcomes.items n
+kept_decides journal p is n = λ i. decide_next (world_in (queue_of p).domains) (λ d. sym (is.current.tables d) i) (λ d. sym (is.current.live d) i) (sents (answers journal.log (queue_of p))) (sym is.current.outcomes i) n
 
 -- a submission that waits, as the log has it
-pub kept_sent : (journal : Noted) (p : Pipeline) (is : IsKept journal p) (i : ℕ) (s : Submission) → slice_get p.waiting.items i ≡ Some s → slice_get (sents (answers journal.log (line_of p))) (p.gone + i) ≡ Some (sent_of s)
-kept_sent journal p is i s at = sent_at (sents (answers journal.log (line_of p))) (line_of p) is.current.sound i s at
+pub kept_sent : (journal : Noted) (p : Pipeline) (is : IsKept journal p) (i : ℕ) (s : Submission) → slice_get p.waiting.items i ≡ Some s → slice_get (sents (answers journal.log (queue_of p))) (p.gone + i) ≡ Some (sent_of s)
+kept_sent journal p is i s at = sent_at (sents (answers journal.log (queue_of p))) (queue_of p) is.current.sound i s at
 
 -- a receipt stays one
 pub given_last : (known : HubHistory) (e : Entry) (receipt : Receipt) → IsGiven known receipt → IsGiven (more known e) receipt
@@ -124,13 +124,13 @@ given_last known e receipt was = (was.0, last (slice_get (sents (history known.w
 
 -- ---- settle
 
-module _ (journal journal' : Noted) (p p' : Pipeline) (is : IsKept journal p) (client : ℕ) (receipt : Receipt) (log : journal'.log ≡ jotted journal.log client (Settle receipt.number)) (decided : AreDecided (sents (answers journal.log (line_of p))) (line_of p) (receipt.number - length p.outcomes.items) (line_of p')) where
+module _ (journal journal' : Noted) (p p' : Pipeline) (is : IsKept journal p) (client : ℕ) (receipt : Receipt) (log : journal'.log ≡ jotted journal.log client (Settle receipt.number)) (decided : AreDecided (sents (answers journal.log (queue_of p))) (queue_of p) (receipt.number - length p.outcomes.items) (queue_of p')) where
   abbrev n : ℕ
   n = receipt.number
 
-  now_decided : decided_by (world_in (line_of p).domains) (answers journal.log (line_of p)) (Settle n) ≡ decide_next (world_in (line_of p).domains) (table_in (line_of p).domains) (is_live_in (line_of p).domains) (sents (answers journal.log (line_of p))) p.outcomes.items (n - length p.outcomes.items)
+  now_decided : decided_by (world_in (queue_of p).domains) (answers journal.log (queue_of p)) (Settle n) ≡ decide_next (world_in (queue_of p).domains) (table_in (queue_of p).domains) (is_live_in (queue_of p).domains) (sents (answers journal.log (queue_of p))) p.outcomes.items (n - length p.outcomes.items)
   now_decided =
-      ap (λ (os : List Outcome). decide_next (world_in (line_of p).domains) (tables_now (world_in (line_of p).domains) (answers journal.log (line_of p))) (is_live (world_in (line_of p).domains) (answers journal.log (line_of p))) (sents (answers journal.log (line_of p))) (outcomes (answers journal.log (line_of p))) (n - length os)) (sym is.current.outcomes)
+      ap (λ (os : List Outcome). decide_next (world_in (queue_of p).domains) (tables_now (world_in (queue_of p).domains) (answers journal.log (queue_of p))) (is_live (world_in (queue_of p).domains) (answers journal.log (queue_of p))) (sents (answers journal.log (queue_of p))) (outcomes (answers journal.log (queue_of p))) (n - length os)) (sym is.current.outcomes)
       ∙ kept_decides journal p is (n - length p.outcomes.items)
 
   pub settled_kept : AllKept p'.domains.items → p'.gone ≡ length p'.outcomes.items → ((k : ℕ) → mark_at journal'.marks k ≡ mark_at journal.marks k) → IsKept journal' p'
@@ -140,36 +140,36 @@ module _ (journal journal' : Noted) (p p' : Pipeline) (is : IsKept journal p) (c
       → Made (known_of journal p) (known_of journal' p') (record { client = client; number = entries_of journal.log client; call = Settle receipt.number }) (Settled receipt.domain o)
   settled_made o room given at =
       let (s, here, of_domain) = given_at (known_of journal p) receipt given in
-      let outcome : slice_get (outcomes (answers journal.log (line_of p)) ++ decided_by (world_in (line_of p).domains) (answers journal.log (line_of p)) (Settle n)) (n - 1) ≡ Some o =
+      let outcome : slice_get (outcomes (answers journal.log (queue_of p)) ++ decided_by (world_in (queue_of p).domains) (answers journal.log (queue_of p)) (Settle n)) (n - 1) ≡ Some o =
       ap (λ (os : List Outcome). slice_get os (n - 1)) ((λ i. sym is.current.outcomes i ++ now_decided i) ∙ sym decided.outcomes) ∙ at in
       decided_made journal journal' p p' is client (Settle n) (n - length p.outcomes.items) log decided (Settled receipt.domain o) room
       ((λ i. settled (here i) (outcome i)) ∙ ap (λ d. Settled d o) of_domain)
 
 -- where nothing was decided, all is as it was
-pub unsettled_kept : (journal journal' : Noted) (p p' : Pipeline) → IsKept journal p → AllKept p'.domains.items → line_of p' ≡ line_of p → journal' ≡ journal → IsKept journal' p'
+pub unsettled_kept : (journal journal' : Noted) (p p' : Pipeline) → IsKept journal p → AllKept p'.domains.items → queue_of p' ≡ queue_of p → journal' ≡ journal → IsKept journal' p'
 unsettled_kept journal journal' p p' is kept same undone = record {
   kept = kept;
-  current = subst (λ (l : PipelineView). IsCurrent journal'.log journal'.marks l) (sym same) (subst (λ (j : Noted). IsCurrent j.log j.marks (line_of p)) (sym undone) is.current);
+  current = subst (λ (l : PipelineView). IsCurrent journal'.log journal'.marks l) (sym same) (subst (λ (j : Noted). IsCurrent j.log j.marks (queue_of p)) (sym undone) is.current);
   let_go = ap (λ (l : PipelineView). l.gone) same ∙ is.let_go ∙ sym (ap (λ (l : PipelineView). length l.outcomes) same);
 }
 
-pub unsettled_known : (journal journal' : Noted) (p p' : Pipeline) → line_of p' ≡ line_of p → journal' ≡ journal → known_of journal' p' ≡ known_of journal p
+pub unsettled_known : (journal journal' : Noted) (p p' : Pipeline) → queue_of p' ≡ queue_of p → journal' ≡ journal → known_of journal' p' ≡ known_of journal p
 unsettled_known journal journal' p p' same undone = λ i. record { world = world_in (same i).domains; log = (undone i).log }
 
 -- ---- pump
 
 module _ (journal journal' : Noted) (p : Pipeline) (is : IsKept journal p) (client : ℕ) (log : journal'.log ≡ jotted journal.log client Pump) where
   abbrev here : List Domain
-  here = world_in (line_of p).domains
+  here = world_in (queue_of p).domains
 
   abbrev lives : ℕ → Bool
-  lives = is_live_in (line_of p).domains
+  lives = is_live_in (queue_of p).domains
 
   abbrev tables : ℕ → SchemaTable
-  tables = table_in (line_of p).domains
+  tables = table_in (queue_of p).domains
 
   abbrev done : List Answered
-  done = answers journal.log (line_of p)
+  done = answers journal.log (queue_of p)
 
   count : length (outcomes done) ≡ length p.outcomes.items
   count = sym (ap length is.current.outcomes)
@@ -183,7 +183,7 @@ module _ (journal journal' : Noted) (p : Pipeline) (is : IsKept journal p) (clie
 
   module _ (none : length p.waiting.items ≤ 0) where
     nothing_left : front ≡ None
-    nothing_left = slice_get_none (sents done) (length p.outcomes.items) (omega (arith, none, length-submissions journal.log journal.marks (line_of p) is.current, is.let_go))
+    nothing_left = slice_get_none (sents done) (length p.outcomes.items) (omega (arith, none, length-submissions journal.log journal.marks (queue_of p) is.current, is.let_go))
 
     nothing_decided : decided_by here done Pump ≡ []
     nothing_decided = kept_decides journal p is 1 ∙ ap (λ (o : Option Sent). decide_front here tables lives (sents done) p.outcomes.items o ++ []) nothing_left
@@ -191,12 +191,12 @@ module _ (journal journal' : Noted) (p : Pipeline) (is : IsKept journal p) (clie
     pub idle_kept : ((k : ℕ) → mark_at journal'.marks k ≡ mark_at journal.marks k) → IsKept journal' p
     idle_kept marks = quiet_kept journal journal' p is client Pump log refl refl refl nothing_decided (λ k. refl) refl marks
 
-    pub idle_reply : reply_to (world_in (line_of p).domains) (answers journal.log (line_of p)) client Pump ≡ Nothing
+    pub idle_reply : reply_to (world_in (queue_of p).domains) (answers journal.log (queue_of p)) client Pump ≡ Nothing
     idle_reply = λ i. pumped (length (outcomes done) + 1) ((is_front ∙ nothing_left) i) (nothing_decided i)
 
-  module _ (p' : Pipeline) (decided : AreDecided (sents (answers journal.log (line_of p))) (line_of p) (length p.outcomes.items + 1 - length p.outcomes.items) (line_of p')) where
-    one_decided : AreDecided (sents done) (line_of p) 1 (line_of p')
-    one_decided = let one : length p.outcomes.items + 1 - length p.outcomes.items ≡ 1 = omega arith in subst (λ n. AreDecided (sents done) (line_of p) n (line_of p')) one decided
+  module _ (p' : Pipeline) (decided : AreDecided (sents (answers journal.log (queue_of p))) (queue_of p) (length p.outcomes.items + 1 - length p.outcomes.items) (queue_of p')) where
+    one_decided : AreDecided (sents done) (queue_of p) 1 (queue_of p')
+    one_decided = let one : length p.outcomes.items + 1 - length p.outcomes.items ≡ 1 = omega arith in subst (λ n. AreDecided (sents done) (queue_of p) n (queue_of p')) one decided
 
     pub pumped_kept : AllKept p'.domains.items → p'.gone ≡ length p'.outcomes.items → ((k : ℕ) → mark_at journal'.marks k ≡ mark_at journal.marks k) → IsKept journal' p'
     pumped_kept kept gone marks = decided_kept journal journal' p p' is client Pump 1 log one_decided refl refl (kept_decides journal p is 1) refl (λ k. refl) refl kept gone marks

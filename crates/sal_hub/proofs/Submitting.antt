@@ -28,16 +28,16 @@ use Rattle.sal_history.specs.World as world
 use Rattle.sal_history.specs.History.{Answered, commits, entries_of, nowhere, outcomes, reply_to, sent_by, sents, spends, submitted}
 use Rattle.sal_history.specs.Submissions.{Base, Sent}
 use Rattle.sal_history.specs.Versions.{schema_version, tables_now, version_at}
-use Rattle.sal_closed.specs.Lawful.{AreLawful as AreSentOver}
-use Rattle.sal_closed.proofs.Versions.{later_lawful}
-use Rattle.sal_closed.specs.Logs.{IsSentLawful}
+use Rattle.sal_history_laws.specs.Lawful.{AreLawful as AreSentOver}
+use Rattle.sal_history_laws.proofs.Versions.{later_lawful}
+use Rattle.sal_history_laws.specs.Logs.{IsSentLawful}
 use Rattle.sal_hub.specs.declared.pipeline.Pipeline.{Pipeline}
 use Rattle.sal_hub.specs.Answers.{Fails, Made}
 use Rattle.sal_hub.specs.Current.{IsCurrent, IsKept, answers, known_of}
 use Rattle.sal_hub.specs.Failures.{IsWithin}
 use Rattle.sal_hub.specs.Journals.{Noted, jotted, mark_at}
 use Rattle.sal_hub.specs.HubHistory.{HubHistory}
-use Rattle.sal_hub.specs.PipelineView.{AllKept, IsSound, PipelineView, Stands, commits_in, line_of, opened_as, sent_of, shown, world_in}
+use Rattle.sal_hub.specs.PipelineView.{AllKept, IsSound, PipelineView, Stands, commits_in, queue_of, opened_as, sent_of, shown, world_in}
 use Rattle.sal_hub.specs.Submits.{refusal_of, submission_of}
 use Rattle.sal_hub.specs.Tokens.{IsBegun, IsGiven}
 use Rattle.sal_hub.proofs.Beginning.{quiet_kept}
@@ -102,10 +102,10 @@ fails_by old new e n b f =
 
 module _ (journal journal' : Noted) (p : Pipeline) (is : IsKept journal p) (client place : ℕ) (ops : List Op) (log : journal'.log ≡ jotted journal.log client (Submit place ops)) where
   abbrev w : List world.Domain
-  w = world_in (line_of p).domains
+  w = world_in (queue_of p).domains
 
   abbrev answered : List Answered
-  answered = answers journal.log (line_of p)
+  answered = answers journal.log (queue_of p)
 
   abbrev entry : Entry
   entry = record { client = client; number = entries_of journal.log client; call = Submit place ops }
@@ -116,14 +116,14 @@ module _ (journal journal' : Noted) (p : Pipeline) (is : IsKept journal p) (clie
   -- the answer, by what is kept
   by_kept : submitted answered place ≡ answer_by (p.gone + length p.waiting.items) waiting (mark_at journal.marks place)
   by_kept =
-      let count : length (sents answered) ≡ p.gone + length p.waiting.items = sym (length-submissions journal.log journal.marks (line_of p) is.current) in
+      let count : length (sents answered) ≡ p.gone + length p.waiting.items = sym (length-submissions journal.log journal.marks (queue_of p) is.current) in
       let done : length (outcomes answered) ≡ length p.outcomes.items = sym (ap length is.current.outcomes) in
       λ i. answer_by (count i) (count i - done i) (sym (is.current.marks place) i)
 
-  pub refused_now : (f : CallFault) → refusal_of (p.gone + length p.waiting.items - length p.outcomes.items) (mark_at journal.marks place) ≡ Some f → reply_to (world_in (line_of p).domains) (answers journal.log (line_of p)) client (Submit place ops) ≡ Refused f
+  pub refused_now : (f : CallFault) → refusal_of (p.gone + length p.waiting.items - length p.outcomes.items) (mark_at journal.marks place) ≡ Some f → reply_to (world_in (queue_of p).domains) (answers journal.log (queue_of p)) client (Submit place ops) ≡ Refused f
   refused_now f e = by_kept ∙ refused_by (p.gone + length p.waiting.items) waiting (mark_at journal.marks place) f e
 
-  pub accepted_now : refusal_of (p.gone + length p.waiting.items - length p.outcomes.items) (mark_at journal.marks place) ≡ None → reply_to (world_in (line_of p).domains) (answers journal.log (line_of p)) client (Submit place ops) ≡ Receipt (p.gone + length p.waiting.items + 1)
+  pub accepted_now : refusal_of (p.gone + length p.waiting.items - length p.outcomes.items) (mark_at journal.marks place) ≡ None → reply_to (world_in (queue_of p).domains) (answers journal.log (queue_of p)) client (Submit place ops) ≡ Receipt (p.gone + length p.waiting.items + 1)
   accepted_now e = by_kept ∙ accepted_by (p.gone + length p.waiting.items) waiting (mark_at journal.marks place) e
 
   pub refused_kept : (f : CallFault) → refusal_of (p.gone + length p.waiting.items - length p.outcomes.items) (mark_at journal.marks place) ≡ Some f → ((k : ℕ) → mark_at journal'.marks k ≡ mark_at journal.marks k) → IsKept journal' p
@@ -139,18 +139,18 @@ module _ (journal journal' : Noted) (p : Pipeline) (is : IsKept journal p) (clie
   }
 
 -- the domain of a submission, as the log has it
-pub given_domain : (journal : Noted) (p : Pipeline) → IsKept journal p → (i : ℕ) (s : Submission) → slice_get p.waiting.items i ≡ Some s → option_map (λ (t : Sent). t.base.domain) (slice_get (sents (answers journal.log (line_of p))) (p.gone + i)) ≡ Some s.domain
-given_domain journal p is i s at = ap (option_map (λ (t : Sent). t.base.domain)) (sent_at (sents (answers journal.log (line_of p))) (line_of p) is.current.sound i s at)
+pub given_domain : (journal : Noted) (p : Pipeline) → IsKept journal p → (i : ℕ) (s : Submission) → slice_get p.waiting.items i ≡ Some s → option_map (λ (t : Sent). t.base.domain) (slice_get (sents (answers journal.log (queue_of p))) (p.gone + i)) ≡ Some s.domain
+given_domain journal p is i s at = ap (option_map (λ (t : Sent). t.base.domain)) (sent_at (sents (answers journal.log (queue_of p))) (queue_of p) is.current.sound i s at)
 
 -- ---- a submission more
 
 module _ (journal journal' : Noted) (p p' : Pipeline) (is : IsKept journal p) (client : ℕ) (tx : Writing) (token : IsBegun (known_of journal p) tx.begun tx.base) (right : IsRight tx) (log : journal'.log ≡ jotted journal.log client (Submit tx.begun.place tx.changes)) (open_now : refusal_of (p.gone + length p.waiting.items - length p.outcomes.items) (mark_at journal.marks tx.begun.place) ≡ None)
     (member : IsWithin (length p.failures.items) tx.begun.chain) (domains : p'.domains ≡ p.domains) (failures_same : p'.failures ≡ p.failures) (outcomes_same : p'.outcomes ≡ p.outcomes) (as_gone : p'.gone ≡ p.gone) (waits : p'.waiting.items ≡ p.waiting.items ++ submission_of tx (p.gone + length p.waiting.items + 1) ∷ []) (marks : (k : ℕ) → mark_at journal'.marks k ≡ (nat_eq tx.begun.place k || mark_at journal.marks k)) where
   abbrev new_world : List world.Domain
-  new_world = world_in (line_of p).domains
+  new_world = world_in (queue_of p).domains
 
   abbrev before : List Answered
-  before = answers journal.log (line_of p)
+  before = answers journal.log (queue_of p)
 
   abbrev sub : Submission
   sub = submission_of tx (p.gone + length p.waiting.items + 1)
@@ -159,23 +159,23 @@ module _ (journal journal' : Noted) (p p' : Pipeline) (is : IsKept journal p) (c
   made_entry = record { client = client; number = entries_of journal.log client; call = Submit tx.begun.place tx.changes }
 
   abbrev more : PipelineView
-  more = record { domains = (line_of p).domains; gone = (line_of p).gone; waiting = (line_of p).waiting ++ sub ∷ []; outcomes = (line_of p).outcomes; failures = (line_of p).failures }
+  more = record { domains = (queue_of p).domains; gone = (queue_of p).gone; waiting = (queue_of p).waiting ++ sub ∷ []; outcomes = (queue_of p).outcomes; failures = (queue_of p).failures }
 
-  line_is : more ≡ line_of p'
-  line_is = λ i. record { domains = map shown (sym domains i).items; gone = sym as_gone i; waiting = sym waits i; outcomes = (sym outcomes_same i).items; failures = (sym failures_same i).items }
+  queue_is : more ≡ queue_of p'
+  queue_is = λ i. record { domains = map shown (sym domains i).items; gone = sym as_gone i; waiting = sym waits i; outcomes = (sym outcomes_same i).items; failures = (sym failures_same i).items }
 
   view : (store : Store) → rows_in tx.view store ≡ apply_ops (rows_in tx.base store) store tx.changes
   view Config = right.config.rows
   view Oper = right.oper.rows
 
-  stands : Stands (sents before) (line_of p) sub
+  stands : Stands (sents before) (queue_of p) sub
   stands =
       let b : Base = record { domain = tx.begun.domain; commit = tx.begun.base_commit; chain = tx.begun.chain; trees = tx_rows tx.base } in
-      let some : 0 < length new_world = omega (arith, is.current.sound.some, length-map (line_of p).domains opened_as) in
+      let some : 0 < length new_world = omega (arith, is.current.sound.some, length-map (queue_of p).domains opened_as) in
       let on : IsAt new_world before b = (are_at new_world some journal.log).begun tx.begun.place b token.began in
-      let same : commits_in (sents before) (line_of p) tx.begun.domain ≡ commits before tx.begun.domain = commits-current journal.log journal.marks (line_of p) tx.begun.domain is.current in
+      let same : commits_in (sents before) (queue_of p) tx.begun.domain ≡ commits before tx.begun.domain = commits-current journal.log journal.marks (queue_of p) tx.begun.domain is.current in
       record {
-        domain = omega (arith, on.0, length-map (line_of p).domains opened_as);
+        domain = omega (arith, on.0, length-map (queue_of p).domains opened_as);
         base = subst (λ (cs : List (List Op)). tx.begun.base_commit ≤ length cs) (sym same) on.1;
         chain = member;
         view = view;
@@ -209,26 +209,26 @@ module _ (journal journal' : Noted) (p p' : Pipeline) (is : IsKept journal p) (c
 
   current_now : IsCurrent (journal.log ++ made_entry ∷ []) journal'.marks more
   current_now =
-      pushed journal.log journal.marks (line_of p) is.current made_entry refl more journal'.marks
-      (subst (λ (o : Option Sent). IsSound (sents before ++ option_to_list o) more) (sym sent_now) (sound-longer (sents before) (line_of p) is.current.sound sub stands refl), lawful_now) refl (versions-same (line_of p).domains)
-      (sym (append-nil (line_of p).outcomes))
+      pushed journal.log journal.marks (queue_of p) is.current made_entry refl more journal'.marks
+      (subst (λ (o : Option Sent). IsSound (sents before ++ option_to_list o) more) (sym sent_now) (sound-longer (sents before) (queue_of p) is.current.sound sub stands refl), lawful_now) refl (versions-same (queue_of p).domains)
+      (sym (append-nil (queue_of p).outcomes))
       (λ k.
       marks k ∙ swapped (nat_eq tx.begun.place k) (mark_at journal.marks k)
       ∙ ap (λ r. mark_at journal.marks k || spends (Submit tx.begun.place tx.changes) r k) (sym reply_now))
       (none_more (length p.failures.items))
-      (still_live journal.log journal.marks (line_of p) is.current made_entry more refl (λ n. refl))
+      (still_live journal.log journal.marks (queue_of p) is.current made_entry more refl (λ n. refl))
 
   pub accepted_kept : IsKept journal' p'
   accepted_kept = record {
     kept = subst (λ (ds : List Domain). AllKept ds) (λ i. (sym domains i).items) is.kept;
-    current = subst (λ (l : List Entry). IsCurrent l journal'.marks (line_of p')) (sym log) (subst (IsCurrent (journal.log ++ made_entry ∷ []) journal'.marks) line_is current_now);
+    current = subst (λ (l : List Entry). IsCurrent l journal'.marks (queue_of p')) (sym log) (subst (IsCurrent (journal.log ++ made_entry ∷ []) journal'.marks) queue_is current_now);
     let_go = as_gone ∙ is.let_go ∙ (λ i. length (sym outcomes_same i).items);
   }
 
   pub accepted_made : length journal.log < 1000000 → Made (known_of journal p) (known_of journal' p') (record { client = client; number = entries_of journal.log client; call = Submit tx.begun.place tx.changes }) (Receipt (p.gone + length p.waiting.items + 1))
   accepted_made room = record {
     room = room;
-    log = λ i. record { world = world_in (sym line_is i).domains; log = log i };
+    log = λ i. record { world = world_in (sym queue_is i).domains; log = log i };
     reply = reply_now;
   }
 
@@ -236,4 +236,4 @@ module _ (journal journal' : Noted) (p p' : Pipeline) (is : IsKept journal p) (c
   accepted_given =
       let last : p'.gone + length p.waiting.items ≡ p.gone + length p.waiting.items + 1 - 1 = omega (arith, as_gone) in
       let there : slice_get p'.waiting.items (length p.waiting.items) ≡ Some sub = ap (λ (ss : List Submission). slice_get ss (length p.waiting.items)) waits ∙ slice_get_seam p.waiting.items sub [] in
-      (omega arith, subst (λ n. option_map (λ (t : Sent). t.base.domain) (slice_get (sents (answers journal'.log (line_of p'))) n) ≡ Some tx.begun.domain) last (given_domain journal' p' accepted_kept (length p.waiting.items) sub there))
+      (omega arith, subst (λ n. option_map (λ (t : Sent). t.base.domain) (slice_get (sents (answers journal'.log (queue_of p'))) n) ≡ Some tx.begun.domain) last (given_domain journal' p' accepted_kept (length p.waiting.items) sub there))

@@ -17,7 +17,7 @@ use Rattle.sal_hub.specs.Answers.{Made}
 use Rattle.sal_hub.specs.Current.{IsKept, answers, known_of}
 use Rattle.sal_hub.specs.Domains.{IsDomain}
 use Rattle.sal_hub.specs.Journals.{Noted, jotted}
-use Rattle.sal_hub.specs.PipelineView.{line_of, world_in}
+use Rattle.sal_hub.specs.PipelineView.{queue_of, world_in}
 use Rattle.sal_hub.specs.Listeners.{AreListeners, IsBatchFor, Removes, Tells, batch_in, has_in}
 use Rattle.sal_hub.specs.Tokens.{IsListener}
 use Rattle.sal_hub.proofs.Heard.{domain_named, gone_listeners, listened_is, named_at, some_live, told_listeners}
@@ -51,7 +51,7 @@ module _ (journal : Noted) (p : Pipeline) (is : IsKept journal p) (ls : Listener
 
 module _ (journal journal' : Noted) (p : Pipeline) (is : IsKept journal p) (ls ls' : Listeners) (are : AreListeners (known_of journal p) ls) (client : ℕ) (id : ListenerId) (token : IsListener (known_of journal p) id) where
   abbrev before : List Answered
-  before = answers journal.log (line_of p)
+  before = answers journal.log (queue_of p)
 
   abbrev one : Listener
   one = (named_at (known_of journal p) ls are id token).0
@@ -62,7 +62,7 @@ module _ (journal journal' : Noted) (p : Pipeline) (is : IsKept journal p) (ls l
   -- take
   module _ (log : journal'.log ≡ jotted journal.log client (Take id.number)) where
     module _ (no_one : has_in ls.list.items client (id.number - 1) ≡ false) where
-      not_told : reply_to (world_in (line_of p).domains) before client (Take id.number) ≡ Refused (NoListener id.number)
+      not_told : reply_to (world_in (queue_of p).domains) before client (Take id.number) ≡ Refused (NoListener id.number)
       not_told = untold_reply journal p is ls are client id.number one token.0 at no_one
 
       pub untold_listeners : AreListeners (known_of journal' p) ls
@@ -84,7 +84,7 @@ module _ (journal journal' : Noted) (p : Pipeline) (is : IsKept journal p) (ls l
       batch_is : b ≡ batch_in d one
       batch_is = stands d one at (slice_get_some p.domains.items one.domain within).1
 
-      is_told : reply_to (world_in (line_of p).domains) before client (Take id.number) ≡ Told one.domain b
+      is_told : reply_to (world_in (queue_of p).domains) before client (Take id.number) ≡ Told one.domain b
       is_told = told_reply journal p is ls are client id.number one token.0 at d within read some ∙ ap (Told one.domain) (sym batch_is)
 
       pub told_now : Tells ls (id.number - 1) b.to ls' → AreListeners (known_of journal' p) ls'
@@ -106,7 +106,7 @@ module _ (journal journal' : Noted) (p : Pipeline) (is : IsKept journal p) (ls l
 
   module _ (log : journal'.log ≡ jotted journal.log client (Unlisten id.number)) where
     module _ (no_one : has_in ls.list.items client (id.number - 1) ≡ false) where
-      not_gone : reply_to (world_in (line_of p).domains) before client (Unlisten id.number) ≡ Refused (NoListener id.number)
+      not_gone : reply_to (world_in (queue_of p).domains) before client (Unlisten id.number) ≡ Refused (NoListener id.number)
       not_gone = ungone_reply journal p is ls are client id.number one token.0 at no_one
 
       pub ungone_listeners : AreListeners (known_of journal' p) ls
@@ -116,7 +116,7 @@ module _ (journal journal' : Noted) (p : Pipeline) (is : IsKept journal p) (ls l
       ungone_answer room = record { room = room; log = with_next journal journal' p client (Unlisten id.number) log; reply = not_gone }
 
     module _ (some : has_in ls.list.items client (id.number - 1) ≡ true) where
-      is_gone : reply_to (world_in (line_of p).domains) before client (Unlisten id.number) ≡ Accepted
+      is_gone : reply_to (world_in (queue_of p).domains) before client (Unlisten id.number) ≡ Accepted
       is_gone = gone_reply journal p is ls are client id.number one token.0 at some
 
       pub gone_now : Removes ls (id.number - 1) ls' → AreListeners (known_of journal' p) ls'

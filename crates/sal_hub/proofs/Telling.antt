@@ -29,7 +29,7 @@ use Rattle.sal_hub.specs.Current.{IsKept, answers, known_of}
 use Rattle.sal_hub.specs.Domains.{IsDomain}
 use Rattle.sal_hub.specs.Journals.{Noted, jotted}
 use Rattle.sal_hub.specs.HubHistory.{HubHistory, more}
-use Rattle.sal_hub.specs.PipelineView.{is_live_in, line_of, world_in}
+use Rattle.sal_hub.specs.PipelineView.{is_live_in, queue_of, world_in}
 use Rattle.sal_hub.specs.Listeners.{Adds, AreListeners, batch_in, call_of, has_in, listening_of, new_of, opened_in, refusal_by}
 use Rattle.sal_hub.specs.Tokens.{IsListener}
 use Rattle.sal_hub.proofs.Heard.{has_is, listened_is, made_listeners, listener_is, refusal_is}
@@ -39,41 +39,41 @@ use Rattle.sal_hub.proofs.Serving.{count_is, domain_is, domains_are, live_within
 
 module _ (journal : Noted) (p : Pipeline) (is : IsKept journal p) where
   abbrev w : List world.Domain
-  w = world_in (line_of p).domains
+  w = world_in (queue_of p).domains
 
   abbrev done : List Answered
-  done = answers journal.log (line_of p)
+  done = answers journal.log (queue_of p)
 
   trees_are : (n : ℕ) (d : Domain) → n < length p.domains.items → d ≡ get_or p.domains.items n d → (s : Store) → trees_of d.commits.items s ≡ trees_at w done n s
   trees_are n d h at s = let here : IsDomain (known_of journal p) n d = domain_is journal p is n d h at in λ i. tree_at (here.opening i) (here.commits i) s
 
-  pub opened_reply : (ask : Ask) (d : Domain) → ask.domain < length p.domains.items → d ≡ get_or p.domains.items ask.domain d → listen_refusal (world_in (line_of p).domains) (answers journal.log (line_of p)) ask.domain ≡ None
-      → reply_to (world_in (line_of p).domains) (answers journal.log (line_of p)) ask.client (call_of ask) ≡ Made (length (listeners (answers journal.log (line_of p))) + 1) ask.domain ask.path.now (opened_in d ask)
+  pub opened_reply : (ask : Ask) (d : Domain) → ask.domain < length p.domains.items → d ≡ get_or p.domains.items ask.domain d → listen_refusal (world_in (queue_of p).domains) (answers journal.log (queue_of p)) ask.domain ≡ None
+      → reply_to (world_in (queue_of p).domains) (answers journal.log (queue_of p)) ask.client (call_of ask) ≡ Made (length (listeners (answers journal.log (queue_of p))) + 1) ask.domain ask.path.now (opened_in d ask)
   opened_reply ask d h at allowed =
       let trees = trees_are ask.domain d h at ask.store in
       let count = count_is journal p is ask.domain d h at in
       ap (λ (o : Option CallFault). refused_or o (listening w done ask.domain ask.store ask.path.now)) allowed
       ∙ (λ i. Made (length (listeners done) + 1) ask.domain ask.path.now (opened (sym trees i) ask.path.now (sym count i)))
 
-  pub refused_reply : (ask : Ask) (f : CallFault) → listen_refusal (world_in (line_of p).domains) (answers journal.log (line_of p)) ask.domain ≡ Some f
-      → reply_to (world_in (line_of p).domains) (answers journal.log (line_of p)) ask.client (call_of ask) ≡ Refused f
+  pub refused_reply : (ask : Ask) (f : CallFault) → listen_refusal (world_in (queue_of p).domains) (answers journal.log (queue_of p)) ask.domain ≡ Some f
+      → reply_to (world_in (queue_of p).domains) (answers journal.log (queue_of p)) ask.client (call_of ask) ≡ Refused f
   refused_reply ask f why = ap (λ (o : Option CallFault). refused_or o (listening w done ask.domain ask.store ask.path.now)) why
 
   module _ (ls : Listeners) (are : AreListeners (known_of journal p) ls) (client n : ℕ) (l : Listener) (low : 0 < n) (here : slice_get ls.list.items (n - 1) ≡ Some l) where
     has_as : has_in ls.list.items client (n - 1) ≡ has_listener done client n
     has_as = has_is (known_of journal p) ls are client n l low here
 
-    pub untold_reply : has_in ls.list.items client (n - 1) ≡ false → reply_to (world_in (line_of p).domains) (answers journal.log (line_of p)) client (Take n) ≡ Refused (NoListener n)
+    pub untold_reply : has_in ls.list.items client (n - 1) ≡ false → reply_to (world_in (queue_of p).domains) (answers journal.log (queue_of p)) client (Take n) ≡ Refused (NoListener n)
     untold_reply no_one = ap (λ b. if b then taken w done n else Refused (NoListener n)) (sym has_as ∙ no_one)
 
-    pub ungone_reply : has_in ls.list.items client (n - 1) ≡ false → reply_to (world_in (line_of p).domains) (answers journal.log (line_of p)) client (Unlisten n) ≡ Refused (NoListener n)
+    pub ungone_reply : has_in ls.list.items client (n - 1) ≡ false → reply_to (world_in (queue_of p).domains) (answers journal.log (queue_of p)) client (Unlisten n) ≡ Refused (NoListener n)
     ungone_reply no_one = ap (λ b. if b then Accepted else Refused (NoListener n)) (sym has_as ∙ no_one)
 
-    pub gone_reply : has_in ls.list.items client (n - 1) ≡ true → reply_to (world_in (line_of p).domains) (answers journal.log (line_of p)) client (Unlisten n) ≡ Accepted
+    pub gone_reply : has_in ls.list.items client (n - 1) ≡ true → reply_to (world_in (queue_of p).domains) (answers journal.log (queue_of p)) client (Unlisten n) ≡ Accepted
     gone_reply some = ap (λ b. if b then Accepted else Refused (NoListener n)) (sym has_as ∙ some)
 
     pub told_reply : (d : Domain) → l.domain < length p.domains.items → d ≡ get_or p.domains.items l.domain d → has_in ls.list.items client (n - 1) ≡ true
-        → reply_to (world_in (line_of p).domains) (answers journal.log (line_of p)) client (Take n) ≡ Told l.domain (batch_in d l)
+        → reply_to (world_in (queue_of p).domains) (answers journal.log (queue_of p)) client (Take n) ≡ Told l.domain (batch_in d l)
     told_reply d h at some =
         let of_domain : IsDomain (known_of journal p) l.domain d = domain_is journal p is l.domain d h at in
         let trees = trees_are l.domain d h at l.store in
@@ -90,9 +90,9 @@ module _ (journal journal' : Noted) (p : Pipeline) (client : ℕ) (call : Call) 
   entry = record { client = client; number = entries_of journal.log client; call = call }
 
   pub with_next : known_of journal' p ≡ more (known_of journal p) (record { client = client; number = entries_of journal.log client; call = call })
-  with_next = λ i. let known : HubHistory = record { world = world_in (line_of p).domains; log = log i } in known
+  with_next = λ i. let known : HubHistory = record { world = world_in (queue_of p).domains; log = log i } in known
 
-  pub refused_listeners : (ls : Listeners) (f : CallFault) → AreListeners (known_of journal p) ls → reply_to (world_in (line_of p).domains) (answers journal.log (line_of p)) client call ≡ Refused f → AreListeners (known_of journal' p) ls
+  pub refused_listeners : (ls : Listeners) (f : CallFault) → AreListeners (known_of journal p) ls → reply_to (world_in (queue_of p).domains) (answers journal.log (queue_of p)) client call ≡ Refused f → AreListeners (known_of journal' p) ls
   refused_listeners ls f are why =
       subst (λ known. AreListeners known ls) (sym with_next)
       (listeners_steady (known_of journal p) entry ls are (subst (λ r. IsQuiet client call r) (sym why) (quiet_refused client call f)))
@@ -120,19 +120,19 @@ open_live false f o e = cc
 
 module _ (journal journal' : Noted) (p : Pipeline) (is : IsKept journal p) (ls ls' : Listeners) (are : AreListeners (known_of journal p) ls) (ask : Ask) (log : journal'.log ≡ jotted journal.log ask.client (call_of ask)) where
   abbrev before : List Answered
-  before = answers journal.log (line_of p)
+  before = answers journal.log (queue_of p)
 
-  pub unmade_listeners : (f : CallFault) → refusal_by (is_live_in (line_of p).domains ask.domain) ask.domain ls.live ≡ Some f → AreListeners (known_of journal' p) ls
+  pub unmade_listeners : (f : CallFault) → refusal_by (is_live_in (queue_of p).domains ask.domain) ask.domain ls.live ≡ Some f → AreListeners (known_of journal' p) ls
   unmade_listeners f why =
-      refused_listeners journal journal' p ask.client (call_of ask) log ls f are (refused_reply journal p is ask f (sym (refusal_is (known_of journal p) ls are (is_live_in (line_of p).domains ask.domain) ask.domain (is.current.live ask.domain)) ∙ why))
+      refused_listeners journal journal' p ask.client (call_of ask) log ls f are (refused_reply journal p is ask f (sym (refusal_is (known_of journal p) ls are (is_live_in (queue_of p).domains ask.domain) ask.domain (is.current.live ask.domain)) ∙ why))
 
-  module _ (allowed : refusal_by (is_live_in (line_of p).domains ask.domain) ask.domain ls.live ≡ None) (d : Domain) (at : d ≡ get_or p.domains.items ask.domain d) (o : Opened) (stands : o ≡ opened_in d ask) (adds : Adds ls (new_of ask o.version) ls') where
+  module _ (allowed : refusal_by (is_live_in (queue_of p).domains ask.domain) ask.domain ls.live ≡ None) (d : Domain) (at : d ≡ get_or p.domains.items ask.domain d) (o : Opened) (stands : o ≡ opened_in d ask) (adds : Adds ls (new_of ask o.version) ls') where
     within : ask.domain < length p.domains.items
-    within = live_within journal p is ask.domain (open_live (is_live_in (line_of p).domains ask.domain) (NoDomain ask.domain) (fault_if (nat_le 256 ls.live) TooManyListeners) allowed)
+    within = live_within journal p is ask.domain (open_live (is_live_in (queue_of p).domains ask.domain) (NoDomain ask.domain) (fault_if (nat_le 256 ls.live) TooManyListeners) allowed)
 
-    reply_now : reply_to (world_in (line_of p).domains) before ask.client (call_of ask) ≡ Made (length (listeners before) + 1) ask.domain ask.path.now o
+    reply_now : reply_to (world_in (queue_of p).domains) before ask.client (call_of ask) ≡ Made (length (listeners before) + 1) ask.domain ask.path.now o
     reply_now =
-        opened_reply journal p is ask d within at (sym (refusal_is (known_of journal p) ls are (is_live_in (line_of p).domains ask.domain) ask.domain (is.current.live ask.domain)) ∙ allowed)
+        opened_reply journal p is ask d within at (sym (refusal_is (known_of journal p) ls are (is_live_in (queue_of p).domains ask.domain) ask.domain (is.current.live ask.domain)) ∙ allowed)
         ∙ ap (λ (x : Opened). Made (length (listeners before) + 1) ask.domain ask.path.now x) (sym stands)
 
     pub opened_listeners : AreListeners (known_of journal' p) ls'
@@ -148,7 +148,7 @@ module _ (journal journal' : Noted) (p : Pipeline) (is : IsKept journal p) (ls l
           let last : length (listeners before) + 1 ≡ id.number = omega (arith, number, ap length adds.list, length-append ls.list.items (new_of ask o.version ∷ []), ap length are.made, length-map ls.list.items listening_of) in
           record { room = room; log = with_next journal journal' p ask.client (call_of ask) log; reply = reply_now ∙ ap (λ n. Made n ask.domain ask.path.now o) last }
 
-      pub opened_made : listener_at (answers journal'.log (line_of p)) id.number ≡ Some (record { client = ask.client; domain = ask.domain; store = ask.store; path = ask.path.now })
+      pub opened_made : listener_at (answers journal'.log (queue_of p)) id.number ≡ Some (record { client = ask.client; domain = ask.domain; store = ask.store; path = ask.path.now })
       opened_made = given_made (known_of journal' p) ls ls' opened_listeners ask o.version adds id number
 
       pub opened_token : id.domain ≡ ask.domain → IsListener (known_of journal' p) id

@@ -39,7 +39,7 @@ use Rattle.sal_hub.specs.Answers.{Fails, Made}
 use Rattle.sal_hub.specs.Current.{IsCurrent, IsKept, answers, known_of, number_of}
 use Rattle.sal_hub.specs.HubHistory.{HubHistory}
 use Rattle.sal_hub.specs.Journals.{Noted, jotted, mark_at}
-use Rattle.sal_hub.specs.PipelineView.{AllKept, DomainView, IsSound, PipelineView, is_live_in, line_of, opened_as, shown, table_in, version_of, world_in}
+use Rattle.sal_hub.specs.PipelineView.{AllKept, DomainView, IsSound, PipelineView, is_live_in, queue_of, opened_as, shown, table_in, version_of, world_in}
 use Rattle.sal_commit.specs.declared.versions.NextVersion.{NextVersion}
 use Rattle.sal_hub.specs.Upgrades.{IsReady, refusal_of, set_version, upgrades_of, with_version}
 use Rattle.sal_hub.proofs.Beginning.{made_now, quiet_kept}
@@ -102,6 +102,7 @@ upgraded-shown d d' version are up = λ i. record {
   upgrades = tables_of (up.upgrades i).items;
   version = up.version i;
   since = (up.since ∙ since_is d are) i;
+  rules = up.rules i;
   opening = opening_in (up.commits i);
   ops = ops_of (up.commits i);
   chains = chains_of (up.commits i);
@@ -117,7 +118,7 @@ first-shown (x ∷ ds) d d' version some is are up =
     ∙ (λ i. let e : DomainView = record (shown (is i)) { table = version_in (is i) version; version = version; since = length (ops_of (is i).commits.items) } in e))
 
 pub line_upgraded : (p : Pipeline) (d d' : Stored) (version : ℕ) → 0 < length p.domains.items → d ≡ get_or p.domains.items 0 d → AreKept d.commits.items → Upgrades d version d'
-    → ◌≡◌ {A = PipelineView} (record { domains = map shown (set p.domains.items 0 d'); gone = p.gone; waiting = p.waiting.items; outcomes = p.outcomes.items; failures = p.failures.items }) (set_version (line_of p) version)
+    → ◌≡◌ {A = PipelineView} (record { domains = map shown (set p.domains.items 0 d'); gone = p.gone; waiting = p.waiting.items; outcomes = p.outcomes.items; failures = p.failures.items }) (set_version (queue_of p) version)
 line_upgraded p d d' version some is are up = λ j. record { domains = first-shown p.domains.items d d' version some is are up j; gone = p.gone; waiting = p.waiting.items; outcomes = p.outcomes.items; failures = p.failures.items }
 
 pub kept_upgraded : (ds : List Stored) (d d' : Stored) (version : ℕ) → AllKept ds → AreKept d.commits.items → Upgrades d version d' → AllKept (set ds 0 d')
@@ -148,13 +149,13 @@ at-upgraded (d ∷ ds) v zero e at = (
 )
 at-upgraded (d ∷ ds) v (suc n) e at = (e, at, refl)
 
-sound-upgraded : (ss : List Sent) (line : PipelineView) (v : ℕ) → IsSound ss line → IsSound ss (set_version line v)
-sound-upgraded ss line v sound = record {
-  some = omega (arith, sound.some, length-upgraded line.domains v);
+sound-upgraded : (ss : List Sent) (queue : PipelineView) (v : ℕ) → IsSound ss queue → IsSound ss (set_version queue v)
+sound-upgraded ss queue v sound = record {
+  some = omega (arith, sound.some, length-upgraded queue.domains v);
   within = sound.within;
   behind = sound.behind;
   domains = λ n e at. (
-      let (d, was, same) = at-upgraded line.domains v n e at in
+      let (d, was, same) = at-upgraded queue.domains v n e at in
       let had = sound.domains n d was in
       record {
         number = ap (λ (x : DomainView). x.number) same ∙ had.number;
@@ -164,7 +165,7 @@ sound-upgraded ss line v sound = record {
       }
       );
   waiting = sound.waiting;
-  standing = λ k s at. let had = sound.standing k s at in record { domain = omega (arith, had.domain, length-upgraded line.domains v); base = had.base; chain = had.chain; view = had.view; below = had.below };
+  standing = λ k s at. let had = sound.standing k s at in record { domain = omega (arith, had.domain, length-upgraded queue.domains v); base = had.base; chain = had.chain; view = had.view; below = had.below };
   numbers = sound.numbers;
   failures = sound.failures;
 }
@@ -183,33 +184,33 @@ own_number v = let own : nat_eq 0 0 ≡ true = grind (arith, nat_tests) in ap (�
 
 module _ (journal : Noted) (p : Pipeline) (is : IsKept journal p) (d : Stored) (version : ℕ) (some : 0 < length p.domains.items) (at : d ≡ get_or p.domains.items 0 d) where
   abbrev w : List world.Domain
-  w = world_in (line_of p).domains
+  w = world_in (queue_of p).domains
 
   abbrev answered : List Answered
-  answered = answers journal.log (line_of p)
+  answered = answers journal.log (queue_of p)
 
   here : slice_get (map shown p.domains.items) 0 ≡ Some (shown d)
   here = shown_at p.domains.items 0 d some at
 
-  pub refusal_is : refusal_of d version ≡ upgrade_refusal (world_in (line_of p).domains) (answers journal.log (line_of p)) version
+  pub refusal_is : refusal_of d version ≡ upgrade_refusal (world_in (queue_of p).domains) (answers journal.log (queue_of p)) version
   refusal_is =
       let number : d.version ≡ schema_version answered = version-present journal p is 0 d here ∙ own_number (schema_version answered) in
-      let table : version_in d version ≡ table_of w version 0 = sym (table-in w 0 version (opened_as (shown d)) (world-at (line_of p).domains 0 (shown d) here)) in
+      let table : version_in d version ≡ table_of w version 0 = sym (table-in w 0 version (opened_as (shown d)) (world-at (queue_of p).domains 0 (shown d) here)) in
       λ i. option_or (fault_if (not (nat_eq (number i + 1) version)) (WrongVersion (number i))) (broken_by (table i) (λ s. tip_is journal p is 0 d some at s i))
 
 module _ (journal journal' : Noted) (p : Pipeline) (is : IsKept journal p) (client version : ℕ) (log : journal'.log ≡ jotted journal.log client (Upgrade version)) where
   abbrev world_now : List world.Domain
-  world_now = world_in (line_of p).domains
+  world_now = world_in (queue_of p).domains
 
   abbrev so_far : List Answered
-  so_far = answers journal.log (line_of p)
+  so_far = answers journal.log (queue_of p)
 
   abbrev entry : Entry
   entry = record { client = client; number = entries_of journal.log client; call = Upgrade version }
 
   -- ---- refused
 
-  module _ (fault : CallFault) (refused : upgrade_refusal (world_in (line_of p).domains) (answers journal.log (line_of p)) version ≡ Some fault) where
+  module _ (fault : CallFault) (refused : upgrade_refusal (world_in (queue_of p).domains) (answers journal.log (queue_of p)) version ≡ Some fault) where
     refused_reply : reply_to world_now so_far client (Upgrade version) ≡ Refused fault
     refused_reply = ap (λ (o : Option CallFault). refused_or o Accepted) refused
 
@@ -231,7 +232,7 @@ module _ (journal journal' : Noted) (p : Pipeline) (is : IsKept journal p) (clie
 
   -- ---- accepted
 
-  module _ (p' : Pipeline) (line : line_of p' ≡ set_version (line_of p) version) (allowed : upgrade_refusal (world_in (line_of p).domains) (answers journal.log (line_of p)) version ≡ None) where
+  module _ (p' : Pipeline) (queue : queue_of p' ≡ set_version (queue_of p) version) (allowed : upgrade_refusal (world_in (queue_of p).domains) (answers journal.log (queue_of p)) version ≡ None) where
     accepted : reply_to world_now so_far client (Upgrade version) ≡ Accepted
     accepted = ap (λ (o : Option CallFault). refused_or o Accepted) allowed
 
@@ -249,22 +250,22 @@ module _ (journal journal' : Noted) (p : Pipeline) (is : IsKept journal p) (clie
         let it : IsGoodUpgrade world_now so_far (Upgrade version) = good-upgrade world_now so_far client (Upgrade version) good in
         ap schema_version (history-push world_now journal.log entry) ∙ schema_version-next so_far (now_of world_now so_far entry) good ∙ it.next ∙ sym (ap number it.call_is)
 
-    abbrev line' : PipelineView
-    line' = set_version (line_of p) version
+    abbrev queue' : PipelineView
+    queue' = set_version (queue_of p) version
 
-    same_world : world_in line'.domains ≡ world_now
-    same_world = world-upgraded (line_of p).domains version
+    same_world : world_in queue'.domains ≡ world_now
+    same_world = world-upgraded (queue_of p).domains version
 
-    tables : (n : ℕ) → table_in line'.domains n ≡ tables_now world_now (history world_now (journal.log ++ entry ∷ [])) n
-    tables n = by (line_of p).domains is.current.tables is.current.only n ∙ ap (λ v. table_of world_now v n) (sym next)
+    tables : (n : ℕ) → table_in queue'.domains n ≡ tables_now world_now (history world_now (journal.log ++ entry ∷ [])) n
+    tables n = by (queue_of p).domains is.current.tables is.current.only n ∙ ap (λ v. table_of world_now v n) (sym next)
       where
         by : (ds : List DomainView) → ((k : ℕ) → table_in ds k ≡ table_of (world_in ds) (schema_version so_far) k) → world.OneIsUpgraded (world_in ds) → (n : ℕ) → table_in (with_version ds version) n ≡ table_of (world_in ds) version n
         by [] was only n = refl
         by (x ∷ ds) was only zero = refl
         by (x ∷ ds) was only (suc n) = was (suc n) ∙ one-table (world_in (x ∷ ds)) (suc n) (schema_version so_far) version (λ e at_e. only n e at_e)
 
-    versions : (n : ℕ) → n < length (line_of p).domains → version_of line'.domains n ≡ number_of (schema_version (history world_now (journal.log ++ entry ∷ []))) n
-    versions n low = by (line_of p).domains is.current.versions n low ∙ ap (λ v. number_of v n) (sym next)
+    versions : (n : ℕ) → n < length (queue_of p).domains → version_of queue'.domains n ≡ number_of (schema_version (history world_now (journal.log ++ entry ∷ []))) n
+    versions n low = by (queue_of p).domains is.current.versions n low ∙ ap (λ v. number_of v n) (sym next)
       where
         later : (v u n : ℕ) → number_of v (suc n) ≡ number_of u (suc n)
         later v u n = let other : nat_eq (suc n) 0 ≡ false = grind (arith, nat_tests) in ap (λ b. if b then v else 0) other ∙ sym (ap (λ b. if b then u else 0) other)
@@ -274,23 +275,23 @@ module _ (journal journal' : Noted) (p : Pipeline) (is : IsKept journal p) (clie
         by (x ∷ ds) was zero low = sym (own_number version)
         by (x ∷ ds) was (suc n) low = was (suc n) low ∙ later (schema_version so_far) version n
 
-    current_now : ((k : ℕ) → mark_at journal'.marks k ≡ mark_at journal.marks k) → IsCurrent (journal.log ++ entry ∷ []) journal'.marks line'
+    current_now : ((k : ℕ) → mark_at journal'.marks k ≡ mark_at journal.marks k) → IsCurrent (journal.log ++ entry ∷ []) journal'.marks queue'
     current_now marks =
-        pushed_as journal.log journal.marks (line_of p) is.current entry line' journal'.marks
-        (unsent journal.log journal.marks (line_of p) is.current entry line' refl (sound-upgraded (sents so_far) (line_of p) version is.current.sound)) same_world tables versions
-        (sym (append-nil (line_of p).outcomes)) (λ k. marks k ∙ sym (or_false (mark_at journal.marks k))) (none_more (length (line_of p).failures))
-        (still_live journal.log journal.marks (line_of p) is.current entry line' refl (λ n. live-upgraded (line_of p).domains version n))
+        pushed_as journal.log journal.marks (queue_of p) is.current entry queue' journal'.marks
+        (unsent journal.log journal.marks (queue_of p) is.current entry queue' refl (sound-upgraded (sents so_far) (queue_of p) version is.current.sound)) same_world tables versions
+        (sym (append-nil (queue_of p).outcomes)) (λ k. marks k ∙ sym (or_false (mark_at journal.marks k))) (none_more (length (queue_of p).failures))
+        (still_live journal.log journal.marks (queue_of p) is.current entry queue' refl (λ n. live-upgraded (queue_of p).domains version n))
 
     pub upgraded_kept : AllKept p'.domains.items → ((k : ℕ) → mark_at journal'.marks k ≡ mark_at journal.marks k) → IsKept journal' p'
     upgraded_kept kept marks = record {
       kept = kept;
-      current = subst (λ (l : List Entry). IsCurrent l journal'.marks (line_of p')) (sym log) (subst (IsCurrent (journal.log ++ entry ∷ []) journal'.marks) (sym line) (current_now marks));
-      let_go = ap (λ (l : PipelineView). l.gone) line ∙ is.let_go ∙ ap (λ (l : PipelineView). length l.outcomes) (sym line);
+      current = subst (λ (l : List Entry). IsCurrent l journal'.marks (queue_of p')) (sym log) (subst (IsCurrent (journal.log ++ entry ∷ []) journal'.marks) (sym queue) (current_now marks));
+      let_go = ap (λ (l : PipelineView). l.gone) queue ∙ is.let_go ∙ ap (λ (l : PipelineView). length l.outcomes) (sym queue);
     }
 
     pub upgraded_made : length journal.log < 1000000 → Made (known_of journal p) (known_of journal' p') (record { client = client; number = entries_of journal.log client; call = Upgrade version }) Accepted
     upgraded_made room = record {
       room = room;
-      log = λ i. let known : HubHistory = record { world = (ap (λ (l : PipelineView). world_in l.domains) line ∙ same_world) i; log = log i } in known;
+      log = λ i. let known : HubHistory = record { world = (ap (λ (l : PipelineView). world_in l.domains) queue ∙ same_world) i; log = log i } in known;
       reply = accepted;
     }

@@ -14,7 +14,7 @@ use Rattle.sal_commit.specs.declared.domain.Domain.{Domain as Stored}
 use Rattle.sal_hub.specs.declared.pipeline.Pipeline.{Pipeline}
 use Rattle.sal_hub.specs.Current.{IsKept, answers, number_of}
 use Rattle.sal_hub.specs.Journals.{Noted}
-use Rattle.sal_hub.specs.PipelineView.{line_of, shown, world_in}
+use Rattle.sal_hub.specs.PipelineView.{queue_of, shown, world_in}
 use Rattle.sal_hub.proofs.Deciding.{table-at, version-here}
 
 -- a domain's table at the version of domain 0 is that of its own version
@@ -27,14 +27,14 @@ numbered world v (suc n) only =
 -- ---- a domain that is kept
 
 module _ (journal : Noted) (p : Pipeline) (is : IsKept journal p) (n : ℕ) (d : Stored) (at : slice_get (map shown p.domains.items) n ≡ Some (shown d)) where
-  pub version-present : d.version ≡ number_of (schema_version (answers journal.log (line_of p))) n
-  version-present = sym (version-here (line_of p).domains n (shown d) at) ∙ is.current.versions n (slice_get_within (line_of p).domains n (shown d) at)
+  pub version-present : d.version ≡ number_of (schema_version (answers journal.log (queue_of p))) n
+  version-present = sym (version-here (queue_of p).domains n (shown d) at) ∙ is.current.versions n (slice_get_within (queue_of p).domains n (shown d) at)
 
-  pub schema-present : d.schema.value ≡ table_of (world_in (line_of p).domains) d.version n
+  pub schema-present : d.schema.value ≡ table_of (world_in (queue_of p).domains) d.version n
   schema-present =
-      sym (table-at (line_of p).domains n (shown d) at) ∙ is.current.tables n
-      ∙ numbered (world_in (line_of p).domains) (schema_version (answers journal.log (line_of p))) n is.current.only
-      ∙ ap (λ v. table_of (world_in (line_of p).domains) v n) (sym version-present)
+      sym (table-at (queue_of p).domains n (shown d) at) ∙ is.current.tables n
+      ∙ numbered (world_in (queue_of p).domains) (schema_version (answers journal.log (queue_of p))) n is.current.only
+      ∙ ap (λ v. table_of (world_in (queue_of p).domains) v n) (sym version-present)
 
 -- ---- places
 

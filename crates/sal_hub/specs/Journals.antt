@@ -4,7 +4,7 @@ use Rattle.std.specs.BTreeMap.{BTreeMap}
 use Rattle.sal_history.specs.declared.call.Call.{Call}
 use Rattle.sal_history.specs.declared.call.Entry.{Entry}
 use Rattle.sal_history.specs.History.{entries_of}
-use Rattle.sal_hub.specs.Counts.{count_in}
+use Rattle.sal_types.specs.Counts.{count_in}
 
 -- what a contract sees: the log, and a mark for each of its places
 pub record Noted : Type 0 where

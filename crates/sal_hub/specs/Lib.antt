@@ -1,7 +1,6 @@
 pub mod Answers
 pub mod Chains
 pub mod CommitReceipts
-pub mod Counts
 pub mod Current
 pub mod Domains
 pub mod Failures

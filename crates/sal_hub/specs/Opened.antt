@@ -1,13 +1,14 @@
--- The domains that devices open: the controller's own is live. Each is at version 0 of its schema.
+-- The domains that devices open, under version rules: the controller's own is live. Each is at version 0 of its schema.
 use Rattle.std.specs.Prelude.{ℕ, ◌+◌, All, List, [], ◌∷◌, nat_eq}
+use Rattle.sal_rows.specs.declared.clash.Rules.{Rules}
 use Rattle.sal_commit.specs.Opening.{opening_of_device}
 use Rattle.sal_commit.specs.Versions.{tables_of}
 use Rattle.sal_schema.specs.Valid.{IsTable}
 use Rattle.sal_history.specs.declared.opening.Device.{Device}
 use Rattle.sal_hub.specs.PipelineView.{DomainView}
 
-abbrev pub shown_of : ℕ → Device → DomainView
-shown_of n device = record {
+abbrev pub shown_of : Rules → ℕ → Device → DomainView
+shown_of rules n device = record {
   number = n;
   live = nat_eq n 0;
   table = device.schema.value;
@@ -15,6 +16,7 @@ shown_of n device = record {
   upgrades = tables_of device.upgrades.items;
   version = 0;
   since = 0;
+  rules = rules;
   opening = opening_of_device device;
   ops = [];
   chains = [];
@@ -27,6 +29,6 @@ pub record HaveTables (device : Device) : Type 0 where
   pub upgrades : All IsTable (tables_of device.upgrades.items)
 
 -- numbered from n on
-abbrev pub shown_from : ℕ → List Device → List DomainView
-shown_from n [] = []
-shown_from n (device ∷ devices) = shown_of n device ∷ shown_from (n + 1) devices
+abbrev pub shown_from : Rules → ℕ → List Device → List DomainView
+shown_from rules n [] = []
+shown_from rules n (device ∷ devices) = shown_of rules n device ∷ shown_from rules (n + 1) devices

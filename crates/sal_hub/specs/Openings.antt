@@ -7,6 +7,7 @@ use Rattle.sal_types.specs.declared.value.Store.{Store}
 use Rattle.sal_types.specs.declared.value.Store.TheVariants.{Config, Oper}
 use Rattle.sal_types.specs.declared.value.Step.{Step}
 use Rattle.sal_types.specs.declared.row.Row.{Row}
+use Rattle.sal_rows.specs.declared.clash.Rules.{Rules}
 use Rattle.sal_schema.specs.declared.table.SchemaTable.{SchemaTable}
 use Rattle.sal_schema.specs.Fitting.{is_closed, is_of_state}
 use Rattle.sal_rules.specs.Breaches.{breach}
@@ -18,12 +19,12 @@ use Rattle.sal_commit.specs.declared.fault.DomainFault.TheVariants.{Broken as Br
 use Rattle.sal_hub.specs.declared.opening.OpenFault.{OpenFault}
 use Rattle.sal_hub.specs.declared.opening.OpenFault.TheVariants.{NotConfig, Broken, NoMemory}
 
--- the world that devices make
-abbrev pub domain_of : Device → Domain
-domain_of device = record { table = device.schema.value; upgrades = tables_of device.upgrades.items; opening = device.opening }
+-- the world that devices make under version rules
+abbrev pub domain_of : Rules → Device → Domain
+domain_of rules device = record { table = device.schema.value; upgrades = tables_of device.upgrades.items; opening = device.opening; rules = rules }
 
-abbrev pub world_of : List Device → List Domain
-world_of devices = map domain_of devices
+abbrev pub world_of : Rules → List Device → List Domain
+world_of rules devices = map (domain_of rules) devices
 
 -- both opening trees of a device fit at the root by version 0 of its schema, and so are closed by it
 pub record IsClosedDevice (device : Device) : Type 0 where

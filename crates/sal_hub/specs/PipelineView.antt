@@ -5,6 +5,7 @@ use Rattle.std.specs.Option.{option_map_or}
 use Rattle.sal_types.specs.declared.value.Store.{Store}
 use Rattle.sal_types.specs.declared.value.Store.TheVariants.{Config, Oper}
 use Rattle.sal_types.specs.declared.row.Row.{Row}
+use Rattle.sal_rows.specs.declared.clash.Rules.{Rules}
 use Rattle.sal_rows.specs.declared.op.Op.{Op}
 use Rattle.sal_rows.specs.declared.outcome.Outcome.{Outcome}
 use Rattle.sal_rows.specs.Apply.{apply_ops}
@@ -24,7 +25,7 @@ use Rattle.sal_hub.specs.Failures.{IsWithin, cut_failures, noted_in}
 
 -- ---- what a contract sees
 
--- a domain, by its opening trees, and the operations, the chains and the receipts of its commits
+-- a domain, by its version rules, its opening trees, and the operations, the chains and the receipts of its commits
 pub record DomainView : Type 0 where
   pub number : ℕ
   pub live : Bool
@@ -35,6 +36,7 @@ pub record DomainView : Type 0 where
   -- the number of the present version, and the newest commit at the last upgrade
   pub version : ℕ
   pub since : ℕ
+  pub rules : Rules
   pub opening : Store → List Row
   pub ops : List (List Op)
   pub chains : List (Option ℕ)
@@ -60,14 +62,15 @@ shown d =
       upgrades = tables_of d.upgrades.items;
       version = d.version;
       since = d.since;
+      rules = d.rules;
       opening = opening_in d.commits.items;
       ops = ops_of d.commits.items;
       chains = chains_of d.commits.items;
       receipts = receipts_of d.commits.items;
     }
 
-abbrev pub line_of : Pipeline → PipelineView
-line_of p = record { domains = map shown p.domains.items; gone = p.gone; waiting = p.waiting.items; outcomes = p.outcomes.items; failures = p.failures.items }
+abbrev pub queue_of : Pipeline → PipelineView
+queue_of p = record { domains = map shown p.domains.items; gone = p.gone; waiting = p.waiting.items; outcomes = p.outcomes.items; failures = p.failures.items }
 
 -- the domain of this number is live, by its flag; there is none behind the last
 abbrev pub is_live_in : List DomainView → ℕ → Bool
@@ -89,7 +92,7 @@ pub record KeepVersions (old new : List DomainView) : Type 0 where
 -- ---- as the log's definitions have it
 
 abbrev pub opened_as : DomainView → world.Domain
-opened_as d = record { table = d.first; upgrades = d.upgrades; opening = record { config = d.opening Config; oper = d.opening Oper } }
+opened_as d = record { table = d.first; upgrades = d.upgrades; opening = record { config = d.opening Config; oper = d.opening Oper }; rules = d.rules }
 
 abbrev pub world_in : List DomainView → List world.Domain
 world_in domains = map opened_as domains
@@ -99,48 +102,48 @@ sent_of s = record { base = record { domain = s.domain; commit = s.base_commit; 
 
 -- the commits of a domain, by all submissions and their outcomes
 abbrev pub commits_in : List Sent → PipelineView → ℕ → List (List Op)
-commits_in ss line n = done_ops n ss line.outcomes
+commits_in ss queue n = done_ops n ss queue.outcomes
 
 -- and their chains
 abbrev pub chains_in : List Sent → PipelineView → ℕ → List (Option ℕ)
-chains_in ss line n = done_chains n ss line.outcomes
+chains_in ss queue n = done_chains n ss queue.outcomes
 
 -- and their receipts, that of the opening first
 abbrev pub receipts_in : List Sent → PipelineView → ℕ → List ℕ
-receipts_in ss line n = commit_receipts n ss line.outcomes
+receipts_in ss queue n = commit_receipts n ss queue.outcomes
 
 -- ---- what holds of it, by all submissions
 
 -- a domain has its number, and the commits that the outcomes tell, with their chains and receipts
-pub record IsStored (ss : List Sent) (line : PipelineView) (n : ℕ) (d : DomainView) : Type 0 where
+pub record IsStored (ss : List Sent) (queue : PipelineView) (n : ℕ) (d : DomainView) : Type 0 where
   pub number : d.number ≡ n
-  pub commits : d.ops ≡ commits_in ss line n
-  pub chains : d.chains ≡ chains_in ss line n
-  pub receipts : d.receipts ≡ receipts_in ss line n
+  pub commits : d.ops ≡ commits_in ss queue n
+  pub chains : d.chains ≡ chains_in ss queue n
+  pub receipts : d.receipts ≡ receipts_in ss queue n
 
 -- A submission stands on a commit of its domain, and its chain is one that was opened; its view is its base after its
 -- operations, whose rows lie below their paths.
-pub record Stands (ss : List Sent) (line : PipelineView) (s : Submission) : Type 0 where
-  pub domain : s.domain < length line.domains
-  pub base : s.base_commit ≤ length (commits_in ss line s.domain)
-  pub chain : IsWithin (length line.failures) s.chain
+pub record Stands (ss : List Sent) (queue : PipelineView) (s : Submission) : Type 0 where
+  pub domain : s.domain < length queue.domains
+  pub base : s.base_commit ≤ length (commits_in ss queue s.domain)
+  pub chain : IsWithin (length queue.failures) s.chain
   pub view : (store : Store) → rows_in s.view store ≡ apply_ops (rows_in s.base store) store s.changes
   pub below : LieBelow s.changes
 
 -- only what is decided was let go, and the rest is kept
-pub record IsSound (ss : List Sent) (line : PipelineView) : Type 0 where
-  pub some : 1 ≤ length line.domains
-  pub within : length line.outcomes ≤ length ss
-  pub behind : line.gone ≤ length line.outcomes
-  pub domains : (n : ℕ) (d : DomainView) → slice_get line.domains n ≡ Some d → IsStored ss line n d
-  pub waiting : map sent_of line.waiting ≡ drop line.gone ss
-  pub standing : (i : ℕ) (s : Submission) → slice_get line.waiting i ≡ Some s → Stands ss line s
-  pub numbers : (i : ℕ) (s : Submission) → slice_get line.waiting i ≡ Some s → s.receipt ≡ line.gone + i + 1
-  pub failures : (chain : ℕ) → noted_in line.failures chain ≡ failing (Some chain) ss line.outcomes
+pub record IsSound (ss : List Sent) (queue : PipelineView) : Type 0 where
+  pub some : 1 ≤ length queue.domains
+  pub within : length queue.outcomes ≤ length ss
+  pub behind : queue.gone ≤ length queue.outcomes
+  pub domains : (n : ℕ) (d : DomainView) → slice_get queue.domains n ≡ Some d → IsStored ss queue n d
+  pub waiting : map sent_of queue.waiting ≡ drop queue.gone ss
+  pub standing : (i : ℕ) (s : Submission) → slice_get queue.waiting i ≡ Some s → Stands ss queue s
+  pub numbers : (i : ℕ) (s : Submission) → slice_get queue.waiting i ≡ Some s → s.receipt ≡ queue.gone + i + 1
+  pub failures : (chain : ℕ) → noted_in queue.failures chain ≡ failing (Some chain) ss queue.outcomes
 
 -- what was let go is not seen: there are submissions by which it holds
 abbrev pub HasSents : PipelineView → Type 0
-HasSents line = (ss : List Sent) × IsSound ss line
+HasSents queue = (ss : List Sent) × IsSound ss queue
 
 -- the commits of each domain have their trees
 abbrev pub AllKept : List Domain → Type 0
@@ -159,11 +162,11 @@ with_live (d ∷ ds) zero live = record d { live = live } ∷ ds
 with_live (d ∷ ds) (suc n) live = d ∷ with_live ds n live
 
 abbrev pub set_live : PipelineView → ℕ → Bool → PipelineView
-set_live line n live = record { domains = with_live line.domains n live; gone = line.gone; waiting = line.waiting; outcomes = line.outcomes; failures = line.failures }
+set_live queue n live = record { domains = with_live queue.domains n live; gone = queue.gone; waiting = queue.waiting; outcomes = queue.outcomes; failures = queue.failures }
 
 -- what is decided is let go
 abbrev pub shorter : PipelineView → PipelineView
-shorter line = record { domains = line.domains; gone = length line.outcomes; waiting = drop (length line.outcomes - line.gone) line.waiting; outcomes = line.outcomes; failures = line.failures }
+shorter queue = record { domains = queue.domains; gone = length queue.outcomes; waiting = drop (length queue.outcomes - queue.gone) queue.waiting; outcomes = queue.outcomes; failures = queue.failures }
 
 -- the list has grown at its end, if at all
 abbrev pub Grows : {X : Type 0} → List X → List X → Type 0

@@ -32,4 +32,4 @@ with_version [] version = []
 with_version (d ∷ ds) version = record d { table = version_from d.first d.upgrades version; version = version; since = length d.ops } ∷ ds
 
 abbrev pub set_version : PipelineView → ℕ → PipelineView
-set_version line version = record line { domains = with_version line.domains version }
+set_version queue version = record queue { domains = with_version queue.domains version }

@@ -14,7 +14,7 @@ ghost use Rattle.sal_hub.specs.Current.{IsKept, answers, known_of};
 ghost use Rattle.sal_hub.specs.Failures.{IsWithin, flag_in};
 ghost use Rattle.sal_hub.specs.Journals.{jotted, mark_at};
 ghost use Rattle.sal_hub.specs.HubHistory.{entry_of};
-ghost use Rattle.sal_hub.specs.PipelineView.{line_of, world_in};
+ghost use Rattle.sal_hub.specs.PipelineView.{queue_of, world_in};
 ghost use Rattle.sal_hub.specs.Tokens.{IsChain, IsFresh, IsToken, begun_of};
 
 use crate::chain::Chain;
@@ -134,7 +134,7 @@ fn refusal(
     requires kept { IsKept journal.now pipeline.now }
     requires chains { AreChains (known_of journal.now pipeline.now) chains.now }
     requires token { IsChain (known_of journal.now pipeline.now) chain.now }
-    ensures { result ≡ chain_refusal (world_in (line_of pipeline.now).domains) (answers journal.now.log (line_of pipeline.now)) chain.now.id }
+    ensures { result ≡ chain_refusal (world_in (queue_of pipeline.now).domains) (answers journal.now.log (queue_of pipeline.now)) chain.now.id }
 {
     let index = chain.id() as usize - 1;
     let closed = chains.closed[index];
@@ -191,7 +191,7 @@ fn begin_next(
     requires chains { AreChains (known_of journal.old pipeline.now) chains.old }
     requires room { length journal.old.log < limit }
     requires token { IsChain (known_of journal.old pipeline.now) ask.chain }
-    requires allowed { chain_refusal (world_in (line_of pipeline.now).domains) (answers journal.old.log (line_of pipeline.now)) ask.chain.id ≡ None }
+    requires allowed { chain_refusal (world_in (queue_of pipeline.now).domains) (answers journal.old.log (queue_of pipeline.now)) ask.chain.id ≡ None }
     ensures kept { IsKept journal.new pipeline.now }
     ensures chains { AreChains (known_of journal.new pipeline.now) chains.new }
     ensures answer { IfOk result (λ tx. Made (known_of journal.old pipeline.now) (known_of journal.new pipeline.now) (entry_of (known_of journal.old pipeline.now) ask.client (ChainBegin ask.chain.id ask.mode)) (Answered (begun_of tx).base_commit (begun_of tx).on)) }

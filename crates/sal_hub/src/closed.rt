@@ -1,5 +1,5 @@
 //! Committed trees are closed by the present versions of their schemas, and the newest break no rule of them.
-ghost use Rattle.sal_closed.specs.Logs.{IsClosedLog};
+ghost use Rattle.sal_history_laws.specs.Logs.{IsClosedLog};
 ghost use Rattle.std.specs.Prelude.{◌≡◌, ◌<◌, ℕ, None, length};
 ghost use Rattle.sal_types.specs.declared.value.Store.{Store};
 ghost use Rattle.sal_rules.specs.Breaches.{breach};
@@ -26,6 +26,6 @@ impl Hub {
     {
         // (a part of the hub is borrowed, so that the proof has what the hub's type keeps)
         let _log = self.journal.entries();
-        sal_closed::laws::committed_trees_are_closed();
+        sal_history_laws::laws::committed_trees_are_closed();
     }
 }

@@ -13,21 +13,26 @@ ghost use Rattle.sal_hub.specs.Openings.{IsFaultOf, domain_of, fault_of, numbere
 use crate::opening::OpenFault;
 use sal_commit::{Domain, DomainFault};
 use sal_history::Device;
+use sal_rows::Rules;
 use sal_schema::Schema;
 use sal_types::{Duplicate, NoMemory, Row};
 use std::alloc::Global;
 use std::sync::Arc;
 
-/// The domains that the devices open, unless their openings are refused.
-pub(crate) fn open_all(alloc: Global, devices: &[Device]) -> Result<Vec<Domain>, OpenFault>
+/// The domains that the devices open under the version rules, unless their openings are refused.
+pub(crate) fn open_all(
+    alloc: Global,
+    devices: &[Device],
+    rules: Rules,
+) -> Result<Vec<Domain>, OpenFault>
     requires { length devices.now ≤ 64 }
-    ensures fault { MatchResult result (λ _. fault_of (world_of devices.now) ≡ None) (IsFaultOf (world_of devices.now)) }
+    ensures fault { MatchResult result (λ _. fault_of (world_of rules devices.now) ≡ None) (IsFaultOf (world_of rules devices.now)) }
     ensures kept { IfOk result (λ domains. AllKept domains.items) }
-    ensures shown { IfOk result (λ domains. map shown domains.items ≡ shown_from 0 devices.now) }
+    ensures shown { IfOk result (λ domains. map shown domains.items ≡ shown_from rules 0 devices.now) }
 {
     let mut domains = Vec::new(alloc);
     for i in 0..devices.len() {
-        open_next(alloc, &mut domains, i as u32, &devices[i])?;
+        open_next(alloc, &mut domains, i as u32, &devices[i], rules)?;
     }
     Ok(domains)
 }
@@ -71,12 +76,13 @@ fn open_next(
     domains: &mut Vec<Domain>,
     number: u32,
     device: &Device,
+    rules: Rules,
 ) -> Result<(), OpenFault>
-    ensures fault { MatchResult result (λ _. opening_fault number (domain_of device.now) ≡ None) (λ e. (e ≡ Refused) ⊎ (opening_fault number (domain_of device.now) ≡ Some e)) }
+    ensures fault { MatchResult result (λ _. opening_fault number (domain_of rules device.now) ≡ None) (λ e. (e ≡ Refused) ⊎ (opening_fault number (domain_of rules device.now) ≡ Some e)) }
     ensures kept { OnOk result (AllKept domains.old.items → AllKept domains.new.items) }
-    ensures shown { OnOk result (map shown domains.new.items ≡ map shown domains.old.items ++ shown_of number device.now ∷ []) }
+    ensures shown { OnOk result (map shown domains.new.items ≡ map shown domains.old.items ++ shown_of rules number device.now ∷ []) }
 {
-    let domain = open_one(alloc, number, device)?;
+    let domain = open_one(alloc, number, device, rules)?;
     add(domains, domain)?;
     Ok(())
 }
@@ -89,16 +95,16 @@ fn add(domains: &mut Vec<Domain>, domain: Domain) -> Result<(), NoMemory>
 }
 
 // The domain of this number that the device opens.
-fn open_one(alloc: Global, number: u32, device: &Device) -> Result<Domain, OpenFault>
-    ensures fault { MatchResult result (λ _. opening_fault number (domain_of device.now) ≡ None) (λ e. (e ≡ Refused) ⊎ (opening_fault number (domain_of device.now) ≡ Some e)) }
+fn open_one(alloc: Global, number: u32, device: &Device, rules: Rules) -> Result<Domain, OpenFault>
+    ensures fault { MatchResult result (λ _. opening_fault number (domain_of rules device.now) ≡ None) (λ e. (e ≡ Refused) ⊎ (opening_fault number (domain_of rules device.now) ≡ Some e)) }
     ensures kept { IfOk result (λ d. AreKept d.commits.items) }
-    ensures shown { IfOk result (λ d. shown d ≡ shown_of number device.now) }
+    ensures shown { IfOk result (λ d. shown d ≡ shown_of rules number device.now) }
 {
     match not_config(number, device) {
         Ok(()) => {}
         Err(fault) => return Err(fault),
     }
-    match Domain::open(alloc, number, device, number == 0) {
+    match Domain::open(alloc, number, device, number == 0, rules) {
         Ok(domain) => Ok(domain),
         Err(fault) => Err(numbered(number, fault)),
     }

@@ -41,7 +41,7 @@ use sal_commit::Domain;
 use sal_history::{Call, Device, Entry};
 use sal_mount::Mounts;
 use sal_note::Notes;
-use sal_rows::{Batch, CallFault, Mode, Outcome};
+use sal_rows::{Batch, CallFault, Mode, Outcome, Rules};
 use sal_rpc::Router;
 use sal_tree::Pair;
 use sal_tx::{Tx, WriteTx};
@@ -95,19 +95,19 @@ fn place_of(tx: &Tx) -> u64
 }
 
 impl Hub {
-    /// A hub without calls over the devices, of which the first is the controller's own domain. The opening trees of each fit
+    /// A hub without calls over the devices, of which the first is the controller's own domain, under the version rules. The opening trees of each fit
     /// at the root by version 0 of its schema, as what was read there does, and as `fits_rows` of `sal_data` tests; so all committed
     /// trees do by the present version (`stays_closed`). Each version of a schema extends the one before (`Schema::extends`), and the
     /// first device alone has more than one.
-    pub fn open(alloc: Global, devices: Vec<Device>) -> Result<Hub, OpenFault>
+    pub fn open(alloc: Global, devices: Vec<Device>, rules: Rules) -> Result<Hub, OpenFault>
         requires some { 1 ≤ length devices.items }
         requires few { length devices.items ≤ 64 }
         requires closed { AreClosedDevices devices.items }
-        requires versions { AreVersions (world_of devices.items) }
-        ensures { MatchResult result (λ hub. (fault_of (world_of devices.items) ≡ None) × (hub ≡ record { world = world_of devices.items; log = [] })) (IsFaultOf (world_of devices.items)) }
+        requires versions { AreVersions (world_of rules devices.items) }
+        ensures { MatchResult result (λ hub. (fault_of (world_of rules devices.items) ≡ None) × (hub ≡ record { world = world_of rules devices.items; log = [] })) (IsFaultOf (world_of rules devices.items)) }
     {
         have_tables(&devices);
-        let domains = open_all(alloc, &devices)?;
+        let domains = open_all(alloc, &devices, rules)?;
         let mounts = Mounts::new(alloc, devices.len() as u32);
         let pipeline = Pipeline {
             domains,

@@ -3,10 +3,9 @@ ghost use Rattle.std.specs.Prelude.{◌≡◌, ◌<◌, ◌≤◌, ◌↔◌, �
 ghost use Rattle.sal_hub.specs.Answers.{limit};
 ghost use Rattle.sal_hub.specs.Journals.{jotted, mark_at, taken_back};
 
-use crate::counts::Counts;
 use crate::hub::MAX_ENTRIES;
 use sal_history::{Call, Entry};
-use sal_types::NoMemory;
+use sal_types::{Counts, NoMemory};
 use std::alloc::Global;
 use std::marker::Model;
 

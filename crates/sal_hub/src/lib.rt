@@ -27,7 +27,7 @@
 //!
 //! What is kept beside the log is tied to it by `specs/Current`: the submissions that wait, the outcomes, the marks of spent
 //! transactions and the flags of live domains are those of the answered log, and each submission is lawful over what its
-//! transaction stands on (`sal_closed`), from opening trees that are closed, and each domain has the version that the log's upgrades
+//! transaction stands on (`sal_history_laws`), from opening trees that are closed, and each domain has the version that the log's upgrades
 //! give; `specs/PipelineView` says that the commits of each domain, and the receipts by which chains failed, are those that the outcomes
 //! tell. What is kept of chains is tied to the log by
 //! `specs/Chains`, what is kept of listeners by `specs/Listeners`, the marks that were left by `specs/Marks`, and what each
@@ -38,7 +38,7 @@
 //!
 //! The controller's own domain has all versions of its schema from the start, and `upgrade` goes to the next one. Decisions are by the
 //! present version. A transaction keeps the version of its begin, by which it reads and writes, and what was lawful by that version is
-//! so by each later one (`sal_closed`), so that no submission is looked at. Whether a listened path has a row of its own is told by the
+//! so by each later one (`sal_history_laws`), so that no submission is looked at. Whether a listened path has a row of its own is told by the
 //! last version. An upgrade makes the plan of the version's rules and checks the newest trees before its entry is added, and takes no
 //! memory behind it.
 //!
@@ -55,7 +55,7 @@
 //! service, too.
 //!
 //! ```
-//! let mut hub = Hub::open(alloc, devices)?;
+//! let mut hub = Hub::open(alloc, devices, Rules::One)?;
 //! let tx = hub.begin(alloc, client, 0, Mode::Rw)?;
 //! ```
 //!
@@ -85,7 +85,6 @@ mod chain;
 mod chain_calls;
 mod chains;
 mod closed;
-mod counts;
 mod devices;
 mod failures;
 mod hub;

@@ -8,7 +8,7 @@ ghost use Rattle.sal_hub.specs.Answers.{Calls, limit};
 ghost use Rattle.sal_hub.specs.Current.{IsKept, known_of};
 ghost use Rattle.sal_hub.specs.Journals.{jotted, mark_at};
 ghost use Rattle.sal_hub.specs.HubHistory.{entry_of};
-ghost use Rattle.sal_hub.specs.PipelineView.{AllKept, is_live_in, line_of};
+ghost use Rattle.sal_hub.specs.PipelineView.{AllKept, is_live_in, queue_of};
 ghost use Rattle.sal_hub.specs.Listeners as spec;
 ghost use Rattle.sal_hub.specs.Tokens.{IsListener};
 
@@ -69,7 +69,7 @@ impl Listeners {
     // Why the domain gets no further listener: the first that applies.
     fn refusal(&self, pipeline: &Pipeline, domain: u32) -> Option<CallFault>
         requires { AllKept pipeline.now.domains.items }
-        ensures { result ≡ spec.refusal_by (is_live_in (line_of pipeline.now).domains domain) domain self.now.live }
+        ensures { result ≡ spec.refusal_by (is_live_in (queue_of pipeline.now).domains domain) domain self.now.live }
     {
         if !pipeline.is_live(domain) {
             return Some(CallFault::NoDomain { id: domain });

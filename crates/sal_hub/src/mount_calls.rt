@@ -2,7 +2,7 @@
 ghost use Rattle.std.specs.Prelude.{◌≡◌, ℕ, ◌<◌, OnErr, OnOk, Option, length};
 ghost use Rattle.sal_mount.specs.Answers as mounting;
 ghost use Rattle.sal_mount.specs.declared.call.MountCall.TheVariants as asked;
-ghost use Rattle.sal_mount.specs.declared.call.MountReply.TheVariants as told;
+ghost use Rattle.sal_mount.specs.declared.call.MountReply.TheVariants as given;
 ghost use Rattle.sal_history.specs.declared.call.Call.TheVariants.{Mount, MountAt, Unmount};
 ghost use Rattle.sal_history.specs.declared.reply.Reply.TheVariants.{Accepted, MountAt as Mounted};
 ghost use Rattle.sal_history.specs.Services as services;
@@ -174,7 +174,7 @@ fn add_mount(
     device: u32,
 ) -> Result<(), MountFault>
     requires { length journal.old.log < limit }
-    ensures made { mounting.Answers mounts.old mounts.new (asked.Mount path.now device) (λ _. told.Accepted) result }
+    ensures made { mounting.Answers mounts.old mounts.new (asked.Mount path.now device) (λ _. given.Accepted) result }
     ensures entry { Enters journal.old journal.new client (Mount path.now device) result }
 {
     match note_mount(journal, client, path, device) {
@@ -211,7 +211,7 @@ fn add_unmount(
     domain: u32,
 ) -> Result<(), MountFault>
     requires { length journal.old.log < limit }
-    ensures made { mounting.Answers mounts.old mounts.new (asked.Unmount domain) (λ _. told.Accepted) result }
+    ensures made { mounting.Answers mounts.old mounts.new (asked.Unmount domain) (λ _. given.Accepted) result }
     ensures entry { Enters journal.old journal.new client (Unmount domain) result }
 {
     match journal.add(client, Call::Unmount { domain }) {

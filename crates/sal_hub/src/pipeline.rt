@@ -7,7 +7,7 @@ ghost use Rattle.sal_hub.specs.Upgrades.{set_version};
 ghost use Rattle.sal_hub.specs.Answers.{limit};
 ghost use Rattle.sal_hub.specs.Failures as failing;
 ghost use Rattle.sal_hub.specs.Journals.{jotted, mark_at};
-ghost use Rattle.sal_hub.specs.PipelineView.{AllKept, Decides, HasGrown, HasSents, Reach, counts_of, cut_all, is_live_in, line_of, set_live, shown};
+ghost use Rattle.sal_hub.specs.PipelineView.{AllKept, Decides, HasGrown, HasSents, Reach, counts_of, cut_all, is_live_in, queue_of, set_live, shown};
 
 use crate::failures::{cut_failures, failure_of, is_done, note_failure};
 use crate::journal::Journal;
@@ -35,7 +35,7 @@ impl Pipeline {
     /// The domain of the number, if it is live.
     pub(crate) fn live(&self, domain: u32) -> Option<&Domain>
         requires { AllKept self.now.domains.items }
-        ensures live { MatchOption result (is_live_in (line_of self.now).domains domain ≡ false) (λ found. is_live_in (line_of self.now).domains domain ≡ true) }
+        ensures live { MatchOption result (is_live_in (queue_of self.now).domains domain ≡ false) (λ found. is_live_in (queue_of self.now).domains domain ≡ true) }
         ensures found { MatchOption result (Unit {0}) (λ found. slice_get (map shown self.now.domains.items) domain ≡ Some (shown found.now)) }
         ensures kept { MatchOption result (Unit {0}) (λ found. AreKept found.now.commits.items) }
     {
@@ -50,7 +50,7 @@ impl Pipeline {
     /// Whether the domain of the number is live.
     pub(crate) fn is_live(&self, domain: u32) -> bool
         requires { AllKept self.now.domains.items }
-        ensures { result ≡ is_live_in (line_of self.now).domains domain }
+        ensures { result ≡ is_live_in (queue_of self.now).domains domain }
     {
         match self.live(domain) {
             None => false,
@@ -63,7 +63,7 @@ impl Pipeline {
         requires kept { AllKept self.old.domains.items }
         requires there { domain < length self.old.domains.items }
         ensures kept { AllKept self.new.domains.items }
-        ensures line { line_of self.new ≡ set_live (line_of self.old) domain live }
+        ensures queue { queue_of self.new ≡ set_live (queue_of self.old) domain live }
     {
         self.domains[domain as usize].live = live;
     }
@@ -74,7 +74,7 @@ impl Pipeline {
         requires there { 0 < length self.old.domains.items }
         requires next { (d : Stored) → slice_get self.old.domains.items 0 ≡ Some d → (next.schema.value ≡ version_in d next.number) × (upgrade_fault d next.number ≡ None) }
         ensures kept { AllKept self.new.domains.items }
-        ensures line { line_of self.new ≡ set_version (line_of self.old) next.number }
+        ensures queue { queue_of self.new ≡ set_version (queue_of self.old) next.number }
     {
         self.domains[0].upgrade(next);
     }
@@ -82,14 +82,14 @@ impl Pipeline {
     // Decides the submission at the index, which is the next one. Where memory is wanting, nothing changes that is seen.
     fn decide_one(&mut self, alloc: Global, index: usize) -> Result<(), NoMemory>
         requires kept { AllKept self.old.domains.items }
-        requires sound { HasSents (line_of self.old) }
+        requires sound { HasSents (queue_of self.old) }
         requires next { index ≡ length self.old.outcomes.items }
         requires given { index < self.old.gone + length self.old.waiting.items }
         requires few { self.old.gone + length self.old.waiting.items ≤ limit }
         ensures kept { AllKept self.new.domains.items }
-        ensures ok { OnOk result (Decides (line_of self.old) 1 (line_of self.new)) }
+        ensures ok { OnOk result (Decides (queue_of self.old) 1 (queue_of self.new)) }
         ensures count { OnOk result (length self.new.outcomes.items ≡ length self.old.outcomes.items + 1) }
-        ensures grown { HasGrown (line_of self.old) (line_of self.new) }
+        ensures grown { HasGrown (queue_of self.old) (queue_of self.new) }
     {
         self.outcomes.reserve(1)?;
         let submission = &self.waiting[index - self.gone];
@@ -107,14 +107,14 @@ impl Pipeline {
     // some may be decided.
     fn decide_upto(&mut self, alloc: Global, upto: usize) -> Result<Outcome, NoMemory>
         requires kept { AllKept self.old.domains.items }
-        requires sound { HasSents (line_of self.old) }
+        requires sound { HasSents (queue_of self.old) }
         requires some { 0 < upto }
         requires given { upto ≤ self.old.gone + length self.old.waiting.items }
         requires few { self.old.gone + length self.old.waiting.items ≤ limit }
         ensures kept { AllKept self.new.domains.items }
         ensures outcome { IfOk result (λ o. slice_get self.new.outcomes.items (upto - 1) ≡ Some o) }
-        ensures decided { OnOk result (Decides (line_of self.old) (upto - length self.old.outcomes.items) (line_of self.new)) }
-        ensures grown { HasGrown (line_of self.old) (line_of self.new) }
+        ensures decided { OnOk result (Decides (queue_of self.old) (upto - length self.old.outcomes.items) (queue_of self.new)) }
+        ensures grown { HasGrown (queue_of self.old) (queue_of self.new) }
     {
         for index in self.outcomes.len()..upto {
             self.decide_one(alloc, index)?;
@@ -151,16 +151,16 @@ impl Pipeline {
         receipt: usize,
     ) -> Result<Outcome, NoMemory>
         requires kept { AllKept self.old.domains.items }
-        requires sound { HasSents (line_of self.old) }
+        requires sound { HasSents (queue_of self.old) }
         requires some { 0 < receipt }
         requires given { receipt ≤ self.old.gone + length self.old.waiting.items }
         requires few { self.old.gone + length self.old.waiting.items ≤ limit }
         requires room { length journal.old.log < limit }
         ensures kept { AllKept self.new.domains.items }
         ensures outcome { IfOk result (λ o. slice_get self.new.outcomes.items (receipt - 1) ≡ Some o) }
-        ensures decided { OnOk result (Decides (line_of self.old) (receipt - length self.old.outcomes.items) (line_of self.new)) }
+        ensures decided { OnOk result (Decides (queue_of self.old) (receipt - length self.old.outcomes.items) (queue_of self.new)) }
         ensures gone { OnOk result (self.new.gone ≡ length self.new.outcomes.items) }
-        ensures same { OnErr result (line_of self.new ≡ line_of self.old) }
+        ensures same { OnErr result (queue_of self.new ≡ queue_of self.old) }
         ensures log { OnOk result (journal.new.log ≡ jotted journal.old.log client call) }
         ensures marks { OnOk result ((k : ℕ) → mark_at journal.new.marks k ≡ mark_at journal.old.marks k) }
         ensures journal { OnErr result (journal.new ≡ journal.old) }

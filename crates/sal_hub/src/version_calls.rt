@@ -7,7 +7,7 @@ ghost use Rattle.sal_history.specs.History.{upgrade_refusal};
 ghost use Rattle.sal_hub.specs.Answers.{Calls, limit};
 ghost use Rattle.sal_hub.specs.Current.{IsKept, answers, known_of};
 ghost use Rattle.sal_hub.specs.HubHistory.{entry_of};
-ghost use Rattle.sal_hub.specs.PipelineView.{line_of, world_in};
+ghost use Rattle.sal_hub.specs.PipelineView.{queue_of, world_in};
 ghost use Rattle.sal_hub.specs.Upgrades as spec;
 
 use crate::hub::Hub;
@@ -52,7 +52,7 @@ fn upgrade(
     requires kept { IsKept journal.old pipeline.old }
     requires room { length journal.old.log < limit }
     requires low { 1 ≤ version }
-    requires high { version ≤ spec.upgrades_of (world_in (line_of pipeline.old).domains) }
+    requires high { version ≤ spec.upgrades_of (world_in (queue_of pipeline.old).domains) }
     ensures kept { IsKept journal.new pipeline.new }
     ensures answer { Calls (known_of journal.old pipeline.old) (known_of journal.new pipeline.new) (entry_of (known_of journal.old pipeline.old) client (Upgrade version)) (λ _. Accepted) result }
 {
@@ -105,7 +105,7 @@ fn refuse(
 ) -> Result<(), CallFault>
     requires kept { IsKept journal.old pipeline.now }
     requires room { length journal.old.log < limit }
-    requires refused { upgrade_refusal (world_in (line_of pipeline.now).domains) (answers journal.old.log (line_of pipeline.now)) version ≡ Some fault }
+    requires refused { upgrade_refusal (world_in (queue_of pipeline.now).domains) (answers journal.old.log (queue_of pipeline.now)) version ≡ Some fault }
     ensures kept { IsKept journal.new pipeline.now }
     ensures answer { Calls (known_of journal.old pipeline.now) (known_of journal.new pipeline.now) (entry_of (known_of journal.old pipeline.now) client (Upgrade version)) (λ _. Accepted) result }
 {

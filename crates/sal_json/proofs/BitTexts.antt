@@ -25,6 +25,7 @@ use Rattle.sal_json.proofs.BitSets.{other_bit, among_called}
 use Rattle.sal_json.proofs.Parted.{parts, bits_after, after-fault}
 use Rattle.sal_json.proofs.Readable.{text_eq-same}
 use Rattle.sal_json.proofs.TextAgain.{any-false_at, not_true, is_less, place_of_number}
+use Rattle.sal_schema.proofs.Children.{first_default}
 
 -- ---- the low bits of a set
 
@@ -110,11 +111,6 @@ place_of_name names i name differ e =
     λ k less. turned (get_or names k name) name (ap (text_eq (get_or names k name)) here ∙ texts-differ-at names k i name differ less inside) in
     let at = position_or_len_is (text_eq name) names i name (omega arith) before (λ inside. ap (text_eq name) (sym here) ∙ text_eq-itself name) in
     ap (λ k. if nat_lt k (length names) then Some k else None) at ∙ ap (λ b. if b then Some i else None) (is_less i (length names) inside)
-
-first_default : (xs : List (List ℕ)) (k : ℕ) (d x : List ℕ) → slice_get xs k ≡ Some x → get_or xs k d ≡ x
-first_default [] k d x e = cc
-first_default (y ∷ xs) zero d x e = cc
-first_default (y ∷ xs) (suc k) d x e = first_default xs k d x e
 
 no_space_byte : (c : ℕ) → goes_on c ≡ true → is_space c ≡ false
 no_space_byte c e = elim (cases_Bool (is_space c)) [

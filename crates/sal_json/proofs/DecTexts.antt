@@ -15,11 +15,9 @@ use Rattle.sal_json.specs.declared.fault.ScalarFault.{ScalarFault}
 use Rattle.sal_json.specs.declared.fault.ScalarFault.TheVariants.{WrongKind, OutOfRange}
 use Rattle.sal_json.specs.Numerals.{has_minus, without_sign, is_point, has_point, whole_digits, further_digits, is_decimal, is_exact, units_of, units_atom, dec_atom, with_point, point_text, dec_text, is_in_64}
 use Rattle.sal_json.proofs.WholeTexts.{digits_of-digits, digits_of-value, signless}
+use Rattle.sal_restrict.proofs.Digits.{step}
 
 -- ---- digits
-
-abbrev step : ℕ → ℕ → ℕ
-step n c = 10 * n + (c - 48)
 
 fold-snoc : (n : ℕ) (a : List ℕ) (c : ℕ) → fold step n (a ++ c ∷ []) ≡ step (fold step n a) c
 fold-snoc n [] c = refl

@@ -1,6 +1,5 @@
 -- What the grammar of `regex` reads.
-use Rattle.std.proofs.Common.{◌≡◌, ℕ, ◌<◌, ◌≤◌, ◌⊎◌, true, false, nat_lt, List, length, Option, Some, None, IsSomeAnd, IfSome, chars, refl, ap, ◌∙◌, sym, inl, inr, arith}
-use Rattle.std.proofs.lemmas.Bool.Decides.{nat_tests}
+use Rattle.std.proofs.Common.{◌≡◌, ℕ, ◌<◌, ◌≤◌, ◌⊎◌, true, false, List, length, Option, Some, None, IsSomeAnd, IfSome, chars, refl, ap, ◌∙◌, sym, inl, inr}
 use Rattle.regex_syntax.specs.Verdict.{Reads, Refuses, default_config}
 use Rattle.regex_syntax.specs.Grammar.{Names, group_count, read}
 use Rattle.regex_syntax.specs.Brackets.{Nested}
@@ -12,12 +11,7 @@ use Rattle.regex_hir.specs.Meaning.{meaning}
 use Rattle.regex_hir.specs.declared.hir.Hir.{Hir}
 use Rattle.sal_restrict.specs.WholeTexts.{whole_text}
 use Rattle.sal_json.specs.Patterns.{is_refused, is_malformed}
-
-within_limit : (depth : ℕ) → depth ≤ 250 → nat_lt 250 depth ≡ false
-within_limit depth h = grind (arith, nat_tests)
-
-past_limit : (depth : ℕ) → 250 < depth → nat_lt 250 depth ≡ true
-past_limit depth h = grind (arith, nat_tests)
+use Rattle.sal_types.proofs.Shared.{within_limit, past_limit}
 
 is_taken : (r : Option (Nested Re × Names)) (hir : Hir) (names : Names)
     → IsSomeAnd r (λ (re, found). (re.depth ≤ default_config.nest_limit) × SameCaptures (meaning hir) re.value × (names ≡ found) × (group_count (meaning hir) ≤ length names))

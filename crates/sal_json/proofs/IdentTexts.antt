@@ -1,16 +1,15 @@
 -- The name that is written for an identity names it.
-use Rattle.std.proofs.Common.{◌≡◌, ℕ, zero, suc, ◌+◌, ◌<◌, ◌==◌, nat_lt, Bool, true, false, if◌then◌else◌, List, [], ◌∷◌, ◌++◌, length, take, drop, get_or, Option, Some, None, IsTrue, refl, ap, sym, subst, ◌∙◌, inl, inr, arith}
+use Rattle.std.proofs.Common.{◌≡◌, ℕ, zero, suc, ◌+◌, ◌<◌, ◌==◌, nat_lt, Bool, true, false, if◌then◌else◌, List, [], ◌∷◌, ◌++◌, length, take, drop, Option, Some, None, IsTrue, refl, ap, sym, subst, ◌∙◌, inl, inr, arith}
 use Rattle.std.specs.Prelude.{◌||◌, Contains, option_map}
 use Rattle.std.specs.Option.{option_map_or, option_and_then}
 use Rattle.std.specs.List.{list_all, list_any, slice_get, position_or_len, before_first, after_first}
-use Rattle.std.specs.Cmp.{eq_by_cmp_equiv}
 use Rattle.std.proofs.lemmas.Bool.{cases_Bool, and_parts, or_right, or_from}
 use Rattle.std.proofs.lemmas.Bool.Decides.{nat_tests}
 use Rattle.std.proofs.lemmas.List.Sorted.{IsPermutation-refl}
 use Rattle.sal_schema.specs.declared.names.Named.{Named}
 use Rattle.sal_schema.specs.declared.table.IdentityInfo.{IdentityInfo}
 use Rattle.sal_schema.specs.declared.table.SchemaTable.{SchemaTable}
-use Rattle.sal_schema.specs.Names.{name_cmp-IsTotalOrder, is_called, lookup, are_distinct, module_names, identity_names, named, name_of_parts, identity_of}
+use Rattle.sal_schema.specs.Names.{lookup, are_distinct, module_names, identity_names, named, name_of_parts, identity_of}
 use Rattle.sal_schema.specs.Table.{each_from, module_name}
 use Rattle.sal_schema.specs.Valid.{IsTable, is_identifier, starts_identifier, goes_on, is_good_identity}
 use Rattle.sal_schema.proofs.Conjuncts.{and_first, and_second}
@@ -18,6 +17,7 @@ use Rattle.sal_schema.proofs.Facts.{slice_get_some, slice_get_there}
 use Rattle.sal_schema.proofs.Numbered.{list_all-at, all_from-at}
 use Rattle.sal_schema.proofs.Searched.{lookup-Finds}
 use Rattle.sal_json.specs.Named.{is_colon, identity_called, identity_text}
+use Rattle.sal_schema.proofs.Children.{first_default, called_itself}
 
 -- ---- a text with a colon
 
@@ -76,16 +76,8 @@ module _ {X : Type 0} (f : ℕ → X → Named) where
       let next : (i + 1) + k ≡ i + suc k = omega arith in
       subst (λ n. Contains (each_from (λ n y. f n y ∷ []) i (y ∷ xs)) (f n x)) next (suc place, omega arith, here)
 
-called_itself : (entry : Named) → is_called entry.name entry ≡ true
-called_itself entry = let laws = eq_by_cmp_equiv name_cmp-IsTotalOrder in laws.refl entry.name
-
 found_itself : (names : List Named) (entry : Named) → IsTrue (are_distinct names) → Contains names entry → lookup names entry.name ≡ Some entry.number
 found_itself names entry distinct there = sym (lookup-Finds names names entry.name (Some entry.number) distinct (IsPermutation-refl names) (entry, there, called_itself entry, refl))
-
-first_default : (xs : List (List ℕ)) (k : ℕ) (d x : List ℕ) → slice_get xs k ≡ Some x → get_or xs k d ≡ x
-first_default [] k d x e = cc
-first_default (y ∷ xs) zero d x e = cc
-first_default (y ∷ xs) (suc k) d x e = first_default xs k d x e
 
 module _ (table : SchemaTable) (good : IsTable table) where
   module_found : (k : ℕ) (text : List ℕ) → slice_get table.modules k ≡ Some text → lookup (module_names table) (name_of_parts None 0 text) ≡ Some k

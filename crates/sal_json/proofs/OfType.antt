@@ -26,13 +26,10 @@ use Rattle.sal_json.specs.Read.{text_atom, json_atom, bytes_of, bytes_atom, whol
 use Rattle.sal_json.specs.Laws.{IsOfItsType, IsOfItsTypeAsKey}
 use Rattle.sal_json.proofs.Chosen.{same_ok, chosen, otherwise, from_some}
 use Rattle.sal_json.proofs.BitSets.{among_called, bits_of-bits}
+use Rattle.sal_types.proofs.Shared.{not_false}
 
 same_number : (n : ℕ) → (n == n) ≡ true
 same_number n = grind (arith, nat_tests)
-
-not_false : (b : Bool) → not b ≡ false → b ≡ true
-not_false true e = refl
-not_false false e = cc
 
 module _ (table : SchemaTable) where
   whole-is_of : (bits : ℕ) (sign : Bool) (range : List Part) (z : ℤ) (atom : Atom) → whole_atom sign range z ≡ Ok atom → is_of_layer table (YangType-F.Int bits sign range) atom ≡ true

@@ -32,6 +32,7 @@ use Rattle.sal_json.specs.Written.{atom_text}
 use Rattle.sal_json.proofs.Chosen.{same_ok, chosen, otherwise, from_some}
 use Rattle.sal_json.proofs.Readable.{text_eq-same}
 use Rattle.sal_json.proofs.WholeTexts.{whole-IsSmall, int_readable}
+pub use Rattle.sal_types.proofs.Shared.{not_true}
 
 -- ---- names with distinct numbers
 
@@ -42,10 +43,6 @@ any-false_at p (x ∷ xs) (suc k) d e inside = elim (cases_Bool (p x)) [
   | inl here ↦ let never = rw here at e in cc
   | inr here ↦ let rest = rw here at e in any-false_at p xs k d rest (omega arith)
 ]
-
-pub not_true : (b : Bool) → not b ≡ true → b ≡ false
-not_true true e = cc
-not_true false e = refl
 
 differ-at : (xs : List ℕ) (k i d : ℕ) → all_differ nat_eq xs ≡ true → k < i → i < length xs → nat_eq (get_or xs k d) (get_or xs i d) ≡ false
 differ-at [] k i d e less inside = absurd (omega arith)

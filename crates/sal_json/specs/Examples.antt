@@ -13,6 +13,7 @@ use Rattle.sal_schema.specs.declared.table.SchemaTable.{SchemaTable}
 use Rattle.sal_json.specs.declared.fault.ScalarFault.{ScalarFault}
 use Rattle.sal_json.specs.Read.{scalar_of, text_scalar_of}
 use Rattle.sal_json.specs.Written.{json_of, text_of}
+pub use Rattle.sal_schema.specs.Examples.{empty}
 
 -- ---- types
 
@@ -55,9 +56,6 @@ two_letters = text (pos 2) (pos 2) letters
 
 abbrev pub binary : YangType
 binary = roll-YangType (YangType-F.Bin (part (pos 0) (pos 3)))
-
-abbrev pub empty : YangType
-empty = roll-YangType YangType-F.Empty
 
 abbrev pub boolean : YangType
 boolean = roll-YangType YangType-F.Bool

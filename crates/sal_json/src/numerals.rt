@@ -5,11 +5,10 @@ ghost use Rattle.sal_json.specs.Numerals as spec;
 
 use crate::fault::ScalarFault;
 use crate::texts::{
-    after_first, all_zeros, before_first, begins_with_zero, has_byte, has_minus, without_minus,
-    without_sign,
+    after_first, all_zeros, before_first, begins_with_zero, has_minus, without_minus, without_sign,
 };
 use sal_restrict::{Ranges, behind, decimal, front, is_digits, small};
-use sal_types::Atom;
+use sal_types::{Atom, has_byte};
 
 fn is_in_64(number: i128) -> bool
     ensures { result ≡ spec.is_in_64 number }

@@ -1,6 +1,6 @@
 //! Small words on the bytes of texts.
 ghost use Rattle.std.specs.Prelude.{◌≡◌, ◌≤◌, ◌<◌, ◌+◌, length, ◌==◌};
-ghost use Rattle.std.specs.List.{list_all, list_any, position_or_len, before_first, after_first};
+ghost use Rattle.std.specs.List.{list_all, position_or_len, before_first, after_first};
 ghost use Rattle.sal_json.specs.Numerals as spec;
 
 use sal_restrict::{behind, front};
@@ -75,10 +75,4 @@ pub(crate) fn after_first(byte: u8, text: &[u8]) -> &[u8]
     } else {
         behind(text, text.len())
     }
-}
-
-pub(crate) fn has_byte(byte: u8, text: &[u8]) -> bool
-    ensures { result ≡ list_any (λ c. c == byte) text.now }
-{
-    text.iter().any(|c| *c == byte)
 }

@@ -1,6 +1,5 @@
 //! Atoms of types that are no unions, from texts.
 ghost use Rattle.std.specs.Prelude.{◌≡◌, ◌<◌, IfOk, IsTrue, length, map, option_map};
-ghost use Rattle.std.specs.Str.{chars};
 ghost use Rattle.sal_types.specs.Reading.{GivesUnless};
 ghost use Rattle.sal_restrict.specs.declared.yang_type.YangType.{out-YangType};
 ghost use Rattle.sal_schema.specs.Valid.{is_good_layer};
@@ -16,14 +15,8 @@ use base64::DecodeAllocError;
 use base64::engine::general_purpose::STANDARD;
 use sal_restrict::{Pattern, Ranges, YangType};
 use sal_schema::Schema;
-use sal_types::{Atom, NoMemory, Seq, Str};
+use sal_types::{Atom, NoMemory, Seq, Str, characters};
 use std::alloc::Global;
-
-fn characters(text: &str) -> usize
-    ensures { result ≡ length (chars text.now) }
-{
-    text.chars().count()
-}
 
 /// A string: its length in characters, then its patterns.
 fn string_atom(

@@ -8,10 +8,10 @@ ghost use Rattle.sal_delta.specs.Agreed.{AreAgreed};
 ghost use Rattle.sal_graft.specs.Kept.{AreKept};
 ghost use Rattle.sal_listen.specs.Given.{any_part, filled, trees_of};
 
-use crate::commits::{commit_at, tree_of};
+use crate::commits::commit_at;
 use sal_delta::{StoreCommit, changes_by, kind_at};
 use sal_rows::{Batch, Part};
-use sal_tree::Commit;
+use sal_tree::{Commit, tree_of};
 use sal_types::{NoMemory, Path, Seq, Store};
 use std::alloc::Global;
 

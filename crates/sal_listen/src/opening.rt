@@ -4,9 +4,9 @@ ghost use Rattle.sal_rows.specs.Batches as spec;
 ghost use Rattle.sal_graft.specs.Kept.{AreKept};
 ghost use Rattle.sal_listen.specs.Given.{trees_of};
 
-use crate::commits::{commit_at, tree_of};
+use crate::commits::commit_at;
 use sal_rows::Opened;
-use sal_tree::Commit;
+use sal_tree::{Commit, tree_of};
 use sal_types::{NoMemory, Path, Store};
 use std::alloc::Global;
 

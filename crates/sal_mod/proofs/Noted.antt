@@ -5,10 +5,13 @@ use Rattle.std.specs.FinMap.{find, put}
 use Rattle.std.specs.FinMap.Entries.{find-put}
 use Rattle.sal_types.specs.declared.value.Step.{Step}
 use Rattle.sal_types.specs.declared.value.Store.{Store}
+use Rattle.sal_types.specs.declared.value.Store.TheVariants.{Config, Oper}
 use Rattle.sal_types.specs.Order.{path_cmp, path_eq, path_cmp-IsTotalOrder}
 use Rattle.sal_rows.specs.declared.op.Op.{Op}
 use Rattle.sal_rows.proofs.Cells.{same_path}
+use Rattle.sal_mod.specs.declared.covers.Covers.{Covers}
 use Rattle.sal_mod.specs.Covers.{covers_at, first_cover, IsFirst, noted, noted_at}
+use Rattle.sal_mod.specs.Firsts.{AreFirst}
 
 or_none : (o : Option ℕ) → option_or o None ≡ o
 or_none None = refl
@@ -28,6 +31,13 @@ first-more s (o ∷ ops) op p = elim (covers_at s p o) as (λ b. (if b then Some
 
 pub IsFirst-more : (s : Store) (ops after : List Op) (op : Op) (n : ℕ) (old new : List (List Step × ℕ)) → after ≡ ops ++ op ∷ [] → n ≡ length ops → IsFirst s ops old → ((p : List Step) → find path_cmp p new ≡ noted s op n p (find path_cmp p old)) → IsFirst s after new
 IsFirst-more s ops after op n old new e l h g p = g p ∙ (λ i. noted s op (l i) p (h p i)) ∙ sym (first-more s ops op p) ∙ ap (λ os. first_cover s os p) (sym e)
+
+-- for both stores
+pub AreFirst-more : (ops : List Op) (op : Op) (n : ℕ) (old new : Covers) → n ≡ length ops → AreFirst ops old
+    → ((p : List Step) → find path_cmp p new.config ≡ noted Config op n p (find path_cmp p old.config)) → ((p : List Step) → find path_cmp p new.oper ≡ noted Oper op n p (find path_cmp p old.oper))
+    → AreFirst (ops ++ op ∷ []) new
+AreFirst-more ops op n old new l h config oper =
+    (IsFirst-more Config ops (ops ++ op ∷ []) op n old.config new.config refl l h.0 config, IsFirst-more Oper ops (ops ++ op ∷ []) op n old.oper new.oper refl l h.1 oper)
 
 find_same : (p w : List Step) (es : List (List Step × ℕ)) → path_eq p w ≡ true → find path_cmp p es ≡ find path_cmp w es
 find_same p w es e = ap (λ q. find path_cmp q es) (same_path p w e)

@@ -3,7 +3,7 @@ use Rattle.std.proofs.Common.{◌≡◌, ℕ, suc, zero, ◌+◌, ◌<◌, ◌�
 use Rattle.std.proofs.lemmas.Bool.Decides.{nat_tests}
 use lib.Dec.{ltb}
 use Rattle.std.specs.Option.{option_map}
-use Rattle.std.specs.Ordering.{is_eq, ordering_then, ordering_reverse}
+use Rattle.std.specs.Ordering.{is_eq, ordering_reverse}
 use Rattle.std.specs.declared.cmp.Ordering.{Ordering}
 use Rattle.std.specs.declared.cmp.Ordering.TheVariants.{Less, Equal, Greater}
 use Rattle.std.specs.FinMap.{find}
@@ -15,6 +15,7 @@ use Rattle.sal_rows.specs.declared.op.Op.{Op}
 use Rattle.sal_rows.specs.Apply.{same_store, checks_path}
 use Rattle.sal_mod.specs.Covers.{covers, is_covered, covers_at, first_cover, IsFirst}
 use Rattle.sal_mod.specs.Early.{any_prefix, is_early}
+use Rattle.sal_types.proofs.Shared.{then_eq}
 
 pub any_prefix-alike : (f g : List Step → Bool) (p : List Step) → ((q : List Step) → f q ≡ g q) → any_prefix f p ≡ any_prefix g p
 any_prefix-alike f g [] h = h []
@@ -40,11 +41,6 @@ any_prefix-and false f p = none p
 pub any_prefix-none : (p : List Step) → any_prefix (λ q. false) p ≡ false
 any_prefix-none [] = refl
 any_prefix-none (x ∷ p) = any_prefix-none p
-
-then_eq : (a b : Ordering) → is_eq (ordering_then a b) ≡ (is_eq a && is_eq b)
-then_eq Less b = refl
-then_eq Equal b = refl
-then_eq Greater b = refl
 
 eq_swap : (x y : Step) → is_eq (step_cmp x y) ≡ is_eq (step_cmp y x)
 eq_swap x y = ap is_eq (step_cmp-IsTotalOrder.antisymm x y) ∙ turned (step_cmp y x)

@@ -19,6 +19,10 @@ abbrev pub is_covered : Store → List Op → List Step → ℕ → Bool
 is_covered s ops p before = list_any (covers s p) (take before ops)
 
 -- the operation puts or deletes the path p itself
+abbrev pub replaces : List Step → Op → Bool
+replaces p op = checks_path op.act && path_eq p op.path
+
+-- the same in a store
 abbrev pub covers_at : Store → List Step → Op → Bool
 covers_at s p op = same_store op.store s && (checks_path op.act && path_eq p op.path)
 
@@ -38,3 +42,7 @@ noted_at w place p old = option_or old (if path_eq p w then Some place else None
 -- the same once an operation is noted that gets the place
 abbrev pub noted : Store → Op → ℕ → List Step → Option ℕ → Option ℕ
 noted s op place p old = option_or old (if covers_at s p op then Some place else None)
+
+-- the place at p once one is noted, where there was none
+abbrev pub placed : Bool → ℕ → Option ℕ → Option ℕ
+placed passes n old = option_or old (if passes then Some n else None)

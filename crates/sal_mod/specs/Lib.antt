@@ -1,5 +1,4 @@
 pub mod Places
 pub mod Covers
 pub mod Early
-pub mod Settings
-pub mod Lasts
+pub mod Firsts

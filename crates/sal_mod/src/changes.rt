@@ -1,15 +1,10 @@
 //! The operations of a transaction.
-ghost use Rattle.std.specs.Prelude.{◌≡◌, [], ◌∷◌, ◌++◌, OnOk, OnErr, IfErr};
-ghost use Rattle.sal_rows.specs.Apply.{last_setting};
-ghost use Rattle.sal_mod.specs.Covers.{is_covered, covers_at};
-ghost use Rattle.sal_mod.specs.Lasts.{IsLast, merges_at};
-ghost use Rattle.sal_mod.specs.Settings.{seen_setting};
+ghost use Rattle.std.specs.Prelude.{◌≡◌, [], ◌∷◌, ◌++◌, OnOk, OnErr, IfErr, take};
+ghost use Rattle.sal_mod.specs.Covers.{is_covered};
 
-use crate::covers::is_early_on;
-use crate::notes::{Notes, note};
-use crate::settings::{last_on, set_last};
+use crate::covers::{Covers, any_covers, note_next};
 use sal_rows::Op;
-use sal_types::{Cell, NoMemory, Path, Store};
+use sal_types::{NoMemory, Path, Store};
 use std::alloc::Global;
 use std::marker::Model;
 
@@ -17,24 +12,20 @@ use std::marker::Model;
 #[derive(Drop)]
 pub struct Mod {
     ops: Vec<Op>,
-    config: Notes,
-    oper: Notes,
+    /// Nothing while the operations are few.
+    covers: Option<Covers>,
 }
 
 impl Model for Mod {
     ghost use Rattle.std.specs.Prelude.{List};
-    ghost use Rattle.sal_types.specs.declared.value.Store.TheVariants.{Config, Oper};
     ghost use Rattle.sal_rows.specs.declared.op.Op.{Op};
-    ghost use Rattle.sal_mod.specs.Covers.{IsFirst, covers_at};
-    ghost use Rattle.sal_mod.specs.Lasts.{IsLast, merges_at};
+    ghost use Rattle.sal_mod.specs.Firsts.{AreFirstIn};
 
     ghost Value = { List Op };
 
     ghost view = { λ a. a.ops.items };
 
-    ghost invariant = { λ a.
-        (IsFirst Config a.ops.items a.config.first × IsLast (covers_at Config) a.ops.items a.config.last × IsLast (merges_at Config) a.ops.items a.config.merged)
-        × (IsFirst Oper a.ops.items a.oper.first × IsLast (covers_at Oper) a.ops.items a.oper.last × IsLast (merges_at Oper) a.ops.items a.oper.merged) };
+    ghost invariant = { λ a. AreFirstIn a.ops.items a.covers };
 }
 
 impl Mod {
@@ -44,8 +35,7 @@ impl Mod {
     {
         Mod {
             ops: Vec::new(alloc),
-            config: Notes::new(alloc),
-            oper: Notes::new(alloc),
+            covers: None,
         }
     }
 
@@ -58,15 +48,7 @@ impl Mod {
         if self.ops.reserve(1).is_err() {
             return Err((op, NoMemory));
         }
-        let place = self.ops.len();
-        match note(
-            alloc,
-            &op,
-            place,
-            place + 1,
-            &mut self.config,
-            &mut self.oper,
-        ) {
+        match note_next(alloc, &mut self.covers, &self.ops, &op) {
             Ok(()) => {
                 self.ops.push(op).unwrap();
                 Ok(())
@@ -87,29 +69,20 @@ impl Mod {
     pub fn covered(&self, store: Store, path: &Path, before: usize) -> bool
         ensures { result ≡ is_covered store self.now path.now before }
     {
-        match store {
-            Store::Config => is_early_on(&self.config.first, path.steps(), before),
-            Store::Oper => is_early_on(&self.oper.first, path.steps(), before),
+        match &self.covers {
+            Some(covers) => covers.is_covered(&self.ops, store, path, before),
+            None => any_covers(first_of(&self.ops, before), store, path),
         }
     }
+}
 
-    /// What the last operation of the store that sets the path sets there: nothing where no operation sets it, and else
-    /// a cell, or its absence. It takes no memory.
-    pub fn last_setting(&self, store: Store, path: &Path) -> Option<Option<&Cell>>
-        ensures { seen_setting result ≡ last_setting store self.now path.now }
-    {
-        let notes = self.notes(store);
-        let number = last_on(&notes.last, &notes.merged, path.steps());
-        set_last(&self.ops, number, store, path)
-    }
-
-    fn notes(&self, store: Store) -> &Notes
-        ensures last { IsLast (covers_at store) self.now result.now.last }
-        ensures merged { IsLast (merges_at store) self.now result.now.merged }
-    {
-        match store {
-            Store::Config => &self.config,
-            Store::Oper => &self.oper,
-        }
+// The operations before the place.
+fn first_of(ops: &[Op], before: usize) -> &[Op]
+    ensures { result.now ≡ take before ops.now }
+{
+    if before < ops.len() {
+        &ops[..before]
+    } else {
+        ops
     }
 }

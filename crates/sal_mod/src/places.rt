@@ -1,9 +1,7 @@
 //! Numbers by path.
-ghost use Rattle.std.specs.Prelude.{◌≡◌, [], List, IfOk, OnOk, OnErr};
+ghost use Rattle.std.specs.Prelude.{◌≡◌, [], IfOk, OnOk, OnErr};
 ghost use Rattle.std.specs.FinMap.{find, put};
-ghost use Rattle.sal_types.specs.Order.{path_cmp, path_eq};
-ghost use Rattle.sal_types.specs.declared.value.Step.{Step};
-ghost use Rattle.sal_mod.specs.Lasts as spec;
+ghost use Rattle.sal_types.specs.Order.{path_cmp};
 
 use sal_types::{Duplicate, NoMemory, Step};
 use std::alloc::Global;
@@ -41,22 +39,6 @@ impl Places {
         ensures { result ≡ find path_cmp steps.now self.now }
     {
         self.map.get(steps).copied()
-    }
-
-    /// The number at the path, or 0 where there is none. It takes no memory.
-    pub(crate) fn number_at(&self, steps: &[Step]) -> usize
-        ensures { result ≡ spec.number_at steps.now self.now }
-    {
-        self.at(steps).unwrap_or(0)
-    }
-
-    /// Puts the number at the path in place of another one; where there is none, none is put. It takes no memory.
-    pub(crate) fn renew(&mut self, steps: &[Step], number: usize)
-        ensures { (p : List Step) → find path_cmp p self.new ≡ spec.renewed (path_eq p steps.now) number (find path_cmp p self.old) }
-    {
-        if let Some(place) = self.map.get_mut(steps) {
-            *place = number;
-        }
     }
 
     /// Puts the number at the path, in place of another one.

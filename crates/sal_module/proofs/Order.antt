@@ -6,6 +6,7 @@ use Rattle.std.proofs.lemmas.List.{drop_more, take-append-drop}
 use Rattle.sal_stmt.specs.declared.stmt.Stmt.{Stmt, out-Stmt}
 use Rattle.sal_module.specs.Statements.{subs_of}
 use Rattle.sal_module.specs.Places.{find_first, find_at, start_or, half_of, all_before, is_in_order}
+use Rattle.sal_module.proofs.Rounds.{and-true}
 
 -- ---- one turn
 
@@ -42,10 +43,6 @@ is_in_order-more zero high stmt h = absurd (omega arith)
 is_in_order-more (suc levels) high stmt h = let less : suc levels - 1 ≡ levels = omega arith in rw less (is_in_order-suc levels high stmt)
 
 -- ---- what is in order stands before its end
-
-and-true : (a b : Bool) → (a && b) ≡ true → (a ≡ true) × (b ≡ true)
-and-true true b h = (refl, h)
-and-true false b h = absurd (let no : false ≡ true = h in cc)
 
 module _ (test : ℕ → Stmt → Bool) (within : (high : ℕ) (stmt : Stmt) → test high stmt ≡ true → (out-Stmt stmt).at < high) where
   start-within : (high : ℕ) (stmts : List Stmt) → all_before test high stmts ≡ true → start_or high stmts ≤ high

@@ -1,11 +1,11 @@
 //! The forms of arguments.
-ghost use Rattle.std.specs.Prelude.{◌≡◌, ◌^◌, ◌&&◌, ◌==◌, not, min, drop, length};
+ghost use Rattle.std.specs.Prelude.{◌≡◌, ◌^◌, ◌&&◌, ◌==◌, not, min, drop};
 ghost use Rattle.std.specs.List.{list_all, slice_split, prefix_len};
-ghost use Rattle.std.specs.Char.{is_ascii_digit};
 ghost use Rattle.sal_stmt.specs.Words.{is_keyword, first, is_empty};
 ghost use Rattle.sal_module.specs.Arguments as spec;
 
 use sal_stmt::{is_identifier, is_keyword};
+use sal_types::all_digits;
 
 /// The form of an argument.
 #[derive(Clone, Copy, PartialEq, Eq)]
@@ -47,12 +47,6 @@ pub(crate) fn decimal(digits: &[u8]) -> u64
         number = (10 * number + u64::from(digit.saturating_sub(b'0'))).min(CAP);
     }
     number
-}
-
-fn all_digits(text: &[u8]) -> bool
-    ensures { result ≡ list_all is_ascii_digit text.now }
-{
-    text.iter().all(|c| c.is_ascii_digit())
 }
 
 fn first(text: &[u8]) -> u8

@@ -5,9 +5,8 @@ use Rattle.std.specs.Option.{IfSome, is_some, option_map, option_or, unwrap_or}
 use Rattle.std.proofs.lemmas.Bool.Decides.{nat_tests}
 use Rattle.std.proofs.lemmas.List.Elements.{filter_map-append}
 use Rattle.std.proofs.lemmas.List.Sums.{fold-append}
-use Rattle.std.specs.Cmp.{Equal-is}
 use Rattle.sal_types.specs.declared.value.Step.{Step}
-use Rattle.sal_types.specs.Order.{path_cmp-IsAntisymmetric, path_eq, path_eq-IsEquivalence}
+use Rattle.sal_types.specs.Order.{path_eq, path_eq-IsEquivalence}
 use Rattle.sal_mount.specs.declared.call.MountCall.{MountCall}
 use Rattle.sal_mount.specs.declared.call.MountCall.TheVariants.{Mount, Unmount, MountAt as Asks}
 use Rattle.sal_mount.specs.declared.call.MountFault.{MountFault}
@@ -18,6 +17,7 @@ use Rattle.sal_mount.specs.Answers.{Fails, Makes}
 use Rattle.sal_mount.specs.Mounts.{Made, Mounted, fault_if, is_device, is_live, is_unmounted, made_of, make, mount_at, mount_refusal, mounted, mounts, refused_or, reply_to, standing, stands_at, unmounts, was_mounted}
 use Rattle.sal_mount.specs.Register.{IsKept, Register, is_up, last_at, listed, live_at, live_of, refusal_by, state_at, state_of}
 use Rattle.sal_mount.proofs.Made.{gone-one, gone-same, mounted-one, mounted-same, standing-without, was-one}
+use Rattle.sal_types.proofs.Shared.{and-true, same_path}
 
 -- ---- what a register tells of the calls
 
@@ -113,10 +113,6 @@ module _ (old new : Register) (k : ℕ) (sets : (d : ℕ) → state_at new.state
 
 -- ---- a device is mounted
 
-and-true : (b : Bool) → (b && true) ≡ b
-and-true true = refl
-and-true false = refl
-
 and-first : (a b : Bool) → (a && b) ≡ true → a ≡ true
 and-first true b e = refl
 and-first false b e = cc
@@ -154,9 +150,6 @@ or-first false b e = cc
 or-none : (a b : Bool) → (a || b) ≡ false → a ≡ false
 or-none true b e = cc
 or-none false b e = refl
-
-same_path : (p q : List Step) → path_eq p q ≡ true → p ≡ q
-same_path p q e = path_cmp-IsAntisymmetric p q ((Equal-is _).0 e)
 
 own_number : (k : ℕ) → nat_eq k k ≡ true
 own_number k = grind (arith, nat_tests)

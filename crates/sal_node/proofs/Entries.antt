@@ -10,19 +10,15 @@ use Rattle.sal_types.specs.declared.value.Step.{Step}
 use Rattle.sal_types.specs.Order.{step_cmp, step_cmp-IsTotalOrder, step_cmp-IsAntisymmetric}
 pub use Rattle.sal_types.proofs.TrueParts.{first, second, both}
 use Rattle.sal_node.specs.Tree.{Tree, Forest, bare, grown, pairs, grove, cut, change, place, after, one_of}
+pub use Rattle.sal_types.proofs.Shared.{less}
 
-abbrev Entries : Type 0
+abbrev pub Entries : Type 0
 Entries = List (Step × Tree)
 
 pub greater : (o : Ordering) → is_gt o ≡ true → o ≡ Greater
 greater Less e = cc
 greater Equal e = cc
 greater Greater e = refl
-
-pub less : (o : Ordering) → T (is_lt o) → o ≡ Less
-less Less h = refl
-less Equal h = absurd h
-less Greater h = absurd h
 
 pub turn : (x y : Step) → step_cmp x y ≡ Less → step_cmp y x ≡ Greater
 turn x y e = step_cmp-IsTotalOrder.antisymm y x ∙ ap ordering_reverse e

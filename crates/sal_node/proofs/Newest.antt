@@ -20,9 +20,7 @@ use Rattle.sal_node.specs.declared.node.Sheet.{Sheet}
 use Rattle.sal_node.specs.declared.node.Child.{Child}
 use Rattle.sal_node.proofs.Rows.{row_of-append, listed-append, seen-append, ArePages-at}
 use Rattle.sal_node.proofs.SheetRows.{sheeted-append, AreSheets-at}
-
-abbrev Entries : Type 0
-Entries = List (Step × Tree)
+use Rattle.sal_node.proofs.Entries.{Entries}
 
 append_none : {X : Type 0} (xs : List X) → xs ++ [] ≡ xs
 append_none [] = refl

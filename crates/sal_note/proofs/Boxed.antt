@@ -1,6 +1,6 @@
 -- What stands in a client's box when notifications are given and taken back.
 use Rattle.std.proofs.Common.{◌≡◌, ℕ, zero, suc, ◌-◌, ◌<◌, ◌≤◌, Bool, true, false, ◌||◌, List, [], ◌∷◌, ◌++◌, Option, Some, None, length, drop, take, get_or, refl, ap, sym, ◌∙◌, cond, arith, append-nil, length-append, drop-cons, if◌then◌else◌, nat_eq}
-use Rattle.std.specs.Prelude.{is_some, slice_get, Result, Ok, Err, OnErr}
+use Rattle.std.specs.Prelude.{is_some, slice_get}
 use Rattle.std.specs.BTreeMap.{insert_entry, is_at}
 use Rattle.std.specs.Cmp.{eq_by_cmp_equiv, nat_cmp_total, tied_itself}
 use Rattle.std.specs.List.{filter, list_any}
@@ -15,14 +15,7 @@ use Rattle.std.proofs.lemmas.Map.Steps.{set_value_same}
 use Rattle.sal_note.specs.declared.call.Note.{Note}
 use Rattle.sal_note.specs.Boxes.{AreAbove, Ascend, box_in, give_one, given, put_back, queue_in, take_one, taken_back}
 use Rattle.sal_note.proofs.Ascending.{absent}
-
-pub none-of : {X : Type 0} (o : Option X) → is_some o ≡ false → o ≡ None
-none-of None e = refl
-none-of (Some x) e = cc
-
-pub on_err : {X E : Type 0} (P Q : Type 0) (r : Result X E) → (P → Q) → OnErr r P → OnErr r Q
-on_err P Q (Ok x) f h = tt
-on_err P Q (Err e) f h = f h
+pub use Rattle.sal_types.proofs.Shared.{none-of, on_err}
 
 -- ---- the first that passes a test
 

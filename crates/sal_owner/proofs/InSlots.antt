@@ -9,15 +9,13 @@ use Rattle.std.proofs.lemmas.Bool.Decides.{nat_tests}
 use Rattle.std.proofs.lemmas.List.{take_all}
 use Rattle.std.proofs.lemmas.List.Elements.{filter-append}
 use Rattle.sal_owner.specs.Slots.{IsPlaced, but, clients_in, in_slot}
+use Rattle.sal_owner.proofs.CarryingOn.{own}
 
 abbrev Slots : Type 0
 Slots = List (Option ℕ)
 
 same : (c d : ℕ) → nat_eq c d ≡ true → c ≡ d
 same c d e = grind (arith, nat_tests)
-
-own : (c : ℕ) → nat_eq c c ≡ true
-own c = grind (arith, nat_tests)
 
 zero-suc : (j : ℕ) → nat_eq 0 (suc j) ≡ false
 zero-suc j = grind (arith, nat_tests)

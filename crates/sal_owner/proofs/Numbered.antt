@@ -1,5 +1,5 @@
 -- The changes that a client sees, by their numbers.
-use Rattle.std.proofs.Common.{◌≡◌, ℕ, zero, suc, ◌+◌, ◌-◌, ◌<◌, ◌≤◌, Bool, true, false, ◌&&◌, ◌||◌, T, List, [], ◌∷◌, ◌++◌, Option, Some, None, Ordering, Less, length, take, drop, get_or, refl, ap, sym, subst, ◌∙◌, cond, append_assoc, append-nil, length-append, arith, fold, if◌then◌else◌, nat_eq, nat_le, slice_get, is_eq, is_lt}
+use Rattle.std.proofs.Common.{◌≡◌, ℕ, zero, suc, ◌+◌, ◌-◌, ◌<◌, ◌≤◌, Bool, true, false, ◌&&◌, ◌||◌, T, List, [], ◌∷◌, ◌++◌, Option, Some, None, Less, length, take, drop, get_or, refl, ap, sym, subst, ◌∙◌, cond, append_assoc, append-nil, length-append, arith, fold, if◌then◌else◌, nat_eq, nat_le, slice_get, is_eq, is_lt}
 use Rattle.std.specs.Prelude.{is_some}
 use Rattle.std.specs.BTreeMap.{is_at}
 use Rattle.std.specs.Cmp.{nat_cmp_total}
@@ -19,6 +19,7 @@ use Rattle.sal_owner.specs.Kept.{is_since, start_at, text_cmp, told, told_from}
 use Rattle.sal_owner.specs.Ownership.{Text, same_text}
 use Rattle.sal_owner.specs.Shifts.{IsNumbered, due_by, has_number, is_due, numbers_at, numbers_of, picked, told_at, told_over, told_some}
 use Rattle.sal_owner.proofs.Maps.{same, test-text}
+use Rattle.sal_owner.proofs.OwnedKinds.{both, is_lt-Less}
 
 -- ---- bits
 
@@ -248,14 +249,6 @@ Due = List (ℕ × Unit {0})
 abbrev units : List ℕ → Due
 units [] = []
 units (n ∷ ns) = (n, tt) ∷ units ns
-
-both : (a b : Bool) → T a → T b → T (a && b)
-both true true h k = tt
-both false b h k = elim h [ ]
-both true false h k = elim k [ ]
-
-is_lt-Less : (r : Ordering) → r ≡ Less → T (is_lt r)
-is_lt-Less r e = subst (λ (o : Ordering). T (is_lt o)) (sym e) tt
 
 sorted-from : (es : Due) → IsStrictlySortedBy nat_cmp (keys_of es) → T (is_sorted nat_cmp es)
 sorted-from [] h = tt

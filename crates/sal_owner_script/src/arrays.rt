@@ -7,9 +7,9 @@ ghost use Rattle.serde_json.specs.Written.{compact_text};
 ghost use Rattle.sal_script.specs.BatchData.{list_data};
 ghost use Rattle.sal_owner_script.specs.Replies as spec;
 
-use crate::pieces::{push_string, push_truth, push_word};
+use crate::pieces::{push_string, push_truth};
 use sal_owner::{Entity, Owned, OwnerChange};
-use sal_types::NoMemory;
+use sal_types::{NoMemory, push_word};
 use std::alloc::Global;
 
 // What stands in an array.

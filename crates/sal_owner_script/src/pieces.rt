@@ -4,16 +4,9 @@ ghost use Rattle.json.specs.Print.{quoted};
 ghost use Rattle.serde_json.specs.Data.{boolean};
 ghost use Rattle.serde_json.specs.Written.{compact_text};
 
-use sal_types::NoMemory;
+use sal_types::{NoMemory, push_word};
 use serde_json::Value;
 use std::alloc::Global;
-
-pub(crate) fn push_word(text: &mut String, word: &str) -> Result<(), NoMemory>
-    ensures { OnOk result (string_bytes text.new ≡ string_bytes text.old ++ word.now) }
-{
-    text.push_str(word)?;
-    Ok(())
-}
 
 // A JSON text of these words.
 pub(crate) fn push_string(alloc: Global, text: &mut String, words: &str) -> Result<(), NoMemory>

@@ -7,7 +7,7 @@ ghost use Rattle.sal_script.specs.Script.{at_most, or_bad};
 ghost use Rattle.sal_owner_script.specs.Steps as spec;
 
 use crate::step::{OwnerStep, step_of};
-use sal_script::ScriptFault;
+use sal_script::{ScriptFault, list_of};
 use sal_types::{NoMemory, Str};
 use serde_json::Value;
 use std::alloc::Global;
@@ -47,16 +47,6 @@ fn listed(alloc: Global, value: &Value) -> Result<&[Value], ScriptFault>
     match at_most(MAX_STEPS, list_of(value)) {
         Some(list) => Ok(list),
         None => Err(bad(alloc, "script")),
-    }
-}
-
-// The values of an array, in order.
-fn list_of(value: &Value) -> Option<&[Value]>
-    ensures { option_map (λ list. map view list.now) result ≡ list_of (view value.now) }
-{
-    match value.as_array() {
-        Some(list) => Some(list.as_slice()),
-        None => None,
     }
 }
 

@@ -3,9 +3,8 @@ ghost use Rattle.std.specs.Prelude.{◌≡◌, ◌++◌, OnOk, string_bytes};
 ghost use Rattle.sal_owner_script.specs.Replies as spec;
 
 use crate::arrays::push_array;
-use crate::pieces::push_word;
 use sal_owner::{OwnerFault, OwnerReply, OwnershipState};
-use sal_types::NoMemory;
+use sal_types::{NoMemory, push_word};
 use std::alloc::Global;
 
 // The line of a reply.

@@ -17,7 +17,7 @@ use Rattle.sal_schema.specs.Kinds.{is_data}
 use Rattle.sal_schema.specs.Names.{name_cmp, is_called, lookup, named, name_of_parts, data_at, data_names, module_called, child_of}
 use Rattle.sal_schema.specs.Table.{each_from, data_node, is_data_child, is_same}
 use Rattle.sal_schema.specs.Valid.{text_eq}
-use Rattle.sal_table.specs.Lookups.{own_module}
+use Rattle.sal_schema.specs.Lookups.{own_module}
 use Rattle.sal_pathtext.specs.Words.{Name}
 use Rattle.sal_pathtext.specs.Nodes.{meant}
 

@@ -29,16 +29,9 @@ use Rattle.sal_pathtext.specs.declared.here.Here.{Here}
 use Rattle.sal_pathtext.specs.Words.{Text, first, place, after_blanks, said, closed}
 use Rattle.sal_pathtext.specs.Nodes.{is_for, value_given, with_value, values_given, not_given, entry_given, value_of}
 use Rattle.sal_pathtext.specs.Read.{taken, found, subject, predicate, predicates}
+pub use Rattle.sal_types.proofs.Shared.{bind_ok}
 
 -- ---- readers
-
--- a step that went well, and what followed
-pub bind_ok : {A B F P : Type 0} (r : Result A F) (f : A → Result B F) (y : B) → (r >>= f) ≡ Ok y → ((x : A) → r ≡ Ok x → f x ≡ Ok y → P) → P
-bind_ok (Ok x) f y e next = next x refl e
-bind_ok (Err fault) f y e next = absurd (no fault y e)
-  where
-    no : {B F : Type 0} (fault : F) (y : B) → ◌≡◌ {A = Result B F} (Err fault) (Ok y) → ⊥
-    no fault y e = cc
 
 pub found_ok : {X : Type 0} (fault : PathTextFault) (o : Option X) (x : X) → found fault o ≡ Ok x → o ≡ Some x
 found_ok fault None x e = cc

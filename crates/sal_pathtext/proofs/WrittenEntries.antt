@@ -18,7 +18,7 @@ use Rattle.sal_schema.specs.Valid.{IsTable, all_differ, has_its_keys, agree, is_
 use Rattle.sal_schema.proofs.Conjuncts.{and_first, and_second, or_first, or_second}
 use Rattle.sal_schema.proofs.Facts.{slice_get_some, slice_get_there, is_there, closest-Some}
 use Rattle.sal_schema.proofs.Numbered.{all_from-at}
-use Rattle.sal_table.proofs.Children.{same-is}
+use Rattle.sal_schema.proofs.Children.{same-is}
 use Rattle.sal_pathtext.specs.declared.fault.PathTextFault.TheVariants.{BadPredicate}
 use Rattle.sal_pathtext.specs.declared.given.Given.{Given}
 use Rattle.sal_pathtext.specs.Laws.{IsReadable, AreReadable}

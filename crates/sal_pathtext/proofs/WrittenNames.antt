@@ -10,8 +10,8 @@ use Rattle.sal_schema.specs.Names.{child_of}
 use Rattle.sal_schema.specs.Table.{is_data_child, name_of}
 use Rattle.sal_schema.specs.Valid.{IsTable, is_identifier, starts_identifier, goes_on, text_eq}
 use Rattle.sal_schema.proofs.Conjuncts.{and_first, and_second}
-use Rattle.sal_table.specs.Lookups.{own_module, full_name}
-use Rattle.sal_table.proofs.Children.{IsChild, child, own_module-is, name_of-is, child-again}
+use Rattle.sal_schema.specs.Lookups.{own_module, full_name}
+use Rattle.sal_schema.proofs.Children.{IsChild, child, own_module-is, name_of-is, child-again}
 use Rattle.sal_json.proofs.Readable.{text_eq-same}
 use Rattle.sal_pathtext.specs.Words.{Text, Read, Name, first, word_len, is_blank, bad_text, identifier, name}
 use Rattle.sal_pathtext.specs.Nodes.{meant}

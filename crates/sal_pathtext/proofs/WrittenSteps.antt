@@ -17,7 +17,7 @@ use Rattle.sal_schema.specs.Table.{is_kind, kind_of, keys_of, name_of, is_data_c
 use Rattle.sal_schema.specs.Valid.{IsTable}
 use Rattle.sal_schema.specs.Values.{is_of_node}
 use Rattle.sal_schema.proofs.Conjuncts.{and_first, and_second}
-use Rattle.sal_table.specs.Lookups.{own_module}
+use Rattle.sal_schema.specs.Lookups.{own_module}
 use Rattle.sal_pathtext.specs.declared.fault.PathTextFault.TheVariants.{BadPredicate, UnknownNode, BadText}
 use Rattle.sal_pathtext.specs.declared.given.Given.{Given}
 use Rattle.sal_pathtext.specs.declared.here.Here.{Here}

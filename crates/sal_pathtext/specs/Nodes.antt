@@ -10,7 +10,7 @@ use Rattle.sal_schema.specs.Kinds.{is_leaf_list}
 use Rattle.sal_schema.specs.Names.{child_of}
 use Rattle.sal_schema.specs.Table.{is_among, is_kind, keys_of, module_of, type_of}
 use Rattle.sal_schema.specs.Valid.{text_eq}
-use Rattle.sal_table.specs.Lookups.{own_module}
+use Rattle.sal_schema.specs.Lookups.{own_module}
 use Rattle.sal_json.specs.declared.fault.ScalarFault.{ScalarFault}
 use Rattle.sal_json.specs.declared.fault.ScalarFault.TheVariants.{WrongKind}
 use Rattle.sal_json.specs.Read.{text_scalar_of}

@@ -6,10 +6,7 @@ use Rattle.sal_types.specs.Reading.{◌>>=◌, with_front}
 use Rattle.sal_schema.specs.Valid.{starts_identifier, goes_on}
 use Rattle.sal_pathtext.specs.declared.fault.PathTextFault.{PathTextFault}
 use Rattle.sal_pathtext.specs.declared.fault.PathTextFault.TheVariants.{BadText}
-
--- the bytes that are still to read
-abbrev pub Text : Type 0
-Text = List ℕ
+pub use Rattle.sal_json.specs.Patterns.{Text}
 
 -- a value and the text after it, or the first fault
 abbrev pub Read : Type 0 → Type 0

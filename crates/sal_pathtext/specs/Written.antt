@@ -8,7 +8,7 @@ use Rattle.sal_types.specs.declared.value.Step.TheVariants.{Node, Key, Item}
 use Rattle.sal_schema.specs.declared.table.SchemaTable.{SchemaTable}
 use Rattle.sal_schema.specs.Table.{keys_of, name_of}
 use Rattle.sal_schema.specs.Valid.{text_eq}
-use Rattle.sal_table.specs.Lookups.{own_module, full_name}
+use Rattle.sal_schema.specs.Lookups.{own_module, full_name}
 use Rattle.sal_pathtext.specs.Words.{is_double_quote}
 use Rattle.sal_pathtext.specs.Nodes.{value_text}
 

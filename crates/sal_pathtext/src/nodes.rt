@@ -9,7 +9,7 @@ ghost use Rattle.sal_pathtext.specs.Nodes as spec;
 use crate::given::Given;
 use sal_json::{Patterns, ScalarFault, read_text, write_text};
 use sal_schema::Schema;
-use sal_table::lookups::{is_leaf_list, keys_at, module_at, own_module, type_at};
+use sal_schema::lookups::{is_leaf_list, keys_at, module_at, own_module, type_at};
 use sal_types::{Duplicate, Keys, NoMemory, Seq, Step, Str, Value};
 use std::alloc::Global;
 

@@ -14,7 +14,7 @@ use crate::nodes::{dot_meant, entry_given, key_meant, meant, not_given, value_of
 use crate::words::{after_blanks, bad_text, closed, first, name, place, said};
 use sal_json::{Patterns, ScalarFault};
 use sal_schema::Schema;
-use sal_table::lookups::{has_entries, is_list};
+use sal_schema::lookups::{has_entries, is_list};
 use sal_types::{NoMemory, Step, Value, tail};
 use std::alloc::Global;
 

@@ -1,14 +1,13 @@
 //! Texts of paths.
 ghost use Rattle.std.specs.Prelude.{◌≡◌, ◌++◌, ◌==◌, None, string_bytes, IfOk, OnOk};
-ghost use Rattle.std.specs.List.{list_any};
 ghost use Rattle.sal_schema.specs.Table.{keys_of};
 ghost use Rattle.sal_pathtext.specs.Written as spec;
 
 use crate::nodes::value_text;
 use crate::words::place_of;
 use sal_schema::Schema;
-use sal_table::lookups::{keys_at, name_at, own_module, push_full_name};
-use sal_types::{NoMemory, Path, Step, Str, Value, front, tail};
+use sal_schema::lookups::{keys_at, name_at, own_module, push_full_name};
+use sal_types::{NoMemory, Path, Step, Str, Value, front, has_byte, tail};
 use std::alloc::{AllocError, Global};
 
 /// Appends the text with each single quote twice.
@@ -26,12 +25,6 @@ fn push_doubled(out: &mut String, text: &str) -> Result<(), AllocError>
         out.push_str("''")?;
         rest = tail(rest, at + 1);
     }
-}
-
-fn has_byte(byte: u8, text: &[u8]) -> bool
-    ensures { result ≡ list_any (λ c. c == byte) text.now }
-{
-    text.iter().any(|c| *c == byte)
 }
 
 /// Appends the text in quotes.

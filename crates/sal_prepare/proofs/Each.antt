@@ -1,5 +1,5 @@
 -- Lists that are made element by element.
-use Rattle.std.proofs.Common.{◌≡◌, ℕ, ◌+◌, zero, suc, List, [], ◌∷◌, ◌++◌, length, drop, map, Option, Some, None, Result, Ok, Err, append_assoc, refl, ap, sym, ◌∙◌, subst, arith}
+use Rattle.std.proofs.Common.{◌≡◌, ℕ, ◌+◌, zero, suc, List, [], ◌∷◌, length, drop, map, Option, Some, None, Result, Ok, Err, append_assoc, refl, ap, sym, ◌∙◌, subst, arith}
 use Rattle.std.specs.Prelude.{slice_get}
 use Rattle.std.specs.Result.{IsErrAnd}
 use Rattle.sal_types.specs.Reading.{◌>>=◌}
@@ -8,10 +8,7 @@ use Rattle.sal_prepare.specs.declared.status.Status.TheVariants.{Done, BadWords,
 use Rattle.sal_prepare.specs.Each.{each_from}
 use Rattle.sal_prepare.specs.Scripted.{Comes, IsStatusOf, or_schema, with_next}
 use Rattle.sal_versions.proofs.Bound.{bind_ok, same_ok}
-
--- what was made, and then what is made of the rest
-abbrev pub before : {B F : Type 0} → List B → Result (List B) F → Result (List B) F
-before done rest = rest >>= (λ more. Ok (done ++ more))
+pub use Rattle.sal_script.proofs.Each.{before}
 
 one_more : {B : Type 0} (r : Result B Status) (done : List B) (rest : Result (List B) Status)
     → before done (r >>= (λ y. rest >>= (λ ys. Ok (y ∷ ys)))) ≡ (with_next done r >>= (λ more. before more rest))

@@ -18,6 +18,7 @@ use Rattle.sal_versions.specs.Versions.{Versions, tables_of}
 use Rattle.sal_prepare.specs.declared.status.Status.{Status}
 use Rattle.sal_prepare.specs.Each.{each_from}
 use Rattle.sal_prepare.specs.Loads.{LoadsArePrepared, load_world}
+use Rattle.sal_rows.specs.declared.clash.Rules.TheVariants.{One}
 use Rattle.sal_prepare.specs.Scripted.{domains_of, if_formed, or_schema, over_world, reader_versions, world_over}
 use Rattle.sal_prepare.proofs.Formed.{all_formed}
 
@@ -28,7 +29,7 @@ opened : fault_of load_world ≡ None
 unfolding closest first through_plain from_list is_there
 opened = refl
 
-world : (rounds start : ℕ) → world_over (domains_of (parts_of rounds start)) ((table ∷ []) ∷ []) ≡ Ok load_world
+world : (rounds start : ℕ) → world_over One (domains_of (parts_of rounds start)) ((table ∷ []) ∷ []) ≡ Ok load_world
 world rounds start = rw opened refl
 
 -- there is one version, and its patterns are well formed

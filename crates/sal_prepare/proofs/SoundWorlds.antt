@@ -9,20 +9,21 @@ use Rattle.sal_types.specs.Reading.{◌>>=◌}
 use Rattle.sal_types.specs.declared.row.Row.{Row}
 use Rattle.sal_types.specs.declared.value.Store.{Store}
 use Rattle.sal_types.specs.declared.value.Store.TheVariants.{Config, Oper}
+use Rattle.sal_rows.specs.declared.clash.Rules.{Rules}
 use Rattle.sal_schema.specs.declared.table.SchemaTable.{SchemaTable}
 use Rattle.sal_schema.specs.Fitting.{is_closed}
 use Rattle.sal_schema.specs.Valid.{IsTable}
-use Rattle.sal_value.specs.Json.{IsJson, is_json}
-use Rattle.sal_value.specs.Laws.{TestsJson}
+use Rattle.sal_json_laws.specs.Json.{IsJson, is_json}
+use Rattle.sal_json_laws.specs.Laws.{TestsJson}
 use Rattle.sal_data.specs.declared.fault.DataFault.{DataFault}
 use Rattle.sal_data.specs.Laws.{ReadsWhole}
 use Rattle.sal_data.specs.Read.{read_data}
-use Rattle.sal_closed.specs.Logs.{AreSound, IsSound}
+use Rattle.sal_history_laws.specs.Logs.{AreSound, IsSound}
 use Rattle.sal_history.specs.declared.opening.Device.{Device}
 use Rattle.sal_history.specs.declared.opening.Opening.{Opening}
 use Rattle.sal_history.specs.World.{Domain, IsChain, tree_of_opening, version_from}
 use Rattle.sal_history.proofs.Versions.{chain-at}
-use Rattle.sal_closed.specs.Lawful.{AreClosed}
+use Rattle.sal_history_laws.specs.Lawful.{AreClosed}
 use Rattle.sal_hub.specs.declared.opening.OpenFault.{OpenFault}
 use Rattle.sal_hub.specs.Openings.{AreClosedDevices, domain_of, fault_of, world_of}
 use Rattle.sal_script.specs.JsonScripts.{AreJsonDevices, IsJsonDevice}
@@ -125,14 +126,14 @@ module _ (reads : ReadsWhole) where
 
   module _ (tables : List (List SchemaTable)) (good : AreChains tables) where
     -- one domain
-    domain_sound : (n : ℕ) (x : DeviceParts) (d : Domain) → n < length tables → IsJsonDevice x → opening_by tables n x ≡ Ok d → IsSound d
-    domain_sound n x d inside json made =
+    domain_sound : (rules : Rules) (n : ℕ) (x : DeviceParts) (d : Domain) → n < length tables → IsJsonDevice x → opening_by rules tables n x ≡ Ok d → IsSound d
+    domain_sound rules n x d inside json made =
         let versions = versions_in tables n in
         let table = first_among versions in
         let is = good.each n inside in
         let own = first_sound versions is in
         let both : List Row → List Row → Result Opening Status = λ config oper. Ok (record { config = config; oper = oper }) in
-        let (opening, read, last) = bind_ok (opening_trees n table x) (λ (o : Opening). Ok (domain_with versions o)) d made in
+        let (opening, read, last) = bind_ok (opening_trees n table x) (λ (o : Opening). Ok (domain_with rules versions o)) d made in
         let (config, first, rest) = bind_ok (opening_rows n table Config x.config) (λ config. opening_rows n table Oper x.operational >>= both config) opening read in
         let (oper, second, end) = bind_ok (opening_rows n table Oper x.operational) (both config) opening rest in
         let closed : AreClosed table (tree_of_opening opening) =
@@ -145,13 +146,13 @@ module _ (reads : ReadsWhole) where
         })
 
     -- those from number n on
-    pub all_sound : (n : ℕ) (xs : List DeviceParts) (ds : List Domain) → n + length xs ≤ length tables → AreJsonDevices xs → each_from (opening_by tables) n xs ≡ Ok ds → AreSound ds
-    all_sound n [] ds room json made = subst AreSound (same_ok made) (λ k d at. absurd (none-some d at))
-    all_sound n (x ∷ xs) ds room json made =
-        let (y, here, rest) = bind_ok (opening_by tables n x) (λ y. each_from (opening_by tables) (n + 1) xs >>= (λ ys. Ok (y ∷ ys))) ds made in
-        let (ys, later, last) = bind_ok (each_from (opening_by tables) (n + 1) xs) (λ ys. Ok (y ∷ ys)) ds rest in
-        let first : IsSound y = domain_sound n x y (omega (arith, room)) json.0 here in
-        let others : AreSound ys = all_sound (n + 1) xs ys (omega (arith, room)) json.1 later in
+    pub all_sound : (rules : Rules) (n : ℕ) (xs : List DeviceParts) (ds : List Domain) → n + length xs ≤ length tables → AreJsonDevices xs → each_from (opening_by rules tables) n xs ≡ Ok ds → AreSound ds
+    all_sound rules n [] ds room json made = subst AreSound (same_ok made) (λ k d at. absurd (none-some d at))
+    all_sound rules n (x ∷ xs) ds room json made =
+        let (y, here, rest) = bind_ok (opening_by rules tables n x) (λ y. each_from (opening_by rules tables) (n + 1) xs >>= (λ ys. Ok (y ∷ ys))) ds made in
+        let (ys, later, last) = bind_ok (each_from (opening_by rules tables) (n + 1) xs) (λ ys. Ok (y ∷ ys)) ds rest in
+        let first : IsSound y = domain_sound rules n x y (omega (arith, room)) json.0 here in
+        let others : AreSound ys = all_sound rules (n + 1) xs ys (omega (arith, room)) json.1 later in
         subst AreSound (same_ok last) (by y ys first others)
       where
         by : (y : Domain) (ys : List Domain) → IsSound y → AreSound ys → AreSound (y ∷ ys)
@@ -159,17 +160,17 @@ module _ (reads : ReadsWhole) where
         by y ys first others (suc k) d at = others k d at
 
   pub worlds_are_sound : WorldsAreSound
-  worlds_are_sound domains tables world json room good made =
-      let (ds, read, rest) = bind_ok (each_from (opening_by tables) 0 domains) opened world made in
-      subst AreSound (unrefused ds (fault_of ds) rest) (all_sound tables good 0 domains ds (omega (arith, room)) json read)
+  worlds_are_sound rules domains tables world json room good made =
+      let (ds, read, rest) = bind_ok (each_from (opening_by rules tables) 0 domains) opened world made in
+      subst AreSound (unrefused ds (fault_of ds) rest) (all_sound tables good rules 0 domains ds (omega (arith, room)) json read)
     where
       unrefused : (ds : List Domain) (o : Option OpenFault) → or_refused ds o ≡ Ok world → ds ≡ world
       unrefused ds None e = same_ok e
       unrefused ds (Some fault) e = cc
 
 -- the same of the devices that the world is of
-pub closed_devices : (devices : List Device) → AreSound (world_of devices) → AreClosedDevices devices
-closed_devices [] sound = tt
-closed_devices (device ∷ devices) sound =
-    let first = sound 0 (domain_of device) refl in
-    (record { config = first.opening Config; oper = first.opening Oper }, closed_devices devices (λ k domain at. sound (suc k) domain at))
+pub closed_devices : (rules : Rules) (devices : List Device) → AreSound (world_of rules devices) → AreClosedDevices devices
+closed_devices rules [] sound = tt
+closed_devices rules (device ∷ devices) sound =
+    let first = sound 0 (domain_of rules device) refl in
+    (record { config = first.opening Config; oper = first.opening Oper }, closed_devices rules devices (λ k domain at. sound (suc k) domain at))

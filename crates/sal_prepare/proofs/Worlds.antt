@@ -11,6 +11,7 @@ use Rattle.sal_types.specs.declared.row.Row.{Row}
 use Rattle.sal_types.specs.declared.value.Step.{Step}
 use Rattle.sal_types.specs.declared.value.Store.TheVariants.{Config, Oper}
 use Rattle.sal_rows.specs.declared.outcome.Breach.{Breach}
+use Rattle.sal_rows.specs.declared.clash.Rules.{Rules}
 use Rattle.sal_schema.specs.declared.table.SchemaTable.{SchemaTable}
 use Rattle.sal_rules.specs.Breaches.{breach}
 use Rattle.sal_history.specs.declared.opening.Opening.{Opening}
@@ -49,16 +50,16 @@ last_tables [] = refl
 last_tables (d ∷ ds) = ap (λ (ts : List SchemaTable). version_in d (length d.upgrades) ∷ ts) (last_tables ds)
 
 -- the domain of this number has its versions
-pub opened_with : (tables : List (List SchemaTable)) (n : ℕ) (x : DeviceParts) (d : Domain) → opening_by tables n x ≡ Ok d → d ≡ domain_with (versions_in tables n) d.opening
-opened_with tables n x d made =
+pub opened_with : (rules : Rules) (tables : List (List SchemaTable)) (n : ℕ) (x : DeviceParts) (d : Domain) → opening_by rules tables n x ≡ Ok d → d ≡ domain_with rules (versions_in tables n) d.opening
+opened_with rules tables n x d made =
     let versions = versions_in tables n in
-    let read = bind_ok (opening_trees n (first_among versions) x) (λ (o : Opening). Ok (domain_with versions o)) d made in
-    subst (λ (y : Domain). y ≡ domain_with versions y.opening) (same_ok read.2) refl
+    let read = bind_ok (opening_trees n (first_among versions) x) (λ (o : Opening). Ok (domain_with rules versions o)) d made in
+    subst (λ (y : Domain). y ≡ domain_with rules versions y.opening) (same_ok read.2) refl
 
 -- and versions of which there is one are all that it has
-versions_with : (versions : List SchemaTable) (d : Domain) → 1 ≤ length versions → d ≡ domain_with versions d.opening → (d.table ∷ d.upgrades) ≡ versions
-versions_with [] d some is = absurd (omega (arith, some))
-versions_with (t ∷ ts) d some is = ap (λ (y : Domain). y.table ∷ y.upgrades) is
+versions_with : (rules : Rules) (versions : List SchemaTable) (d : Domain) → 1 ≤ length versions → d ≡ domain_with rules versions d.opening → (d.table ∷ d.upgrades) ≡ versions
+versions_with rules [] d some is = absurd (omega (arith, some))
+versions_with rules (t ∷ ts) d some is = ap (λ (y : Domain). y.table ∷ y.upgrades) is
 
 from_table_by : (tables : List (List SchemaTable)) (n : ℕ) → n < length tables → drop n tables ≡ versions_in tables n ∷ drop (suc n) tables
 from_table_by [] n within = absurd (omega (arith, within))
@@ -69,55 +70,55 @@ from_table : (tables : List (List SchemaTable)) (n : ℕ) → n < length tables 
 from_table tables n within = let next : suc n ≡ n + 1 = omega (arith) in from_table_by tables n within ∙ ap (λ k. versions_in tables n ∷ drop k tables) next
 
 -- the domains from number n on have the versions from there on
-pub tables_from : (tables : List (List SchemaTable)) → AreChains tables → (n : ℕ) (xs : List DeviceParts) (ds : List Domain) → n + length xs ≡ length tables
-    → each_from (opening_by tables) n xs ≡ Ok ds → versions_of ds ≡ drop n tables
-tables_from tables good n [] ds all made = sym (ap versions_of (same_ok made)) ∙ sym (drop_all n tables (omega (arith, all)))
-tables_from tables good n (x ∷ xs) ds all made =
-    let first = bind_ok (opening_by tables n x) (λ y. each_from (opening_by tables) (n + 1) xs >>= (λ more. Ok (y ∷ more))) ds made in
-    let rest = bind_ok (each_from (opening_by tables) (n + 1) xs) (λ more. Ok (first.0 ∷ more)) ds first.2 in
+pub tables_from : (rules : Rules) (tables : List (List SchemaTable)) → AreChains tables → (n : ℕ) (xs : List DeviceParts) (ds : List Domain) → n + length xs ≡ length tables
+    → each_from (opening_by rules tables) n xs ≡ Ok ds → versions_of ds ≡ drop n tables
+tables_from rules tables good n [] ds all made = sym (ap versions_of (same_ok made)) ∙ sym (drop_all n tables (omega (arith, all)))
+tables_from rules tables good n (x ∷ xs) ds all made =
+    let first = bind_ok (opening_by rules tables n x) (λ y. each_from (opening_by rules tables) (n + 1) xs >>= (λ more. Ok (y ∷ more))) ds made in
+    let rest = bind_ok (each_from (opening_by rules tables) (n + 1) xs) (λ more. Ok (first.0 ∷ more)) ds first.2 in
     let versions = versions_in tables n in
     let within : n < length tables = omega (arith, all) in
-    let own : (first.0.table ∷ first.0.upgrades) ≡ versions = versions_with versions first.0 (good.each n within).some (opened_with tables n x first.0 first.1) in
-    let others : versions_of rest.0 ≡ drop (n + 1) tables = tables_from tables good (n + 1) xs rest.0 (omega (arith, all)) rest.1 in
+    let own : (first.0.table ∷ first.0.upgrades) ≡ versions = versions_with rules versions first.0 (good.each n within).some (opened_with rules tables n x first.0 first.1) in
+    let others : versions_of rest.0 ≡ drop (n + 1) tables = tables_from rules tables good (n + 1) xs rest.0 (omega (arith, all)) rest.1 in
     sym (ap versions_of (same_ok rest.2))
     ∙ ap (λ (u : List SchemaTable). u ∷ versions_of rest.0) own
     ∙ ap (λ (us : List (List SchemaTable)). versions ∷ us) others
     ∙ sym (from_table tables n within)
 
 -- each of these domains has the versions of its number
-domain_from : (tables : List (List SchemaTable)) (n : ℕ) (xs : List DeviceParts) (ds : List Domain) (k : ℕ) (d : Domain) → each_from (opening_by tables) n xs ≡ Ok ds → slice_get ds k ≡ Some d
-    → d ≡ domain_with (versions_in tables (n + k)) d.opening
-domain_from tables n [] ds k d made at = absurd (none-some d (ap (λ (ys : List Domain). slice_get ys k) (same_ok made) ∙ at))
-domain_from tables n (x ∷ xs) ds k d made at =
-    let first = bind_ok (opening_by tables n x) (λ y. each_from (opening_by tables) (n + 1) xs >>= (λ more. Ok (y ∷ more))) ds made in
-    let rest = bind_ok (each_from (opening_by tables) (n + 1) xs) (λ more. Ok (first.0 ∷ more)) ds first.2 in
-    by k first.0 rest.0 (opened_with tables n x first.0 first.1) (λ j here. domain_from tables (n + 1) xs rest.0 j d rest.1 here) (ap (λ (ys : List Domain). slice_get ys k) (same_ok rest.2) ∙ at)
+domain_from : (rules : Rules) (tables : List (List SchemaTable)) (n : ℕ) (xs : List DeviceParts) (ds : List Domain) (k : ℕ) (d : Domain) → each_from (opening_by rules tables) n xs ≡ Ok ds → slice_get ds k ≡ Some d
+    → d ≡ domain_with rules (versions_in tables (n + k)) d.opening
+domain_from rules tables n [] ds k d made at = absurd (none-some d (ap (λ (ys : List Domain). slice_get ys k) (same_ok made) ∙ at))
+domain_from rules tables n (x ∷ xs) ds k d made at =
+    let first = bind_ok (opening_by rules tables n x) (λ y. each_from (opening_by rules tables) (n + 1) xs >>= (λ more. Ok (y ∷ more))) ds made in
+    let rest = bind_ok (each_from (opening_by rules tables) (n + 1) xs) (λ more. Ok (first.0 ∷ more)) ds first.2 in
+    by k first.0 rest.0 (opened_with rules tables n x first.0 first.1) (λ j here. domain_from rules tables (n + 1) xs rest.0 j d rest.1 here) (ap (λ (ys : List Domain). slice_get ys k) (same_ok rest.2) ∙ at)
   where
-    by : (k : ℕ) → (y : Domain) (ys : List Domain) → y ≡ domain_with (versions_in tables n) y.opening → ((j : ℕ) → slice_get ys j ≡ Some d → d ≡ domain_with (versions_in tables (n + 1 + j)) d.opening)
-        → slice_get (y ∷ ys) k ≡ Some d → d ≡ domain_with (versions_in tables (n + k)) d.opening
+    by : (k : ℕ) → (y : Domain) (ys : List Domain) → y ≡ domain_with rules (versions_in tables n) y.opening → ((j : ℕ) → slice_get ys j ≡ Some d → d ≡ domain_with rules (versions_in tables (n + 1 + j)) d.opening)
+        → slice_get (y ∷ ys) k ≡ Some d → d ≡ domain_with rules (versions_in tables (n + k)) d.opening
     by zero y ys own later at =
         let there : n ≡ n + 0 = omega (arith) in
-        subst (λ (m : ℕ). d ≡ domain_with (versions_in tables m) d.opening) there (subst (λ (z : Domain). z ≡ domain_with (versions_in tables n) z.opening) (same_Some y d at) own)
+        subst (λ (m : ℕ). d ≡ domain_with rules (versions_in tables m) d.opening) there (subst (λ (z : Domain). z ≡ domain_with rules (versions_in tables n) z.opening) (same_Some y d at) own)
     by (suc k) y ys own later at =
         let there : n + 1 + k ≡ n + suc k = omega (arith) in
-        subst (λ (m : ℕ). d ≡ domain_with (versions_in tables m) d.opening) there (later k at)
+        subst (λ (m : ℕ). d ≡ domain_with rules (versions_in tables m) d.opening) there (later k at)
 
 -- numbered from the first one on
-domain_at : (tables : List (List SchemaTable)) (xs : List DeviceParts) (ds : List Domain) (k : ℕ) (d : Domain) → each_from (opening_by tables) 0 xs ≡ Ok ds → slice_get ds k ≡ Some d
-    → d ≡ domain_with (versions_in tables k) d.opening
-domain_at tables xs ds k d made at =
+domain_at : (rules : Rules) (tables : List (List SchemaTable)) (xs : List DeviceParts) (ds : List Domain) (k : ℕ) (d : Domain) → each_from (opening_by rules tables) 0 xs ≡ Ok ds → slice_get ds k ≡ Some d
+    → d ≡ domain_with rules (versions_in tables k) d.opening
+domain_at rules tables xs ds k d made at =
     let same : 0 + k ≡ k = omega (arith) in
-    subst (λ (m : ℕ). d ≡ domain_with (versions_in tables m) d.opening) same (domain_from tables 0 xs ds k d made at)
+    subst (λ (m : ℕ). d ≡ domain_with rules (versions_in tables m) d.opening) same (domain_from rules tables 0 xs ds k d made at)
 
 -- so the world has versions
-pub versions_are : (tables : List (List SchemaTable)) → AreChains tables → (xs : List DeviceParts) (ds : List Domain) → length xs ≤ length tables → each_from (opening_by tables) 0 xs ≡ Ok ds → AreVersions ds
-versions_are tables good xs ds room made = record {
+pub versions_are : (rules : Rules) (tables : List (List SchemaTable)) → AreChains tables → (xs : List DeviceParts) (ds : List Domain) → length xs ≤ length tables → each_from (opening_by rules tables) 0 xs ≡ Ok ds → AreVersions ds
+versions_are rules tables good xs ds room made = record {
   chain = λ k d at.
       let inside : k < length ds = at_within ds k d at in
-      let long = each_long (opening_by tables) 0 xs ds made in
-      let is = domain_at tables xs ds k d made at in
+      let long = each_long (opening_by rules tables) 0 xs ds made in
+      let is = domain_at rules tables xs ds k d made at in
       subst (λ (y : Domain). IsChain y.table y.upgrades) (sym is) (good.each k (omega (arith, inside, long, room))).chain;
-  only = λ k d at. ap (λ (y : Domain). y.upgrades) (domain_at tables xs ds (suc k) d made at) ∙ good.only k;
+  only = λ k d at. ap (λ (y : Domain). y.upgrades) (domain_at rules tables xs ds (suc k) d made at) ∙ good.only k;
 }
 
 -- a world that is not refused is kept

@@ -1,7 +1,7 @@
 -- What a load is played over: its own script is always a script, with the world of its own module.
 use Rattle.std.specs.Prelude.{◌≡◌, ℕ, Ok}
 use Rattle.sal_script.specs.Load.{parts_of}
-pub use Rattle.sal_loads.specs.Rounds.{load_world}
+pub use Rattle.sal_script_laws.specs.Rounds.{load_world}
 use Rattle.sal_prepare.specs.Scripted.{Prepared, prepared_of}
 
 abbrev pub load_prepared : ℕ → ℕ → Prepared

@@ -1,9 +1,10 @@
 -- The worlds of scripts are sound: their versions extend each other, and their openings are closed.
 use Rattle.std.specs.Prelude.{◌≡◌, ◌<◌, ◌≤◌, ℕ, suc, List, [], length, Ok, All}
+use Rattle.sal_rows.specs.declared.clash.Rules.{Rules}
 use Rattle.sal_schema.specs.declared.table.SchemaTable.{SchemaTable}
 use Rattle.sal_schema.specs.Valid.{IsTable}
 use Rattle.sal_script.specs.Tables.{first_among, later_among, versions_in}
-use Rattle.sal_closed.specs.Logs.{AreSound}
+use Rattle.sal_history_laws.specs.Logs.{AreSound}
 use Rattle.sal_history.specs.World.{Domain, IsChain}
 use Rattle.sal_script.specs.JsonScripts.{AreJsonDevices}
 use Rattle.sal_script.specs.Script.{DeviceParts}
@@ -23,10 +24,10 @@ pub record AreChains (tables : List (List SchemaTable)) : Type 0 where
 
 -- What the data of these domains read as, over these versions, is sound.
 abbrev pub OpenSound : List DeviceParts → List (List SchemaTable) → Type 0
-OpenSound domains tables = (world : List Domain) → each_from (opening_by tables) 0 domains ≡ Ok world → AreSound world
+OpenSound domains tables = (rules : Rules) (world : List Domain) → each_from (opening_by rules tables) 0 domains ≡ Ok world → AreSound world
 
 -- What the domains of a script come to, over such versions, is sound.
 abbrev pub WorldsAreSound : Type 0
 WorldsAreSound =
-    (domains : List DeviceParts) (tables : List (List SchemaTable)) (world : List Domain) → AreJsonDevices domains → length domains ≤ length tables → AreChains tables
-    → world_over domains tables ≡ Ok world → AreSound world
+    (rules : Rules) (domains : List DeviceParts) (tables : List (List SchemaTable)) (world : List Domain) → AreJsonDevices domains → length domains ≤ length tables → AreChains tables
+    → world_over rules domains tables ≡ Ok world → AreSound world

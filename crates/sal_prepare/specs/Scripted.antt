@@ -9,6 +9,7 @@ use Rattle.sal_types.specs.Reading.{◌>>=◌}
 use Rattle.sal_types.specs.declared.value.Store.{Store}
 use Rattle.sal_types.specs.declared.value.Store.TheVariants.{Config, Oper}
 use Rattle.sal_types.specs.declared.row.Row.{Row}
+use Rattle.sal_rows.specs.declared.clash.Rules.{Rules}
 use Rattle.sal_schema.specs.declared.table.SchemaTable.{SchemaTable}
 use Rattle.sal_json.specs.Patterns.{has_malformed}
 use Rattle.sal_data.specs.declared.fault.DataFault.{DataFault}
@@ -105,17 +106,17 @@ opening_trees n table domain =
     >>= (λ config. opening_rows n table Oper domain.operational
     >>= (λ oper. Ok (record { config = config; oper = oper })))
 
--- a domain of these versions, version 0 first
-abbrev pub domain_with : List SchemaTable → Opening → Domain
-domain_with versions opening = record { table = first_among versions; upgrades = later_among versions; opening = opening }
+-- a domain of these versions, version 0 first, under version rules
+abbrev pub domain_with : Rules → List SchemaTable → Opening → Domain
+domain_with rules versions opening = record { table = first_among versions; upgrades = later_among versions; opening = opening; rules = rules }
 
 -- a domain with its opening trees, which are read by version 0
-abbrev pub opening_over : ℕ → List SchemaTable → DeviceParts → Result Domain Status
-opening_over n versions domain = opening_trees n (first_among versions) domain >>= (λ opening. Ok (domain_with versions opening))
+abbrev pub opening_over : Rules → ℕ → List SchemaTable → DeviceParts → Result Domain Status
+opening_over rules n versions domain = opening_trees n (first_among versions) domain >>= (λ opening. Ok (domain_with rules versions opening))
 
 -- by the versions of its number
-abbrev pub opening_by : List (List SchemaTable) → ℕ → DeviceParts → Result Domain Status
-opening_by tables n domain = opening_over n (versions_in tables n) domain
+abbrev pub opening_by : Rules → List (List SchemaTable) → ℕ → DeviceParts → Result Domain Status
+opening_by rules tables n domain = opening_over rules n (versions_in tables n) domain
 
 -- the domain over which a hub is not opened
 abbrev pub domain_in : OpenFault → ℕ
@@ -143,8 +144,8 @@ abbrev pub opened : List Domain → Result (List Domain) Status
 opened world = or_refused world (fault_of world)
 
 -- the world of all opening trees, of which the data are read first
-abbrev pub world_over : List DeviceParts → List (List SchemaTable) → Result (List Domain) Status
-world_over domains tables = each_from (opening_by tables) 0 domains >>= opened
+abbrev pub world_over : Rules → List DeviceParts → List (List SchemaTable) → Result (List Domain) Status
+world_over rules domains tables = each_from (opening_by rules tables) 0 domains >>= opened
 
 -- ---- the script and its world
 
@@ -155,7 +156,7 @@ pub record Prepared : Type 0 where
 
 -- the script with the world of its opening trees
 abbrev pub over_world : Parts → List (List SchemaTable) → Result Prepared Status
-over_world parts tables = world_over (domains_of parts) tables >>= (λ world. Ok (record { parts = parts; world = world }))
+over_world parts tables = world_over parts.rules (domains_of parts) tables >>= (λ world. Ok (record { parts = parts; world = world }))
 
 -- What a script is played over, or the status of the first that is wrong after its reading.
 abbrev pub prepared_of : Parts → Result Prepared Status
@@ -184,8 +185,8 @@ abbrev pub Comes : {A X : Type 0} → (X → A) → Result A Status → Result X
 Comes seen made result = MatchResult result (λ x. made ≡ Ok (seen x)) (IsStatusOf made)
 
 -- a domain of a script, as the code has it
-abbrev pub told : ScriptDomain → DeviceParts
-told domain = record { modules = domain.modules.now; config = view domain.config.now; operational = view domain.operational.now }
+abbrev pub given : ScriptDomain → DeviceParts
+given domain = record { modules = domain.modules.now; config = view domain.config.now; operational = view domain.operational.now }
 
 -- the versions of the schemas of all domains, as the code has them
 abbrev pub versions_shared : Schemas → List (List SchemaTable)

@@ -40,7 +40,7 @@ pub(crate) fn domain_count(script: &Script) -> u32
 /// The domain of this number.
 pub(crate) fn domain_at(script: &Script, number: u32) -> ScriptDomain<'_>
     requires { number < length (spec.domains_of (parts script.now)) }
-    ensures domain { slice_get (spec.domains_of (parts script.now)) number ≡ Some (spec.told result) }
+    ensures domain { slice_get (spec.domains_of (parts script.now)) number ≡ Some (spec.given result) }
     ensures short { IsTrue (are_short result.modules.now) }
 {
     if number == 0 {
@@ -126,7 +126,7 @@ fn add_schema(
     domain: ScriptDomain<'_>,
 ) -> Result<(), Status>
     requires { IsTrue (are_short domain.modules.now) }
-    ensures tables { spec.Comes (λ _. spec.tables_in schemas.new.items) (spec.with_next (spec.tables_in schemas.old.items) (spec.table_by number (spec.told domain.entry))) result }
+    ensures tables { spec.Comes (λ _. spec.tables_in schemas.new.items) (spec.with_next (spec.tables_in schemas.old.items) (spec.table_by number (spec.given domain.entry))) result }
     ensures one { IfOk result (λ _. length schemas.new.items ≡ length schemas.old.items + 1) }
 {
     let schema = domain_schema(alloc, number, domain.modules)?;

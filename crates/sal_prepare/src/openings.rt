@@ -1,6 +1,7 @@
 //! The opening trees of a script: their data, and why a hub is not opened over them.
 ghost use Rattle.std.specs.Prelude.{◌≡◌, ◌+◌, ◌<◌, ◌≤◌, ◌++◌, [], ◌∷◌, true, All, Ok, Err, IfOk, Some, codes, decimal, length};
 ghost use Rattle.serde_json.specs.View.{view};
+ghost use Rattle.sal_rows.specs.declared.clash.Rules.{Rules as Ruled};
 ghost use Rattle.sal_schema.specs.Valid.{IsTable};
 ghost use Rattle.sal_history.specs.World.{AreVersions};
 ghost use Rattle.sal_hub.specs.Openings.{AreClosedDevices, world_of};
@@ -17,8 +18,8 @@ use sal_client::{Reader, Readers};
 use sal_data::DataFault;
 use sal_history::{Device, Opening};
 use sal_hub::{Hub, OpenFault};
-use sal_report::{breach_text, data_fault_text, path_words};
-use sal_rows::{Breach, Rows};
+use sal_report::{breach_text, data_fault_text, path_words, store_word};
+use sal_rows::{Breach, Rows, Rules};
 use sal_schema::Schema;
 use sal_script::Script;
 use sal_types::{NoMemory, Path, Store, Str};
@@ -48,13 +49,13 @@ pub(crate) fn hub_over(
     requires own { 1 ≤ length schemas.now.own.items }
     requires all { length schemas.now.devices.items + 1 ≡ length (spec.domains_of (parts script.now)) }
     requires few { length schemas.now.devices.items ≤ 63 }
-    ensures world { spec.Comes (λ hub. hub.world) (spec.world_over (spec.domains_of (parts script.now)) readers.now) result }
+    ensures world { spec.Comes (λ hub. hub.world) (spec.world_over script.now.rules (spec.domains_of (parts script.now)) readers.now) result }
     ensures tables { IfOk result (λ hub. readers.now ≡ versions_of hub.world) }
     ensures fresh { IfOk result (λ hub. hub.log ≡ []) }
 {
     are_sound(script, schemas);
     let devices = devices_of(alloc, script, schemas, readers)?;
-    hub_of(alloc, readers, devices)
+    hub_of(alloc, readers, devices, script.rules)
 }
 
 // Does nothing; its contract is that the domains of the script are sound over these versions, as far as their data reads.
@@ -67,7 +68,7 @@ fn are_sound(script: &Script, schemas: &Schemas)
 {
     have_tables(&schemas.own);
     have_tables(&schemas.devices);
-    sal_value::laws::json_is_tested();
+    sal_json_laws::laws::json_is_tested();
     sal_data::laws::rows_that_were_read_are_whole();
     sal_versions::laws::versions_are_in_order();
 }
@@ -98,7 +99,7 @@ fn devices_of(
     requires schemas { readers.now ≡ spec.versions_shared schemas.now }
     requires own { 1 ≤ length schemas.now.own.items }
     requires all { length schemas.now.devices.items + 1 ≡ length (spec.domains_of (parts script.now)) }
-    ensures { spec.Comes (λ devices. world_of devices.items) (each_from (spec.opening_by readers.now) 0 (spec.domains_of (parts script.now))) result }
+    ensures { spec.Comes (λ devices. world_of script.now.rules devices.items) (each_from (spec.opening_by script.now.rules readers.now) 0 (spec.domains_of (parts script.now))) result }
 {
     let mut devices = Vec::new(alloc);
     for number in 0..domain_count(script) {
@@ -122,7 +123,7 @@ fn versions_at(schemas: &Schemas, number: u32) -> &[Arc<Schema>]
     slice::from_ref(&schemas.devices[number as usize - 1])
 }
 
-// One device more, of these versions.
+// One device more, of these versions, whatever the version rules.
 fn add_device(
     alloc: Global,
     devices: &mut Vec<Device>,
@@ -130,7 +131,7 @@ fn add_device(
     opening: Opening,
 ) -> Result<(), NoMemory>
     requires { 1 ≤ length versions.now }
-    ensures { IfOk result (λ _. world_of devices.new.items ≡ world_of devices.old.items ++ spec.domain_with (spec.tables_in versions.now) opening ∷ []) }
+    ensures { IfOk result (λ _. (rules : Ruled) → world_of rules devices.new.items ≡ world_of rules devices.old.items ++ spec.domain_with rules (spec.tables_in versions.now) opening ∷ []) }
 {
     let schema = Arc::try_clone(first(versions))?;
     let upgrades = shared_again(alloc, later(versions))?;
@@ -166,7 +167,7 @@ fn opening_at(
     domain: ScriptDomain<'_>,
 ) -> Result<Opening, Status>
     requires { has_domain readers.now number ≡ true }
-    ensures { spec.Comes (λ opening. opening) (spec.opening_trees number (first_in readers.now number) (spec.told domain.entry)) result }
+    ensures { spec.Comes (λ opening. opening) (spec.opening_trees number (first_in readers.now number) (spec.given domain.entry)) result }
 {
     let Some(reader) = readers.first_of(number) else {
         unreachable!()
@@ -181,7 +182,7 @@ fn trees_of(
     number: u32,
     domain: ScriptDomain<'_>,
 ) -> Result<Opening, Status>
-    ensures { spec.Comes (λ opening. opening) (spec.opening_trees number reader.now (spec.told domain.entry)) result }
+    ensures { spec.Comes (λ opening. opening) (spec.opening_trees number reader.now (spec.given domain.entry)) result }
 {
     let config = tree_of(alloc, reader, at(number, Store::Config), domain.config)?;
     let oper = tree_of(alloc, reader, at(number, Store::Oper), domain.operational)?;
@@ -233,26 +234,22 @@ fn opening_text(
     Ok(Str::from_string(text))
 }
 
-fn store_word(store: Store) -> &'static str
-    ensures { result.now ≡ store_text store }
-{
-    match store {
-        Store::Config => "config",
-        Store::Oper => "operational",
-    }
-}
-
-// The hub over the devices, unless one of their opening trees is refused.
-fn hub_of(alloc: Global, readers: &Readers, devices: Vec<Device>) -> Result<Hub, Status>
+// The hub over the devices under the version rules, unless one of their opening trees is refused.
+fn hub_of(
+    alloc: Global,
+    readers: &Readers,
+    devices: Vec<Device>,
+    rules: Rules,
+) -> Result<Hub, Status>
     requires some { 1 ≤ length devices.items }
     requires few { length devices.items ≤ 64 }
-    requires versions { AreVersions (world_of devices.items) }
+    requires versions { AreVersions (world_of rules devices.items) }
     requires closed { AreClosedDevices devices.items }
-    requires tables { readers.now ≡ versions_of (world_of devices.items) }
-    ensures world { spec.Comes (λ hub. hub.world) (spec.opened (world_of devices.items)) result }
+    requires tables { readers.now ≡ versions_of (world_of rules devices.items) }
+    ensures world { spec.Comes (λ hub. hub.world) (spec.opened (world_of rules devices.items)) result }
     ensures fresh { IfOk result (λ hub. hub.log ≡ []) }
 {
-    match Hub::open(alloc, devices) {
+    match Hub::open(alloc, devices, rules) {
         Ok(hub) => Ok(hub),
         Err(fault) => Err(refusal(alloc, readers, &fault)),
     }

@@ -6,9 +6,8 @@ ghost use Rattle.serde_json.specs.Written.{compact_text};
 ghost use Rattle.sal_schema.specs.declared.table.SchemaTable.{SchemaTable};
 ghost use Rattle.sal_script.specs.BatchData.{list_data};
 
-use crate::pieces::push_word;
 use sal_schema::Schema;
-use sal_types::NoMemory;
+use sal_types::{NoMemory, push_word};
 use std::alloc::Global;
 
 // What stands in an array.

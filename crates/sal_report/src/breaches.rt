@@ -3,10 +3,10 @@ ghost use Rattle.std.specs.Prelude.{◌≡◌, ◌++◌, IfOk, OnOk, string_byte
 ghost use Rattle.sal_script.specs.MessageData.{node_text};
 ghost use Rattle.sal_script.specs.Report as spec;
 
-use crate::pieces::{push_path, push_word};
+use crate::pieces::push_path;
 use sal_rows::{Breach, Rule};
 use sal_schema::Schema;
-use sal_types::{NoMemory, Path, Str};
+use sal_types::{NoMemory, Path, Str, push_word};
 use std::alloc::Global;
 
 /// A space and a path as a JSON text. It fails only where memory runs out.

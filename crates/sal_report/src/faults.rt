@@ -3,14 +3,14 @@ ghost use Rattle.std.specs.Prelude.{◌≡◌, ◌∷◌, ◌++◌, IfOk, OnOk, 
 ghost use Rattle.json.specs.Print.{quoted};
 ghost use Rattle.sal_script.specs.Report as spec;
 
-use crate::pieces::{push_numbered, push_path, push_quoted, push_word};
+use crate::pieces::{push_numbered, push_path, push_quoted};
 use crate::words::scalar_word;
 use sal_data::DataFault;
 use sal_json::ScalarFault;
 use sal_pathtext::PathTextFault;
 use sal_rules::TxFault;
 use sal_schema::Schema;
-use sal_types::{NoMemory, Path, Str};
+use sal_types::{NoMemory, Path, Str, push_word};
 use std::alloc::Global;
 
 /// Why a text is no path: a word, and where the place is known how many bytes stand before it. It fails only where memory runs

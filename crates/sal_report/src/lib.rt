@@ -50,3 +50,4 @@ pub use faults::{data_fault_text, path_fault_text, tx_fault_text};
 pub use lines::report;
 pub use load::summary;
 pub use mounted::told_domains;
+pub use words::store_word;

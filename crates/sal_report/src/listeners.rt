@@ -5,10 +5,10 @@ ghost use Rattle.sal_script.specs.BatchData.{batch_data};
 ghost use Rattle.sal_script.specs.Report as spec;
 
 use crate::arrays::push_array;
-use crate::pieces::{push_data, push_number, push_numbered, push_word};
+use crate::pieces::{push_data, push_number, push_numbered};
 use sal_rows::{Batch, Opened, Rows};
 use sal_schema::Schema;
-use sal_types::{NoMemory, Path};
+use sal_types::{NoMemory, Path, push_word};
 use std::alloc::Global;
 
 // A new listener, with what it begins with.

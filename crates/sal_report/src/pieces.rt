@@ -15,13 +15,6 @@ use sal_types::{NoMemory, Path};
 use serde_json::Value;
 use std::alloc::Global;
 
-pub(crate) fn push_word(text: &mut String, word: &str) -> Result<(), NoMemory>
-    ensures { OnOk result (string_bytes text.new ≡ string_bytes text.old ++ word.now) }
-{
-    text.push_str(word)?;
-    Ok(())
-}
-
 // A space and a number.
 pub(crate) fn push_number(text: &mut String, number: u64) -> Result<(), NoMemory>
     ensures { OnOk result (string_bytes text.new ≡ string_bytes text.old ++ spec.number number) }

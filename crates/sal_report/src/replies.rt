@@ -5,7 +5,7 @@ ghost use Rattle.sal_script.specs.Report as spec;
 use crate::breaches::{push_breach, push_named};
 use crate::faults::{push_data_fault, push_path_fault, push_tx_fault};
 use crate::listeners::{push_batch, push_listener, push_mirror};
-use crate::pieces::{push_data, push_numbered, push_path, push_word};
+use crate::pieces::{push_data, push_numbered, push_path};
 use crate::schemas::Schemas;
 use crate::services::{push_mount, push_notes, push_output, push_request};
 use crate::words::{kind_word, store_word, truth_word};
@@ -13,7 +13,7 @@ use sal_history::Reply;
 use sal_rows::{CallFault, Outcome, Rows};
 use sal_schema::Schema;
 use sal_script::{StepRefusal, StepReply};
-use sal_types::{NoMemory, Path};
+use sal_types::{NoMemory, Path, push_word};
 use std::alloc::Global;
 
 // The reply to a step.

@@ -12,12 +12,12 @@ ghost use Rattle.sal_script.specs.Report as spec;
 
 use crate::arrays::{Item, push_array};
 use crate::breaches::push_node;
-use crate::pieces::{push_data, push_numbered, push_path, push_string, push_word};
+use crate::pieces::{push_data, push_numbered, push_path, push_string};
 use sal_note::Note;
 use sal_rows::Rows;
 use sal_rpc::Request;
 use sal_schema::Schema;
-use sal_types::{NoMemory, Path, PathFault, Step};
+use sal_types::{NoMemory, Path, PathFault, Step, push_word};
 use std::alloc::Global;
 
 // The domain that is mounted at a path, if one is.

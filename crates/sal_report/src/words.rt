@@ -8,7 +8,8 @@ use sal_json::ScalarFault;
 use sal_rows::{CandidateKind, ClashKind};
 use sal_types::Store;
 
-pub(crate) fn store_word(store: Store) -> &'static str
+/// The word of a store, as reports have it.
+pub fn store_word(store: Store) -> &'static str
     ensures { result.now ≡ store_text store }
 {
     match store {

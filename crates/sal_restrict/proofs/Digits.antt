@@ -13,7 +13,7 @@ use Rattle.std.specs.Cmp.Lexicographic.{slice_cmp}
 use Rattle.sal_restrict.specs.Bounds.{decimal}
 use Rattle.sal_restrict.specs.Readings.{without_zeros}
 
-abbrev step : ℕ → ℕ → ℕ
+abbrev pub step : ℕ → ℕ → ℕ
 step n c = 10 * n + (c - 48)
 
 -- ten times as much, before the next digit
@@ -51,7 +51,7 @@ decimal-below (c ∷ t) e =
 is_zero : (c : ℕ) → (c == 48) ≡ true → c - 48 ≡ 0
 is_zero c e = grind (arith, nat_tests)
 
-one_first : (n : ℕ) → 1 + n ≡ suc n
+pub one_first : (n : ℕ) → 1 + n ≡ suc n
 one_first n = omega arith
 
 without_zeros-zero : (c : ℕ) (t : List ℕ) → (c == 48) ≡ true → without_zeros (c ∷ t) ≡ without_zeros t

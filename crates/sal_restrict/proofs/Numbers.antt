@@ -5,6 +5,7 @@ use Rattle.std.proofs.lemmas.Bool.{cases_Bool, and_parts, and_from, or_cases, or
 use Rattle.std.specs.List.{list_all, prefix_len}
 use Rattle.sal_restrict.specs.declared.ranges.Part.{Part}
 use Rattle.sal_restrict.specs.Ranges.{is_below, is_ascending, holds, goes_on, covers}
+use Rattle.sal_restrict.proofs.Digits.{one_first}
 
 -- ---- tests of numbers
 
@@ -211,9 +212,6 @@ held_on parts rest numbers part next was low less = elim (cases_Bool (int_le nex
 
 abbrev pub ended : ℤ → List Part → ℕ
 ended number parts = prefix_len (λ (part : Part). int_lt part.high number) parts
-
-one_first : (n : ℕ) → 1 + n ≡ suc n
-one_first n = omega arith
 
 holds-ended : (parts : List Part) (low n : ℤ) → low ≤ℤ n → holds parts n ≡ holds (drop (ended low parts) parts) n
 holds-ended [] low n h = refl

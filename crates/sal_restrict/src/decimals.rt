@@ -1,10 +1,9 @@
 //! Numbers that digits write.
 ghost use Rattle.std.specs.Prelude.{◌≡◌, SomeIff, FitsSigned, ◌^◌, ◌-◌, min};
-ghost use Rattle.std.specs.List.{list_all};
-ghost use Rattle.std.specs.Char.{is_ascii_digit};
 ghost use Rattle.std.specs.Int.{w128};
 ghost use Rattle.sal_restrict.specs.Bounds as spec;
 
+use sal_types::all_digits;
 /// The number that these digits write, or 2^128 - 1 where it is greater.
 pub fn decimal(text: &[u8]) -> u128
     ensures { result ≡ min (spec.decimal text.now) (2 ^ 128 - 1) }
@@ -23,12 +22,6 @@ pub fn is_digits(text: &[u8]) -> bool
     ensures { result ≡ spec.is_digits text.now }
 {
     !text.is_empty() && all_digits(text)
-}
-
-pub(crate) fn all_digits(text: &[u8]) -> bool
-    ensures { result ≡ list_all is_ascii_digit text.now }
-{
-    text.iter().all(|c| c.is_ascii_digit())
 }
 
 /// The number with this sign, where 128 bits hold it.

@@ -19,10 +19,10 @@ use Rattle.sal_rows.specs.declared.change.Change.{Change}
 use Rattle.sal_rows.specs.Changes.{same_cell, compared, changes, changes_under, change_at, differing}
 use Rattle.sal_rows.proofs.Cells.{same_path, IsAscending-set_row, cell-set_rows, cell-filter, IsAscending-filter}
 
-abbrev Rising : List Row → Type 0
+abbrev pub Rising : List Row → Type 0
 Rising rows = T (is_sorted path_cmp (entries rows))
 
-abbrev Behind : List Step → List Row → Type 0
+abbrev pub Behind : List Step → List Row → Type 0
 Behind p rows = T (below_all path_cmp p (entries rows))
 
 behind-first : (row : Row) (rows : List Row) → Rising (row ∷ rows) → Behind row.path rows

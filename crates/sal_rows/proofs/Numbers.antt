@@ -21,7 +21,7 @@ find-append t [] x = elim (t x) as (λ b. is_some (cond b (Some x) None) ≡ b) 
 find-append t (y ∷ xs) x =
     elim (t y) as (λ b. is_some (cond b (Some y) (find t (xs ++ x ∷ []))) ≡ (is_some (cond b (Some y) (find t xs)) || t x)) [ true ↦ refl | false ↦ find-append t xs x ]
 
-or_swap : (a b : Bool) → (a || b) ≡ (b || a)
+pub or_swap : (a b : Bool) → (a || b) ≡ (b || a)
 or_swap true true = refl
 or_swap true false = refl
 or_swap false true = refl

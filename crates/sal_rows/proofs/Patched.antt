@@ -3,8 +3,7 @@ use Rattle.std.proofs.Common.{◌≡◌, ℕ, zero, suc, ◌+◌, ◌-◌, Bool,
 use Rattle.std.specs.Prelude.{T, not}
 use Rattle.std.specs.List.{fold}
 use Rattle.std.specs.Ordering.{is_eq, is_lt}
-use Rattle.std.specs.declared.cmp.Ordering.{Ordering}
-use Rattle.std.specs.declared.cmp.Ordering.TheVariants.{Less, Equal, Greater}
+use Rattle.std.specs.declared.cmp.Ordering.TheVariants.{Equal}
 use Rattle.std.specs.Cmp.{Equal-is}
 use Rattle.std.specs.FinMap.{is_sorted}
 use Rattle.std.specs.FinMap.Entries.{below_all}
@@ -23,11 +22,7 @@ use Rattle.sal_rows.specs.Batches.{part_with, part, parts_after, lists_of, HasCh
 use Rattle.sal_rows.specs.Patch.{with_cell, with_changes, with_parts}
 use Rattle.sal_rows.proofs.Cells.{same_path, path_eq-itself, cell-set_row, IsAscending-set_row, cell-filter, IsAscending-filter}
 use Rattle.sal_rows.proofs.Differing.{first, second, marks, Rises, at-changes, rises-changes}
-
-pub less : (o : Ordering) → T (is_lt o) → o ≡ Less
-less Less h = refl
-less Equal h = absurd h
-less Greater h = absurd h
+pub use Rattle.sal_types.proofs.Shared.{less}
 
 pub ascending-with_cell : (rows : List Row) (p : List Step) (o : Option Cell) → IsAscending rows → IsAscending (with_cell rows p o)
 ascending-with_cell rows p None h = IsAscending-filter (λ q. not (path_eq p q)) rows h
@@ -71,7 +66,8 @@ cell-with_changes rows (c ∷ cs) r h =
       | false ↦ λ b. refl
     ] refl
 
-one_cell : (c d : Option Cell) → same_cell c d ≡ true → c ≡ d
+-- the test of two cells decides whether they are the same
+pub one_cell : (c d : Option Cell) → same_cell c d ≡ true → c ≡ d
 one_cell None None e = refl
 one_cell None (Some d) e = cc
 one_cell (Some c) None e = cc

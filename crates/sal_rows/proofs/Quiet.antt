@@ -1,9 +1,12 @@
--- Where nothing clashes, base and tip have the same rows at and below each path that is put or deleted.
-use Rattle.std.proofs.Common.{◌≡◌, ℕ, zero, suc, ◌+◌, ◌-◌, ◌≤◌, Bool, true, false, List, [], ◌∷◌, ◌++◌, ◌&&◌, ◌||◌, Option, None, Some, refl, ap, sym, subst, ◌∙◌, cond, arith, take, length, append_assoc, if◌then◌else◌}
-use Rattle.std.specs.Prelude.{not, find, slice_get, unwrap_or}
-use Rattle.std.specs.List.{list_any}
+-- Where nothing clashes, base and tip have the same rows at and below each path that is put or deleted, and under version rules 2 the same
+-- cell at each leaf that is merged.
+use Rattle.std.proofs.Common.{◌≡◌, ℕ, zero, suc, ◌+◌, ◌-◌, ◌≤◌, Bool, true, false, List, [], ◌∷◌, ◌++◌, ◌&&◌, ◌||◌, Option, None, Some, refl, ap, sym, subst, ◌∙◌, cond, arith, take, length, append_assoc, append-nil, reverse, if◌then◌else◌}
+use Rattle.std.specs.Prelude.{is_some, not, find, slice_get, unwrap_or}
+use Rattle.std.specs.List.{list_any, position_from}
 use Rattle.std.specs.Option.{option_map, option_or}
 use Rattle.std.proofs.lemmas.List.{take_all}
+use Rattle.std.proofs.lemmas.List.Sorted.{IsPermutation-reverse, list_any-IsPermutation}
+use Rattle.std.proofs.lemmas.Option.{same_Some}
 use Rattle.sal_types.specs.declared.value.Store.{Store}
 use Rattle.sal_types.specs.declared.value.Store.TheVariants.{Config, Oper}
 use Rattle.sal_types.specs.declared.value.Step.{Step}
@@ -11,16 +14,20 @@ use Rattle.sal_types.specs.declared.row.Row.{Row}
 use Rattle.sal_types.specs.Prefix.{is_prefix}
 use Rattle.sal_types.specs.Tree.{cell, has}
 use Rattle.sal_rows.specs.declared.op.Op.{Op}
-use Rattle.sal_rows.specs.Apply.{same_store, checks_path, apply_ops, cell_by, last_setting}
+use Rattle.sal_rows.specs.Apply.{same_store, checks_path, apply_ops, cell_by, last_setting, rows_of_act}
+use Rattle.sal_rows.specs.Changes.{same_cell}
 use Rattle.sal_rows.specs.Commits.{tree_after, tree_at, commit_touches, touches_at, is_unchanged, unchanged_by, numbers_after, numbers_in}
 use Rattle.sal_rows.specs.declared.clash.Span.{Span}
 use Rattle.sal_rows.specs.PathClash.{Difference as At, difference, is_covered}
 use Rattle.sal_rows.proofs.Applied.{cell-apply_ops}
+use Rattle.sal_rows.proofs.Patched.{one_cell}
+use Rattle.sal_rows.proofs.SpanTouches.{find_none}
 use Rattle.sal_rows.proofs.Untouched.{or_first, or_second, no_cell, cell-untouched}
 use Rattle.sal_types.proofs.Prefixes.{IsPrefix-from_test, is_prefix-append}
 use Rattle.sal_rows.specs.declared.clash.Clash.{Clash}
-use Rattle.sal_rows.specs.Clash.{numbers_over, clash_from, op_clash, parent_clash, path_clash, tip}
-use Rattle.sal_rows.specs.Quiet.{SameBelow, AreSpans, with_own, AreQuiet, NoClashIsQuiet}
+use Rattle.sal_rows.specs.declared.clash.Rules.{Rules}
+use Rattle.sal_rows.specs.Clash.{at_row, checks_leafs, clash_from, is_leaf, is_stale, last_touch_over, leaf_clash, numbers_over, op_clash, parent_clash, path_clash, tip}
+use Rattle.sal_rows.specs.Quiet.{SameBelow, AreFresh, AreSpans, with_own, AreQuiet, NoClashIsQuiet, SameOrTouched}
 
 -- ---- what is below a path
 
@@ -28,12 +35,16 @@ use Rattle.sal_rows.specs.Quiet.{SameBelow, AreSpans, with_own, AreQuiet, NoClas
 same-apply : (s : Store) (ops : List Op) (p : List Step) (x y : List Row) → SameBelow p x y → SameBelow p (apply_ops x s ops) (apply_ops y s ops)
 same-apply s ops p x y h r below = cell-apply_ops x s ops r ∙ ap (cell_by (last_setting s ops r)) (h r below) ∙ sym (cell-apply_ops y s ops r)
 
--- what is the same below a path is so below a longer one
-same-below : (q p : List Step) (x y : List Row) → is_prefix q p ≡ true → SameBelow q x y → SameBelow p x y
-same-below q p x y e h r below =
+-- what begins with a path that begins with another one
+pub prefix_below : (q p r : List Step) → is_prefix q p ≡ true → is_prefix p r ≡ true → is_prefix q r ≡ true
+prefix_below q p r e below =
     let v = IsPrefix-from_test q p e in
     let w = IsPrefix-from_test p r below in
-    h r (ap (is_prefix q) (w.1 ∙ ap (λ l. l ++ w.0) v.1 ∙ append_assoc q v.0 w.0) ∙ is_prefix-append q (v.0 ++ w.0))
+    ap (is_prefix q) (w.1 ∙ ap (λ l. l ++ w.0) v.1 ∙ append_assoc q v.0 w.0) ∙ is_prefix-append q (v.0 ++ w.0)
+
+-- what is the same below a path is so below a longer one
+same-below : (q p : List Step) (x y : List Row) → is_prefix q p ≡ true → SameBelow q x y → SameBelow p x y
+same-below q p x y e h r below = h r (prefix_below q p r e below)
 
 -- ---- one commit
 
@@ -153,32 +164,45 @@ module _ (opening : Store → List Row) (commits : List (List Op)) (s : Store) (
 
 -- ---- all operations
 
-no_map : {X Y : Type 0} (f : X → Y) (o : Option X) → option_map f o ≡ None → o ≡ None
+pub no_map : {X Y : Type 0} (f : X → Y) (o : Option X) → option_map f o ≡ None → o ≡ None
 no_map f None e = refl
 no_map f (Some x) e = cc
 
-or_none_first : {X : Type 0} (a b : Option X) → option_or a b ≡ None → a ≡ None
+pub or_none_first : {X : Type 0} (a b : Option X) → option_or a b ≡ None → a ≡ None
 or_none_first None b e = refl
 or_none_first (Some x) b e = cc
 
-or_none_second : {X : Type 0} (a b : Option X) → option_or a b ≡ None → b ≡ None
+pub or_none_second : {X : Type 0} (a b : Option X) → option_or a b ≡ None → b ≡ None
 or_none_second None b e = e
 or_none_second (Some x) b e = cc
 
 -- the conflict that a clash at the path of an operation is
 abbrev found_at : List Op → Op → At → Clash
-found_at earlier op c = record { op = length earlier; depth = length op.path; kind = c.kind; commit = c.commit }
+found_at earlier op c = record { op = length earlier; row = None; depth = length op.path; kind = c.kind; commit = c.commit }
 
-same_stores : (a b : Store) → same_store a b ≡ true → a ≡ b
+pub same_stores : (a b : Store) → same_store a b ≡ true → a ≡ b
 same_stores Config Config e = refl
 same_stores Oper Oper e = refl
 same_stores Config Oper e = cc
 same_stores Oper Config e = cc
 
-both_true : (a b : Bool) → (a && b) ≡ true → (a ≡ true) × (b ≡ true)
+pub both_true : (a b : Bool) → (a && b) ≡ true → (a ≡ true) × (b ≡ true)
 both_true true true e = (refl, refl)
 both_true true false e = cc
 both_true false b e = cc
+
+-- where a search by index finds nothing, nothing passes the test
+no_position : {X : Type 0} (t : X → Bool) (n : ℕ) (xs : List X) → position_from t n xs ≡ None → (i : ℕ) (x : X) → slice_get xs i ≡ Some x → t x ≡ false
+no_position t n [] e i x at = cc
+no_position t n (y ∷ xs) e zero x at =
+    let same : y ≡ x = same_Some y x at in
+    ap t (sym same) ∙ elim (t y) as (λ b. cond b (Some n) (position_from t (n + 1) xs) ≡ None → b ≡ false) [ true ↦ λ f. cc | false ↦ λ f. refl ] e
+no_position t n (y ∷ xs) e (suc i) x at =
+    no_position t (n + 1) xs (elim (t y) as (λ b. cond b (Some n) (position_from t (n + 1) xs) ≡ None → position_from t (n + 1) xs ≡ None) [ true ↦ λ f. cc | false ↦ λ f. f ] e) i x at
+
+not_false : (b : Bool) → (not b && true) ≡ false → b ≡ true
+not_false true e = refl
+not_false false e = cc
 
 module _ (opening : Store → List Row) (commits : List (List Op)) (base : Store → List Row) (span : Span) (spans : List Span) (are : AreSpans (length commits) span spans) (is_base : (s : Store) → base s ≡ with_own commits s (tree_at opening commits s span.from) spans) where
   abbrev IsQuietAt : Op → Type 0
@@ -205,9 +229,19 @@ module _ (opening : Store → List Row) (commits : List (List Op)) (base : Store
         | false ↦ λ b f. at_covered earlier s p quiet.1 f
       ] refl e
 
-  at_op : (earlier : List Op) (op : Op) → AreQuiet base (tip opening commits) earlier → op_clash opening commits base (span ∷ spans) earlier op ≡ None → IsQuietAt op
-  at_op earlier op quiet e checks =
-      let none = or_none_second (parent_clash opening commits base (span ∷ spans) earlier op) (path_clash opening commits (span ∷ spans) earlier op) e in
+  module _ (rules : Rules) (earlier : List Op) (op : Op) (e : op_clash opening commits rules base (span ∷ spans) earlier op ≡ None) where
+    none_behind : option_or (path_clash opening commits (span ∷ spans) earlier op) (leaf_clash opening commits rules base (span ∷ spans) earlier op) ≡ None
+    none_behind = or_none_second (parent_clash opening commits base (span ∷ spans) earlier op) _ e
+
+    no_path : path_clash opening commits (span ∷ spans) earlier op ≡ None
+    no_path = or_none_first (path_clash opening commits (span ∷ spans) earlier op) _ none_behind
+
+    no_leaf : leaf_clash opening commits rules base (span ∷ spans) earlier op ≡ None
+    no_leaf = or_none_second (path_clash opening commits (span ∷ spans) earlier op) _ none_behind
+
+  at_op : (rules : Rules) (earlier : List Op) (op : Op) → AreQuiet base (tip opening commits) earlier → op_clash opening commits rules base (span ∷ spans) earlier op ≡ None → IsQuietAt op
+  at_op rules earlier op quiet e checks =
+      let none = no_path rules earlier op e in
       elim (is_covered earlier op.store op.path) as (λ b. is_covered earlier op.store op.path ≡ b
       → (if checks_path op.act && not b
       then option_map (found_at earlier op) (difference opening commits op.store (span ∷ spans) op.path)
@@ -220,11 +254,58 @@ module _ (opening : Store → List Row) (commits : List (List Op)) (base : Store
   quiet-push [] op quiet q = (q, tt)
   quiet-push (o ∷ earlier) op quiet q = (quiet.0, quiet-push earlier op quiet.1 q)
 
-  from : (earlier ops : List Op) → AreQuiet base (tip opening commits) earlier → clash_from opening commits base (span ∷ spans) earlier ops ≡ None → AreQuiet base (tip opening commits) ops
-  from earlier [] quiet e = tt
-  from earlier (op ∷ ops) quiet e =
-      let here = at_op earlier op quiet (or_none_first (op_clash opening commits base (span ∷ spans) earlier op) _ e) in
-      (here, from (earlier ++ op ∷ []) ops (quiet-push earlier op quiet here) (or_none_second (op_clash opening commits base (span ∷ spans) earlier op) _ e))
+  -- what no commit in the spans touched has one cell
+  same_untouched : (s : Store) (p : List Step) → last_touch_over opening commits (span ∷ spans) s p ≡ None → cell (base s) p ≡ cell (tip opening commits s) p
+  same_untouched s p none =
+      let all = numbers_over (span ∷ spans) in
+      let t = touches_at opening commits s p in
+      let nothing : list_any t all ≡ false = list_any-IsPermutation t all (reverse all) (IsPermutation-reverse all) ∙ find_none t (reverse all) none in
+      ap (λ (tree : List Row). cell tree p) (is_base s)
+      ∙ over_untouched opening commits s p span spans (tree_at opening commits s span.from) are nothing (λ r below. refl) p (itself p)
+    where
+      itself : (q : List Step) → is_prefix q q ≡ true
+      itself q = ap (is_prefix q) (sym (append-nil q)) ∙ is_prefix-append q []
+
+  -- a leaf that is not stale has one cell
+  not_stale : (s : Store) (row : Row) → is_leaf row.cell ≡ true → is_stale opening commits base (span ∷ spans) s row ≡ false → cell (base s) row.path ≡ cell (tip opening commits s) row.path
+  not_stale s row leaf fresh =
+      let same = same_cell (cell (base s) row.path) (cell (tip opening commits s) row.path) in
+      let touch = last_touch_over opening commits (span ∷ spans) s row.path in
+      let fresh_here : (not same && is_some touch) ≡ false = ap (λ b. b && (not same && is_some touch)) (sym leaf) ∙ fresh in
+      elim touch as (λ (o : Option ℕ). touch ≡ o → (not same && is_some o) ≡ false → cell (base s) row.path ≡ cell (tip opening commits s) row.path) [
+        | None ↦ λ e f. same_untouched s row.path e
+        | Some k ↦ λ e f. one_cell (cell (base s) row.path) (cell (tip opening commits s) row.path) (not_false same f)
+      ] refl fresh_here
+
+  abbrev IsFreshAt : Rules → Op → Type 0
+  IsFreshAt rules op =
+      checks_leafs rules op.act ≡ true → (i : ℕ) (row : Row) → slice_get (rows_of_act op.act) i ≡ Some row → is_leaf row.cell ≡ true → is_prefix op.path row.path ≡ true
+      → cell (base op.store) row.path ≡ cell (tip opening commits op.store) row.path
+
+  at_leafs : (rules : Rules) (earlier : List Op) (op : Op) → AreQuiet base (tip opening commits) earlier → op_clash opening commits rules base (span ∷ spans) earlier op ≡ None → IsFreshAt rules op
+  at_leafs rules earlier op quiet e checks i row at leaf below =
+      let stale = is_stale opening commits base (span ∷ spans) op.store in
+      let rows = rows_of_act op.act in
+      let found = option_map (at_row opening commits base (span ∷ spans) earlier op) (position_from stale 0 rows) in
+      elim (is_covered earlier op.store op.path) as (λ b. is_covered earlier op.store op.path ≡ b → (if checks_leafs rules op.act && not b then found else None) ≡ None
+      → cell (base op.store) row.path ≡ cell (tip opening commits op.store) row.path) [
+        | true ↦ λ b f. at_covered earlier op.store op.path quiet b row.path below
+        | false ↦ λ b f.
+            let nothing : position_from stale 0 rows ≡ None = no_map (at_row opening commits base (span ∷ spans) earlier op) (position_from stale 0 rows) (ap (λ c. if c && true then found else None) (sym checks) ∙ f) in
+            not_stale op.store row leaf (no_position stale 0 rows nothing i row at)
+      ] refl (no_leaf rules earlier op e)
+
+  from : (rules : Rules) (earlier ops : List Op) → AreQuiet base (tip opening commits) earlier → clash_from opening commits rules base (span ∷ spans) earlier ops ≡ None
+      → AreQuiet base (tip opening commits) ops × AreFresh rules base (tip opening commits) ops
+  from rules earlier [] quiet e = (tt, tt)
+  from rules earlier (op ∷ ops) quiet e =
+      let none = or_none_first (op_clash opening commits rules base (span ∷ spans) earlier op) _ e in
+      let here = at_op rules earlier op quiet none in
+      let rest = from rules (earlier ++ op ∷ []) ops (quiet-push earlier op quiet here) (or_none_second (op_clash opening commits rules base (span ∷ spans) earlier op) _ e) in
+      ((here, rest.0), (at_leafs rules earlier op quiet none, rest.1))
 
 pub no_clash-quiet : NoClashIsQuiet
-no_clash-quiet opening commits base span spans ops are is_base none = from opening commits base span spans are is_base [] ops tt none
+no_clash-quiet opening commits rules base span spans ops are is_base none = from opening commits base span spans are is_base rules [] ops tt none
+
+pub same_or_touched : SameOrTouched
+same_or_touched opening commits base span spans s p are is_base none = same_untouched opening commits base span spans are is_base s p none

@@ -2,7 +2,7 @@
 use Rattle.std.proofs.Common.{◌≡◌, Bool, true, false, List, [], ◌∷◌, ◌||◌, ◌&&◌, Option, Some, None, refl, ap, sym, ◌∙◌, if◌then◌else◌}
 use Rattle.std.specs.Prelude.{is_some}
 use Rattle.std.specs.List.{list_any}
-use Rattle.std.specs.Option.{option_or, option_map}
+use Rattle.std.specs.Option.{option_map}
 use Rattle.sal_types.specs.declared.value.Store.{Store}
 use Rattle.sal_types.specs.declared.value.Step.{Step}
 use Rattle.sal_types.specs.declared.value.Cell.{Cell}
@@ -16,7 +16,7 @@ use Rattle.sal_rows.specs.declared.op.Op.{Op}
 use Rattle.sal_rows.specs.Apply.{same_store, act_setting, setting, last_setting, cell_by, cell_after, rows_of_act, apply_ops}
 use Rattle.sal_rows.specs.Touch.{op_touches, touches}
 use Rattle.sal_rows.proofs.Cells.{same_path}
-use Rattle.sal_rows.proofs.Applied.{cell-apply_ops}
+use Rattle.sal_rows.proofs.Applied.{cell-apply_ops, cell_by-or}
 
 pub or_first : (a b : Bool) → (a || b) ≡ false → a ≡ false
 or_first true b h = h
@@ -56,10 +56,6 @@ act_untouched before q Delete p r no_row none under =
           sym (no_cell (λ x. is_prefix p x && is_some (act_setting q Delete x)) before r none (and_both _ _ under sets))
       | false ↦ λ e. refl
     ] refl
-
-cell_by-or : (a b : Option (Option Cell)) (c : Option Cell) → cell_by (option_or a b) c ≡ cell_by a (cell_by b c)
-cell_by-or None b c = refl
-cell_by-or (Some x) b c = refl
 
 op_untouched : (before : List Row) (s : Store) (op : Op) (p r : List Step) → (same_store op.store s && op_touches before op p) ≡ false → is_prefix p r ≡ true → cell_by (setting s op r) (cell before r) ≡ cell before r
 op_untouched before s op p r h under =

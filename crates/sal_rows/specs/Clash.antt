@@ -1,17 +1,24 @@
--- Conflicts of a transaction with the commits that came after its base, by two tests of each operation. They follow the
--- optimistic commit of the MD-SAL developer guide and its tables of conflicts; the exact rule is this project's own.
-use Rattle.std.specs.Prelude.{ℕ, ◌-◌, Bool, true, false, not, ◌&&◌, List, [], ◌∷◌, ◌++◌, length, take, find, reverse, Option, None, is_some, if◌then◌else◌, unwrap_or}
-use Rattle.std.specs.Option.{option_or, option_map}
+-- Conflicts of a transaction with the commits that came after its base, by two tests of each operation, and under version rules 2 by
+-- three. They follow the optimistic commit of the MD-SAL developer guide and its tables of conflicts; the exact rules are this
+-- project's own.
+use Rattle.std.specs.Prelude.{ℕ, ◌-◌, Bool, true, false, not, ◌&&◌, List, [], ◌∷◌, ◌++◌, length, take, find, reverse, Option, None, Some, is_some, slice_get, if◌then◌else◌, unwrap_or}
+use Rattle.std.specs.List.{position_from}
+use Rattle.std.specs.Option.{option_or, option_map, option_map_or}
 use Rattle.sal_types.specs.declared.value.Store.{Store}
 use Rattle.sal_types.specs.declared.value.Step.{Step}
+use Rattle.sal_types.specs.declared.value.Cell.{Cell}
+use Rattle.sal_types.specs.declared.value.Cell.TheVariants.{Mark, Leaf}
 use Rattle.sal_types.specs.declared.row.Row.{Row}
 use Rattle.sal_types.specs.Tree.{cell, has}
 use Rattle.sal_rows.specs.declared.op.Act.{Act}
 use Rattle.sal_rows.specs.declared.op.Act.TheVariants.{Put, Merge, Delete}
 use Rattle.sal_rows.specs.declared.op.Op.{Op}
 use Rattle.sal_rows.specs.declared.outcome.ClashKind.TheVariants.{Deleted}
-use Rattle.sal_rows.specs.Apply.{checks_path, last_setting}
-use Rattle.sal_rows.specs.Commits.{numbers_after, numbers_in, tree_after, touches_at}
+use Rattle.sal_rows.specs.Apply.{checks_path, last_setting, rows_of_act}
+use Rattle.sal_rows.specs.Changes.{same_cell}
+use Rattle.sal_rows.specs.Commits.{kind_by, numbers_after, numbers_in, tree_after, touches_at}
+use Rattle.sal_rows.specs.declared.clash.Rules.{Rules}
+use Rattle.sal_rows.specs.declared.clash.Rules.TheVariants.{One, Two}
 use Rattle.sal_rows.specs.declared.clash.Span.{Span}
 use Rattle.sal_rows.specs.PathClash.{difference, is_covered}
 use Rattle.sal_rows.specs.declared.clash.Clash.{Clash}
@@ -21,6 +28,22 @@ abbrev pub needs_parents : Act → Bool
 needs_parents (Put rows) = true
 needs_parents (Merge rows) = true
 needs_parents Delete = false
+
+-- under version rules 2 a merge looks at the leafs that it names
+abbrev pub checks_leafs : Rules → Act → Bool
+checks_leafs One act = false
+checks_leafs Two (Put rows) = false
+checks_leafs Two (Merge rows) = true
+checks_leafs Two Delete = false
+
+abbrev pub is_leaf : Cell → Bool
+is_leaf Mark = false
+is_leaf (Leaf value) = true
+
+-- the path of a row of the operation's data, by its index, and without one the operation's own path
+abbrev pub path_by : Op → Option ℕ → List Step
+path_by op None = op.path
+path_by op (Some row) = option_map_or (λ (r : Row). r.path) (slice_get (rows_of_act op.act) row) op.path
 
 -- the commits in the spans
 abbrev pub numbers_over : List Span → List ℕ
@@ -55,7 +78,7 @@ module _ (opening : Store → List Row) (commits : List (List Op)) where
   abbrev pub parent_clash : (Store → List Row) → List Span → List Op → Op → Option Clash
   parent_clash base spans earlier op =
       if needs_parents op.act
-      then option_map (λ d. record { op = length earlier; depth = d; kind = Deleted; commit = unwrap_or (last_touch_over spans op.store (take d op.path)) 0 }) (lost_parent base earlier op.store op.path)
+      then option_map (λ d. record { op = length earlier; row = None; depth = d; kind = Deleted; commit = unwrap_or (last_touch_over spans op.store (take d op.path)) 0 }) (lost_parent base earlier op.store op.path)
       else None
 
   -- The second test, of a put or delete that no earlier put or delete covers: the first span over which its path is
@@ -63,17 +86,43 @@ module _ (opening : Store → List Row) (commits : List (List Op)) where
   abbrev pub path_clash : List Span → List Op → Op → Option Clash
   path_clash spans earlier op =
       if checks_path op.act && not (is_covered earlier op.store op.path)
-      then option_map (λ c. record { op = length earlier; depth = length op.path; kind = c.kind; commit = c.commit }) (difference opening commits op.store spans op.path)
+      then option_map (λ c. record { op = length earlier; row = None; depth = length op.path; kind = c.kind; commit = c.commit }) (difference opening commits op.store spans op.path)
       else None
 
-  abbrev pub op_clash : (Store → List Row) → List Span → List Op → Op → Option Clash
-  op_clash base spans earlier op = option_or (parent_clash base spans earlier op) (path_clash spans earlier op)
+  -- a leaf that a commit in the spans touched, and at whose path base and tip have different cells
+  abbrev pub is_stale : (Store → List Row) → List Span → Store → Row → Bool
+  is_stale base spans s row =
+      is_leaf row.cell && (not (same_cell (cell (base s) row.path) (cell (tip s) row.path)) && is_some (last_touch_over spans s row.path))
+
+  -- the conflict at the path of a row of the operation's data: its kind by the cells of base and tip, with the last commit that
+  -- touched it
+  abbrev pub at_row : (Store → List Row) → List Span → List Op → Op → ℕ → Clash
+  at_row base spans earlier op row =
+      record {
+        op = length earlier;
+        row = Some row;
+        depth = length (path_by op (Some row));
+        kind = kind_by (is_some (cell (base op.store) (path_by op (Some row)))) (is_some (cell (tip op.store) (path_by op (Some row))));
+        commit = unwrap_or (last_touch_over spans op.store (path_by op (Some row))) 0;
+      }
+
+  -- The third test, under version rules 2, of a merge that no earlier put or delete covers: the first leaf of its data that is stale.
+  -- Where the base has its own commits' cells, a leaf whose cells differ was touched (`SameOrTouched` in `Quiet`).
+  abbrev pub leaf_clash : Rules → (Store → List Row) → List Span → List Op → Op → Option Clash
+  leaf_clash rules base spans earlier op =
+      if checks_leafs rules op.act && not (is_covered earlier op.store op.path)
+      then option_map (at_row base spans earlier op) (position_from (is_stale base spans op.store) 0 (rows_of_act op.act))
+      else None
+
+  abbrev pub op_clash : Rules → (Store → List Row) → List Span → List Op → Op → Option Clash
+  op_clash rules base spans earlier op =
+      option_or (parent_clash base spans earlier op) (option_or (path_clash spans earlier op) (leaf_clash rules base spans earlier op))
 
   -- the first conflict of the operations, after the earlier ones
-  abbrev pub clash_from : (Store → List Row) → List Span → List Op → List Op → Option Clash
-  clash_from base spans earlier [] = None
-  clash_from base spans earlier (op ∷ ops) = option_or (op_clash base spans earlier op) (clash_from base spans (earlier ++ op ∷ []) ops)
+  abbrev pub clash_from : Rules → (Store → List Row) → List Span → List Op → List Op → Option Clash
+  clash_from rules base spans earlier [] = None
+  clash_from rules base spans earlier (op ∷ ops) = option_or (op_clash rules base spans earlier op) (clash_from rules base spans (earlier ++ op ∷ []) ops)
 
   -- the conflict of a transaction's operations, where foreign commits lie in these spans
-  abbrev pub clash : (Store → List Row) → List Span → List Op → Option Clash
-  clash base spans ops = clash_from base spans [] ops
+  abbrev pub clash : Rules → (Store → List Row) → List Span → List Op → Option Clash
+  clash rules base spans ops = clash_from rules base spans [] ops

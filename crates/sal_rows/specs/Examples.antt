@@ -1,5 +1,5 @@
 -- Worked examples: a depot, which is a presence container, its name, its items, and a container box with two leafs.
-use Rattle.std.specs.Prelude.{ℕ, List, [], ◌∷◌, Option, Some, codes}
+use Rattle.std.specs.Prelude.{ℕ, List, [], ◌∷◌, Option, None, Some, codes}
 use Prim.Native.String.{String}
 use Rattle.sal_types.specs.declared.value.Store.{Store}
 use Rattle.sal_types.specs.declared.value.Atom.TheVariants.{Text, Unsigned}
@@ -11,6 +11,8 @@ use Rattle.sal_rows.specs.declared.op.Act.TheVariants.{Put, Merge, Delete}
 use Rattle.sal_rows.specs.declared.op.Op.{Op}
 use Rattle.sal_rows.specs.declared.outcome.ClashKind.{ClashKind}
 use Rattle.sal_rows.specs.declared.clash.Clash.{Clash}
+use Rattle.sal_rows.specs.declared.clash.Rules.{Rules}
+use Rattle.sal_rows.specs.declared.clash.Rules.TheVariants.{One, Two}
 use Rattle.sal_rows.specs.Clash.{clash}
 
 -- ---- paths and rows
@@ -61,8 +63,19 @@ abbrev pub both : List Row → Store → List Row
 both rows s = rows
 
 -- the conflict of a transaction that was begun on the opening, after these commits of others
-abbrev pub after : List Row → List (List Op) → ℕ → List Op → Option Clash
-after opening commits newest ops = clash (both opening) commits (both opening) (record { from = 0; to = newest } ∷ []) ops
+abbrev pub after_by : Rules → List Row → List (List Op) → ℕ → List Op → Option Clash
+after_by rules opening commits newest ops = clash (both opening) commits rules (both opening) (record { from = 0; to = newest } ∷ []) ops
 
+-- by version rules 1, and by version rules 2
+abbrev pub after : List Row → List (List Op) → ℕ → List Op → Option Clash
+after opening commits newest ops = after_by One opening commits newest ops
+
+abbrev pub after_two : List Row → List (List Op) → ℕ → List Op → Option Clash
+after_two opening commits newest ops = after_by Two opening commits newest ops
+
+-- a conflict at the path of an operation, and one at that of a row of its data
 abbrev pub found : ℕ → ℕ → ClashKind → ℕ → Option Clash
-found op depth kind commit = Some (record { op = op; depth = depth; kind = kind; commit = commit })
+found op depth kind commit = Some (record { op = op; row = None; depth = depth; kind = kind; commit = commit })
+
+abbrev pub found_in : ℕ → ℕ → ℕ → ClashKind → ℕ → Option Clash
+found_in op row depth kind commit = Some (record { op = op; row = Some row; depth = depth; kind = kind; commit = commit })

@@ -1,15 +1,17 @@
--- What no conflict says: base and tip have the same rows at and below each path that is put or deleted.
-use Rattle.std.specs.Prelude.{◌≡◌, ℕ, ◌+◌, ◌-◌, ◌≤◌, true, List, [], ◌∷◌, length, None, slice_get, unwrap_or}
+-- What no conflict says: base and tip have the same rows at and below each path that is put or deleted, and under version rules 2 the
+-- same cell at each leaf that is merged.
+use Rattle.std.specs.Prelude.{◌≡◌, ℕ, ◌+◌, ◌-◌, ◌≤◌, true, List, [], ◌∷◌, length, None, Some, slice_get, unwrap_or}
 use Rattle.sal_types.specs.declared.value.Store.{Store}
 use Rattle.sal_types.specs.declared.value.Step.{Step}
 use Rattle.sal_types.specs.declared.row.Row.{Row}
 use Rattle.sal_types.specs.Prefix.{is_prefix}
 use Rattle.sal_types.specs.Tree.{cell}
 use Rattle.sal_rows.specs.declared.op.Op.{Op}
-use Rattle.sal_rows.specs.Apply.{checks_path, apply_ops}
+use Rattle.sal_rows.specs.Apply.{checks_path, apply_ops, rows_of_act}
 use Rattle.sal_rows.specs.Commits.{tree_at}
+use Rattle.sal_rows.specs.declared.clash.Rules.{Rules}
 use Rattle.sal_rows.specs.declared.clash.Span.{Span}
-use Rattle.sal_rows.specs.Clash.{clash, tip}
+use Rattle.sal_rows.specs.Clash.{checks_leafs, clash, is_leaf, last_touch_over, tip}
 
 -- two trees have the same cells at p and below it
 abbrev pub SameBelow : List Step → List Row → List Row → Type 0
@@ -31,11 +33,31 @@ abbrev pub AreQuiet : (Store → List Row) → (Store → List Row) → List Op 
 AreQuiet base tip [] = Unit {0}
 AreQuiet base tip (op ∷ ops) = (checks_path op.act ≡ true → SameBelow op.path (base op.store) (tip op.store)) × AreQuiet base tip ops
 
+-- At the path of each leaf that a merge names, at or below its own path, two pairs of trees have the same cell; of version rules 1 nothing
+-- is said.
+abbrev pub AreFresh : Rules → (Store → List Row) → (Store → List Row) → List Op → Type 0
+AreFresh rules base tip [] = Unit {0}
+AreFresh rules base tip (op ∷ ops) =
+    (checks_leafs rules op.act ≡ true
+    → (i : ℕ) (row : Row) → slice_get (rows_of_act op.act) i ≡ Some row → is_leaf row.cell ≡ true → is_prefix op.path row.path ≡ true
+    → cell (base op.store) row.path ≡ cell (tip op.store) row.path)
+    × AreFresh rules base tip ops
+
 -- Where the base is the tree at the start of the first span with the own commits, and nothing clashes.
 abbrev pub NoClashIsQuiet : Type 0
 NoClashIsQuiet =
-    (opening : Store → List Row) (commits : List (List Op)) (base : Store → List Row) (span : Span) (spans : List Span) (ops : List Op)
+    (opening : Store → List Row) (commits : List (List Op)) (rules : Rules) (base : Store → List Row) (span : Span) (spans : List Span) (ops : List Op)
     → AreSpans (length commits) span spans
     → ((s : Store) → base s ≡ with_own commits s (tree_at opening commits s span.from) spans)
-    → clash opening commits base (span ∷ spans) ops ≡ None
-    → AreQuiet base (tip opening commits) ops
+    → clash opening commits rules base (span ∷ spans) ops ≡ None
+    → AreQuiet base (tip opening commits) ops × AreFresh rules base (tip opening commits) ops
+
+-- And at each path at which base and tip have different cells a commit in the spans touched it: so the third test finds the first leaf of a
+-- merge whose cells differ.
+abbrev pub SameOrTouched : Type 0
+SameOrTouched =
+    (opening : Store → List Row) (commits : List (List Op)) (base : Store → List Row) (span : Span) (spans : List Span) (s : Store) (p : List Step)
+    → AreSpans (length commits) span spans
+    → ((t : Store) → base t ≡ with_own commits t (tree_at opening commits t span.from) spans)
+    → last_touch_over opening commits (span ∷ spans) s p ≡ None
+    → cell (base s) p ≡ cell (tip opening commits s) p

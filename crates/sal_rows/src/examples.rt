@@ -3,6 +3,7 @@
 ghost use Rattle.std.specs.Prelude.{◌≡◌, None, [], ◌∷◌};
 ghost use Rattle.sal_types.specs.declared.value.Store.TheVariants.{Config, Oper};
 ghost use Rattle.sal_rows.specs.declared.outcome.ClashKind.TheVariants.{Changed, Created, Deleted};
+ghost use Rattle.sal_rows.specs.declared.clash.Rules.TheVariants.{One};
 ghost use Rattle.sal_rows.specs.Clash.{clash};
 ghost use Rattle.sal_rows.specs.Examples.{depot, name, item, code, box, a, b, mark, leaf, put, merge, delete, both, after, found};
 
@@ -87,10 +88,10 @@ pub fn the_last_touching_commit()
 
 /// The second of three commits is of the transaction's own chain, so it lies in no span, and the base has it.
 pub fn own_commits_are_cut_out()
-    ensures own { clash (both []) ((put Config b (leaf b "x" ∷ []) ∷ []) ∷ (put Config a (leaf a "1" ∷ []) ∷ []) ∷ []) (both (leaf a "1" ∷ [])) (record { from = 0; to = 1 } ∷ record { from = 2; to = 2 } ∷ []) (put Config a (leaf a "y" ∷ []) ∷ []) ≡ None }
-    ensures later { clash (both []) ((put Config b (leaf b "x" ∷ []) ∷ []) ∷ (put Config a (leaf a "1" ∷ []) ∷ []) ∷ (put Config a (leaf a "2" ∷ []) ∷ []) ∷ []) (both (leaf a "1" ∷ [])) (record { from = 0; to = 1 } ∷ record { from = 2; to = 3 } ∷ []) (put Config a (leaf a "y" ∷ []) ∷ []) ≡ found 0 2 Changed 3 }
-    ensures parent { clash (both []) ((put Config b (leaf b "x" ∷ []) ∷ []) ∷ (put Config depot (mark depot ∷ []) ∷ []) ∷ (delete Config depot ∷ []) ∷ []) (both (mark depot ∷ [])) (record { from = 0; to = 1 } ∷ record { from = 2; to = 3 } ∷ []) (put Config name (leaf name "m" ∷ []) ∷ []) ≡ found 0 1 Deleted 3 }
-    ensures first_span { clash (both (leaf a "o" ∷ [])) ((put Config a (leaf a "x" ∷ []) ∷ []) ∷ (put Config b (leaf b "1" ∷ []) ∷ []) ∷ (delete Config a ∷ []) ∷ []) (both (leaf a "o" ∷ leaf b "1" ∷ [])) (record { from = 0; to = 1 } ∷ record { from = 2; to = 3 } ∷ []) (put Config a (leaf a "y" ∷ []) ∷ []) ≡ found 0 2 Changed 1 }
+    ensures own { clash (both []) ((put Config b (leaf b "x" ∷ []) ∷ []) ∷ (put Config a (leaf a "1" ∷ []) ∷ []) ∷ []) One (both (leaf a "1" ∷ [])) (record { from = 0; to = 1 } ∷ record { from = 2; to = 2 } ∷ []) (put Config a (leaf a "y" ∷ []) ∷ []) ≡ None }
+    ensures later { clash (both []) ((put Config b (leaf b "x" ∷ []) ∷ []) ∷ (put Config a (leaf a "1" ∷ []) ∷ []) ∷ (put Config a (leaf a "2" ∷ []) ∷ []) ∷ []) One (both (leaf a "1" ∷ [])) (record { from = 0; to = 1 } ∷ record { from = 2; to = 3 } ∷ []) (put Config a (leaf a "y" ∷ []) ∷ []) ≡ found 0 2 Changed 3 }
+    ensures parent { clash (both []) ((put Config b (leaf b "x" ∷ []) ∷ []) ∷ (put Config depot (mark depot ∷ []) ∷ []) ∷ (delete Config depot ∷ []) ∷ []) One (both (mark depot ∷ [])) (record { from = 0; to = 1 } ∷ record { from = 2; to = 3 } ∷ []) (put Config name (leaf name "m" ∷ []) ∷ []) ≡ found 0 1 Deleted 3 }
+    ensures first_span { clash (both (leaf a "o" ∷ [])) ((put Config a (leaf a "x" ∷ []) ∷ []) ∷ (put Config b (leaf b "1" ∷ []) ∷ []) ∷ (delete Config a ∷ []) ∷ []) One (both (leaf a "o" ∷ leaf b "1" ∷ [])) (record { from = 0; to = 1 } ∷ record { from = 2; to = 3 } ∷ []) (put Config a (leaf a "y" ∷ []) ∷ []) ≡ found 0 2 Changed 1 }
 {}
 
 /// The first operation that has a conflict is named; where no later commit touched anything there is none.

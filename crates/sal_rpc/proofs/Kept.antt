@@ -20,14 +20,11 @@ use Rattle.sal_rpc.specs.declared.routes.Service.{Service}
 use Rattle.sal_rpc.specs.Answers.{Makes}
 use Rattle.sal_rpc.specs.Routes.{Ends, IsKept, IsSent, Routes, answered, ends_in, ends_of, hand, is_by, is_open, next_reply, owner_in, provider_in, queue_in, request_of, sent_at, sent_with, service, service_cmp}
 use Rattle.sal_rpc.specs.Routing.{Asked, Made, Registration, Requested, answer_to, answers, handed, hands, is_handed, is_request, live, made_of, make, output, owner_of, provider, queue, reply_to, requested, requests, sent_to, waiting_from}
-use Rattle.sal_rpc.proofs.Requested.{answer-more, handed-more, live-more, requests-more}
+use Rattle.sal_rpc.proofs.Requested.{answer-more, handed-more, live-more, requests-more, or-false}
 use Rattle.sal_rpc.proofs.Sending.{as-many, get-map, get-more, get-within, sent-ends, sent-get, sent-length, written-from}
 use Rattle.sal_rpc.proofs.Services.{picked, picked-more, picked-without}
 use Rattle.sal_rpc.proofs.Waiting.{but, but-first, but-other, first-high, first-low, waiting-but, waiting-more}
-
-or-false : (b : Bool) → (b || false) ≡ b
-or-false true = refl
-or-false false = refl
+use Rattle.sal_types.proofs.Shared.{and-true}
 
 or-none : {X : Type 0} (o : Option X) → option_or o None ≡ o
 or-none None = refl
@@ -123,10 +120,6 @@ request-tail false k id q e = refl
 put-last : (b : Bool) (l : List Request) (x : Request) → (if b then l ++ x ∷ [] else l) ≡ l ++ (if b then x ∷ [] else [])
 put-last true l x = refl
 put-last false l x = sym (append-nil l)
-
-and-true : (b : Bool) → (b && true) ≡ b
-and-true true = refl
-and-true false = refl
 
 pub invoke_made : (old new : Routes) (client rpc : ℕ) (context : Option (List Step)) (input : List Row) (owner : ℕ) → owner_in old.providers (service rpc context) ≡ Some owner → new.providers ≡ old.providers
     → new.requests ≡ old.requests ++ record { by = client; owner = owner; handed = false; answer = None } ∷ []

@@ -1,6 +1,6 @@
 -- What one call more does to requests, to what was handed out and to answers.
-use Rattle.std.proofs.Common.{◌≡◌, ℕ, Bool, true, false, ◌||◌, List, [], ◌∷◌, ◌++◌, Option, Some, None, refl, ap, ◌∙◌}
-use Rattle.std.specs.Prelude.{slice_get, Result, Ok, Err, OnErr}
+use Rattle.std.proofs.Common.{◌≡◌, ℕ, false, ◌||◌, List, [], ◌∷◌, ◌++◌, Option, Some, None, refl, ap, ◌∙◌}
+use Rattle.std.specs.Prelude.{slice_get}
 use Rattle.std.specs.List.{cons_option, filter_map}
 use Rattle.std.specs.Option.{option_or}
 use Rattle.std.proofs.lemmas.List.Elements.{filter_map-append}
@@ -8,14 +8,7 @@ use Rattle.std.proofs.lemmas.List.Folds.{list_any-append}
 use Rattle.std.proofs.lemmas.List.Sums.{fold-append}
 use Rattle.sal_types.specs.declared.row.Row.{Row}
 use Rattle.sal_rpc.specs.Routing.{Made, Registration, answer_to, answers, hands, is_handed, live, live_after, requested, requests}
-
-pub on_err : {X E : Type 0} (P Q : Type 0) (r : Result X E) → (P → Q) → OnErr r P → OnErr r Q
-on_err P Q (Ok x) f h = tt
-on_err P Q (Err e) f h = f h
-
-or-false : (b : Bool) → (b || false) ≡ b
-or-false true = refl
-or-false false = refl
+pub use Rattle.sal_types.proofs.Shared.{on_err, or-false}
 
 first-rows : (xs : List (List Row)) (o : Option (List Row)) → slice_get (xs ++ cons_option o []) 0 ≡ option_or (slice_get xs 0) o
 first-rows [] None = refl

@@ -16,6 +16,7 @@ use Rattle.sal_rpc.specs.declared.routes.Service.{Service}
 use Rattle.sal_rpc.specs.contracts.routes.ServiceOrd.TheImpl.Laws as service_ord_laws
 use Rattle.sal_rpc.specs.Routes.{service, service_cmp}
 use Rattle.sal_rpc.specs.Routing.{Registration, is_for, same_context}
+use Rattle.sal_rows.proofs.Cells.{same_path}
 
 option_cmp-IsAntisymmetric : (a b : Option (List Step)) → option_cmp path_cmp a b ≡ Equal → a ≡ b
 option_cmp-IsAntisymmetric None None e = refl
@@ -32,9 +33,6 @@ same_service s t e =
 
 pub own_service : (s : Service) → is_at (service_cmp s) s ≡ true
 own_service s = ap is_eq (tied_itself service_ord_laws.total-law s)
-
-same_path : (p q : List Step) → path_eq p q ≡ true → p ≡ q
-same_path p q e = path_cmp-IsAntisymmetric p q ((Equal-is _).0 e)
 
 context-is : (a b : Option (List Step)) → same_context a b ≡ true → a ≡ b
 context-is None None e = refl

@@ -1,7 +1,5 @@
 -- Tables and trees for the examples.
 use Rattle.std.specs.Prelude.{ℕ, Bool, false, true, List as Row, [], ◌∷◌, ◌++◌, Option, Some, None}
-use Rattle.sal_types.specs.declared.value.Atom.TheVariants.{Unsigned}
-use Rattle.sal_types.specs.declared.value.Value.{Value}
 use Rattle.sal_types.specs.declared.value.Step.{Step}
 use Rattle.sal_types.specs.declared.value.Step.TheVariants.{Node, Key, Item}
 use Rattle.sal_types.specs.declared.value.Cell.TheVariants.{Mark, Leaf as Held}
@@ -12,6 +10,7 @@ use Rattle.sal_schema.specs.declared.table.NodeInfo.{NodeInfo}
 use Rattle.sal_schema.specs.declared.table.SchemaTable.{SchemaTable}
 use Rattle.sal_rows.specs.declared.outcome.Breach.{Breach}
 use Rattle.sal_rows.specs.declared.outcome.Rule.{Rule}
+pub use Rattle.sal_schema.specs.Examples.{number}
 
 -- ---- parts
 
@@ -28,9 +27,6 @@ mandatory parent kind = info parent kind (Some true) true 0 None [] []
 
 abbrev pub table : Row NodeInfo → SchemaTable
 table nodes = record { nodes = nodes; types = []; modules = [] ∷ []; identities = [] }
-
-abbrev pub number : ℕ → Value
-number n = record { member = 0; atom = Unsigned n }
 
 abbrev pub mark : Row Step → TreeRow
 mark path = record { path = path; cell = Mark }

@@ -17,7 +17,7 @@ use Rattle.sal_turn.specs.Views.{AnswersFor, both, newcomer, opener}
 use Rattle.sal_turn.proofs.Lists.{in_either, prefix_trans}
 use Rattle.sal_broker.specs.Seats.{SeatView, client_of as maker_of, known}
 use Rattle.sal_hub.specs.HubHistory.{HubHistory}
-use Rattle.sal_script.specs.Along.{AreLeft, Finishes, IsAt, new_run}
+use Rattle.sal_script.specs.Along.{AreLogOf, PerformsAlong, IsAt, new_run}
 use Rattle.sal_script.specs.JsonMoves.{have_json_moves}
 use Rattle.sal_script.specs.Limits.{within_limits}
 use Rattle.sal_script.specs.Moves.{Move, clients_of, move_of, moves_of}
@@ -386,7 +386,7 @@ module _ (tables : List Versions) (lock : TableId) (programs : List (List Script
     pub same_world : (known v).world ≡ hub.world
     same_world = ap (λ (g : Option (List Domain)). unwrap_or g []) (sym ran.joins.ground ∙ world)
 
-    pub are_left : tables ≡ versions_of hub.world → (list : List (List StepReply)) → replies ≡ Ok list → AreLeft hub.world (clients_of programs) hub.log list
+    pub are_left : tables ≡ versions_of hub.world → (list : List (List StepReply)) → replies ≡ Ok list → AreLogOf hub.world (clients_of programs) hub.log list
     are_left reads list is = record {
       known = all_known;
       all = ap length (ran.collects.all list is) ∙ (map_long (λ (g : Finished). replies_in g.run) ran.clients ∙ (ran.long ∙ sym (map_long moves_of programs)));
@@ -406,8 +406,8 @@ module _ (tables : List Versions) (lock : TableId) (programs : List (List Script
           (subst (λ (n : ℕ). IsAt tables (known f.seat.view).world n (moves_of p.0) f.seat.view.seen last) number ended.at) in
           let whole : entries_by maker_of c f.seat.view.seen ≡ f.seat.view.own = subst (λ (n : ℕ). entries_by maker_of n f.seat.view.seen ≡ f.seat.view.own) number ended.whole in
           let closed = at_found_own tables hub.world c (moves_of p.0) f.seat.view.seen hub.log f.seat.view.own last starts whole (theirs c f own.1) at in
-          let finishes : Finishes tables hub.world c hub.log (moves_of p.0) (replies_in f.run) = at_end tables hub.world c (moves_of p.0) hub.log (client_of f.run.client) closed in
-          subst (λ (t : List Versions). Finishes t hub.world c hub.log steps rs) reads
-          (subst (λ (ms : List Move). Finishes tables hub.world c hub.log ms rs) p.2
-          (subst (λ (r : List StepReply). Finishes tables hub.world c hub.log (moves_of p.0) r) is_rs finishes));
+          let finishes : PerformsAlong tables hub.world c hub.log (moves_of p.0) (replies_in f.run) = at_end tables hub.world c (moves_of p.0) hub.log (client_of f.run.client) closed in
+          subst (λ (t : List Versions). PerformsAlong t hub.world c hub.log steps rs) reads
+          (subst (λ (ms : List Move). PerformsAlong tables hub.world c hub.log ms rs) p.2
+          (subst (λ (r : List StepReply). PerformsAlong tables hub.world c hub.log (moves_of p.0) r) is_rs finishes));
     }

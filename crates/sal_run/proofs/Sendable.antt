@@ -27,6 +27,7 @@ use Rattle.sal_hub.proofs.receipt.Receipt.TheSendSync as Receipt-here
 use Rattle.sal_hub.proofs.call_id.CallId.TheSendSync as CallId-here
 use Rattle.sal_script.proofs.reply.StepReply.TheSendSync as StepReply-here
 use Rattle.sal_client.proofs.follower.Follower.TheSendSync as Follower-here
+use Rattle.sal_client.proofs.slots.Slot.TheSendSync as Slot-here
 use Rattle.sal_client.proofs.rpcs.Invocation.TheSendSync as Invocation-here
 use Rattle.sal_client.proofs.wish.RunFault.TheSendSync as RunFault-here
 use Rattle.sal_turn.proofs.seat.Seat.TheSendSync as TurnSeat-here
@@ -155,7 +156,7 @@ pub ScriptStep-sync : IsSync ScriptStep.the_row
 ScriptStep-sync = search (Mode-here.the_field_sync, Store-here.the_field_sync, Str-here.the_sync, Value-field_sync, crosses, maps.crosses, sendable) depth 40 fits 20000
 
 ClientState-field_send : IsSend (ClientState.the_field).row
-ClientState-field_send = search (Tx-send, Receipt-here.the_send, Chain-here.the_send, Follower-here.the_send, CallId-here.the_send, Invocation-here.the_send, StepReply-here.the_send, crosses, maps.crosses, sendable) depth 40 fits 20000
+ClientState-field_send = search (Slot-here.the_send, Tx-send, Receipt-here.the_send, Chain-here.the_send, Follower-here.the_send, CallId-here.the_send, Invocation-here.the_send, StepReply-here.the_send, crosses, maps.crosses, sendable) depth 40 fits 20000
 
 ClientRun-field_send : IsSend (ClientRun.the_field).row
 ClientRun-field_send = search (ClientState-field_send, crosses, maps.crosses, sendable) depth 40 fits 20000

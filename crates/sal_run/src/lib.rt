@@ -10,7 +10,7 @@
 //! A client answers its local steps by itself, beside all others, and takes a turn at the hub for each shared call. A look for a
 //! mark takes a turn for each time that it looks. What is said holds in whatever order the turns come: the log that they leave
 //! has each client's calls, each once and in its order, and each client's replies are those that the definitions give along it
-//! (`AreLeft` of `sal_script`). By the laws there this is what the script comes to when it is played in the order of that log.
+//! (`AreLogOf` of `sal_script`). By the laws there this is what the script comes to when it is played in the order of that log.
 //!
 //! ```
 //! let ran = run(rt, alloc, &readers, &script, hub, &gate)?;

@@ -1,7 +1,7 @@
 //! A whole script, its clients on threads of their own.
 ghost use Rattle.std.specs.Prelude.{◌≡◌, [], ◌∷◌, IfOk, IsTrue, length, true};
 ghost use Rattle.sal_broker.specs.Seats.{known};
-ghost use Rattle.sal_script.specs.Along.{AreLeft};
+ghost use Rattle.sal_script.specs.Along.{AreLogOf};
 ghost use Rattle.sal_script.specs.JsonMoves.{have_json_moves};
 ghost use Rattle.sal_script.specs.Limits.{within_limits};
 ghost use Rattle.sal_script.specs.Moves.{clients_of};
@@ -53,7 +53,7 @@ pub fn run<R: Threads + Wait + Sync, G: Gate>(
 ) -> Result<Played, NoMemory>
     requires tables { readers.now ≡ versions_of hub.world }
     requires fresh { hub.log ≡ [] }
-    ensures left { IfOk result (λ p. AreLeft hub.world (clients_of script.now.clients) p.hub.log p.replies) }
+    ensures left { IfOk result (λ p. AreLogOf hub.world (clients_of script.now.clients) p.hub.log p.replies) }
     ensures world { IfOk result (λ p. p.hub.world ≡ hub.world) }
 {
     let programs = script.clients.items();

@@ -4,7 +4,6 @@ use Rattle.std.proofs.lemmas.List.{get_or-map, get_or-take, map_more, length-tak
 use Rattle.std.specs.Prelude.{IfSome, option_map}
 use Rattle.std.specs.List.{slice_get}
 use Rattle.std.specs.Option.{option_map_or, option_and_then}
-use Rattle.sal_schema.specs.declared.kind.Kind.{Kind}
 use Rattle.sal_schema.specs.declared.table.NodeInfo.{NodeInfo}
 use Rattle.sal_schema.specs.declared.table.SchemaTable.{SchemaTable}
 use Rattle.sal_schema.specs.Kinds.{is_choice_or_case}
@@ -12,9 +11,7 @@ use Rattle.sal_schema.specs.Indexed.{passed_over}
 use Rattle.sal_schema.specs.Table.{closest, data_node}
 use Rattle.sal_schema.specs.Valid.{IsTable}
 use Rattle.sal_schema.proofs.Facts.{parent_before, slice_get_some, slice_get_there, lower, closest-None, closest-Some, closest-enough}
-
-abbrev stays : Kind → Bool
-stays kind = not (is_choice_or_case kind)
+use Rattle.sal_schema.proofs.Childless.{stays}
 
 abbrev found_for : SchemaTable → NodeInfo → Option ℕ
 found_for table node = data_node table node.parent

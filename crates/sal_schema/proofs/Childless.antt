@@ -18,7 +18,7 @@ pub same-some : (o : Option ℕ) (p : ℕ) → is_same o (Some p) ≡ true → o
 same-some None p e = cc
 same-some (Some q) p e = let same : q ≡ p = grind (arith, nat_tests) in ap Some same
 
-abbrev stays : Kind → Bool
+abbrev pub stays : Kind → Bool
 stays kind = not (is_choice_or_case kind)
 
 closest-zero : (table : SchemaTable) (here : Option ℕ) → closest stays table 0 here ≡ None

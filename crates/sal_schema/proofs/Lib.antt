@@ -11,3 +11,4 @@ pub mod Sameness
 pub mod Fronts
 pub mod Stays
 pub mod Grown
+pub mod Children

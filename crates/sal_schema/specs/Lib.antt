@@ -3,6 +3,7 @@ pub mod Examples
 pub mod Fitting
 pub mod Indexed
 pub mod Kinds
+pub mod Lookups
 pub mod Names
 pub mod Paths
 pub mod Table

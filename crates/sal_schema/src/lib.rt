@@ -6,6 +6,7 @@
 //! | `SchemaTable`, `NodeInfo`, `IdentityInfo` | the table as data: nodes, types, modules and identities by their numbers |
 //! | `Kind` | what a node is: a container, a list, a leaf-list, a leaf, a choice, a case, or a part of an RPC or notification |
 //! | `Leafs` | a list of numbers |
+//! | `lookups` | what a schema says of a node by its number: its module, type, keys, name and kind; nothing of a number that no node has |
 //! | `table_on` | the table of a later version: an older table, extended by the new lines of another one |
 //! | `empty_lists`, `add_to_list` | lists of numbers, one for each place |
 //! | `laws` | what holds of versions, as laws |
@@ -25,7 +26,7 @@
 //! | call | cost, for n nodes |
 //! |---|---|
 //! | `Schema::from_table` | n log n comparisons of names; a copy of each name of a node for data, and a list for each node |
-//! | a look-up by number, `children` | constant |
+//! | a look-up by number, `children`, those of `lookups` | constant; `push_full_name` is linear in the names |
 //! | `child`, `rpc`, `notification`, `identity` | a search by halves among the modules, and one among the names of its kind |
 //! | `is_derived`, `fits` | linear in the identities that the identity is derived from; in the steps and their values |
 //! | `text` | linear in the text |
@@ -41,6 +42,7 @@ mod indexes;
 mod kind;
 pub mod laws;
 mod lists;
+pub mod lookups;
 mod names;
 mod parts;
 mod schema;

@@ -1,12 +1,11 @@
 //! Which values are of a type.
 ghost use Rattle.std.specs.Prelude.{◌≡◌, ◌<◌, length};
-ghost use Rattle.std.specs.Str.{chars};
 ghost use Rattle.sal_schema.specs.Table.{is_among as is_in};
 ghost use Rattle.sal_schema.specs.Values as spec;
 
 use crate::schema::{Schema, is_among};
 use sal_restrict::YangType;
-use sal_types::{Atom, Value};
+use sal_types::{Atom, Value, characters};
 
 /// How many bits a value of `bits` has.
 const BITS: u8 = 64;
@@ -88,12 +87,6 @@ fn has_bit(set: u64, position: u8) -> bool
     ensures { result ≡ spec.has_bit set position }
 {
     (set >> position) % 2 == 1
-}
-
-fn characters(text: &str) -> usize
-    ensures { result ≡ length (chars text.now) }
-{
-    text.chars().count()
 }
 
 // Whether the bit is not set, or is one of these positions.

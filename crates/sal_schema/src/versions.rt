@@ -1,5 +1,5 @@
 //! Versions of a schema: whether a schema is a later version of another, and the table of a later version.
-ghost use Rattle.std.specs.Prelude.{◌≡◌, ◌↔◌, ◌++◌, ◌∷◌, [], IsTrue, IfOk};
+ghost use Rattle.std.specs.Prelude.{◌≡◌, ◌↔◌, IsTrue, IfOk};
 ghost use Rattle.sal_schema.specs.Same as spec;
 ghost use Rattle.sal_schema.specs.Versions.{Extends, on};
 ghost use Rattle.sal_schema.specs.Versions as spec_on;
@@ -8,7 +8,7 @@ ghost use Rattle.sal_schema.specs.Valid.{IsTable};
 use crate::schema::Schema;
 use crate::table::{IdentityInfo, Leafs, NodeInfo, SchemaTable};
 use sal_restrict::YangType;
-use sal_types::{Duplicate, NoMemory, Seq, Str};
+use sal_types::{Duplicate, NoMemory, Seq, Str, append};
 use std::alloc::Global;
 
 impl Schema {
@@ -265,14 +265,6 @@ fn with_bases(one: &IdentityInfo, name: Str) -> Result<IdentityInfo, NoMemory>
         module: one.module,
         derived_from,
     })
-}
-
-/// Adds one element at the end.
-fn append<T: Drop>(list: &mut Vec<T>, item: T) -> Result<(), NoMemory>
-    ensures { IfOk result (λ _. list.new.items ≡ list.old.items ++ item ∷ []) }
-{
-    list.push(item)?;
-    Ok(())
 }
 
 fn nodes_on(

@@ -16,7 +16,7 @@ use Rattle.sal_script.specs.declared.reply.StepReply.TheVariants.{Called}
 use Rattle.sal_script.specs.Moves.{Move}
 use Rattle.sal_script.specs.Play.{spot_after, Arrival, Client, Listener, Made, Meeting, Open, Run, arrive, arrive_by, calls, ended, go, keep, local, make, meet, replied, replies_at, shared}
 use Rattle.sal_script.specs.Tables.{Versions}
-use Rattle.sal_script.specs.Along.{Finishes, IsAt, Left, along, finish, new_run, pass}
+use Rattle.sal_script.specs.Along.{PerformsAlong, IsAt, Left, along, finish, new_run, pass}
 use Rattle.sal_script.proofs.Later.{BegunIf, began_longer, keep_begun, meet_begun, meet_later}
 use Rattle.sal_script.proofs.Listening.{keep_listens, listens_longer, listens_same}
 
@@ -132,7 +132,7 @@ module _ (tables : List Versions) (world : List Domain) (c : ℕ) where
         here = subst (λ (l : List Entry). arrive tables world l was.called.client was.called.steps ≡ arrive tables world l client (step ∷ rest)) (append-nil log) (was.answered [])
 
     -- at its end
-    pub at_end : (log : List Entry) (client : Client) → IsAt tables world c steps log (record { client = client; steps = [] }) → Finishes tables world c log steps client.replies
+    pub at_end : (log : List Entry) (client : Client) → IsAt tables world c steps log (record { client = client; steps = [] }) → PerformsAlong tables world c log steps client.replies
     at_end log client was =
         ap (option_and_then (finish tables world c)) was.follows
         ∙ ap (λ (a : Arrival). let left : Option Left = option_map (λ replies. record { log = log; replies = replies }) (replies_at a) in left)

@@ -13,7 +13,7 @@ use Rattle.sal_script.specs.Limits.{within_limits}
 use Rattle.sal_script.specs.Moves.{Move}
 use Rattle.sal_script.specs.Play.{Arrival, Client, Made, Meeting, Run, arrive, arrive_by, calls, ended, go, local, make, meet, replied, shared}
 use Rattle.sal_script.specs.Tables.{Versions, versions_of}
-use Rattle.sal_script.specs.Along.{Finishes, IsAt, along, new_run}
+use Rattle.sal_script.specs.Along.{PerformsAlong, IsAt, along, new_run}
 use Rattle.sal_script.specs.OneOrder.{LeftIsShort}
 use Rattle.sal_script.proofs.Along.{along_from, made_of}
 use Rattle.sal_script.proofs.Left.{last_log, no_end}
@@ -81,7 +81,7 @@ module _ (tables : List Versions) (world : List Domain) (c : ℕ) where
   pub few_at : (steps : List Move) (log : List Entry) (now : Run) → IsAt tables world c steps log now → entries_of log c ≤ length steps
   few_at steps log now was = let few = few_along log (made_of [] (new_run steps)) (made_of log was.called) was.follows in omega (arith, few)
 
-  pub few_finish : (steps : List Move) (log : List Entry) (rs : List StepReply) → Finishes tables world c log steps rs → entries_of log c ≤ length steps
+  pub few_finish : (steps : List Move) (log : List Entry) (rs : List StepReply) → PerformsAlong tables world c log steps rs → entries_of log c ≤ length steps
   few_finish steps log rs is =
       let last = last_log tables world c (along tables world c log (new_run steps)) (record { log = log; replies = rs }) is in
       let few = few_along log (made_of [] (new_run steps)) last.0 last.1 in

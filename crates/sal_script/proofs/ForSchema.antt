@@ -10,8 +10,8 @@ use Rattle.sal_rows.specs.declared.op.Act.{Act}
 use Rattle.sal_rows.specs.declared.op.Act.TheVariants.{Put as PutAct, Merge as MergeAct}
 use Rattle.sal_rows.specs.Apply.{rows_of_act}
 use Rattle.serde_json.specs.Data.{Data}
-use Rattle.sal_value.specs.Json.{is_json}
-use Rattle.sal_value.proofs.Tested.{tests_json}
+use Rattle.sal_json_laws.specs.Json.{is_json}
+use Rattle.sal_json_laws.proofs.Tested.{tests_json}
 use Rattle.sal_schema.specs.declared.table.SchemaTable.{SchemaTable}
 use Rattle.sal_schema.specs.Valid.{IsTable}
 use Rattle.sal_schema.specs.Fitting.{fits, is_in_message}

@@ -1,6 +1,6 @@
 -- What stays where a log grows: its commits, and so the trees at them, and its listeners.
 use Rattle.std.proofs.Common.{◌≡◌, ℕ, zero, suc, ◌+◌, ◌-◌, ◌≤◌, Bool, List, [], ◌∷◌, ◌++◌, length, map, take, Option, None, Some, refl, ap, sym, ◌∙◌, subst, arith, append_assoc, append-nil, length-append}
-use Rattle.std.specs.Prelude.{if◌then◌else◌, nat_eq, slice_get}
+use Rattle.std.specs.Prelude.{slice_get}
 use Rattle.std.specs.List.{fold}
 use Rattle.std.proofs.lemmas.Grind.{flat_map-append}
 use Rattle.std.proofs.lemmas.List.{map-append, take-append-le}
@@ -15,11 +15,12 @@ use Rattle.sal_history.specs.declared.call.Call.{Call}
 use Rattle.sal_history.specs.declared.call.Call.TheVariants.{Begin, OpenChain, ChainBegin, CloseChain, Submit, Cancel, Settle, Pump, Listen, Take, Unlisten, Provide, Withdraw, Invoke, NextCall, Answer, Collect, Subscribe, Offer, TakeNotes, Mount, Unmount, MountAt, Mark, After, Upgrade}
 use Rattle.sal_history.specs.declared.call.Entry.{Entry}
 use Rattle.sal_history.specs.Listeners.{Listening, listener_at, listeners, listens}
-use Rattle.sal_history.specs.Submissions.{Sent, done, done_ops, if_done}
+use Rattle.sal_history.specs.Submissions.{Sent, done, done_ops}
 use Rattle.sal_schema.specs.declared.table.SchemaTable.{SchemaTable}
 use Rattle.sal_history.specs.Versions.{tables_now}
 use Rattle.sal_history.specs.World.{Domain, opening_of}
 use Rattle.sal_history.specs.History.{Answered, answer, answered_as, commits, decide_front, decide_next, decided_by, history, is_live, outcome, outcomes, reply_to, sents, trees_at}
+use Rattle.sal_history.proofs.Waiting.{added}
 
 -- ---- lists
 
@@ -29,10 +30,6 @@ get_front (y ∷ xs) ys zero x at = at
 get_front (y ∷ xs) ys (suc i) x at = get_front xs ys i x at
 
 -- ---- commits of submissions
-
--- what a submission with this outcome adds
-abbrev added : ℕ → Sent → Outcome → List Sent
-added domain s o = if nat_eq s.base.domain domain then if_done o s else []
 
 -- more outcomes take no commit back
 done_grows : (domain : ℕ) (ss : List Sent) (os ps : List Outcome) → (more : List Sent) × (done domain ss (os ++ ps) ≡ done domain ss os ++ more)

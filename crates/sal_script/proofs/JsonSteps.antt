@@ -3,7 +3,7 @@ use Rattle.std.proofs.Common.{ℕ, List, [], ◌∷◌, codes, Option, None, opt
 use Rattle.sal_types.specs.declared.value.Store.{Store}
 use Rattle.serde_json.specs.Data.{Data}
 use Rattle.serde_json.specs.Find.{as_str}
-use Rattle.sal_value.specs.Json.{IsJson}
+use Rattle.sal_json_laws.specs.Json.{IsJson}
 use Rattle.sal_script.specs.Json.{text_eq, list_of}
 use Rattle.sal_script.specs.JsonMoves.{IsJsonMove}
 use Rattle.sal_script.specs.Moves.{Move, Begin, Put, Merge, Delete, Read, Exists, Submit, Cancel, Settle, OpenChain, ChainBegin, CloseChain, Listen, Take, Unlisten, Mirror, Provide, Withdraw, Invoke, NextCall, Answer, Collect, Subscribe, Offer, Mount, Unmount, MountAt, Mark, After, Upgrade}

@@ -8,9 +8,9 @@ use Rattle.std.specs.Str.Lossy.{utf8_valid_len, valid_len_up_to}
 use Rattle.serde_json.specs.Data.{Data, null, boolean, number, string, array, object, Items, no_items, item, Members}
 use Rattle.serde_json.specs.Find.{as_object, get_member}
 use Rattle.serde_json.specs.Read.{read}
-use Rattle.sal_value.specs.Json.{IsJson, AreJson, HasJson}
-use Rattle.sal_value.proofs.Given.{texts_read_as_json}
-use Rattle.sal_value.proofs.Parts.{Found, member_json}
+use Rattle.sal_json_laws.specs.Json.{IsJson, AreJson, HasJson}
+use Rattle.sal_json_laws.proofs.Given.{texts_read_as_json}
+use Rattle.sal_json_laws.proofs.Parts.{Found, member_json}
 use Rattle.sal_script.proofs.Given.{Given}
 use Rattle.sal_script.specs.Json.{list_of, list_of_items, all_named, data_of}
 use Rattle.sal_script.specs.Script.{or_bad, at_most, members_of, list_by, opening_by}

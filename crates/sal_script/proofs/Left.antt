@@ -9,7 +9,7 @@ use Rattle.sal_history.specs.declared.call.Entry.{Entry}
 use Rattle.sal_history.specs.World.{Domain}
 use Rattle.sal_script.specs.declared.reply.StepReply.{StepReply}
 use Rattle.sal_script.specs.Moves.{Move}
-use Rattle.sal_script.specs.Play.{Arrival, Made, Played, Run, PlayState, arrive, calls, cons_replies, end_by, ended, go, make, play_by, play_from, replies_at, replies_of, state_with, start, turn, turn_of}
+use Rattle.sal_script.specs.Play.{Arrival, Made, Played, Run, PlayState, arrive, calls, cons_replies, end_by, ended, go, make, play_by, play_from, replies_at, replies_of, state_with, start, advance, advance_of}
 use Rattle.sal_script.specs.Tables.{Versions, versions_of}
 use Rattle.sal_script.specs.Along.{Left, finish, new_run, order_of, pass}
 use Rattle.sal_script.specs.OneOrder.{LeftIsOneOrder}
@@ -156,8 +156,8 @@ module _ (tables : List Versions) (world : List Domain) where
         let own : (rs : List StepReply) × (slice_get replies c ≡ Some rs) = get_some replies c within in
         let went = own_step tables world c before mine.0 e rest own.0 refl (was c mine.0 own.0 mine.1 own.1) in
         let state : PlayState = record { log = before; runs = runs } in
-        let turned : turn tables world state c ≡ Some (let s : PlayState = record { log = before ++ e ∷ []; runs = set runs c went.0 } in s) =
-        ap (turn_of tables world state c) mine.1 ∙ ap (state_with state c) went.1 in
+        let turned : advance tables world state c ≡ Some (let s : PlayState = record { log = before ++ e ∷ []; runs = set runs c went.0 } in s) =
+        ap (advance_of tables world state c) mine.1 ∙ ap (state_with state c) went.1 in
         let all : AllEnd (before ++ e ∷ []) (set runs c went.0) rest ((before ++ e ∷ []) ++ rest) =
         subst (AllEnd (before ++ e ∷ []) (set runs c went.0) rest) (sym (append_assoc before (e ∷ []) rest)) (next_end before runs e rest (before ++ e ∷ rest) c went.0 own.0 refl own.1 went.2 was) in
         ap (play_by index (λ next. play_from tables world (index + 1) next (order_of rest))) turned

@@ -9,7 +9,7 @@ use Rattle.sal_history.specs.World.{Domain}
 use Rattle.sal_history.specs.History.{entries_of}
 use Rattle.sal_script.specs.declared.reply.StepReply.{StepReply}
 use Rattle.sal_script.specs.Moves.{Move}
-use Rattle.sal_script.specs.Play.{Arrival, IsLegal, Made, Played, Run, PlayState, arrive, calls, cons_replies, end_by, ended, go, new_client, play, play_by, play_from, replies_at, replies_of, state_with, start, turn, turn_of}
+use Rattle.sal_script.specs.Play.{Arrival, IsLegal, Made, Played, Run, PlayState, arrive, calls, cons_replies, end_by, ended, go, new_client, play, play_by, play_from, replies_at, replies_of, state_with, start, advance, advance_of}
 use Rattle.sal_script.specs.Tables.{Versions, versions_of}
 use Rattle.sal_script.specs.Orders.{Exchange, Follows, IsNumbered, OrdersEndOrFail, PlaysFollow, exchanges_in, exchanges_of}
 use Rattle.sal_script.proofs.Arriving.{IsOnWay, Makes, MakesIf, Reaches, exchanges-other, makes, reaches}
@@ -90,7 +90,7 @@ module _ (tables : List Versions) (world : List Domain) (clients : List (List Mo
       subst (λ (ms : List Move). Reaches ms (exchanges_in world log c) (arrive tables world log run.client run.steps)) (sym way.parts)
       (reaches tables world log run.steps way.done run.client (exchanges_in world log c) way.long way.so_far)
 
-  turned_by : (order : List ℕ) (state next : PlayState) (c : ℕ) (run : Option Run) → Stands world clients order state → slice_get state.runs c ≡ run → turn_of tables world state c run ≡ Some next → Stands world clients (order ++ c ∷ []) next
+  turned_by : (order : List ℕ) (state next : PlayState) (c : ℕ) (run : Option Run) → Stands world clients order state → slice_get state.runs c ≡ run → advance_of tables world state c run ≡ Some next → Stands world clients (order ++ c ∷ []) next
   turned_by order state next c None was at e = cc
   turned_by order state next c (Some run) was at e =
       let within : c < length clients = omega (arith, was.runs, slice_get_within state.runs c run at) in
@@ -98,7 +98,7 @@ module _ (tables : List Versions) (world : List Domain) (clients : List (List Mo
       stands_with world clients order state was c program.0 program.1 (go tables world state.log c run) next
       (makes tables world state.log c program.0 (arrive tables world state.log run.client run.steps) (going state.log c program.0 run (was.each c program.0 run program.1 at))) e
 
-  turned : (order : List ℕ) (state next : PlayState) (c : ℕ) → Stands world clients order state → turn tables world state c ≡ Some next → Stands world clients (order ++ c ∷ []) next
+  turned : (order : List ℕ) (state next : PlayState) (c : ℕ) → Stands world clients order state → advance tables world state c ≡ Some next → Stands world clients (order ++ c ∷ []) next
   turned order state next c was e = turned_by order state next c (slice_get state.runs c) was refl e
 
 -- ---- the end
@@ -156,7 +156,7 @@ module _ (tables : List Versions) (world : List Domain) (clients : List (List Mo
   ended_by index order state (Some all) played was is e =
       subst (Follows world clients order) (same_Ok (let p : Played = record { log = state.log; replies = all } in p) played e) (finishes order state all was is)
 
-  going_on : (index c : ℕ) (done order : List ℕ) (state : PlayState) (next : Option PlayState) (played : Played) → Stands world clients done state → turn tables world state c ≡ next
+  going_on : (index c : ℕ) (done order : List ℕ) (state : PlayState) (next : Option PlayState) (played : Played) → Stands world clients done state → advance tables world state c ≡ next
       → ((s : PlayState) → Stands world clients (done ++ c ∷ []) s → play_from tables world (index + 1) s order ≡ Ok played → Follows world clients (done ++ c ∷ order) played)
       → play_by index (λ s. play_from tables world (index + 1) s order) next ≡ Ok played → Follows world clients (done ++ c ∷ order) played
   going_on index c done order state None played was is more e = cc
@@ -166,7 +166,7 @@ module _ (tables : List Versions) (world : List Domain) (clients : List (List Mo
   plays [] index done state played was e =
       subst (λ (cs : List ℕ). Follows world clients cs played) (sym (append-nil done)) (ended_by index done state (replies_of tables world state.log state.runs) played was refl e)
   plays (c ∷ order) index done state played was e =
-      going_on index c done order state (turn tables world state c) played was refl
+      going_on index c done order state (advance tables world state c) played was refl
       (λ s new rest. subst (λ (cs : List ℕ). Follows world clients cs played) (append_assoc done (c ∷ []) order) (plays order (index + 1) (done ++ c ∷ []) s played new rest)) e
 
 -- ---- the beginning
@@ -209,7 +209,7 @@ module _ (tables : List Versions) (world : List Domain) where
 
   fails_within : (order : List ℕ) (index : ℕ) (state : PlayState) (i : ℕ) → play_from tables world index state order ≡ Err i → i ≤ index + length order
   fails_within [] index state i e = let at = fails_at_end index state.log (replies_of tables world state.log state.runs) i e in omega (arith, at)
-  fails_within (c ∷ order) index state i e = fails_by index order (turn tables world state c) i (λ s. fails_within order (index + 1) s i) e
+  fails_within (c ∷ order) index state i e = fails_by index order (advance tables world state c) i (λ s. fails_within order (index + 1) s i) e
 
 module _ (world : List Domain) (clients : List (List Move)) (order : List ℕ) where
   end_or_fail : (r : Result Played ℕ) → play world clients order ≡ r → ((i : ℕ) → r ≡ Err i → i ≤ length order)

@@ -7,10 +7,10 @@ use Rattle.sal_history.specs.declared.call.Entry.{Entry}
 use Rattle.sal_history.specs.World.{Domain}
 use Rattle.sal_script.specs.declared.reply.StepReply.{StepReply}
 use Rattle.sal_script.specs.Moves.{Move}
-use Rattle.sal_script.specs.Play.{Arrival, Made, Played, Run, PlayState, arrive, calls, end_by, ended, go, make, play_by, play_from, replies_of, state_with, start, turn, turn_of}
+use Rattle.sal_script.specs.Play.{Arrival, Made, Played, Run, PlayState, arrive, calls, end_by, ended, go, make, play_by, play_from, replies_of, state_with, start, advance, advance_of}
 use Rattle.sal_script.specs.Tables.{Versions, versions_of}
 use Rattle.sal_script.specs.Orders.{Follows}
-use Rattle.sal_script.specs.Along.{Finishes, Left, along, finish, new_run}
+use Rattle.sal_script.specs.Along.{PerformsAlong, Left, along, finish, new_run}
 use Rattle.sal_script.specs.OneOrder.{PlayedCanBeLeft}
 use Rattle.sal_script.proofs.Along.{along-push, entry_at, made_of, pass_other, pass_own}
 use Rattle.sal_script.proofs.Left.{run_at}
@@ -64,13 +64,13 @@ module _ (tables : List Versions) (world : List Domain) where
         subst (AllAlong clients) (same_Some (let s : PlayState = record { log = made.log; runs = set state.runs c made.run } in s) next is)
         (subst (λ (m : Made). AllAlong clients (record { log = m.log; runs = set state.runs c m.run })) own.3 (all_next clients state c run own.1 own.0 own.2 at (went ∙ ap Some (sym own.3)) was))
 
-    turned_by : (state next : PlayState) (c : ℕ) (run : Option Run) → slice_get state.runs c ≡ run → AllAlong clients state → turn_of tables world state c run ≡ Some next → AllAlong clients next
+    turned_by : (state next : PlayState) (c : ℕ) (run : Option Run) → slice_get state.runs c ≡ run → AllAlong clients state → advance_of tables world state c run ≡ Some next → AllAlong clients next
     turned_by state next c None at was is = cc
     turned_by state next c (Some run) at was is = with_made state next c run (go tables world state.log c run) at refl was is
 
     -- each client comes to its end along the log
     abbrev AllFinish : Played → Type 0
-    AllFinish played = (c : ℕ) (steps : List Move) (rs : List StepReply) → slice_get clients c ≡ Some steps → slice_get played.replies c ≡ Some rs → Finishes tables world c played.log steps rs
+    AllFinish played = (c : ℕ) (steps : List Move) (rs : List StepReply) → slice_get clients c ≡ Some steps → slice_get played.replies c ≡ Some rs → PerformsAlong tables world c played.log steps rs
 
     ends : (state : PlayState) (all : List (List StepReply)) → AllAlong clients state → replies_of tables world state.log state.runs ≡ Some all → AllFinish (record { log = state.log; replies = all })
     ends state all was is c steps rs at_c at_rs =
@@ -82,7 +82,7 @@ module _ (tables : List Versions) (world : List Domain) where
     ended_by index state None played was at is = cc
     ended_by index state (Some all) played was at is = subst AllFinish (same_Ok (let p : Played = record { log = state.log; replies = all } in p) played is) (ends state all was at)
 
-    going_on : (index c : ℕ) (order : List ℕ) (state : PlayState) (next : Option PlayState) (played : Played) → turn tables world state c ≡ next → AllAlong clients state
+    going_on : (index c : ℕ) (order : List ℕ) (state : PlayState) (next : Option PlayState) (played : Played) → advance tables world state c ≡ next → AllAlong clients state
         → ((s : PlayState) → AllAlong clients s → play_from tables world (index + 1) s order ≡ Ok played → AllFinish played)
         → play_by index (λ s. play_from tables world (index + 1) s order) next ≡ Ok played → AllFinish played
     going_on index c order state None played went was more is = cc
@@ -91,7 +91,7 @@ module _ (tables : List Versions) (world : List Domain) where
     plays : (order : List ℕ) (index : ℕ) (state : PlayState) (played : Played) → AllAlong clients state → play_from tables world index state order ≡ Ok played → AllFinish played
     plays [] index state played was is = ended_by index state (replies_of tables world state.log state.runs) played was refl is
     plays (c ∷ order) index state played was is =
-        going_on index c order state (turn tables world state c) played refl was (λ s new rest. plays order (index + 1) s played new rest) is
+        going_on index c order state (advance tables world state c) played refl was (λ s new rest. plays order (index + 1) s played new rest) is
 
 starts : (world : List Domain) (clients : List (List Move)) → AllAlong (versions_of world) world clients (start clients)
 starts world clients c steps run at_c at =

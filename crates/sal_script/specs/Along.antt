@@ -41,8 +41,8 @@ module _ (tables : List Versions) (world : List Domain) (c : ℕ) where
 
   -- The entries of this client in the log are the shared calls of its steps, each at its place, numbered by the earlier ones,
   -- and once; and it has these replies to its steps at its end.
-  abbrev pub Finishes : List Entry → List Move → List StepReply → Type 0
-  Finishes log steps replies = left_along log steps ≡ Some (record { log = log; replies = replies })
+  abbrev pub PerformsAlong : List Entry → List Move → List StepReply → Type 0
+  PerformsAlong log steps replies = left_along log steps ≡ Some (record { log = log; replies = replies })
 
 -- the client's transactions began in the log
 abbrev pub BeganIn : List Entry → Client → Type 0
@@ -67,10 +67,10 @@ pub record IsAt (tables : List Versions) (world : List Domain) (c : ℕ) (steps 
   pub listens : ListensIn world c log now.client
 
 -- What clients left: each entry of the log is a call of one of them, and each came to its end along it, with its replies.
-pub record AreLeft (world : List Domain) (clients : List (List Move)) (log : List Entry) (replies : List (List StepReply)) : Type 0 where
+pub record AreLogOf (world : List Domain) (clients : List (List Move)) (log : List Entry) (replies : List (List StepReply)) : Type 0 where
   pub known : (i : ℕ) (e : Entry) → slice_get log i ≡ Some e → e.client < length clients
   pub all : length replies ≡ length clients
-  pub each : (c : ℕ) (steps : List Move) (rs : List StepReply) → slice_get clients c ≡ Some steps → slice_get replies c ≡ Some rs → Finishes (versions_of world) world c log steps rs
+  pub each : (c : ℕ) (steps : List Move) (rs : List StepReply) → slice_get clients c ≡ Some steps → slice_get replies c ≡ Some rs → PerformsAlong (versions_of world) world c log steps rs
 
 -- the client of each entry, in order
 abbrev pub order_of : List Entry → List ℕ

@@ -18,7 +18,7 @@ use Rattle.sal_script.specs.declared.reply.StepReply.{StepReply}
 use Rattle.sal_script.specs.declared.reply.StepReply.TheVariants.{Called, Accepted, Refused}
 use Rattle.sal_script.specs.declared.reply.StepRefusal.TheVariants.{EmptySlot, ReadOnly}
 use Rattle.sal_script.specs.Moves.{Move, Begin, Submit, Cancel}
-use Rattle.sal_script.specs.Along.{Finishes, Left, left_along}
+use Rattle.sal_script.specs.Along.{PerformsAlong, Left, left_along}
 use Rattle.sal_script.specs.Examples.{entry, table, world_of}
 
 -- what a client leaves along a log over the schema `plain` without openings
@@ -26,7 +26,7 @@ abbrev pub leaves_along : ℕ → List Entry → List Move → Option Left
 leaves_along c log steps = left_along ((table ∷ []) ∷ []) (world_of []) c log steps
 
 abbrev pub Comes : ℕ → List Entry → List Move → List StepReply → Type 0
-Comes c log steps replies = Finishes ((table ∷ []) ∷ []) (world_of []) c log steps replies
+Comes c log steps replies = PerformsAlong ((table ∷ []) ∷ []) (world_of []) c log steps replies
 
 -- ---- two clients that put the same leaf
 

@@ -16,6 +16,7 @@ use Rattle.sal_history.specs.declared.call.Call.{Call}
 use Rattle.sal_history.specs.declared.call.Call.TheVariants as called
 use Rattle.sal_history.specs.declared.call.Entry.{Entry}
 use Rattle.sal_history.specs.declared.reply.Reply.TheVariants.{Begun, Receipt, Accepted as Done}
+use Rattle.sal_rows.specs.declared.clash.Rules.TheVariants.{One}
 use Rattle.sal_rows.specs.declared.outcome.Mode.TheVariants.{Ro, Wo, Rw}
 use Rattle.sal_script.specs.Moves.{Move, Begin, Put, Merge, Delete, Read, Exists, Submit, Cancel, Settle}
 use Rattle.sal_script.specs.Script.{Parts}
@@ -38,11 +39,11 @@ table = record { nodes = node None (Container false) 0 (codes "box") ∷ leafs 2
 
 -- a world of one domain with these rows in its configuration
 abbrev pub world_of : List Row → List Domain
-world_of rows = record { table = table; upgrades = []; opening = record { config = rows; oper = [] } } ∷ []
+world_of rows = record { table = table; upgrades = []; opening = record { config = rows; oper = [] }; rules = One } ∷ []
 
 -- a script over `plain` without openings
 abbrev pub plain_script : List (List Move) → List ℕ → Parts
-plain_script clients order = record { modules = PLAIN.now ∷ []; upgrades = []; config = object no_members; operational = object no_members; devices = []; clients = clients; order = order }
+plain_script clients order = record { modules = PLAIN.now ∷ []; upgrades = []; config = object no_members; operational = object no_members; devices = []; clients = clients; order = order; rules = One }
 
 -- ---- steps
 

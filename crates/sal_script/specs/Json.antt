@@ -1,15 +1,11 @@
 -- Looking into JSON data (RFC 8259), as lists.
-use Rattle.std.specs.Prelude.{ℕ, ◌==◌, Bool, true, ◌&&◌, List, [], ◌∷◌, length, Option, None, Some, option_and_then, if◌then◌else◌, nat_lt, nat_eq}
-use Rattle.std.specs.Cmp.Lexicographic.{pointwise}
+use Rattle.std.specs.Prelude.{ℕ, ◌==◌, Bool, true, ◌&&◌, List, [], ◌∷◌, length, Option, None, Some, option_and_then, if◌then◌else◌, nat_lt}
 use Rattle.std.specs.List.{list_any}
 use Rattle.std.specs.Str.Lossy.{utf8_valid_len}
 use Rattle.serde_json.specs.Data.{Data, Items, no_items, item, Members, no_members, member}
 use Rattle.serde_json.specs.Find.{as_array, as_number, as_u64}
 use Rattle.serde_json.specs.Read.{read}
-
--- two texts are the same
-abbrev pub text_eq : List ℕ → List ℕ → Bool
-text_eq = pointwise nat_eq
+pub use Rattle.sal_json.specs.Named.{text_eq}
 
 abbrev pub list_of_items : Items → List Data
 list_of_items no_items = []

@@ -1,7 +1,7 @@
 -- Steps whose values are JSON as texts have it.
 use Rattle.std.specs.Prelude.{Bool, true, List, [], ◌∷◌, ⊤}
 use Rattle.std.specs.List.{list_all}
-use Rattle.sal_value.specs.Json.{IsJson, is_json}
+use Rattle.sal_json_laws.specs.Json.{IsJson, is_json}
 use Rattle.sal_script.specs.Moves.{Move, Begin, Put, Merge, Delete, Read, Exists, Submit, Cancel, Settle, OpenChain, ChainBegin, CloseChain, Pump, Listen, Take, Unlisten, Mirror, Provide, Withdraw, Invoke, NextCall, Answer, Collect, Subscribe, Offer, TakeNotes, Mount, Unmount, MountAt, Mark, After, Upgrade}
 
 -- the value of a step

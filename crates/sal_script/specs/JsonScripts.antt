@@ -1,6 +1,6 @@
 -- Scripts and writes whose values are JSON as texts have it.
 use Rattle.std.specs.Prelude.{Bool, true, List, [], ◌∷◌, ⊤}
-use Rattle.sal_value.specs.Json.{IsJson, is_json}
+use Rattle.sal_json_laws.specs.Json.{IsJson, is_json}
 use Rattle.sal_script.specs.JsonMoves.{HaveJsonMoves}
 use Rattle.sal_script.specs.Script.{DeviceParts, Parts}
 use Rattle.sal_script.specs.Play.{DataAct, putting, merging, deleting}

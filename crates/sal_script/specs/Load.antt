@@ -10,6 +10,7 @@ use Rattle.sal_types.specs.declared.value.Store.TheVariants.{Config}
 use Rattle.sal_types.specs.declared.value.Step.{Step}
 use Rattle.sal_types.specs.declared.value.Step.TheVariants.{Node}
 use Rattle.sal_types.specs.declared.row.Row.{Row}
+use Rattle.sal_rows.specs.declared.clash.Rules.TheVariants.{One}
 use Rattle.sal_rows.specs.declared.outcome.Mode.TheVariants.{Rw}
 use Rattle.sal_schema.specs.Paths.{last_step}
 use Rattle.serde_json.specs.Data.{Data, number, unsigned, object, member, no_members}
@@ -58,6 +59,7 @@ parts_of rounds start = record {
   devices = [];
   clients = clients_of rounds start;
   order = [];
+  rules = One;
 }
 
 -- ---- the summary

@@ -1,13 +1,12 @@
 -- Worked examples of a load: the entry that a put of it names, and its rows.
 use Rattle.std.specs.Prelude.{ℕ, List, [], ◌∷◌, ◌++◌, None, Some, codes}
-use Rattle.sal_types.specs.declared.value.Atom.TheVariants.{Unsigned}
 use Rattle.sal_types.specs.declared.value.Cell.TheVariants.{Mark, Leaf}
 use Rattle.sal_types.specs.declared.value.Step.{Step}
 use Rattle.sal_types.specs.declared.value.Step.TheVariants.{Node, Key}
-use Rattle.sal_types.specs.declared.value.Value.{Value}
 use Rattle.sal_types.specs.declared.row.Row.{Row}
 use Rattle.sal_schema.specs.declared.table.SchemaTable.{SchemaTable}
 use Rattle.sal_schema.specs.Examples.{leaf, list, whole}
+pub use Rattle.sal_schema.specs.Examples.{number}
 
 -- the table of the module of a load: the list, its key, and the leaf with the number
 abbrev pub table : SchemaTable
@@ -17,9 +16,6 @@ table = record {
   modules = codes "load" ∷ [];
   identities = [];
 }
-
-abbrev pub number : ℕ → Value
-number n = record { member = 0; atom = Unsigned n }
 
 -- the entry with this key
 abbrev pub entry : ℕ → List Step

@@ -3,7 +3,7 @@ use Rattle.std.specs.Prelude.{◌≡◌, ℕ, List, Ok}
 use Rattle.sal_history.specs.declared.call.Entry.{Entry}
 use Rattle.sal_history.specs.World.{Domain}
 use Rattle.sal_script.specs.declared.reply.StepReply.{StepReply}
-use Rattle.sal_script.specs.Along.{AreLeft}
+use Rattle.sal_script.specs.Along.{AreLogOf}
 use Rattle.sal_script.specs.Load.{clients_of, summary_of, totals_of}
 use Rattle.sal_script.specs.Play.{IsLegal, Played, play}
 use Rattle.sal_script.specs.Report.{trees_in}
@@ -24,4 +24,4 @@ pub record IsSummaryInSomeOrder (world : List Domain) (rounds start : ℕ) (text
 abbrev pub LeftIsSummed : Type 0
 LeftIsSummed =
     (world : List Domain) (rounds start : ℕ) (log : List Entry) (replies : List (List StepReply))
-    → AreLeft world (clients_of rounds start) log replies → IsSummaryInSomeOrder world rounds start (summary rounds start world (record { log = log; replies = replies }))
+    → AreLogOf world (clients_of rounds start) log replies → IsSummaryInSomeOrder world rounds start (summary rounds start world (record { log = log; replies = replies }))

@@ -5,7 +5,7 @@ use Rattle.sal_rows.specs.declared.outcome.Mode.{Mode}
 use Rattle.serde_json.specs.Data.{Data}
 use Rattle.serde_json.specs.View.{view}
 use Rattle.sal_script.specs.declared.script.ScriptStep.{ScriptStep}
-use Rattle.sal_script.specs.declared.script.ScriptStep.TheVariants as told
+use Rattle.sal_script.specs.declared.script.ScriptStep.TheVariants as given
 
 pub data Move : Type 0 where
   Begin : ℕ → ℕ → Mode → Move
@@ -43,38 +43,38 @@ pub data Move : Type 0 where
 
 -- what a step of a script says
 abbrev pub move_of : ScriptStep → Move
-move_of (told.Begin slot domain mode) = Begin slot domain mode
-move_of (told.Put slot store path value) = Put slot store path (view value)
-move_of (told.Merge slot store path value) = Merge slot store path (view value)
-move_of (told.Delete slot store path) = Delete slot store path
-move_of (told.Read slot store path) = Read slot store path
-move_of (told.Exists slot store path) = Exists slot store path
-move_of (told.Submit slot) = Submit slot
-move_of (told.Cancel slot) = Cancel slot
-move_of (told.Settle slot) = Settle slot
-move_of (told.OpenChain chain domain) = OpenChain chain domain
-move_of (told.ChainBegin chain slot mode) = ChainBegin chain slot mode
-move_of (told.CloseChain chain) = CloseChain chain
-move_of told.Pump = Pump
-move_of (told.Listen listener domain store path) = Listen listener domain store path
-move_of (told.Take listener) = Take listener
-move_of (told.Unlisten listener) = Unlisten listener
-move_of (told.Mirror listener) = Mirror listener
-move_of (told.Provide rpc context) = Provide rpc context
-move_of (told.Withdraw rpc context) = Withdraw rpc context
-move_of (told.Invoke call rpc context input) = Invoke call rpc context (view input)
-move_of (told.NextCall request) = NextCall request
-move_of (told.Answer request output) = Answer request (view output)
-move_of (told.Collect call) = Collect call
-move_of (told.Subscribe note) = Subscribe note
-move_of (told.Offer note value) = Offer note (view value)
-move_of told.TakeNotes = TakeNotes
-move_of (told.Mount device path) = Mount device path
-move_of (told.Unmount domain) = Unmount domain
-move_of (told.MountAt path) = MountAt path
-move_of (told.Mark mark) = Mark mark
-move_of (told.After mark) = After mark
-move_of (told.Upgrade version) = Upgrade version
+move_of (given.Begin slot domain mode) = Begin slot domain mode
+move_of (given.Put slot store path value) = Put slot store path (view value)
+move_of (given.Merge slot store path value) = Merge slot store path (view value)
+move_of (given.Delete slot store path) = Delete slot store path
+move_of (given.Read slot store path) = Read slot store path
+move_of (given.Exists slot store path) = Exists slot store path
+move_of (given.Submit slot) = Submit slot
+move_of (given.Cancel slot) = Cancel slot
+move_of (given.Settle slot) = Settle slot
+move_of (given.OpenChain chain domain) = OpenChain chain domain
+move_of (given.ChainBegin chain slot mode) = ChainBegin chain slot mode
+move_of (given.CloseChain chain) = CloseChain chain
+move_of given.Pump = Pump
+move_of (given.Listen listener domain store path) = Listen listener domain store path
+move_of (given.Take listener) = Take listener
+move_of (given.Unlisten listener) = Unlisten listener
+move_of (given.Mirror listener) = Mirror listener
+move_of (given.Provide rpc context) = Provide rpc context
+move_of (given.Withdraw rpc context) = Withdraw rpc context
+move_of (given.Invoke call rpc context input) = Invoke call rpc context (view input)
+move_of (given.NextCall request) = NextCall request
+move_of (given.Answer request output) = Answer request (view output)
+move_of (given.Collect call) = Collect call
+move_of (given.Subscribe note) = Subscribe note
+move_of (given.Offer note value) = Offer note (view value)
+move_of given.TakeNotes = TakeNotes
+move_of (given.Mount device path) = Mount device path
+move_of (given.Unmount domain) = Unmount domain
+move_of (given.MountAt path) = MountAt path
+move_of (given.Mark mark) = Mark mark
+move_of (given.After mark) = After mark
+move_of (given.Upgrade version) = Upgrade version
 
 abbrev pub moves_of : List ScriptStep → List Move
 moves_of steps = map move_of steps

@@ -7,7 +7,7 @@ use Rattle.sal_script.specs.Limits.{within_limits}
 use Rattle.sal_script.specs.Moves.{Move}
 use Rattle.sal_script.specs.Play.{IsLegal, Played, play}
 use Rattle.sal_script.specs.Orders.{Follows}
-use Rattle.sal_script.specs.Along.{AreLeft, order_of}
+use Rattle.sal_script.specs.Along.{AreLogOf, order_of}
 
 -- The order of the log is legal: it has each client's shared calls, each once and in the client's own order. Played in it,
 -- the script comes to this log and to these replies.
@@ -18,16 +18,16 @@ pub record IsOneOrder (world : List Domain) (clients : List (List Move)) (log : 
 
 -- what clients left is one order
 abbrev pub LeftIsOneOrder : Type 0
-LeftIsOneOrder = (world : List Domain) (clients : List (List Move)) (log : List Entry) (replies : List (List StepReply)) → AreLeft world clients log replies → IsOneOrder world clients log replies
+LeftIsOneOrder = (world : List Domain) (clients : List (List Move)) (log : List Entry) (replies : List (List StepReply)) → AreLogOf world clients log replies → IsOneOrder world clients log replies
 
 -- and what is played in an order is what its clients can leave
 abbrev pub PlayedCanBeLeft : Type 0
 PlayedCanBeLeft =
     (world : List Domain) (clients : List (List Move)) (order : List ℕ) (played : Played) → play world clients order ≡ Ok played
-    → (order_of played.log ≡ order) × AreLeft world clients played.log played.replies
+    → (order_of played.log ≡ order) × AreLogOf world clients played.log played.replies
 
 -- what the clients of a script left is shorter than a history may be: they make at most one shared call for each step
 abbrev pub LeftIsShort : Type 0
 LeftIsShort =
     (world : List Domain) (clients : List (List Move)) (log : List Entry) (replies : List (List StepReply))
-    → AreLeft world clients log replies → IsTrue (within_limits clients) → length log ≤ 960000
+    → AreLogOf world clients log replies → IsTrue (within_limits clients) → length log ≤ 960000

@@ -382,12 +382,12 @@ module _ (tables : List Versions) (world : List Domain) where
   go log c run = make log c (arrive log run.client run.steps)
 
   -- one number of the order: none where no client has it, or where that client comes to its end first
-  abbrev pub turn_of : PlayState → ℕ → Option Run → Option PlayState
-  turn_of state c None = None
-  turn_of state c (Some run) = state_with state c (go state.log c run)
+  abbrev pub advance_of : PlayState → ℕ → Option Run → Option PlayState
+  advance_of state c None = None
+  advance_of state c (Some run) = state_with state c (go state.log c run)
 
-  abbrev pub turn : PlayState → ℕ → Option PlayState
-  turn state c = turn_of state c (slice_get state.runs c)
+  abbrev pub advance : PlayState → ℕ → Option PlayState
+  advance state c = advance_of state c (slice_get state.runs c)
 
   abbrev pub replies_of : List Entry → List Run → Option (List (List StepReply))
   replies_of log [] = Some []
@@ -411,7 +411,7 @@ module _ (tables : List Versions) (world : List Domain) where
   -- the rest of an order, from this index on; the fault is the index at which it fails
   abbrev pub play_from : ℕ → PlayState → List ℕ → Result Played ℕ
   play_from index state [] = end_by index state.log (replies_of tables world state.log state.runs)
-  play_from index state (c ∷ order) = play_by index (λ next. play_from (index + 1) next order) (turn tables world state c)
+  play_from index state (c ∷ order) = play_by index (λ next. play_from (index + 1) next order) (advance tables world state c)
 
 -- the clients of a script at their beginning
 abbrev pub start : List (List Move) → PlayState

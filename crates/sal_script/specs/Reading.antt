@@ -2,12 +2,13 @@
 use Rattle.std.specs.Prelude.{◌≡◌, ℕ, List, map, Result, Ok, Err, MatchResult}
 use Rattle.sal_script.specs.declared.fault.ScriptFault.{ScriptFault}
 use Rattle.sal_script.specs.declared.fault.ScriptFault.TheVariants.{BadScript, NoMemory}
+use Rattle.sal_script.specs.declared.read.Ending.{Ending as ReadEnding}
 use Rattle.sal_script.specs.declared.script.Script.{Script}
 use Rattle.sal_script.specs.declared.script.OwnDomain.{OwnDomain}
 use Rattle.sal_script.specs.declared.script.ScriptDevice.{ScriptDevice}
 use Rattle.serde_json.specs.View.{view}
 use Rattle.sal_script.specs.Moves.{clients_of}
-use Rattle.sal_script.specs.Script.{DeviceParts, OwnParts, Parts}
+use Rattle.sal_script.specs.Script.{DeviceParts, Ending, OwnParts, Parts}
 
 -- the fault names the place, unless memory ran out
 abbrev pub IsBadAt : List ℕ → ScriptFault → Type 0
@@ -34,9 +35,13 @@ devices ds = map device ds
 abbrev pub own : OwnDomain → OwnParts
 own o = record { device = device o.device; upgrades = o.upgrades }
 
+-- what comes behind its clients
+abbrev pub ending : ReadEnding → Ending
+ending e = record { order = e.order.items; rules = e.rules }
+
 -- what a script has
 abbrev pub parts : Script → Parts
-parts script = record { modules = script.modules; upgrades = script.upgrades; config = view script.config; operational = view script.operational; devices = devices script.devices; clients = clients_of script.clients; order = script.order }
+parts script = record { modules = script.modules; upgrades = script.upgrades; config = view script.config; operational = view script.operational; devices = devices script.devices; clients = clients_of script.clients; order = script.order; rules = script.rules }
 
 -- the script that is read, or the first bad place, unless memory ran out
 abbrev pub ReadsScript : Result Script ScriptFault → Result Parts (List ℕ) → Type 0

@@ -1,9 +1,11 @@
 -- Which script bytes stand for, or the first bad place, looked for in the order of the lines below.
-use Rattle.std.specs.Prelude.{ℕ, ◌+◌, List, [], ◌∷◌, ◌++◌, length, Option, None, Some, option_and_then, Result, Ok, Err, codes, decimal, if◌then◌else◌, nat_le}
+use Rattle.std.specs.Prelude.{ℕ, ◌+◌, List, [], ◌∷◌, ◌++◌, length, Option, None, Some, option_and_then, Result, Ok, Err, codes, decimal, if◌then◌else◌, nat_eq, nat_le}
 use Rattle.std.specs.Option.{option_map}
 use Rattle.sal_types.specs.Reading.{◌>>=◌}
 use Rattle.serde_json.specs.Data.{Data, object, Members, no_members}
 use Rattle.serde_json.specs.Find.{as_str, as_object, get_member}
+use Rattle.sal_rows.specs.declared.clash.Rules.{Rules}
+use Rattle.sal_rows.specs.declared.clash.Rules.TheVariants.{One, Two}
 use Rattle.sal_script.specs.Moves.{Move}
 use Rattle.sal_script.specs.Steps.{number_of, step_of}
 use Rattle.sal_script.specs.declared.script.TheConstants.{PLAIN}
@@ -30,6 +32,7 @@ pub record Parts : Type 0 where
   pub devices : List DeviceParts
   pub clients : List (List Move)
   pub order : List ℕ
+  pub rules : Rules
 
 -- a place is a text, such as `devices/1` or `clients/0/2`
 abbrev pub device_place : ℕ → List ℕ
@@ -183,22 +186,46 @@ devices_member ms = or_bad (codes "devices") (option_and_then (at_most 63) (list
 
 -- the members that a script may have
 abbrev pub names : List (List ℕ)
-names = codes "modules" ∷ codes "upgrades" ∷ codes "config" ∷ codes "operational" ∷ codes "devices" ∷ codes "clients" ∷ codes "order" ∷ []
+names = codes "modules" ∷ codes "upgrades" ∷ codes "config" ∷ codes "operational" ∷ codes "devices" ∷ codes "clients" ∷ codes "order" ∷ codes "rules" ∷ []
+
+-- the version rules of a number, which is 1 or 2
+abbrev pub rules_by : ℕ → Option Rules
+rules_by n = if nat_eq n 1 then Some One else (if nat_eq n 2 then Some Two else None)
+
+-- the version rules; where there is no such member they are 1
+abbrev pub rules_member : Members → Option Rules
+rules_member ms = given (get_member (codes "rules") ms)
+  where
+    given : Option Data → Option Rules
+    given None = Some One
+    given (Some d) = option_and_then rules_by (number_of d)
+
+-- what comes behind the clients: the order, and the version rules
+pub record Ending : Type 0 where
+  pub order : List ℕ
+  pub rules : Rules
+
+abbrev pub ending_of : Members → Result Ending (List ℕ)
+ending_of ms =
+    or_bad (codes "order") (option_and_then numbers_of (list_member (codes "order") ms))
+    >>= (λ order. or_bad (codes "rules") (rules_member ms)
+    >>= (λ rules. Ok (record { order = order; rules = rules })))
 
 -- after its own modules, upgrades and openings
 abbrev pub parts_with : Members → OwnParts → Result Parts (List ℕ)
 parts_with ms own =
     devices_member ms
     >>= (λ devices. clients_member ms
-    >>= (λ clients. or_bad (codes "order") (option_and_then numbers_of (list_member (codes "order") ms))
-    >>= (λ order. Ok (record {
+    >>= (λ clients. ending_of ms
+    >>= (λ ending. Ok (record {
       modules = own.device.modules;
       upgrades = own.upgrades;
       config = own.device.config;
       operational = own.device.operational;
       devices = devices;
       clients = clients;
-      order = order;
+      order = ending.order;
+      rules = ending.rules;
     }))))
 
 -- the texts of the modules with the upgrades and the openings

@@ -7,6 +7,7 @@ use Rattle.sal_types.specs.declared.value.Step.TheVariants.{Node}
 use Rattle.sal_types.specs.declared.value.Store.TheVariants.{Config}
 use Rattle.sal_types.specs.declared.row.Row.{Row}
 use Rattle.serde_json.specs.Data.{Data, number, unsigned, object, no_members, member}
+use Rattle.sal_rows.specs.declared.clash.Rules.TheVariants.{One}
 use Rattle.sal_rows.specs.declared.outcome.Mode.TheVariants.{Rw}
 use Rattle.sal_schema.specs.declared.kind.Kind.TheVariants.{Container, Leaf, Rpc, Input, Output, Notification}
 use Rattle.sal_schema.specs.declared.table.SchemaTable.{SchemaTable}
@@ -43,7 +44,7 @@ messages = record {
 }
 
 abbrev pub bare : SchemaTable → Domain
-bare t = record { table = t; upgrades = []; opening = record { config = []; oper = [] } }
+bare t = record { table = t; upgrades = []; opening = record { config = []; oper = [] }; rules = One }
 
 -- that schema alone, and with a device that has the module `plain`
 abbrev pub alone : List Domain

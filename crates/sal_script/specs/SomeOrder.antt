@@ -7,7 +7,7 @@ use Rattle.sal_script.specs.declared.reply.StepReply.{StepReply}
 use Rattle.sal_script.specs.Moves.{Move}
 use Rattle.sal_script.specs.Play.{IsLegal, Played, play}
 use Rattle.sal_script.specs.Report.{number, report}
-use Rattle.sal_script.specs.Along.{AreLeft}
+use Rattle.sal_script.specs.Along.{AreLogOf}
 
 -- the line of an order
 abbrev pub line_of : List ℕ → List ℕ
@@ -30,7 +30,7 @@ pub record IsReportInSomeOrder (world : List Domain) (clients : List (List Move)
 abbrev pub LeftIsReported : Type 0
 LeftIsReported =
     (world : List Domain) (clients : List (List Move)) (log : List Entry) (replies : List (List StepReply))
-    → AreLeft world clients log replies → IsReportInSomeOrder world clients (report world (record { log = log; replies = replies }))
+    → AreLogOf world clients log replies → IsReportInSomeOrder world clients (report world (record { log = log; replies = replies }))
 
 -- numbers as a client's can be
 abbrev pub AreNumbers : List ℕ → Type 0

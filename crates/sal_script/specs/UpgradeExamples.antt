@@ -2,6 +2,7 @@
 use Rattle.std.specs.Prelude.{ℕ, Bool, true, false, List, [], ◌∷◌, ◌++◌, None, Some, Result, Ok, Err, codes, decimal}
 use Prim.Native.String.{String}
 use Rattle.sal_types.specs.declared.value.Store.TheVariants.{Config}
+use Rattle.sal_rows.specs.declared.clash.Rules.TheVariants.{One}
 use Rattle.sal_rows.specs.declared.outcome.Mode.TheVariants.{Rw}
 use Rattle.serde_json.specs.Data.{object, no_members}
 use Rattle.sal_schema.specs.declared.kind.Kind.TheVariants.{Container}
@@ -33,7 +34,7 @@ with_leaf presence leaf_info =
 -- a world of one domain with two versions and empty trees: of a plain box with a further leaf, and of a box with presence in which that
 -- leaf is mandatory
 abbrev pub world_of : SchemaTable → SchemaTable → List Domain
-world_of older newer = record { table = older; upgrades = newer ∷ []; opening = record { config = []; oper = [] } } ∷ []
+world_of older newer = record { table = older; upgrades = newer ∷ []; opening = record { config = []; oper = [] }; rules = One } ∷ []
 
 abbrev pub plain_boxes : List Domain
 plain_boxes = world_of (first false) (with_leaf false added)

@@ -3,7 +3,7 @@ ghost use Rattle.std.specs.Prelude.{◌≡◌, [], ◌∷◌, codes, map, option
 ghost use Rattle.std.specs.List.{list_all};
 ghost use Rattle.serde_json.specs.Find.{get_member};
 ghost use Rattle.serde_json.specs.View.{view, members_view};
-ghost use Rattle.sal_value.specs.Json.{HasJson, is_json};
+ghost use Rattle.sal_json_laws.specs.Json.{HasJson, is_json};
 ghost use Rattle.sal_script.specs.Reading.{Reads, device, devices};
 ghost use Rattle.sal_script.specs.Limits.{are_few, are_short};
 ghost use Rattle.sal_script.specs.Script as spec;

@@ -4,6 +4,7 @@ ghost use Rattle.std.specs.Prelude.{◌≡◌, [], ◌∷◌, codes};
 ghost use Rattle.serde_json.specs.Data.{object, no_members};
 ghost use Rattle.sal_script.specs.Script.{script_of};
 ghost use Rattle.sal_types.specs.declared.value.Store.TheVariants.{Config, Oper};
+ghost use Rattle.sal_rows.specs.declared.clash.Rules.TheVariants.{Two};
 ghost use Rattle.sal_rows.specs.declared.outcome.Mode.TheVariants.{Wo};
 ghost use Rattle.sal_script.specs.Moves.{Begin, Put, Merge, Delete, Cancel};
 ghost use Rattle.sal_script.specs.Examples.{a, b, with_text, put, merge, delete, commits, run, run_over, crossed, looks, looks_report, opened, own_writes, own_writes_report, plain_script, same_leaf_report, different_leafs_report, merge_after_delete_report, delete_after_merge_report, cancels, cancels_report, one_sided, one_sided_report, refused_writes, refused_writes_report, submits_twice, submits_twice_replies, submits_twice_calls, two_begin, cancelled_calls, world_of};
@@ -23,6 +24,16 @@ pub fn bad_places()
     ensures config { script_of (codes "{\"config\":[]}") ≡ Err (codes "config") }
     ensures modules { script_of (codes "{\"modules\":[0]}") ≡ Err (codes "modules") }
     ensures step { script_of (codes "{\"clients\":[{\"steps\":[[\"fly\"]]}]}") ≡ Err (codes "clients/0/0") }
+{}
+
+/// The version rules are 1 or 2, and 1 where they are not said; another number, or what is no number, is a bad place behind the order.
+pub fn rules_read()
+    ensures one { script_of (codes "{\"rules\":1}") ≡ Ok (plain_script [] []) }
+    ensures two { script_of (codes "{\"rules\":2}") ≡ Ok (record (plain_script [] []) { rules = Two }) }
+    ensures three { script_of (codes "{\"rules\":3}") ≡ Err (codes "rules") }
+    ensures none { script_of (codes "{\"rules\":0}") ≡ Err (codes "rules") }
+    ensures text { script_of (codes "{\"rules\":\"2\"}") ≡ Err (codes "rules") }
+    ensures behind { script_of (codes "{\"rules\":3,\"order\":[-1]}") ≡ Err (codes "order") }
 {}
 
 /// The steps that write, and the one that gives up.

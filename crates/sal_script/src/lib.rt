@@ -70,3 +70,4 @@ pub use script::{
     ScriptStep,
 };
 pub use trees::DomainTrees;
+pub use values::list_of;

@@ -2,6 +2,7 @@
 ghost use Rattle.std.specs.Prelude.{◌≡◌, ◌<◌, ◌≤◌, ◌++◌, [], ◌∷◌, IfOk, IsTrue};
 ghost use Rattle.serde_json.specs.Data.{no_members, object};
 ghost use Rattle.serde_json.specs.View.{view};
+ghost use Rattle.sal_rows.specs.declared.clash.Rules.TheVariants.{One};
 ghost use Rattle.sal_script.specs.JsonMoves.{have_json_moves};
 ghost use Rattle.sal_script.specs.Limits.{are_short, within_limits};
 ghost use Rattle.sal_script.specs.Load as spec;
@@ -11,7 +12,7 @@ ghost use Rattle.sal_script.specs.Reading.{parts};
 ghost use Rattle.sal_script.specs.declared.load.TheConstants.{LOAD_MODULE};
 
 use crate::script::{Program, Script, ScriptStep};
-use sal_rows::Mode;
+use sal_rows::{Mode, Rules};
 use sal_types::{NoMemory, Seq, Store, Str};
 use serde_json::{Map, Value, json};
 use std::alloc::Global;
@@ -44,7 +45,7 @@ pub fn load_script(alloc: Global, rounds: u32, start: u32) -> Result<Script, NoM
 fn over_nothing(alloc: Global, clients: Vec<Program>) -> Result<Script, NoMemory>
     requires limits { IsTrue (within_limits clients.items) }
     requires json { IsTrue (have_json_moves (clients_of clients.items)) }
-    ensures { IfOk result (λ script. parts script ≡ record { modules = LOAD_MODULE.now ∷ []; upgrades = []; config = object no_members; operational = object no_members; devices = []; clients = clients_of clients.items; order = [] }) }
+    ensures { IfOk result (λ script. parts script ≡ record { modules = LOAD_MODULE.now ∷ []; upgrades = []; config = object no_members; operational = object no_members; devices = []; clients = clients_of clients.items; order = []; rules = One }) }
 {
     let modules = modules(alloc)?;
     Ok(Script {
@@ -55,6 +56,7 @@ fn over_nothing(alloc: Global, clients: Vec<Program>) -> Result<Script, NoMemory
         devices: Seq::new(alloc),
         clients: Seq::from_items(clients),
         order: Seq::new(alloc),
+        rules: Rules::One,
     })
 }
 

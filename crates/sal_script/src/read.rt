@@ -1,10 +1,11 @@
 //! Scripts, read from JSON (RFC 8259).
 ghost use Rattle.std.specs.Prelude.{◌≡◌, codes, map, option_and_then, option_map, IfOk, IsTrue};
 ghost use Rattle.serde_json.specs.View.{view, members_view};
-ghost use Rattle.sal_value.specs.Json.{HasJson};
+ghost use Rattle.sal_json_laws.specs.Json.{HasJson};
 ghost use Rattle.sal_script.specs.JsonMoves.{have_json_moves};
 ghost use Rattle.sal_script.specs.Json.{data_of};
-ghost use Rattle.sal_script.specs.Reading.{Reads, ReadsScript, devices, parts};
+ghost use Rattle.sal_script.specs.Reading.{Reads, ReadsScript, devices, ending, parts};
+ghost use Rattle.sal_script.specs.Steps.{number_of};
 ghost use Rattle.sal_script.specs.Moves.{clients_of, moves_of};
 ghost use Rattle.sal_script.specs.Limits.{are_few, within_limits};
 ghost use Rattle.sal_script.specs.Script as spec;
@@ -17,12 +18,13 @@ use crate::script::{
 use crate::step::step_of;
 use crate::upgrades::own_of;
 use crate::values::{at_most, list_member, list_of, member, members_of, whole_below};
+use sal_rows::Rules;
 use sal_types::Seq;
 use serde_json::{Map, Value};
 use std::alloc::Global;
 
 /// The script that bytes stand for, or the first bad place: the bytes as JSON, the object's members, `modules`, `upgrades`, `config`,
-/// `operational`, `devices` and each device, `clients` and each client, the steps of each client, `order`.
+/// `operational`, `devices` and each device, `clients` and each client, the steps of each client, `order`, `rules`.
 pub fn read_script(alloc: Global, bytes: &[u8]) -> Result<Script, ScriptFault>
     ensures { ReadsScript result (spec.script_of bytes.now) }
 {
@@ -57,6 +59,7 @@ fn script_members(alloc: Global, value: &Value) -> Result<&Map<String, Value>, S
         "devices",
         "clients",
         "order",
+        "rules",
     ];
     match members_of(value, names) {
         Some(members) => Ok(members),
@@ -64,12 +67,19 @@ fn script_members(alloc: Global, value: &Value) -> Result<&Map<String, Value>, S
     }
 }
 
-// What a script has but its order.
+// What a script has but its order and its version rules.
 #[derive(Drop)]
 struct Beginning {
     own: OwnDomain,
     devices: Vec<ScriptDevice>,
     clients: Vec<Program>,
+}
+
+// What comes behind it.
+#[derive(Drop)]
+struct Ending {
+    order: Vec<u32>,
+    rules: Rules,
 }
 
 // Each part is read behind those before it, which are handed on by value: where it is bad there is one value to let go of.
@@ -80,7 +90,7 @@ fn parts_of(alloc: Global, members: &Map<String, Value>) -> Result<Script, Scrip
     let own = own_of(alloc, members)?;
     let domains = with_devices(alloc, members, own)?;
     let beginning = with_clients(alloc, members, domains)?;
-    let order = order_of(alloc, members)?;
+    let ending = ending_of(alloc, members)?;
     let own = beginning.own;
     let device = own.device;
     Ok(Script {
@@ -90,7 +100,8 @@ fn parts_of(alloc: Global, members: &Map<String, Value>) -> Result<Script, Scrip
         operational: device.operational,
         devices: Seq::from_items(beginning.devices),
         clients: Seq::from_items(beginning.clients),
-        order: Seq::from_items(order),
+        order: Seq::from_items(ending.order),
+        rules: ending.rules,
     })
 }
 
@@ -202,6 +213,56 @@ fn steps_of(alloc: Global, client: usize, program: &[Value]) -> Result<Vec<Scrip
         }
     }
     Ok(steps)
+}
+
+// The order, and the version rules.
+fn ending_of(alloc: Global, members: &Map<String, Value>) -> Result<Ending, ScriptFault>
+    ensures { Reads ending result (spec.ending_of (members_view members.now.entries)) }
+{
+    let order = order_of(alloc, members)?;
+    let rules = rules_of(alloc, members)?;
+    Ok(Ending { order, rules })
+}
+
+// The version rules, which are 1 where the script does not say.
+fn rules_of(alloc: Global, members: &Map<String, Value>) -> Result<Rules, ScriptFault>
+    ensures { Reads (λ rules. rules) result (spec.or_bad (codes "rules") (spec.rules_member (members_view members.now.entries))) }
+{
+    match rules_member(members) {
+        Some(rules) => Ok(rules),
+        None => Err(bad(alloc, "rules")),
+    }
+}
+
+fn rules_member(members: &Map<String, Value>) -> Option<Rules>
+    ensures { result ≡ spec.rules_member (members_view members.now.entries) }
+{
+    match member(members, "rules") {
+        None => Some(Rules::One),
+        Some(value) => rules_in(value),
+    }
+}
+
+// The version rules of this number.
+fn rules_in(value: &Value) -> Option<Rules>
+    ensures { result ≡ option_and_then spec.rules_by (number_of (view value.now)) }
+{
+    match whole_below(1 << 32, value) {
+        None => None,
+        Some(number) => rules_by(number),
+    }
+}
+
+fn rules_by(number: u64) -> Option<Rules>
+    ensures { result ≡ spec.rules_by number }
+{
+    if number == 1 {
+        Some(Rules::One)
+    } else if number == 2 {
+        Some(Rules::Two)
+    } else {
+        None
+    }
 }
 
 // The client numbers of the order.

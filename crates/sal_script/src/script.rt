@@ -1,12 +1,12 @@
 //! Scripts and their steps.
 ghost use Rattle.std.specs.Prelude.{IsTrue, ◌&&◌};
 ghost use Rattle.serde_json.specs.View.{view};
-ghost use Rattle.sal_value.specs.Json.{is_json};
+ghost use Rattle.sal_json_laws.specs.Json.{is_json};
 ghost use Rattle.sal_script.specs.JsonMoves.{have_json_moves};
 ghost use Rattle.sal_script.specs.Limits.{all_texts, are_few, are_short, within_limits};
 ghost use Rattle.sal_script.specs.Moves.{clients_of};
 
-use sal_rows::Mode;
+use sal_rows::{Mode, Rules};
 use sal_types::{Seq, Store, Str};
 use serde_json::Value;
 
@@ -209,8 +209,8 @@ pub(crate) struct OwnDomain {
 }
 
 /// A script: the texts of its modules and those that each upgrade of domain 0 adds, together shorter than 4 GiB, the data of its opening
-/// trees, at most 63 devices, at most 16 clients with at most 60,000 steps each, and the order of their shared calls. The device at index
-/// `i` is domain `i + 1`; the upgrade at index `i` leads to version `i + 1` of the schema of domain 0.
+/// trees, at most 63 devices, at most 16 clients with at most 60,000 steps each, the order of their shared calls, and the version rules of
+/// all domains. The device at index `i` is domain `i + 1`; the upgrade at index `i` leads to version `i + 1` of the schema of domain 0.
 #[derive(Drop)]
 pub struct Script {
     pub modules: Seq<Str>,
@@ -220,6 +220,7 @@ pub struct Script {
     pub devices: Seq<ScriptDevice>,
     pub clients: Seq<Program>,
     pub order: Seq<u32>,
+    pub rules: Rules,
     ghost short: { IsTrue (are_short (all_texts modules upgrades)) },
     ghost few: { IsTrue (are_few devices) },
     ghost limits: { IsTrue (within_limits clients) },

@@ -1,7 +1,7 @@
 //! What domain 0 has of a script: its modules, the further modules that each upgrade of its schema adds, and its openings.
 ghost use Rattle.std.specs.Prelude.{◌≡◌, codes, map, option_and_then, option_map, IfOk, IsTrue};
 ghost use Rattle.serde_json.specs.View.{view, members_view};
-ghost use Rattle.sal_value.specs.Json.{HasJson};
+ghost use Rattle.sal_json_laws.specs.Json.{HasJson};
 ghost use Rattle.sal_script.specs.Reading.{Reads, device, own};
 ghost use Rattle.sal_script.specs.Limits.{all_texts, are_short};
 ghost use Rattle.sal_script.specs.Script as spec;

@@ -8,8 +8,8 @@ ghost use Rattle.sal_script.specs.Script.{at_most, list_member, members_of};
 
 use serde_json::{Map, Value};
 
-// The values of an array, in order.
-pub(crate) fn list_of(value: &Value) -> Option<&[Value]>
+/// The values of an array, in order; none of another value.
+pub fn list_of(value: &Value) -> Option<&[Value]>
     ensures { option_map (λ list. map view list.now) result ≡ list_of (view value.now) }
 {
     match value.as_array() {

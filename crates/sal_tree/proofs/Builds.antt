@@ -15,21 +15,18 @@ use Rattle.sal_types.specs.Order.{step_cmp}
 use Rattle.sal_types.specs.Tree.{IsAscending}
 use Rattle.sal_types.proofs.Trees.{IsTrue-from_T, T-from_IsTrue}
 use Rattle.sal_node.specs.Tree.{Tree, Forest, bare, grown, grove, is_filled, height}
-use Rattle.sal_node.proofs.Entries.{pairs-grove, first, second, both}
+use Rattle.sal_node.proofs.Entries.{pairs-grove, first, second, both, Entries}
 use Rattle.sal_tree.specs.Grow.{at}
 use Rattle.sal_tree.specs.Follows.{IsStamped}
 use Rattle.sal_tree.specs.Rows.{here, below, rows_in, rows_of, from_depth, first_cell, other_rows, is_root, leading}
 use Rattle.sal_tree.specs.Built.{IsBuilt}
 use Rattle.sal_tree.specs.Whole.{IsWhole}
 use Rattle.sal_tree.proofs.Laws.{eq, IsFull, AllFull, grove-made}
-use Rattle.sal_tree.proofs.ByChildren.{rows_by, rows_in-pairs, rows_by-append}
+use Rattle.sal_tree.proofs.ByChildren.{rows_by, rows_in-pairs, rows_by-append, append_none}
 use Rattle.sal_tree.proofs.Heights.{AllLow, low-grove}
 use Rattle.sal_tree.proofs.Follows.{some_same}
 use Rattle.sal_tree.proofs.Parts.{Rising, rising-take, rising-drop}
 use Rattle.sal_tree.proofs.Runs.{root-long, AllBelow, IsAfter, AllAfter, after-drop, below-drop, run-below, run-after, run-some, rising-unbelow, first-others, others-below, others-rising, from_depth-next, from_depth-take, from_depth-drop}
-
-abbrev Entries : Type 0
-Entries = List (Step × Tree)
 
 abbrev pub AllStamped : ℕ → Entries → Type 0
 AllStamped s [] = Unit {0}
@@ -96,10 +93,6 @@ stamped-snoc s (e ∷ es) x t h g = (h.0, stamped-snoc s es x t h.1 g)
 earlier-snoc : (es : Entries) (x : Step) (t : Tree) (n : ℕ) (rows : List Row) → AllEarlier es rows → AllAfter x (drop n rows) → AllEarlier (es ++ (x, t) ∷ []) (drop n rows)
 earlier-snoc [] x t n rows h g = (g, tt)
 earlier-snoc (e ∷ es) x t n rows h g = (after-drop n e.0 rows h.0, earlier-snoc es x t n rows h.1 g)
-
-append_none : (xs : List Row) → xs ++ [] ≡ xs
-append_none [] = refl
-append_none (x ∷ xs) = ap (λ (r : List Row). x ∷ r) (append_none xs)
 
 listed-snoc : (es : Entries) (x : Step) (t : Tree) (n : ℕ) (all rows run : List Row) → all ≡ rows_by es ++ rows → take n rows ≡ below x run → rows_of t ≡ run → all ≡ rows_by (es ++ (x, t) ∷ []) ++ drop n rows
 listed-snoc es x t n all rows run was is made =

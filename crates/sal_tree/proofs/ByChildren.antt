@@ -7,9 +7,7 @@ use Rattle.sal_node.specs.Tree.{Tree, Forest, bare, grown, pairs, weight, size_o
 use Rattle.sal_node.specs.Shape.{seen}
 use Rattle.sal_node.specs.declared.node.Child.{Child}
 use Rattle.sal_tree.specs.Rows.{here, below, rows_in, rows_of, from_path}
-
-abbrev Entries : Type 0
-Entries = List (Step × Tree)
+use Rattle.sal_node.proofs.Entries.{Entries}
 
 abbrev pub rows_by : List (Step × Tree) → List Row
 rows_by [] = []
@@ -31,11 +29,11 @@ from_path-below : (p : List Step) (x : Step) (rows : List Row) → from_path p (
 from_path-below p x [] = refl
 from_path-below p x (r ∷ rows) = λ i. record { path = sym (append_assoc p (x ∷ []) r.path) i; cell = r.cell } ∷ from_path-below p x rows i
 
-append_none : (xs : List Row) → xs ++ [] ≡ xs
+pub append_none : (xs : List Row) → xs ++ [] ≡ xs
 append_none [] = refl
 append_none (x ∷ xs) = ap (λ (r : List Row). x ∷ r) (append_none xs)
 
-seen-at : (cs : List (Bor Child)) (i : ℕ) (c : Bor Child) → i < length cs → c ≡ get_or cs i c → take (i + 1) (seen cs) ≡ take i (seen cs) ++ ((c.now.step, c.now.node.value) ∷ [])
+pub seen-at : (cs : List (Bor Child)) (i : ℕ) (c : Bor Child) → i < length cs → c ≡ get_or cs i c → take (i + 1) (seen cs) ≡ take i (seen cs) ++ ((c.now.step, c.now.node.value) ∷ [])
 seen-at [] i c l at = absurd (omega arith)
 seen-at (d ∷ cs) zero c l at = ap (λ (e : Bor Child). (e.now.step, e.now.node.value) ∷ []) (sym at)
 seen-at (d ∷ cs) (suc i) c l at = ap (λ n. take n (seen (d ∷ cs))) (let q : suc i + 1 ≡ suc (i + 1) = omega arith in q) ∙ ap (λ (es : Entries). (d.now.step, d.now.node.value) ∷ es) (seen-at cs i c (omega arith) at)
@@ -50,13 +48,13 @@ listed-child cs i c p q start into after l at path was is =
     ∙ sym (from_path-append p (rows_by (take i (seen cs))) (rows_by ((c.now.step, c.now.node.value) ∷ [])))
     ∙ ap (from_path p) (sym (ap rows_by (seen-at cs i c l at) ∙ rows_by-append (take i (seen cs)) ((c.now.step, c.now.node.value) ∷ []))))
 
-take_all : (es : Entries) (n : ℕ) → length es ≤ n → take n es ≡ es
+pub take_all : (es : Entries) (n : ℕ) → length es ≤ n → take n es ≡ es
 take_all [] zero l = refl
 take_all [] (suc n) l = refl
 take_all (e ∷ es) zero l = absurd (omega arith)
 take_all (e ∷ es) (suc n) l = ap (λ (fs : Entries). e ∷ fs) (take_all es n (omega arith))
 
-seen-length : (cs : List (Bor Child)) → length (seen cs) ≡ length cs
+pub seen-length : (cs : List (Bor Child)) → length (seen cs) ≡ length cs
 seen-length [] = refl
 seen-length (c ∷ cs) = ap suc (seen-length cs)
 

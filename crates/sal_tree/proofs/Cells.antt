@@ -2,9 +2,8 @@
 use Rattle.std.proofs.Common.{◌≡◌, Bool, true, false, List, [], ◌∷◌, ◌++◌, ◌&&◌, ◌||◌, Option, Some, None, refl, ap, sym, ◌∙◌, subst, cond, if◌then◌else◌}
 use Rattle.std.specs.Prelude.{T}
 use Rattle.std.specs.Option.{option_or}
-use Rattle.std.specs.Ordering.{is_eq, is_lt, ordering_then}
-use Rattle.std.specs.declared.cmp.Ordering.{Ordering}
-use Rattle.std.specs.declared.cmp.Ordering.TheVariants.{Less, Equal, Greater}
+use Rattle.std.specs.Ordering.{is_lt, ordering_then}
+use Rattle.std.specs.declared.cmp.Ordering.TheVariants.{Less}
 use Rattle.std.specs.Cmp.{tied_itself}
 use Rattle.std.specs.FinMap.{find, is_sorted}
 use Rattle.std.specs.FinMap.Entries.{below_all}
@@ -20,15 +19,11 @@ use Rattle.sal_node.proofs.Entries.{first, second, both, less}
 use Rattle.sal_tree.specs.Grow.{cell_in, at, present}
 use Rattle.sal_tree.specs.Rows.{here, below, rows_in, rows_of}
 use Rattle.sal_tree.proofs.Laws.{eq, missing}
+use Rattle.sal_types.proofs.Shared.{then_eq}
 
 pub cell-append : (xs ys : List Row) (p : List Step) → cell (xs ++ ys) p ≡ option_or (cell xs p) (cell ys p)
 cell-append [] ys p = refl
 cell-append (x ∷ xs) ys p = elim (path_eq p x.path) as (λ b. (if b then Some x.cell else cell (xs ++ ys) p) ≡ option_or (if b then Some x.cell else cell xs p) (cell ys p)) [ true ↦ refl | false ↦ cell-append xs ys p ]
-
-then_eq : (a b : Ordering) → is_eq (ordering_then a b) ≡ (is_eq a && is_eq b)
-then_eq Less b = refl
-then_eq Equal b = refl
-then_eq Greater b = refl
 
 pub cell-below : (x : Step) (rows : List Row) (y : Step) (p : List Step) → cell (below x rows) (y ∷ p) ≡ cond (eq y x) (cell rows p) None
 cell-below x [] y p = elim (eq y x) as (λ b. None ≡ cond b (cell [] p) None) [ true ↦ refl | false ↦ refl ]
@@ -53,7 +48,7 @@ cell-here_root : (c : Option Cell) → cell (here c) [] ≡ c
 cell-here_root None = refl
 cell-here_root (Some c) = refl
 
-or_none : (o : Option Cell) → option_or o None ≡ o
+pub or_none : (o : Option Cell) → option_or o None ≡ o
 or_none None = refl
 or_none (Some c) = refl
 
@@ -176,7 +171,7 @@ none_present : (p : List Step) → present (at None p) ≡ false
 none_present [] = refl
 none_present (x ∷ p) = none_present p
 
-or_false : (b : Bool) → (b || false) ≡ b
+pub or_false : (b : Bool) → (b || false) ≡ b
 or_false true = refl
 or_false false = refl
 

@@ -124,7 +124,7 @@ Follows-edits s store (op ∷ ops) t h g =
     first_edit true = Follows-act s t op.path op.act h g.0.0
     first_edit false = Follows-same (exactly s) t
 
-itself : (store : Store) → same_store store store ≡ true
+pub itself : (store : Store) → same_store store store ≡ true
 itself Config = refl
 itself Oper = refl
 

@@ -14,14 +14,11 @@ use Rattle.sal_tree.specs.Grow.{kid, at, standing, grow, IsSound, present}
 use Rattle.sal_tree.specs.Edit.{root_of, celled, with_row, without, with_rows, put_rows}
 use Rattle.sal_tree.specs.Follows.{Follows, exactly}
 use Rattle.sal_tree.proofs.Laws.{at-through, at-beside, at-append, at-end, is_prefix-self, full-grow, full-celled, sound-full, sound-at, IsFull, full-kid}
-use Rattle.sal_tree.proofs.Follows.{Follows-then, Follows-same, Follows-by}
+use Rattle.sal_tree.proofs.Follows.{Follows-then, Follows-same, Follows-by, some_same}
 
-at_none : (p : List Step) → at None p ≡ None
+pub at_none : (p : List Step) → at None p ≡ None
 at_none [] = refl
 at_none (x ∷ p) = at_none p
-
-some_same : (a b : Tree) → Some a ≡ Some b → a ≡ b
-some_same a b e = cc
 
 -- below the root a tree is its node
 pub at-root_of : (s : ℕ) (o : Option Tree) (x : Step) (p : List Step) → at (Some (root_of s o)) (x ∷ p) ≡ at o (x ∷ p)

@@ -7,9 +7,7 @@ use Rattle.sal_tree.specs.Grow.{at, cell_in, kid}
 use Rattle.sal_tree.specs.Graft.{Setting, Touch, IsGrafted, CanGraft}
 use Rattle.sal_tree.specs.Follows.{Follows, Agree, HasNo}
 use Rattle.sal_tree.specs.History.{IsOneOf}
-
-some_same : (a b : Tree) → Some a ≡ Some b → a ≡ b
-some_same a b e = cc
+use Rattle.sal_tree.proofs.Follows.{some_same}
 
 module _ (own fresh : ℕ) (set : Setting) (touched : Touch) (b v t : Option Tree) (can : CanGraft own set touched b v t) where
   -- where base and tip are the same node, the view's

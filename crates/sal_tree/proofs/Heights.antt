@@ -13,9 +13,7 @@ use Rattle.sal_tree.specs.Edit.{celled, root_of, with_row}
 use Rattle.sal_tree.specs.Whole.{IsWhole}
 use Rattle.sal_tree.proofs.Laws.{eq}
 use Rattle.sal_tree.proofs.Edited.{sound-with_row, sound-cleared}
-
-abbrev Entries : Type 0
-Entries = List (Step × Tree)
+use Rattle.sal_node.proofs.Entries.{Entries}
 
 -- no node stands more than n steps below
 abbrev pub IsLow : ℕ → Option Tree → Type 0

@@ -13,12 +13,9 @@ use Rattle.sal_types.specs.Order.{step_cmp, step_cmp-IsTotalOrder, step_cmp-IsAn
 use Rattle.sal_types.specs.Prefix.{is_prefix}
 use Rattle.sal_types.proofs.Prefixes.{is_prefix-append}
 use Rattle.sal_node.specs.Tree.{Tree, Forest, bare, grown, pairs, grove, cut, change, IsGrove, is_filled}
-use Rattle.sal_node.proofs.Entries.{pairs-grove, first, second, both, below_less, find_above}
+use Rattle.sal_node.proofs.Entries.{pairs-grove, first, second, both, below_less, find_above, Entries}
 use Rattle.sal_tree.specs.Grow.{kids_in, cell_in, kid, at, standing, grow, IsSound}
 use Rattle.sal_tree.specs.Edit.{kids_at, celled}
-
-abbrev Entries : Type 0
-Entries = List (Step × Tree)
 
 abbrev pub eq : Step → Step → Bool
 eq = eq_by_cmp step_cmp
@@ -35,7 +32,7 @@ no_tie y x p q e = ap (λ b. cond b p q) e
 tie : (y x : Step) (p q : Option Tree) → eq y x ≡ true → cond (eq y x) p q ≡ p
 tie y x p q e = ap (λ b. cond b p q) e
 
-less_T : (o : Ordering) → o ≡ Less → T (is_lt o)
+pub less_T : (o : Ordering) → o ≡ Less → T (is_lt o)
 less_T o e = subst (λ r. T (is_lt r)) (sym e) tt
 
 pub missing : (y x : Step) (es : Entries) → eq y x ≡ true → T (below_all step_cmp x es) → find step_cmp y es ≡ None
@@ -197,7 +194,7 @@ sound-row s t u p c new o h same is e = subst IsSound (sym e) (sound-full _ (ful
 pub sound-delete : (s : ℕ) (u : Tree) (p : List Step) (o : Option Tree) → IsGrove u.kids → o ≡ grow s (Some u) p None → IsSound o
 sound-delete s u p o h e = subst IsSound (sym e) (sound-full _ (full-grow s (Some u) p None h tt))
 
-append_nil : (p : List Step) → p ++ [] ≡ p
+pub append_nil : (p : List Step) → p ++ [] ≡ p
 append_nil [] = refl
 append_nil (x ∷ p) = ap (λ (q : List Step). x ∷ q) (append_nil p)
 

@@ -17,7 +17,7 @@ use Rattle.sal_node.specs.Tree.{Tree, Forest, IsGrove, is_filled}
 use Rattle.sal_tree.specs.Grow.{cell_in, at, standing, grow, IsSound, present}
 use Rattle.sal_tree.specs.Edit.{root_of, celled, with_row, without, with_rows, put_rows}
 use Rattle.sal_tree.specs.Rows.{rows_of}
-use Rattle.sal_tree.proofs.Laws.{at-through, at-beside, at-append, at-end, is_prefix-self}
+use Rattle.sal_tree.proofs.Laws.{at-through, at-beside, at-append, at-end, is_prefix-self, append_nil}
 use Rattle.sal_tree.proofs.Cells.{cell-rows_of, ascending-rows_of}
 use Rattle.sal_tree.proofs.Edited.{kept-row, cleared_below, none-below, sound-with_row, sound-without}
 
@@ -41,10 +41,6 @@ longer q x r = elim (path_eq q (q ++ x ∷ r)) as (λ b. path_eq q (q ++ x ∷ r
   | true ↦ λ e. let l : length q ≡ length (q ++ x ∷ r) = ap length (same_path q (q ++ x ∷ r) e) in absurd (omega (arith, length-append q (x ∷ r)))
   | false ↦ λ e. refl
 ] refl
-
-append_nil : (p : List Step) → p ++ [] ≡ p
-append_nil [] = refl
-append_nil (x ∷ p) = ap (λ (q : List Step). x ∷ q) (append_nil p)
 
 other : (q p : List Step) → is_prefix q p ≡ false → path_eq q p ≡ false
 other q p e = elim (path_eq q p) as (λ b. path_eq q p ≡ b → b ≡ false) [

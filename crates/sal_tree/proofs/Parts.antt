@@ -11,13 +11,7 @@ use Rattle.sal_types.specs.Order.{path_cmp}
 use Rattle.sal_types.specs.Tree.{entries, IsAscending}
 use Rattle.sal_types.proofs.Trees.{IsTrue-from_T, T-from_IsTrue}
 use Rattle.sal_node.proofs.Entries.{first, second, both}
-
-abbrev pub Rising : List Row → Type 0
-Rising rows = T (is_sorted path_cmp (entries rows))
-
--- each row comes after the path
-abbrev pub Behind : List Step → List Row → Type 0
-Behind p rows = T (below_all path_cmp p (entries rows))
+pub use Rattle.sal_rows.proofs.Differing.{Rising, Behind}
 
 pub behind-first : (row : Row) (rows : List Row) → Rising (row ∷ rows) → Behind row.path rows
 behind-first row rows h = first _ (is_sorted path_cmp (entries rows)) h

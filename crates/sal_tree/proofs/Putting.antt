@@ -35,10 +35,6 @@ use Rattle.sal_tree.proofs.Runs.{rising-unbelow}
 use Rattle.sal_tree.proofs.Wholes.{from_path-root, from_path-below}
 use Rattle.sal_tree.proofs.Builds.{filled-rows}
 
-append_nil : (p : List Step) → p ++ [] ≡ p
-append_nil [] = refl
-append_nil (x ∷ p) = ap (λ (q : List Step). x ∷ q) (append_nil p)
-
 then_eq : (y x : Step) (p q : List Step) → path_eq (y ∷ p) (x ∷ q) ≡ (eq y x && path_eq p q)
 then_eq y x p q = elim (step_cmp y x) as (λ o. is_eq (ordering_then o (path_cmp p q)) ≡ (is_eq o && path_eq p q)) [ Less ↦ refl | Equal ↦ refl | Greater ↦ refl ]
 

@@ -13,7 +13,7 @@ use Rattle.sal_tree.proofs.Cells.{has-rows_of}
 use Rattle.sal_tree.proofs.Edited.{full-at}
 use Rattle.sal_tree.proofs.History.{same_stamp-untouched}
 
-same_test : (a b : ℕ) → a ≡ b → (a == b) ≡ true
+pub same_test : (a b : ℕ) → a ≡ b → (a == b) ≡ true
 same_test a b e = grind (arith, nat_tests)
 
 other_test : (a b : ℕ) → b ≢ a → (a == b) ≡ false

@@ -22,8 +22,9 @@ use Rattle.sal_tree.proofs.Laws.{eq, same, self_tie}
 use Rattle.sal_tree.proofs.Cells.{has-rows_of}
 use Rattle.sal_tree.proofs.Follows.{Follows-by}
 use Rattle.sal_tree.proofs.Edited.{clears, Follows-without, Follows-rows, Follows-put}
+use Rattle.sal_rows.proofs.Numbers.{or_swap}
 
-and_no : (b : Bool) → (b && false) ≡ false
+pub and_no : (b : Bool) → (b && false) ≡ false
 and_no true = refl
 and_no false = refl
 
@@ -123,12 +124,6 @@ absorbed rows before q = elim (has rows q) as (λ b. has rows q ≡ b → (b || 
       | true ↦ λ c. let yes = merged rows q row.path c in cc
       | false ↦ λ c. none l b
     ] refl
-
-or_swap : (a b : Bool) → (a || b) ≡ (b || a)
-or_swap true true = refl
-or_swap true false = refl
-or_swap false true = refl
-or_swap false false = refl
 
 -- the rows of an act lie below its path, as far as the act asks
 abbrev pub IsLawful : List Step → Act → Type 0

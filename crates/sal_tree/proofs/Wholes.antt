@@ -4,9 +4,7 @@ use Rattle.std.specs.Prelude.{T}
 use Rattle.std.proofs.Common.{cond}
 use Rattle.std.specs.FinMap.{is_sorted}
 use Rattle.std.specs.List.{fold}
-use Rattle.std.specs.Option.{option_or}
 use Rattle.sal_types.specs.declared.value.Step.{Step}
-use Rattle.sal_types.specs.declared.value.Cell.{Cell}
 use Rattle.sal_types.specs.declared.row.Row.{Row}
 use Rattle.sal_types.specs.Order.{path_cmp}
 use Rattle.sal_types.specs.Prefix.{is_prefix}
@@ -19,7 +17,7 @@ use Rattle.sal_tree.specs.Grow.{at, cell_in, blank, kid, IsSound, present}
 use Rattle.sal_tree.specs.Rows.{rows_of, from_path, below}
 use Rattle.sal_tree.specs.Edit.{with_rows}
 use Rattle.sal_tree.proofs.Laws.{eq, same, sound-at, sound-kid}
-use Rattle.sal_tree.proofs.Cells.{cell-rows_of, ascending-rows_of, has-rows_of, cell-below, cell-below_root, sorted-below}
+use Rattle.sal_tree.proofs.Cells.{cell-rows_of, ascending-rows_of, has-rows_of, cell-below, cell-below_root, sorted-below, or_none}
 use Rattle.sal_tree.proofs.Touches.{eq_back}
 use Rattle.sal_tree.proofs.Chains.{absent-cell}
 use Rattle.sal_tree.proofs.Edited.{Follows-rows}
@@ -28,10 +26,6 @@ use Rattle.sal_tree.proofs.Listed.{rows-with_rows}
 ascending-fold : (rows tree : List Row) → IsAscending tree → IsAscending (fold set_row tree rows)
 ascending-fold [] tree h = h
 ascending-fold (row ∷ rows) tree h = ascending-fold rows (set_row tree row) (IsAscending-set_row tree row h)
-
-or_none : (o : Option Cell) → option_or o None ≡ o
-or_none None = refl
-or_none (Some c) = refl
 
 all_set : (rows : List Row) → IsAscending rows → fold set_row [] rows ≡ rows
 all_set rows h = same_tree (fold set_row [] rows) rows (ascending-fold rows [] refl) h (λ r. cell-set_rows rows [] r h ∙ or_none (cell rows r))

@@ -9,3 +9,4 @@ pub mod History
 pub mod Alike
 pub mod Graft
 pub mod Examples
+pub mod Stores

@@ -1,7 +1,10 @@
 //! Both trees of a domain, and commits.
+ghost use Rattle.std.specs.Prelude.{◌≡◌};
+ghost use Rattle.sal_tree.specs.Stores.{tree_in};
+
 use crate::root::Root;
 use sal_rows::Op;
-use sal_types::{Duplicate, NoMemory, Seq};
+use sal_types::{Duplicate, NoMemory, Seq, Store};
 use std::sync::Arc;
 
 /// The two trees of a domain.
@@ -9,6 +12,16 @@ use std::sync::Arc;
 pub struct Pair {
     pub config: Root,
     pub oper: Root,
+}
+
+/// The tree of the store.
+pub fn tree_of(pair: &Pair, store: Store) -> &Root
+    ensures { result.now ≡ tree_in pair.now store }
+{
+    match store {
+        Store::Config => &pair.config,
+        Store::Oper => &pair.oper,
+    }
 }
 
 impl Duplicate for Pair {

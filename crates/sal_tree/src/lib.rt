@@ -47,7 +47,7 @@ pub mod root;
 pub mod under;
 
 pub use alike::is_alike;
-pub use commit::{Commit, Pair};
+pub use commit::{Commit, Pair, tree_of};
 pub use listing::longer;
 pub use reach::{child_of, have_same_stamp, is_present, reached};
 pub use root::Root;

@@ -18,7 +18,7 @@ use Rattle.sal_tree.specs.Follows.{Follows, exactly}
 use Rattle.sal_tree.specs.Rows.{rows_of}
 use Rattle.sal_tree.specs.Touched.{act_touches}
 use Rattle.sal_tree.proofs.Cells.{ascending-rows_of}
-use Rattle.sal_tree.proofs.Commits.{Follows-next}
+use Rattle.sal_tree.proofs.Commits.{Follows-next, itself}
 use Rattle.sal_tree.proofs.Follows.{Follows-by, Follows-same}
 use Rattle.sal_tree.proofs.Parts.{filter-all}
 use Rattle.sal_tree.specs.declared.commit.Pair.{Pair}
@@ -117,10 +117,6 @@ IsRight-open w writes low none same g h = record {
   oper = rw (none, same) (IsAfter-none (stamp_of w.begun.place) Oper w.base.oper h);
   lawful = rw none tt;
 }
-
-itself : (store : Store) → same_store store store ≡ true
-itself Config = refl
-itself Oper = refl
 
 after_in : (w : Writing) → IsRight w → (store : Store) → IsAfter (stamp_of w.begun.place) store w.changes (tree_in w.base store) (tree_in w.view store)
 after_in w right Config = right.config

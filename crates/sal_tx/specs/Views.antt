@@ -10,6 +10,7 @@ use Rattle.sal_rows.specs.Touch.{touches}
 use Rattle.sal_node.specs.Tree.{Tree}
 use Rattle.sal_tree.specs.Follows.{Follows, exactly}
 use Rattle.sal_tree.specs.Rows.{rows_of}
+pub use Rattle.sal_tree.specs.Stores.{rows_in, tree_in}
 use Rattle.sal_tree.specs.declared.commit.Pair.{Pair}
 use Rattle.sal_schema.specs.declared.table.SchemaTable.{SchemaTable}
 use Rattle.sal_rules.specs.Writes.{IsForSchema}
@@ -17,14 +18,6 @@ use Rattle.sal_tx.specs.declared.writing.Writing.{Writing}
 use Rattle.sal_rules.specs.declared.fault.TxFault.{TxFault}
 use Rattle.sal_rules.specs.declared.fault.TxFault.TheVariants.{NoMemory}
 use Rattle.sal_rules.specs.Refusals.{refusal}
-
--- the tree of a store
-abbrev pub tree_in : Pair → Store → Tree
-tree_in pair Config = pair.config
-tree_in pair Oper = pair.oper
-
-abbrev pub rows_in : Pair → Store → List Row
-rows_in pair store = rows_of (tree_in pair store)
 
 -- the stamp of a transaction that was begun at a place
 abbrev pub stamp_of : ℕ → ℕ

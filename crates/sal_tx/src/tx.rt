@@ -14,7 +14,7 @@ use sal_mod::Mod;
 use sal_rows::{Act, Mode, Op, Ops, Rows};
 use sal_rules::{TxFault, WriteOnly};
 use sal_schema::Schema;
-use sal_tree::{Pair, Root};
+use sal_tree::{Pair, Root, tree_of};
 use sal_types::{Duplicate, NoMemory, Path, Store};
 use std::alloc::Global;
 use std::marker::Model;
@@ -65,15 +65,6 @@ pub struct Submission {
     pub base: Pair,
     pub view: Pair,
     pub changes: Changes,
-}
-
-fn tree_of(pair: &Pair, store: Store) -> &Root
-    ensures { result.now ≡ spec.tree_in pair.now store }
-{
-    match store {
-        Store::Config => &pair.config,
-        Store::Oper => &pair.oper,
-    }
 }
 
 impl ReadTx {

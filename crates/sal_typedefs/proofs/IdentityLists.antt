@@ -14,6 +14,7 @@ use Rattle.sal_typedefs.specs.Blocks.{Numbers, with_first}
 use Rattle.sal_typedefs.specs.Ready.{identities_among, is_identity_of, AreNumbered, AreIdentities}
 use Rattle.sal_types.proofs.Lists.{position_from-last}
 use Rattle.sal_module.proofs.Firsts.{with_first-miss}
+pub use Rattle.sal_types.proofs.Shared.{got-at}
 
 -- ---- those among statements
 
@@ -76,11 +77,6 @@ pub none-past : {X : Type 0} (xs : List X) (k : ℕ) → slice_get xs k ≡ None
 none-past [] k e = omega arith
 none-past (x ∷ xs) zero e = cc
 none-past (x ∷ xs) (suc k) e = omega (arith, none-past xs k e)
-
-pub got-at : {X : Type 0} (xs : List X) (k : ℕ) (x : X) → slice_get xs k ≡ Some x → x ≡ get_or xs k x
-got-at [] k x e = cc
-got-at (y ∷ xs) zero x e = cc
-got-at (y ∷ xs) (suc k) x e = got-at xs k x e
 
 pub number-at : (stmts : List Stmt) (maps : List Numbers) (name : List ℕ) (k : ℕ) (d : Numbers) → AreIdentities stmts maps → k < length maps
     → get_by_text (get_or maps k d) name ≡ option_and_then (identity_in stmts name k) (slice_get stmts k)

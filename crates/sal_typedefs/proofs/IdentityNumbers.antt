@@ -22,7 +22,7 @@ filter-short p (x ∷ xs) = elim (cases_Bool (p x)) [
   | inr f ↦ rw f (omega (arith, filter-short p xs))
 ]
 
-count-some : (levels : ℕ) (stmt : Stmt) → 1 ≤ count levels stmt
+pub count-some : (levels : ℕ) (stmt : Stmt) → 1 ≤ count levels stmt
 unfolding count
 count-some zero stmt = omega arith
 count-some (suc levels) stmt = omega arith

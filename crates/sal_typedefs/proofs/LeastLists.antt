@@ -151,7 +151,7 @@ stays-some (Some x) xs h none = none-some (least (Some x) xs) (least-some x xs) 
 
 -- ---- good statements below
 
-no-or : (a b : Bool) → (a || b) ≡ false → (a ≡ false) × (b ≡ false)
+pub no-or : (a b : Bool) → (a || b) ≡ false → (a ≡ false) × (b ≡ false)
 no-or true b e = cc
 no-or false b e = (refl, e)
 

@@ -23,12 +23,9 @@ use Rattle.sal_typedefs.specs.Entries.{item_of, has_form, integer, text_of, stat
 use Rattle.sal_typedefs.specs.Restrictions.{Base, Layer, IsPosition, HasPositions, with_digits, numbering_of, choices, faults_by}
 use Rattle.sal_typedefs.specs.Types.{takes_all, entries_in, restricted}
 use Rattle.sal_typedefs.proofs.LeastLists.{least-some}
+pub use Rattle.sal_typedefs.proofs.LeastLists.{no-or}
 
 -- ---- one name
-
-pub no-or : (a b : Bool) → (a || b) ≡ false → (a ≡ false) × (b ≡ false)
-no-or true b e = cc
-no-or false b e = (refl, e)
 
 pub yes-and : (a b : Bool) → (a && b) ≡ true → (a ≡ true) × (b ≡ true)
 yes-and true b e = (refl, e)

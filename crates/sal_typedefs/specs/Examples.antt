@@ -1,9 +1,8 @@
 -- Words for the examples.
-use Rattle.std.specs.Prelude.{ℕ, pos, None, List, [], ◌∷◌, ◌++◌, Option, Some, option_map}
+use Rattle.std.specs.Prelude.{ℕ, None, List, [], ◌∷◌, ◌++◌, Option, Some, option_map}
 use Prim.Native.String.{String}
 use Rattle.sal_stmt.specs.declared.stmt.Stmt.{Stmt}
 use Rattle.sal_module.specs.Examples.{plain, found}
-use Rattle.sal_restrict.specs.declared.ranges.Part.{Part}
 use Rattle.sal_restrict.specs.declared.yang_type.YangType.{YangType, roll-YangType}
 use Rattle.sal_restrict.specs.declared.yang_type.YangType.TheOpen.{YangType-F}
 use Rattle.sal_typedefs.specs.Scopes.{site_at}
@@ -12,6 +11,7 @@ use Rattle.sal_module.specs.declared.fault.Cause.TheVariants.{BadRestriction, Un
 use Rattle.sal_module.specs.Faults.{least}
 use Rattle.sal_typedefs.specs.Names.{name_faults}
 use Rattle.sal_typedefs.specs.Types.{judge}
+pub use Rattle.sal_restrict.specs.Examples.{upto}
 
 -- the module `m`, whose prefix is `p`, with these statements
 abbrev pub module_with : List Stmt → Stmt
@@ -40,9 +40,6 @@ letters = typedef 20 "letter" (type_at 22 "enumeration" (enum 24 "x" ∷ enum 26
 -- a leaf at 30 with this type at 32, behind these statements
 abbrev pub with_leaf : List Stmt → String → List Stmt → List Stmt
 with_leaf stmts name subs = stmts ++ leaf 30 "a" (type_at 32 name subs) ∷ []
-
-abbrev pub upto : ℕ → ℕ → Part
-upto low high = record { low = pos low; high = pos high }
 
 abbrev pub boolean : YangType
 boolean = roll-YangType YangType-F.Bool

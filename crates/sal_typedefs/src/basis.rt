@@ -6,13 +6,12 @@ ghost use Rattle.sal_typedefs.specs.Restrictions.{HasNumbers, HasPositions};
 ghost use Rattle.sal_typedefs.specs.Builtins.{type_of};
 ghost use Rattle.sal_typedefs.specs.Judgements as spec;
 
-use crate::append::append;
 use crate::builtin::Builtin;
 use crate::entry::Entry;
 use crate::judgement::{Basis, Judgement};
 use crate::layer::copies;
 use sal_restrict::YangType;
-use sal_types::NoMemory;
+use sal_types::{NoMemory, append};
 use std::alloc::Global;
 
 /// The types of statements.

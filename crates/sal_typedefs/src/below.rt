@@ -6,13 +6,12 @@ ghost use Rattle.sal_typedefs.specs.Scopes as scopes;
 ghost use Rattle.sal_typedefs.specs.Names as spec;
 ghost use Rattle.sal_typedefs.specs.Spots.{site_of};
 
-use crate::append::append;
 use crate::builtin::builtin_of;
 use crate::name::local;
 use crate::spot::{Spot, typedef_in};
 use crate::typedefs::Typedefs;
 use sal_module::{Keyword, argument_of, first_named, is_named};
-use sal_types::NoMemory;
+use sal_types::{NoMemory, append};
 use std::alloc::Global;
 
 /// The typedef of a name in a module, seen from a statement.

@@ -6,9 +6,8 @@ ghost use Rattle.sal_typedefs.specs.Builtins.{bits_of};
 ghost use Rattle.sal_typedefs.specs.declared.builtin.Builtin.TheVariants as kind;
 ghost use Rattle.sal_typedefs.specs.Restrictions.{HasNumbers};
 
-use crate::append::append;
 use sal_restrict::{Part, Ranges, YangType};
-use sal_types::{NoMemory, Seq, Str};
+use sal_types::{NoMemory, Seq, Str, append};
 use std::alloc::Global;
 
 /// How many bits a whole number has.

@@ -6,13 +6,12 @@ ghost use Rattle.sal_module.specs.Profile.{at_stmt};
 ghost use Rattle.sal_module.specs.Statements as statements;
 ghost use Rattle.sal_typedefs.specs.Entries as spec;
 
-use crate::append::append;
 use crate::entry::{Entry, Numbering};
 use crate::judging::at;
 use crate::numbering::{chosen_entry, next_after, own_entry};
 use sal_module::{Cause, Found, better, is_named};
 use sal_stmt::Stmt;
-use sal_types::NoMemory;
+use sal_types::{NoMemory, append};
 use std::alloc::Global;
 
 /// The least of this fault and that of a statement, if there is one.

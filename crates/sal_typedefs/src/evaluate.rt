@@ -8,7 +8,6 @@ ghost use Rattle.sal_typedefs.specs.Walks as walks;
 ghost use Rattle.sal_typedefs.specs.Judgements.{AreJudged};
 ghost use Rattle.sal_typedefs.specs.Runs as spec;
 
-use crate::append::append;
 use crate::block::Block;
 use crate::judgement::Judgement;
 use crate::site_judge::judge_one;
@@ -18,7 +17,7 @@ use crate::walk::{Gone, Way, next, start};
 use sal_module::Found;
 use sal_restrict::YangType;
 use sal_stmt::Stmt;
-use sal_types::NoMemory;
+use sal_types::{NoMemory, append};
 use std::alloc::Global;
 
 /// So many of those that were judged last, the last one first.

@@ -4,12 +4,11 @@ ghost use Rattle.std.specs.BTreeMap.{get_by_text};
 ghost use Rattle.sal_typedefs.specs.Blocks as blocks;
 ghost use Rattle.sal_typedefs.specs.Ready as spec;
 
-use crate::append::append;
 use crate::block::{Numbers, define};
 use crate::tally::Tally;
 use sal_module::{Keyword, argument_of, is_named};
 use sal_stmt::Stmt;
-use sal_types::NoMemory;
+use sal_types::{NoMemory, append};
 use std::alloc::Global;
 use std::collections::BTreeMap;
 

@@ -11,7 +11,6 @@ ghost use Rattle.sal_typedefs.specs.Entries.{entries_seen};
 ghost use Rattle.sal_typedefs.specs.Types as types_spec;
 ghost use Rattle.sal_typedefs.specs.Judgements as spec;
 
-use crate::append::append;
 use crate::entries::Naming;
 use crate::entry::{Entry, Numbering};
 use crate::judgement::Basis;
@@ -20,7 +19,7 @@ use crate::typedefs::Typedefs;
 use sal_module::{Found, has_named};
 use sal_restrict::YangType;
 use sal_stmt::Stmt;
-use sal_types::{Duplicate, NoMemory, Str};
+use sal_types::{Duplicate, NoMemory, Str, append};
 use std::alloc::Global;
 
 /// How the names of a type get their numbers, where it has names.

@@ -4,14 +4,13 @@ ghost use Rattle.sal_typedefs.specs.Spots.{site_of, site_in};
 ghost use Rattle.sal_typedefs.specs.Names as names;
 ghost use Rattle.sal_typedefs.specs.Leafrefs as spec;
 
-use crate::append::append;
 use crate::block::Block;
 use crate::spot::Spot;
 use crate::typedefs::Typedefs;
 use crate::walk::{next, start};
 use sal_module::argument_of;
 use sal_stmt::Stmt;
-use sal_types::NoMemory;
+use sal_types::{NoMemory, append};
 use std::alloc::Global;
 
 /// A `type leafref` statement.

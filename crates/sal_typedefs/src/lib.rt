@@ -34,7 +34,6 @@
 //! types of the modules before any of the others.
 #![tactic(auto)]
 
-mod append;
 mod basis;
 mod below;
 mod block;

@@ -12,13 +12,12 @@ ghost use Rattle.sal_typedefs.specs.Scopes.{identity_of};
 ghost use Rattle.sal_typedefs.specs.Restrictions.{IsPosition};
 ghost use Rattle.sal_typedefs.specs.Types as spec;
 
-use crate::append::append;
 use crate::entry::Entry;
 use crate::typedefs::Typedefs;
 use sal_module::{Keyword, argument_of, is_named};
 use sal_restrict::YangType;
 use sal_stmt::Stmt;
-use sal_types::{Duplicate, NoMemory, Seq, Str};
+use sal_types::{Duplicate, NoMemory, Seq, Str, append};
 use std::alloc::Global;
 
 /// The names.

@@ -6,11 +6,10 @@ ghost use Rattle.sal_restrict.specs.declared.yang_type.YangType.TheViews.{out-Ya
 ghost use Rattle.sal_typedefs.specs.Restrictions.{HasNumbers};
 ghost use Rattle.sal_typedefs.specs.Types as spec;
 
-use crate::append::append;
 use sal_module::{Keyword, argument_of, first_named, has_named, is_named, value_of};
 use sal_restrict::{Pattern, RangeFault, Ranges, YangType, read_ranges};
 use sal_stmt::Stmt;
-use sal_types::{Duplicate, NoMemory, Seq, Str};
+use sal_types::{Duplicate, NoMemory, Seq, Str, append};
 use std::alloc::Global;
 
 /// The numbers within these that a text writes, or all of them where it writes none.

@@ -3,9 +3,8 @@ ghost use Rattle.std.specs.Prelude.{◌≡◌, ◌<◌, ◌≤◌, ◌==◌, ◌
 ghost use Rattle.std.specs.List.{slice_split, list_all, prefix_len};
 ghost use Rattle.sal_typedefs.specs.Names as spec;
 
-use crate::append::append;
 use sal_stmt::is_keyword;
-use sal_types::{NoMemory, Str};
+use sal_types::{NoMemory, Str, append};
 use std::alloc::Global;
 
 /// What follows a predicate, of which this is left.

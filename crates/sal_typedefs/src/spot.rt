@@ -3,10 +3,9 @@ ghost use Rattle.std.specs.Prelude.{◌≡◌, ◌≤◌, IfOk, IfSome, option_m
 ghost use Rattle.sal_typedefs.specs.Scopes as scopes;
 ghost use Rattle.sal_typedefs.specs.Spots as spec;
 
-use crate::append::append;
 use crate::block::{Block, typedef_among};
 use sal_stmt::Stmt;
-use sal_types::NoMemory;
+use sal_types::{NoMemory, append};
 use std::alloc::Global;
 
 /// A statement and the blocks around it, from the outermost inwards: first those of the caller, then those inside.

@@ -1,8 +1,7 @@
 //! Counts that end where memory does.
 ghost use Rattle.std.specs.Prelude.{◌≡◌, ◌+◌, IfOk};
 
-use crate::append::append;
-use sal_types::NoMemory;
+use sal_types::{NoMemory, append};
 use std::alloc::Global;
 use std::marker::Model;
 

@@ -8,14 +8,13 @@ ghost use Rattle.sal_typedefs.specs.Ready.{AreIdentities};
 ghost use Rattle.sal_typedefs.specs.Names.{steps_of};
 ghost use Rattle.sal_typedefs.specs.Scopes as spec;
 
-use crate::append::append;
 use crate::block::{Block, Numbers};
 use crate::count::steps_of;
 use crate::identities::identities_of;
 use crate::name::{local, module_of};
 use sal_module::Modules;
 use sal_stmt::Stmt;
-use sal_types::NoMemory;
+use sal_types::{NoMemory, append};
 use std::alloc::Global;
 use std::marker::Model;
 

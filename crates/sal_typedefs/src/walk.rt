@@ -6,11 +6,10 @@ ghost use Rattle.sal_typedefs.specs.Names.{steps_of};
 ghost use Rattle.sal_typedefs.specs.Spots.{site_of};
 ghost use Rattle.sal_typedefs.specs.Walks as spec;
 
-use crate::append::append;
 use crate::below::rests_on;
 use crate::spot::Spot;
 use crate::typedefs::Typedefs;
-use sal_types::NoMemory;
+use sal_types::{NoMemory, append};
 use std::alloc::Global;
 
 /// A statement that is left to go to, and how many steps may follow.

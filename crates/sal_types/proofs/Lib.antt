@@ -3,3 +3,4 @@ pub mod Readers
 pub mod Trees
 pub mod Lists
 pub mod TrueParts
+pub mod Shared

@@ -3,3 +3,4 @@ pub mod Prefix
 pub mod Reading
 pub mod Tree
 pub mod formers
+pub mod Counts

@@ -7,12 +7,12 @@ use Rattle.sal_module.specs.Profile.{at_stmt}
 use Rattle.sal_schema.specs.Examples.{leaf, list}
 use Rattle.sal_schema.specs.declared.kind.Kind.TheVariants as kind
 use Rattle.sal_typedefs.specs.Names.{steps_of, name_of as leafref_name}
-use Rattle.sal_build.specs.Nodes.{stmt_of, own_stmt, has, keyword_in, kind_in, kind_of, argument_in, name_of, stated, own_config}
-use Rattle.sal_build.specs.Inherited.{inherited}
-use Rattle.sal_build.specs.Lists.{block_of, sub_faults, config_fault, node_faults}
-use Rattle.sal_build.specs.Identities.{identities_of, identity_here, identities_in}
-use Rattle.sal_build.specs.Leafrefs.{type_in, type_of, references_at}
-use Rattle.sal_build.specs.Table.{info_of}
+use Rattle.sal_module_table.specs.Nodes.{stmt_of, own_stmt, has, keyword_in, kind_in, kind_of, argument_in, name_of, stated, own_config}
+use Rattle.sal_module_table.specs.Inherited.{inherited}
+use Rattle.sal_module_table.specs.Lists.{block_of, sub_faults, config_fault, node_faults}
+use Rattle.sal_module_table.specs.Identities.{identities_of, identity_here, identities_in}
+use Rattle.sal_module_table.specs.Leafrefs.{type_in, type_of, references_at}
+use Rattle.sal_module_table.specs.Table.{info_of}
 use Rattle.sal_versions.proofs.LoadText.{leaf_at, its_stmts}
 use Rattle.sal_versions.proofs.LoadForest.{branch, its_forest}
 use Rattle.sal_versions.proofs.LoadTypes.{just}

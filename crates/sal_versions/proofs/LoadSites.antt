@@ -9,7 +9,7 @@ use Rattle.sal_module.specs.Keywords.{same, words, keyword_of, word_of}
 use Rattle.sal_module.specs.Places.{find_at}
 use Rattle.sal_module.specs.Statements.{subs_of, is_named}
 use Rattle.sal_typedefs.specs.Scopes.{Site, within, top, way_to, place_of}
-use Rattle.sal_build.specs.Types.{is_read, types_in, types_of}
+use Rattle.sal_module_table.specs.Types.{is_read, types_in, types_of}
 use Rattle.sal_versions.proofs.LoadText.{stmt, leaf_at, cell_list, module_stmt, its_stmts}
 use Rattle.sal_versions.proofs.LoadTypes.{type_stmt, site}
 

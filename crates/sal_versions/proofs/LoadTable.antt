@@ -11,13 +11,13 @@ use Rattle.std.specs.List.{flat_map}
 use Rattle.sal_typedefs.specs.Scopes.{Site}
 use Rattle.sal_typedefs.specs.Names.{steps_of}
 use Rattle.sal_typedefs.specs.Types.{Judged, judgement}
-use Rattle.sal_build.specs.Build.{name_faults, table_of, judged, build}
-use Rattle.sal_build.specs.Filled.{empty, node_type, type_of_node}
-use Rattle.sal_build.specs.Identities as identities
-use Rattle.sal_build.specs.Leafrefs as leafrefs
-use Rattle.sal_build.specs.Lists as lists
-use Rattle.sal_build.specs.Table.{infos_of}
-use Rattle.sal_build.specs.Types as types
+use Rattle.sal_module_table.specs.Build.{name_faults, table_of, judged, build}
+use Rattle.sal_module_table.specs.Filled.{empty, node_type, type_of_node}
+use Rattle.sal_module_table.specs.Identities as identities
+use Rattle.sal_module_table.specs.Leafrefs as leafrefs
+use Rattle.sal_module_table.specs.Lists as lists
+use Rattle.sal_module_table.specs.Table.{infos_of}
+use Rattle.sal_module_table.specs.Types as types
 use Rattle.sal_script.specs.LoadExamples.{table}
 use Rattle.sal_versions.proofs.LoadText.{leaf_at, module_stmt, its_stmts}
 use Rattle.sal_versions.proofs.LoadForest.{its_forest, expanded}

@@ -8,7 +8,7 @@ use Rattle.sal_stmt.specs.declared.fault.StmtFault.{StmtFault}
 use Rattle.sal_stmt.specs.declared.stmt.Stmt.{Stmt}
 use Rattle.sal_stmt.specs.Text.{read}
 use Rattle.sal_script.specs.Limits.{are_short}
-use Rattle.sal_tables.specs.Readable.{are_readable, ReadIsReadable}
+use Rattle.sal_build.specs.Readable.{are_readable, ReadIsReadable}
 use Rattle.sal_versions.specs.Schemas.{or_text, statements_from}
 
 -- ---- how long texts are
@@ -35,7 +35,7 @@ pub each_read : (number : ℕ) (texts : List (List ℕ)) (stmts : List Stmt) →
 each_read number [] [] e = refl
 each_read number [] (stmt ∷ stmts) e = cc
 each_read number (text ∷ texts) stmts e =
-    elim (read text) as (λ r. (or_text number r >>= (λ stmt. statements_from (number + 1) texts >>= (λ more. Ok (stmt ∷ more)))) ≡ Ok stmts → r ∷ map read texts ≡ map Ok stmts) [
+    elim (read text) as (λ r. (or_text number text r >>= (λ stmt. statements_from (number + 1) texts >>= (λ more. Ok (stmt ∷ more)))) ≡ Ok stmts → r ∷ map read texts ≡ map Ok stmts) [
       | Err fault ↦ λ f. cc
       | Ok stmt ↦ λ f.
           (elim (statements_from (number + 1) texts) as (λ rest. statements_from (number + 1) texts ≡ rest → (rest >>= (λ more. Ok (stmt ∷ more))) ≡ Ok stmts → Ok stmt ∷ map read texts ≡ map Ok stmts) [

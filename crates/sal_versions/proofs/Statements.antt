@@ -21,12 +21,12 @@ one_more (Ok y) done (Ok ys) = ap Ok (sym (append_assoc done (y ∷ []) ys))
 
 -- a fault of one text, whose module has this number, is that of all
 module _ (texts : List (List ℕ)) (done : List Stmt) (number i : ℕ) (x : List ℕ) (h : i < length texts) (is : x ≡ get_or texts i x) where
-  turn : before done (statements_from number (drop i texts)) ≡ (or_text number (read x) >>= (λ y. before (done ++ y ∷ []) (statements_from (number + 1) (drop (i + 1) texts))))
+  turn : before done (statements_from number (drop i texts)) ≡ (or_text number x (read x) >>= (λ y. before (done ++ y ∷ []) (statements_from (number + 1) (drop (i + 1) texts))))
   turn =
       let split : drop i texts ≡ x ∷ drop (i + 1) texts = drop_more texts i x h ∙ ap (λ first. first ∷ drop (i + 1) texts) (sym is) in
-      rw split (one_more (or_text number (read x)) done (statements_from (number + 1) (drop (i + 1) texts)))
+      rw split (one_more (or_text number x (read x)) done (statements_from (number + 1) (drop (i + 1) texts)))
 
-  pub text_fault : (total : Result (List Stmt) (List ℕ)) (e : SchemaFault) → IsFaultOf (or_text number (read x)) e → before done (statements_from number (drop i texts)) ≡ total → IsFaultOf total e
+  pub text_fault : (total : Result (List Stmt) (List ℕ)) (e : SchemaFault) → IsFaultOf (or_text number x (read x)) e → before done (statements_from number (drop i texts)) ≡ total → IsFaultOf total e
   text_fault total NoMemory fault so_far = tt
   text_fault total (Bad text) fault so_far =
       sym so_far ∙ turn ∙ ap (λ r. r >>= (λ y. before (done ++ y ∷ []) (statements_from (number + 1) (drop (i + 1) texts)))) fault

@@ -3,17 +3,17 @@ use Rattle.std.proofs.Common.{◌≡◌, ℕ, ◌+◌, List, [], ◌∷◌, ◌+
 use Rattle.sal_module.specs.declared.fault.BuildFault.{BuildFault}
 use Rattle.sal_schema.specs.declared.table.SchemaTable.{SchemaTable}
 use Rattle.sal_schema.specs.Versions.{Extends}
-use Rattle.sal_build.specs.Versions.{first, next}
-use Rattle.sal_tables.specs.Versions.{VersionsExtend}
-use Rattle.sal_versions.specs.Schemas.{statements_from, told}
+use Rattle.sal_module_table.specs.Versions.{first, next}
+use Rattle.sal_build.specs.Versions.{VersionsExtend}
+use Rattle.sal_versions.specs.Schemas.{statements_from, in_words}
 use Rattle.sal_versions.specs.Versions.{AreInOrder, VersionsAreInOrder, Versions, first_built, first_of, next_of, or_upgrade, tables_of, upgraded, with_latest, with_more}
 use Rattle.sal_versions.proofs.Bound.{bind_ok, same_ok}
 
 -- ---- what is made is made in each step
 
-told-ok : {A : Type 0} (made : Result A BuildFault) (x : A) → told made ≡ Ok x → made ≡ Ok x
-told-ok (Ok y) x e = cc
-told-ok (Err fault) x e = cc
+in_words-ok : {A : Type 0} (made : Result A BuildFault) (x : A) → in_words made ≡ Ok x → made ≡ Ok x
+in_words-ok (Ok y) x e = cc
+in_words-ok (Err fault) x e = cc
 
 upgrade-ok : {A : Type 0} (u : ℕ) (made : Result A (List ℕ)) (x : A) → or_upgrade u made ≡ Ok x → made ≡ Ok x
 upgrade-ok u (Ok y) x e = cc
@@ -31,8 +31,8 @@ next-in-order : VersionsExtend → (versions more : Versions) (texts : List (Lis
 next-in-order law versions more texts e are =
     let read = bind_ok (statements_from (length versions.stmts) texts) (with_more versions) more e in
     let joined : Versions = record { stmts = versions.stmts ++ read.0; olds = versions.olds; latest = versions.latest } in
-    let built = bind_ok (told (next joined.stmts (length versions.stmts) joined.latest)) (λ v. Ok (with_latest joined v)) more read.2 in
-    let extends = law joined.stmts (length versions.stmts) joined.latest built.0 (told-ok (next joined.stmts (length versions.stmts) joined.latest) built.0 built.1) in
+    let built = bind_ok (in_words (next joined.stmts (length versions.stmts) joined.latest)) (λ v. Ok (with_latest joined v)) more read.2 in
+    let extends = law joined.stmts (length versions.stmts) joined.latest built.0 (in_words-ok (next joined.stmts (length versions.stmts) joined.latest) built.0 built.1) in
     subst (λ (it : Versions). AreInOrder (tables_of it)) (same_ok built.2) (one-more versions.olds versions.latest.table built.0.table are extends)
 
 upgraded-in-order : VersionsExtend → (u : ℕ) (versions more : Versions) (upgrades : List (List (List ℕ))) → upgraded u versions upgrades ≡ Ok more → AreInOrder (tables_of versions) → AreInOrder (tables_of more)
@@ -46,5 +46,5 @@ pub in_order : VersionsExtend → VersionsAreInOrder
 in_order law modules upgrades versions e =
     let own = bind_ok (first_of modules) (λ own. upgraded 1 own upgrades) versions e in
     let read = bind_ok (statements_from 0 modules) first_built own.0 own.1 in
-    let built = bind_ok (told (first read.0)) (λ v. Ok (record { stmts = read.0; olds = []; latest = v })) own.0 read.2 in
+    let built = bind_ok (in_words (first read.0)) (λ v. Ok (record { stmts = read.0; olds = []; latest = v })) own.0 read.2 in
     upgraded-in-order law 1 own.0 versions upgrades own.2 (subst (λ (it : Versions). AreInOrder (tables_of it)) (same_ok built.2) tt)

@@ -10,8 +10,8 @@ use Rattle.sal_stmt.specs.declared.fault.StmtFault.{StmtFault}
 use Rattle.sal_stmt.specs.declared.stmt.Stmt.{Stmt}
 use Rattle.sal_stmt.specs.Text.{read}
 use Rattle.sal_script.specs.Limits.{all_texts, are_short}
-use Rattle.sal_script.proofs.ShortTexts.{with_upgrade, version_short}
-use Rattle.sal_tables.specs.Readable.{are_readable, ReadIsReadable}
+use Rattle.sal_script.proofs.ShortTexts.{with_upgrade, version_short, Texts}
+use Rattle.sal_build.specs.Readable.{are_readable, ReadIsReadable}
 use Rattle.sal_versions.specs.declared.schema_fault.SchemaFault.{SchemaFault}
 use Rattle.sal_versions.specs.declared.schema_fault.SchemaFault.TheVariants.{Bad, NoMemory}
 use Rattle.sal_versions.specs.Schemas.{IsFaultOf, IsOfUpgrade}
@@ -24,9 +24,6 @@ if_ok (Ok x) next is = next x is
 if_ok (Err fault) next is = tt
 
 -- ---- texts
-
-abbrev Texts : Type 0
-Texts = List (List ℕ)
 
 abbrev AreRead : Texts → List Stmt → Type 0
 AreRead texts stmts = ◌≡◌ {A = List (Result Stmt StmtFault)} (map read texts) (map Ok stmts)

@@ -1,16 +1,18 @@
 -- What the modules of a domain come to: the text of their schema, or that of their first fault.
-use Rattle.std.specs.Prelude.{◌≡◌, ℕ, ◌+◌, List, [], ◌∷◌, ◌++◌, Option, None, Some, Result, Ok, Err, MatchResult, codes, decimal}
+use Rattle.std.specs.Prelude.{◌≡◌, ◌==◌, ℕ, ◌+◌, Bool, ◌&&◌, ◌||◌, if◌then◌else◌, List, [], ◌∷◌, ◌++◌, Option, None, Some, Result, Ok, Err, MatchResult, length, nat_eq, nat_le, codes, decimal}
+use Rattle.std.specs.List.{ends_with, list_all}
 use Rattle.sal_types.specs.Reading.{◌>>=◌}
 use Rattle.sal_stmt.specs.declared.fault.StmtFault.{StmtFault}
 use Rattle.sal_stmt.specs.declared.fault.StmtFault.TheVariants as stmt_fault
 use Rattle.sal_stmt.specs.declared.stmt.Stmt.{Stmt}
 use Rattle.sal_stmt.specs.Text.{read}
+use Rattle.sal_stmt.specs.Words.{continues_identifier}
 use Rattle.sal_module.specs.declared.fault.BuildFault.{BuildFault}
 use Rattle.sal_module.specs.declared.fault.BuildFault.TheVariants as build_fault
 use Rattle.sal_module.specs.declared.fault.What.{What}
 use Rattle.sal_module.specs.declared.fault.What.TheVariants.{Modules, Nodes}
 use Rattle.sal_schema.specs.declared.table.SchemaTable.{SchemaTable}
-use Rattle.sal_build.specs.Build.{build}
+use Rattle.sal_module_table.specs.Build.{build}
 use Rattle.sal_versions.specs.declared.schema_fault.SchemaFault.{SchemaFault}
 use Rattle.sal_versions.specs.declared.schema_fault.SchemaFault.TheVariants.{Bad, NoMemory}
 
@@ -29,6 +31,21 @@ stmt_words stmt_fault.NoMemory = None
 abbrev pub stmt_text : ℕ → Option (List ℕ × ℕ) → List ℕ
 stmt_text number None = []
 stmt_text number (Some (word, at)) = codes "module " ++ (decimal number ++ (32 ∷ (word ++ (32 ∷ decimal at))))
+
+-- letters, digits, `_`, `-`, `.` and `/`
+abbrev pub is_in_file_names : ℕ → Bool
+is_in_file_names c = continues_identifier c || c == 47
+
+-- the name of a file, where a module's text should stand (asked only of a text that does not read)
+abbrev pub is_file_name : List ℕ → Bool
+is_file_name text = (nat_le (length text) 255 && ends_with nat_eq text (codes ".yang")) && list_all is_in_file_names text
+
+abbrev pub name_text : ℕ → List ℕ → List ℕ
+name_text number name = codes "module " ++ (decimal number ++ (codes " file-name " ++ name))
+
+-- why the text of the module with this number does not read: it is a file's name, or has this fault
+abbrev pub fault_text : ℕ → List ℕ → StmtFault → List ℕ
+fault_text number text fault = if is_file_name text then name_text number text else stmt_text number (stmt_words fault)
 
 abbrev pub placed : List ℕ → ℕ → ℕ → List ℕ
 placed word m at = codes "build " ++ (word ++ (32 ∷ (decimal m ++ (32 ∷ decimal at))))
@@ -66,31 +83,31 @@ upgrade_text u text = codes "upgrade " ++ (decimal u ++ (32 ∷ text))
 
 -- ---- modules
 
--- the statement of a text, or the text of its fault
-abbrev pub or_text : ℕ → Result Stmt StmtFault → Result Stmt (List ℕ)
-or_text number (Ok stmt) = Ok stmt
-or_text number (Err fault) = Err (stmt_text number (stmt_words fault))
+-- the statement that was read of a text, or the text of its fault
+abbrev pub or_text : ℕ → List ℕ → Result Stmt StmtFault → Result Stmt (List ℕ)
+or_text number text (Ok stmt) = Ok stmt
+or_text number text (Err fault) = Err (fault_text number text fault)
 
 -- the statements of the modules from this number on
 abbrev pub statements_from : ℕ → List (List ℕ) → Result (List Stmt) (List ℕ)
 statements_from number [] = Ok []
 statements_from number (text ∷ texts) =
-    or_text number (read text) >>= (λ stmt. statements_from (number + 1) texts >>= (λ stmts. Ok (stmt ∷ stmts)))
+    or_text number text (read text) >>= (λ stmt. statements_from (number + 1) texts >>= (λ stmts. Ok (stmt ∷ stmts)))
 
 -- what was built, or the text of the fault
-abbrev pub told : {A : Type 0} → Result A BuildFault → Result A (List ℕ)
-told (Ok made) = Ok made
-told (Err fault) = Err (build_text fault)
+abbrev pub in_words : {A : Type 0} → Result A BuildFault → Result A (List ℕ)
+in_words (Ok made) = Ok made
+in_words (Err fault) = Err (build_text fault)
 
 -- The texts are read first, in their order, and the first fault of a text counts; then the schema is built.
 abbrev pub table_of : List (List ℕ) → Result SchemaTable (List ℕ)
-table_of texts = statements_from 0 texts >>= (λ stmts. told (build stmts))
+table_of texts = statements_from 0 texts >>= (λ stmts. in_words (build stmts))
 
 -- ---- what a function returned
 
 -- the fault has this text, unless memory ran out
 abbrev pub IsTold : List ℕ → SchemaFault → Type 0
-IsTold text (Bad told) = told ≡ text
+IsTold text (Bad words) = words ≡ text
 IsTold text NoMemory = Unit {0}
 
 -- the fault is what is made, unless memory ran out

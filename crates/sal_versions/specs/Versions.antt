@@ -4,10 +4,10 @@ use Rattle.sal_types.specs.Reading.{◌>>=◌}
 use Rattle.sal_stmt.specs.declared.stmt.Stmt.{Stmt}
 use Rattle.sal_schema.specs.declared.table.SchemaTable.{SchemaTable}
 use Rattle.sal_schema.specs.Versions.{Extends}
-use Rattle.sal_build.specs.declared.versions.Version.{Version}
-use Rattle.sal_build.specs.Versions.{first, next}
-use Rattle.sal_tables.specs.Versions.{tabled}
-use Rattle.sal_versions.specs.Schemas.{statements_from, told, upgrade_text}
+use Rattle.sal_module_table.specs.declared.versions.Version.{Version}
+use Rattle.sal_module_table.specs.Versions.{first, next}
+use Rattle.sal_build.specs.Versions.{tabled}
+use Rattle.sal_versions.specs.Schemas.{statements_from, in_words, upgrade_text}
 use Rattle.sal_versions.specs.declared.versions.Versions.{Versions as CodeVersions}
 
 -- the statements of all modules, the tables of the older versions, and the latest version
@@ -22,7 +22,7 @@ tables_of versions = versions.olds ++ versions.latest.table ∷ []
 
 -- version 0 of these statements
 abbrev pub first_built : List Stmt → Result Versions (List ℕ)
-first_built stmts = told (first stmts) >>= (λ v. Ok (record { stmts = stmts; olds = []; latest = v }))
+first_built stmts = in_words (first stmts) >>= (λ v. Ok (record { stmts = stmts; olds = []; latest = v }))
 
 -- Version 0 of these texts. They are read first, in their order.
 abbrev pub first_of : List (List ℕ) → Result Versions (List ℕ)
@@ -34,7 +34,7 @@ with_latest versions v = record { stmts = versions.stmts; olds = tables_of versi
 
 -- the next version of the statements, of which the first `old` are those of the latest version
 abbrev pub next_built : ℕ → Versions → Result Versions (List ℕ)
-next_built old versions = told (next versions.stmts old versions.latest) >>= (λ v. Ok (with_latest versions v))
+next_built old versions = in_words (next versions.stmts old versions.latest) >>= (λ v. Ok (with_latest versions v))
 
 -- the same with these statements added
 abbrev pub with_more : Versions → List Stmt → Result Versions (List ℕ)

@@ -6,11 +6,13 @@
 //! | `versions` | `versions_of`: the schema of the modules, and one for each upgrade |
 //! | `shared` | the schemas of versions, shared by what reads and what is read |
 //! | `schema_fault` | `SchemaFault`: the texts of their faults |
+//! | `examples` | computed: texts that are names of files |
 //! | `laws` | each version extends the one before; the module of a load has one version |
 //!
-//! Texts are read by `sal_stmt`, and built by `sal_tables`.
+//! Texts are read by `sal_stmt`, and built by `sal_build`.
 #![tactic(auto)]
 
+pub mod examples;
 pub mod laws;
 pub mod schema;
 pub mod schema_fault;

@@ -5,10 +5,10 @@ ghost use Rattle.sal_stmt.specs.Text.{Gives, read};
 ghost use Rattle.sal_versions.specs.Schemas as spec;
 
 use crate::schema_fault::{SchemaFault, of_modules, of_text};
+use sal_build::build;
+use sal_build::laws::what_is_read_is_readable;
 use sal_schema::Schema;
 use sal_stmt::{Stmt, StmtFault, read_module};
-use sal_tables::build;
-use sal_tables::laws::what_is_read_is_readable;
 use sal_types::Str;
 use std::alloc::Global;
 
@@ -48,10 +48,10 @@ pub(crate) fn statements_of(
 // The statement of the text of the module with this number.
 fn statement_of(alloc: Global, number: usize, text: &Str) -> Result<Stmt, SchemaFault>
     requires { length text.now < 2 ^ 32 }
-    ensures { spec.Makes (λ stmt. stmt) result (spec.or_text number (read text.now)) }
+    ensures { spec.Makes (λ stmt. stmt) result (spec.or_text number text.now (read text.now)) }
 {
     match read_module(alloc, text.as_str()) {
         Ok(stmt) => Ok(stmt),
-        Err(fault) => Err(of_text(alloc, number, fault)),
+        Err(fault) => Err(of_text(alloc, number, text, fault)),
     }
 }

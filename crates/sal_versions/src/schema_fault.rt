@@ -1,5 +1,7 @@
 //! Why modules build no schema, as a text.
 ghost use Rattle.std.specs.Prelude.{◌≡◌, MatchResult, IfOk, option_map, string_bytes};
+ghost use Rattle.std.specs.List.{list_all};
+ghost use Rattle.sal_stmt.specs.Words as words;
 ghost use Rattle.sal_versions.specs.Schemas as spec;
 
 use sal_module::{BuildFault, What};
@@ -10,7 +12,7 @@ use std::alloc::{AllocError, AllocFailed, Global};
 /// Why modules build no schema.
 #[derive(Debug, Drop, PartialEq, Eq)]
 pub enum SchemaFault {
-    /// The first fault: `module 0 unclosed 9`, or `build missing 0 0 namespace`, or of an upgrade `upgrade 1 module 1 unclosed 9`.
+    /// The first fault: `module 0 unclosed 9`, `module 0 file-name line.yang`, or `build missing 0 0 namespace`, or of an upgrade `upgrade 1 module 1 unclosed 9`.
     Bad { text: Str },
     /// Memory ran out.
     NoMemory,
@@ -72,14 +74,48 @@ fn stmt_words(fault: StmtFault) -> Option<(&'static str, u32)>
     }
 }
 
-// A fault in the text of the module with this number.
-pub(crate) fn of_text(alloc: Global, number: usize, fault: StmtFault) -> SchemaFault
-    ensures told { spec.IsTold (spec.stmt_text number (spec.stmt_words fault)) result }
+fn continues_identifier(c: u8) -> bool
+    ensures { result ≡ words.continues_identifier c }
+{
+    c.is_ascii_alphanumeric() || c == b'_' || c == b'-' || c == b'.'
+}
+
+fn is_in_file_names(c: u8) -> bool
+    ensures { result ≡ spec.is_in_file_names c }
+{
+    continues_identifier(c) || c == b'/'
+}
+
+fn are_in_file_names(text: &[u8]) -> bool
+    ensures { result ≡ list_all spec.is_in_file_names text.now }
+{
+    text.iter().all(|c| is_in_file_names(*c))
+}
+
+// Whether the text is the name of a file.
+fn is_file_name(text: &[u8]) -> bool
+    ensures { result ≡ spec.is_file_name text.now }
+{
+    text.len() <= 255 && text.ends_with(b".yang") && are_in_file_names(text)
+}
+
+// The file's name in place of the module with this number.
+fn name_text(alloc: Global, number: usize, name: &Str) -> Result<String, AllocError>
+    ensures { IfOk result (λ text. string_bytes text ≡ spec.name_text number name.now) }
+{
+    let name = name.as_str();
+    format!(in alloc; "module {number} file-name {name}")
+}
+
+// Why the text of the module with this number does not read.
+pub(crate) fn of_text(alloc: Global, number: usize, text: &Str, fault: StmtFault) -> SchemaFault
+    ensures told { spec.IsTold (spec.fault_text number text.now fault) result }
     ensures memory { fault ≡ StmtFault.NoMemory → result ≡ SchemaFault.NoMemory }
 {
     match stmt_words(fault) {
-        Some((word, at)) => told(format!(in alloc; "module {number} {word} {at}")),
         None => SchemaFault::NoMemory,
+        Some(_) if is_file_name(text.items()) => told(name_text(alloc, number, text)),
+        Some((word, at)) => told(format!(in alloc; "module {number} {word} {at}")),
     }
 }
 

@@ -4,8 +4,8 @@ ghost use Rattle.sal_versions.specs.Shared.{tables_in};
 ghost use Rattle.sal_versions.specs.Versions.{seen, tables_of};
 
 use crate::versions::Versions;
+use sal_build::SchemaVersion;
 use sal_schema::Schema;
-use sal_tables::SchemaVersion;
 use sal_types::NoMemory;
 use std::alloc::Global;
 use std::sync::Arc;

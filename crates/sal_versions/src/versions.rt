@@ -3,17 +3,17 @@ ghost use Rattle.std.specs.Prelude.{◌≡◌, ◌≤◌, ◌++◌, Ok as Good, 
 ghost use Rattle.sal_script.specs.Limits.{all_texts, are_short};
 ghost use Rattle.sal_stmt.specs.declared.stmt.Stmt.{Stmt as Statement};
 ghost use Rattle.sal_stmt.specs.Text.{read};
-ghost use Rattle.sal_tables.specs.Readable.{are_readable};
-ghost use Rattle.sal_tables.specs.Versions.{IsVersionOf, tabled};
+ghost use Rattle.sal_build.specs.Readable.{are_readable};
+ghost use Rattle.sal_build.specs.Versions.{IsVersionOf, tabled};
 ghost use Rattle.sal_versions.specs.Schemas.{Makes};
 ghost use Rattle.sal_versions.specs.Versions as spec;
 
 use crate::schema::statements_of;
 use crate::schema_fault::{SchemaFault, of_modules, of_upgrade};
+use sal_build::laws::what_is_read_is_readable;
+use sal_build::{SchemaVersion, build_first, build_on};
 use sal_schema::Schema;
 use sal_stmt::Stmt;
-use sal_tables::laws::what_is_read_is_readable;
-use sal_tables::{SchemaVersion, build_first, build_on};
 use sal_types::{NoMemory, Seq, Str};
 use std::alloc::Global;
 

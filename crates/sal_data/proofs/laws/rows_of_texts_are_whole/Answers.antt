@@ -1,4 +1,4 @@
-use Rattle.sal_value.proofs.Given.{texts_read_as_json}
+use Rattle.sal_json_laws.proofs.Given.{texts_read_as_json}
 use Rattle.sal_data.proofs.ReadWhole.{reads_whole}
 use Rattle.sal_data.proofs.TreeParts.{reads_again}
 use Rattle.sal_data.proofs.laws.rows_of_texts_are_whole.Goals as goal

@@ -6,5 +6,5 @@ use Rattle.sal_graft.proofs.search.conflict.Given as goal
 
 abbrev pub invariant-loop-at : goal.invariant-loop-at
 invariant-loop-at l =
-    clash_from (opening_in l.commits) (ops_of l.commits) (rows_in l.base) l.spans (take l.at l.changes) (drop l.at l.changes)
-    ≡ clash (opening_in l.commits) (ops_of l.commits) (rows_in l.base) l.spans l.changes
+    clash_from (opening_in l.commits) (ops_of l.commits) l.fn.rules (rows_in l.base) l.spans (take l.at l.changes) (drop l.at l.changes)
+    ≡ clash (opening_in l.commits) (ops_of l.commits) l.fn.rules (rows_in l.base) l.spans l.changes

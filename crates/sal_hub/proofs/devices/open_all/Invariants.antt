@@ -7,7 +7,7 @@ use Rattle.sal_hub.proofs.devices.open_all.Given as goal
 
 abbrev pub invariant-loop-i : goal.invariant-loop-i
 invariant-loop-i l = record {
-  fault : fault_from l.i (world_of (drop l.i l.devices)) ≡ fault_of (world_of l.devices);
+  fault : fault_from l.i (world_of l.rules (drop l.i l.devices)) ≡ fault_of (world_of l.rules l.devices);
   kept : AllKept l.domains.items;
-  shown_all : map shown l.domains.items ++ shown_from l.i (drop l.i l.devices) ≡ shown_from 0 l.devices;
+  shown_all : map shown l.domains.items ++ shown_from l.rules l.i (drop l.i l.devices) ≡ shown_from l.rules 0 l.devices;
 }

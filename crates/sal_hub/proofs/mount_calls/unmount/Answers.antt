@@ -16,17 +16,17 @@ set_live-requires-clause-there c =
 pub returns-in-Ok-clause-kept : goal.returns-in-Ok-clause-kept
 returns-in-Ok-clause-kept c =
     unmount_kept c.args.journal.now c.add_unmount.new.journal c.args.pipeline.now c.requires.kept c.args.mounts.now c.add_unmount.new.mounts c.requires.mounts c.args.client c.args.domain c.in-Ok.ensures.made
-    c.in-Ok.ensures.entry c.set_live.new.self c.set_live.ensures.kept c.set_live.ensures.line
+    c.in-Ok.ensures.entry c.set_live.new.self c.set_live.ensures.kept c.set_live.ensures.queue
 
 pub returns-in-Ok-clause-mounts : goal.returns-in-Ok-clause-mounts
 returns-in-Ok-clause-mounts c =
     unmount_mounts c.args.journal.now c.add_unmount.new.journal c.args.pipeline.now c.requires.kept c.args.mounts.now c.add_unmount.new.mounts c.requires.mounts c.args.client c.args.domain c.in-Ok.ensures.made
-    c.in-Ok.ensures.entry c.set_live.new.self c.set_live.ensures.kept c.set_live.ensures.line
+    c.in-Ok.ensures.entry c.set_live.new.self c.set_live.ensures.kept c.set_live.ensures.queue
 
 pub returns-in-Ok-clause-answer : goal.returns-in-Ok-clause-answer
 returns-in-Ok-clause-answer c =
     unmount_answer c.args.journal.now c.add_unmount.new.journal c.args.pipeline.now c.requires.kept c.args.mounts.now c.add_unmount.new.mounts c.requires.mounts c.args.client c.args.domain c.in-Ok.ensures.made
-    c.in-Ok.ensures.entry c.set_live.new.self c.set_live.ensures.kept c.set_live.ensures.line c.requires.room
+    c.in-Ok.ensures.entry c.set_live.new.self c.set_live.ensures.kept c.set_live.ensures.queue c.requires.room
 
 pub returns-in-Err-clause-kept : goal.returns-in-Err-clause-kept
 returns-in-Err-clause-kept c =

@@ -4,7 +4,7 @@ use Rattle.std.proofs.lemmas.Grind.{common_steps}
 use Rattle.std.proofs.lemmas.Option.{same_Some}
 use Rattle.sal_commit.specs.declared.domain.Domain.{Domain}
 use Rattle.sal_commit.specs.Versions.{upgrade_fault, version_in}
-use Rattle.sal_hub.specs.PipelineView.{line_of}
+use Rattle.sal_hub.specs.PipelineView.{queue_of}
 use Rattle.sal_hub.specs.Upgrades.{set_version}
 use Rattle.sal_hub.proofs.Listed.{slice_get_at}
 use Rattle.sal_hub.proofs.Serving.{kept_at, some_domain}
@@ -51,8 +51,8 @@ returns-clause-kept c =
     let p = c.args.pipeline.now in
     let first = c.index.result.now in
     let done = ready_next first c.args.version c.in-Ok-Ok.field-0 c.in-Ok-Ok.next c.in-Ok-Ok.field-0-is c.in-Ok-Ok.ensures in
-    let line : line_of c.upgrade.new.self ≡ set_version (line_of p) c.args.version = c.upgrade.ensures.line ∙ ap (set_version (line_of p)) done.2 in
-    upgraded_kept j c.add.new.self p c.requires.kept c.args.client c.args.version c.in-Ok.ensures.log c.upgrade.new.self line
+    let queue : queue_of c.upgrade.new.self ≡ set_version (queue_of p) c.args.version = c.upgrade.ensures.queue ∙ ap (set_version (queue_of p)) done.2 in
+    upgraded_kept j c.add.new.self p c.requires.kept c.args.client c.args.version c.in-Ok.ensures.log c.upgrade.new.self queue
     (sym (refusal_is j p c.requires.kept first c.args.version (some_domain j p c.requires.kept) c.index.ensures) ∙ done.0) c.upgrade.ensures.kept c.in-Ok.ensures.marks
 
 pub returns-clause-answer : goal.returns-clause-answer
@@ -61,6 +61,6 @@ returns-clause-answer c =
     let p = c.args.pipeline.now in
     let first = c.index.result.now in
     let done = ready_next first c.args.version c.in-Ok-Ok.field-0 c.in-Ok-Ok.next c.in-Ok-Ok.field-0-is c.in-Ok-Ok.ensures in
-    let line : line_of c.upgrade.new.self ≡ set_version (line_of p) c.args.version = c.upgrade.ensures.line ∙ ap (set_version (line_of p)) done.2 in
-    upgraded_made j c.add.new.self p c.requires.kept c.args.client c.args.version c.in-Ok.ensures.log c.upgrade.new.self line
+    let queue : queue_of c.upgrade.new.self ≡ set_version (queue_of p) c.args.version = c.upgrade.ensures.queue ∙ ap (set_version (queue_of p)) done.2 in
+    upgraded_made j c.add.new.self p c.requires.kept c.args.client c.args.version c.in-Ok.ensures.log c.upgrade.new.self queue
     (sym (refusal_is j p c.requires.kept first c.args.version (some_domain j p c.requires.kept) c.index.ensures) ∙ done.0) c.requires.room

@@ -52,4 +52,4 @@ returns-clause-sound c =
     let each = length-map devices alone in
     let all = c.requires.all in
     let room : 0 + length domains ≤ length (versions_shared schemas) = omega (arith, some, each, all) in
-    λ world made. all_sound c.rows_that_were_read_are_whole.ensures.whole (versions_shared schemas) good 0 domains world room (domains_json c.json_is_tested.ensures script) made
+    λ ruled world made. all_sound c.rows_that_were_read_are_whole.ensures.whole (versions_shared schemas) good ruled 0 domains world room (domains_json c.json_is_tested.ensures script) made

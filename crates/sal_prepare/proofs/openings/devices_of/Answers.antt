@@ -13,7 +13,7 @@ use Rattle.sal_script.specs.Reading.{parts}
 use Rattle.sal_client.specs.Lists.{alone}
 use Rattle.sal_prepare.specs.declared.status.Status.{Status}
 use Rattle.sal_prepare.specs.Each.{each_from}
-use Rattle.sal_prepare.specs.Scripted.{domain_with, domains_of, opening_by, opening_trees, tables_in, told, versions_shared, with_next}
+use Rattle.sal_prepare.specs.Scripted.{domain_with, domains_of, opening_by, opening_trees, tables_in, given, versions_shared, with_next}
 use Rattle.sal_prepare.proofs.Each.{bind_fault, comes_err, goes, stops, with_fault}
 use Rattle.sal_prepare.proofs.openings.devices_of.Goals as goal
 
@@ -44,11 +44,11 @@ returns-in_err-opening c =
     let l = c.loop-number in
     let domains = domains_of (parts c.args.script.now) in
     let readers = c.args.readers.now in
-    let make = opening_by readers in
-    let done = world_of l.devices.items in
-    let domain = told c.domain_at-domain.result in
+    let make = opening_by c.args.script.now.rules readers in
+    let done = world_of c.args.script.now.rules l.devices.items in
+    let domain = given c.domain_at-domain.result in
     let e = c.in_err-opening.field-0.0 in
-    let fault = bind_fault (opening_trees l.number (first_in readers l.number) domain) (λ (o : Opening). Ok (domain_with (versions_in readers l.number) o)) e c.in_err-opening.ensures in
+    let fault = bind_fault (opening_trees l.number (first_in readers l.number) domain) (λ (o : Opening). Ok (domain_with c.args.script.now.rules (versions_in readers l.number) o)) e c.in_err-opening.ensures in
     comes_err _ (each_from make 0 domains) _ e c.from_residual.ensures.1
     (stops make domains done l.number domain c.domain_at-domain.ensures.domain (each_from make 0 domains) e (with_fault done (make l.number domain) e fault) l.invariant)
 
@@ -57,14 +57,14 @@ loop-number-preserved c =
     let l = c.loop-number in
     let domains = domains_of (parts c.args.script.now) in
     let readers = c.args.readers.now in
-    let make = opening_by readers in
-    let done = world_of l.devices.items in
-    let domain = told c.domain_at-domain.result in
+    let make = opening_by c.args.script.now.rules readers in
+    let done = world_of c.args.script.now.rules l.devices.items in
+    let domain = given c.domain_at-domain.result in
     let opening = c.in_ok-opening.opening in
     let versions : versions_in readers l.number ≡ tables_in c.versions_at.result.now =
     ap (λ (ts : List (List SchemaTable)). versions_in ts l.number) c.requires.schemas ∙ sym c.versions_at.ensures.tables in
-    let made : with_next done (make l.number domain) ≡ Ok (world_of c.add_device.new.devices.items) =
-    ap (λ (r : Result Opening Status). with_next done (r >>= (λ (o : Opening). Ok (domain_with (versions_in readers l.number) o)))) c.in_ok-opening.ensures
-    ∙ ap (λ (vs : List SchemaTable). Ok (done ++ domain_with vs opening ∷ [])) versions
-    ∙ ap Ok (sym c.in_ok-add_device.ensures) in
-    goes make domains done l.number domain c.domain_at-domain.ensures.domain (each_from make 0 domains) (world_of c.add_device.new.devices.items) made l.invariant
+    let made : with_next done (make l.number domain) ≡ Ok (world_of c.args.script.now.rules c.add_device.new.devices.items) =
+    ap (λ (r : Result Opening Status). with_next done (r >>= (λ (o : Opening). Ok (domain_with c.args.script.now.rules (versions_in readers l.number) o)))) c.in_ok-opening.ensures
+    ∙ ap (λ (vs : List SchemaTable). Ok (done ++ domain_with c.args.script.now.rules vs opening ∷ [])) versions
+    ∙ ap Ok (sym (c.in_ok-add_device.ensures c.args.script.now.rules)) in
+    goes make domains done l.number domain c.domain_at-domain.ensures.domain (each_from make 0 domains) (world_of c.args.script.now.rules c.add_device.new.devices.items) made l.invariant

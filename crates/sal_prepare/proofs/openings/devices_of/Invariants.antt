@@ -9,4 +9,4 @@ use Rattle.sal_prepare.proofs.openings.devices_of.Given as goal
 
 abbrev pub invariant-loop-number : goal.invariant-loop-number
 invariant-loop-number l =
-    before (world_of l.devices.items) (each_from (opening_by l.readers) l.number (drop l.number (domains_of (parts l.script)))) ≡ each_from (opening_by l.readers) 0 (domains_of (parts l.script))
+    before (world_of l.script.rules l.devices.items) (each_from (opening_by l.script.rules l.readers) l.number (drop l.number (domains_of (parts l.script)))) ≡ each_from (opening_by l.script.rules l.readers) 0 (domains_of (parts l.script))

@@ -28,8 +28,8 @@ pub hub_of-requires-clause-some : goal.hub_of-requires-clause-some
 hub_of-requires-clause-some c =
     let domains = domains_of (parts c.args.script.now) in
     let items = c.in_ok-devices.devices.items in
-    let made = each_long (opening_by c.args.readers.now) 0 domains (world_of items) c.in_ok-devices.ensures in
-    let same = length-map items domain_of in
+    let made = each_long (opening_by c.args.script.now.rules c.args.readers.now) 0 domains (world_of c.args.script.now.rules items) c.in_ok-devices.ensures in
+    let same = length-map items (domain_of c.args.script.now.rules) in
     let all = c.requires.all in
     omega (arith, made, same, all)
 
@@ -37,8 +37,8 @@ pub hub_of-requires-clause-few : goal.hub_of-requires-clause-few
 hub_of-requires-clause-few c =
     let domains = domains_of (parts c.args.script.now) in
     let items = c.in_ok-devices.devices.items in
-    let made = each_long (opening_by c.args.readers.now) 0 domains (world_of items) c.in_ok-devices.ensures in
-    let same = length-map items domain_of in
+    let made = each_long (opening_by c.args.script.now.rules c.args.readers.now) 0 domains (world_of c.args.script.now.rules items) c.in_ok-devices.ensures in
+    let same = length-map items (domain_of c.args.script.now.rules) in
     let all = c.requires.all in
     let few = c.requires.few in
     omega (arith, made, same, all, few)
@@ -48,28 +48,28 @@ hub_of-requires-clause-closed c =
     let items = c.in_ok-devices.devices.items in
     let sound : OpenSound (domains_of (parts c.args.script.now)) c.args.readers.now =
     subst (OpenSound (domains_of (parts c.args.script.now))) (sym c.requires.schemas) c.are_sound.ensures.sound in
-    closed_devices items (sound (world_of items) c.in_ok-devices.ensures)
+    closed_devices c.args.script.now.rules items (sound c.args.script.now.rules (world_of c.args.script.now.rules items) c.in_ok-devices.ensures)
 
 pub hub_of-requires-clause-versions : goal.hub_of-requires-clause-versions
 hub_of-requires-clause-versions c =
     let domains = domains_of (parts c.args.script.now) in
     let readers = c.args.readers.now in
     let long = all_read c.args.schemas.now readers (length domains) c.requires.schemas c.requires.all in
-    versions_are readers (subst AreChains (sym c.requires.schemas) c.are_sound.ensures.chains) domains (world_of c.in_ok-devices.devices.items) (omega (arith, long)) c.in_ok-devices.ensures
+    versions_are c.args.script.now.rules readers (subst AreChains (sym c.requires.schemas) c.are_sound.ensures.chains) domains (world_of c.args.script.now.rules c.in_ok-devices.devices.items) (omega (arith, long)) c.in_ok-devices.ensures
 
 pub hub_of-requires-clause-tables : goal.hub_of-requires-clause-tables
 hub_of-requires-clause-tables c =
     let domains = domains_of (parts c.args.script.now) in
     let readers = c.args.readers.now in
     let long = all_read c.args.schemas.now readers (length domains) c.requires.schemas c.requires.all in
-    sym (tables_from readers (subst AreChains (sym c.requires.schemas) c.are_sound.ensures.chains) 0 domains (world_of c.in_ok-devices.devices.items) long c.in_ok-devices.ensures)
+    sym (tables_from c.args.script.now.rules readers (subst AreChains (sym c.requires.schemas) c.are_sound.ensures.chains) 0 domains (world_of c.args.script.now.rules c.in_ok-devices.devices.items) long c.in_ok-devices.ensures)
 
 pub returns-clause-tables : goal.returns-clause-tables
 returns-clause-tables c =
     let domains = domains_of (parts c.args.script.now) in
     let readers = c.args.readers.now in
     let long = all_read c.args.schemas.now readers (length domains) c.requires.schemas c.requires.all in
-    let world = world_of c.in_ok-devices.devices.items in
+    let world = world_of c.args.script.now.rules c.in_ok-devices.devices.items in
     let told : readers ≡ versions_of world =
-    sym (tables_from readers (subst AreChains (sym c.requires.schemas) c.are_sound.ensures.chains) 0 domains world long c.in_ok-devices.ensures) in
+    sym (tables_from c.args.script.now.rules readers (subst AreChains (sym c.requires.schemas) c.are_sound.ensures.chains) 0 domains world long c.in_ok-devices.ensures) in
     tables_kept readers world c.hub_of.result told c.hub_of.ensures.world

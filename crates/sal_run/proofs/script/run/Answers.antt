@@ -4,7 +4,7 @@ use Rattle.sal_history.specs.World.{Domain}
 use Rattle.sal_script.specs.Tables.{versions_of}
 use Rattle.sal_broker.specs.Seats.{SeatView, known}
 use Rattle.sal_script.specs.declared.script.ScriptStep.{ScriptStep}
-use Rattle.sal_script.specs.Along.{AreLeft}
+use Rattle.sal_script.specs.Along.{AreLogOf}
 use Rattle.sal_script.specs.Limits.{within_limits}
 use Rattle.sal_script.specs.Moves.{clients_of}
 use Rattle.sal_client.specs.declared.wish.RunFault.TheVariants.{HistoryFull}
@@ -44,5 +44,5 @@ returns-in-Ok-clause-left g c =
     let left =
     are_left c.args.readers.now c.in_ok-sal.sal programs c.in_ok-sal.opening c.in_ok-joined.joined c.in_ok-joined.replies limits begun c.in_ok-joined.ensures
     c.close-hub.result closed.world closed.seen closed.own closed.joined closed.others (c.requires.tables ∙ ap (λ (w : List Domain). versions_of w) same) c.in-Ok.replies c.in-Ok.is in
-    subst (λ (ps : List (List ScriptStep)). AreLeft c.args.hub.world (clients_of ps) c.close-hub.result.log c.in-Ok.replies) c.items-programs.ensures
-    (subst (λ (w : List Domain). AreLeft w (clients_of programs) c.close-hub.result.log c.in-Ok.replies) (sym same) left)
+    subst (λ (ps : List (List ScriptStep)). AreLogOf c.args.hub.world (clients_of ps) c.close-hub.result.log c.in-Ok.replies) c.items-programs.ensures
+    (subst (λ (w : List Domain). AreLogOf w (clients_of programs) c.close-hub.result.log c.in-Ok.replies) (sym same) left)

@@ -1,6 +1,6 @@
 use Rattle.std.proofs.lemmas.Bool.{and_from}
 use Rattle.serde_json.specs.View.{view}
-use Rattle.sal_value.specs.Json.{is_json}
+use Rattle.sal_json_laws.specs.Json.{is_json}
 use Rattle.sal_script.proofs.device.with_openings.Goals as goal
 
 pub invariant_of-result : goal.invariant_of-result

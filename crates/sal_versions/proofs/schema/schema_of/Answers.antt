@@ -1,6 +1,6 @@
 use Rattle.std.proofs.Common.{IsTrue, List, sym, subst}
 use Rattle.sal_stmt.specs.declared.stmt.Stmt.{Stmt}
-use Rattle.sal_tables.specs.Readable.{are_readable}
+use Rattle.sal_build.specs.Readable.{are_readable}
 use Rattle.sal_versions.proofs.ReadTexts.{texts_readable}
 use Rattle.sal_versions.proofs.schema.schema_of.Goals as goal
 

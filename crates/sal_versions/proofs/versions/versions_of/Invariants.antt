@@ -4,7 +4,7 @@ use Rattle.sal_stmt.specs.declared.fault.StmtFault.{StmtFault}
 use Rattle.sal_stmt.specs.declared.stmt.Stmt.{Stmt}
 use Rattle.sal_stmt.specs.Text.{read}
 use Rattle.sal_script.specs.Limits.{all_texts}
-use Rattle.sal_tables.specs.Versions.{IsVersionOf, tabled}
+use Rattle.sal_build.specs.Versions.{IsVersionOf, tabled}
 use Rattle.sal_versions.specs.Versions.{seen, upgraded, versions_of}
 use Rattle.sal_versions.proofs.versions.versions_of.Given as goal
 

@@ -18,7 +18,7 @@ use Rattle.sal_hub.specs.Answers.{Calls, Made}
 use Rattle.sal_hub.specs.Current.{IsKept, answers, known_of}
 use Rattle.sal_hub.specs.Journals.{Noted, jotted, mark_at}
 use Rattle.sal_hub.specs.HubHistory.{entry_of}
-use Rattle.sal_hub.specs.PipelineView.{AllKept, AreDecided, Decides, line_of}
+use Rattle.sal_hub.specs.PipelineView.{AllKept, AreDecided, Decides, queue_of}
 use Rattle.sal_hub.specs.Whole.{IsWhole}
 use Rattle.sal_hub.specs.Tokens.{IsGiven}
 use Rattle.sal_hub.proofs.Settling.{few, given_within, settled_kept, settled_made, unsettled_kept, unsettled_known}
@@ -28,12 +28,12 @@ use Rattle.sal_hub.proofs.hub.Hub.settle.Goals.{in-Ok, in-Err}
 
 -- the same by the number that the code reads of the receipt
 module _ (j j' : Noted) (p p' : Pipeline) (is : IsKept j p) (client : ℕ) (receipt : Receipt) (n : ℕ) (at : n ≡ receipt.number) (log : j'.log ≡ jotted j.log client (Settle n))
-    (decided : Decides (line_of p) (n - length p.outcomes.items) (line_of p')) (o : Outcome) (outcome : slice_get p'.outcomes.items (n - 1) ≡ Some o) where
+    (decided : Decides (queue_of p) (n - length p.outcomes.items) (queue_of p')) (o : Outcome) (outcome : slice_get p'.outcomes.items (n - 1) ≡ Some o) where
   log_now : j'.log ≡ jotted j.log client (Settle receipt.number)
   log_now = log ∙ ap (λ k. jotted j.log client (Settle k)) at
 
-  decided_now : AreDecided (sents (answers j.log (line_of p))) (line_of p) (receipt.number - length p.outcomes.items) (line_of p')
-  decided_now = subst (λ k. AreDecided (sents (answers j.log (line_of p))) (line_of p) (k - length p.outcomes.items) (line_of p')) at (decided (sents (answers j.log (line_of p))) is.current.sound)
+  decided_now : AreDecided (sents (answers j.log (queue_of p))) (queue_of p) (receipt.number - length p.outcomes.items) (queue_of p')
+  decided_now = subst (λ k. AreDecided (sents (answers j.log (queue_of p))) (queue_of p) (k - length p.outcomes.items) (queue_of p')) at (decided (sents (answers j.log (queue_of p))) is.current.sound)
 
   outcome_now : slice_get p'.outcomes.items (receipt.number - 1) ≡ Some o
   outcome_now = subst (λ k. slice_get p'.outcomes.items (k - 1) ≡ Some o) at outcome
@@ -45,14 +45,14 @@ module _ (j j' : Noted) (p p' : Pipeline) (is : IsKept j p) (client : ℕ) (rece
   settle_made room token = settled_made j j' p p' is client receipt log_now decided_now o room token outcome_now
 
 settle_whole : (j j' : Noted) (p p' : Pipeline) (cs : Chains) (ms : Marks) (ls : Listeners) (sv : Services) (whole : IsWhole j p cs ms ls sv) (client : ℕ) (receipt : Receipt) (n : ℕ) → n ≡ receipt.number → j'.log ≡ jotted j.log client (Settle n)
-    → Decides (line_of p) (n - length p.outcomes.items) (line_of p') → (o : Outcome) → slice_get p'.outcomes.items (n - 1) ≡ Some o → AllKept p'.domains.items → p'.gone ≡ length p'.outcomes.items → ((k : ℕ) → mark_at j'.marks k ≡ mark_at j.marks k)
+    → Decides (queue_of p) (n - length p.outcomes.items) (queue_of p') → (o : Outcome) → slice_get p'.outcomes.items (n - 1) ≡ Some o → AllKept p'.domains.items → p'.gone ≡ length p'.outcomes.items → ((k : ℕ) → mark_at j'.marks k ≡ mark_at j.marks k)
     → length j.log < 1000000 → IsGiven (known_of j p) receipt → IsWhole j' p' cs ms ls sv
 settle_whole j j' p p' cs ms ls sv whole client receipt n at log decided o outcome kept gone marks room token =
     whole_called j j' p p' cs ms ls sv whole (settle_kept j j' p p' whole.kept client receipt n at log decided o outcome kept gone marks)
     (entry_of (known_of j p) client (Settle receipt.number)) (λ m. refl) (λ (o : Outcome). Settled receipt.domain o) (Ok o) refl refl (settle_made j j' p p' whole.kept client receipt n at log decided o outcome room token)
     (λ r. refl) (λ r id. refl) (λ r id. refl) (λ r. refl)
 
-unsettled_whole : (j j' : Noted) (p p' : Pipeline) (cs : Chains) (ms : Marks) (ls : Listeners) (sv : Services) (whole : IsWhole j p cs ms ls sv) (client : ℕ) (receipt : Receipt) → AllKept p'.domains.items → line_of p' ≡ line_of p → j' ≡ j → IsWhole j' p' cs ms ls sv
+unsettled_whole : (j j' : Noted) (p p' : Pipeline) (cs : Chains) (ms : Marks) (ls : Listeners) (sv : Services) (whole : IsWhole j p cs ms ls sv) (client : ℕ) (receipt : Receipt) → AllKept p'.domains.items → queue_of p' ≡ queue_of p → j' ≡ j → IsWhole j' p' cs ms ls sv
 unsettled_whole j j' p p' cs ms ls sv whole client receipt kept same undone =
     whole_called j j' p p' cs ms ls sv whole (unsettled_kept j j' p p' whole.kept kept same undone)
     (entry_of (known_of j p) client (Settle receipt.number)) (λ m. refl) (λ (o : Outcome). Settled receipt.domain o) (Err NoMemory) refl refl (unsettled_known j j' p p' same undone)
@@ -62,7 +62,7 @@ pub settle-requires-clause-kept : goal.settle-requires-clause-kept
 settle-requires-clause-kept c = c.self.invariant.kept.kept
 
 pub settle-requires-clause-sound : goal.settle-requires-clause-sound
-settle-requires-clause-sound c = (sents (answers c.self.inside.journal.log (line_of c.self.inside.pipeline)), c.self.invariant.kept.current.sound)
+settle-requires-clause-sound c = (sents (answers c.self.inside.journal.log (queue_of c.self.inside.pipeline)), c.self.invariant.kept.current.sound)
 
 pub settle-requires-clause-some : goal.settle-requires-clause-some
 settle-requires-clause-some c = omega (arith, c.requires.given.0, c.number-number.ensures)

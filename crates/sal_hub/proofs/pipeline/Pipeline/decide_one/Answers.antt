@@ -7,7 +7,7 @@ use Rattle.sal_rows.specs.declared.outcome.Outcome.{Outcome}
 use Rattle.sal_commit.specs.Deciding.{decide}
 use Rattle.sal_history.specs.Submissions.{is_done}
 use Rattle.sal_hub.specs.Failures.{IsWithin, failure_of, failures_after}
-use Rattle.sal_hub.specs.PipelineView.{HasGrown, line_of}
+use Rattle.sal_hub.specs.PipelineView.{HasGrown, queue_of}
 use Rattle.sal_hub.proofs.Deciding.{can_now, decided_now, domain_within, grown_none, grown_nothing, grown_now, stamp_now, within_here}
 use Rattle.sal_hub.proofs.Noted.{length-after}
 use Rattle.sal_hub.proofs.pipeline.Pipeline.decide_one.Goals as goal
@@ -35,8 +35,8 @@ decide-requires-clause-fresh c =
 
 pub returns-in_err-reserve-clause-grown : goal.returns-in_err-reserve-clause-grown
 returns-in_err-reserve-clause-grown c =
-    subst (λ (os : List Outcome). HasGrown (line_of c.args.self.now) (record { domains = (line_of c.args.self.now).domains; gone = c.args.self.now.gone; waiting = c.args.self.now.waiting.items; outcomes = os; failures = c.args.self.now.failures.items }))
-    (sym (c.in_err-reserve.ensures.items)) (grown_none c.requires.sound.0 (line_of c.args.self.now) c.requires.sound.1)
+    subst (λ (os : List Outcome). HasGrown (queue_of c.args.self.now) (record { domains = (queue_of c.args.self.now).domains; gone = c.args.self.now.gone; waiting = c.args.self.now.waiting.items; outcomes = os; failures = c.args.self.now.failures.items }))
+    (sym (c.in_err-reserve.ensures.items)) (grown_none c.requires.sound.0 (queue_of c.args.self.now) c.requires.sound.1)
 
 pub returns-in_err-outcome-clause-grown : goal.returns-in_err-outcome-clause-grown
 returns-in_err-outcome-clause-grown c =

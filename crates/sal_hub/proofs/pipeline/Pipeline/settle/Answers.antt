@@ -3,7 +3,7 @@ use Rattle.std.proofs.Common.{◌≡◌, ◌-◌, List, drop, length, map, take,
 use Rattle.std.proofs.lemmas.Grind.{common_steps}
 use Rattle.sal_commit.specs.declared.domain.Domain.{Domain}
 use Rattle.sal_hub.specs.Failures.{cut_failures}
-use Rattle.sal_hub.specs.PipelineView.{AreDecided, PipelineView, Reach, counts_of, cut_all, line_of, shown}
+use Rattle.sal_hub.specs.PipelineView.{AreDecided, PipelineView, Reach, counts_of, cut_all, queue_of, shown}
 use Rattle.sal_hub.proofs.Cutting.{as_many, reaches, taken_back}
 use Rattle.sal_hub.proofs.Deciding.{decided-shorter}
 use Rattle.sal_hub.proofs.pipeline.Pipeline.settle.Goals as goal
@@ -40,6 +40,6 @@ returns-in-Ok-clause-decided c = λ ss sound.
     let count : c.len.result ≡ length new.outcomes.items = grind (arith, common_steps) in
     let gone : c.let_go.new.gone ≡ length new.outcomes.items = c.let_go.ensures.gone ∙ count in
     let waits : c.let_go.new.waiting.items ≡ drop (length new.outcomes.items - new.gone) new.waiting.items = c.let_go.ensures.waiting ∙ ap (λ n. drop (n - new.gone) new.waiting.items) count in
-    subst (AreDecided ss (line_of old) (c.args.receipt - length old.outcomes.items))
-    (λ i. let line : PipelineView = record { domains = map shown new.domains.items; gone = sym gone i; waiting = sym waits i; outcomes = new.outcomes.items; failures = new.failures.items } in line)
-    (decided-shorter ss (line_of old) (c.args.receipt - length old.outcomes.items) (line_of new) (c.in-Ok.ensures.decided ss sound))
+    subst (AreDecided ss (queue_of old) (c.args.receipt - length old.outcomes.items))
+    (λ i. let queue : PipelineView = record { domains = map shown new.domains.items; gone = sym gone i; waiting = sym waits i; outcomes = new.outcomes.items; failures = new.failures.items } in queue)
+    (decided-shorter ss (queue_of old) (c.args.receipt - length old.outcomes.items) (queue_of new) (c.in-Ok.ensures.decided ss sound))

@@ -18,7 +18,7 @@ returns-clause-kept c =
     kept_upgraded c.args.self.now.domains.items c.index_mut.result.now _ c.args.next.number c.requires.kept
     (kept_at c.args.self.now.domains.items 0 c.index_mut.result.now c.requires.kept c.requires.there c.index_mut.ensures.value) c.upgrade.ensures
 
-pub returns-clause-line : goal.returns-clause-line
-returns-clause-line c =
+pub returns-clause-queue : goal.returns-clause-queue
+returns-clause-queue c =
     line_upgraded c.args.self.now c.index_mut.result.now _ c.args.next.number c.requires.there c.index_mut.ensures.value
     (kept_at c.args.self.now.domains.items 0 c.index_mut.result.now c.requires.kept c.requires.there c.index_mut.ensures.value) c.upgrade.ensures

@@ -1,6 +1,0 @@
--- The commits so far are kept.
-use Rattle.sal_graft.specs.Kept.{AreKept}
-use Rattle.broker_tests.proofs.near.all_are_next.Given as goal
-
-abbrev pub invariant-loop : goal.invariant-loop
-invariant-loop l = AreKept l.domain.commits.items

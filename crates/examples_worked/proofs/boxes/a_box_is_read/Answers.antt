@@ -1,0 +1,18 @@
+-- Each example by computation.
+use Rattle.std.specs.Fmt.{digits}
+use Rattle.std.specs.Str.{chars}
+use Rattle.base64.proofs.OnLiterals.{base64_on_literals}
+use Rattle.sal_restrict.specs.declared.yang_type.YangType.TheViews.{out-roll-YangType}
+use Rattle.sal_schema.specs.Table.{closest}
+use Rattle.sal_json.specs.Named.{bits_of}
+use Rattle.sal_json.specs.Read.{type_scalar, type_text_scalar, own_text, own_json}
+use Rattle.sal_json.specs.Written.{type_json_of, type_text_of, layer_for}
+use Rattle.examples_worked.proofs.boxes.a_box_is_read.Goals as goal
+
+pub returns-clause-whole : goal.returns-clause-whole
+unfolding closest digits chars base64_on_literals bits_of
+returns-clause-whole c = simp (type_scalar, type_text_scalar, own_text, own_json, type_json_of, type_text_of, layer_for, out-roll-YangType)
+
+pub returns-clause-texts : goal.returns-clause-texts
+unfolding closest digits chars base64_on_literals bits_of
+returns-clause-texts c = simp (type_scalar, type_text_scalar, own_text, own_json, type_json_of, type_text_of, layer_for, out-roll-YangType)

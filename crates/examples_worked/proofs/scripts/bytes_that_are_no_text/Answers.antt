@@ -1,0 +1,10 @@
+-- The place is computed.
+use Rattle.std.proofs.Common.{refl}
+use Rattle.std.specs.Str.{chars, is_utf8}
+use Rattle.std.specs.Str.Lossy.{utf8_valid_len}
+use Rattle.serde_json.proofs.OnLiterals.{serde_json_on_literals}
+use Rattle.examples_worked.proofs.scripts.bytes_that_are_no_text.Goals as goal
+
+pub returns : goal.returns
+unfolding serde_json_on_literals utf8_valid_len is_utf8 chars
+returns c = refl

@@ -1,5 +1,0 @@
-use Rattle.sal_owner.specs.Turns.{Keeps}
-use Rattle.owner_tests.proofs.threads.rounds.Given as goal
-
-abbrev pub invariant-loop : goal.invariant-loop
-invariant-loop g l = Keeps l.owners l.fn.seat l.seat

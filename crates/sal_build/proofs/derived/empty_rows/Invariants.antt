@@ -1,7 +1,0 @@
--- The lists so far.
-use Rattle.std.proofs.Common.{◌≡◌, length}
-use Rattle.sal_build.specs.Orders.{rows}
-use Rattle.sal_build.proofs.derived.empty_rows.Given as goal
-
-abbrev pub invariant-loop-i : goal.invariant-loop-i
-invariant-loop-i l = length (rows l.all.items) ≡ l.i

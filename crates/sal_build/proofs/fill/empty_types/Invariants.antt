@@ -1,6 +1,0 @@
--- The types so far.
-use Rattle.std.proofs.Common.{◌≡◌, length}
-use Rattle.sal_build.proofs.fill.empty_types.Given as goal
-
-abbrev pub invariant-loop-i : goal.invariant-loop-i
-invariant-loop-i l = length l.all.items ≡ l._i

@@ -1,8 +1,0 @@
--- The modules so far.
-use Rattle.std.proofs.Common.{◌≡◌, take}
-use Rattle.sal_grouping.proofs.Places.{numbered}
-use Rattle.sal_build.specs.Identities.{seen, identities_in}
-use Rattle.sal_build.proofs.identities.identities_of.Given as goal
-
-abbrev pub invariant-loop-m : goal.invariant-loop-m
-invariant-loop-m l = seen l.all.items ≡ numbered identities_in 0 (take l.m l.stmts)

@@ -1,0 +1,5 @@
+use Rattle.sal_build.proofs.ReadableTexts.{what_is_read_is_readable}
+use Rattle.sal_build.proofs.laws.what_is_read_is_readable.Goals as goal
+
+pub returns : goal.returns
+returns c = what_is_read_is_readable

@@ -1,8 +1,0 @@
--- What is left to look at.
-use Rattle.std.proofs.Common.{◌≡◌, drop}
-use Rattle.std.specs.List.{list_any}
-use Rattle.sal_build.specs.Leafrefs.{is_some_reference, seen_all}
-use Rattle.sal_build.proofs.leafrefs.has_leafrefs.Given as goal
-
-abbrev pub invariant-loop-own : goal.invariant-loop-own
-invariant-loop-own l = list_any is_some_reference (seen_all l.leafrefs) ≡ list_any is_some_reference (seen_all (drop l.own-index l.leafrefs))

@@ -1,7 +1,0 @@
--- Those so far that are there.
-use Rattle.std.proofs.Common.{◌≡◌, take}
-use Rattle.sal_build.specs.Lists.{given}
-use Rattle.sal_build.proofs.lists.given.Given as goal
-
-abbrev pub invariant-loop-leaf : goal.invariant-loop-leaf
-invariant-loop-leaf l = l.list.items ≡ given (take l.leaf-index l.named)

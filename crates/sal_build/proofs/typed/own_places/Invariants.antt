@@ -1,7 +1,0 @@
--- Those of the statements so far.
-use Rattle.std.proofs.Common.{◌≡◌, take}
-use Rattle.sal_build.specs.Typed.{owns, places_of}
-use Rattle.sal_build.proofs.typed.own_places.Given as goal
-
-abbrev pub invariant-loop-own : goal.invariant-loop-own
-invariant-loop-own l = l.places.items ≡ places_of (owns (take l.own-index l.all))

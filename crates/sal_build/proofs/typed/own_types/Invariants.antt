@@ -1,7 +1,0 @@
--- Those of the nodes so far.
-use Rattle.std.proofs.Common.{◌≡◌, map, take}
-use Rattle.sal_build.specs.Leafrefs.{stated_type, type_of}
-use Rattle.sal_build.proofs.typed.own_types.Given as goal
-
-abbrev pub invariant-loop-branch : goal.invariant-loop-branch
-invariant-loop-branch l = l.all.items ≡ map (λ b. stated_type l.modules (type_of l.modules b)) (take l.branch-index l.forest)

@@ -1,6 +1,0 @@
-use Rattle.std.proofs.Common.{arith}
-use Rattle.sal_build.proofs.FewModules.{modules-few}
-use Rattle.sal_build.proofs.versions.next_version.Goals as goal
-
-pub overflow_cast-older : goal.overflow_cast-older
-overflow_cast-older c = omega (arith, modules-few c.args.stmts.now, c.requires.counted, c.requires.old)

@@ -1,5 +1,0 @@
-use Rattle.sal_closed.proofs.Commits.{logs_stay_closed}
-use Rattle.sal_closed.proofs.laws.committed_trees_are_closed.Goals as goal
-
-pub returns : goal.returns
-returns c = logs_stay_closed

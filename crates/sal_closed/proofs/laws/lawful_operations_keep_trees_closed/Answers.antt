@@ -1,5 +1,0 @@
-use Rattle.sal_closed.proofs.Closing.{lawful_keeps_closed}
-use Rattle.sal_closed.proofs.laws.lawful_operations_keep_trees_closed.Goals as goal
-
-pub returns : goal.returns
-returns c = lawful_keeps_closed

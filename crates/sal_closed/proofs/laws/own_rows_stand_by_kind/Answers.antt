@@ -1,5 +1,0 @@
-use Rattle.sal_closed.proofs.Owning.{own_rows_stand}
-use Rattle.sal_closed.proofs.laws.own_rows_stand_by_kind.Goals as goal
-
-pub returns : goal.returns
-returns c = own_rows_stand

@@ -1,0 +1,42 @@
+-- The rule of a feed's queue: one seat offers and one takes, and nothing is lost, doubled or out of order between them.
+use Rattle.std.specs.Prelude.{◌≡◌, ℕ, Bool, true, List, [], ◌∷◌, ◌++◌}
+use mathlib.Core.Option.{some}
+use lib.ListN.{get_elem?}
+use Rattle.sal_note.specs.declared.call.Note.{Note}
+use Rattle.sal_feed.specs.declared.rule.Log.{Log}
+
+abbrev pub log : Bool → Bool → List Note → List Note → Log
+log may_offer may_take offered taken = record { offers = may_offer; takes = may_take; offered = offered; taken = taken }
+
+-- what a seat knows after a note more
+abbrev pub with_offered : Log → Note → Log
+with_offered v x = log v.offers v.takes (v.offered ++ x ∷ []) v.taken
+
+abbrev pub with_taken : Log → Note → Log
+with_taken v x = log v.offers v.takes v.offered (v.taken ++ x ∷ [])
+
+-- what the seat of this number knows: it has the list offered if it may offer, and the list taken if it may take
+pub record Knows (offerer taker : ℕ) (offered taken : List Note) (seat : ℕ) (v : Log) : Type 0 where
+  pub offers : v.offers ≡ true → (seat ≡ offerer) × (v.offered ≡ offered)
+  pub takes : v.takes ≡ true → (seat ≡ taker) × (v.taken ≡ taken)
+
+-- what the queue holds is what was offered behind what was taken
+pub record Carries (items : List Note) (views : List Log) : Type 0 where
+  pub offerer : ℕ
+  pub taker : ℕ
+  pub offered : List Note
+  pub taken : List Note
+  pub whole : offered ≡ taken ++ items
+  pub known : (seat : ℕ) (v : Log) → get_elem? views seat ≡ some v → Knows offerer taker offered taken seat v
+
+-- these notes waited when that was what had been offered
+abbrev pub Waits : List Note → List Note → Type 0
+Waits offered items = (taken : List Note) × (offered ≡ taken ++ items)
+
+-- these notes waited when that was what had been taken
+abbrev pub Follows : List Note → List Note → Type 0
+Follows taken items = (offered : List Note) × (offered ≡ taken ++ items)
+
+-- the note was the first of those that were left
+abbrev pub Leaves : Log → Note → Type 0
+Leaves v x = (rest : List Note) × (v.offered ≡ v.taken ++ x ∷ rest)

@@ -1,0 +1,13 @@
+//! What a search for conflicts looks at.
+use sal_rows::{Rules, Span};
+use sal_tree::{Commit, Pair};
+
+/// The trees that a transaction stands on, the spans after them without its own chain, the commits of its domain from the opening to the
+/// newest, and the version rules.
+#[derive(Clone, Copy)]
+pub(crate) struct Ground<'a> {
+    pub base: &'a Pair,
+    pub spans: &'a [Span],
+    pub commits: &'a [Commit],
+    pub rules: Rules,
+}

@@ -1,8 +1,0 @@
-use Rattle.sal_loads.proofs.Behind.{absent, no_list}
-use Rattle.sal_loads.proofs.laws.entries_stand_alone.Goals as goal
-
-pub returns-clause-entries : goal.returns-clause-entries
-returns-clause-entries c = absent
-
-pub returns-clause-list : goal.returns-clause-list
-returns-clause-list c = no_list

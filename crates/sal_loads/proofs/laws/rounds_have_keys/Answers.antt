@@ -1,8 +1,0 @@
-use Rattle.sal_loads.proofs.Summed.{keys_differ, short}
-use Rattle.sal_loads.proofs.laws.rounds_have_keys.Goals as goal
-
-pub returns-clause-differ : goal.returns-clause-differ
-returns-clause-differ c = keys_differ
-
-pub returns-clause-short : goal.returns-clause-short
-returns-clause-short c = short

@@ -1,0 +1,7 @@
+-- The numbers so far.
+use Rattle.std.proofs.Common.{◌≡◌, fold, take}
+use Rattle.sal_module_table.specs.Identities.{with_number}
+use Rattle.sal_module_table.proofs.derived.add_all.Given as goal
+
+abbrev pub invariant-loop-k : goal.invariant-loop-k
+invariant-loop-k l = l.out.items ≡ fold with_number l.initial.out.items (take l.k-index l.numbers)

@@ -1,0 +1,8 @@
+-- What the statements so far give.
+use Rattle.std.proofs.Common.{◌≡◌, take}
+use Rattle.std.specs.List.{flat_map}
+use Rattle.sal_module_table.specs.Lists.{uniques_in, block_of, own_stmt}
+use Rattle.sal_module_table.proofs.info.uniques_of.Given as goal
+
+abbrev pub invariant-loop-sub : goal.invariant-loop-sub
+invariant-loop-sub l = l.uniques.items ≡ flat_map (uniques_in l.nodes.modules.now l.nodes.forest.now l.k l.branch) (take l.sub-index (block_of (own_stmt l.nodes.modules.now l.branch)))

@@ -1,0 +1,10 @@
+-- The least fault of the nodes so far.
+use Rattle.std.proofs.Common.{◌≡◌, take, None}
+use Rattle.sal_module.specs.Faults.{least}
+use Rattle.sal_grouping.specs.Indexes.{lists}
+use Rattle.sal_grouping.proofs.Places.{numbered}
+use Rattle.sal_module_table.specs.Leafrefs.{node_faults}
+use Rattle.sal_module_table.proofs.leafrefs.ranked_fault.Given as goal
+
+abbrev pub invariant-loop-k : goal.invariant-loop-k
+invariant-loop-k l = l.best ≡ least None (numbered (node_faults l.paths.modules.now l.paths.forest.now (lists l.circles.edges.now)) 0 (take l.k l.paths.forest.now))

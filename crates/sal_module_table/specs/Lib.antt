@@ -1,0 +1,16 @@
+pub mod Nodes
+pub mod OldBases
+pub mod Inherited
+pub mod Children
+pub mod Lists
+pub mod Table
+pub mod Orders
+pub mod Filled
+pub mod Identities
+pub mod Types
+pub mod Leafrefs
+pub mod Typed
+pub mod Build
+pub mod Examples
+pub mod Versions
+pub mod VersionExamples

@@ -1,0 +1,156 @@
+//! What identities are derived from.
+ghost use Rattle.std.specs.Prelude.{◌≡◌, ◌∷◌, ◌<◌, ◌^◌, ℕ, [], All, fold, length, IfOk, slice_index_or, if◌then◌else◌, ◌==◌};
+ghost use Rattle.std.specs.List.{list_any};
+ghost use Rattle.sal_grouping.specs.Indexes.{lists};
+ghost use Rattle.sal_module_table.specs.Orders.{rows, IsOrdered};
+ghost use Rattle.sal_module_table.specs.Identities as spec;
+
+use crate::order::{Order, order_of, out_of, stands_at};
+use sal_types::{NoMemory, append};
+use std::alloc::Global;
+
+fn is_among(numbers: &[u32], k: u32) -> bool
+    ensures { result ≡ list_any (λ j. j == k) numbers.now }
+{
+    numbers.iter().any(|j| *j == k)
+}
+
+/// The number goes behind these, where it does not stand among them.
+fn add(out: &mut Vec<u32>, k: u32) -> Result<(), NoMemory>
+    ensures { IfOk result (λ _. out.new.items ≡ spec.with_number out.old.items k) }
+{
+    if !is_among(out, k) {
+        append(out, k)?;
+    }
+    Ok(())
+}
+
+fn add_all(out: &mut Vec<u32>, numbers: &[u32]) -> Result<(), NoMemory>
+    ensures { IfOk result (λ _. out.new.items ≡ fold spec.with_number out.old.items numbers.now) }
+{
+    for k in numbers {
+        add(out, *k)?;
+    }
+    Ok(())
+}
+
+fn row_at(all: &[Vec<u32>], k: usize) -> &[u32]
+    ensures { result.now ≡ slice_index_or (rows all.now) k [] }
+{
+    if k < all.len() { &all[k] } else { &[] }
+}
+
+/// A base, and what it is derived from.
+fn add_with(out: &mut Vec<u32>, base: usize, above: &[u32]) -> Result<(), NoMemory>
+    requires { base < 2 ^ 32 }
+    ensures { IfOk result (λ _. out.new.items ≡ fold spec.with_number out.old.items (base ∷ above.now)) }
+{
+    add(out, base as u32)?;
+    add_all(out, above)
+}
+
+/// Bases, each with what it is derived from.
+fn joined(alloc: Global, all: &[Vec<u32>], bases: &[usize]) -> Result<Vec<u32>, NoMemory>
+    requires { All (λ b. b < 2 ^ 32) bases.now }
+    ensures { IfOk result (λ row. row.items ≡ spec.joined (λ b. slice_index_or (rows all.now) b []) bases.now) }
+{
+    let mut out = Vec::new(alloc);
+    for base in bases {
+        add_with(&mut out, *base, row_at(all, *base))?;
+    }
+    Ok(out)
+}
+
+/// The list of this number is made anew from those before it.
+fn place_row(
+    all: &mut Vec<Vec<u32>>,
+    alloc: Global,
+    edges: &[Vec<usize>],
+    i: usize,
+) -> Result<(), NoMemory>
+    requires count { length (rows all.old.items) ≡ length (lists edges.now) }
+    requires small { spec.AreSmall (lists edges.now) }
+    ensures count { IfOk result (λ _. length (rows all.new.items) ≡ length (rows all.old.items)) }
+    ensures each { IfOk result (λ _. (k : ℕ) → k < length (lists edges.now) → slice_index_or (rows all.new.items) k [] ≡
+        (if i == k then spec.joined (λ b. slice_index_or (rows all.old.items) b []) (slice_index_or (lists edges.now) k []) else slice_index_or (rows all.old.items) k [])) }
+{
+    if i < edges.len() {
+        let row = joined(alloc, all, out_of(edges, i))?;
+        all[i] = row;
+    }
+    Ok(())
+}
+
+fn empty_rows(alloc: Global, count: usize) -> Result<Vec<Vec<u32>>, NoMemory>
+    ensures { IfOk result (λ all. length (rows all.items) ≡ count) }
+{
+    let mut all = Vec::with_capacity(alloc, count)?;
+    for i in 0..count {
+        append(&mut all, Vec::new(alloc))?;
+    }
+    Ok(all)
+}
+
+/// What each identity is derived from, by an order in which its bases stand before it.
+fn derived_by(alloc: Global, edges: &[Vec<usize>], order: &Order) -> Result<Vec<Vec<u32>>, NoMemory>
+    requires order { IsOrdered (lists edges.now) order.now.ranks.items order.now.order.items }
+    requires small { spec.AreSmall (lists edges.now) }
+    ensures count { IfOk result (λ all. length (rows all.items) ≡ length (lists edges.now)) }
+    ensures each { IfOk result (λ all. (k : ℕ) → k < length (lists edges.now) → slice_index_or (rows all.items) k [] ≡ spec.derived_from (lists edges.now) k) }
+{
+    let mut all = empty_rows(alloc, edges.len())?;
+    for r in 0..order.order.len() {
+        let i = stands_at(&order.order, r, edges.len());
+        place_row(&mut all, alloc, edges, i)?;
+    }
+    Ok(all)
+}
+
+/// What one is derived from in so many steps.
+fn derived_in(
+    alloc: Global,
+    edges: &[Vec<usize>],
+    steps: usize,
+    i: usize,
+) -> Result<Vec<u32>, NoMemory>
+    requires { spec.AreSmall (lists edges.now) }
+    ensures { IfOk result (λ row. row.items ≡ spec.derived steps (lists edges.now) i) }
+{
+    let mut out = Vec::new(alloc);
+    if steps == 0 {
+        return Ok(out);
+    }
+    for base in out_of(edges, i) {
+        let above = derived_in(alloc, edges, steps - 1, *base)?;
+        add_with(&mut out, *base, &above)?;
+    }
+    Ok(out)
+}
+
+/// What each is derived from, however the edges lead.
+fn derived_slowly(alloc: Global, edges: &[Vec<usize>]) -> Result<Vec<Vec<u32>>, NoMemory>
+    requires { spec.AreSmall (lists edges.now) }
+    ensures count { IfOk result (λ all. length (rows all.items) ≡ length (lists edges.now)) }
+    ensures each { IfOk result (λ all. (k : ℕ) → k < length (lists edges.now) → slice_index_or (rows all.items) k [] ≡ spec.derived_from (lists edges.now) k) }
+{
+    let mut all = Vec::with_capacity(alloc, edges.len())?;
+    for i in 0..edges.len() {
+        append(&mut all, derived_in(alloc, edges, edges.len(), i)?)?;
+    }
+    Ok(all)
+}
+
+/// What each identity is derived from: its bases, and what they are derived from.
+///
+/// Each is gone through once, after its bases. Where a way leads into a cycle, which is a fault that stands before this, each
+/// way is gone along by itself.
+pub(crate) fn derived_of(alloc: Global, edges: &[Vec<usize>]) -> Result<Vec<Vec<u32>>, NoMemory>
+    requires { spec.AreSmall (lists edges.now) }
+    ensures count { IfOk result (λ all. length (rows all.items) ≡ length (lists edges.now)) }
+    ensures each { IfOk result (λ all. (k : ℕ) → k < length (lists edges.now) → slice_index_or (rows all.items) k [] ≡ spec.derived_from (lists edges.now) k) }
+{
+    match order_of(alloc, edges)? {
+        None => derived_slowly(alloc, edges),
+        Some(order) => derived_by(alloc, edges, &order),
+    }
+}

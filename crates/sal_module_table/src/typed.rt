@@ -1,0 +1,393 @@
+//! The type statements of nodes, and what they mean.
+ghost use Rattle.std.specs.Prelude.{◌≡◌, ◌<◌, slice_index_or, ◌++◌, Some, IfOk, map, find, option_map, length, if◌then◌else◌};
+ghost use Rattle.std.specs.BTreeMap.{get};
+ghost use Rattle.std.specs.List.{slice_get};
+ghost use Rattle.std.specs.Option.{option_copied};
+ghost use Rattle.sal_stmt.specs.declared.stmt.Stmt.TheViews.{out-Stmt};
+ghost use Rattle.sal_module.specs.declared.keyword.Keyword.TheVariants as word;
+ghost use Rattle.sal_module.specs.Statements.{is_named, subs_of};
+ghost use Rattle.sal_typedefs.specs.Leafrefs.{leafref_seen, stmt_in};
+ghost use Rattle.sal_typedefs.specs.Spots.{site_in};
+ghost use Rattle.sal_module_table.specs.declared.typed.Place.{Place as Spot};
+ghost use Rattle.sal_module_table.specs.Leafrefs as leafrefs;
+ghost use Rattle.sal_module_table.specs.Typed as spec;
+
+use crate::fill::empty_type;
+use crate::info::is_typed;
+use sal_grouping::Branch;
+use sal_module::{Keyword, Modules, first_named};
+use sal_restrict::YangType;
+use sal_stmt::Stmt;
+use sal_typedefs::{Block, Leafref, Typedefs, judge_at, leafrefs_at};
+use sal_types::{NoMemory, append};
+use std::alloc::Global;
+use std::collections::BTreeMap;
+
+/// Where a statement stands.
+#[derive(Clone, Copy, Debug, PartialEq, Eq, PartialOrd, Ord)]
+pub(crate) struct Place {
+    /// The number of its module.
+    pub source: u32,
+    /// How many bytes of that module's text stand before it.
+    pub at: u32,
+}
+
+/// The first number with each place.
+type Places = BTreeMap<Place, usize>;
+
+/// What the type statement in a statement means, its leafrefs still paths, and those leafrefs.
+#[derive(Drop)]
+pub(crate) struct Typing<'a> {
+    pub place: Place,
+    pub ty: YangType,
+    pub leafrefs: Vec<Leafref<'a>>,
+}
+
+/// What the type statements of nodes mean, by the places of the statements in which they stand.
+#[derive(Drop)]
+pub(crate) struct NodeTypes<'a> {
+    pub all: Vec<Typing<'a>>,
+    pub places: Places,
+}
+
+/// How deep the blocks of a statement may be open in one another.
+const MAX_BLOCKS: u32 = 64;
+
+// ---- places
+
+fn place_at(number: u32, stmt: &Stmt) -> Place
+    ensures { result ≡ spec.place number (out-Stmt stmt.now).at }
+{
+    Place {
+        source: number,
+        at: stmt.at,
+    }
+}
+
+fn place_of_node(branch: &Branch) -> Place
+    ensures { result ≡ spec.place_of_node branch.now }
+{
+    Place {
+        source: branch.source,
+        at: branch.at,
+    }
+}
+
+/// The place has this number, whatever it had.
+fn put(map: &mut Places, place: Place, k: usize) -> Result<(), NoMemory>
+    ensures { IfOk result (λ _. (q : Spot) → get spec.place_cmp map.new q ≡ (if spec.same_place q place then Some k else get spec.place_cmp map.old q)) }
+{
+    map.insert(place, k)?;
+    Ok(())
+}
+
+/// The place of this number.
+fn numbered(places: &[Place], k: usize) -> Place
+    requires { k < length places.now }
+    ensures { result ≡ slice_index_or places.now k result }
+{
+    places[k]
+}
+
+/// The numbers of these places: the first of each. From the last one to the first, so that the first counts.
+fn by_place(alloc: Global, places: &[Place]) -> Result<Places, NoMemory>
+    ensures { IfOk result (λ map. spec.AreFirst places.now map) }
+{
+    let mut map = BTreeMap::new(alloc);
+    for done in 0..places.len() {
+        let k = places.len() - 1 - done;
+        let place = numbered(places, k);
+        put(&mut map, place, k)?;
+    }
+    Ok(map)
+}
+
+/// The places of the statements of nodes.
+fn node_places(alloc: Global, forest: &[Branch]) -> Result<Vec<Place>, NoMemory>
+    ensures { IfOk result (λ places. places.items ≡ map spec.place_of_node forest.now) }
+{
+    let mut places = Vec::with_capacity(alloc, forest.len())?;
+    for branch in forest {
+        append(&mut places, place_of_node(branch))?;
+    }
+    Ok(places)
+}
+
+fn own_places(alloc: Global, all: &[Typing]) -> Result<Vec<Place>, NoMemory>
+    ensures { IfOk result (λ places. places.items ≡ spec.places_of (spec.owns all.now)) }
+{
+    let mut places = Vec::with_capacity(alloc, all.len())?;
+    for own in all {
+        append(&mut places, own.place)?;
+    }
+    Ok(places)
+}
+
+// ---- one statement
+
+/// A module whose statements are gone through, and the places of those that are kept.
+#[derive(Drop)]
+struct Keeper<'x, 'a> {
+    alloc: Global,
+    typedefs: &'x Typedefs<'a>,
+    wanted: &'x Places,
+    number: u32,
+}
+
+/// What a type statement in these blocks means, or the type without values where it has a fault.
+fn stated_type<'j, 'x, 'a>(
+    keeper: &'j Keeper<'x, 'a>,
+    around: &'j [Block<'a>],
+    stmt: Option<&'a Stmt>,
+) -> Result<YangType, NoMemory>
+    ensures { IfOk result (λ ty. ty ≡ leafrefs.stated_type keeper.now.typedefs.now (option_map (site_in keeper.now.number around.now) (option_copied stmt.entry))) }
+{
+    let Some(stmt) = stmt else {
+        return Ok(empty_type());
+    };
+    let (fault, ty) = judge_at(keeper.alloc, keeper.typedefs, keeper.number, around, stmt)?;
+    match fault {
+        None => Ok(ty),
+        Some(_found) => Ok(empty_type()),
+    }
+}
+
+/// The leafrefs among a type statement in these blocks and those that it rests on.
+fn stated_leafrefs<'j, 'x, 'a>(
+    keeper: &'j Keeper<'x, 'a>,
+    around: &'j [Block<'a>],
+    stmt: Option<&'a Stmt>,
+) -> Result<Vec<Leafref<'a>>, NoMemory>
+    ensures { IfOk result (λ all. map leafref_seen all.items
+        ≡ map stmt_in (leafrefs.stated_leafrefs keeper.now.typedefs.now (option_map (site_in keeper.now.number around.now) (option_copied stmt.entry)))) }
+{
+    match stmt {
+        None => Ok(Vec::new(keeper.alloc)),
+        Some(stmt) => leafrefs_at(keeper.alloc, keeper.typedefs, keeper.number, around, stmt),
+    }
+}
+
+/// What is kept of a statement, whose own block is the innermost of these.
+fn own_at<'j, 'x, 'a>(
+    keeper: &'j Keeper<'x, 'a>,
+    around: &'j [Block<'a>],
+    stmt: &'a Stmt,
+) -> Result<Typing<'a>, NoMemory>
+    ensures { IfOk result (λ own. spec.own_of own ≡ spec.own_with keeper.now.typedefs.now (spec.place keeper.now.number (out-Stmt stmt.now).at)
+        (option_map (site_in keeper.now.number around.now) (find (is_named word.Type) (subs_of stmt.now)))) }
+{
+    let sub = first_named(Keyword::Type, stmt.subs.items());
+    let ty = stated_type(keeper, around, sub)?;
+    let leafrefs = stated_leafrefs(keeper, around, sub)?;
+    Ok(Typing {
+        place: place_at(keeper.number, stmt),
+        ty,
+        leafrefs,
+    })
+}
+
+/// Keeps what is wanted of a statement in these blocks.
+fn push_here<'j, 'x, 'a>(
+    all: &mut Vec<Typing<'a>>,
+    keeper: &'j Keeper<'x, 'a>,
+    around: &mut Vec<Block<'a>>,
+    stmt: &'a Stmt,
+) -> Result<(), NoMemory>
+    ensures value { IfOk result (λ _. spec.owns all.new.items
+        ≡ spec.owns all.old.items ++ spec.own_here keeper.now.wanted.now keeper.now.typedefs.now (site_in keeper.now.number around.old.items stmt.now)) }
+    ensures around { IfOk result (λ _. around.new.items ≡ around.old.items) }
+{
+    if !keeper.wanted.contains_key(&place_at(keeper.number, stmt)) {
+        return Ok(());
+    }
+    append(around, Block::new(keeper.alloc, stmt)?)?;
+    let own = own_at(keeper, around, stmt)?;
+    append(all, own)?;
+    around.pop();
+    Ok(())
+}
+
+// ---- all statements
+
+/// Keeps what is wanted of a statement and of those in so many levels below it.
+fn push_stmt<'j, 'x, 'a>(
+    all: &mut Vec<Typing<'a>>,
+    keeper: &'j Keeper<'x, 'a>,
+    around: &mut Vec<Block<'a>>,
+    levels: u32,
+    stmt: &'a Stmt,
+) -> Result<(), NoMemory>
+    ensures value { IfOk result (λ _. spec.owns all.new.items
+        ≡ spec.owns all.old.items ++ spec.owns_in keeper.now.wanted.now levels keeper.now.typedefs.now (site_in keeper.now.number around.old.items stmt.now)) }
+    ensures around { IfOk result (λ _. around.new.items ≡ around.old.items) }
+{
+    push_here(all, keeper, around, stmt)?;
+    if levels == 0 {
+        return Ok(());
+    }
+    append(around, Block::new(keeper.alloc, stmt)?)?;
+    for sub in stmt.subs.items() {
+        push_stmt(all, keeper, around, levels - 1, sub)?;
+    }
+    around.pop();
+    Ok(())
+}
+
+/// What is wanted of all statements, in the order of the texts.
+fn typings_of<'x, 'a>(
+    alloc: Global,
+    modules: &'a Modules,
+    typedefs: &'x Typedefs<'a>,
+    wanted: &'x Places,
+) -> Result<Vec<Typing<'a>>, NoMemory>
+    requires { typedefs.now ≡ modules.now }
+    ensures { IfOk result (λ all. spec.owns all.items ≡ spec.owns_of wanted.now modules.now) }
+{
+    let stmts = modules.items();
+    let mut all = Vec::new(alloc);
+    let mut around = Vec::new(alloc);
+    for (m, stmt) in stmts.iter().enumerate() {
+        let keeper = Keeper {
+            alloc,
+            typedefs,
+            wanted,
+            number: m as u32,
+        };
+        push_stmt(&mut all, &keeper, &mut around, MAX_BLOCKS, stmt)?;
+    }
+    Ok(all)
+}
+
+/// What the type statements of these nodes mean, their leafrefs still paths.
+///
+/// It takes time linear in the statements, in the nodes, and in what their type statements rest on, times the logarithm of
+/// the nodes.
+pub(crate) fn node_types<'x, 'a>(
+    alloc: Global,
+    modules: &'a Modules,
+    typedefs: &'x Typedefs<'a>,
+    forest: &[Branch],
+) -> Result<NodeTypes<'a>, NoMemory>
+    requires { typedefs.now ≡ modules.now }
+    ensures { IfOk result (λ types. spec.AreTyped modules.now forest.now types) }
+{
+    let wanted = by_place(alloc, &node_places(alloc, forest)?)?;
+    let all = typings_of(alloc, modules, typedefs, &wanted)?;
+    let places = by_place(alloc, &own_places(alloc, &all)?)?;
+    Ok(NodeTypes { all, places })
+}
+
+// ---- of a node
+
+fn typing_at<'t, 'a>(all: &'t [Typing<'a>], i: usize) -> Option<&'t Typing<'a>>
+    ensures { option_copied result ≡ slice_get all.now i }
+{
+    all.get(i)
+}
+
+/// What is kept of the statement of a node.
+fn typing_of<'t, 'a>(types: &'t NodeTypes<'a>, branch: &Branch) -> Option<&'t Typing<'a>>
+    requires { spec.AreFirst (spec.places_of (spec.owns types.now.all.items)) types.now.places }
+    ensures { option_map spec.own_of (option_copied result) ≡ spec.found_for (spec.owns types.now.all.items) branch.now }
+{
+    match types.places.get(&place_of_node(branch)) {
+        None => None,
+        Some(i) => typing_at(&types.all, *i),
+    }
+}
+
+fn type_of_node(
+    alloc: Global,
+    modules: &Modules,
+    types: &NodeTypes,
+    branch: &Branch,
+) -> Result<YangType, NoMemory>
+    requires { spec.AreFirst (spec.places_of (spec.owns types.now.all.items)) types.now.places }
+    ensures { IfOk result (λ ty. spec.found_for (spec.owns types.now.all.items) branch.now ≡ spec.own_of_node modules.now branch.now
+        → ty ≡ leafrefs.stated_type modules.now (leafrefs.type_of modules.now branch.now)) }
+{
+    if !is_typed(modules, branch) {
+        return Ok(empty_type());
+    }
+    match typing_of(types, branch) {
+        None => Ok(empty_type()),
+        Some(own) => own.ty.copy(alloc),
+    }
+}
+
+/// A second list of the same leafrefs.
+fn copies<'a>(alloc: Global, list: &[Leafref<'a>]) -> Result<Vec<Leafref<'a>>, NoMemory>
+    ensures { IfOk result (λ all. map leafref_seen all.items ≡ map leafref_seen list.now) }
+{
+    let mut all = Vec::with_capacity(alloc, list.len())?;
+    for leafref in list {
+        append(
+            &mut all,
+            Leafref {
+                module: leafref.module,
+                stmt: leafref.stmt,
+            },
+        )?;
+    }
+    Ok(all)
+}
+
+fn leafrefs_of_node<'a>(
+    alloc: Global,
+    modules: &Modules,
+    types: &NodeTypes<'a>,
+    branch: &Branch,
+) -> Result<Vec<Leafref<'a>>, NoMemory>
+    requires { spec.AreFirst (spec.places_of (spec.owns types.now.all.items)) types.now.places }
+    ensures { IfOk result (λ all. spec.found_for (spec.owns types.now.all.items) branch.now ≡ spec.own_of_node modules.now branch.now
+        → map leafref_seen all.items ≡ map stmt_in (leafrefs.leafrefs_at modules.now branch.now)) }
+{
+    if !is_typed(modules, branch) {
+        return Ok(Vec::new(alloc));
+    }
+    match typing_of(types, branch) {
+        None => Ok(Vec::new(alloc)),
+        Some(own) => copies(alloc, &own.leafrefs),
+    }
+}
+
+// ---- of all nodes
+
+/// What the type statement of each node means, its leafrefs still paths; the type without values where a node has none, or
+/// one with a fault.
+///
+/// It takes a search among the statements for each node.
+pub(crate) fn own_types(
+    alloc: Global,
+    modules: &Modules,
+    types: &NodeTypes,
+    forest: &[Branch],
+) -> Result<Vec<YangType>, NoMemory>
+    requires { spec.AreTyped modules.now forest.now types.now }
+    ensures { IfOk result (λ own. own.items ≡ leafrefs.own_types modules.now forest.now) }
+{
+    let mut all = Vec::with_capacity(alloc, forest.len())?;
+    for branch in forest {
+        append(&mut all, type_of_node(alloc, modules, types, branch)?)?;
+    }
+    Ok(all)
+}
+
+/// The leafrefs of each node: those among its type statement and those that it rests on, in order.
+///
+/// It takes the time of `own_types`.
+pub(crate) fn leafrefs_of_nodes<'x, 'a>(
+    alloc: Global,
+    modules: &Modules,
+    types: &'x NodeTypes<'a>,
+    forest: &[Branch],
+) -> Result<Vec<Vec<Leafref<'a>>>, NoMemory>
+    requires { spec.AreTyped modules.now forest.now types.now }
+    ensures { IfOk result (λ all. spec.leafrefs_seen all.items ≡ map (λ b. map stmt_in (leafrefs.leafrefs_at modules.now b)) forest.now) }
+{
+    let mut all = Vec::with_capacity(alloc, forest.len())?;
+    for branch in forest {
+        append(&mut all, leafrefs_of_node(alloc, modules, types, branch)?)?;
+    }
+    Ok(all)
+}

@@ -1,0 +1,4 @@
+mod Climbs
+mod Doubles
+mod Named
+mod Parted

@@ -1,0 +1,46 @@
+//! Whether a table is the table of a schema: the test for tables that come from elsewhere. No library of the repository needs it, since
+//! `build` of `sal_build` proves that the table of modules is one; `tests_broker` makes its schemas by it.
+//!
+//! | item | what it is |
+//! |---|---|
+//! | `is_table` | whether a table is the table of a schema: exactly where `IsTable` of `sal_schema` holds |
+//! | `schema_of` | the schema of a table, or that it is not the table of one |
+//! | `TableFault` | why a table gives no schema: it is not the table of one, or memory ran out |
+//!
+//! `sal_schema` says in `specs/Valid` what is asked of a table: numbers that stand for something, nodes below nodes that
+//! take them, types where they belong, keys and unique leafs of their lists, identities that are not derived from
+//! themselves, types that hold no union in a union, and names that stand for one thing each. `specs/` here has the test as
+//! one value for a table (`Whole`) and the names by which doubles are found (`Keys`). Which of the rules a table breaks is
+//! not told.
+//!
+//! ```
+//! match schema_of(alloc, table) {
+//!     Ok(schema) => serve(&schema),
+//!     Err(TableFault::NotATable) => refuse(),
+//!     Err(TableFault::NoMemory) => give_up(),
+//! }
+//! ```
+//!
+//! | call | cost, for n nodes |
+//! |---|---|
+//! | `is_table` | n log n comparisons of names, and k log k for k keys of a list or k names of an enumeration or of bits; for each node for data a look at the choices and cases right above it, and for each unique leaf at the nodes up to its list; a copy of each name, of one kind of names at a time |
+//! | `schema_of` | that, and what `Schema::from_table` costs |
+//!
+//! So a table that is made to be slow, as one chain of choices and cases above many leafs, costs the product of the two. No
+//! call goes deeper than the types of a union.
+#![tactic(auto)]
+
+mod climb;
+mod distinct;
+mod fault;
+mod identity;
+mod kind;
+mod lists;
+mod names;
+mod node;
+mod types;
+mod whole;
+mod words;
+
+pub use fault::TableFault;
+pub use whole::{is_table, schema_of};

@@ -1,5 +1,0 @@
-pub mod Children
-mod Climbs
-mod Doubles
-mod Named
-mod Parted

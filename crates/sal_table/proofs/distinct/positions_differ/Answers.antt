@@ -1,7 +1,0 @@
-use Rattle.std.proofs.Common.{◌≡◌, Bool, subst}
-use Rattle.std.specs.Prelude.{IfOk}
-use Rattle.sal_table.proofs.Doubles.{numbers}
-use Rattle.sal_table.proofs.distinct.positions_differ.Goals as goal
-
-pub returns : goal.returns
-returns c = subst (λ (z : Bool). IfOk c.all_differ.result (λ b. b ≡ z)) (numbers c.args.positions.now) c.all_differ.ensures

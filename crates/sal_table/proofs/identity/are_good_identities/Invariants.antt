@@ -1,8 +1,0 @@
--- What is left to look at.
-use Rattle.std.proofs.Common.{◌≡◌, drop}
-use Rattle.sal_schema.specs.Table.{all_from}
-use Rattle.sal_schema.specs.Valid.{is_good_identity}
-use Rattle.sal_table.proofs.identity.are_good_identities.Given as goal
-
-abbrev pub invariant-loop-i : goal.invariant-loop-i
-invariant-loop-i l = all_from (is_good_identity l.table) l.i (drop l.i l.identities) ≡ all_from (is_good_identity l.table) 0 l.identities

@@ -1,8 +1,0 @@
--- The names so far and those of what is left are all names.
-use Rattle.std.proofs.Common.{◌≡◌, ◌++◌, drop}
-use Rattle.std.specs.List.{flat_map}
-use Rattle.sal_table.specs.Keys.{data_key}
-use Rattle.sal_table.proofs.names.data_keys.Given as goal
-
-abbrev pub invariant-loop-node : goal.invariant-loop-node
-invariant-loop-node l = l.list.items ++ flat_map (data_key l.table) (drop l.node-index l.nodes) ≡ flat_map (data_key l.table) l.nodes

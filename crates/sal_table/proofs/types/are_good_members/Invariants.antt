@@ -1,8 +1,0 @@
--- What is left to look at.
-use Rattle.std.proofs.Common.{◌≡◌, drop}
-use Rattle.std.specs.List.{list_all}
-use Rattle.sal_table.specs.Whole.{is_good_member}
-use Rattle.sal_table.proofs.types.are_good_members.Given as goal
-
-abbrev pub invariant-loop-member : goal.invariant-loop-member
-invariant-loop-member l = list_all (is_good_member l.table) (drop l.member-index l.members) ≡ list_all (is_good_member l.table) l.members

@@ -1,3 +1,0 @@
-pub mod Keys
-pub mod Lookups
-pub mod Whole

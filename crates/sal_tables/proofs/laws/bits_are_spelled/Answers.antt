@@ -1,5 +1,0 @@
-use Rattle.sal_tables.proofs.SpelledBits.{bits_are_spelled}
-use Rattle.sal_tables.proofs.laws.bits_are_spelled.Goals as goal
-
-pub returns : goal.returns
-returns c = bits_are_spelled

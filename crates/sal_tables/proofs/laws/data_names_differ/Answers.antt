@@ -1,5 +1,0 @@
-use Rattle.sal_tables.proofs.DistinctNodes.{data_names_differ}
-use Rattle.sal_tables.proofs.laws.data_names_differ.Goals as goal
-
-pub returns : goal.returns
-returns c = data_names_differ

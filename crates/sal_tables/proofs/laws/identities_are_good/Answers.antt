@@ -1,5 +1,0 @@
-use Rattle.sal_tables.proofs.GoodIdentities.{identities_are_good}
-use Rattle.sal_tables.proofs.laws.identities_are_good.Goals as goal
-
-pub returns : goal.returns
-returns c = identities_are_good

@@ -1,5 +1,0 @@
-use Rattle.sal_tables.proofs.CountedIdentities.{identities_are_statements}
-use Rattle.sal_tables.proofs.laws.identities_are_statements.Goals as goal
-
-pub returns : goal.returns
-returns c = identities_are_statements

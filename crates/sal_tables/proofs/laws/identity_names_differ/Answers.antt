@@ -1,5 +1,0 @@
-use Rattle.sal_tables.proofs.DistinctIdentities.{identity_names_differ}
-use Rattle.sal_tables.proofs.laws.identity_names_differ.Goals as goal
-
-pub returns : goal.returns
-returns c = identity_names_differ

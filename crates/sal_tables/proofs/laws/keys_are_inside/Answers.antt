@@ -1,5 +1,0 @@
-use Rattle.sal_tables.proofs.Uniques.{keys_are_inside}
-use Rattle.sal_tables.proofs.laws.keys_are_inside.Goals as goal
-
-pub returns : goal.returns
-returns c = keys_are_inside

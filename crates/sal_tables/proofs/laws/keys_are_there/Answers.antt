@@ -1,5 +1,0 @@
-use Rattle.sal_tables.proofs.KeyedLists.{keys_are_there}
-use Rattle.sal_tables.proofs.laws.keys_are_there.Goals as goal
-
-pub returns : goal.returns
-returns c = keys_are_there

@@ -1,5 +1,0 @@
-use Rattle.sal_tables.proofs.TypedLeafs.{leafs_are_typed}
-use Rattle.sal_tables.proofs.laws.leafs_are_typed.Goals as goal
-
-pub returns : goal.returns
-returns c = leafs_are_typed

@@ -1,5 +1,0 @@
-use Rattle.sal_tables.proofs.RightPlaces.{nodes_stand_right}
-use Rattle.sal_tables.proofs.laws.nodes_stand_right.Goals as goal
-
-pub returns : goal.returns
-returns c = nodes_stand_right

@@ -1,5 +1,0 @@
-use Rattle.sal_tables.proofs.Numbers.{numbers_are_there}
-use Rattle.sal_tables.proofs.laws.numbers_are_there.Goals as goal
-
-pub returns : goal.returns
-returns c = numbers_are_there

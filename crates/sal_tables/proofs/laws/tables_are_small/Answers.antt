@@ -1,5 +1,0 @@
-use Rattle.sal_tables.proofs.Numbers.{tables_are_small}
-use Rattle.sal_tables.proofs.laws.tables_are_small.Goals as goal
-
-pub returns : goal.returns
-returns c = tables_are_small

@@ -1,5 +1,0 @@
-use Rattle.sal_tables.proofs.WholeTables.{tables_are_tables}
-use Rattle.sal_tables.proofs.laws.tables_are_tables.Goals as goal
-
-pub returns : goal.returns
-returns c = tables_are_tables

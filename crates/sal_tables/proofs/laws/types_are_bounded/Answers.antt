@@ -1,5 +1,0 @@
-use Rattle.sal_tables.proofs.BoundedTypes.{types_are_bounded}
-use Rattle.sal_tables.proofs.laws.types_are_bounded.Goals as goal
-
-pub returns : goal.returns
-returns c = types_are_bounded

@@ -1,5 +1,0 @@
-use Rattle.sal_tables.proofs.UnionMembers.{unions_have_members}
-use Rattle.sal_tables.proofs.laws.unions_have_members.Goals as goal
-
-pub returns : goal.returns
-returns c = unions_have_members

@@ -1,5 +1,0 @@
-use Rattle.sal_tables.proofs.Extending.{versions_are_tables}
-use Rattle.sal_tables.proofs.laws.versions_are_tables.Goals as goal
-
-pub returns : goal.returns
-returns c = versions_are_tables

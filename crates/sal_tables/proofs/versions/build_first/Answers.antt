@@ -1,5 +1,0 @@
-use Rattle.sal_tables.proofs.Extending.{schema_of}
-use Rattle.sal_tables.proofs.versions.build_first.Goals as goal
-
-pub returns-clause-schema : goal.returns-clause-schema
-returns-clause-schema c = schema_of c.args.stmts.now c.versioned.result c.versioned.ensures.version

@@ -1,0 +1,166 @@
+ghost use Rattle.std.specs.Prelude.{◌≡◌, ◌-◌, ◌+◌, ◌*◌, ◌≤◌, ◌∷◌, [], IfOk, length, slice_index_or};
+ghost use Rattle.sal_tree.specs.declared.commit.Commit.{Commit as Kept};
+ghost use Rattle.sal_graft.specs.Kept.{AreKept};
+ghost use Rattle.sal_commit.specs.Deciding.{IsFor, LieBelow};
+ghost use Rattle.sal_commit.specs.Stamps.{IsNewStamp};
+
+use crate::ops::{Wish, lies_below, op_of};
+use crate::schemas::{Shape, device};
+use sal_commit::{Domain, Prepared, can, decide, pre};
+use sal_history::Device;
+use sal_mod::Mod;
+use sal_rows::{Op, Ops, Outcome, Rows, Rules};
+use sal_tree::{Commit, Pair};
+use sal_tx::{Changes, Submission};
+use sal_types::{Duplicate, NoMemory, Row, Seq};
+use std::alloc::Global;
+use std::sync::Arc;
+use std::test::Fail;
+
+// ---- openings
+
+fn device_over(alloc: Global, shapes: &[Shape], rows: Vec<Row>) -> Result<Device, Fail> {
+    match Rows::from_list(rows) {
+        Ok(rows) => device(alloc, shapes, rows),
+        Err(_) => Err("rows out of order".into()),
+    }
+}
+
+fn domain_of(alloc: Global, device: &Device) -> Result<Domain, Fail>
+    ensures { IfOk result (λ d. AreKept d.commits.items) }
+{
+    match Domain::open(alloc, 0, device, true, Rules::One) {
+        Ok(domain) => Ok(domain),
+        Err(_) => Err("no opening".into()),
+    }
+}
+
+/// The domain over these nodes, with these rows as its opening.
+pub(crate) fn opened(alloc: Global, shapes: &[Shape], rows: Vec<Row>) -> Result<Domain, Fail>
+    ensures { IfOk result (λ d. AreKept d.commits.items) }
+{
+    let device = device_over(alloc, shapes, rows)?;
+    domain_of(alloc, &device)
+}
+
+// ---- submissions of one operation
+
+// The list of the one operation.
+fn listed(alloc: Global, op: &Op) -> Result<Arc<Ops>, NoMemory>
+    ensures { IfOk result (λ list. list.value ≡ op.now ∷ []) }
+{
+    let list = vec![in alloc; op.copy()?]?;
+    let shared = Arc::new(alloc, Seq::from_items(list))?;
+    Ok(shared)
+}
+
+fn looked_up(alloc: Global, op: Op) -> Result<Mod, NoMemory>
+    ensures { IfOk result (λ changes. changes ≡ op ∷ []) }
+{
+    let mut changes = Mod::new(alloc);
+    match changes.add(alloc, op) {
+        Ok(()) => Ok(changes),
+        Err((_, refused)) => Err(refused),
+    }
+}
+
+/// The changes of a transaction of one operation.
+pub(crate) fn changed(alloc: Global, wish: Wish) -> Result<Changes, Fail>
+    ensures { IfOk result (λ changes. LieBelow changes) }
+{
+    let op = op_of(alloc, wish)?;
+    if !lies_below(&op) {
+        return Err("rows beside the path".into());
+    }
+    let list = listed(alloc, &op)?;
+    Ok(Changes::of(looked_up(alloc, op)?, list))
+}
+
+fn copies(trees: &Pair) -> Result<(Pair, Pair), NoMemory> {
+    let base = trees.copy()?;
+    let view = trees.copy()?;
+    Ok((base, view))
+}
+
+fn newest(commits: &[Commit]) -> &Commit
+    requires { 1 ≤ length commits.now }
+    ensures { result.now ≡ slice_index_or commits.now (length commits.now - 1) result.now }
+{
+    &commits[commits.len() - 1]
+}
+
+// The receipt of the newest commit.
+fn newest_receipt(commits: &[Commit]) -> u64
+    requires { 1 ≤ length commits.now }
+    ensures { (c : Kept) → c ≡ slice_index_or commits.now (length commits.now - 1) c → c.receipt ≡ result }
+{
+    newest(commits).receipt
+}
+
+// The receipt behind that of the newest commit.
+fn next_receipt(domain: &Domain) -> Result<u64, Fail>
+    requires { AreKept domain.now.commits.items }
+    ensures small { IfOk result (λ receipt. receipt ≤ 1000000) }
+    ensures fresh { IfOk result (λ receipt. IsNewStamp domain.now.commits.items receipt (receipt * 2 + 1)) }
+{
+    let newest = newest_receipt(&domain.commits);
+    if newest >= 1_000_000 {
+        return Err("too many receipts".into());
+    }
+    Ok(newest + 1)
+}
+
+/// A submission of one operation, begun at the newest commit.
+pub(crate) fn submission(alloc: Global, domain: &Domain, wish: Wish) -> Result<Submission, Fail>
+    requires { AreKept domain.now.commits.items }
+    ensures given { IfOk result (IsFor domain.now) }
+    ensures small { IfOk result (λ sub. sub.receipt ≤ 1000000) }
+    ensures fresh { IfOk result (λ sub. IsNewStamp domain.now.commits.items sub.receipt (sub.receipt * 2 + 1)) }
+{
+    let receipt = next_receipt(domain)?;
+    let newest = domain.commits.len() - 1;
+    let changes = changed(alloc, wish)?;
+    let (base, view) = copies(&domain.commits[newest].trees)?;
+    Ok(Submission {
+        receipt,
+        domain: 0,
+        chain: None,
+        base_commit: newest as u64,
+        base,
+        view,
+        changes,
+    })
+}
+
+// The number of the commit; 0 where there is none.
+fn number_of(outcome: &Outcome) -> u64 {
+    match outcome {
+        Outcome::Done { commit } => *commit,
+        _ => 0,
+    }
+}
+
+/// Decides such a submission: the number of its commit, or 0.
+pub(crate) fn decided(domain: &mut Domain, alloc: Global, wish: Wish) -> Result<u64, Fail>
+    requires { AreKept domain.old.commits.items }
+    ensures { IfOk result (λ o. AreKept domain.new.commits.items) }
+{
+    let sub = submission(alloc, domain, wish)?;
+    let outcome = decide(alloc, &sub, domain, None, sub.receipt * 2 + 1)?;
+    Ok(number_of(&outcome))
+}
+
+/// The commit of a submission, by the first two phases.
+pub(crate) fn prepared(alloc: Global, domain: &Domain, sub: &Submission) -> Result<Prepared, Fail>
+    requires given { IsFor domain.now sub.now }
+    requires small { sub.now.receipt ≤ 1000000 }
+    requires fresh { IsNewStamp domain.now.commits.items sub.now.receipt (sub.now.receipt * 2 + 1) }
+{
+    let Ok(ready) = can(alloc, sub, domain, None) else {
+        return Err("it cannot be committed".into());
+    };
+    match pre(alloc, ready, sub.receipt * 2 + 1) {
+        Ok(prepared) => Ok(prepared),
+        Err(_) => Err("it breaks a rule".into()),
+    }
+}

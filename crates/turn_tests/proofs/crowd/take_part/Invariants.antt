@@ -1,6 +1,0 @@
--- The seat stays at its lock.
-use Rattle.std.proofs.Common.{◌≡◌}
-use Rattle.turn_tests.proofs.crowd.take_part.Given as goal
-
-abbrev pub invariant-loop-n : goal.invariant-loop-n
-invariant-loop-n g l = l.seat.lock ≡ l.turn

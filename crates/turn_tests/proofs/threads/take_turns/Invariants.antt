@@ -1,5 +1,0 @@
-use Rattle.turn_tests.specs.Works.{Works}
-use Rattle.turn_tests.proofs.threads.take_turns.Given as goal
-
-abbrev pub invariant-loop-n : goal.invariant-loop-n
-invariant-loop-n g l = Works l.turn l.fn.seat.view l.seat

@@ -1,9 +1,0 @@
--- Each example by computation.
-use Rattle.sal_restrict.specs.declared.yang_type.YangType.TheViews.{out-roll-YangType}
-use Rattle.sal_schema.specs.Table.{closest}
-use Rattle.sal_schema.specs.Valid.{is_good_type}
-use Rattle.worked_examples.proofs.tables.tables_of_schemas.Goals as goal
-
-pub returns : goal.returns
-unfolding closest
-returns c = simp (is_good_type, out-roll-YangType)

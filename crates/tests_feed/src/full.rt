@@ -1,0 +1,101 @@
+//! A feed that is full gives a notification back, and `finish` gives what is left.
+ghost use Rattle.std.specs.Prelude.{◌≡◌};
+
+use sal_feed::{Feed, OfferSeat, TakeSeat};
+use sal_note::{Note, NoteList};
+use sal_rows::Rows;
+use sal_types::NoMemory;
+use std::alloc::Global;
+use std::sync::Wait;
+use std::test::Fail;
+
+fn note_of(alloc: Global, number: u32) -> Note {
+    Note {
+        note: number,
+        rows: Rows::new(alloc),
+    }
+}
+
+// The note that came back, if one did.
+fn offered<R: Wait>(rt: &R, feed: &Feed, seat: &mut OfferSeat, note: Note) -> Option<u32>
+    requires { seat.old.feed ≡ feed.now.id }
+    ensures { seat.new.feed ≡ seat.old.feed }
+{
+    match feed.offer(rt, seat, note) {
+        Ok(()) => None,
+        Err((back, _)) => Some(back.note),
+    }
+}
+
+// The note that was taken, if one was.
+fn taken<R: Wait>(rt: &R, feed: &Feed, seat: &mut TakeSeat) -> Option<u32>
+    requires { seat.old.feed ≡ feed.now.id }
+    ensures { seat.new.feed ≡ seat.old.feed }
+{
+    match feed.take(rt, seat) {
+        Some(note) => Some(note.note),
+        None => None,
+    }
+}
+
+/// The notes that are left, if there was memory for them.
+pub(crate) fn finished<R: Wait>(
+    rt: &R,
+    alloc: Global,
+    feed: Feed,
+    offers: OfferSeat,
+    takes: TakeSeat,
+) -> Result<NoteList, NoMemory>
+    requires offers { offers.feed ≡ feed.id }
+    requires takes { takes.feed ≡ feed.id }
+{
+    match feed.finish(rt, alloc, offers, takes) {
+        Ok(left) => Ok(left),
+        Err((_feed, _offers, _takes, refused)) => Err(refused),
+    }
+}
+
+// Whether the notes are these two.
+fn are_just(list: &NoteList, first: u32, second: u32) -> bool {
+    let notes = list.items();
+    notes.len() == 2 && notes[0].note == first && notes[1].note == second
+}
+
+// Whether three notes at capacity 2 come and go as they should, up to the two that are left.
+fn is_filled<R: Wait>(
+    rt: &R,
+    alloc: Global,
+    feed: &Feed,
+    offers: &mut OfferSeat,
+    takes: &mut TakeSeat,
+) -> bool
+    requires offers { offers.old.feed ≡ feed.now.id }
+    requires takes { takes.old.feed ≡ feed.now.id }
+    ensures offers { offers.new.feed ≡ offers.old.feed }
+    ensures takes { takes.new.feed ≡ takes.old.feed }
+{
+    let none = taken(rt, feed, takes);
+    let one = offered(rt, feed, offers, note_of(alloc, 1));
+    let two = offered(rt, feed, offers, note_of(alloc, 2));
+    let back = offered(rt, feed, offers, note_of(alloc, 3));
+    let first = taken(rt, feed, takes);
+    let three = offered(rt, feed, offers, note_of(alloc, 3));
+    [none, one, two, back, first, three] == [None, None, None, Some(3), Some(1), None]
+}
+
+#[test]
+fn three_notes_at_capacity_two(rt: HostRuntime) -> Result<(), Fail> {
+    let Ok((feed, mut offers, mut takes)) = Feed::open(&rt, rt.alloc(), 2) else {
+        return Err("no memory".into());
+    };
+    if !is_filled(&rt, rt.alloc(), &feed, &mut offers, &mut takes) {
+        return Err("a note went another way".into());
+    }
+    let Ok(left) = finished(&rt, rt.alloc(), feed, offers, takes) else {
+        return Err("no memory at the end".into());
+    };
+    if !are_just(&left, 2, 3) {
+        return Err("what is left".into());
+    }
+    Ok(())
+}

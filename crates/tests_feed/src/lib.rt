@@ -1,0 +1,7 @@
+//! The tests of the feed: one thread that fills it and finishes it, and two threads that hand notifications over.
+#![tactic(auto)]
+
+#[cfg(test)]
+mod full;
+#[cfg(test)]
+mod threads;

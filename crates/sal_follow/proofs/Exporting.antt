@@ -1,0 +1,88 @@
+-- One frame more of an export.
+use Rattle.std.proofs.Common.{◌≡◌, ℕ, zero, suc, ◌+◌, ◌-◌, ◌<◌, ◌≤◌, List, [], ◌∷◌, ◌++◌, map, length, drop, get_or, Some, Result, Ok, Err, refl, ap, sym, subst, ◌∙◌, append_assoc, append-nil, arith, if◌then◌else◌}
+use Rattle.std.specs.Prelude.{IsErrAnd}
+use Rattle.std.proofs.lemmas.List.{drop_more, drop_all}
+use Rattle.sal_types.specs.declared.row.Row.{Row}
+use Rattle.sal_types.specs.Tree.{under, IsAscending}
+use Rattle.sal_delta.proofs.Exact.{merge-changes}
+use Rattle.sal_delta.specs.Merge.{come}
+use Rattle.sal_rows.specs.Changes.{changes}
+use Rattle.sal_schema.specs.declared.table.SchemaTable.{SchemaTable}
+use Rattle.sal_follow.specs.declared.fault.ExportFault.{ExportFault}
+use Rattle.sal_follow.specs.declared.fault.ExportFault.TheVariants.{TooLong, NoMemory}
+use Rattle.sal_follow.specs.declared.frame.Frame.{Frame}
+use Rattle.sal_follow.specs.Exporting.{patch_of, before_at, frame_at, left, Puts, AreBefore}
+use Rattle.sal_follow.specs.Framed.{Trees, nothing, frame_of, frames_from, frames, frame_bytes, bytes_of, patch_by, patches, too_long, AreTexts, exported, Exports}
+
+-- what a fault that is handed on leaves
+pub err_so : {X E : Type 0} (P : Result X E → Type 0) (result : Result X E) (e : E) → IsErrAnd result (λ d. d ≡ e) → P (Err e) → P result
+err_so P (Ok x) e is holds = absurd is
+err_so {X} {E} P (Err d) e is holds = subst (λ (f : E). P (Err f)) (sym is) holds
+
+-- ---- lists
+
+pub at-mapped : {A B : Type 0} (f : A → B) (xs : List A) (k : ℕ) (x : A) (d : B) → k < length xs → x ≡ get_or xs k x → get_or (map f xs) k d ≡ f x
+at-mapped f [] k x d inside is = absurd (omega arith)
+at-mapped f (y ∷ xs) zero x d inside is = ap f (sym is)
+at-mapped f (y ∷ xs) (suc k) x d inside is = at-mapped f xs k x d (omega arith) is
+
+next : (k : ℕ) → k + 1 ≡ suc k
+next k = omega arith
+
+-- ---- rows
+
+pub under-root : (rows : List Row) → under rows [] ≡ rows
+under-root [] = refl
+under-root (row ∷ rows) = ap (λ rest. row ∷ rest) (under-root rows)
+
+set_by : (rows : List Row) → map patch_by (map come rows) ≡ map patch_of rows
+set_by [] = refl
+set_by (row ∷ rows) = ap (λ rest. patch_of row ∷ rest) (set_by rows)
+
+-- what leads to a first tree sets each of its rows
+pub opening : (rows : List Row) → IsAscending rows → map patch_of rows ≡ patches [] rows
+opening rows ascending = sym (set_by rows) ∙ ap (map patch_by) (merge-changes [] rows refl ascending)
+
+-- ---- frames
+
+module _ (trees : List Trees) (k : ℕ) where
+  pub one_left : k < length trees → left trees k ≡ frame_at trees k ∷ left trees (k + 1)
+  one_left inside =
+      ap (frames_from k (before_at trees k)) (drop_more trees k nothing inside)
+      ∙ ap (λ b. frame_at trees k ∷ frames_from (k + 1) b (drop (k + 1) trees)) (sym (ap (λ m. get_or (nothing ∷ trees) m nothing) (next k)))
+
+  pub none_left : length trees ≤ k → left trees k ≡ []
+  none_left all = ap (frames_from k (before_at trees k)) (drop_all k trees all)
+
+module _ (table : SchemaTable) (trees : List Trees) where
+  pub begun : AreBefore table trees [] 0
+  begun = record { whole = refl; short = refl; texts = λ all. all }
+
+  module _ (bytes : List ℕ) (k : ℕ) (before : AreBefore table trees bytes k) where
+    pub one_more : (now : List ℕ) → k < length trees → Puts table (frame_at trees k) bytes now (Ok tt) → AreBefore table trees now (k + 1)
+    one_more now inside put =
+        let f : Frame = frame_at trees k in
+        let rest : List Frame = left trees (k + 1) in
+        let split : left trees k ≡ f ∷ rest = one_left trees k inside in record {
+          whole =
+              ap (λ b. b ++ bytes_of table rest) put.0 ∙ append_assoc bytes (frame_bytes table f) (bytes_of table rest) ∙ ap (λ fs. bytes ++ bytes_of table fs) (sym split) ∙ before.whole;
+          short = sym (ap (λ b. if b then too_long table rest else Some k) put.1) ∙ ap (too_long table) (sym split) ∙ before.short;
+          texts = λ all. before.texts (subst (AreTexts table) (sym split) (put.2, all));
+        }
+
+    pub too_long_now : (commit : ℕ) (now : List ℕ) → k < length trees → Puts table (frame_at trees k) bytes now (Err (TooLong commit)) → Exports table trees (Err (TooLong commit))
+    too_long_now commit now inside put =
+        sym before.short ∙ ap (too_long table) (one_left trees k inside) ∙ ap (λ b. if b then too_long table (left trees (k + 1)) else Some k) put.1 ∙ ap Some (sym put.0)
+
+    -- a fault of this commit is the export's
+    pub fails : (e : ExportFault) (now : List ℕ) → k < length trees → Puts table (frame_at trees k) bytes now (Err e) → Exports table trees (Err e)
+    fails (TooLong commit) now inside put = too_long_now commit now inside put
+    fails NoMemory now inside put = tt
+
+    pub all_put : length trees ≤ k → Exports table trees (Ok bytes)
+    all_put all =
+        let none : left trees k ≡ [] = none_left trees k all in (
+          sym (append-nil bytes) ∙ ap (λ fs. bytes ++ bytes_of table fs) (sym none) ∙ before.whole,
+          sym before.short ∙ ap (too_long table) none,
+          before.texts (subst (AreTexts table) (sym none) tt),
+        )

@@ -1,0 +1,17 @@
+pub mod Advancing
+pub mod Behind
+pub mod Exporting
+pub mod Feeding
+pub mod Followed
+pub mod Fronts
+pub mod Heads
+pub mod JsonData
+pub mod KeepingUp
+pub mod Places
+pub mod Plain
+pub mod ReadableRows
+pub mod ReadsBack
+pub mod Rising
+pub mod Shown
+pub mod Steps
+pub mod Streams

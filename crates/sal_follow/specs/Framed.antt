@@ -1,0 +1,87 @@
+-- What is exported of commits: a frame for each, with what it changed.
+use Rattle.std.specs.Prelude.{◌≡◌, ℕ, ◌+◌, List, [], ◌∷◌, map, flat_map, length, nat_le, Option, Some, None, Result, Ok, Err, ⊤, if◌then◌else◌}
+use Rattle.std.specs.Str.{IsUtf8}
+use Rattle.serde_json.specs.Read.{read}
+use Rattle.sal_types.specs.declared.row.Row.{Row}
+use Rattle.sal_rows.specs.declared.change.Change.{Change}
+use Rattle.sal_rows.specs.declared.rows.patch.Patch.{Patch}
+use Rattle.sal_rows.specs.Changes.{changes}
+use Rattle.sal_tree.specs.Rows.{rows_of}
+use Rattle.sal_tree.specs.declared.commit.Commit.{Commit}
+use Rattle.sal_tree.specs.declared.commit.Pair.{Pair}
+use Rattle.sal_schema.specs.declared.table.SchemaTable.{SchemaTable}
+use Rattle.sal_follow.specs.declared.fault.ExportFault.{ExportFault}
+use Rattle.sal_follow.specs.declared.fault.ExportFault.TheVariants.{TooLong, NoMemory}
+use Rattle.sal_follow.specs.declared.frame.Frame.{Frame}
+use Rattle.sal_follow.specs.Front.{framed}
+use Rattle.sal_follow.specs.Head.{max_text}
+use Rattle.sal_follow.specs.Written.{frame_json, frame_text}
+
+-- the trees of both stores after a commit
+pub record Trees : Type 0 where
+  pub config : List Row
+  pub oper : List Row
+
+abbrev pub trees_of_pair : Pair → Trees
+trees_of_pair pair = record { config = rows_of pair.config; oper = rows_of pair.oper }
+
+abbrev pub trees_of : Commit → Trees
+trees_of commit = trees_of_pair commit.trees
+
+-- ---- frames
+
+-- what a change sets
+abbrev pub patch_by : Change → Patch
+patch_by c = record { path = c.path; cell = c.after }
+
+-- what leads from one tree to the next
+abbrev pub patches : List Row → List Row → List Patch
+patches before after = map patch_by (changes before after)
+
+abbrev pub frame_of : ℕ → Trees → Trees → Frame
+frame_of k before after = record { commit = k; config = patches before.config after.config; oper = patches before.oper after.oper }
+
+-- there are no rows before the opening
+abbrev pub nothing : Trees
+nothing = record { config = []; oper = [] }
+
+-- the frames of commits with these trees, of which the first has the number k
+abbrev pub frames_from : ℕ → Trees → List Trees → List Frame
+frames_from k before [] = []
+frames_from k before (trees ∷ more) = frame_of k before trees ∷ frames_from (k + 1) trees more
+
+-- the frames of a domain: that of its opening, and those of its commits
+abbrev pub frames : List Trees → List Frame
+frames trees = frames_from 0 nothing trees
+
+-- ---- bytes
+
+abbrev pub frame_bytes : SchemaTable → Frame → List ℕ
+frame_bytes table f = framed (frame_text table f)
+
+abbrev pub bytes_of : SchemaTable → List Frame → List ℕ
+bytes_of table fs = flat_map (frame_bytes table) fs
+
+-- the frames of commits with these trees, one after another
+abbrev pub exported : SchemaTable → List Trees → List ℕ
+exported table trees = bytes_of table (frames trees)
+
+-- the commit of the first frame whose text is too long
+abbrev pub too_long : SchemaTable → List Frame → Option ℕ
+too_long table [] = None
+too_long table (f ∷ fs) = if nat_le (length (frame_text table f)) max_text then too_long table fs else Some f.commit
+
+-- the text of the frame is UTF-8, and reads as what was written
+abbrev pub IsText : SchemaTable → Frame → Type 0
+IsText table f = IsUtf8 (frame_text table f) × (read (frame_text table f) ≡ Some (frame_json table f))
+
+abbrev pub AreTexts : SchemaTable → List Frame → Type 0
+AreTexts table [] = ⊤
+AreTexts table (f ∷ fs) = IsText table f × AreTexts table fs
+
+-- What `export` answers for commits with these trees: all frames, each with a text that reads as what was written; or the first commit whose
+-- text is too long.
+abbrev pub Exports : SchemaTable → List Trees → Result (List ℕ) ExportFault → Type 0
+Exports table trees (Ok bytes) = (bytes ≡ exported table trees) × (too_long table (frames trees) ≡ None) × AreTexts table (frames trees)
+Exports table trees (Err (TooLong commit)) = too_long table (frames trees) ≡ Some commit
+Exports table trees (Err NoMemory) = ⊤

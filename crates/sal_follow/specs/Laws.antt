@@ -1,0 +1,132 @@
+-- Laws of frames and streams.
+use Rattle.std.specs.Prelude.{◌≡◌, ℕ, ◌+◌, ◌≤◌, ◌<◌, ◌^◌, ⊤, true, false, List, [], ◌∷◌, ◌++◌, length, drop, Option, Some, None, IsTrue}
+use Rattle.std.specs.List.{All, fold, concat, slice_get}
+use Rattle.sal_types.specs.declared.value.Value.{Value}
+use Rattle.sal_types.specs.declared.value.Cell.{Cell}
+use Rattle.sal_types.specs.declared.value.Cell.TheVariants.{Mark, Leaf}
+use Rattle.sal_types.specs.declared.value.Step.{Step}
+use Rattle.sal_types.specs.declared.value.Step.TheVariants.{Node, Key, Item}
+use Rattle.sal_schema.specs.declared.table.SchemaTable.{SchemaTable}
+use Rattle.sal_types.specs.declared.row.Row.{Row}
+use Rattle.sal_types.specs.Tree.{IsAscending}
+use Rattle.sal_schema.specs.Fitting.{has_mark, has_own_row, is_closed}
+use Rattle.sal_schema.specs.Kinds.{is_leaf}
+use Rattle.sal_schema.specs.Paths.{fits_path, last_step, node_from, node_of}
+use Rattle.sal_schema.specs.Table.{is_kind, keys_of}
+use Rattle.sal_data.specs.Laws.{IsReadable}
+use Rattle.sal_follow.specs.declared.front.Front.TheVariants.{Whole}
+use Rattle.sal_follow.specs.Framed.{Trees, nothing, frames, exported, too_long, AreTexts}
+use Rattle.sal_follow.specs.Frames.{path_in, cell_in}
+use Rattle.sal_follow.specs.Front.{front, text_in, size_of, framed}
+use Rattle.sal_follow.specs.Head.{max_text}
+use Rattle.sal_follow.specs.Stream.{Held, fresh, followed, has_state, taken}
+use Rattle.sal_follow.specs.Written.{path_json, cell_json}
+
+-- The bytes of a frame, and whatever follows them, begin with this frame.
+abbrev pub FramesAreRead : Type 0
+FramesAreRead =
+    (text rest : List ℕ) → length text ≤ max_text
+    → (front (framed text ++ rest) ≡ Whole (length text)) × (text_in (framed text ++ rest) (length text) ≡ text) × (drop (size_of (length text)) (framed text ++ rest) ≡ rest)
+
+-- Whatever the pieces, what is held after them is what is held after their bytes.
+abbrev pub PiecesDoNotMatter : Type 0
+PiecesDoNotMatter = (table : SchemaTable) (h : Held) (pieces : List (List ℕ)) → fold (followed table) h pieces ≡ followed table h (concat pieces)
+
+-- Between two frames: what is held after the bytes of one, and more, is what is held after the more by one that has taken the frame.
+abbrev pub TakesWholeFrames : Type 0
+TakesWholeFrames =
+    (table : SchemaTable) (h : Held) (bytes : List ℕ) (n : ℕ) → h.fault ≡ None → h.rest ≡ [] → front bytes ≡ Whole n
+    → followed table h bytes ≡ followed table (taken table h (size_of n) (text_in bytes n)) (drop (size_of n) bytes)
+
+-- ---- what is written reads as what it was
+
+-- the values of keys, each of which reads as it is written
+abbrev pub AreReadable : SchemaTable → List ℕ → List Value → Type 0
+AreReadable table [] [] = Unit {0}
+AreReadable table (leaf ∷ leafs) (value ∷ values) = IsReadable table leaf value × AreReadable table leafs values
+AreReadable table leafs values = ⊥
+
+abbrev pub IsReadableStep : SchemaTable → Option ℕ → Step → Type 0
+IsReadableStep table here (Node n) = n < 2 ^ 32
+IsReadableStep table (Some n) (Key values) = AreReadable table (keys_of table n) values
+IsReadableStep table (Some n) (Item value) = IsReadable table n value
+IsReadableStep table None step = ⊥
+
+-- steps behind a node: numbers of nodes have 32 bits, and keys and items read as they are written
+abbrev pub IsReadableFrom : SchemaTable → Option ℕ → List Step → Type 0
+IsReadableFrom table here [] = Unit {0}
+IsReadableFrom table here (step ∷ path) = IsReadableStep table here step × IsReadableFrom table (node_from here (step ∷ [])) path
+
+-- A path that fits, with readable values, reads as it is written.
+abbrev pub PathsReadAsWritten : Type 0
+PathsReadAsWritten =
+    (table : SchemaTable) (path : List Step) → length path ≤ 32 → IsTrue (fits_path table path) → IsReadableFrom table None path
+    → path_in table (path_json table path) ≡ Some path
+
+-- a cell, or none, that may stand at a path, of a value that reads as it is written
+abbrev pub IsReadableCell : SchemaTable → List Step → Option Cell → Type 0
+IsReadableCell table path None = has_own_row table path ≡ true
+IsReadableCell table path (Some Mark) = has_mark table (last_step path) ≡ true
+IsReadableCell table path (Some (Leaf value)) = (n : ℕ) × (last_step path ≡ Some (Node n)) × (is_kind is_leaf table n ≡ true) × IsReadable table n value
+
+-- So does a cell.
+abbrev pub CellsReadAsWritten : Type 0
+CellsReadAsWritten = (table : SchemaTable) (path : List Step) (cell : Option Cell) → IsReadableCell table path cell → cell_in table path (cell_json table (node_of path) cell) ≡ Some cell
+
+-- ---- what is exported is followed
+
+-- the value of a row, if it has one, reads as it is written
+abbrev pub IsReadableValue : SchemaTable → Option Step → Cell → Type 0
+IsReadableValue table (Some (Node n)) (Leaf value) = IsReadable table n value
+IsReadableValue table step cell = ⊤
+
+-- a row of few steps, whose keys, items and value read as they are written
+pub record IsReadableRow (table : SchemaTable) (row : Row) : Type 0 where
+  pub short : length row.path ≤ 32
+  pub path : IsReadableFrom table None row.path
+  pub value : IsReadableValue table (last_step row.path) row.cell
+
+-- a closed tree of such rows
+pub record IsReadableTree (table : SchemaTable) (rows : List Row) : Type 0 where
+  pub ascending : IsAscending rows
+  pub closed : is_closed table rows ≡ true
+  pub readable : All (IsReadableRow table) rows
+
+-- trees that a follower takes: both are readable, and the configuration has no state data
+pub record AreFollowed (table : SchemaTable) (trees : Trees) : Type 0 where
+  pub config : IsReadableTree table trees.config
+  pub oper : IsReadableTree table trees.oper
+  pub stateless : has_state table trees.config ≡ false
+
+abbrev pub trees_held : Held → Trees
+trees_held h = record { config = h.config; oper = h.oper }
+
+-- the trees of the commit of this number, or none before the opening
+abbrev pub AreTreesAt : List Trees → Option ℕ → Trees → Type 0
+AreTreesAt trees None held = held ≡ nothing
+AreTreesAt trees (Some k) held = slice_get trees k ≡ Some held
+
+-- no fault, and the trees of the commit that is held
+abbrev pub HoldsOneOf : List Trees → Held → Type 0
+HoldsOneOf trees h = (h.fault ≡ None) × AreTreesAt trees h.version (trees_held h)
+
+-- A follower of a prefix of an export has no fault, and holds the leader's trees at the commit that it says.
+abbrev pub ExportsAreFollowed : Type 0
+ExportsAreFollowed =
+    (table : SchemaTable) (trees : List Trees) → All (AreFollowed table) trees → AreTexts table (frames trees) → too_long table (frames trees) ≡ None
+    → (bytes more : List ℕ) → bytes ++ more ≡ exported table trees → HoldsOneOf trees (followed table fresh bytes)
+
+-- A follower of a whole export holds the trees of the last commit, and waits for the next frame.
+abbrev pub HoldsTheLast : Type 0
+HoldsTheLast =
+    (table : SchemaTable) (trees : List Trees) (last : Trees) → All (AreFollowed table) (trees ++ last ∷ []) → AreTexts table (frames (trees ++ last ∷ [])) → too_long table (frames (trees ++ last ∷ [])) ≡ None
+    → followed table fresh (exported table (trees ++ last ∷ []))
+    ≡ record { version = Some (length trees); config = last.config; oper = last.oper; at = length (exported table (trees ++ last ∷ [])); rest = []; fault = None }
+
+-- ---- places
+
+-- The place of the unfinished frame, and its bytes, are no more than the bytes that came; without a fault they are as many.
+abbrev pub PlacesCountBytes : Type 0
+PlacesCountBytes =
+    (table : SchemaTable) (bytes : List ℕ) → ((followed table fresh bytes).at + length (followed table fresh bytes).rest ≤ length bytes)
+    × ((followed table fresh bytes).fault ≡ None → (followed table fresh bytes).at + length (followed table fresh bytes).rest ≡ length bytes)

@@ -1,0 +1,11 @@
+pub mod Examples
+pub mod Exporting
+pub mod Framed
+pub mod Frames
+pub mod Front
+pub mod Head
+pub mod Laws
+pub mod Leader
+pub mod States
+pub mod Stream
+pub mod Written

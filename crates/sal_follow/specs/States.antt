@@ -1,0 +1,52 @@
+-- What a follower keeps, seen as what it holds.
+use Rattle.std.specs.Prelude.{◌≡◌, ◌⊎◌, ℕ, ◌≤◌, Option, Some, None, List, [], length, drop, Result, Err, if◌then◌else◌}
+use Rattle.sal_rows.specs.declared.rows.patch.Patch.{Patch}
+use Rattle.sal_rows.specs.Patch.{patched}
+use Rattle.sal_schema.specs.declared.table.SchemaTable.{SchemaTable}
+use Rattle.sal_follow.specs.declared.fault.FollowFault.{FollowFault}
+use Rattle.sal_follow.specs.declared.fault.FollowFault.TheVariants.{NoMemory}
+use Rattle.sal_follow.specs.declared.front.Front.TheVariants.{Part}
+use Rattle.sal_follow.specs.declared.state.State.{State}
+use Rattle.sal_follow.specs.declared.state.Both.{Both}
+use Rattle.sal_follow.specs.Front.{front}
+use Rattle.sal_follow.specs.Stream.{Held, next, are_trees, followed, answer}
+
+-- with these bytes of an unfinished frame
+abbrev pub held : State → List ℕ → Held
+held s rest = record { version = s.version; config = s.config; oper = s.oper; at = s.at; rest = rest; fault = s.fault }
+
+-- the trees after a frame, where they are trees of the schema
+abbrev pub trees_after : SchemaTable → State → List Patch → List Patch → Option Both
+trees_after table s config oper = if are_trees table (patched s.config config) (patched s.oper oper) then Some (record { config = patched s.config config; oper = patched s.oper oper }) else None
+
+-- each frame has at least ten bytes, so the numbers of commits stay below the places of their frames
+abbrev pub IsWithin : State → Type 0
+IsWithin s = next s.version ≤ s.at
+
+-- after so many of these bytes the state is s, and the bytes left are those of an unfinished frame
+pub record IsStepped (table : SchemaTable) (start : State) (bytes : List ℕ) (s : State) (used : ℕ) : Type 0 where
+  pub state : held s (drop used bytes) ≡ followed table (held start []) bytes
+  pub part : front (drop used bytes) ≡ Part
+  pub inside : used ≤ length bytes
+  pub within : IsWithin s
+
+-- after these bytes the state is s, and these are left of them
+abbrev pub IsJudged : SchemaTable → State → List ℕ → State → List ℕ → Type 0
+IsJudged table start bytes s left = (used : ℕ) × IsStepped table start bytes s used × (left ≡ drop used bytes)
+
+-- after a piece behind these bytes of an unfinished frame the state is s, with those
+pub record IsGained (table : SchemaTable) (start : State) (before piece : List ℕ) (s : State) (rest : List ℕ) : Type 0 where
+  pub state : held s rest ≡ followed table (held start before) piece
+  pub part : front rest ≡ Part
+  pub within : IsWithin s
+
+-- a follower: the schema that it reads by, and what it holds
+pub record Following : Type 0 where
+  pub schema : SchemaTable
+  pub held : Held
+
+-- What a piece does: it is taken as the bytes that it is, and the answer is that of what is held then; or memory ran out, and nothing of it
+-- was taken.
+abbrev pub Feeds : List ℕ → Following → Following → Result (Option ℕ) FollowFault → Type 0
+Feeds piece old new result =
+    ((new ≡ record { schema = old.schema; held = followed old.schema old.held piece }) × (result ≡ answer new.held)) ⊎ ((result ≡ Err NoMemory) × (new ≡ old))

@@ -1,0 +1,122 @@
+//! What the commits of a domain changed, as frames.
+ghost use Rattle.std.specs.Prelude.{◌≡◌, ◌<◌, [], length, map, IfOk};
+ghost use Rattle.sal_tree.specs.Follows.{Agree};
+ghost use Rattle.sal_tree.specs.Rows.{rows_of};
+ghost use Rattle.sal_delta.specs.Agreed.{AgreeBoth, AreAgreed};
+ghost use Rattle.sal_follow.specs.Exporting.{patch_of, frame_at};
+ghost use Rattle.sal_follow.specs.Framed as spec;
+
+use crate::frame::Frame;
+use sal_delta::{Change, ChangeList, changes};
+use sal_rows::{Patch, Rows};
+use sal_tree::{Commit, Pair, Root};
+use sal_types::{Duplicate, NoMemory, Path, Row, Seq, append};
+use std::alloc::Global;
+
+// What the changes set.
+fn patches_by(alloc: Global, list: ChangeList) -> Result<Seq<Patch>, NoMemory>
+    ensures { IfOk result (λ ps. ps ≡ map spec.patch_by list) }
+{
+    let items = list.into_items();
+    let mut patches = Vec::with_capacity(alloc, items.len())?;
+    for change in items {
+        append(&mut patches, patch_by(change))?;
+    }
+    Ok(Seq::from_items(patches))
+}
+
+// What a change sets.
+fn patch_by(change: Change) -> Patch
+    ensures { result ≡ spec.patch_by change }
+{
+    Patch {
+        path: change.path,
+        cell: change.after,
+    }
+}
+
+// What leads from one tree to the next.
+fn patches_between(alloc: Global, before: &Root, after: &Root) -> Result<Seq<Patch>, NoMemory>
+    requires { Agree before.now after.now }
+    ensures { IfOk result (λ ps. ps ≡ spec.patches (rows_of before.now) (rows_of after.now)) }
+{
+    let list = changes(alloc, before, after, &Path::root(alloc))?;
+    let patches = patches_by(alloc, list)?;
+    Ok(patches)
+}
+
+// What sets a row.
+fn patch_of(row: &Row) -> Result<Patch, NoMemory>
+    ensures { IfOk result (λ p. p ≡ patch_of row.now) }
+{
+    let Row { path, cell } = row.copy()?;
+    Ok(Patch {
+        path,
+        cell: Some(cell),
+    })
+}
+
+// What sets each row.
+fn patches_of(alloc: Global, rows: &Rows) -> Result<Seq<Patch>, NoMemory>
+    ensures { IfOk result (λ ps. ps ≡ map patch_of rows.now) }
+{
+    let items = rows.items();
+    let mut patches = Vec::with_capacity(alloc, items.len())?;
+    for row in items {
+        append(&mut patches, patch_of(row)?)?;
+    }
+    Ok(Seq::from_items(patches))
+}
+
+// What leads to the first tree.
+fn opening_patches(alloc: Global, root: &Root) -> Result<Seq<Patch>, NoMemory>
+    ensures { IfOk result (λ ps. ps ≡ spec.patches [] (rows_of root.now)) }
+{
+    let rows = root.rows(alloc, &Path::root(alloc))?;
+    // For the proof alone: it tells that the rows ascend.
+    let _ = rows.items();
+    let patches = patches_of(alloc, &rows)?;
+    Ok(patches)
+}
+
+// The frame of the opening.
+fn opening_frame(alloc: Global, trees: &Pair) -> Result<Frame, NoMemory>
+    ensures { IfOk result (λ f. f ≡ spec.frame_of 0 spec.nothing (spec.trees_of_pair trees.now)) }
+{
+    let config = opening_patches(alloc, &trees.config)?;
+    let oper = opening_patches(alloc, &trees.oper)?;
+    Ok(Frame {
+        commit: 0,
+        config,
+        oper,
+    })
+}
+
+// The frame of a commit of this number, by the trees before it and after it.
+fn frame_between(alloc: Global, commit: u64, before: &Pair, after: &Pair) -> Result<Frame, NoMemory>
+    requires { AgreeBoth before.now after.now }
+    ensures { IfOk result (λ f. f ≡ spec.frame_of commit (spec.trees_of_pair before.now) (spec.trees_of_pair after.now)) }
+{
+    let config = patches_between(alloc, &before.config, &after.config)?;
+    let oper = patches_between(alloc, &before.oper, &after.oper)?;
+    Ok(Frame {
+        commit,
+        config,
+        oper,
+    })
+}
+
+/// The frame of the commit of this number.
+pub(crate) fn frame_at(alloc: Global, commits: &[Commit], number: u64) -> Result<Frame, NoMemory>
+    requires agreed { AreAgreed commits.now }
+    requires inside { number < length commits.now }
+    ensures { IfOk result (λ f. f ≡ frame_at (map spec.trees_of commits.now) number) }
+{
+    let at = number as usize;
+    let after = &commits[at].trees;
+    if at == 0 {
+        opening_frame(alloc, after)
+    } else {
+        frame_between(alloc, number, &commits[at - 1].trees, after)
+    }
+}

@@ -8,7 +8,7 @@ ghost use Rattle.sal_json.specs.Patterns.{patterns_of};
 ghost use Rattle.sal_follow.specs.Frames as spec;
 
 use crate::frame::Frame;
-use crate::json::{count_of, data_in, item_of, member_of};
+use crate::members::{count_of, data_in, item_of, member_of};
 use sal_json::{Patterns, ScalarFault, read_scalar};
 use sal_rows::Patch;
 use sal_schema::Schema;

@@ -13,7 +13,7 @@ use Rattle.sal_schema.proofs.table.NodeInfo.TheSendSync as NodeInfo-here
 use Rattle.sal_schema.proofs.table.IdentityInfo.TheSendSync as IdentityInfo-here
 use Rattle.sal_rows.proofs.op.Op.TheSendSync as Op-here
 use Rattle.sal_rows.proofs.outcome.Outcome.TheSendSync as Outcome-here
-use Rattle.sal_tx.proofs.changes.Changes.TheSendSync as Changes-here
+use Rattle.sal_mod.proofs.changes.Mod.TheSendSync as Mod-here
 use Rattle.sal_hub.proofs.journal.Journal.TheSendSync as Journal-here
 use Rattle.sal_hub.proofs.chains.Chains.TheSendSync as Chains-here
 use Rattle.sal_hub.proofs.marks.Marks.TheSendSync as Marks-here
@@ -76,7 +76,7 @@ pub Commit-send : IsSend Commit.the_row
 Commit-send = search (Seq-here.the_send, Seq-here.the_sync, Op-here.the_send, Op-here.the_sync, Pair-field_send, crosses, maps.crosses, sendable) depth 40 fits 20000
 
 pub Submission-send : IsSend Submission.the_row
-Submission-send = search (Pair-field_send, Changes-here.the_send, crosses, maps.crosses, sendable) depth 40 fits 20000
+Submission-send = search (Pair-field_send, Mod-here.the_send, crosses, maps.crosses, sendable) depth 40 fits 20000
 
 pub Domain-send : IsSend Domain.the_row
 Domain-send = search (Schema-send, Schema-sync, Commit-send, Plan-field_send, crosses, maps.crosses, sendable) depth 40 fits 20000

@@ -6,9 +6,11 @@ use Rattle.std.specs.declared.alloc.Global.{Global}
 use Rattle.std.specs.declared.sync.Arc.{Arc}
 use Rattle.std.specs.List.{list_any}
 use Rattle.std.specs.Option.{option_map_or}
-use Rattle.std.proofs.lemmas.Bool.{or_left, or_right, ltb-true, ltb-false, lt-ltb, le-ltb}
+use Rattle.std.proofs.lemmas.Bool.{or_from, or_left, or_parts, or_right, ltb-true, ltb-false, lt-ltb, le-ltb}
 use Rattle.std.proofs.lemmas.List.{length-map, take_more}
 use Rattle.sal_schema.specs.declared.table.SchemaTable.{SchemaTable}
+use Rattle.sal_schema.specs.Versions.{BeginsWith, Extends}
+use Rattle.sal_json.specs.Patterns.{has_malformed}
 use Rattle.sal_client.specs.declared.readers.ListFault.{ListFault}
 use Rattle.sal_client.specs.declared.readers.ListFault.TheVariants.{Pattern, NoMemory}
 use Rattle.sal_history.specs.World.{version_from}
@@ -53,6 +55,21 @@ first_malformed schemas i s (Pattern device) h at is none =
     let there : slice_get (shared_tables schemas) device ≡ Some s.value = ap (slice_get (shared_tables schemas)) is.0 ∙ table_got schemas i s h at in
     (ap (λ o. option_map_or is_malformed o false) there ∙ is.1, ap (λ k. list_any is_malformed (take k (shared_tables schemas))) is.0 ∙ none)
 first_malformed schemas i s NoMemory h at is none = tt
+
+-- ---- an older version
+
+none_in_front : {X : Type 0} (test : X → Bool) (xs front : List X) → BeginsWith xs front → list_any test xs ≡ false → list_any test front ≡ false
+none_in_front test xs [] e none = refl
+none_in_front test [] (y ∷ front) e none = cc
+none_in_front test (x ∷ xs) (y ∷ front) e none =
+    let first : x ≡ y = cc in
+    let rest : take (length front) xs ≡ front = cc in
+    let (here, there) = or_parts (test x) (list_any test xs) none in
+    or_from (test y) (list_any test front) (ap test (sym first) ∙ here) (none_in_front test xs front rest there)
+
+-- no pattern of an older version is malformed where none of a later one is
+pub older_formed : (newer older : SchemaTable) → Extends newer older → is_malformed newer ≡ false → is_malformed older ≡ false
+older_formed newer older extends none = none_in_front has_malformed newer.types older.types extends.types none
 
 -- ---- the readers of all domains
 

@@ -4,7 +4,7 @@ use sal_json::{Patterns, PatternsFault};
 use sal_pathtext::{PathTextFault, read_path};
 use sal_rows::Rows;
 use sal_schema::Schema;
-use sal_types::Path;
+use sal_types::{NoMemory, Path};
 use serde_json::Value;
 use std::alloc::Global;
 use std::marker::Model;
@@ -33,8 +33,9 @@ impl Model for Reader {
 }
 
 impl Reader {
-    ghost use Rattle.std.specs.Prelude.{◌≡◌, false, IfOk, IfErr};
+    ghost use Rattle.std.specs.Prelude.{◌≡◌, false, IfOk, IfErr, IfSome};
     ghost use Rattle.std.specs.List.{list_any};
+    ghost use Rattle.sal_schema.specs.Versions.{Extends};
     ghost use Rattle.sal_types.specs.Reading.{GivesUnless};
     ghost use Rattle.sal_json.specs.Patterns.{has_malformed, IsRefusal};
     ghost use Rattle.serde_json.specs.View.{view};
@@ -50,6 +51,19 @@ impl Reader {
     {
         let patterns = Patterns::of(alloc, &schema)?;
         Ok(Reader { schema, patterns })
+    }
+
+    /// The reader of an older version of the schema, which shares the patterns; none where the schema does not extend that version.
+    pub fn of_older(&self, older: &Arc<Schema>) -> Result<Option<Self>, NoMemory>
+        ensures { IfOk result (λ found. IfSome found (λ reader. (reader ≡ older.now.value) × Extends self.now older.now.value)) }
+    {
+        match self.patterns.of_older(&self.schema, older)? {
+            Some(patterns) => {
+                let schema = Arc::try_clone(older)?;
+                Ok(Some(Reader { schema, patterns }))
+            }
+            None => Ok(None),
+        }
     }
 
     /// The schema.

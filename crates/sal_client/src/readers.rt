@@ -8,15 +8,20 @@ ghost use Rattle.sal_client.specs.Malformed.{are_malformed, is_malformed, shared
 use crate::reader::Reader;
 use sal_json::PatternsFault;
 use sal_schema::Schema;
+use sal_types::NoMemory;
 use std::alloc::{AllocError, AllocFailed, Global};
 use std::marker::Model;
 use std::sync::Arc;
+use thiserror::Error;
 
 /// Why there are no readers.
-#[derive(Clone, Copy, Debug, PartialEq, Eq)]
+#[derive(Clone, Copy, Debug, PartialEq, Eq, Error)]
 pub enum ReadersFault {
     /// This version of the schema of this device has a malformed pattern, and none before it. Device 0 is the controller's own domain.
+    #[error("version {version} of the schema of device {device} has a malformed pattern")]
     Pattern { device: u32, version: usize },
+    /// Memory ran out.
+    #[error("out of memory")]
     NoMemory,
 }
 
@@ -77,13 +82,56 @@ fn reader_of(alloc: Global, index: usize, schema: &Arc<Schema>) -> Result<Reader
     }
 }
 
+// The reader of a version, which shares the patterns of a later one, where that extends it.
+fn sharing(
+    alloc: Global,
+    index: usize,
+    later: &Reader,
+    schema: &Arc<Schema>,
+) -> Result<Reader, ListFault>
+    requires { is_malformed later.now ≡ false }
+    ensures reader { IfOk result (λ reader. reader ≡ schema.now.value) }
+    ensures formed { IfOk result (λ _. is_malformed schema.now.value ≡ false) }
+    ensures refused { IfErr result (IsUnreadable index schema.now.value) }
+{
+    match later.of_older(schema) {
+        Ok(Some(reader)) => Ok(reader),
+        Ok(None) => reader_of(alloc, index, schema),
+        Err(NoMemory) => Err(ListFault::NoMemory),
+    }
+}
+
+// The reader of a schema, which shares the patterns of a later version, if there is one.
+fn reader_beside(
+    alloc: Global,
+    index: usize,
+    later: Option<&Reader>,
+    schema: &Arc<Schema>,
+) -> Result<Reader, ListFault>
+    requires { IfSome later (λ reader. is_malformed reader.now ≡ false) }
+    ensures reader { IfOk result (λ reader. reader ≡ schema.now.value) }
+    ensures formed { IfOk result (λ _. is_malformed schema.now.value ≡ false) }
+    ensures refused { IfErr result (IsUnreadable index schema.now.value) }
+{
+    match later {
+        Some(later) => sharing(alloc, index, later, schema),
+        None => reader_of(alloc, index, schema),
+    }
+}
+
 // Adds the reader of the next schema.
-fn add(alloc: Global, list: &mut Vec<Reader>, schema: &Arc<Schema>) -> Result<(), ListFault>
+fn add(
+    alloc: Global,
+    list: &mut Vec<Reader>,
+    later: Option<&Reader>,
+    schema: &Arc<Schema>,
+) -> Result<(), ListFault>
+    requires { IfSome later (λ reader. is_malformed reader.now ≡ false) }
     ensures added { OnOk result (list.new.items ≡ list.old.items ++ schema.now.value ∷ []) }
     ensures formed { OnOk result (is_malformed schema.now.value ≡ false) }
     ensures refused { IfErr result (IsUnreadable (length list.old.items) schema.now.value) }
 {
-    let reader = reader_of(alloc, list.len(), schema)?;
+    let reader = reader_beside(alloc, list.len(), later, schema)?;
     match list.push(reader) {
         Ok(()) => Ok(()),
         Err(AllocFailed { .. }) => Err(ListFault::NoMemory),
@@ -91,27 +139,53 @@ fn add(alloc: Global, list: &mut Vec<Reader>, schema: &Arc<Schema>) -> Result<()
 }
 
 // Adds the readers of all schemas.
-fn add_all(alloc: Global, list: &mut Vec<Reader>, schemas: &[Arc<Schema>]) -> Result<(), ListFault>
+fn add_all(
+    alloc: Global,
+    list: &mut Vec<Reader>,
+    later: Option<&Reader>,
+    schemas: &[Arc<Schema>],
+) -> Result<(), ListFault>
     requires none { list.old.items ≡ [] }
+    requires later { IfSome later (λ reader. is_malformed reader.now ≡ false) }
     ensures tables { OnOk result (list.new.items ≡ shared_tables schemas.now) }
     ensures formed { OnOk result (list_any is_malformed list.new.items ≡ false) }
     ensures refused { IfErr result (IsFirstMalformed (shared_tables schemas.now)) }
 {
     for schema in schemas {
-        add(alloc, list, schema)?;
+        add(alloc, list, later, schema)?;
     }
     Ok(())
 }
 
-// The readers of these schemas.
-fn readers_of(alloc: Global, schemas: &[Arc<Schema>]) -> Result<Vec<Reader>, ListFault>
+// The readers of these schemas. Those that the later version extends share its patterns.
+fn readers_of(
+    alloc: Global,
+    later: Option<&Reader>,
+    schemas: &[Arc<Schema>],
+) -> Result<Vec<Reader>, ListFault>
+    requires { IfSome later (λ reader. is_malformed reader.now ≡ false) }
     ensures tables { IfOk result (λ list. list.items ≡ shared_tables schemas.now) }
     ensures formed { IfOk result (λ list. list_any is_malformed list.items ≡ false) }
     ensures refused { IfErr result (IsFirstMalformed (shared_tables schemas.now)) }
 {
     let mut list = Vec::new(alloc);
-    add_all(alloc, &mut list, schemas)?;
+    add_all(alloc, &mut list, later, schemas)?;
     Ok(list)
+}
+
+// The readers of the versions of one schema, version 0 first. The patterns of the last version are compiled, and the others share them. Where
+// one of them is malformed, each version's own are compiled, up to the first version that has it.
+fn readers_of_versions(alloc: Global, versions: &[Arc<Schema>]) -> Result<Vec<Reader>, ListFault>
+    requires { 1 ≤ length versions.now }
+    ensures tables { IfOk result (λ list. list.items ≡ shared_tables versions.now) }
+    ensures formed { IfOk result (λ list. list_any is_malformed list.items ≡ false) }
+    ensures refused { IfErr result (IsFirstMalformed (shared_tables versions.now)) }
+{
+    match reader_of(alloc, 0, &versions[versions.len() - 1]) {
+        Ok(last) => readers_of(alloc, Some(&last), versions),
+        Err(ListFault::Pattern { .. }) => readers_of(alloc, None, versions),
+        Err(ListFault::NoMemory) => Err(ListFault::NoMemory),
+    }
 }
 
 // The reader by the version, by the last one where there are fewer.
@@ -156,7 +230,7 @@ impl Readers {
         ensures formed { IfOk result (λ readers. list_any are_malformed readers ≡ false) }
         ensures refused { IfErr result (IsMalformedAt (versions_by (shared_tables own.now) (shared_tables devices.now))) }
     {
-        let versions = match readers_of(alloc, own) {
+        let versions = match readers_of_versions(alloc, own) {
             Ok(list) => list,
             Err(ListFault::Pattern { index }) => {
                 return Err(ReadersFault::Pattern {
@@ -166,7 +240,7 @@ impl Readers {
             }
             Err(ListFault::NoMemory) => return Err(ReadersFault::NoMemory),
         };
-        match readers_of(alloc, devices) {
+        match readers_of(alloc, None, devices) {
             Ok(list) => Ok(Readers {
                 own: versions,
                 devices: list,

@@ -15,12 +15,16 @@ use sal_io::Gate;
 use sal_script::{Program, Script, StepReply};
 use sal_types::{NoMemory, Seq};
 use std::alloc::Global;
+use thiserror::Error;
 
 /// Why an order was not played to its end.
-#[derive(Clone, Copy, Debug, PartialEq, Eq)]
+#[derive(Clone, Copy, Debug, PartialEq, Eq, Error)]
 pub enum PlayFault {
     /// It fails at this index: it names a client without a shared call left, or ends while one is left.
+    #[error("the order fails at index {index}")]
     BadOrder { index: u64 },
+    /// Memory ran out.
+    #[error("out of memory")]
     NoMemory,
 }
 

@@ -6,6 +6,7 @@ use sal_rows::Mode;
 use sal_types::{NoMemory, Path, Store, Str};
 use std::alloc::AllocFailed;
 use std::snapshot::Snapshot;
+use thiserror::Error;
 
 /// To what a client wants to listen: a store of the domain, and a path with the text that it was read from. The text is there for
 /// contracts alone.
@@ -57,11 +58,13 @@ pub enum Wish {
 }
 
 /// Why a client stops at a shared call.
-#[derive(Clone, Copy, Debug, PartialEq, Eq)]
+#[derive(Clone, Copy, Debug, PartialEq, Eq, Error)]
 pub enum RunFault {
     /// The log is full, and has no entry of the call.
+    #[error("the log is full")]
     HistoryFull,
     /// Memory ran out, before the call or while its answer was kept.
+    #[error("out of memory")]
     NoMemory,
 }
 

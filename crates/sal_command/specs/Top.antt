@@ -16,7 +16,7 @@ use Rattle.sal_versions.specs.Schemas.{table_of}
 use Rattle.sal_prepare.specs.Scripted.{Comes, IsStatusOf, Prepared, or_schema, or_script, prepared}
 use Rattle.sal_command.specs.declared.top.TheConstants.{HELP, VERSION}
 use Rattle.sal_prepare.specs.declared.status.Status.{Status}
-use Rattle.sal_prepare.specs.declared.status.Status.TheVariants.{Done, BadWords, ReadFault, WriteFault, TooLong, BadScript, BadSchema, BadOpening, BadOrder, NoMemory}
+use Rattle.sal_prepare.specs.declared.status.Status.TheVariants.{Done, BadWords, ReadFault, WriteFault, TooLong, BadScript, BadSchema, BadOpening, BadOrder, NoMemory, NoPart, BadStream, BadExport}
 use Rattle.sal_command.specs.declared.words.Form.{Form}
 use Rattle.sal_command.specs.declared.words.Form.TheVariants.{Run, Sim, Load, Schema, Owner, Help, Version}
 
@@ -95,6 +95,9 @@ TextAnswers comes before after given given' (BadOrder index) = ReadsInput comes 
 TextAnswers comes before after given given' ReadFault = given' ≡ given
 TextAnswers comes before after given given' NoMemory = given' ≡ given
 TextAnswers comes before after given given' BadWords = ⊥
+TextAnswers comes before after given given' NoPart = ⊥
+TextAnswers comes before after given given' (BadStream text) = ⊥
+TextAnswers comes before after given given' (BadExport commit) = ⊥
 
 -- What a form did that reads no input, and comes to a text whatever its words say. Where memory ran out nothing was written.
 abbrev pub OwnAnswers : (List ℕ → Type 0) → Option (List ℕ) → Option (List ℕ) → Status → Type 0

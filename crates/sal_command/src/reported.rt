@@ -1,6 +1,5 @@
 //! What a script came to, as text: the report, with what was answered and the trees of each domain that was told; the summary of a load.
 ghost use Rattle.std.specs.Prelude.{◌≡◌, ◌<◌, ◌≤◌, All, IfOk, length, map};
-ghost use Rattle.sal_tree.specs.Rows.{rows_of};
 ghost use Rattle.sal_script.specs.LoadOrder as load;
 ghost use Rattle.sal_script.specs.Report as spec;
 ghost use Rattle.sal_script.specs.Tables.{tables_of};
@@ -8,12 +7,9 @@ ghost use Rattle.sal_prepare.specs.Scripted.{tables_in};
 
 use sal_client::Played;
 use sal_hub::Hub;
-use sal_report::{report, summary, told_domains};
-use sal_rows::Rows;
+use sal_report::{DomainEnd, report, summary, told_domains};
 use sal_schema::Schema;
-use sal_script::DomainTrees;
-use sal_tree::Root;
-use sal_types::{NoMemory, Path, Str};
+use sal_types::{NoMemory, Str};
 use std::alloc::Global;
 use std::sync::Arc;
 
@@ -46,66 +42,59 @@ pub(crate) fn summary_of(
 ) -> Result<Str, NoMemory>
     ensures { IfOk result (λ text. text ≡ load.summary rounds start played.now.hub.world (record { log = played.now.hub.log; replies = played.now.replies })) }
 {
-    let trees = own_trees(alloc, &played.hub)?;
-    summary(alloc, rounds, start, played.hub.log(), &trees)
+    summary(
+        alloc,
+        rounds,
+        start,
+        played.hub.log(),
+        &own_trees(&played.hub),
+    )
 }
 
 // The trees at the end of the controller's own domain.
-fn own_trees(alloc: Global, hub: &Hub) -> Result<DomainTrees, NoMemory>
-    ensures { IfOk result (λ trees. trees ≡ spec.trees_in hub.now.world hub.now.log 0) }
+fn own_trees(hub: &Hub) -> DomainEnd
+    ensures { result ≡ spec.trees_in hub.now.world hub.now.log 0 }
 {
-    let newest = hub.trees();
-    let config = all_rows(alloc, &newest.config)?;
-    let oper = all_rows(alloc, &newest.oper)?;
-    Ok(DomainTrees {
+    DomainEnd {
         domain: 0,
         commits: hub.newest(),
-        config,
-        oper,
-    })
+        trees: hub.trees(),
+    }
 }
 
 // The trees at the end of each domain that is told, of so many.
-fn trees_of(alloc: Global, hub: &Hub, domains: u32) -> Result<Vec<DomainTrees>, NoMemory>
+fn trees_of<'a>(alloc: Global, hub: &'a Hub, domains: u32) -> Result<Vec<DomainEnd<'a>>, NoMemory>
     requires { «domains» ≡ length hub.now.world }
-    ensures { IfOk result (λ trees. trees.items ≡ map (spec.trees_in hub.now.world hub.now.log) (spec.told_domains hub.now.world hub.now.log)) }
+    ensures { IfOk result (λ trees. trees.items ≡ map (spec.trees_in hub.entry.now.world hub.entry.now.log) (spec.told_domains hub.entry.now.world hub.entry.now.log)) }
 {
     let told = told_domains(alloc, domains, hub.log())?;
     trees_in(alloc, hub, &told)
 }
 
 // The trees at the end of these domains.
-fn trees_in(alloc: Global, hub: &Hub, domains: &[u32]) -> Result<Vec<DomainTrees>, NoMemory>
+fn trees_in<'a>(
+    alloc: Global,
+    hub: &'a Hub,
+    domains: &[u32],
+) -> Result<Vec<DomainEnd<'a>>, NoMemory>
     requires { All (λ d. d < length hub.now.world) domains.now }
-    ensures { IfOk result (λ trees. trees.items ≡ map (spec.trees_in hub.now.world hub.now.log) domains.now) }
+    ensures { IfOk result (λ trees. trees.items ≡ map (spec.trees_in hub.entry.now.world hub.entry.now.log) domains.now) }
 {
     let mut trees = Vec::with_capacity(alloc, domains.len())?;
     for domain in domains {
-        trees.push(domain_trees(alloc, hub, *domain)?)?;
+        trees.push(domain_trees(hub, *domain))?;
     }
     Ok(trees)
 }
 
 // The trees at the end of a domain.
-fn domain_trees(alloc: Global, hub: &Hub, domain: u32) -> Result<DomainTrees, NoMemory>
+fn domain_trees(hub: &Hub, domain: u32) -> DomainEnd
     requires { domain < length hub.now.world }
-    ensures { IfOk result (λ trees. trees ≡ spec.trees_in hub.now.world hub.now.log domain) }
+    ensures { result ≡ spec.trees_in hub.now.world hub.now.log domain }
 {
-    let trees = hub.trees_of(domain);
-    let config = all_rows(alloc, &trees.config)?;
-    let oper = all_rows(alloc, &trees.oper)?;
-    Ok(DomainTrees {
+    DomainEnd {
         domain,
         commits: hub.newest_of(domain),
-        config,
-        oper,
-    })
-}
-
-// The rows of a tree.
-fn all_rows(alloc: Global, root: &Root) -> Result<Rows, NoMemory>
-    ensures { IfOk result (λ rows. rows ≡ rows_of root.now) }
-{
-    let rows = root.rows(alloc, &Path::root(alloc))?;
-    Ok(rows)
+        trees: hub.trees_of(domain),
+    }
 }

@@ -22,7 +22,7 @@ pub(crate) fn conflict_in(
 {
     let spans = foreign_spans(alloc, sub.base_commit, sub.chain, &domain.commits)?;
     let found = conflict(
-        sub.changes.lookups(),
+        &sub.changes,
         &sub.base,
         &spans,
         &domain.commits,

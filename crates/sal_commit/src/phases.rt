@@ -115,20 +115,25 @@ pub fn pre(alloc: Global, ready: Ready, fresh: u64) -> Result<Prepared, PreFault
     if let Some(outcome) = breached(alloc, ready.domain, &trees, fresh)? {
         return Err(PreFault::Invalid { outcome });
     }
-    let commit = next_commit(ready.sub, ready.domain, trees)?;
+    let commit = next_commit(alloc, ready.sub, ready.domain, trees)?;
     Ok(Prepared { commit })
 }
 
 // The commit of the submission, with the next number of the domain and with these trees. Its operations are the submission's own
-// list, and no copy of it.
-fn next_commit(sub: &Submission, domain: &Domain, trees: Pair) -> Result<Commit, NoMemory>
+// list, which that shares with its entry of the log.
+fn next_commit(
+    alloc: Global,
+    sub: &Submission,
+    domain: &Domain,
+    trees: Pair,
+) -> Result<Commit, NoMemory>
     ensures number { IfOk result (λ c. c.number ≡ length domain.now.commits.items) }
     ensures receipt { IfOk result (λ c. c.receipt ≡ sub.now.receipt) }
     ensures chain { IfOk result (λ c. c.chain ≡ sub.now.chain) }
     ensures ops { IfOk result (λ c. c.ops.value ≡ sub.now.changes) }
     ensures trees { IfOk result (λ c. c.trees ≡ trees) }
 {
-    let ops = sub.changes.shared()?;
+    let ops = sub.changes.shared(alloc)?;
     Ok(Commit {
         number: domain.commits.len() as u64,
         receipt: sub.receipt,

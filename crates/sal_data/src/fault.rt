@@ -4,30 +4,40 @@ ghost use Rattle.std.specs.Prelude.{◌≡◌};
 use sal_json::ScalarFault;
 use sal_types::{Path, Str};
 use std::alloc::{AllocError, AllocFailed};
+use thiserror::Error;
 
 /// Why a JSON value stands for no rows of a schema.
 ///
 /// `path` is the place: of the object for the faults of a member's name, of the list for those of keys, and of the entry or
-/// node itself for the others.
-#[derive(Drop)]
+/// node itself for the others. It has numbers of nodes; `path_text` of `sal_pathtext` writes it with their names.
+#[derive(Debug, Drop, Error)]
 pub enum DataFault {
     /// No child of the node at the path has this name in the right form.
+    #[error("unknown member `{}`", .name.as_str())]
     UnknownMember { path: Path, name: Str },
     /// The name is written without its module, and stands at the top or is that of a child of another module.
+    #[error("the member `{}` needs the name of its module", .name.as_str())]
     NeedsModule { path: Path, name: Str },
     /// Another JSON value than an object or an array stands where one is wanted.
+    #[error("an object or an array is wanted")]
     WrongShape { path: Path },
     /// An entry of the list at the path lacks a key.
+    #[error("a list entry lacks a key")]
     MissingKey { path: Path },
     /// The entry has another key or value than that of the path that it was read at.
+    #[error("the key is another one than in the path")]
     KeyDiffers { path: Path },
     /// An earlier entry of the list or leaf-list has the same key or value.
+    #[error("an earlier entry has the same key")]
     DoubleEntry { path: Path },
     /// A leaf, a leaf-list entry, or a key of the list at the path has no value of its type.
+    #[error("{fault}")]
     BadScalar { path: Path, fault: ScalarFault },
     /// The path would have a 33rd step below this one.
+    #[error("a path has at most 32 steps")]
     TooDeep { path: Path },
     /// Memory ran out.
+    #[error("out of memory")]
     NoMemory,
 }
 

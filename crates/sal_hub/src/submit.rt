@@ -17,11 +17,10 @@ use crate::journal::Journal;
 use crate::pipeline::Pipeline;
 use crate::receipt::Receipt;
 use sal_history::{Call, SharedOps};
-use sal_rows::{CallFault, Op, Ops};
+use sal_rows::CallFault;
 use sal_tx::WriteTx;
-use sal_types::{Duplicate, NoMemory, Seq};
+use sal_types::NoMemory;
 use std::alloc::Global;
-use std::sync::Arc;
 
 /// Submits the transaction, unless it is refused, and adds the entry.
 pub(crate) fn submit(
@@ -72,40 +71,27 @@ fn note(alloc: Global, journal: &mut Journal, client: u32, tx: &WriteTx) -> Resu
     ensures marks { OnOk result ((k : ℕ) → mark_at journal.new.marks k ≡ mark_at journal.old.marks k) }
     ensures err { OnErr result (journal.new ≡ journal.old) }
 {
-    let _list = note_list(alloc, journal, client, tx)?;
-    Ok(())
+    let ops = SharedOps::of(tx.shared_ops(alloc)?);
+    let place = tx.begun().place;
+    journal.add(client, Call::Submit { place, ops })
 }
 
-// Adds the entry of a submit, and gives the list of the operations that it has.
-fn note_list(
+// Adds the entry of a submit, which has the transaction's own list of operations.
+fn note_shared(
     alloc: Global,
     journal: &mut Journal,
     client: u32,
-    tx: &WriteTx,
-) -> Result<Arc<Ops>, NoMemory>
+    tx: &mut WriteTx,
+) -> Result<(), NoMemory>
     requires { length journal.old.log < limit }
-    ensures log { OnOk result (journal.new.log ≡ jotted journal.old.log client (Submit tx.now.begun.place tx.now.changes)) }
+    ensures log { OnOk result (journal.new.log ≡ jotted journal.old.log client (Submit tx.old.begun.place tx.old.changes)) }
     ensures marks { OnOk result ((k : ℕ) → mark_at journal.new.marks k ≡ mark_at journal.old.marks k) }
-    ensures list { IfOk result (λ list. list.value ≡ tx.now.changes) }
     ensures err { OnErr result (journal.new ≡ journal.old) }
+    ensures same { tx.new ≡ tx.old }
 {
-    let list = copied(alloc, tx.ops())?;
-    let ops = SharedOps::of(Arc::try_clone(&list)?);
+    let ops = SharedOps::of(tx.share_ops(alloc)?);
     let place = tx.begun().place;
-    journal.add(client, Call::Submit { place, ops })?;
-    Ok(list)
-}
-
-// A copy of the operations, which the entry of the log and the commit have together.
-fn copied(alloc: Global, ops: &[Op]) -> Result<Arc<Ops>, NoMemory>
-    ensures { IfOk result (λ copy. copy.value ≡ ops.now) }
-{
-    let mut list = Vec::with_capacity(alloc, ops.len())?;
-    for op in ops {
-        list.push(op.copy()?)?;
-    }
-    let shared = Arc::new(alloc, Seq::from_items(list))?;
-    Ok(shared)
+    journal.add(client, Call::Submit { place, ops })
 }
 
 // Adds the submission and its entry, and marks the transaction as spent. Where memory is wanting, it is given back, and nothing
@@ -137,15 +123,16 @@ fn accept(
         Ok(()) => {}
         Err(_) => return Err(tx),
     }
-    let list = match note_list(alloc, journal, client, &tx) {
-        Ok(list) => list,
+    let mut tx = tx;
+    match note_shared(alloc, journal, client, &mut tx) {
+        Ok(()) => {}
         Err(NoMemory) => return Err(tx),
-    };
+    }
     let receipt = (pipeline.gone + pipeline.waiting.len()) as u64 + 1;
     let domain = tx.begun().domain;
     journal.spend(tx.begun().place as usize);
     pipeline
         .waiting
-        .push_back_reserved(tx.into_submission(receipt, list));
+        .push_back_reserved(tx.into_submission(receipt));
     Ok(Receipt::of(receipt, domain))
 }

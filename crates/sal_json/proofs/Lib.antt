@@ -4,6 +4,7 @@ pub mod BitTexts
 pub mod Chosen
 pub mod DecTexts
 pub mod Found
+pub mod Fronts
 pub mod Grammars
 pub mod IdentTexts
 pub mod Joined

@@ -1,6 +1,7 @@
 //! The patterns of a schema, compiled.
 ghost use Rattle.std.specs.Prelude.{◌≡◌, ◌++◌, ◌∷◌, [], ◌<◌, IfOk, OnOk, IfErr, IfSome, MatchOption, Some, true, false, not, map, length};
 ghost use Rattle.std.specs.List.{slice_get, list_all, list_any};
+ghost use Rattle.sal_schema.specs.Versions.{BeginsWith, Extends};
 ghost use Rattle.sal_json.specs.Patterns as spec;
 
 use crate::fault::PatternsFault;
@@ -10,6 +11,7 @@ use sal_schema::Schema;
 use sal_types::{NoMemory, Seq};
 use std::alloc::Global;
 use std::marker::Model;
+use std::sync::Arc;
 
 /// A pattern of a whole text, seen as the text of the pattern that is searched for.
 #[derive(Drop)]
@@ -215,18 +217,20 @@ fn add_type(alloc: Global, ty: &YangType, types: &mut Vec<Seq<Wholes>>) -> Resul
 
 /// The patterns of a schema, compiled: a list for each type, and in it one for each member of a union.
 ///
-/// They are seen as the texts of the patterns that are searched for.
+/// They are seen as the texts of the patterns that are searched for. Those of older versions of the schema share them.
 #[derive(Drop)]
 pub struct Patterns {
-    types: Vec<Seq<Wholes>>,
+    types: Arc<Vec<Seq<Wholes>>>,
+    /// How many of these types the schema has.
+    count: u32,
 }
 
 impl Model for Patterns {
-    ghost use Rattle.std.specs.Prelude.{List, ℕ};
+    ghost use Rattle.std.specs.Prelude.{List, ℕ, take};
 
     ghost Value = { List (List (List (List ℕ))) };
 
-    ghost view = { λ a. a.types.items };
+    ghost view = { λ a. take a.count a.types.value.items };
 }
 
 impl Patterns {
@@ -241,7 +245,38 @@ impl Patterns {
     {
         let mut types = Vec::new(alloc);
         add_types(alloc, schema, &mut types)?;
-        Ok(Patterns { types })
+        let types = Arc::new(alloc, types)?;
+        Ok(Patterns {
+            types,
+            count: schema.types(),
+        })
+    }
+
+    /// The patterns of an older version of their schema, which share these: nothing is compiled.
+    ///
+    /// None where `newer`, the schema of these, does not extend `older`. It takes time linear in the older schema, and no memory.
+    pub fn of_older(&self, newer: &Schema, older: &Schema) -> Result<Option<Patterns>, NoMemory>
+        requires { self.now ≡ spec.patterns_of newer.now }
+        ensures { IfOk result (λ found. MatchOption found (Extends newer.now older.now → ⊥) (λ patterns. (patterns ≡ spec.patterns_of older.now) × Extends newer.now older.now)) }
+    {
+        if newer.extends(older) {
+            let patterns = self.front(older)?;
+            Ok(Some(patterns))
+        } else {
+            Ok(None)
+        }
+    }
+
+    // Those of an older version, which begin these.
+    fn front(&self, older: &Schema) -> Result<Patterns, NoMemory>
+        requires { BeginsWith self.now (spec.patterns_of older.now) }
+        ensures { IfOk result (λ patterns. patterns ≡ spec.patterns_of older.now) }
+    {
+        let types = Arc::try_clone(&self.types)?;
+        Ok(Patterns {
+            types,
+            count: older.types(),
+        })
     }
 
     /// Those of a type, member by member.

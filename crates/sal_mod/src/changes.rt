@@ -1,17 +1,21 @@
 //! The operations of a transaction.
-ghost use Rattle.std.specs.Prelude.{◌≡◌, [], ◌∷◌, ◌++◌, OnOk, OnErr, IfErr, take};
+ghost use Rattle.std.specs.Prelude.{◌≡◌, ◌+◌, ◌≤◌, [], ◌∷◌, ◌++◌, OnOk, OnErr, IfErr, IfOk, take};
+ghost use Rattle.std.specs.Vec.{vec_capacity, vec_len};
 ghost use Rattle.sal_mod.specs.Covers.{is_covered};
+ghost use Rattle.sal_mod.specs.Firsts.{AreFirstIn};
 
 use crate::covers::{Covers, any_covers, note_next};
-use sal_rows::Op;
+use crate::held::Held;
+use sal_rows::{Op, Ops};
 use sal_types::{NoMemory, Path, Store};
-use std::alloc::Global;
+use std::alloc::{AllocError, Global};
 use std::marker::Model;
+use std::sync::Arc;
 
 /// The operations of a transaction, in the order in which they were added.
 #[derive(Drop)]
 pub struct Mod {
-    ops: Vec<Op>,
+    list: Held,
     /// Nothing while the operations are few.
     covers: Option<Covers>,
 }
@@ -20,12 +24,13 @@ impl Model for Mod {
     ghost use Rattle.std.specs.Prelude.{List};
     ghost use Rattle.sal_rows.specs.declared.op.Op.{Op};
     ghost use Rattle.sal_mod.specs.Firsts.{AreFirstIn};
+    ghost use Rattle.sal_mod.specs.Held.{held};
 
     ghost Value = { List Op };
 
-    ghost view = { λ a. a.ops.items };
+    ghost view = { λ a. held a.list };
 
-    ghost invariant = { λ a. AreFirstIn a.ops.items a.covers };
+    ghost invariant = { λ a. AreFirstIn (held a.list) a.covers };
 }
 
 impl Mod {
@@ -34,7 +39,7 @@ impl Mod {
         ensures { result ≡ [] }
     {
         Mod {
-            ops: Vec::new(alloc),
+            list: Held::Own(Vec::new(alloc)),
             covers: None,
         }
     }
@@ -45,23 +50,35 @@ impl Mod {
         ensures returned { IfErr result (λ e. e.0 ≡ op) }
         ensures err { OnErr result (self.new ≡ self.old) }
     {
-        if self.ops.reserve(1).is_err() {
-            return Err((op, NoMemory));
-        }
-        match note_next(alloc, &mut self.covers, &self.ops, &op) {
-            Ok(()) => {
-                self.ops.push(op).unwrap();
-                Ok(())
-            }
-            Err(refused) => Err((op, refused)),
-        }
+        let mut list = match self.list.take(alloc) {
+            Ok(list) => list,
+            Err(refused) => return Err((op, refused)),
+        };
+        let added = add_to(alloc, &mut list, &mut self.covers, op);
+        self.list = Held::Own(list);
+        added
     }
 
     /// The operations, in order. It takes no memory.
     pub fn ops(&self) -> &[Op]
         ensures { result.now ≡ self.now }
     {
-        &self.ops
+        self.list.ops()
+    }
+
+    /// Their list, which the log and a commit may have too: no copy of it is made. An operation that is added later is added to a copy.
+    pub fn share(&mut self, alloc: Global) -> Result<Arc<Ops>, NoMemory>
+        ensures same { self.new ≡ self.old }
+        ensures list { IfOk result (λ list. list.value ≡ self.old) }
+    {
+        self.list.share(alloc)
+    }
+
+    /// Their list, or a copy of it if it is not shared.
+    pub fn shared(&self, alloc: Global) -> Result<Arc<Ops>, NoMemory>
+        ensures { IfOk result (λ list. list.value ≡ self.now) }
+    {
+        self.list.list(alloc)
     }
 
     /// Whether an operation of the store before the place is a put or delete at a path that this one begins with. It
@@ -70,9 +87,48 @@ impl Mod {
         ensures { result ≡ is_covered store self.now path.now before }
     {
         match &self.covers {
-            Some(covers) => covers.is_covered(&self.ops, store, path, before),
-            None => any_covers(first_of(&self.ops, before), store, path),
+            Some(covers) => covers.is_covered(self.list.ops(), store, path, before),
+            None => any_covers(first_of(self.list.ops(), before), store, path),
         }
+    }
+}
+
+// Puts an operation at the end of the list. For want of memory it is given back, and the others stay as they are.
+fn add_to(
+    alloc: Global,
+    list: &mut Vec<Op>,
+    covers: &mut Option<Covers>,
+    op: Op,
+) -> Result<(), (Op, NoMemory)>
+    requires { AreFirstIn list.old.items covers.old }
+    ensures ok { OnOk result (list.new.items ≡ list.old.items ++ op ∷ []) }
+    ensures covers { OnOk result (AreFirstIn list.new.items covers.new) }
+    ensures returned { IfErr result (λ e. e.0 ≡ op) }
+    ensures err { OnErr result (list.new.items ≡ list.old.items) }
+    ensures same { OnErr result (covers.new ≡ covers.old) }
+{
+    if make_room(list).is_err() {
+        return Err((op, NoMemory));
+    }
+    match note_next(alloc, covers, list, &op) {
+        Ok(()) => {
+            list.push(op).unwrap();
+            Ok(())
+        }
+        Err(refused) => Err((op, refused)),
+    }
+}
+
+// Makes room for one operation more: for the first one alone, as most transactions have just one.
+fn make_room(list: &mut Vec<Op>) -> Result<(), AllocError>
+    ensures items { list.new.items ≡ list.old.items }
+    ensures len { vec_len list.new ≡ vec_len list.old }
+    ensures room { OnOk result (vec_len list.new + 1 ≤ vec_capacity list.new) }
+{
+    if list.is_empty() {
+        list.reserve_exact(1)
+    } else {
+        list.reserve(1)
     }
 }
 

@@ -18,6 +18,7 @@
 //! |---|---|
 //! | `Mod::add` | constant on average; beyond eight operations with a search in a tree of paths, and a copy of the path for a put or delete |
 //! | `Mod::ops` | none |
+//! | `Mod::share`, `Mod::shared` | a count up; a copy of the list by `shared` where `share` was not called |
 //! | `Mod::covered` | up to eight operations a look at each, and else d + 1 searches in a tree of at most n paths; no memory |
 //!
 //! A search compares some log n paths, whatever the order in which they came.
@@ -25,6 +26,7 @@
 
 pub mod changes;
 mod covers;
+mod held;
 mod places;
 
 pub use changes::Mod;

@@ -22,52 +22,52 @@ pub enum What {
 #[derive(Debug, Drop, Error)]
 pub enum BuildFault {
     /// A statement that may not stand where it stands.
-    #[error("unknown statement")]
+    #[error("unknown statement in module {module} at byte {at}")]
     UnknownStatement { module: u32, at: u32 },
     /// A statement of YANG that the profile leaves out.
-    #[error("left out")]
+    #[error("left out in module {module} at byte {at}")]
     LeftOut { module: u32, at: u32 },
     /// A statement that must have a substatement of this keyword has none.
-    #[error("missing statement")]
+    #[error("missing statement `{}` in module {module} at byte {at}", .keyword.as_str())]
     Missing { module: u32, at: u32, keyword: Str },
     /// The second of two substatements, where one may stand.
-    #[error("second statement")]
+    #[error("second statement `{}` in module {module} at byte {at}", .keyword.as_str())]
     Twice { module: u32, at: u32, keyword: Str },
     /// An argument that is missing, unwanted or not of its form, or an import's prefix that the module has already.
-    #[error("bad argument")]
+    #[error("bad argument in module {module} at byte {at}")]
     BadArgument { module: u32, at: u32 },
     /// An import of a module that was not given.
-    #[error("no module")]
+    #[error("no module in module {module} at byte {at}")]
     NoModule { module: u32, at: u32 },
     /// The first import of a module that reaches itself by imports.
-    #[error("import cycle")]
+    #[error("import cycle in module {module} at byte {at}")]
     ImportCycle { module: u32, at: u32 },
     /// A name with an unknown prefix, or that nothing defines.
-    #[error("unknown name")]
+    #[error("unknown name in module {module} at byte {at}")]
     UnknownName { module: u32, at: u32 },
     /// A name that rests on itself.
-    #[error("name cycle")]
+    #[error("name cycle in module {module} at byte {at}")]
     NameCycle { module: u32, at: u32 },
     /// The later of two of one name, where names differ.
-    #[error("second node")]
+    #[error("second node in module {module} at byte {at}")]
     DoubleNode { module: u32, at: u32 },
     /// A restriction that is no restriction of its type, or widens it.
-    #[error("bad restriction")]
+    #[error("bad restriction in module {module} at byte {at}")]
     BadRestriction { module: u32, at: u32 },
     /// A pattern that is malformed.
-    #[error("bad pattern")]
+    #[error("bad pattern in module {module} at byte {at}")]
     BadPattern { module: u32, at: u32 },
     /// A key, or a `unique`, that names no leaf as it must.
-    #[error("bad key")]
+    #[error("bad key in module {module} at byte {at}")]
     BadKey { module: u32, at: u32 },
     /// Configuration below state.
-    #[error("config under state")]
+    #[error("config under state in module {module} at byte {at}")]
     ConfigUnderState { module: u32, at: u32 },
     /// An augment or a path whose target does not exist or does not fit.
-    #[error("bad target")]
+    #[error("bad target in module {module} at byte {at}")]
     BadTarget { module: u32, at: u32 },
     /// The `base` of an identity of a later version's module, which names an identity of an earlier version.
-    #[error("old identity")]
+    #[error("old identity in module {module} at byte {at}")]
     OldIdentity { module: u32, at: u32 },
     /// More modules or nodes than are taken.
     #[error("too many")]

@@ -4,7 +4,7 @@ use Rattle.std.specs.Prelude.{slice_get}
 use Rattle.std.specs.Result.{IsErrAnd}
 use Rattle.sal_types.specs.Reading.{◌>>=◌}
 use Rattle.sal_prepare.specs.declared.status.Status.{Status}
-use Rattle.sal_prepare.specs.declared.status.Status.TheVariants.{Done, BadWords, ReadFault, WriteFault, TooLong, BadScript, BadSchema, BadOpening, BadOrder, NoMemory}
+use Rattle.sal_prepare.specs.declared.status.Status.TheVariants.{Done, BadWords, ReadFault, WriteFault, TooLong, BadScript, BadSchema, BadOpening, BadOrder, NoMemory, NoPart, BadStream, BadExport}
 use Rattle.sal_prepare.specs.Each.{each_from}
 use Rattle.sal_prepare.specs.Scripted.{Comes, IsStatusOf, or_schema, with_next}
 use Rattle.sal_versions.proofs.Bound.{bind_ok, same_ok}
@@ -48,6 +48,9 @@ module _ {A B : Type 0} (make : ℕ → A → Result B Status) (xs : List A) (do
   stops total WriteFault fault so_far = absurd fault
   stops total TooLong fault so_far = absurd fault
   stops total (BadOrder index) fault so_far = absurd fault
+  stops total NoPart fault so_far = absurd fault
+  stops total (BadStream text) fault so_far = absurd fault
+  stops total (BadExport commit) fault so_far = absurd fault
 
 -- nothing was made before
 pub before_none : {B F : Type 0} (rest : Result (List B) F) → before [] rest ≡ rest
@@ -79,6 +82,9 @@ bind_fault r f ReadFault fault = absurd fault
 bind_fault r f WriteFault fault = absurd fault
 bind_fault r f TooLong fault = absurd fault
 bind_fault r f (BadOrder index) fault = absurd fault
+bind_fault r f NoPart fault = absurd fault
+bind_fault r f (BadStream text) fault = absurd fault
+bind_fault r f (BadExport commit) fault = absurd fault
 
 -- what fails makes no more
 pub with_fault : {A : Type 0} (done : List A) (next : Result A Status) (e : Status) → IsStatusOf next e → IsStatusOf (with_next done next) e
@@ -92,6 +98,9 @@ with_fault done next ReadFault fault = absurd fault
 with_fault done next WriteFault fault = absurd fault
 with_fault done next TooLong fault = absurd fault
 with_fault done next (BadOrder index) fault = absurd fault
+with_fault done next NoPart fault = absurd fault
+with_fault done next (BadStream text) fault = absurd fault
+with_fault done next (BadExport commit) fault = absurd fault
 
 -- what a domain's modules build is made by them
 pub schema-ok : {A : Type 0} (n : ℕ) (made : Result A (List ℕ)) (x : A) → or_schema n made ≡ Ok x → made ≡ Ok x

@@ -18,13 +18,13 @@ either_false false b e = (refl, e)
 
 -- ---- the versions of one schema
 
-none_from : (versions : List SchemaTable) (v : ℕ) → list_any is_malformed versions ≡ false → malformed_from v versions ≡ None
+pub none_from : (versions : List SchemaTable) (v : ℕ) → list_any is_malformed versions ≡ false → malformed_from v versions ≡ None
 none_from [] v none = refl
 none_from (t ∷ ts) v none =
     let both = either_false (is_malformed t) (list_any is_malformed ts) none in
     ap (λ (b : Bool). if b then Some v else malformed_from (v + 1) ts) both.0 ∙ none_from ts (v + 1) both.1
 
-found_from : (versions : List SchemaTable) (k v : ℕ) → option_map_or is_malformed (slice_get versions v) false ≡ true → list_any is_malformed (take v versions) ≡ false
+pub found_from : (versions : List SchemaTable) (k v : ℕ) → option_map_or is_malformed (slice_get versions v) false ≡ true → list_any is_malformed (take v versions) ≡ false
     → malformed_from k versions ≡ Some (k + v)
 found_from [] k v is none = cc
 found_from (t ∷ ts) k zero is none =

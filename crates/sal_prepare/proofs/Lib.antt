@@ -3,6 +3,8 @@ pub mod Each
 pub mod Formed
 pub mod LoadWorld
 pub mod Numbered
+pub mod OwnSchemas
 pub mod SoundWorlds
 pub mod Statuses
+pub mod Texts
 pub mod Worlds

@@ -1,7 +1,7 @@
 -- The status of what fails is that of all that stands on it.
 use Rattle.std.proofs.Common.{◌≡◌, Result, Ok, Err, ap, sym, ◌∙◌}
 use Rattle.sal_prepare.specs.declared.status.Status.{Status}
-use Rattle.sal_prepare.specs.declared.status.Status.TheVariants.{Done, BadWords, ReadFault, WriteFault, TooLong, BadScript, BadSchema, BadOpening, BadOrder, NoMemory}
+use Rattle.sal_prepare.specs.declared.status.Status.TheVariants.{Done, BadWords, ReadFault, WriteFault, TooLong, BadScript, BadSchema, BadOpening, BadOrder, NoMemory, NoPart, BadStream, BadExport}
 use Rattle.sal_prepare.specs.Scripted.{IsStatusOf}
 
 -- one fault is one status
@@ -20,6 +20,9 @@ fails_as A made e ReadFault is fault = absurd fault
 fails_as A made e WriteFault is fault = absurd fault
 fails_as A made e TooLong is fault = absurd fault
 fails_as A made e (BadOrder index) is fault = absurd fault
+fails_as A made e NoPart is fault = absurd fault
+fails_as A made e (BadStream text) is fault = absurd fault
+fails_as A made e (BadExport commit) is fault = absurd fault
 
 -- what is made is one value
 pub same_made : {A : Type 0} (made : Result A Status) (x y : A) → made ≡ Ok x → made ≡ Ok y → x ≡ y

@@ -24,7 +24,7 @@ use Rattle.sal_hub.specs.Openings.{IsFaultOf, fault_from, fault_of, opening_faul
 use Rattle.sal_script.specs.Tables.{first_among, first_in, last_among, later_among, tables_of, versions_in, versions_of}
 use Rattle.sal_script.specs.Script.{DeviceParts}
 use Rattle.sal_prepare.specs.declared.status.Status.{Status}
-use Rattle.sal_prepare.specs.declared.status.Status.TheVariants.{Done, BadWords, ReadFault, WriteFault, TooLong, BadScript, BadSchema, BadOpening, BadOrder, NoMemory}
+use Rattle.sal_prepare.specs.declared.status.Status.TheVariants.{Done, BadWords, ReadFault, WriteFault, TooLong, BadScript, BadSchema, BadOpening, BadOrder, NoMemory, NoPart, BadStream, BadExport}
 use Rattle.sal_prepare.specs.Each.{each_from}
 use Rattle.sal_prepare.specs.Openings.{AreChains}
 use Rattle.sal_prepare.specs.Scripted.{Comes, IsRefusal, IsStatusOf, domain_in, domain_with, opened, opening_by, opening_trees, or_refused, refused_as, refused_text}
@@ -182,3 +182,6 @@ refusal_comes readers world fault TooLong same is told = absurd told
 refusal_comes readers world fault (BadScript place) same is told = absurd told
 refusal_comes readers world fault (BadSchema n text) same is told = absurd told
 refusal_comes readers world fault (BadOrder index) same is told = absurd told
+refusal_comes readers world fault NoPart same is told = absurd told
+refusal_comes readers world fault (BadStream text) same is told = absurd told
+refusal_comes readers world fault (BadExport commit) same is told = absurd told

@@ -149,8 +149,8 @@ pub(crate) fn readers_of(alloc: Global, schemas: &Schemas) -> Result<Readers, St
     }
 }
 
-// The status of a malformed pattern in this version of a schema.
-fn bad_pattern(alloc: Global, device: u32, version: usize) -> Status
+/// The status of a malformed pattern in this version of a schema.
+pub(crate) fn bad_pattern(alloc: Global, device: u32, version: usize) -> Status
     ensures { spec.IsUnformed device version result }
 {
     match pattern_text(alloc, version) {
@@ -175,6 +175,7 @@ pub(crate) fn last_schemas(alloc: Global, schemas: &Schemas) -> Result<Vec<Arc<S
     requires some { 1 ≤ length schemas.now.own.items }
     requires few { length schemas.now.devices.items ≤ 63 }
     ensures tables { IfOk result (λ it. spec.tables_in it.items ≡ map tables.last_among (spec.versions_shared schemas.now)) }
+    ensures some { IfOk result (λ it. 1 ≤ length it.items) }
     ensures few { IfOk result (λ it. length it.items ≤ 64) }
 {
     let mut last = Vec::new(alloc);
@@ -185,8 +186,8 @@ pub(crate) fn last_schemas(alloc: Global, schemas: &Schemas) -> Result<Vec<Arc<S
     Ok(last)
 }
 
-// The schema of the last one of some versions.
-fn last_of(versions: &[Arc<Schema>]) -> &Arc<Schema>
+/// The schema of the last one of some versions.
+pub(crate) fn last_of(versions: &[Arc<Schema>]) -> &Arc<Schema>
     requires { 1 ≤ length versions.now }
     ensures { result.now.value ≡ tables.last_among (spec.tables_in versions.now) }
 {

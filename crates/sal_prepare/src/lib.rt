@@ -4,6 +4,8 @@
 //! |---|---|
 //! | `scripted` | `prepare`: a script's parts with the status of what is wrong, up to the hub that it is played over |
 //! | `domains`, `openings` | the schemas of the controller's own domain and of the devices, with what reads by them; their opening trees |
+//! | `own_schema` | the last version of the schema of domain 0 alone, with its patterns |
+//! | `parted` | an input of two parts, which its first zero byte divides |
 //! | `status` | how the command ends |
 //! | `laws` | the worlds of scripts are sound; a load's own script is always a script |
 //!
@@ -13,5 +15,7 @@
 mod domains;
 pub mod laws;
 mod openings;
+pub mod own_schema;
+pub mod parted;
 pub mod scripted;
 pub mod status;

@@ -36,6 +36,7 @@ pub struct Prepared {
 pub fn prepare(alloc: Global, bytes: &[u8]) -> Result<Prepared, Status>
     ensures prepared { spec.Comes spec.seen (spec.prepared bytes.now) result }
     ensures schemas { IfOk result (λ it. spec.tables_in it.read.schemas.items ≡ tables_of it.hub.world) }
+    ensures some { IfOk result (λ it. 1 ≤ length it.read.schemas.items) }
     ensures few { IfOk result (λ it. length it.read.schemas.items ≤ 64) }
     ensures readers { IfOk result (λ it. it.read.readers ≡ versions_of it.hub.world) }
     ensures fresh { IfOk result (λ it. it.hub.log ≡ []) }
@@ -49,6 +50,7 @@ pub fn prepare(alloc: Global, bytes: &[u8]) -> Result<Prepared, Status>
 pub fn prepare_script(alloc: Global, script: Script) -> Result<Prepared, Status>
     ensures prepared { spec.Comes spec.seen (spec.prepared_of (parts script)) result }
     ensures schemas { IfOk result (λ it. spec.tables_in it.read.schemas.items ≡ tables_of it.hub.world) }
+    ensures some { IfOk result (λ it. 1 ≤ length it.read.schemas.items) }
     ensures few { IfOk result (λ it. length it.read.schemas.items ≤ 64) }
     ensures readers { IfOk result (λ it. it.read.readers ≡ versions_of it.hub.world) }
     ensures fresh { IfOk result (λ it. it.hub.log ≡ []) }

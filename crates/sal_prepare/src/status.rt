@@ -28,6 +28,12 @@ pub enum Status {
     BadOrder { index: u64 },
     /// Memory ran out.
     NoMemory,
+    /// The input has no second part: no zero byte divides it.
+    NoPart,
+    /// The stream is not followed to its end; the first fault with its place.
+    BadStream { text: Str },
+    /// The frame of this commit is too long to be exported.
+    BadExport { commit: u64 },
 }
 
 impl From<NoMemory> for Status {
@@ -66,6 +72,9 @@ impl Status {
             Status::BadOpening { .. } => 8,
             Status::BadOrder { .. } => 9,
             Status::NoMemory => 10,
+            Status::NoPart => 11,
+            Status::BadStream { .. } => 12,
+            Status::BadExport { .. } => 13,
         }
     }
 
@@ -84,6 +93,9 @@ impl Status {
             Status::BadOpening { text } => bad_opening(alloc, text),
             Status::BadOrder { index } => bad_order(alloc, *index),
             Status::NoMemory => Str::new(alloc, "no memory\n"),
+            Status::NoPart => Str::new(alloc, "no second part\n"),
+            Status::BadStream { text } => bad_stream(alloc, text),
+            Status::BadExport { commit } => bad_export(alloc, *commit),
         }
     }
 }
@@ -123,5 +135,23 @@ fn bad_order(alloc: Global, index: u64) -> Result<Str, NoMemory>
 {
     let mut line = String::new(alloc);
     write!(line, "bad order at {index}\n")?;
+    Ok(Str::from_string(line))
+}
+
+fn bad_stream(alloc: Global, text: &Str) -> Result<Str, NoMemory>
+    ensures { IfOk result (λ line. line ≡ line_of (Status.BadStream text.now)) }
+{
+    let mut line = String::new(alloc);
+    line.push_str("bad stream ")?;
+    line.push_str(text.as_str())?;
+    line.push('\n')?;
+    Ok(Str::from_string(line))
+}
+
+fn bad_export(alloc: Global, commit: u64) -> Result<Str, NoMemory>
+    ensures { IfOk result (λ line. line ≡ line_of (Status.BadExport commit)) }
+{
+    let mut line = String::new(alloc);
+    write!(line, "bad export {commit}\n")?;
     Ok(Str::from_string(line))
 }

@@ -2,3 +2,4 @@ pub mod Children
 pub mod Floats
 pub mod Lists
 pub mod Replayed
+pub mod Roots

@@ -3,6 +3,10 @@
 //! | call | what it is |
 //! |---|---|
 //! | `report` | the text for a log, the replies to the clients' steps, and the trees at the end |
+//! | `DomainEnd` | a domain at the end of a run: its number, commits and trees |
+//! | `reply_text` | the text of one reply, as its line has it |
+//! | `report_of_lines` | the text of a run, where the lines of the steps are texts already |
+//! | `tree_line` | the line of a domain with its trees, alone |
 //! | `told_domains` | the domains of which it tells the trees: the controller's own, and each device that was ever mounted |
 //! | `path_fault_text`, `data_fault_text` | why a text is no path, why a value is no data of the schema, in words |
 //! | `tx_fault_text` | why a transaction refused a write, or a read, in words |
@@ -26,11 +30,12 @@
 //! // tree 0 1 {"topo:network":{"node":[{"id":"a"}]}} {}
 //! ```
 //!
-//! Cost: the text grows in place. Beside it stand the JSON and the text of one reply or of one tree at a time. Time is linear
-//! in the text, beside what `sal_data` takes to write the rows and `sal_pathtext` to write the paths. `told_domains` goes once through
-//! the log and makes its calls on mounts once more, which takes what `sal_mount` takes for them.
+//! Cost: the text grows in place. Beside it stand the rows and the JSON of one tree, or of one reply, at a time. Time is linear in the text, beside
+//! what `sal_tree` takes to list the rows, `sal_data` to write them and `sal_pathtext` to write the paths.
+//! `told_domains` goes once through the log and makes its calls on mounts once more, which takes what `sal_mount` takes for them.
 #![tactic(auto)]
 
+mod answered;
 mod arrays;
 mod batches;
 mod breaches;
@@ -43,11 +48,15 @@ mod pieces;
 mod replies;
 mod schemas;
 mod services;
+mod told;
+mod trees;
 mod words;
 
+pub use answered::{reply_text, report_of_lines};
 pub use breaches::{breach_text, path_words};
 pub use faults::{data_fault_text, path_fault_text, tx_fault_text};
-pub use lines::report;
+pub use lines::{report, tree_line};
 pub use load::summary;
 pub use mounted::told_domains;
+pub use told::DomainEnd;
 pub use words::store_word;

@@ -3,14 +3,15 @@ ghost use Rattle.std.specs.Prelude.{◌≡◌, [], ◌∷◌, ◌++◌, IfOk, On
 ghost use Rattle.std.specs.List.{flat_map};
 ghost use Rattle.sal_script.specs.Report as spec;
 
-use crate::pieces::{push_data, push_number, push_numbered};
+use crate::pieces::{push_number, push_numbered};
 use crate::replies::push_reply;
 use crate::schemas::{Schemas, no_nodes};
+use crate::told::DomainEnd;
+use crate::trees::push_tree;
 use sal_history::Entry;
-use sal_rows::Rows;
 use sal_schema::Schema;
-use sal_script::{DomainTrees, StepReply};
-use sal_types::{NoMemory, Path, Seq, Str};
+use sal_script::StepReply;
+use sal_types::{NoMemory, Seq, Str};
 use std::alloc::Global;
 use std::sync::Arc;
 
@@ -24,7 +25,7 @@ pub fn report(
     schemas: &[Arc<Schema>],
     log: &[Entry],
     replies: &[Seq<StepReply>],
-    trees: &[DomainTrees],
+    trees: &[DomainEnd],
 ) -> Result<Str, NoMemory>
     ensures { IfOk result (λ text. text ≡ spec.report_of (map (λ s. s.value) schemas.now) log.now replies.now trees.now) }
 {
@@ -38,7 +39,7 @@ fn told(
     schemas: &Schemas,
     log: &[Entry],
     replies: &[Seq<StepReply>],
-    trees: &[DomainTrees],
+    trees: &[DomainEnd],
 ) -> Result<Str, NoMemory>
     ensures { IfOk result (λ text. text ≡ spec.report_of schemas.now log.now replies.now trees.now) }
 {
@@ -49,7 +50,25 @@ fn told(
     Ok(Str::from_string(text))
 }
 
-fn push_order(text: &mut String, log: &[Entry]) -> Result<(), NoMemory>
+/// The line of a domain with its trees, as a report ends with it. `schemas` has those of the domains by number, each by its last version; a
+/// domain without one is written by a schema without nodes.
+pub fn tree_line(alloc: Global, schemas: &[Arc<Schema>], trees: &DomainEnd) -> Result<Str, NoMemory>
+    ensures { IfOk result (λ text. text ≡ spec.tree_line (map (λ s. s.value) schemas.now) trees.now) }
+{
+    let none = no_nodes(alloc)?;
+    line_of(alloc, &Schemas::new(schemas, &none), trees)
+}
+
+// The same by these schemas.
+fn line_of(alloc: Global, schemas: &Schemas, trees: &DomainEnd) -> Result<Str, NoMemory>
+    ensures { IfOk result (λ text. text ≡ spec.tree_line schemas.now trees.now) }
+{
+    let mut text = String::new(alloc);
+    push_trees(alloc, &mut text, schemas, trees)?;
+    Ok(Str::from_string(text))
+}
+
+pub(crate) fn push_order(text: &mut String, log: &[Entry]) -> Result<(), NoMemory>
     ensures { OnOk result (string_bytes text.new ≡ string_bytes text.old ++ spec.order_line log.now) }
 {
     text.push_str("order")?;
@@ -113,11 +132,11 @@ fn push_line(
 }
 
 // The lines of the domains.
-fn push_domains(
+pub(crate) fn push_domains(
     alloc: Global,
     text: &mut String,
     schemas: &Schemas,
-    trees: &[DomainTrees],
+    trees: &[DomainEnd],
 ) -> Result<(), NoMemory>
     ensures { OnOk result (string_bytes text.new ≡ string_bytes text.old ++ flat_map (spec.tree_line schemas.now) trees.now) }
 {
@@ -132,24 +151,16 @@ fn push_trees(
     alloc: Global,
     text: &mut String,
     schemas: &Schemas,
-    trees: &DomainTrees,
+    trees: &DomainEnd,
 ) -> Result<(), NoMemory>
     ensures { OnOk result (string_bytes text.new ≡ string_bytes text.old ++ spec.tree_line schemas.now trees.now) }
 {
     let schema = schemas.of(trees.domain);
     push_numbered(text, "tree", u64::from(trees.domain))?;
     push_number(text, trees.commits)?;
-    push_tree(alloc, text, schema, &trees.config)?;
-    push_tree(alloc, text, schema, &trees.oper)?;
+    push_tree(alloc, text, schema, &trees.trees.config)?;
+    push_tree(alloc, text, schema, &trees.trees.oper)?;
     end_line(text)
-}
-
-// A space and a tree.
-fn push_tree(alloc: Global, text: &mut String, schema: &Schema, rows: &Rows) -> Result<(), NoMemory>
-    ensures { OnOk result (string_bytes text.new ≡ string_bytes text.old ++ spec.tree_text schema.now rows.now) }
-{
-    text.push(' ')?;
-    push_data(alloc, text, schema, &Path::root(alloc), rows)
 }
 
 fn end_line(text: &mut String) -> Result<(), NoMemory>

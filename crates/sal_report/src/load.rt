@@ -1,10 +1,11 @@
 //! The summary of a load: how many calls, commits and rows it came to, and the sum of its numbers.
-ghost use Rattle.std.specs.Prelude.{◌≡◌, ◌++◌, [], ◌∷◌, IfOk, OnOk, codes, string_bytes, sum_by};
+ghost use Rattle.std.specs.Prelude.{◌≡◌, ◌++◌, [], ◌∷◌, IfOk, OnOk, codes, length, string_bytes, sum_by};
 ghost use Rattle.sal_script.specs.Load as spec;
 ghost use Rattle.sal_script.specs.Words.{number};
 
+use crate::told::DomainEnd;
+use crate::trees::all_rows;
 use sal_history::Entry;
-use sal_script::DomainTrees;
 use sal_types::{Atom, Cell, NoMemory, Row, Step, Str};
 use std::alloc::Global;
 
@@ -18,13 +19,13 @@ pub fn summary(
     rounds: u32,
     start: u32,
     log: &[Entry],
-    trees: &DomainTrees,
+    trees: &DomainEnd,
 ) -> Result<Str, NoMemory>
     ensures { IfOk result (λ text. text ≡ spec.summary_of rounds start (spec.totals_of log.now trees.now)) }
 {
     let mut text = String::new(alloc);
     push_load(&mut text, rounds, start)?;
-    push_totals(&mut text, log, trees)?;
+    push_totals(alloc, &mut text, log, trees)?;
     Ok(Str::from_string(text))
 }
 
@@ -37,12 +38,24 @@ fn push_load(text: &mut String, rounds: u32, start: u32) -> Result<(), NoMemory>
 }
 
 // The lines of what is counted.
-fn push_totals(text: &mut String, log: &[Entry], trees: &DomainTrees) -> Result<(), NoMemory>
+fn push_totals(
+    alloc: Global,
+    text: &mut String,
+    log: &[Entry],
+    trees: &DomainEnd,
+) -> Result<(), NoMemory>
     ensures { OnOk result (string_bytes text.new ≡ string_bytes text.old ++ spec.totals_text (spec.totals_of log.now trees.now)) }
 {
-    let rows = trees.config.items();
-    push_count(text, "calls", log.len() as u128)?;
-    push_count(text, "commits", u128::from(trees.commits))?;
+    let rows = all_rows(alloc, &trees.trees.config)?;
+    push_counts(text, log.len(), trees.commits, rows.items())
+}
+
+// The same by these numbers of calls and commits, and these rows.
+fn push_counts(text: &mut String, calls: usize, commits: u64, rows: &[Row]) -> Result<(), NoMemory>
+    ensures { OnOk result (string_bytes text.new ≡ string_bytes text.old ++ spec.totals_text (record { calls = calls; commits = commits; rows = length rows.now; values = sum_by spec.number_of rows.now })) }
+{
+    push_count(text, "calls", calls as u128)?;
+    push_count(text, "commits", u128::from(commits))?;
     push_count(text, "rows", rows.len() as u128)?;
     push_count(text, "sum", sum_of(rows))
 }

@@ -16,7 +16,6 @@ use Rattle.sal_rows.proofs.op.Op.TheSendSync as Op-here
 use Rattle.sal_rows.proofs.outcome.Outcome.TheSendSync as Outcome-here
 use Rattle.sal_rows.proofs.outcome.Mode.TheSendSync as Mode-here
 use Rattle.sal_mod.proofs.changes.Mod.TheSendSync as Mod-here
-use Rattle.sal_tx.proofs.changes.Changes.TheSendSync as Changes-here
 use Rattle.sal_hub.proofs.journal.Journal.TheSendSync as Journal-here
 use Rattle.sal_hub.proofs.chains.Chains.TheSendSync as Chains-here
 use Rattle.sal_hub.proofs.marks.Marks.TheSendSync as Marks-here
@@ -135,7 +134,7 @@ Tx-send : IsSend Tx.the_row
 Tx-send = search (ReadTx-field_send, WriteTx-send, crosses, maps.crosses, sendable) depth 40 fits 20000
 
 Submission-send : IsSend Submission.the_row
-Submission-send = search (Pair-field_send, Changes-here.the_send, crosses, maps.crosses, sendable) depth 40 fits 20000
+Submission-send = search (Pair-field_send, Mod-here.the_send, crosses, maps.crosses, sendable) depth 40 fits 20000
 
 Domain-send : IsSend Domain.the_row
 Domain-send = search (Schema-send, Schema-sync, Commit-send, Plan-field_send, crosses, maps.crosses, sendable) depth 40 fits 20000
@@ -170,32 +169,59 @@ Sal-sync = search (Turn-here.the_sync, Shared-send, crosses, maps.crosses, senda
 Hir-sync : IsSync Hir.the_row
 Hir-sync = search (Hir-knot.crosses, Class-here.the_field_sync, Look-here.the_field_sync, crosses, maps.crosses, sendable) depth 40 fits 20000
 
+Hir-send : IsSend Hir.the_row
+Hir-send = search (Hir-knot.crosses, Class-here.the_field_send, Look-here.the_field_send, crosses, maps.crosses, sendable) depth 40 fits 20000
+
 Hir-field_sync : IsSync (Hir.the_field).row
 Hir-field_sync = search (Hir-knot.crosses, Class-here.the_field_sync, Look-here.the_field_sync, crosses, maps.crosses, sendable) depth 40 fits 20000
+
+Hir-field_send : IsSend (Hir.the_field).row
+Hir-field_send = search (Hir-knot.crosses, Class-here.the_field_send, Look-here.the_field_send, crosses, maps.crosses, sendable) depth 40 fits 20000
 
 Plan_of-sync : IsSync Plan_of.the_row
 Plan_of-sync = search (Role-here.the_field_sync, Prefilter-here.the_sync, Frame-here.the_sync, Hir-sync, Ladder-here.the_field_sync, crosses, maps.crosses, sendable) depth 40 fits 20000
 
+Plan_of-send : IsSend Plan_of.the_row
+Plan_of-send = search (Role-here.the_field_send, Prefilter-here.the_send, Frame-here.the_send, Hir-send, Ladder-here.the_field_send, crosses, maps.crosses, sendable) depth 40 fits 20000
+
 Plans-field_sync : IsSync (Plans.the_field).row
 Plans-field_sync = search (Plan_of-sync, crosses, maps.crosses, sendable) depth 40 fits 20000
+
+Plans-field_send : IsSend (Plans.the_field).row
+Plans-field_send = search (Plan_of-send, crosses, maps.crosses, sendable) depth 40 fits 20000
 
 Signs-sync : IsSync Signs.the_row
 Signs-sync = search (Caseless-here.the_sync, Hir-sync, crosses, maps.crosses, sendable) depth 40 fits 20000
 
+Signs-send : IsSend Signs.the_row
+Signs-send = search (Caseless-here.the_send, Hir-send, crosses, maps.crosses, sendable) depth 40 fits 20000
+
 Program-field_sync : IsSync (Program.the_field).row
 Program-field_sync = search (Hir-field_sync, Dfa-here.the_field_sync, Plans-field_sync, Signs-sync, ByteSet-here.the_sync, crosses, maps.crosses, sendable) depth 40 fits 20000
+
+Program-field_send : IsSend (Program.the_field).row
+Program-field_send = search (Hir-field_send, Dfa-here.the_field_send, Plans-field_send, Signs-send, ByteSet-here.the_send, crosses, maps.crosses, sendable) depth 40 fits 20000
 
 RegexPattern-field_sync : IsSync (RegexPattern.the_field).row
 RegexPattern-field_sync = search (Program-field_sync, crosses, maps.crosses, sendable) depth 40 fits 20000
 
+RegexPattern-field_send : IsSend (RegexPattern.the_field).row
+RegexPattern-field_send = search (Program-field_send, crosses, maps.crosses, sendable) depth 40 fits 20000
+
 Regex-field_sync : IsSync (Regex.the_field).row
 Regex-field_sync = search (RegexPattern-field_sync, crosses, maps.crosses, sendable) depth 40 fits 20000
+
+Regex-field_send : IsSend (Regex.the_field).row
+Regex-field_send = search (RegexPattern-field_send, crosses, maps.crosses, sendable) depth 40 fits 20000
 
 Whole-sync : IsSync Whole.the_row
 Whole-sync = search (Regex-field_sync, crosses, maps.crosses, sendable) depth 40 fits 20000
 
+Whole-send : IsSend Whole.the_row
+Whole-send = search (Regex-field_send, crosses, maps.crosses, sendable) depth 40 fits 20000
+
 Patterns-sync : IsSync Patterns.the_row
-Patterns-sync = search (Seq-here.the_sync, Whole-sync, crosses, maps.crosses, sendable) depth 40 fits 20000
+Patterns-sync = search (Seq-here.the_send, Seq-here.the_sync, Whole-send, Whole-sync, crosses, maps.crosses, sendable) depth 40 fits 20000
 
 Reader-sync : IsSync Reader.the_row
 Reader-sync = search (Schema-send, Schema-sync, Patterns-sync, crosses, maps.crosses, sendable) depth 40 fits 20000

@@ -1,5 +1,5 @@
 -- The values of a script that was read are JSON.
-use Rattle.std.proofs.Common.{◌≡◌, ℕ, zero, suc, ◌+◌, ◌<◌, true, List, [], ◌∷◌, length, map, get_or, codes, option_and_then, Result, Ok, Err, refl, ap, ◌∙◌, subst, arith}
+use Rattle.std.proofs.Common.{◌≡◌, ℕ, zero, suc, ◌+◌, ◌<◌, true, List, [], ◌∷◌, length, map, get_or, codes, option_and_then, Some, Result, Ok, Err, refl, ap, ◌∙◌, subst, arith}
 use Rattle.std.proofs.lemmas.Bool.{and_from, and_parts}
 use Rattle.std.specs.List.{list_all}
 use Rattle.sal_types.specs.Reading.{◌>>=◌}
@@ -178,6 +178,13 @@ object_read bytes d ms value members =
     let is : Given {F = List ℕ} IsJson (Ok d) = subst (Given IsJson) value (or_else_bad IsJson (codes "json") (data_of bytes) (data_json bytes)) in
     let has : Given {F = List ℕ} HasJson (Ok ms) = subst (Given HasJson) members (or_else_bad HasJson (codes "script") (members_of names d) (members_json names d is)) in
     has
+
+-- a step by itself
+pub step_read : (bytes : List ℕ) (d : Data) (m : Move) → or_bad (codes "json") (data_of bytes) ≡ Ok d → step_of d ≡ Some m → is_json_move m ≡ true
+step_read bytes d m value step =
+    let is : Given {F = List ℕ} IsJson (Ok d) = subst (Given IsJson) value (or_else_bad IsJson (codes "json") (data_of bytes) (data_json bytes)) in
+    let has : If IsJsonMove (Some m) = subst (If IsJsonMove) step (step_json d is) in
+    move_passes m has
 
 pub opening_read : (name : List ℕ) (ms : Members) → HasJson ms → (d : Data) → or_bad name (opening_member name ms) ≡ Ok d → is_json d ≡ true
 opening_read name ms is d read =

@@ -247,3 +247,7 @@ abbrev pub script_of : List ℕ → Result Parts (List ℕ)
 script_of bytes =
     or_bad (codes "json") (data_of bytes)
     >>= (λ d. or_bad (codes "script") (members_of names d) >>= parts_of)
+
+-- the one step that bytes stand for
+abbrev pub one_step : List ℕ → Result Move (List ℕ)
+one_step bytes = or_bad (codes "json") (data_of bytes) >>= (λ d. or_bad (codes "step") (step_of d))

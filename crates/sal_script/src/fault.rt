@@ -11,7 +11,7 @@ use thiserror::Error;
 #[derive(Debug, Drop, PartialEq, Eq, Error)]
 pub enum ScriptFault {
     /// The first bad place: `json`, `script`, `devices/1`, `clients`, `clients/1`, `clients/1/7` or `order`.
-    #[error("bad script")]
+    #[error("bad script at {}", .place.as_str())]
     BadScript { place: Str },
     #[error("out of memory")]
     NoMemory,

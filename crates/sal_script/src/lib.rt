@@ -7,6 +7,7 @@
 //! | `StepReply`, `StepRefusal` | what a step is answered; why it made no call |
 //! | `DomainTrees` | the trees of a domain at the end of a run |
 //! | `read_script` | the script that bytes stand for, or the first bad place |
+//! | `read_step` | the one step that bytes stand for |
 //! | `ScriptFault` | why bytes are no script |
 //! | `load_script` | the script of a load: four clients that put entries into one list, each its own |
 //!
@@ -63,7 +64,7 @@ mod values;
 
 pub use fault::ScriptFault;
 pub use load::{LOAD_CLIENTS, LOAD_MODULE, MAX_ROUNDS, MAX_START, load_script};
-pub use read::read_script;
+pub use read::{read_script, read_step};
 pub use reply::{StepRefusal, StepReply};
 pub use script::{
     MAX_CLIENTS, MAX_DEVICES, MAX_PROGRAM, MAX_UPGRADES, PLAIN, Program, Script, ScriptDevice,

@@ -2,11 +2,11 @@
 ghost use Rattle.std.specs.Prelude.{◌≡◌, codes, map, option_and_then, option_map, IfOk, IsTrue};
 ghost use Rattle.serde_json.specs.View.{view, members_view};
 ghost use Rattle.sal_json_laws.specs.Json.{HasJson};
-ghost use Rattle.sal_script.specs.JsonMoves.{have_json_moves};
+ghost use Rattle.sal_script.specs.JsonMoves.{have_json_moves, is_json_move};
 ghost use Rattle.sal_script.specs.Json.{data_of};
 ghost use Rattle.sal_script.specs.Reading.{Reads, ReadsScript, devices, ending, parts};
 ghost use Rattle.sal_script.specs.Steps.{number_of};
-ghost use Rattle.sal_script.specs.Moves.{clients_of, moves_of};
+ghost use Rattle.sal_script.specs.Moves.{clients_of, move_of, moves_of};
 ghost use Rattle.sal_script.specs.Limits.{are_few, within_limits};
 ghost use Rattle.sal_script.specs.Script as spec;
 
@@ -44,6 +44,18 @@ fn value_of(alloc: Global, bytes: &[u8]) -> Result<Value, ScriptFault>
         Ok(value) => Ok(value),
         Err(error) if error.is_memory() => Err(ScriptFault::NoMemory),
         Err(_) => Err(bad(alloc, "json")),
+    }
+}
+
+/// The step that bytes stand for, by itself: JSON in the form of a client's steps. The place of one that they are not is `step`.
+pub fn read_step(alloc: Global, bytes: &[u8]) -> Result<ScriptStep, ScriptFault>
+    ensures reads { Reads move_of result (spec.one_step bytes.now) }
+    ensures json { IfOk result (λ step. IsTrue (is_json_move (move_of step))) }
+{
+    let value = value_of(alloc, bytes)?;
+    match step_of(alloc, &value)? {
+        Some(step) => Ok(step),
+        None => Err(bad(alloc, "step")),
     }
 }
 

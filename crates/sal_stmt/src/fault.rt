@@ -10,20 +10,20 @@ use thiserror::Error;
 pub enum StmtFault {
     /// The first byte at which no token can stand, or a token that the form does not allow there. It is 0 for a text of
     /// separators alone.
-    #[error("bad token")]
+    #[error("bad token at byte {at}")]
     BadToken { at: u32 },
     /// The backslash of a pair that is no escape.
-    #[error("bad escape")]
+    #[error("bad escape at byte {at}")]
     BadEscape { at: u32 },
     /// The text ends too early. Inside a quoted string or a block comment: its first byte. Else inside a statement before
     /// its `;` or `{`: its keyword. Else inside a block: the `{` of the innermost.
-    #[error("unclosed")]
+    #[error("unclosed at byte {at}")]
     Unclosed { at: u32 },
     /// The `{` of a 65th block that would be open.
-    #[error("too deep")]
+    #[error("too deep at byte {at}")]
     TooDeep { at: u32 },
     /// The first token behind the one statement.
-    #[error("text after the statement")]
+    #[error("text after the statement at byte {at}")]
     TextAfter { at: u32 },
     /// Memory ran out.
     #[error("out of memory")]

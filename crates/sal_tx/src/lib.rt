@@ -6,7 +6,6 @@
 //! | `WriteTx` | a transaction that writes, and reads unless its mode is write-only; a contract sees its parts, `Writing` |
 //! | `Tx`, `Begun` | either of them; how a transaction was begun |
 //! | `Submission` | a transaction that was handed in: base, view and operations |
-//! | `Changes` | its operations, with look-ups by path, and as a list that may be shared |
 //! | `edited` | a tree after one operation, as a decision makes it |
 //! | `first_steps` | the front of a path |
 //! | `TxFault`, `WriteOnly` | why a read or a write is refused |
@@ -32,14 +31,12 @@
 #![tactic(auto)]
 
 mod begun;
-mod changes;
 mod refusal;
 mod steps;
 mod tx;
 mod writing;
 
 pub use begun::Begun;
-pub use changes::Changes;
 pub use sal_rules::{TxFault, WriteOnly};
 pub use steps::first_steps;
 pub use tx::{ReadTx, Submission, Tx, WriteTx};

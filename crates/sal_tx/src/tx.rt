@@ -8,7 +8,6 @@ ghost use Rattle.sal_tx.specs.Views as spec;
 ghost use Rattle.sal_rules.specs.Writes.{IsForSchema};
 
 use crate::begun::Begun;
-use crate::changes::Changes;
 use crate::writing::{Writing, set_tree, written};
 use sal_mod::Mod;
 use sal_rows::{Act, Mode, Op, Ops, Rows};
@@ -64,7 +63,7 @@ pub struct Submission {
     pub base_commit: u64,
     pub base: Pair,
     pub view: Pair,
-    pub changes: Changes,
+    pub changes: Mod,
 }
 
 impl ReadTx {
@@ -202,6 +201,21 @@ impl WriteTx {
         ensures right { spec.IsRight self.now }
     {
         self.parts.changes.ops()
+    }
+
+    /// The list of its operations, which the log may have too: no copy of it is made.
+    pub fn share_ops(&mut self, alloc: Global) -> Result<Arc<Ops>, NoMemory>
+        ensures same { self.new ≡ self.old }
+        ensures list { IfOk result (λ list. list.value ≡ self.old.changes) }
+    {
+        self.parts.changes.share(alloc)
+    }
+
+    /// The list of its operations, or a copy of it if it is not shared.
+    pub fn shared_ops(&self, alloc: Global) -> Result<Arc<Ops>, NoMemory>
+        ensures { IfOk result (λ list. list.value ≡ self.now.changes) }
+    {
+        self.parts.changes.shared(alloc)
     }
 
     fn only_writes(&self) -> bool
@@ -344,10 +358,8 @@ impl WriteTx {
         }
     }
 
-    /// The submission of this receipt: the transaction's chain, base, view and operations, of which the list is given. It takes no
-    /// memory.
-    pub fn into_submission(self, receipt: u64, ops: Arc<Ops>) -> Submission
-        requires { ops.value ≡ self.changes }
+    /// The submission of this receipt: the transaction's chain, base, view and operations. It takes no memory.
+    pub fn into_submission(self, receipt: u64) -> Submission
         ensures submission { result ≡ record { receipt = receipt; domain = self.begun.domain; chain = self.begun.chain; base_commit = self.begun.base_commit; base = self.base; view = self.view; changes = self.changes } }
         ensures right { spec.IsRight self }
     {
@@ -365,7 +377,7 @@ impl WriteTx {
             base_commit: begun.base_commit,
             base,
             view,
-            changes: Changes::of(changes, ops),
+            changes,
         }
     }
 }

@@ -8,13 +8,16 @@ use sal_module::{BuildFault, What};
 use sal_stmt::StmtFault;
 use sal_types::{NoMemory, Str};
 use std::alloc::{AllocError, AllocFailed, Global};
+use thiserror::Error;
 
 /// Why modules build no schema.
-#[derive(Debug, Drop, PartialEq, Eq)]
+#[derive(Debug, Drop, PartialEq, Eq, Error)]
 pub enum SchemaFault {
     /// The first fault: `module 0 unclosed 9`, `module 0 file-name line.yang`, or `build missing 0 0 namespace`, or of an upgrade `upgrade 1 module 1 unclosed 9`.
+    #[error("bad schema: {}", .text.as_str())]
     Bad { text: Str },
     /// Memory ran out.
+    #[error("out of memory")]
     NoMemory,
 }
 

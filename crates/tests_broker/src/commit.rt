@@ -9,12 +9,11 @@ use crate::schemas::{Shape, device};
 use sal_commit::{Domain, Prepared, can, decide, pre};
 use sal_history::Device;
 use sal_mod::Mod;
-use sal_rows::{Op, Ops, Outcome, Rows, Rules};
+use sal_rows::{Op, Outcome, Rows, Rules};
 use sal_tree::{Commit, Pair};
-use sal_tx::{Changes, Submission};
-use sal_types::{Duplicate, NoMemory, Row, Seq};
+use sal_tx::Submission;
+use sal_types::{Duplicate, NoMemory, Row};
 use std::alloc::Global;
-use std::sync::Arc;
 use std::test::Fail;
 
 // ---- openings
@@ -45,15 +44,6 @@ pub(crate) fn opened(alloc: Global, shapes: &[Shape], rows: Vec<Row>) -> Result<
 
 // ---- submissions of one operation
 
-// The list of the one operation.
-fn listed(alloc: Global, op: &Op) -> Result<Arc<Ops>, NoMemory>
-    ensures { IfOk result (λ list. list.value ≡ op.now ∷ []) }
-{
-    let list = vec![in alloc; op.copy()?]?;
-    let shared = Arc::new(alloc, Seq::from_items(list))?;
-    Ok(shared)
-}
-
 fn looked_up(alloc: Global, op: Op) -> Result<Mod, NoMemory>
     ensures { IfOk result (λ changes. changes ≡ op ∷ []) }
 {
@@ -65,15 +55,14 @@ fn looked_up(alloc: Global, op: Op) -> Result<Mod, NoMemory>
 }
 
 /// The changes of a transaction of one operation.
-pub(crate) fn changed(alloc: Global, wish: Wish) -> Result<Changes, Fail>
+pub(crate) fn changed(alloc: Global, wish: Wish) -> Result<Mod, Fail>
     ensures { IfOk result (λ changes. LieBelow changes) }
 {
     let op = op_of(alloc, wish)?;
     if !lies_below(&op) {
         return Err("rows beside the path".into());
     }
-    let list = listed(alloc, &op)?;
-    Ok(Changes::of(looked_up(alloc, op)?, list))
+    Ok(looked_up(alloc, op)?)
 }
 
 fn copies(trees: &Pair) -> Result<(Pair, Pair), NoMemory> {
@@ -140,13 +129,21 @@ fn number_of(outcome: &Outcome) -> u64 {
     }
 }
 
-/// Decides such a submission: the number of its commit, or 0.
-pub(crate) fn decided(domain: &mut Domain, alloc: Global, wish: Wish) -> Result<u64, Fail>
+/// Decides such a submission.
+pub(crate) fn outcome_of(domain: &mut Domain, alloc: Global, wish: Wish) -> Result<Outcome, Fail>
     requires { AreKept domain.old.commits.items }
     ensures { IfOk result (λ o. AreKept domain.new.commits.items) }
 {
     let sub = submission(alloc, domain, wish)?;
-    let outcome = decide(alloc, &sub, domain, None, sub.receipt * 2 + 1)?;
+    Ok(decide(alloc, &sub, domain, None, sub.receipt * 2 + 1)?)
+}
+
+/// The same: the number of its commit, or 0.
+pub(crate) fn decided(domain: &mut Domain, alloc: Global, wish: Wish) -> Result<u64, Fail>
+    requires { AreKept domain.old.commits.items }
+    ensures { IfOk result (λ o. AreKept domain.new.commits.items) }
+{
+    let outcome = outcome_of(domain, alloc, wish)?;
     Ok(number_of(&outcome))
 }
 

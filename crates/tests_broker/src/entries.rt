@@ -72,10 +72,15 @@ pub(crate) fn add(rows: &mut Vec<Row>, row: Row) -> Result<(), NoMemory> {
     Ok(())
 }
 
+/// Puts the rows of an entry without its leaf at the end.
+pub(crate) fn add_bare(rows: &mut Vec<Row>, alloc: Global, key: u64) -> Result<(), NoMemory> {
+    add(rows, mark(alloc, key)?)?;
+    add(rows, number_row(alloc, key, 1, key)?)
+}
+
 /// Puts the rows of an entry at the end.
 pub(crate) fn add_entry(rows: &mut Vec<Row>, alloc: Global, key: u64) -> Result<(), NoMemory> {
-    add(rows, mark(alloc, key)?)?;
-    add(rows, number_row(alloc, key, 1, key)?)?;
+    add_bare(rows, alloc, key)?;
     add(rows, number_row(alloc, key, 2, 0)?)
 }
 

@@ -4,6 +4,8 @@
 #[cfg(test)]
 mod commit;
 #[cfg(test)]
+mod compared;
+#[cfg(test)]
 mod entries;
 #[cfg(test)]
 mod made;

@@ -7,8 +7,8 @@ use crate::ops::Wish;
 use crate::schemas::{Shape, container, leaf, list};
 use sal_commit::Domain;
 use sal_graft::{conflict, foreign_spans};
+use sal_mod::Mod;
 use sal_rows::{Clash, Rules};
-use sal_tx::Changes;
 use sal_types::{NoMemory, Row};
 use std::alloc::Global;
 use std::test::Fail;
@@ -62,17 +62,17 @@ fn all_are_next(domain: &mut Domain, alloc: Global, count: u64) -> Result<bool, 
 
 // ---- conflicts over all of them
 
-fn clash(alloc: Global, domain: &Domain, changes: &Changes) -> Result<Option<Clash>, Fail>
+fn clash(alloc: Global, domain: &Domain, changes: &Mod) -> Result<Option<Clash>, Fail>
     requires { AreKept domain.now.commits.items }
 {
     let spans = foreign_spans(alloc, 0, None, &domain.commits)?;
     let base = &domain.commits[0].trees;
-    let found = conflict(changes.lookups(), base, &spans, &domain.commits, Rules::One);
+    let found = conflict(changes, base, &spans, &domain.commits, Rules::One);
     Ok(found)
 }
 
 // Whether these changes never have a conflict.
-fn is_free(alloc: Global, domain: &Domain, changes: &Changes, times: u64) -> Result<bool, Fail>
+fn is_free(alloc: Global, domain: &Domain, changes: &Mod, times: u64) -> Result<bool, Fail>
     requires { AreKept domain.now.commits.items }
 {
     for _ in 0..times {
@@ -99,7 +99,7 @@ fn commit_of(clash: &Option<Clash>) -> u64 {
 }
 
 // The commit that these changes are in conflict with, or 0.
-fn named(alloc: Global, domain: &Domain, changes: &Changes) -> Result<u64, Fail>
+fn named(alloc: Global, domain: &Domain, changes: &Mod) -> Result<u64, Fail>
     requires { AreKept domain.now.commits.items }
 {
     let clash = clash(alloc, domain, changes)?;

@@ -1,0 +1,19 @@
+//! One client of a data broker asks another one by an RPC, and gets its answer.
+//!
+//! A provider registers for the RPC `next-number`. A caller makes a request with a number. The provider takes the request and answers it with
+//! the next number. The caller collects the answer. Each client has a seat of its own; both are on one thread here, and could be on two.
+//!
+//! | file | what it shows |
+//! |---|---|
+//! | `service` | an RPC of a schema, and its data as rows |
+//! | `talk` | provide, invoke, take the request, answer, collect |
+#![tactic(auto)]
+
+mod service;
+mod talk;
+
+fn main(rt: HostRuntime) -> anyhow::Result<()> {
+    let answer = talk::next_number(&rt, rt.alloc(), 41)?;
+    println!(rt; "the number after 41 is {answer}")?;
+    Ok(())
+}

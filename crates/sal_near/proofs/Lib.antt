@@ -1,0 +1,3 @@
+pub mod FirstBelow
+pub mod Nearby
+pub mod StateData

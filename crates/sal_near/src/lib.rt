@@ -1,0 +1,29 @@
+//! Whether rows that were patched are closed and without state data, by a look near the patches.
+//!
+//! | item | what it is |
+//! |---|---|
+//! | `are_near` | whether patched rows are closed, if they were before |
+//! | `leave_state` | whether patched rows have state data, if they had none before |
+//! | `laws` | functions that do nothing; their contracts say that both tests are exact |
+//!
+//! `specs/Near` defines both tests. A tree is closed if each list entry and presence container above a row has its own row, and an entry its key
+//! leafs (`is_closed` of `sal_schema`). Patches change the cells at their own paths alone. So of the entries and presence containers only those at
+//! the paths of patches, and above them, can cease to be whole.
+//!
+//! ```
+//! rows.patch(patches.copy()?)?;
+//! let closed = are_near(&schema, &rows, patches.items());
+//! ```
+//!
+//! Costs: for each entry and presence container above a patch, one search by halves for its row and one for each key leaf; those above the patch
+//! before it are passed over. If one is not whole, one search more, for a row below it. Neither call takes memory.
+#![tactic(auto)]
+
+mod cells;
+pub mod laws;
+mod near;
+mod state;
+mod whole;
+
+pub use near::are_near;
+pub use state::leave_state;

@@ -1,0 +1,4 @@
+pub mod Trees
+pub mod Plain
+pub mod Named
+pub mod Tallied

@@ -1,11 +1,21 @@
-"""The kit that these tools find, and the crates of crates.txt: what tools/over, tools/quick and tools/unproved share."""
+"""The kit that the tools find, and the crates of crates.txt.
+
+The tools know two kits. `rt ci` of rattle-kit-13f takes names of crates and keeps what it proved; that of rattle-kit-13b does neither, and
+tools/parts proves by parts and keeps (tools/kept.py).
+"""
+import importlib.machinery
+import importlib.util
+import inspect
 import os
 import subprocess
 import sys
 
 KIT = os.environ.get("RATTLE_KIT", "/opt/rattle")
 ROOT = os.path.dirname(os.path.dirname(os.path.abspath(__file__)))
-MADE_FOR = "rattle-kit-13f"  # whose words and files the tools read
+KNOWN = ("rattle-kit-13b", "rattle-kit-13f")  # whose words, files and insides the tools read
+# Names that the tools read in `rt` of a kit that keeps, and of one that does not; and how many arguments its crates_of takes.
+KEEPING = (("Kept",), 1)
+PLAIN = (("BACKENDS", "IGNORED", "REACHES", "RENAMES", "edits_of", "in_lanes", "must_fail_all", "need", "run", "stop_on_words"), 2)
 
 
 def found():
@@ -15,11 +25,28 @@ def found():
 
 
 def tell(tool):
-    """Warns if the kit is another one than the tool was made for, and returns its name."""
+    """Stops if there is no kit, warns if the tools do not know it, and returns its name."""
+    if not os.access(f"{KIT}/bin/rt", os.X_OK):
+        sys.exit(f"{tool}: there is no Rattle kit in {KIT}: RATTLE_KIT names its folder")
     name = found()
-    if name != MADE_FOR:
-        print(f"{tool}: it was made for {MADE_FOR}, and this is {name}: if it fails, or its answer looks odd, look there first", file=sys.stderr)
+    if name not in KNOWN:
+        print(f"{tool}: it knows {' and '.join(KNOWN)}, and this is {name}: if it fails, or its answer looks odd, look there first", file=sys.stderr)
     return name
+
+
+def command(tool):
+    """Returns the kit's own `rt` as a module, and whether its `rt ci` keeps what it proved. Stops if it lacks what the tools read in it."""
+    name = tell(tool)
+    sys.path.insert(0, f"{KIT}/bin")
+    loader = importlib.machinery.SourceFileLoader("rt", f"{KIT}/bin/rt")
+    module = importlib.util.module_from_spec(importlib.util.spec_from_loader("rt", loader))
+    loader.exec_module(module)
+    keeps = hasattr(module, "Kept")
+    names, arguments = KEEPING if keeps else PLAIN
+    lacking = [it for it in ("Crate", "crates_of", "handles_of", *names) if not hasattr(module, it)]
+    if lacking or len(inspect.signature(module.crates_of).parameters) != arguments:
+        sys.exit(f"{tool}: `rt` of {name} is not made as in {' or '.join(KNOWN)}{': it lacks ' if lacking else ''}{', '.join(lacking)}. Take `rt ci`, or tools/quick")
+    return module, keeps
 
 
 def crates():

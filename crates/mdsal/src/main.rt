@@ -1,6 +1,7 @@
 //! The data broker's command: `mdsal run` runs a script's clients on threads over one broker and writes what each saw and
 //! what was committed; `mdsal sim` plays them in the script's order; `mdsal load` runs four clients of its own; `mdsal schema`
-//! judges a script's modules; `mdsal owner` plays steps of clients that agree on owners of entities.
+//! judges a script's modules; `mdsal owner` plays steps of clients that agree on owners of entities; `mdsal export` writes commits as frames,
+//! `mdsal follow` rebuilds trees from them, and `mdsal feed` hands notifications from thread to thread.
 //!
 //! It gives the words of its command line, standard input and standard output to the top call of `sal_command`, and ends
 //! with the status that this answers.

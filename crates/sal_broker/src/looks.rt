@@ -1,5 +1,5 @@
 //! Looks for a mark, a turn each.
-ghost use Rattle.std.specs.Prelude.{◌≡◌, ◌⊎◌, ◌+◌, true, Some, IfOk, length};
+ghost use Rattle.std.specs.Prelude.{◌≡◌, ◌⊎◌, ◌+◌, ◌≤◌, ◌<◌, true, false, Some, IfOk, length};
 ghost use mathlib.Core.List.{IsPrefix};
 ghost use Rattle.sal_history.specs.declared.call.Call.TheVariants.{After};
 ghost use Rattle.sal_turn.specs.Entries.{entries_by};
@@ -70,7 +70,8 @@ impl Sal {
     }
 
     /// Takes turns, without an entry, until one finds a log that has the mark, or `MAX_LOOKS` turns were taken; that turn is
-    /// the caller's. It waits between them as `after` does.
+    /// the caller's. Where it is not the first, the log that the turn before it left, which the seat has seen, has no such mark: so no
+    /// turn is taken behind one that found it. It waits between them as `after` does.
     pub fn enter_after<R: Wait>(&self, rt: &R, seat: Seat, mark: u32) -> Held
         requires { seat.lock ≡ self.now }
         ensures same { (result.lock ≡ self.now) × SameRights seat.view result.view × (result.view.own ≡ seat.view.own) }
@@ -80,6 +81,8 @@ impl Sal {
         ensures own { entries_by client_of seat.view.number result.found.log ≡ seat.view.own }
         ensures tokens { TokensStay (known seat.view) result.found }
         ensures looks { (has_mark result.found.log mark ≡ true) ⊎ (result.view.turns + 1 ≡ seat.view.turns + 4194304) }
+        ensures turns { (seat.view.turns ≤ result.view.turns) × (result.view.turns < seat.view.turns + 4194304) }
+        ensures missed { (result.view.turns ≡ seat.view.turns) ⊎ (has_mark result.view.seen mark ≡ false) }
     {
         laws::tokens_stay();
         let mut held = self.enter(rt, seat);
@@ -105,6 +108,7 @@ impl Sal {
         ensures seen { IsPrefix held.found.log result.found.log }
         ensures own { entries_by client_of held.view.number result.found.log ≡ held.view.own }
         ensures turns { result.view.turns ≡ held.view.turns + 1 }
+        ensures before { result.view.seen ≡ held.found.log }
     {
         let seat = self.leave(held);
         patience.wait(rt, &self.growth);

@@ -13,12 +13,21 @@ use Rattle.sal_script.specs.SomeOrder.{IsReportInSomeOrder}
 use Rattle.sal_script_laws.specs.Numbers.{load_text}
 use Rattle.sal_owner_script.specs.Replies as replies
 use Rattle.sal_versions.specs.Schemas.{table_of}
-use Rattle.sal_prepare.specs.Scripted.{Comes, IsStatusOf, Prepared, or_schema, or_script, prepared}
+use Rattle.sal_prepare.specs.Scripted.{IsStatusOf, Prepared, or_schema, or_script, prepared}
+use Rattle.sal_prepare.specs.Texts.{IsTextStatus}
+use Rattle.sal_feed_script.specs.Feeding.{feed_text}
+use Rattle.sal_follow_script.specs.Exports.{export_text}
+use Rattle.sal_follow_script.specs.Follows.{follow_text}
+use Rattle.sal_picture.specs.Pictured.{draw_text}
 use Rattle.sal_command.specs.declared.top.TheConstants.{HELP, VERSION}
 use Rattle.sal_prepare.specs.declared.status.Status.{Status}
 use Rattle.sal_prepare.specs.declared.status.Status.TheVariants.{Done, BadWords, ReadFault, WriteFault, TooLong, BadScript, BadSchema, BadOpening, BadOrder, NoMemory, NoPart, BadStream, BadExport}
 use Rattle.sal_command.specs.declared.words.Form.{Form}
-use Rattle.sal_command.specs.declared.words.Form.TheVariants.{Run, Sim, Load, Schema, Owner, Help, Version}
+use Rattle.sal_command.specs.declared.texts.Made.{Made}
+use Rattle.sal_command.specs.declared.texts.Made.TheVariants as made_as
+use Rattle.sal_command.specs.declared.words.Form.TheVariants.{Run, Text, Load, Feed, Help, Version}
+use Rattle.sal_command.specs.declared.words.TextForm.{TextForm}
+use Rattle.sal_command.specs.declared.words.TextForm.TheVariants.{Sim, Schema, Owner, Export, Follow, Draw}
 
 -- ---- what a script comes to
 
@@ -39,12 +48,19 @@ sim_text bytes = prepared bytes >>= (λ script. play_over script.parts script.wo
 abbrev pub RunsTo : List ℕ → Result (List ℕ) Status → Type 0
 RunsTo bytes (Ok text) = (script : Prepared) × (prepared bytes ≡ Ok script) × IsReportInSomeOrder script.world script.parts.clients text
 RunsTo bytes (Err (BadOrder index)) = ⊥
+RunsTo bytes (Err NoPart) = ⊥
+RunsTo bytes (Err (BadStream text)) = ⊥
+RunsTo bytes (Err (BadExport commit)) = ⊥
 RunsTo bytes (Err status) = prepared bytes ≡ Err status
 
 -- A load: the one summary that its clients come to, whatever the order of their shared calls is. Its own script is always a script,
 -- so it comes to nothing else.
 abbrev pub LoadsTo : ℕ → ℕ → List ℕ → Type 0
 LoadsTo rounds start text = text ≡ load_text rounds start
+
+-- A feed: the one text that its notes come to, whatever the threads do.
+abbrev pub FeedsTo : ℕ → ℕ → List ℕ → Type 0
+FeedsTo notes capacity text = text ≡ feed_text notes capacity
 
 -- the text of the schema that the modules of the controller's own domain build
 abbrev pub modules_text : List (List ℕ) → Result (List ℕ) Status
@@ -62,6 +78,15 @@ or_bad_script (Err place) = Err (BadScript place)
 -- the replies to the steps of owners that the bytes stand for, made in their order
 abbrev pub owner_text : List ℕ → Result (List ℕ) Status
 owner_text bytes = or_bad_script (replies.owner_text bytes)
+
+-- the text of a form that makes it of its input alone, or the status of the first that is wrong
+abbrev pub made_text : TextForm → List ℕ → Result (List ℕ) Status
+made_text Sim bytes = sim_text bytes
+made_text Schema bytes = schema_text bytes
+made_text Owner bytes = owner_text bytes
+made_text Export bytes = export_text bytes
+made_text Follow bytes = follow_text bytes
+made_text (Draw range) bytes = draw_text range bytes
 
 -- a text that is made of the bytes, or its status, is this one
 abbrev pub IsMadeBy : (List ℕ → Result (List ℕ) Status) → List ℕ → Result (List ℕ) Status → Type 0
@@ -92,12 +117,12 @@ TextAnswers comes before after given given' (BadScript place) = ReadsInput comes
 TextAnswers comes before after given given' (BadSchema device text) = ReadsInput comes before after (Err (BadSchema device text)) × (given' ≡ given)
 TextAnswers comes before after given given' (BadOpening text) = ReadsInput comes before after (Err (BadOpening text)) × (given' ≡ given)
 TextAnswers comes before after given given' (BadOrder index) = ReadsInput comes before after (Err (BadOrder index)) × (given' ≡ given)
+TextAnswers comes before after given given' NoPart = ReadsInput comes before after (Err NoPart) × (given' ≡ given)
+TextAnswers comes before after given given' (BadStream text) = ReadsInput comes before after (Err (BadStream text)) × (given' ≡ given)
+TextAnswers comes before after given given' (BadExport commit) = ReadsInput comes before after (Err (BadExport commit)) × (given' ≡ given)
 TextAnswers comes before after given given' ReadFault = given' ≡ given
 TextAnswers comes before after given given' NoMemory = given' ≡ given
 TextAnswers comes before after given given' BadWords = ⊥
-TextAnswers comes before after given given' NoPart = ⊥
-TextAnswers comes before after given given' (BadStream text) = ⊥
-TextAnswers comes before after given given' (BadExport commit) = ⊥
 
 -- What a form did that reads no input, and comes to a text whatever its words say. Where memory ran out nothing was written.
 abbrev pub OwnAnswers : (List ℕ → Type 0) → Option (List ℕ) → Option (List ℕ) → Status → Type 0
@@ -110,10 +135,9 @@ OwnAnswers comes given given' status = ⊥
 abbrev pub Answers : Option Form → Option (List ℕ) → Option (List ℕ) → Option (List ℕ) → Option (List ℕ) → Status → Type 0
 Answers None before after given given' status = (status ≡ BadWords) × (after ≡ before) × (given' ≡ given)
 Answers (Some Run) before after given given' status = TextAnswers RunsTo before after given given' status
-Answers (Some Sim) before after given given' status = TextAnswers (IsMadeBy sim_text) before after given given' status
+Answers (Some (Text form)) before after given given' status = TextAnswers (IsMadeBy (made_text form)) before after given given' status
 Answers (Some (Load rounds start)) before after given given' status = (after ≡ before) × OwnAnswers (LoadsTo rounds start) given given' status
-Answers (Some Schema) before after given given' status = TextAnswers (IsMadeBy schema_text) before after given given' status
-Answers (Some Owner) before after given given' status = TextAnswers (IsMadeBy owner_text) before after given given' status
+Answers (Some (Feed notes capacity)) before after given given' status = (after ≡ before) × OwnAnswers (FeedsTo notes capacity) given given' status
 Answers (Some Help) before after given given' status = (after ≡ before) × Written HELP.now given given' status
 Answers (Some Version) before after given given' status = (after ≡ before) × Written VERSION.now given given' status
 
@@ -124,14 +148,14 @@ abbrev pub IsMade : {A : Type 0} → (List ℕ → Result A Status) → Option (
 IsMade {A} make (Some bytes) = (length bytes ≤ 16777216) × ((made : A) × (make bytes ≡ Ok made))
 IsMade {A} make None = ⊥
 
--- Words that are known, with an input that is valid for them. A run asks nothing of the order of the script, and a load nothing at all.
+-- Words that are known, with an input that is valid for them. A run asks nothing of the order of the script, and a load and a feed nothing
+-- at all.
 abbrev pub IsValid : Option Form → Option (List ℕ) → Type 0
 IsValid None before = ⊥
 IsValid (Some Run) before = IsMade prepared before
-IsValid (Some Sim) before = IsMade sim_text before
+IsValid (Some (Text form)) before = IsMade (made_text form) before
 IsValid (Some (Load rounds start)) before = ⊤
-IsValid (Some Schema) before = IsMade schema_text before
-IsValid (Some Owner) before = IsMade owner_text before
+IsValid (Some (Feed notes capacity)) before = ⊤
 IsValid (Some Help) before = ⊤
 IsValid (Some Version) before = ⊤
 
@@ -153,18 +177,14 @@ IsInputOr before after (Err ReadFault) = ⊤
 IsInputOr before after (Err NoMemory) = ⊤
 IsInputOr before after (Err status) = ⊥
 
--- the text that is made; nothing is said of want of memory
-abbrev pub IsTextOr : Result (List ℕ) Status → Result (List ℕ) Status → Type 0
-IsTextOr made result = Comes (λ text. text) made result
+-- the bytes of what was made
+abbrev pub bytes_of : Made → List ℕ
+bytes_of (made_as.Words text) = text
+bytes_of (made_as.Plain bytes) = bytes
 
--- the status that playing comes to
-abbrev pub IsPlayFault : Result (List ℕ) Status → Status → Type 0
-IsPlayFault made (BadOrder index) = made ≡ Err (BadOrder index)
-IsPlayFault made status = IsStatusOf made status
-
--- the text that playing comes to; nothing is said of want of memory
-abbrev pub IsPlayOr : Result (List ℕ) Status → Result (List ℕ) Status → Type 0
-IsPlayOr made result = MatchResult result (λ text. made ≡ Ok text) (IsPlayFault made)
+-- what is made, or the status that the making comes to; nothing is said of want of memory
+abbrev pub IsMadeOr : Result (List ℕ) Status → Result Made Status → Type 0
+IsMadeOr made result = MatchResult result (λ it. made ≡ Ok (bytes_of it)) (IsTextStatus made)
 
 -- a text that running may come to; nothing is said of want of memory
 abbrev pub IsRunOr : List ℕ → Result (List ℕ) Status → Type 0

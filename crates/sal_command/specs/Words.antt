@@ -4,7 +4,10 @@ use Rattle.std.specs.Char.{is_ascii_digit}
 use Rattle.std.specs.List.{list_all}
 use Rattle.sal_script.specs.Json.{text_eq}
 use Rattle.sal_command.specs.declared.words.Form.{Form}
-use Rattle.sal_command.specs.declared.words.Form.TheVariants.{Run, Sim, Load, Schema, Owner, Help, Version}
+use Rattle.sal_command.specs.declared.words.Form.TheVariants.{Run, Text, Load, Feed, Help, Version}
+use Rattle.sal_command.specs.declared.words.TextForm.{TextForm}
+use Rattle.sal_command.specs.declared.words.TextForm.TheVariants.{Sim, Schema, Owner, Export, Follow, Draw}
+use Rattle.sal_draw_script.specs.declared.rows.Range.{Range}
 
 -- ---- numbers
 
@@ -40,26 +43,53 @@ number_of least most word = option_and_then (within least most) (plain_value wor
 
 -- ---- forms
 
+-- the entries from one place of the log to another
+abbrev pub range_of : ℕ → ℕ → Range
+range_of from to = record { from = from; to = to }
+
+-- a form whose text is made of its input alone
+abbrev pub text_form_named : List ℕ → Option TextForm
+text_form_named word =
+    if text_eq word (codes "sim") then Some Sim
+    else (if text_eq word (codes "schema") then Some Schema
+    else (if text_eq word (codes "owner") then Some Owner
+    else (if text_eq word (codes "export") then Some Export
+    else (if text_eq word (codes "follow") then Some Follow
+    else (if text_eq word (codes "draw") then Some (Draw (range_of 0 1000000)) else None)))))
+
 -- the form of a single word
 abbrev pub form_named : List ℕ → Option Form
 form_named word =
     if text_eq word (codes "run") then Some Run
-    else (if text_eq word (codes "sim") then Some Sim
-    else (if text_eq word (codes "schema") then Some Schema
-    else (if text_eq word (codes "owner") then Some Owner
     else (if text_eq word (codes "--help") then Some Help
-    else (if text_eq word (codes "--version") then Some Version else None)))))
+    else (if text_eq word (codes "--version") then Some Version else option_map Text (text_form_named word)))
 
 -- a load of 1 to 10,000 rounds, behind a number of at most 65,536
 abbrev pub load_of : List ℕ → List ℕ → Option Form
 load_of rounds start = option_and_then (λ n. option_map (Load n) (number_of 0 65536 start)) (number_of 1 10000 rounds)
 
+-- 1 to 100,000 notes over a feed in which 1 to 4,096 wait at most
+abbrev pub feed_of : List ℕ → List ℕ → Option Form
+feed_of notes capacity = option_and_then (λ n. option_map (Feed n) (number_of 1 4096 capacity)) (number_of 1 100000 notes)
+
+-- the entries from a place of at most 1,000,000 to one that is not before it
+abbrev pub draw_of : List ℕ → List ℕ → Option Form
+draw_of from to = option_and_then (λ n. option_map (λ m. Text (Draw (range_of n m))) (number_of n 1000000 to)) (number_of 0 1000000 from)
+
+-- the form of a word with two numbers
+abbrev pub numbered : List ℕ → List ℕ → List ℕ → Option Form
+numbered word first second =
+    if text_eq word (codes "load") then load_of first second
+    else (if text_eq word (codes "feed") then feed_of first second
+    else (if text_eq word (codes "draw") then draw_of first second else None))
+
 abbrev pub form_of : List (List ℕ) → Option Form
 form_of (word ∷ []) = form_named word
-form_of (word ∷ rounds ∷ start ∷ []) = if text_eq word (codes "load") then load_of rounds start else None
+form_of (word ∷ first ∷ second ∷ []) = numbered word first second
 form_of words = None
 
--- the numbers of a load are within their limits
+-- the numbers of a load and of a feed are within their limits
 abbrev pub IsWithin : Form → Type 0
 IsWithin (Load rounds start) = (rounds ≤ 10000) × (start ≤ 65536)
+IsWithin (Feed notes capacity) = (notes ≤ 100000) × (1 ≤ capacity) × (capacity ≤ 4096)
 IsWithin form = ⊤

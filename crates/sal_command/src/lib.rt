@@ -4,14 +4,19 @@
 //! |---|---|
 //! | `top` | the top call `mdsal`, with the texts of its help and its version |
 //! | `words` | the forms of the command line |
+//! | `texts` | the texts that are made of an input alone |
+//! | `played` | the report of a script: run, or played in its order |
 //! | `reported` | what a script came to, as text |
 //! | `loaded` | a load: from its two numbers to its summary |
 //!
 //! The script is prepared by `sal_prepare`, run by `sal_run` over the broker or played by `sal_client` over a hub, and told by `sal_report`. The steps of
-//! `owner` are read, played and told by `sal_owner_script`.
+//! `owner` are read, played and told by `sal_owner_script`. Frames are exported and followed by `sal_follow_script`, and notifications handed over by
+//! `sal_feed_script`.
 #![tactic(auto)]
 
 mod loaded;
+mod played;
 mod reported;
+mod texts;
 pub mod top;
 pub mod words;

@@ -1,33 +1,19 @@
 //! The top call: all that the command does.
-ghost use Rattle.std.specs.Prelude.{◌≡◌, ◌↔◌, ◌≤◌, [], None, Ok, Err, IfOk, IfErr, MatchResult, length};
+ghost use Rattle.std.specs.Prelude.{◌≡◌, ◌↔◌, ◌≤◌, None, IfErr};
 ghost use Rattle.sal_io.specs.Causes.{Rose};
 ghost use Rattle.sal_command.specs.Words.{form_of};
-ghost use Rattle.sal_script.specs.Moves.{clients_of};
-ghost use Rattle.sal_client.specs.Runs.{PlaysAs};
-ghost use Rattle.sal_script.specs.Along.{AreLogOf};
-ghost use Rattle.sal_script.specs.Play.{play as play_spec};
-ghost use Rattle.sal_script.specs.Reading.{parts};
-ghost use Rattle.sal_script.specs.Report.{report};
-ghost use Rattle.sal_script.specs.SomeOrder.{IsReportInSomeOrder};
-ghost use Rattle.sal_script.specs.Tables.{tables_of, versions_of};
-ghost use Rattle.sal_prepare.specs.Scripted.{tables_in};
 ghost use Rattle.sal_command.specs.Top as spec;
 
 use crate::loaded::load_text;
-use crate::reported::report_of;
-use crate::words::{Form, form_of};
-use sal_client::{PlayFault, Played, play};
-use sal_hub::Hub;
+use crate::played::run_text;
+use crate::texts::made_by;
+use crate::words::{Form, TextForm, form_of};
+use sal_feed_script::feed_text;
 use sal_io::{Gate, ReadFail, Sink, Source, read_all, write_all};
-use sal_prepare::scripted::{self, Prepared, ReadScript};
 use sal_prepare::status::Status;
-use sal_run::run;
-use sal_schema::Schema;
-use sal_script::{Script, ScriptFault, laws};
 use sal_types::{NoMemory, Str};
 use std::alloc::Global;
-use std::mem;
-use std::sync::{Arc, Wait};
+use std::sync::Wait;
 use std::thread::Threads;
 
 /// How many bytes a script has at most.
@@ -41,6 +27,10 @@ usage: mdsal run < SCRIPT\n\
        mdsal load N S\n\
        mdsal schema < SCRIPT\n\
        mdsal owner < STEPS\n\
+       mdsal export < SCRIPT\n\
+       mdsal follow < SCRIPT, A ZERO BYTE, FRAMES\n\
+       mdsal feed N C\n\
+       mdsal draw [FROM TO] < SCRIPT, or A SCRIPT, A ZERO BYTE, A REPORT\n\
        mdsal --help | --version\n\
 \n\
 run reads a JSON script from standard input, runs its clients at the same time, each on a thread of its own, and\n\
@@ -58,6 +48,17 @@ schema reads a script too, and writes the table of the schema that its modules b
 owner reads a JSON array of steps, in which clients register for entities such as switches and ask who owns them, and writes\n\
 a line for each step with its reply. The first registered candidate of an entity owns it.\n\
 \n\
+export plays a script as sim does, and writes the commits of the controller's own domain as frames, which a follower takes.\n\
+\n\
+follow reads a script for its modules and upgrades, then a zero byte, then frames. It writes the line of the domain with the trees\n\
+of the last commit, as the report ends with it.\n\
+\n\
+feed hands N notifications, numbered from 0, from one thread to another over a feed in which C wait at most, and reads no input.\n\
+It writes how many came, and the sum of their numbers. N is 1 to 100000, and C 1 to 4096.\n\
+\n\
+draw plays a script as sim does, or in the order that the first line of the report tells, and writes a picture of what its clients\n\
+did to each other, as SVG, of the entries from place FROM of the log to place TO. FROM and TO are 0 to 1000000.\n\
+\n\
 exit status, each but 0 with its line on standard error:\n\
   0  done: the whole text was written\n\
   2  bad words: the command line is none of the forms above\n\
@@ -67,14 +68,17 @@ exit status, each but 0 with its line on standard error:\n\
   6  bad script at PLACE: the first bad place, as clients/0/2\n\
   7  bad schema DEVICE FAULT: the modules build no schema, as bad schema 0 module 0 unclosed 9\n\
   8  bad opening DEVICE STORE FAULT: an opening tree is no data of the schema, or it breaks a rule of it\n\
-  9  bad order at INDEX, sim alone: the order names a client without a shared call left, or ends too early\n\
- 10  no memory\n";
+  9  bad order at INDEX, sim, export and draw alone: the order names a client without a shared call left, or ends too early\n\
+ 10  no memory\n\
+ 11  no second part, follow alone: the input has no zero byte\n\
+ 12  bad stream FAULT, follow alone: bad-frame BYTE, gap WANTED FOUND or unfinished BYTE\n\
+ 13  bad export COMMIT, export alone: the text of a frame has more than 16777216 bytes\n";
 
 /// The name and version.
 pub const VERSION: &str = "mdsal 0.1.0\n";
 
 /// Runs the command: the words of its command line, its input, its output, and the gate that a client passes before
-/// each of its steps. With `run` and `load` it starts a thread for each client and waits for them. What a report of a played
+/// each of its steps. With `run`, `load` and `feed` it starts threads and waits for them. What a report of a played
 /// script says of its order is the law `plays_follow_their_order` of `sal_script`; that its first line tells one order and no
 /// other is `first_lines_tell_one_order`. It does not free what it played, since a process ends behind it: a caller that goes on keeps
 /// that memory taken.
@@ -95,12 +99,11 @@ pub fn mdsal<R: Threads + Wait + Sync, S: Source, K: Sink, G: Gate>(
     match form_of(words) {
         None => Status::BadWords,
         Some(Form::Run) => run_clients(rt, alloc, source, sink, gate),
-        Some(Form::Sim) => simulate(alloc, source, sink, gate),
+        Some(Form::Text(form)) => make(alloc, form, source, sink, gate),
         Some(Form::Load { rounds, start }) => load(rt, alloc, rounds, start, sink, gate),
-        Some(Form::Schema) => describe(alloc, source, sink),
-        Some(Form::Owner) => answer_steps(alloc, source, sink),
-        Some(Form::Help) => write_text(sink, HELP),
-        Some(Form::Version) => write_text(sink, VERSION),
+        Some(Form::Feed { notes, capacity }) => feed(rt, alloc, notes, capacity, sink),
+        Some(Form::Help) => write_bytes(sink, HELP.as_bytes()),
+        Some(Form::Version) => write_bytes(sink, VERSION.as_bytes()),
     }
 }
 
@@ -118,7 +121,7 @@ fn run_clients<R: Threads + Wait + Sync, S: Source, K: Sink, G: Gate>(
 {
     match input_of(alloc, source) {
         Ok(bytes) => match run_text(rt, alloc, &bytes, gate) {
-            Ok(text) => write_text(sink, text.as_str()),
+            Ok(text) => write_bytes(sink, text.items()),
             Err(status) => status,
         },
         Err(status) => status,
@@ -140,58 +143,49 @@ fn load<R: Threads + Wait + Sync, K: Sink, G: Gate>(
     ensures answer { spec.OwnAnswers (spec.LoadsTo rounds start) (K.taken sink.old) (K.taken sink.new) result }
 {
     match load_text(rt, alloc, rounds, start, gate) {
-        Ok(text) => write_text(sink, text.as_str()),
+        Ok(text) => write_bytes(sink, text.items()),
         Err(status) => status,
     }
 }
 
-// Reads the script, plays it, and writes the report.
-fn simulate<S: Source, K: Sink, G: Gate>(
+// Reads the input, and writes what the form makes of it.
+fn make<S: Source, K: Sink, G: Gate>(
     alloc: Global,
+    form: TextForm,
     source: &mut S,
     sink: &mut K,
     gate: &G,
 ) -> Status
     ensures read_fault { result ≡ Status.ReadFault → Rose (S.faults source.old) (S.faults source.new) }
     ensures write_fault { result ≡ Status.WriteFault → Rose (K.faults sink.old) (K.faults sink.new) }
-    ensures answer { spec.TextAnswers (spec.IsMadeBy spec.sim_text) (S.left source.old) (S.left source.new) (K.taken sink.old) (K.taken sink.new) result }
+    ensures answer { spec.TextAnswers (spec.IsMadeBy (spec.made_text form)) (S.left source.old) (S.left source.new) (K.taken sink.old) (K.taken sink.new) result }
 {
     match input_of(alloc, source) {
-        Ok(bytes) => match sim_text(alloc, &bytes, gate) {
-            Ok(text) => write_text(sink, text.as_str()),
+        Ok(bytes) => match made_by(alloc, form, &bytes, gate) {
+            Ok(it) => write_bytes(sink, it.items()),
             Err(status) => status,
         },
         Err(status) => status,
     }
 }
 
-// Reads the script, and writes the text of the schema that its modules build.
-fn describe<S: Source, K: Sink>(alloc: Global, source: &mut S, sink: &mut K) -> Status
-    ensures read_fault { result ≡ Status.ReadFault → Rose (S.faults source.old) (S.faults source.new) }
+// Hands notifications over a feed, and writes what came.
+fn feed<R: Threads + Wait + Sync, K: Sink>(
+    rt: &R,
+    alloc: Global,
+    notes: u32,
+    capacity: u32,
+    sink: &mut K,
+) -> Status
+    requires notes { notes ≤ 100000 }
+    requires some { 1 ≤ capacity }
+    requires few { capacity ≤ 4096 }
     ensures write_fault { result ≡ Status.WriteFault → Rose (K.faults sink.old) (K.faults sink.new) }
-    ensures answer { spec.TextAnswers (spec.IsMadeBy spec.schema_text) (S.left source.old) (S.left source.new) (K.taken sink.old) (K.taken sink.new) result }
+    ensures answer { spec.OwnAnswers (spec.FeedsTo notes capacity) (K.taken sink.old) (K.taken sink.new) result }
 {
-    match input_of(alloc, source) {
-        Ok(bytes) => match schema_text(alloc, &bytes) {
-            Ok(text) => write_text(sink, text.as_str()),
-            Err(status) => status,
-        },
-        Err(status) => status,
-    }
-}
-
-// Reads the steps of owners, and writes the replies to them.
-fn answer_steps<S: Source, K: Sink>(alloc: Global, source: &mut S, sink: &mut K) -> Status
-    ensures read_fault { result ≡ Status.ReadFault → Rose (S.faults source.old) (S.faults source.new) }
-    ensures write_fault { result ≡ Status.WriteFault → Rose (K.faults sink.old) (K.faults sink.new) }
-    ensures answer { spec.TextAnswers (spec.IsMadeBy spec.owner_text) (S.left source.old) (S.left source.new) (K.taken sink.old) (K.taken sink.new) result }
-{
-    match input_of(alloc, source) {
-        Ok(bytes) => match owner_text(alloc, &bytes) {
-            Ok(text) => write_text(sink, text.as_str()),
-            Err(status) => status,
-        },
-        Err(status) => status,
+    match feed_text(rt, alloc, notes, capacity) {
+        Ok(text) => write_bytes(sink, text.items()),
+        Err(NoMemory) => Status::NoMemory,
     }
 }
 
@@ -208,163 +202,12 @@ fn input_of<S: Source>(alloc: Global, source: &mut S) -> Result<Vec<u8>, Status>
     }
 }
 
-// The text of the schema that the modules of the controller's own domain build.
-fn modules_text(alloc: Global, script: &Script) -> Result<Str, Status>
-    ensures { spec.IsTextOr (spec.modules_text script.now.modules) result }
-{
-    let schema = scripted::modules_schema(alloc, script)?;
-    match schema.text(alloc) {
-        Ok(text) => Ok(text),
-        Err(NoMemory) => Err(Status::NoMemory),
-    }
-}
-
-// The same of the script that the bytes stand for.
-fn schema_text(alloc: Global, bytes: &[u8]) -> Result<Str, Status>
-    ensures { spec.IsTextOr (spec.schema_text bytes.now) result }
-{
-    let script = scripted::script_of(alloc, bytes)?;
-    modules_text(alloc, &script)
-}
-
-// The replies to the steps of owners that the bytes stand for.
-fn owner_text(alloc: Global, bytes: &[u8]) -> Result<Str, Status>
-    ensures { spec.IsTextOr (spec.owner_text bytes.now) result }
-{
-    match sal_owner_script::owner_text(alloc, bytes) {
-        Ok(text) => Ok(text),
-        Err(ScriptFault::BadScript { place }) => Err(Status::BadScript { place }),
-        Err(ScriptFault::NoMemory) => Err(Status::NoMemory),
-    }
-}
-
-// The report of the script that the bytes stand for, its clients run at the same time.
-fn run_text<R: Threads + Wait + Sync, G: Gate>(
-    rt: &R,
-    alloc: Global,
-    bytes: &[u8],
-    gate: &G,
-) -> Result<Str, Status>
-    ensures { spec.IsRunOr bytes.now result }
-{
-    let prepared = scripted::prepare(alloc, bytes)?;
-    let Prepared { read, hub } = prepared;
-    match run_over(rt, alloc, read, hub, gate) {
-        Ok(text) => Ok(text),
-        Err(NoMemory) => Err(Status::NoMemory),
-    }
-}
-
-// The same over a hub without calls. The script is let go before its report is made.
-fn run_over<R: Threads + Wait + Sync, G: Gate>(
-    rt: &R,
-    alloc: Global,
-    read: ReadScript,
-    hub: Hub,
-    gate: &G,
-) -> Result<Str, NoMemory>
-    requires schemas { tables_in read.schemas.items ≡ tables_of hub.world }
-    requires few { length read.schemas.items ≤ 64 }
-    requires readers { read.readers ≡ versions_of hub.world }
-    requires fresh { hub.log ≡ [] }
-    ensures { IfOk result (IsReportInSomeOrder hub.world (clients_of read.script.clients)) }
-{
-    laws::what_is_left_is_reported();
-    let (left, schemas) = left_over(rt, alloc, read, hub, gate)?;
-    let text = last_report(alloc, &schemas, left)?;
-    Ok(text)
-}
-
-// What the clients left, with the last versions of the schemas of its domains.
-fn left_over<R: Threads + Wait + Sync, G: Gate>(
-    rt: &R,
-    alloc: Global,
-    read: ReadScript,
-    hub: Hub,
-    gate: &G,
-) -> Result<(Played, Vec<Arc<Schema>>), NoMemory>
-    requires readers { read.readers ≡ versions_of hub.world }
-    requires fresh { hub.log ≡ [] }
-    ensures left { IfOk result (λ it. AreLogOf hub.world (clients_of read.script.clients) it.0.hub.log it.0.replies) }
-    ensures world { IfOk result (λ it. it.0.hub.world ≡ hub.world) }
-    ensures schemas { IfOk result (λ it. it.1 ≡ read.schemas) }
-{
-    let ReadScript {
-        script,
-        schemas,
-        readers,
-    } = read;
-    let left = run(rt, alloc, &readers, &script, hub, gate)?;
-    Ok((left, schemas))
-}
-
-// The report of the script that the bytes stand for, played in its order.
-fn sim_text<G: Gate>(alloc: Global, bytes: &[u8], gate: &G) -> Result<Str, Status>
-    ensures { spec.IsPlayOr (spec.sim_text bytes.now) result }
-{
-    let prepared = scripted::prepare(alloc, bytes)?;
-    let Prepared { read, hub } = prepared;
-    play_over(alloc, read, hub, gate)
-}
-
-// The same over a hub without calls. The script is let go before its report is made.
-fn play_over<G: Gate>(alloc: Global, read: ReadScript, hub: Hub, gate: &G) -> Result<Str, Status>
-    requires schemas { tables_in read.schemas.items ≡ tables_of hub.world }
-    requires few { length read.schemas.items ≤ 64 }
-    requires readers { read.readers ≡ versions_of hub.world }
-    requires fresh { hub.log ≡ [] }
-    ensures { spec.IsPlayOr (spec.play_over (parts read.script) hub.world) result }
-{
-    match played_over(alloc, read, hub, gate) {
-        Ok((played, schemas)) => match last_report(alloc, &schemas, played) {
-            Ok(text) => Ok(text),
-            Err(NoMemory) => Err(Status::NoMemory),
-        },
-        Err(PlayFault::BadOrder { index }) => Err(Status::BadOrder { index }),
-        Err(PlayFault::NoMemory) => Err(Status::NoMemory),
-    }
-}
-
-// What was played, with the last versions of the schemas of its domains.
-fn played_over<G: Gate>(
-    alloc: Global,
-    read: ReadScript,
-    hub: Hub,
-    gate: &G,
-) -> Result<(Played, Vec<Arc<Schema>>), PlayFault>
-    requires readers { read.readers ≡ versions_of hub.world }
-    requires fresh { hub.log ≡ [] }
-    ensures played { MatchResult result (λ it. PlaysAs hub.world (Ok it.0) (play_spec hub.world (clients_of read.script.clients) read.script.order)) (λ fault. PlaysAs hub.world (Err fault) (play_spec hub.world (clients_of read.script.clients) read.script.order)) }
-    ensures schemas { IfOk result (λ it. it.1 ≡ read.schemas) }
-{
-    let ReadScript {
-        script,
-        schemas,
-        readers,
-    } = read;
-    match play(alloc, &readers, &script, hub, gate) {
-        Ok(played) => Ok((played, schemas)),
-        Err(fault) => Err(fault),
-    }
-}
-
-// The report of what was played. That is not let go: the process ends next, and gives back all at once.
-fn last_report(alloc: Global, schemas: &[Arc<Schema>], played: Played) -> Result<Str, NoMemory>
-    requires schemas { tables_in schemas.now ≡ tables_of played.hub.world }
-    requires few { length schemas.now ≤ 64 }
-    ensures { IfOk result (λ text. text ≡ report played.hub.world (record { log = played.hub.log; replies = played.replies })) }
-{
-    let text = report_of(alloc, schemas, &played)?;
-    mem::forget(played);
-    Ok(text)
-}
-
 // Writes the text.
-fn write_text<K: Sink>(sink: &mut K, text: &str) -> Status
+fn write_bytes<K: Sink>(sink: &mut K, text: &[u8]) -> Status
     ensures write_fault { result ≡ Status.WriteFault → Rose (K.faults sink.old) (K.faults sink.new) }
     ensures written { spec.Written text.now (K.taken sink.old) (K.taken sink.new) result }
 {
-    match write_all(sink, text.as_bytes()) {
+    match write_all(sink, text) {
         Ok(()) => Status::Done,
         Err(_) => Status::WriteFault,
     }

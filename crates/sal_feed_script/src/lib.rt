@@ -1,4 +1,4 @@
-//! The text of `feed N C`: notifications that go from one thread to another through a feed. No command uses it yet.
+//! The words `feed N C` of the command: notifications that go from one thread to another through a feed.
 //!
 //! | call | what it is |
 //! |---|---|

@@ -1,6 +1,6 @@
 -- One frame more.
-use Rattle.std.proofs.Common.{◌≡◌, ℕ, zero, suc, ◌+◌, ◌-◌, ◌<◌, ◌≤◌, ◌^◌, List, [], ◌∷◌, ◌++◌, take, drop, length, Option, Some, None, refl, ap, sym, ◌∙◌, arith, length-drop}
-use Rattle.std.specs.Prelude.{Bool, true, false, is_some}
+use Rattle.std.proofs.Common.{◌≡◌, ℕ, zero, suc, ◌+◌, ◌-◌, ◌<◌, ◌≤◌, List, [], ◌∷◌, take, drop, length, Option, Some, None, refl, ap, sym, ◌∙◌, arith, length-drop}
+use Rattle.std.specs.Prelude.{true, false, is_some}
 use Rattle.std.proofs.lemmas.List.{drop-drop, length-take-le, drop_all}
 use Rattle.sal_schema.specs.declared.table.SchemaTable.{SchemaTable}
 use Rattle.sal_follow.specs.declared.fault.FollowFault.{FollowFault}
@@ -9,7 +9,7 @@ use Rattle.sal_follow.specs.declared.front.Front.TheVariants.{Part, Broken, Whol
 use Rattle.sal_follow.specs.declared.state.State.{State}
 use Rattle.sal_follow.specs.Front.{front, text_in, size_of}
 use Rattle.sal_follow.specs.States.{held, IsStepped, IsWithin}
-use Rattle.sal_follow.specs.Stream.{Held, failed, taken, followed}
+use Rattle.sal_follow.specs.Stream.{failed, taken, followed}
 use Rattle.sal_follow.proofs.Feeding.{stays-faulty}
 use Rattle.sal_follow.proofs.Fronts.{whole-there}
 use Rattle.sal_follow.proofs.Streams.{part-held, broken-held, whole-taken}

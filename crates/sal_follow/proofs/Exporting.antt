@@ -1,18 +1,18 @@
 -- One frame more of an export.
-use Rattle.std.proofs.Common.{◌≡◌, ℕ, zero, suc, ◌+◌, ◌-◌, ◌<◌, ◌≤◌, List, [], ◌∷◌, ◌++◌, map, length, drop, get_or, Some, Result, Ok, Err, refl, ap, sym, subst, ◌∙◌, append_assoc, append-nil, arith, if◌then◌else◌}
-use Rattle.std.specs.Prelude.{IsErrAnd}
+use Rattle.std.proofs.Common.{◌≡◌, ℕ, zero, suc, ◌+◌, ◌<◌, ◌≤◌, List, [], ◌∷◌, ◌++◌, map, length, take, drop, get_or, Some, Result, Ok, Err, refl, ap, sym, subst, ◌∙◌, append_assoc, append-nil, arith, if◌then◌else◌}
+use Rattle.std.specs.Prelude.{IsErrAnd, slice_index_or}
+use Rattle.std.proofs.lemmas.Grind.{flat_map-append}
 use Rattle.std.proofs.lemmas.List.{drop_more, drop_all}
 use Rattle.sal_types.specs.declared.row.Row.{Row}
 use Rattle.sal_types.specs.Tree.{under, IsAscending}
 use Rattle.sal_delta.proofs.Exact.{merge-changes}
 use Rattle.sal_delta.specs.Merge.{come}
-use Rattle.sal_rows.specs.Changes.{changes}
 use Rattle.sal_schema.specs.declared.table.SchemaTable.{SchemaTable}
 use Rattle.sal_follow.specs.declared.fault.ExportFault.{ExportFault}
 use Rattle.sal_follow.specs.declared.fault.ExportFault.TheVariants.{TooLong, NoMemory}
 use Rattle.sal_follow.specs.declared.frame.Frame.{Frame}
-use Rattle.sal_follow.specs.Exporting.{patch_of, before_at, frame_at, left, Puts, AreBefore}
-use Rattle.sal_follow.specs.Framed.{Trees, nothing, frame_of, frames_from, frames, frame_bytes, bytes_of, patch_by, patches, too_long, AreTexts, exported, Exports}
+use Rattle.sal_follow.specs.Exporting.{patch_of, frame_at, Puts, AreBetween}
+use Rattle.sal_follow.specs.Framed.{Trees, nothing, before_at, frame_of, frames_from, frames, frames_since, frame_bytes, bytes_of, exported, patch_by, patches, too_long, AreTexts, ExportsSince}
 
 -- what a fault that is handed on leaves
 pub err_so : {X E : Type 0} (P : Result X E → Type 0) (result : Result X E) (e : E) → IsErrAnd result (λ d. d ≡ e) → P (Err e) → P result
@@ -46,43 +46,61 @@ opening rows ascending = sym (set_by rows) ∙ ap (map patch_by) (merge-changes 
 -- ---- frames
 
 module _ (trees : List Trees) (k : ℕ) where
-  pub one_left : k < length trees → left trees k ≡ frame_at trees k ∷ left trees (k + 1)
+  pub one_left : k < length trees → frames_since trees k ≡ frame_at trees k ∷ frames_since trees (k + 1)
   one_left inside =
       ap (frames_from k (before_at trees k)) (drop_more trees k nothing inside)
       ∙ ap (λ b. frame_at trees k ∷ frames_from (k + 1) b (drop (k + 1) trees)) (sym (ap (λ m. get_or (nothing ∷ trees) m nothing) (next k)))
 
-  pub none_left : length trees ≤ k → left trees k ≡ []
+  pub none_left : length trees ≤ k → frames_since trees k ≡ []
   none_left all = ap (frames_from k (before_at trees k)) (drop_all k trees all)
 
-module _ (table : SchemaTable) (trees : List Trees) where
-  pub begun : AreBefore table trees [] 0
+module _ (table : SchemaTable) (trees : List Trees) (from : ℕ) where
+  pub begun : AreBetween table trees from [] from
   begun = record { whole = refl; short = refl; texts = λ all. all }
 
-  module _ (bytes : List ℕ) (k : ℕ) (before : AreBefore table trees bytes k) where
-    pub one_more : (now : List ℕ) → k < length trees → Puts table (frame_at trees k) bytes now (Ok tt) → AreBefore table trees now (k + 1)
+  module _ (bytes : List ℕ) (k : ℕ) (before : AreBetween table trees from bytes k) where
+    pub one_more : (now : List ℕ) → k < length trees → Puts table (frame_at trees k) bytes now (Ok tt) → AreBetween table trees from now (k + 1)
     one_more now inside put =
         let f : Frame = frame_at trees k in
-        let rest : List Frame = left trees (k + 1) in
-        let split : left trees k ≡ f ∷ rest = one_left trees k inside in record {
+        let rest : List Frame = frames_since trees (k + 1) in
+        let split : frames_since trees k ≡ f ∷ rest = one_left trees k inside in record {
           whole =
               ap (λ b. b ++ bytes_of table rest) put.0 ∙ append_assoc bytes (frame_bytes table f) (bytes_of table rest) ∙ ap (λ fs. bytes ++ bytes_of table fs) (sym split) ∙ before.whole;
           short = sym (ap (λ b. if b then too_long table rest else Some k) put.1) ∙ ap (too_long table) (sym split) ∙ before.short;
           texts = λ all. before.texts (subst (AreTexts table) (sym split) (put.2, all));
         }
 
-    pub too_long_now : (commit : ℕ) (now : List ℕ) → k < length trees → Puts table (frame_at trees k) bytes now (Err (TooLong commit)) → Exports table trees (Err (TooLong commit))
+    pub too_long_now : (commit : ℕ) (now : List ℕ) → k < length trees → Puts table (frame_at trees k) bytes now (Err (TooLong commit)) → ExportsSince table trees from (Err (TooLong commit))
     too_long_now commit now inside put =
-        sym before.short ∙ ap (too_long table) (one_left trees k inside) ∙ ap (λ b. if b then too_long table (left trees (k + 1)) else Some k) put.1 ∙ ap Some (sym put.0)
+        sym before.short ∙ ap (too_long table) (one_left trees k inside) ∙ ap (λ b. if b then too_long table (frames_since trees (k + 1)) else Some k) put.1 ∙ ap Some (sym put.0)
 
     -- a fault of this commit is the export's
-    pub fails : (e : ExportFault) (now : List ℕ) → k < length trees → Puts table (frame_at trees k) bytes now (Err e) → Exports table trees (Err e)
+    pub fails : (e : ExportFault) (now : List ℕ) → k < length trees → Puts table (frame_at trees k) bytes now (Err e) → ExportsSince table trees from (Err e)
     fails (TooLong commit) now inside put = too_long_now commit now inside put
     fails NoMemory now inside put = tt
 
-    pub all_put : length trees ≤ k → Exports table trees (Ok bytes)
+    pub all_put : length trees ≤ k → ExportsSince table trees from (Ok bytes)
     all_put all =
-        let none : left trees k ≡ [] = none_left trees k all in (
+        let none : frames_since trees k ≡ [] = none_left trees k all in (
           sym (append-nil bytes) ∙ ap (λ fs. bytes ++ bytes_of table fs) (sym none) ∙ before.whole,
           sym before.short ∙ ap (too_long table) none,
           before.texts (subst (AreTexts table) (sym none) tt),
         )
+
+-- ---- a stream that goes on
+
+split-at : (k : ℕ) (before : Trees) (trees : List Trees) (n : ℕ) → n ≤ length trees
+    → frames_from k before (take n trees) ++ frames_from (k + n) (slice_index_or (before ∷ trees) n nothing) (drop n trees) ≡ frames_from k before trees
+split-at k before trees zero e = ap (λ m. frames_from m before trees) (let same : k + 0 ≡ k = omega arith in same)
+split-at k before [] (suc n) e = absurd (omega (arith, e))
+split-at k before (t ∷ trees) (suc n) e =
+    let on : k + suc n ≡ (k + 1) + n = omega arith in
+    ap (λ m. frame_of k before t ∷ (frames_from (k + 1) t (take n trees) ++ frames_from m (slice_index_or (t ∷ trees) n nothing) (drop n trees))) on
+    ∙ ap (λ fs. frame_of k before t ∷ fs) (split-at (k + 1) t trees n (omega (arith, e)))
+
+pub goes-on : (table : SchemaTable) (trees : List Trees) (k : ℕ) → k ≤ length trees → exported table (take k trees) ++ bytes_of table (frames_since trees k) ≡ exported table trees
+goes-on table trees k inside =
+    let from : 0 + k ≡ k = omega arith in
+    sym (flat_map-append (frame_bytes table) (frames (take k trees)) (frames_since trees k))
+    ∙ ap (λ m. bytes_of table (frames (take k trees) ++ frames_from m (before_at trees k) (drop k trees))) (sym from)
+    ∙ ap (bytes_of table) (split-at 0 nothing trees k inside)

@@ -1,5 +1,5 @@
 -- What is exported is followed.
-use Rattle.std.proofs.Common.{◌≡◌, ◌⊎◌, inl, inr, ℕ, zero, suc, ◌+◌, ◌<◌, ◌≤◌, ◌&&◌, Bool, true, false, not, List, [], ◌∷◌, ◌++◌, length, drop, Option, Some, None, All, refl, ap, sym, subst, ◌∙◌, length-append, arith, codes, if◌then◌else◌}
+use Rattle.std.proofs.Common.{◌≡◌, ◌⊎◌, inl, inr, ℕ, suc, ◌+◌, ◌<◌, ◌≤◌, ◌&&◌, Bool, true, false, not, List, [], ◌∷◌, ◌++◌, length, drop, Option, Some, None, All, refl, ap, sym, subst, ◌∙◌, length-append, arith, if◌then◌else◌}
 use Rattle.std.specs.Prelude.{option_and_then, nat_le}
 use Rattle.std.specs.List.{slice_get}
 use Rattle.std.specs.Option.{option_map_or}
@@ -7,22 +7,20 @@ use Rattle.std.specs.Str.{chars}
 use Rattle.std.proofs.lemmas.Bool.{cases_lt, eq-eqb}
 use Rattle.std.proofs.lemmas.Bool.Decides.{nat_tests}
 use Rattle.std.proofs.lemmas.List.Elements.{All-head, All-tail}
-use Rattle.serde_json.specs.Data.{Data}
 use Rattle.serde_json.specs.Find.{as_object}
-use Rattle.sal_types.specs.declared.row.Row.{Row}
 use Rattle.sal_schema.specs.declared.table.SchemaTable.{SchemaTable}
 use Rattle.sal_rows.specs.Patch.{patched}
 use Rattle.sal_follow.specs.declared.fault.FollowFault.TheVariants.{BadFrame, Gap}
 use Rattle.sal_follow.specs.declared.frame.Frame.{Frame}
 use Rattle.sal_follow.specs.declared.front.Front.{Front}
 use Rattle.sal_follow.specs.declared.front.Front.TheVariants.{Part, Broken, Whole}
-use Rattle.sal_follow.specs.Framed.{Trees, nothing, frame_of, frames_from, frames, frame_bytes, bytes_of, exported, too_long, IsText, AreTexts, patches}
-use Rattle.sal_follow.specs.Frames.{both, frame, members_in, frame_in, data_in}
-use Rattle.sal_follow.specs.Front.{front, framed, size_of, text_in}
+use Rattle.sal_follow.specs.Framed.{Trees, nothing, frame_of, frames_from, frames, frame_bytes, bytes_of, exported, too_long, IsText, AreTexts}
+use Rattle.sal_follow.specs.Frames.{both, frame, members_in, frame_in}
+use Rattle.sal_follow.specs.Front.{front, framed, size_of}
 use Rattle.sal_follow.specs.Head.{max_text, head}
 use Rattle.sal_follow.specs.Laws.{IsReadableTree, AreFollowed, trees_held, AreTreesAt, HoldsOneOf}
-use Rattle.sal_follow.specs.Stream.{Held, fresh, failed, next, has_state, are_trees, moved, if_trees, if_next, taken, followed}
-use Rattle.sal_follow.specs.Written.{members_json, store_json, frame_json, frame_text}
+use Rattle.sal_follow.specs.Stream.{Held, fresh, failed, next, are_trees, moved, if_trees, if_next, taken, followed}
+use Rattle.sal_follow.specs.Written.{frame_json, frame_text}
 use Rattle.sal_follow.proofs.Fronts.{stays, whole-there, frame-read}
 use Rattle.sal_follow.proofs.JsonData.{data_in-text}
 use Rattle.sal_follow.proofs.ReadableRows.{store_read, patches_lead}

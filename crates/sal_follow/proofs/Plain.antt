@@ -3,7 +3,7 @@ use Rattle.std.proofs.Common.{◌≡◌, ℕ, ◌+◌, ◌≤◌, ℤ, pos, negs
 use Rattle.std.specs.Fmt.{signed_decimal}
 use Rattle.std.specs.List.{slice_get}
 use Rattle.std.specs.Option.{option_map_or}
-use Rattle.serde_json.specs.Data.{Data, null, boolean, number, unsigned, string, object, array, no_items, item, no_members, depth, items_depth}
+use Rattle.serde_json.specs.Data.{Data, null, boolean, number, unsigned, string, array, no_items, item, depth, items_depth}
 use Rattle.serde_json.specs.Find.{of_integer}
 use Rattle.serde_json.specs.View.{items_of}
 use Rattle.serde_json.specs.Written.{has_float, items_have_float}

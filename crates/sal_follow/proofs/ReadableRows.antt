@@ -1,11 +1,10 @@
 -- What leads from one readable tree to the next reads as it is written.
 use Rattle.std.proofs.Common.{◌≡◌, ℕ, ◌≤◌, ◌&&◌, ◌||◌, Bool, true, false, not, List, [], ◌∷◌, map, length, Option, Some, None, All, filter, fold, cond, true≢false, refl, ap, sym, subst, ◌∙◌, if◌then◌else◌}
-use Rattle.std.specs.Prelude.{⊤, T, option_map, option_and_then, is_some}
+use Rattle.std.specs.Prelude.{⊤, T, option_map, option_and_then}
 use Rattle.std.specs.List.{list_all}
 use Rattle.std.specs.FinMap.{is_sorted}
 use Rattle.std.specs.FinMap.Entries.{below_all}
 use Rattle.std.specs.Ordering.{is_lt, match_ordering}
-use Rattle.std.specs.declared.cmp.Ordering.{Ordering}
 use Rattle.std.specs.declared.cmp.Ordering.TheVariants.{Less, Equal, Greater}
 use Rattle.std.proofs.lemmas.Bool.{and_parts, and_from}
 use Rattle.std.proofs.lemmas.List.Elements.{All-head, All-tail}
@@ -19,19 +18,19 @@ use Rattle.sal_types.specs.declared.value.Step.TheVariants.{Node, Key, Item}
 use Rattle.sal_types.specs.declared.row.Row.{Row}
 use Rattle.sal_types.specs.Order.{path_cmp, path_eq}
 use Rattle.sal_types.specs.Prefix.{is_prefix}
-use Rattle.sal_types.specs.Tree.{cell, IsAscending}
+use Rattle.sal_types.specs.Tree.{cell}
 use Rattle.sal_types.proofs.Trees.{IsTrue-from_T}
 use Rattle.sal_types.proofs.TrueParts.{first, second}
 use Rattle.sal_rows.specs.declared.change.Change.{Change}
 use Rattle.sal_rows.specs.declared.rows.patch.Patch.{Patch}
 use Rattle.sal_rows.specs.Changes.{same_cell, compared, changes}
 use Rattle.sal_rows.specs.Edits.{set_row}
-use Rattle.sal_rows.specs.Patch.{with_cell, with_changes, patched}
+use Rattle.sal_rows.specs.Patch.{with_cell, patched}
 use Rattle.sal_rows.proofs.Cells.{same_path}
 use Rattle.sal_rows.proofs.Differing.{marks, Rises, rises-changes}
 use Rattle.sal_rows.proofs.Patched.{with-changes}
 use Rattle.sal_schema.specs.declared.table.SchemaTable.{SchemaTable}
-use Rattle.sal_schema.specs.Fitting.{has_mark, has_value, is_at_leaf, has_own_row, cell_fits, is_whole_above, is_in_message, is_root, row_fits, is_closed}
+use Rattle.sal_schema.specs.Fitting.{has_mark, has_value, is_at_leaf, has_own_row, cell_fits, is_whole_above, is_in_message, is_root, row_fits}
 use Rattle.sal_schema.specs.Kinds.{is_leaf}
 use Rattle.sal_schema.specs.Paths.{fits_path, last_step, node_of}
 use Rattle.sal_schema.specs.Table.{is_kind}
@@ -40,7 +39,7 @@ use Rattle.sal_follow.specs.Framed.{patch_by, patches}
 use Rattle.sal_follow.specs.Frames.{both, patch, patch_in, patches_in, cell_in, is_ascending, if_ascending, store_in}
 use Rattle.sal_data.specs.Laws.{IsReadable}
 use Rattle.sal_follow.specs.Laws.{IsReadableFrom, IsReadableCell, IsReadableValue, IsReadableRow, IsReadableTree}
-use Rattle.sal_follow.specs.Written.{path_json, cell_json, patch_json, store_json}
+use Rattle.sal_follow.specs.Written.{cell_json, patch_json, store_json}
 use Rattle.sal_follow.proofs.ReadsBack.{path-read, cell-read}
 
 -- ---- lists

@@ -1,12 +1,12 @@
 -- How far an export is.
-use Rattle.std.specs.Prelude.{◌≡◌, ℕ, List, [], ◌∷◌, ◌++◌, length, nat_le, true, false, drop, slice_index_or, Option, Some, Result, Ok, Err, ⊤}
+use Rattle.std.specs.Prelude.{◌≡◌, ℕ, List, ◌++◌, length, nat_le, true, false, slice_index_or, Some, Result, Ok, Err, ⊤}
 use Rattle.sal_types.specs.declared.row.Row.{Row}
 use Rattle.sal_rows.specs.declared.rows.patch.Patch.{Patch}
 use Rattle.sal_schema.specs.declared.table.SchemaTable.{SchemaTable}
 use Rattle.sal_follow.specs.declared.fault.ExportFault.{ExportFault}
 use Rattle.sal_follow.specs.declared.fault.ExportFault.TheVariants.{TooLong, NoMemory}
 use Rattle.sal_follow.specs.declared.frame.Frame.{Frame}
-use Rattle.sal_follow.specs.Framed.{Trees, nothing, frame_of, frames_from, frames, frame_bytes, bytes_of, too_long, IsText, AreTexts}
+use Rattle.sal_follow.specs.Framed.{Trees, nothing, before_at, frame_of, frames_since, frame_bytes, bytes_of, too_long, IsText, AreTexts}
 use Rattle.sal_follow.specs.Head.{max_text}
 use Rattle.sal_follow.specs.Written.{frame_text}
 
@@ -14,17 +14,9 @@ use Rattle.sal_follow.specs.Written.{frame_text}
 abbrev pub patch_of : Row → Patch
 patch_of row = record { path = row.path; cell = Some row.cell }
 
--- the trees before the commit of this number
-abbrev pub before_at : List Trees → ℕ → Trees
-before_at trees k = slice_index_or (nothing ∷ trees) k nothing
-
 -- the frame of the commit of this number
 abbrev pub frame_at : List Trees → ℕ → Frame
 frame_at trees k = frame_of k (before_at trees k) (slice_index_or trees k nothing)
-
--- the frames from this number on
-abbrev pub left : List Trees → ℕ → List Frame
-left trees k = frames_from k (before_at trees k) (drop k trees)
 
 -- A frame was put behind bytes, with a text that reads as what was written; or its text is too long.
 abbrev pub Puts : SchemaTable → Frame → List ℕ → List ℕ → Result ⊤ ExportFault → Type 0
@@ -32,8 +24,8 @@ Puts table f old new (Ok done) = (new ≡ old ++ frame_bytes table f) × (nat_le
 Puts table f old new (Err (TooLong commit)) = (commit ≡ f.commit) × (nat_le (length (frame_text table f)) max_text ≡ false)
 Puts table f old new (Err NoMemory) = ⊤
 
--- these bytes are those of the frames before this number, each of which has a text that is not too long
-pub record AreBefore (table : SchemaTable) (trees : List Trees) (bytes : List ℕ) (k : ℕ) : Type 0 where
-  pub whole : bytes ++ bytes_of table (left trees k) ≡ bytes_of table (frames trees)
-  pub short : too_long table (left trees k) ≡ too_long table (frames trees)
-  pub texts : AreTexts table (left trees k) → AreTexts table (frames trees)
+-- these bytes are those of the frames from the first number on, before the second one; each has a text that is not too long
+pub record AreBetween (table : SchemaTable) (trees : List Trees) (from : ℕ) (bytes : List ℕ) (k : ℕ) : Type 0 where
+  pub whole : bytes ++ bytes_of table (frames_since trees k) ≡ bytes_of table (frames_since trees from)
+  pub short : too_long table (frames_since trees k) ≡ too_long table (frames_since trees from)
+  pub texts : AreTexts table (frames_since trees k) → AreTexts table (frames_since trees from)

@@ -1,5 +1,5 @@
 -- What is exported of commits: a frame for each, with what it changed.
-use Rattle.std.specs.Prelude.{◌≡◌, ℕ, ◌+◌, List, [], ◌∷◌, map, flat_map, length, nat_le, Option, Some, None, Result, Ok, Err, ⊤, if◌then◌else◌}
+use Rattle.std.specs.Prelude.{◌≡◌, ℕ, ◌+◌, List, [], ◌∷◌, map, flat_map, length, drop, slice_index_or, nat_le, Option, Some, None, Result, Ok, Err, ⊤, if◌then◌else◌}
 use Rattle.std.specs.Str.{IsUtf8}
 use Rattle.serde_json.specs.Read.{read}
 use Rattle.sal_types.specs.declared.row.Row.{Row}
@@ -54,6 +54,14 @@ frames_from k before (trees ∷ more) = frame_of k before trees ∷ frames_from 
 abbrev pub frames : List Trees → List Frame
 frames trees = frames_from 0 nothing trees
 
+-- the trees before the commit of this number
+abbrev pub before_at : List Trees → ℕ → Trees
+before_at trees k = slice_index_or (nothing ∷ trees) k nothing
+
+-- the frames from that commit on
+abbrev pub frames_since : List Trees → ℕ → List Frame
+frames_since trees k = frames_from k (before_at trees k) (drop k trees)
+
 -- ---- bytes
 
 abbrev pub frame_bytes : SchemaTable → Frame → List ℕ
@@ -79,9 +87,16 @@ abbrev pub AreTexts : SchemaTable → List Frame → Type 0
 AreTexts table [] = ⊤
 AreTexts table (f ∷ fs) = IsText table f × AreTexts table fs
 
--- What `export` answers for commits with these trees: all frames, each with a text that reads as what was written; or the first commit whose
--- text is too long.
+-- these frames, each with a text that reads as what was written; or the first commit whose text is too long
+abbrev pub AreExported : SchemaTable → List Frame → Result (List ℕ) ExportFault → Type 0
+AreExported table fs (Ok bytes) = (bytes ≡ bytes_of table fs) × (too_long table fs ≡ None) × AreTexts table fs
+AreExported table fs (Err (TooLong commit)) = too_long table fs ≡ Some commit
+AreExported table fs (Err NoMemory) = ⊤
+
+-- What `export` answers for commits with these trees: all frames.
 abbrev pub Exports : SchemaTable → List Trees → Result (List ℕ) ExportFault → Type 0
-Exports table trees (Ok bytes) = (bytes ≡ exported table trees) × (too_long table (frames trees) ≡ None) × AreTexts table (frames trees)
-Exports table trees (Err (TooLong commit)) = too_long table (frames trees) ≡ Some commit
-Exports table trees (Err NoMemory) = ⊤
+Exports table trees result = AreExported table (frames trees) result
+
+-- What `export_since` answers: the frames from the commit of this number on.
+abbrev pub ExportsSince : SchemaTable → List Trees → ℕ → Result (List ℕ) ExportFault → Type 0
+ExportsSince table trees k result = AreExported table (frames_since trees k) result

@@ -1,5 +1,5 @@
 -- Laws of frames and streams.
-use Rattle.std.specs.Prelude.{◌≡◌, ℕ, ◌+◌, ◌≤◌, ◌<◌, ◌^◌, ⊤, true, false, List, [], ◌∷◌, ◌++◌, length, drop, Option, Some, None, IsTrue}
+use Rattle.std.specs.Prelude.{◌≡◌, ℕ, ◌+◌, ◌≤◌, ◌<◌, ◌^◌, ⊤, true, false, List, [], ◌∷◌, ◌++◌, length, take, drop, Option, Some, None, IsTrue}
 use Rattle.std.specs.List.{All, fold, concat, slice_get}
 use Rattle.sal_types.specs.declared.value.Value.{Value}
 use Rattle.sal_types.specs.declared.value.Cell.{Cell}
@@ -15,7 +15,7 @@ use Rattle.sal_schema.specs.Paths.{fits_path, last_step, node_from, node_of}
 use Rattle.sal_schema.specs.Table.{is_kind, keys_of}
 use Rattle.sal_data.specs.Laws.{IsReadable}
 use Rattle.sal_follow.specs.declared.front.Front.TheVariants.{Whole}
-use Rattle.sal_follow.specs.Framed.{Trees, nothing, frames, exported, too_long, AreTexts}
+use Rattle.sal_follow.specs.Framed.{Trees, nothing, frames, frames_since, bytes_of, exported, too_long, AreTexts}
 use Rattle.sal_follow.specs.Frames.{path_in, cell_in}
 use Rattle.sal_follow.specs.Front.{front, text_in, size_of, framed}
 use Rattle.sal_follow.specs.Head.{max_text}
@@ -122,6 +122,10 @@ HoldsTheLast =
     (table : SchemaTable) (trees : List Trees) (last : Trees) → All (AreFollowed table) (trees ++ last ∷ []) → AreTexts table (frames (trees ++ last ∷ [])) → too_long table (frames (trees ++ last ∷ [])) ≡ None
     → followed table fresh (exported table (trees ++ last ∷ []))
     ≡ record { version = Some (length trees); config = last.config; oper = last.oper; at = length (exported table (trees ++ last ∷ [])); rest = []; fault = None }
+
+-- The frames of the commits before one of them, and then those from that one on, are the frames of all.
+abbrev pub StreamsGoOn : Type 0
+StreamsGoOn = (table : SchemaTable) (trees : List Trees) (k : ℕ) → k ≤ length trees → exported table (take k trees) ++ bytes_of table (frames_since trees k) ≡ exported table trees
 
 -- ---- places
 

@@ -1,5 +1,5 @@
 -- What a follower keeps, seen as what it holds.
-use Rattle.std.specs.Prelude.{◌≡◌, ◌⊎◌, ℕ, ◌≤◌, Option, Some, None, List, [], length, drop, Result, Err, if◌then◌else◌}
+use Rattle.std.specs.Prelude.{◌≡◌, ◌⊎◌, ℕ, ◌≤◌, Option, Some, None, List, [], length, drop, Result, Err, true, ⊤, if◌then◌else◌}
 use Rattle.sal_rows.specs.declared.rows.patch.Patch.{Patch}
 use Rattle.sal_rows.specs.Patch.{patched}
 use Rattle.sal_schema.specs.declared.table.SchemaTable.{SchemaTable}
@@ -7,7 +7,11 @@ use Rattle.sal_follow.specs.declared.fault.FollowFault.{FollowFault}
 use Rattle.sal_follow.specs.declared.fault.FollowFault.TheVariants.{NoMemory}
 use Rattle.sal_follow.specs.declared.front.Front.TheVariants.{Part}
 use Rattle.sal_follow.specs.declared.state.State.{State}
-use Rattle.sal_follow.specs.declared.state.Both.{Both}
+use Rattle.sal_follow.specs.declared.state.Run.{Run}
+use Rattle.sal_follow.specs.declared.trees.Both.{Both}
+use Rattle.sal_follow.specs.declared.twin.Twin.{Twin}
+use Rattle.sal_follow.specs.declared.frame.Frame.{Frame}
+use Rattle.sal_near.specs.Near.{patches_fit}
 use Rattle.sal_follow.specs.Front.{front}
 use Rattle.sal_follow.specs.Stream.{Held, next, are_trees, followed, answer}
 
@@ -16,12 +20,47 @@ abbrev pub held : State → List ℕ → Held
 held s rest = record { version = s.version; config = s.config; oper = s.oper; at = s.at; rest = rest; fault = s.fault }
 
 -- the trees after a frame, where they are trees of the schema
-abbrev pub trees_after : SchemaTable → State → List Patch → List Patch → Option Both
-trees_after table s config oper = if are_trees table (patched s.config config) (patched s.oper oper) then Some (record { config = patched s.config config; oper = patched s.oper oper }) else None
+abbrev pub trees_after : SchemaTable → Both → List Patch → List Patch → Option Both
+trees_after table b config oper = if are_trees table (patched b.config config) (patched b.oper oper) then Some (record { config = patched b.config config; oper = patched b.oper oper }) else None
+
+-- the paths of a frame fit, and its cells are of the kinds of their nodes
+pub record FrameFits (table : SchemaTable) (f : Frame) : Type 0 where
+  pub config : patches_fit table f.config ≡ true
+  pub oper : patches_fit table f.oper ≡ true
 
 -- each frame has at least ten bytes, so the numbers of commits stay below the places of their frames
 abbrev pub IsWithin : State → Type 0
 IsWithin s = next s.version ≤ s.at
+
+-- the trees held are trees of the schema
+abbrev pub HasTrees : SchemaTable → State → Type 0
+HasTrees table s = are_trees table s.config s.oper ≡ true
+
+-- the second trees are the same, if they are there
+abbrev pub IsSpare : State → Option Both → Type 0
+IsSpare s None = ⊤
+IsSpare s (Some b) = (b.config ≡ s.config) × (b.oper ≡ s.oper)
+
+-- what a follower keeps between two pieces
+pub record IsTwin (table : SchemaTable) (twin : Twin) : Type 0 where
+  pub within : IsWithin twin.state
+  pub trees : HasTrees table twin.state
+  pub spare : IsSpare twin.state twin.spare
+
+-- what a run keeps: its log leads from the trees at its start to those held
+pub record IsSound (table : SchemaTable) (start : State) (run : Run) : Type 0 where
+  pub within : IsWithin run.state
+  pub trees : HasTrees table run.state
+  pub config : run.state.config ≡ patched start.config run.log.config.items
+  pub oper : run.state.oper ≡ patched start.oper run.log.oper.items
+
+-- what is sound from any start stays so
+abbrev pub StaysSound : Run → Run → Type 0
+StaysSound old new = (table : SchemaTable) (start : State) → IsSound table start old → IsSound table start new
+
+-- before the stream
+abbrev pub nothing_held : State
+nothing_held = record { version = None; config = []; oper = []; at = 0; fault = None }
 
 -- after so many of these bytes the state is s, and the bytes left are those of an unfinished frame
 pub record IsStepped (table : SchemaTable) (start : State) (bytes : List ℕ) (s : State) (used : ℕ) : Type 0 where

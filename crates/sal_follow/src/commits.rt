@@ -3,14 +3,17 @@ ghost use Rattle.std.specs.Prelude.{◌≡◌, ◌<◌, [], length, map, IfOk};
 ghost use Rattle.sal_tree.specs.Follows.{Agree};
 ghost use Rattle.sal_tree.specs.Rows.{rows_of};
 ghost use Rattle.sal_delta.specs.Agreed.{AgreeBoth, AreAgreed};
+ghost use Rattle.sal_types.specs.declared.value.Store.{Store as Of};
+ghost use Rattle.sal_rows.specs.Apply.{apply_ops};
+ghost use Rattle.sal_graft.specs.Kept.{AreKept, rows_in};
 ghost use Rattle.sal_follow.specs.Exporting.{patch_of, frame_at};
 ghost use Rattle.sal_follow.specs.Framed as spec;
 
 use crate::frame::Frame;
-use sal_delta::{Change, ChangeList, changes};
+use sal_delta::{Change, ChangeList, StoreCommit, changes, changes_by};
 use sal_rows::{Patch, Rows};
-use sal_tree::{Commit, Pair, Root};
-use sal_types::{Duplicate, NoMemory, Path, Row, Seq, append};
+use sal_tree::{Commit, Pair, Root, tree_of};
+use sal_types::{Duplicate, NoMemory, Path, Row, Seq, Store, append};
 use std::alloc::Global;
 
 // What the changes set.
@@ -118,5 +121,63 @@ pub(crate) fn frame_at(alloc: Global, commits: &[Commit], number: u64) -> Result
         opening_frame(alloc, after)
     } else {
         frame_between(alloc, number, &commits[at - 1].trees, after)
+    }
+}
+
+// What leads from the tree of a store before a commit to that after it, by its operations.
+fn patches_made(
+    alloc: Global,
+    before: &Commit,
+    after: &Commit,
+    store: Store,
+) -> Result<Seq<Patch>, NoMemory>
+    requires agree { AgreeBoth before.now.trees after.now.trees }
+    requires made { rows_in after.now.trees store ≡ apply_ops (rows_in before.now.trees store) store after.now.ops.value }
+    ensures { IfOk result (λ ps. ps ≡ spec.patches (rows_in before.now.trees store) (rows_in after.now.trees store)) }
+{
+    let commit = StoreCommit {
+        before: tree_of(&before.trees, store),
+        after: tree_of(&after.trees, store),
+        store,
+        ops: after.ops.items(),
+    };
+    let list = changes_by(alloc, &commit, &Path::root(alloc))?;
+    let patches = patches_by(alloc, list)?;
+    Ok(patches)
+}
+
+// The frame of a commit of this number, by its operations.
+fn frame_made(
+    alloc: Global,
+    number: u64,
+    before: &Commit,
+    after: &Commit,
+) -> Result<Frame, NoMemory>
+    requires agree { AgreeBoth before.now.trees after.now.trees }
+    requires made { (s : Of) → rows_in after.now.trees s ≡ apply_ops (rows_in before.now.trees s) s after.now.ops.value }
+    ensures { IfOk result (λ f. f ≡ spec.frame_of number (spec.trees_of before.now) (spec.trees_of after.now)) }
+{
+    let config = patches_made(alloc, before, after, Store::Config)?;
+    let oper = patches_made(alloc, before, after, Store::Oper)?;
+    Ok(Frame {
+        commit: number,
+        config,
+        oper,
+    })
+}
+
+/// The frame of the commit of this number, for commits that a domain keeps.
+pub(crate) fn frame_kept(alloc: Global, commits: &[Commit], number: u64) -> Result<Frame, NoMemory>
+    requires agreed { AreAgreed commits.now }
+    requires kept { AreKept commits.now }
+    requires inside { number < length commits.now }
+    ensures { IfOk result (λ f. f ≡ frame_at (map spec.trees_of commits.now) number) }
+{
+    let at = number as usize;
+    let after = &commits[at];
+    if at == 0 {
+        opening_frame(alloc, &after.trees)
+    } else {
+        frame_made(alloc, number, &commits[at - 1], after)
     }
 }

@@ -1,13 +1,15 @@
 //! The frames of the commits of a domain.
 ghost use Rattle.std.specs.Prelude.{◌≡◌, ◌≤◌, ◌<◌, ◌++◌, length, map, OnOk};
 ghost use Rattle.sal_delta.specs.Agreed.{AreAgreed};
-ghost use Rattle.sal_follow.specs.Framed.{Exports, trees_of};
+ghost use Rattle.sal_graft.specs.Kept.{AreKept};
+ghost use Rattle.sal_follow.specs.Framed.{Exports, ExportsSince, trees_of};
 ghost use Rattle.sal_follow.specs.Front.{framed};
 ghost use Rattle.sal_follow.specs.Head.{max_text};
 ghost use Rattle.sal_follow.specs.Exporting.{Puts, frame_at as frame_of_number};
 
-use crate::commits::frame_at;
+use crate::commits::{frame_at, frame_kept};
 use crate::fault::ExportFault;
+use crate::frame::Frame;
 use crate::head::{MAX_TEXT, push_head};
 use crate::writer::Writer;
 use sal_schema::Schema;
@@ -26,6 +28,20 @@ fn push_frame(bytes: &mut Vec<u8>, text: &[u8]) -> Result<(), NoMemory>
     Ok(())
 }
 
+// Puts a frame at the end.
+fn push_text(bytes: &mut Vec<u8>, writer: &Writer, frame: &Frame) -> Result<(), ExportFault>
+    ensures { Puts writer.now.schema.now frame.now bytes.old.items bytes.new.items result }
+{
+    let text = writer.text(frame)?;
+    if text.len() > MAX_TEXT {
+        return Err(ExportFault::TooLong {
+            commit: frame.commit,
+        });
+    }
+    push_frame(bytes, &text)?;
+    Ok(())
+}
+
 // Puts the frame of the commit of this number at the end.
 fn push_commit(
     bytes: &mut Vec<u8>,
@@ -38,12 +54,23 @@ fn push_commit(
     ensures { Puts writer.now.schema.now (frame_of_number (map trees_of commits.now) number) bytes.old.items bytes.new.items result }
 {
     let frame = frame_at(writer.alloc, commits, number)?;
-    let text = writer.text(&frame)?;
-    if text.len() > MAX_TEXT {
-        return Err(ExportFault::TooLong { commit: number });
-    }
-    push_frame(bytes, &text)?;
-    Ok(())
+    push_text(bytes, writer, &frame)
+}
+
+// The same for commits that a domain keeps.
+fn push_kept(
+    bytes: &mut Vec<u8>,
+    writer: &Writer,
+    commits: &[Commit],
+    number: u64,
+) -> Result<(), ExportFault>
+    requires agreed { AreAgreed commits.now }
+    requires kept { AreKept commits.now }
+    requires inside { number < length commits.now }
+    ensures { Puts writer.now.schema.now (frame_of_number (map trees_of commits.now) number) bytes.old.items bytes.new.items result }
+{
+    let frame = frame_kept(writer.alloc, commits, number)?;
+    push_text(bytes, writer, &frame)
 }
 
 /// The frames of a domain's commits, from its opening to the newest.
@@ -57,6 +84,36 @@ pub fn export(alloc: Global, schema: &Schema, commits: &[Commit]) -> Result<Byte
     let mut bytes = Vec::new(alloc);
     for number in 0..commits.len() as u64 {
         push_commit(&mut bytes, &writer, commits, number)?;
+    }
+    Ok(Seq::from_items(bytes))
+}
+
+/// The same for the commits that a domain keeps, at the cost of what each of them changed.
+///
+/// Each commit has the trees that its operations make of those before it, so they tell where these differ.
+pub fn export_kept(alloc: Global, schema: &Schema, commits: &[Commit]) -> Result<Bytes, ExportFault>
+    requires agreed { AreAgreed commits.now }
+    requires kept { AreKept commits.now }
+    ensures { Exports schema.now (map trees_of commits.now) result }
+{
+    export_since(alloc, schema, commits, 0)
+}
+
+/// The frames from the commit of this number on: what a stream that has the frames before it goes on with.
+pub fn export_since(
+    alloc: Global,
+    schema: &Schema,
+    commits: &[Commit],
+    from: u64,
+) -> Result<Bytes, ExportFault>
+    requires agreed { AreAgreed commits.now }
+    requires kept { AreKept commits.now }
+    ensures { ExportsSince schema.now (map trees_of commits.now) from result }
+{
+    let writer = Writer { alloc, schema };
+    let mut bytes = Vec::new(alloc);
+    for number in from..commits.len() as u64 {
+        push_kept(&mut bytes, &writer, commits, number)?;
     }
     Ok(Seq::from_items(bytes))
 }

@@ -1,21 +1,23 @@
 //! A follower.
-ghost use Rattle.std.specs.Prelude.{◌≡◌, ◌<◌, ◌≤◌, ◌+◌, ◌^◌, ◌++◌, length, drop, take, None, [], IfOk, OnOk, OnErr, MatchResult};
-ghost use Rattle.std.specs.Option.{unwrap_or};
+ghost use Rattle.std.specs.Prelude.{◌≡◌, ◌<◌, ◌≤◌, ◌+◌, ◌^◌, ◌++◌, length, drop, take, true, None, [], IfOk, OnOk, OnErr, MatchResult};
 ghost use Rattle.sal_json.specs.Patterns.{patterns_of};
 ghost use Rattle.sal_follow.specs.Leader.{KeepsUp};
-ghost use Rattle.sal_follow.specs.Stream.{answer, fresh, rows_held};
-ghost use Rattle.sal_follow.specs.States.{Feeds, IsGained, IsJudged, IsStepped, IsWithin, held};
+ghost use Rattle.sal_follow.specs.Stream.{answer, are_trees, fresh, rows_held};
+ghost use Rattle.sal_follow.specs.States.{Feeds, IsGained, IsJudged, IsTwin, held};
 ghost use Rattle.sal_follow.specs.Front.{front};
 ghost use Rattle.sal_follow.specs.declared.front.Front.TheVariants.{Part};
 
 use crate::fault::FollowFault;
 use crate::front::{Front, front_of};
 use crate::reader::Reader;
-use crate::state::{State, advanced, copy_of};
+use crate::state::State;
+use crate::trees::{Both, both_of};
+use crate::twin::{Twin, state_of, stepped};
+use sal_history::{Device, Opening};
 use sal_json::Patterns;
 use sal_rows::Rows;
 use sal_schema::Schema;
-use sal_types::{Duplicate, NoMemory, Store};
+use sal_types::{NoMemory, Store};
 use std::alloc::Global;
 use std::marker::Model;
 use std::sync::Arc;
@@ -26,7 +28,7 @@ pub struct Follower {
     alloc: Global,
     schema: Arc<Schema>,
     patterns: Patterns,
-    state: State,
+    twin: Twin,
     rest: Vec<u8>,
 }
 
@@ -34,7 +36,7 @@ impl Model for Follower {
     ghost use Rattle.sal_json.specs.Patterns.{patterns_of};
     ghost use Rattle.std.specs.Prelude.{◌≡◌};
     ghost use Rattle.sal_follow.specs.Front.{front};
-    ghost use Rattle.sal_follow.specs.States.{Following, IsWithin, held};
+    ghost use Rattle.sal_follow.specs.States.{Following, IsTwin, held};
     ghost use Rattle.sal_follow.specs.declared.front.Front.TheVariants.{Part};
     ghost use Rattle.std.specs.Coded.{codes};
     ghost use Rattle.sal_restrict.specs.contracts.yang_type.YangType as e;
@@ -43,9 +45,9 @@ impl Model for Follower {
 
     ghost coded = { Prim.hlevel (codes, e.the_row.coded) };
 
-    ghost view = { λ f. record { schema = f.schema.value; held = held f.state f.rest.items } };
+    ghost view = { λ f. record { schema = f.schema.value; held = held f.twin.state f.rest.items } };
 
-    ghost invariant = { λ f. (f.patterns ≡ patterns_of f.schema.value) × IsWithin f.state × (front f.rest.items ≡ Part) };
+    ghost invariant = { λ f. (f.patterns ≡ patterns_of f.schema.value) × IsTwin f.schema.value f.twin × (front f.rest.items ≡ Part) };
 }
 
 // The bytes without the first ones.
@@ -56,17 +58,6 @@ fn cut(bytes: &mut Vec<u8>, used: usize)
     let len = bytes.len() - used;
     bytes.as_mut_slice().rotate_left(used);
     bytes.truncate(len);
-}
-
-// What is held after the frames that are there, and how many bytes these have.
-fn stepped(reader: &Reader, state: &State, bytes: &[u8]) -> Result<(State, usize), NoMemory>
-    requires within { IsWithin state.now }
-    requires going { state.now.fault ≡ None }
-    requires room { state.now.at + length bytes.now < 2 ^ 64 }
-    ensures { IfOk result (λ r. IsStepped reader.now.schema.now state.now bytes.now r.0 r.1) }
-{
-    let state = copy_of(state)?;
-    advanced(reader, state, bytes)
 }
 
 // Puts the piece at the end.
@@ -85,22 +76,23 @@ fn shortened(rest: &mut Vec<u8>, len: usize)
     rest.truncate(len);
 }
 
-// What is held after all frames that are there, with the bytes left. Without memory only the first bytes are left, so many of them.
+// Takes all frames that are there, and leaves the bytes behind them. Without memory only the first bytes are left, so many of them.
 fn judged(
     reader: &Reader,
-    state: &State,
+    twin: &mut Twin,
     rest: &mut Vec<u8>,
     before: usize,
-) -> Result<State, NoMemory>
-    requires within { IsWithin state.now }
-    requires going { state.now.fault ≡ None }
-    requires room { state.now.at + length rest.old.items < 2 ^ 64 }
-    ensures { MatchResult result (λ s. IsJudged reader.now.schema.now state.now rest.old.items s rest.new.items) (λ _. rest.new.items ≡ take before rest.old.items) }
+) -> Result<(), NoMemory>
+    requires twin { IsTwin reader.now.schema.now twin.old }
+    requires going { twin.old.state.fault ≡ None }
+    requires room { twin.old.state.at + length rest.old.items < 2 ^ 64 }
+    ensures told { MatchResult result (λ _. IsJudged reader.now.schema.now twin.old.state rest.old.items twin.new.state rest.new.items) (λ _. (rest.new.items ≡ take before rest.old.items) × (twin.new.state ≡ twin.old.state)) }
+    ensures twin { IsTwin reader.now.schema.now twin.new }
 {
-    match stepped(reader, state, rest) {
-        Ok((state, used)) => {
+    match stepped(reader, twin, rest) {
+        Ok(used) => {
             cut(rest, used);
-            Ok(state)
+            Ok(())
         }
         Err(NoMemory) => {
             shortened(rest, before);
@@ -109,26 +101,26 @@ fn judged(
     }
 }
 
-// What is held after a piece, with the bytes of an unfinished frame; none if that is the frame that was unfinished, and all else stays.
-// Without memory the bytes are as they were.
+// Takes a piece, and leaves the bytes of an unfinished frame. Without memory all stays.
 fn gained(
     reader: &Reader,
-    state: &State,
+    twin: &mut Twin,
     rest: &mut Vec<u8>,
     piece: &[u8],
-) -> Result<Option<State>, NoMemory>
-    requires within { IsWithin state.now }
-    requires going { state.now.fault ≡ None }
+) -> Result<(), NoMemory>
+    requires twin { IsTwin reader.now.schema.now twin.old }
+    requires going { twin.old.state.fault ≡ None }
     requires part { front rest.old.items ≡ Part }
-    requires room { state.now.at + length rest.old.items + length piece.now < 2 ^ 64 }
-    ensures { MatchResult result (λ o. IsGained reader.now.schema.now state.now rest.old.items piece.now (unwrap_or o state.now) rest.new.items) (λ _. rest.new.items ≡ rest.old.items) }
+    requires room { twin.old.state.at + length rest.old.items + length piece.now < 2 ^ 64 }
+    ensures told { MatchResult result (λ _. IsGained reader.now.schema.now twin.old.state rest.old.items piece.now twin.new.state rest.new.items) (λ _. (rest.new.items ≡ rest.old.items) × (twin.new.state ≡ twin.old.state)) }
+    ensures twin { IsTwin reader.now.schema.now twin.new }
 {
     let before = rest.len();
     append(rest, piece)?;
     match front_of(rest) {
-        Front::Part => Ok(None),
-        _ => match judged(reader, state, rest, before) {
-            Ok(state) => Ok(Some(state)),
+        Front::Part => Ok(()),
+        _ => match judged(reader, twin, rest, before) {
+            Ok(()) => Ok(()),
             Err(NoMemory) => Err(NoMemory),
         },
     }
@@ -154,13 +146,7 @@ impl Follower {
             alloc,
             schema,
             patterns,
-            state: State {
-                version: None,
-                config: Rows::new(alloc),
-                oper: Rows::new(alloc),
-                at: 0,
-                fault: None,
-            },
+            twin: Twin::new(alloc),
             rest: Vec::new(alloc),
         })
     }
@@ -182,16 +168,12 @@ impl Follower {
         requires { self.old.held.at + length self.old.held.rest + length piece.now < 2 ^ 64 }
         ensures { Feeds piece.now self.old self.new result }
     {
-        if let Some(fault) = self.state.fault {
+        if let Some(fault) = self.twin.state.fault {
             return Err(fault);
         }
         let reader = Reader::new(self.alloc, &self.schema, &self.patterns);
-        match gained(&reader, &self.state, &mut self.rest, piece) {
-            Ok(None) => Ok(self.state.version),
-            Ok(Some(state)) => {
-                self.state = state;
-                answered(&self.state)
-            }
+        match gained(&reader, &mut self.twin, &mut self.rest, piece) {
+            Ok(()) => answered(&self.twin.state),
             Err(NoMemory) => Err(FollowFault::NoMemory),
         }
     }
@@ -200,7 +182,7 @@ impl Follower {
     pub fn version(&self) -> Option<u64>
         ensures { result ≡ self.now.held.version }
     {
-        self.state.version
+        self.twin.state.version
     }
 
     /// The tree of a store at that commit. It takes no memory.
@@ -208,8 +190,8 @@ impl Follower {
         ensures { result.now ≡ rows_held self.now.held store }
     {
         match store {
-            Store::Config => &self.state.config,
-            Store::Oper => &self.state.oper,
+            Store::Config => &self.twin.state.config,
+            Store::Oper => &self.twin.state.oper,
         }
     }
 
@@ -218,5 +200,27 @@ impl Follower {
         ensures { result ≡ length self.now.held.rest }
     {
         self.rest.len() as u64
+    }
+
+    /// The domain at the commit held, as a device of a new hub: its schema is version 0, and the trees are the opening. They are trees of the
+    /// schema. It copies nothing, and takes no memory.
+    pub fn into_device(self) -> Device
+        ensures schema { result.schema.value ≡ self.schema }
+        ensures upgrades { result.upgrades.items ≡ [] }
+        ensures opening { result.opening ≡ record { config = self.held.config; oper = self.held.oper } }
+        ensures trees { are_trees self.schema self.held.config self.held.oper ≡ true }
+    {
+        let Follower {
+            alloc,
+            schema,
+            twin,
+            ..
+        } = self;
+        let Both { config, oper } = both_of(state_of(twin));
+        Device {
+            schema,
+            upgrades: Vec::new(alloc),
+            opening: Opening { config, oper },
+        }
     }
 }

@@ -1,5 +1,5 @@
 //! Laws of the definitions. A call does nothing: its clauses are the laws.
-ghost use Rattle.sal_follow.specs.Laws.{CellsReadAsWritten, ExportsAreFollowed, FramesAreRead, HoldsTheLast, PathsReadAsWritten, PiecesDoNotMatter, PlacesCountBytes, TakesWholeFrames};
+ghost use Rattle.sal_follow.specs.Laws.{CellsReadAsWritten, ExportsAreFollowed, FramesAreRead, HoldsTheLast, PathsReadAsWritten, PiecesDoNotMatter, PlacesCountBytes, StreamsGoOn, TakesWholeFrames};
 
 /// A frame is read where it begins, whatever follows it.
 pub fn frames_are_read()
@@ -27,6 +27,11 @@ pub fn rows_read_as_written()
 pub fn exports_are_followed()
     ensures followed { ExportsAreFollowed }
     ensures last { HoldsTheLast }
+{}
+
+/// A stream of the frames before a commit goes on with the frames from that commit on (`export_since`).
+pub fn streams_go_on()
+    ensures { StreamsGoOn }
 {}
 
 /// The place of an unfinished frame in the stream, and the number of its bytes, are together at most the number of the bytes that came; and

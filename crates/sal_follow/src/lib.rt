@@ -2,7 +2,8 @@
 //!
 //! | item | what it is |
 //! |---|---|
-//! | `export`, `ExportFault` | the frames of the commits of a domain, as bytes; why there are none |
+//! | `export`, `ExportFault` | the frames of commits, as bytes; why there are none |
+//! | `export_kept`, `export_since` | the same of commits that a domain keeps, by their operations: all frames, and those from a commit on |
 //! | `Follower` | takes such bytes in pieces, and holds the trees of the last commit that came; a contract sees its schema and what it holds |
 //! | `FollowFault` | why a stream is not followed |
 //! | `Frame`, `Front` | what the definitions speak of: a frame, and what stands at the front of bytes |
@@ -13,7 +14,7 @@
 //! an export, in any pieces, holds the leader's trees.
 //!
 //! ```
-//! let bytes = export(alloc, &schema, &domain.commits)?;
+//! let bytes = export_kept(alloc, &schema, &domain.commits)?;
 //! let mut follower = Follower::new(alloc, schema, patterns)?;
 //! let commit = follower.feed(bytes.items())?;
 //! let rows = follower.rows(Store::Config);
@@ -21,9 +22,13 @@
 //!
 //! | call | cost |
 //! |---|---|
-//! | `export` | frame 0: all rows of the opening; each other: what `sal_delta` takes for the changes of a commit, and their text |
-//! | `Follower::feed` | each byte is looked at some times, whatever the pieces; each whole frame: a copy of both trees, and a check of them |
-//! | `Follower::version`, `rows`, `waiting` | constant |
+//! | `export_kept`, `export_since` | frame 0: all rows of the opening; each other: what `changes_by` of `sal_delta` takes for a commit, by its operations, and the text of the changes |
+//! | `export` | the same, but what `changes` takes for a commit: it looks at all children of each node that changed, so at all entries of a list in which one did |
+//! | `Follower::feed` | each byte is looked at some times, whatever the pieces; each row of a frame: two searches by halves in its tree and two copies of the row, and what `sal_near` takes near it. A row that comes or goes moves those behind it, twice |
+//! | `Follower::version`, `rows`, `waiting`, `into_device` | constant |
+//!
+//! A follower holds each tree twice. It copies trees only for the first frame after memory ran out, and for one whose trees are refused, after which
+//! it takes no frame.
 //!
 //! A sender can make a follower keep one frame of 16,777,226 bytes, and no more: longer ones are refused by their head. The text is read by
 //! `serde_json`, which bounds how deep it nests.
@@ -41,9 +46,11 @@ pub mod laws;
 mod members;
 mod reader;
 mod state;
+mod trees;
+mod twin;
 mod writer;
 
-pub use exports::export;
+pub use exports::{export, export_kept, export_since};
 pub use fault::{ExportFault, FollowFault};
 pub use follower::Follower;
 pub use frame::Frame;

@@ -1,18 +1,18 @@
 //! What a follower holds, frame by frame.
-ghost use Rattle.std.specs.Prelude.{◌≡◌, ◌<◌, ◌≤◌, ◌+◌, ◌^◌, [], None, length, IfOk};
+ghost use Rattle.std.specs.Prelude.{◌≡◌, ◌<◌, ◌≤◌, ◌+◌, ◌^◌, ◌++◌, [], None, Some, length, IfOk};
 ghost use Rattle.sal_rows.specs.Patch.{patched};
+ghost use Rattle.sal_follow.specs.declared.fault.FollowFault.TheVariants.{BadFrame};
 ghost use Rattle.sal_follow.specs.Stream as spec;
-ghost use Rattle.sal_follow.specs.States.{held, trees_after, IsStepped, IsWithin};
+ghost use Rattle.sal_follow.specs.States.{held, FrameFits, IsSound, IsStepped, IsWithin, StaysSound};
 ghost use Rattle.sal_follow.specs.Front.{size_of, text_in};
 
 use crate::fault::FollowFault;
 use crate::frame::Frame;
 use crate::front::{Front, front_of};
 use crate::reader::Reader;
-use sal_data::fits_rows;
-use sal_rows::{Patch, Rows};
-use sal_schema::Schema;
-use sal_types::{Duplicate, NoMemory, Path, Seq};
+use crate::trees::{Both, Log, both_of, both_patched, copy_of, longer, trees_after};
+use sal_rows::Rows;
+use sal_types::NoMemory;
 use std::alloc::Global;
 
 /// The commit held and its trees, where its frame ends in the stream, and the first fault.
@@ -25,78 +25,26 @@ pub(crate) struct State {
     pub(crate) fault: Option<FollowFault>,
 }
 
-/// Both trees.
+/// What is held after some frames of a piece, and what these set.
 #[derive(Drop)]
-pub(crate) struct Both {
-    pub(crate) config: Rows,
-    pub(crate) oper: Rows,
+pub(crate) struct Run {
+    pub(crate) state: State,
+    pub(crate) log: Log,
 }
 
-/// A second one.
-pub(crate) fn copy_of(state: &State) -> Result<State, NoMemory>
-    ensures { IfOk result (λ it. it ≡ state.now) }
-{
-    let config = state.config.copy()?;
-    let oper = state.oper.copy()?;
-    Ok(State {
-        version: state.version,
-        config,
-        oper,
-        at: state.at,
-        fault: state.fault,
-    })
-}
-
-// Whether a row is one of a state node.
-fn has_state(schema: &Schema, rows: &Rows) -> bool
-    ensures { result ≡ spec.has_state schema.now rows.now }
-{
-    rows.items().iter().any(|row| schema.is_of_state(&row.path))
-}
-
-// Whether these are trees of the schema.
-fn are_trees(alloc: Global, schema: &Schema, both: &Both) -> bool
-    ensures { result ≡ spec.are_trees schema.now both.now.config both.now.oper }
-{
-    let root = Path::root(alloc);
-    fits_rows(schema, &root, &both.config)
-        && !has_state(schema, &both.config)
-        && fits_rows(schema, &root, &both.oper)
-}
-
-// A copy of the rows with these patches.
-fn patched(rows: &Rows, patches: Seq<Patch>) -> Result<Rows, NoMemory>
-    ensures { IfOk result (λ after. after ≡ patched rows.now patches) }
-{
-    let mut after = rows.copy()?;
-    after.patch(patches.into_items())?;
-    Ok(after)
-}
-
-// The trees after a frame, where they are trees of the schema.
-fn trees_after(
-    alloc: Global,
-    schema: &Schema,
-    state: &State,
-    config: Seq<Patch>,
-    oper: Seq<Patch>,
-) -> Result<Option<Both>, NoMemory>
-    ensures { IfOk result (λ o. o ≡ trees_after schema.now state.now config oper) }
-{
-    let config = patched(&state.config, config)?;
-    let oper = patched(&state.oper, oper)?;
-    let both = Both { config, oper };
-    if are_trees(alloc, schema, &both) {
-        Ok(Some(both))
-    } else {
-        Ok(None)
-    }
+// A frame that came, and the number of its bytes.
+#[derive(Drop)]
+struct Came {
+    frame: Frame,
+    size: u64,
 }
 
 // The same with a fault.
 fn failed(state: State, fault: FollowFault) -> State
     ensures held { held result [] ≡ spec.failed (held state []) fault }
     ensures at { result.at ≡ state.at }
+    ensures trees { (result.config ≡ state.config) × (result.oper ≡ state.oper) }
+    ensures version { result.version ≡ state.version }
 {
     State {
         version: state.version,
@@ -118,67 +66,132 @@ fn next(state: &State) -> u64
     }
 }
 
-// The state after a frame of so many bytes.
-fn after_frame(
-    alloc: Global,
-    schema: &Schema,
-    state: State,
-    size: u64,
-    frame: Frame,
-) -> Result<State, NoMemory>
-    requires within { IsWithin state }
-    requires going { state.fault ≡ None }
-    requires room { state.at + size < 2 ^ 64 }
-    requires some { 0 < size }
-    ensures held { IfOk result (λ s. held s [] ≡ spec.if_next schema.now (held state []) size frame) }
-    ensures within { IfOk result IsWithin }
-    ensures at { IfOk result (λ s. s.at ≤ state.at + size) }
+// The same run with a fault.
+fn stopped(run: Run, fault: FollowFault) -> Run
+    ensures held { held result.state [] ≡ spec.failed (held run.state []) fault }
+    ensures at { result.state.at ≡ run.state.at }
+    ensures sound { StaysSound run result }
 {
-    let want = next(&state);
-    if frame.commit != want {
-        let got = frame.commit;
-        return Ok(failed(state, FollowFault::Gap { want, got }));
+    let Run { state, log } = run;
+    Run {
+        state: failed(state, fault),
+        log,
     }
+}
+
+// The run with the trees after a frame.
+fn moved(both: Both, log: Log, at: u64, frame: Frame) -> Result<Run, NoMemory>
+    ensures state { IfOk result (λ run. run.state ≡ record { version = Some frame.commit; config = both.config; oper = both.oper; at = at; fault = None }) }
+    ensures config { IfOk result (λ run. run.log.config.items ≡ log.config.items ++ frame.config) }
+    ensures oper { IfOk result (λ run. run.log.oper.items ≡ log.oper.items ++ frame.oper) }
+{
     let Frame {
         commit,
         config,
         oper,
     } = frame;
-    match trees_after(alloc, schema, &state, config, oper)? {
-        Some(both) => Ok(State {
+    let log = longer(log, config, oper)?;
+    Ok(Run {
+        state: State {
             version: Some(commit),
             config: both.config,
             oper: both.oper,
-            at: state.at + size,
+            at,
             fault: None,
-        }),
+        },
+        log,
+    })
+}
+
+// The trees of the last good commit, made again from those at the start, since a frame has spoiled them.
+fn again(alloc: Global, start: &State, log: &Log) -> Result<Both, NoMemory>
+    ensures config { IfOk result (λ both. both.config ≡ patched start.now.config log.now.config.items) }
+    ensures oper { IfOk result (λ both. both.oper ≡ patched start.now.oper log.now.oper.items) }
+{
+    let both = copy_of(start)?;
+    both_patched(alloc, both, &log.config, &log.oper)
+}
+
+// The run at the last good commit, with the trees of this.
+fn spoiled(both: Both, log: Log, version: Option<u64>, at: u64) -> Run
+    ensures state { result.state ≡ record { version = version; config = both.config; oper = both.oper; at = at; fault = Some (BadFrame at) } }
+    ensures log { result.log ≡ log }
+{
+    Run {
+        state: State {
+            version,
+            config: both.config,
+            oper: both.oper,
+            at,
+            fault: Some(FollowFault::BadFrame { at }),
+        },
+        log,
+    }
+}
+
+// The run after a frame that has the number of the next commit.
+fn after_next(reader: &Reader, start: &State, run: Run, came: Came) -> Result<Run, NoMemory>
+    requires sound { IsSound reader.now.schema.now start.now run }
+    requires fits { FrameFits reader.now.schema.now came.frame }
+    requires room { run.state.at + came.size < 2 ^ 64 }
+    requires some { 0 < came.size }
+    requires next { came.frame.commit ≡ spec.next run.state.version }
+    ensures held { IfOk result (λ it. held it.state [] ≡ spec.if_trees reader.now.schema.now (held run.state []) came.size came.frame.commit (patched run.state.config came.frame.config) (patched run.state.oper came.frame.oper)) }
+    ensures sound { IfOk result (λ it. IsSound reader.now.schema.now start.now it) }
+    ensures at { IfOk result (λ it. it.state.at ≤ run.state.at + came.size) }
+{
+    let Run { state, log } = run;
+    let Came { frame, size } = came;
+    let version = state.version;
+    let at = state.at;
+    match trees_after(reader.alloc, reader.schema, both_of(state), &frame)? {
+        Some(both) => {
+            let next = moved(both, log, at + size, frame)?;
+            Ok(next)
+        }
         None => {
-            let at = state.at;
-            Ok(failed(state, FollowFault::BadFrame { at }))
+            let both = again(reader.alloc, start, &log)?;
+            Ok(spoiled(both, log, version, at))
         }
     }
 }
 
-// The state after the frame of this text.
-fn taken(reader: &Reader, state: State, text: &[u8]) -> Result<State, NoMemory>
-    requires within { IsWithin state }
-    requires going { state.fault ≡ None }
-    requires room { state.at + length text.now + 10 < 2 ^ 64 }
-    ensures held { IfOk result (λ s. held s [] ≡ spec.taken reader.now.schema.now (held state []) (size_of (length text.now)) text.now) }
-    ensures within { IfOk result IsWithin }
-    ensures at { IfOk result (λ s. s.at ≤ state.at + (length text.now + 10)) }
+// The run after a frame.
+fn after_frame(reader: &Reader, start: &State, run: Run, came: Came) -> Result<Run, NoMemory>
+    requires sound { IsSound reader.now.schema.now start.now run }
+    requires fits { FrameFits reader.now.schema.now came.frame }
+    requires going { run.state.fault ≡ None }
+    requires room { run.state.at + came.size < 2 ^ 64 }
+    requires some { 0 < came.size }
+    ensures held { IfOk result (λ it. held it.state [] ≡ spec.if_next reader.now.schema.now (held run.state []) came.size came.frame) }
+    ensures sound { IfOk result (λ it. IsSound reader.now.schema.now start.now it) }
+    ensures at { IfOk result (λ it. it.state.at ≤ run.state.at + came.size) }
+{
+    let want = next(&run.state);
+    let got = came.frame.commit;
+    if got != want {
+        return Ok(stopped(run, FollowFault::Gap { want, got }));
+    }
+    after_next(reader, start, run, came)
+}
+
+// The run after the frame of this text.
+fn taken(reader: &Reader, start: &State, run: Run, text: &[u8]) -> Result<Run, NoMemory>
+    requires sound { IsSound reader.now.schema.now start.now run }
+    requires going { run.state.fault ≡ None }
+    requires room { run.state.at + length text.now + 10 < 2 ^ 64 }
+    ensures held { IfOk result (λ it. held it.state [] ≡ spec.taken reader.now.schema.now (held run.state []) (size_of (length text.now)) text.now) }
+    ensures sound { IfOk result (λ it. IsSound reader.now.schema.now start.now it) }
+    ensures at { IfOk result (λ it. it.state.at ≤ run.state.at + (length text.now + 10)) }
 {
     match reader.frame_in(text)? {
-        Some(frame) => after_frame(
-            reader.alloc,
-            reader.schema,
-            state,
-            text.len() as u64 + 10,
-            frame,
-        ),
+        Some(frame) => {
+            let size = text.len() as u64 + 10;
+            after_frame(reader, start, run, Came { frame, size })
+        }
         None => {
-            let at = state.at;
-            Ok(failed(state, FollowFault::BadFrame { at }))
+            let at = run.state.at;
+            Ok(stopped(run, FollowFault::BadFrame { at }))
         }
     }
 }
@@ -191,35 +204,37 @@ fn text_of(rest: &[u8], len: usize) -> &[u8]
     &rest[9..9 + len]
 }
 
-/// The state after all frames that are there, and how many bytes these have.
+/// The run after all frames that are there, and how many bytes these have.
 pub(crate) fn advanced(
     reader: &Reader,
-    state: State,
+    start: &State,
+    run: Run,
     bytes: &[u8],
-) -> Result<(State, usize), NoMemory>
-    requires within { IsWithin state }
-    requires going { state.fault ≡ None }
-    requires room { state.at + length bytes.now < 2 ^ 64 }
-    ensures { IfOk result (λ r. IsStepped reader.now.schema.now state bytes.now r.0 r.1) }
+) -> Result<(Run, usize), NoMemory>
+    requires sound { IsSound reader.now.schema.now start.now run }
+    requires going { run.state.fault ≡ None }
+    requires room { run.state.at + length bytes.now < 2 ^ 64 }
+    ensures stepped { IfOk result (λ r. IsStepped reader.now.schema.now run.state bytes.now r.0.state r.1) }
+    ensures sound { IfOk result (λ r. IsSound reader.now.schema.now start.now r.0) }
 {
-    let mut state = state;
+    let mut run = run;
     let mut used = 0;
     while used < bytes.len() {
         let rest = &bytes[used..];
         match front_of(rest) {
-            Front::Part => return Ok((state, used)),
+            Front::Part => return Ok((run, used)),
             Front::Broken => {
-                let at = state.at;
-                return Ok((failed(state, FollowFault::BadFrame { at }), bytes.len()));
+                let at = run.state.at;
+                return Ok((stopped(run, FollowFault::BadFrame { at }), bytes.len()));
             }
             Front::Whole { len } => {
-                state = taken(reader, state, text_of(rest, len))?;
-                if state.fault.is_some() {
-                    return Ok((state, bytes.len()));
+                run = taken(reader, start, run, text_of(rest, len))?;
+                if run.state.fault.is_some() {
+                    return Ok((run, bytes.len()));
                 }
                 used += len + 10;
             }
         }
     }
-    Ok((state, used))
+    Ok((run, used))
 }

@@ -2,4 +2,3 @@ pub mod Children
 pub mod Floats
 pub mod Lists
 pub mod Replayed
-pub mod Roots

@@ -30,9 +30,9 @@
 //! // tree 0 1 {"topo:network":{"node":[{"id":"a"}]}} {}
 //! ```
 //!
-//! Cost: the text grows in place. Beside it stand the rows and the JSON of one tree, or of one reply, at a time. Time is linear in the text, beside
-//! what `sal_tree` takes to list the rows, `sal_data` to write them and `sal_pathtext` to write the paths.
-//! `told_domains` goes once through the log and makes its calls on mounts once more, which takes what `sal_mount` takes for them.
+//! Cost: the text grows in place. Beside it stands the JSON of one reply at a time; trees are written from their nodes, and a load's rows are
+//! counted on them (`sal_tree_text`). Time is linear in the text, beside what `sal_data` takes to write the rows of a reply and `sal_pathtext`
+//! to write the paths. `told_domains` goes once through the log and makes its calls on mounts once more, which takes what `sal_mount` takes for them.
 #![tactic(auto)]
 
 mod answered;
@@ -49,7 +49,6 @@ mod replies;
 mod schemas;
 mod services;
 mod told;
-mod trees;
 mod words;
 
 pub use answered::{reply_text, report_of_lines};

@@ -15,7 +15,7 @@ use Rattle.sal_turn.specs.Lists.{In}
 use Rattle.sal_turn.specs.Seats.{Place, TableId}
 use Rattle.sal_turn.specs.Views.{AnswersFor, both, newcomer, opener}
 use Rattle.sal_turn.proofs.Lists.{in_either, prefix_trans}
-use Rattle.sal_broker.specs.Seats.{SeatView, client_of as maker_of, known}
+use Rattle.sal_broker.specs.Seats.{SeatView, client_of as maker_of, inside, known}
 use Rattle.sal_hub.specs.HubHistory.{HubHistory}
 use Rattle.sal_script.specs.Along.{AreLogOf, PerformsAlong, IsAt, new_run}
 use Rattle.sal_script.specs.JsonMoves.{have_json_moves}
@@ -33,7 +33,6 @@ use Rattle.sal_client.specs.declared.wish.RunFault.TheVariants.{HistoryFull, NoM
 use Rattle.sal_client.specs.Clients.{client_of}
 use Rattle.sal_client.specs.Runs.{moves_from, replies_in, run_of}
 use Rattle.sal_client.proofs.Values.{program_at}
-use Rattle.sal_run.specs.declared.clients.Finished.{Finished}
 use Rattle.sal_run.specs.declared.clients.SeatedRun.{SeatedRun}
 use Rattle.sal_run.specs.Joined.{AreSeated, Collects, IsSeated, Joins, named, upto, with_replies}
 use Rattle.sal_run.specs.Ran.{AreRan, IsOpening}
@@ -82,9 +81,9 @@ moves_short (q ∷ ps) all =
 -- ---- one client, before its first step
 
 pub new_stands : (tables : List Versions) (lock : TableId) (programs : List (List ScriptStep)) (s : SeatedRun) (steps : List ScriptStep) → within_limits programs ≡ true → have_json_moves (clients_of programs) ≡ true → IsNew tables lock programs s
-    → slice_get programs s.run.client.number ≡ Some steps → Stands tables steps s.seat.view s.run (run_of steps s.run)
+    → slice_get programs s.run.client.number ≡ Some steps → Stands tables steps (inside s.seat).view s.run (run_of steps s.run)
 new_stands tables lock programs s steps limits json is at =
-    let v : SeatView = s.seat.view in
+    let v : SeatView = (inside s.seat).view in
     let start : IsAt tables (known v).world v.number (moves_of steps) v.seen (new_run (moves_of steps)) =
     at_found_own tables (known v).world v.number (moves_of steps) [] v.seen [] (new_run (moves_of steps)) (v.seen, refl) refl is.none (at_start tables (known v).world v.number (moves_of steps)) in
     record {
@@ -121,12 +120,13 @@ seated_more lock v w n runs s are is same = record {
       (λ (h : (i ≡ length runs) × (s ≡ t)).
       let number : n ≡ i = sym (h.0 ∙ are.long) in
       subst (λ (k : ℕ). IsSeated lock v k t) number (subst (λ (x : SeatedRun). IsSeated lock v n x) h.1
-      (record { lock = is.lock; view = is.view ∙ same; number = is.number; at = is.at; client = is.client; sound = is.sound })))
+      (record { there = is.there; lock = is.lock; view = is.view ∙ same; number = is.number; at = is.at; client = is.client; sound = is.sound })))
       (get-push runs s i t at);
 }
 
 pub seated_new : (tables : List Versions) (lock : TableId) (programs : List (List ScriptStep)) (v : SeatView) (i : ℕ) (s : SeatedRun) → tables ≡ versions_of (known v).world → v.seen ≡ [] → i < length programs → IsSeated lock v i s → IsNew tables lock programs s
 seated_new tables lock programs v i s reads none within is = record {
+  there = is.there;
   lock = is.lock;
   number = is.number ∙ ap (λ (w : SeatView). w.number) (sym is.view);
   has = let number = is.number in omega (arith, number, within);
@@ -139,27 +139,27 @@ seated_new tables lock programs v i s reads none within is = record {
 }
 
 -- the clients on their threads, by the index of their seats
-pub worked_at : (tables : List Versions) (lock : TableId) (programs : List (List ScriptStep)) (v : SeatView) (n : ℕ) (runs : List SeatedRun) (fs : List Finished) → AreSeated lock v n runs → length fs ≡ length runs
-    → ((i : ℕ) (f : Finished) (r : SeatedRun) → i < length runs → r ≡ get_or runs i r → Worked tables lock programs r.seat (get_or fs i f))
-    → (i : ℕ) (f : Finished) → slice_get fs i ≡ Some f → Worked tables lock programs (record { lock = lock; view = newcomer i v }) f
+pub worked_at : (tables : List Versions) (lock : TableId) (programs : List (List ScriptStep)) (v : SeatView) (n : ℕ) (runs : List SeatedRun) (fs : List SeatedRun) → AreSeated lock v n runs → length fs ≡ length runs
+    → ((i : ℕ) (r : SeatedRun) → i < length runs → Worked tables lock programs (inside (get_or runs i r).seat) (get_or fs i r))
+    → (i : ℕ) (f : SeatedRun) → slice_get fs i ≡ Some f → Worked tables lock programs (record { lock = lock; view = newcomer i v }) f
 worked_at tables lock programs v n runs fs are long each i f at =
     let within : i < length runs = let l = slice_get_within fs i f at in omega (arith, l, long) in
     let own = get_some runs i within in
     let is = are.each i own.0 own.1 in
-    let place : own.0.seat ≡ record { lock = lock; view = newcomer i v } = (λ k. record { lock = is.lock k; view = is.view k }) in
+    let place : (inside own.0.seat) ≡ record { lock = lock; view = newcomer i v } = (λ k. record { lock = is.lock k; view = is.view k }) in
     subst (λ (p : Place Entry (List Domain)). Worked tables lock programs p f) place
-    (subst (λ (g : Finished). Worked tables lock programs own.0.seat g) (get_or_from_slice_get fs i f f at)
-    (each i f own.0 within (sym (get_or_from_slice_get runs i own.0 own.0 own.1))))
+    (subst (λ (g : SeatedRun). Worked tables lock programs (inside own.0.seat) g) (get_or_from_slice_get fs i f f at)
+    (subst (λ (r : SeatedRun). Worked tables lock programs (inside r.seat) (get_or fs i f)) (get_or_from_slice_get runs i own.0 f own.1) (each i f within)))
 
 -- ---- all taken in
 
 pub joins_none : (lock : TableId) (p : Place Entry (List Domain)) → p.lock ≡ lock → p.view.joined ≡ [] → Joins lock p.view [] p
 joins_none lock p is none = record { lock = is; number = refl; ground = refl; own = refl; rights = λ h. (h, refl); joined = none; seen = λ i f at. absurd (no_element i f at) }
   where
-    no_element : (i : ℕ) (f : Finished) → (let fs : List Finished = [] in slice_get fs i) ≡ Some f → ⊥
+    no_element : (i : ℕ) (f : SeatedRun) → (let fs : List SeatedRun = [] in slice_get fs i) ≡ Some f → ⊥
     no_element i f at = cc
 
-pub joins_more : (lock : TableId) (v : SeatView) (fs : List Finished) (f : Finished) (p q : Place Entry (List Domain)) → f.seat.view.joined ≡ [] → q.lock ≡ lock → q.view ≡ both p.view f.seat.view → IsPrefix p.view.seen q.view.seen → IsPrefix f.seat.view.seen q.view.seen
+pub joins_more : (lock : TableId) (v : SeatView) (fs : List SeatedRun) (f : SeatedRun) (p q : Place Entry (List Domain)) → (inside f.seat).view.joined ≡ [] → q.lock ≡ lock → q.view ≡ both p.view (inside f.seat).view → IsPrefix p.view.seen q.view.seen → IsPrefix (inside f.seat).view.seen q.view.seen
     → Joins lock v fs p → Joins lock v (fs ++ f ∷ []) q
 joins_more lock v fs f p q alone is view first second was = record {
   lock = is;
@@ -167,16 +167,16 @@ joins_more lock v fs f p q alone is view first second was = record {
   ground = ap (λ (w : SeatView). w.ground) view ∙ was.ground;
   own = ap (λ (w : SeatView). w.own) view ∙ was.own;
   rights = λ splits. let old = was.rights splits in (
-    ap (λ (w : SeatView). w.splits) view ∙ ap (λ (b : Bool). b || f.seat.view.splits) old.0,
-    ap (λ (w : SeatView). w.given) view ∙ ap (λ (b : Bool). let given : List ℕ = cond b p.view.given f.seat.view.given in given) old.0 ∙ old.1,
+    ap (λ (w : SeatView). w.splits) view ∙ ap (λ (b : Bool). b || (inside f.seat).view.splits) old.0,
+    ap (λ (w : SeatView). w.given) view ∙ ap (λ (b : Bool). let given : List ℕ = cond b p.view.given (inside f.seat).view.given in given) old.0 ∙ old.1,
   );
   joined =
       ap (λ (w : SeatView). w.joined) view
-      ∙ (λ k. was.joined k ++ ((f.seat.view.number, f.seat.view.own) ∷ alone k))
+      ∙ (λ k. was.joined k ++ (((inside f.seat).view.number, (inside f.seat).view.own) ∷ alone k))
       ∙ sym (map_push named fs f);
   seen = λ i g at. ⊎_elim
-      (λ (h : slice_get fs i ≡ Some g). prefix_trans g.seat.view.seen p.view.seen q.view.seen (was.seen i g h) first)
-      (λ (h : (i ≡ length fs) × (f ≡ g)). subst (λ (x : Finished). IsPrefix x.seat.view.seen q.view.seen) h.1 second)
+      (λ (h : slice_get fs i ≡ Some g). prefix_trans (inside g.seat).view.seen p.view.seen q.view.seen (was.seen i g h) first)
+      (λ (h : (i ≡ length fs) × (f ≡ g)). subst (λ (x : SeatedRun). IsPrefix (inside x.seat).view.seen q.view.seen) h.1 second)
       (get-push fs f i g at);
 }
 
@@ -190,13 +190,13 @@ collects_none = record {
     same_list : (list : List (List StepReply)) → (let none : Result (List (List StepReply)) RunFault = Ok [] in none) ≡ Ok list → [] ≡ list
     same_list list is = cc
 
-    no_element : (i : ℕ) (f : Finished) → (let fs : List Finished = [] in slice_get fs i) ≡ Some f → ⊥
+    no_element : (i : ℕ) (f : SeatedRun) → (let fs : List SeatedRun = [] in slice_get fs i) ≡ Some f → ⊥
     no_element i f at = cc
 
     no_fault : (let none : Result (List (List StepReply)) RunFault = Ok [] in none) ≡ Err HistoryFull → ⊥
     no_fault is = cc
 
-module _ (fs : List Finished) (f : Finished) (replies result : Result (List (List StepReply)) RunFault) where
+module _ (fs : List SeatedRun) (f : SeatedRun) (replies result : Result (List (List StepReply)) RunFault) where
   with_ok : (r : Result (List (List StepReply)) RunFault) (end : Result (Unit {0}) RunFault) (rs : List StepReply) (list : List (List StepReply)) → with_replies r end rs ≡ Ok list
       → (before : List (List StepReply)) × (r ≡ Ok before) × (end ≡ Ok tt) × (before ++ rs ∷ [] ≡ list)
   with_ok (Ok before) (Ok done) rs list is = (before, refl, refl, ap (λ (x : Result (List (List StepReply)) RunFault). kept x) is)
@@ -219,10 +219,10 @@ module _ (fs : List Finished) (f : Finished) (replies result : Result (List (Lis
   pub collects_more : (result ≡ with_replies replies f.end (replies_in f.run)) ⊎ (result ≡ Err NoMemory) → Collects fs replies → Collects (fs ++ f ∷ []) result
   collects_more made was = record {
     all = λ list is. let o = made_ok list is in
-        sym o.3 ∙ (λ k. was.all o.0 o.1 k ++ replies_in f.run ∷ []) ∙ sym (map_push (λ (g : Finished). replies_in g.run) fs f);
+        sym o.3 ∙ (λ k. was.all o.0 o.1 k ++ replies_in f.run ∷ []) ∙ sym (map_push (λ (g : SeatedRun). replies_in g.run) fs f);
     ended = λ list is i g at. let o = made_ok list is in ⊎_elim
         (λ (h : slice_get fs i ≡ Some g). was.ended o.0 o.1 i g h)
-        (λ (h : (i ≡ length fs) × (f ≡ g)). ap (λ (x : Finished). x.end) (sym h.1) ∙ o.2)
+        (λ (h : (i ≡ length fs) × (f ≡ g)). ap (λ (x : SeatedRun). x.end) (sym h.1) ∙ o.2)
         (get-push fs f i g at);
     full = λ is. ⊎_elim
         (λ (h : replies ≡ Err HistoryFull). let o = was.full h in (o.0, o.1, get_left fs (f ∷ []) o.0 (slice_get_within fs o.0 o.1 o.2) ∙ o.2, o.3))
@@ -248,7 +248,7 @@ module _ (fs : List Finished) (f : Finished) (replies result : Result (List (Lis
           no_full : (let r : Result (List (List StepReply)) RunFault = Err NoMemory in r) ≡ Err HistoryFull → ⊥
           no_full e = cc
 
-      last : (xs : List Finished) (x : Finished) → slice_get (xs ++ x ∷ []) (length xs) ≡ Some x
+      last : (xs : List SeatedRun) (x : SeatedRun) → slice_get (xs ++ x ∷ []) (length xs) ≡ Some x
       last [] x = refl
       last (y ∷ xs) x = last xs x
 
@@ -274,12 +274,12 @@ module _ (tables : List Versions) (lock : TableId) (programs : List (List Script
   number_is = ran.joins.number ∙ begun.number
 
   -- each client's number and entries are among those joined
-  one_in : (i : ℕ) (f : Finished) → slice_get ran.clients i ≡ Some f → In (i, f.seat.view.own) place.view.joined
+  one_in : (i : ℕ) (f : SeatedRun) → slice_get ran.clients i ≡ Some f → In (i, (inside f.seat).view.own) place.view.joined
   one_in i f at =
-      subst (λ (k : ℕ). In (k, f.seat.view.own) place.view.joined) (ran.each i f at).keeps.1.0
+      subst (λ (k : ℕ). In (k, (inside f.seat).view.own) place.view.joined) (ran.each i f at).keeps.1.0
       (subst (In (named f)) (sym ran.joins.joined) (in_map ran.clients i at))
     where
-      in_map : (fs : List Finished) (i : ℕ) → slice_get fs i ≡ Some f → In (named f) (map named fs)
+      in_map : (fs : List SeatedRun) (i : ℕ) → slice_get fs i ≡ Some f → In (named f) (map named fs)
       in_map [] i at = cc
       in_map (g ∷ fs) zero at = inl (ap named (same_Some g f at))
       in_map (g ∷ fs) (suc i) at = inr (in_map fs i at)
@@ -290,7 +290,7 @@ module _ (tables : List Versions) (lock : TableId) (programs : List (List Script
       (λ (h : In k (upto (length programs))).
       let l = in_upto (length programs) k h in
       let own = get_some ran.clients k (let long = ran.long in omega (arith, l, long)) in
-      inr (own.0.seat.view.own, one_in k own.0 own.1))
+      inr ((inside own.0.seat).view.own, one_in k own.0 own.1))
       (subst (In k) (ran.joins.rights begun.splits).1 i)
 
   -- no other number is
@@ -305,15 +305,15 @@ module _ (tables : List Versions) (lock : TableId) (programs : List (List Script
       absurd (omega (arith, is, within, long, high)))
       a
     where
-      map_in : (fs : List Finished) (y : ℕ × List Entry) → In y (map named fs) → (i : ℕ) × (f : Finished) × (slice_get fs i ≡ Some f) × (named f ≡ y)
+      map_in : (fs : List SeatedRun) (y : ℕ × List Entry) → In y (map named fs) → (i : ℕ) × (f : SeatedRun) × (slice_get fs i ≡ Some f) × (named f ≡ y)
       map_in [] y h = absurd h
       map_in (g ∷ fs) y h = ⊎_elim (λ (e : named g ≡ y). (0, g, refl, e)) (λ (t : In y (map named fs)). let o = map_in fs y t in (suc o.0, o.1, o.2, o.3)) h
 
   module _ (hub : HubHistory) (world : place.view.ground ≡ Some hub.world) (seen : IsPrefix place.view.seen hub.log) (mine : entries_by maker_of place.view.number hub.log ≡ place.view.own)
       (joined : (k : ℕ) (es : List Entry) → In (k, es) place.view.joined → entries_by maker_of k hub.log ≡ es) (others : (k : ℕ) → ¬ AnswersFor place.view k → entries_by maker_of k hub.log ≡ []) where
     -- each client's entries
-    theirs : (i : ℕ) (f : Finished) → slice_get ran.clients i ≡ Some f → entries_by maker_of i hub.log ≡ f.seat.view.own
-    theirs i f at = joined i f.seat.view.own (one_in i f at)
+    theirs : (i : ℕ) (f : SeatedRun) → slice_get ran.clients i ≡ Some f → entries_by maker_of i hub.log ≡ (inside f.seat).view.own
+    theirs i f at = joined i (inside f.seat).view.own (one_in i f at)
 
     -- an entry is one of its client's
     none_there : (k : ℕ) (log : List Entry) (i : ℕ) (e : Entry) → slice_get log i ≡ Some e → e.client ≡ k → entries_by maker_of k log ≡ [] → ⊥
@@ -378,8 +378,8 @@ module _ (tables : List Versions) (lock : TableId) (programs : List (List Script
     never_full is =
         let o = ran.collects.full is in
         let full = (ran.each o.0 o.1 o.2).full o.3 in
-        let starts = prefix_trans o.1.seat.view.seen place.view.seen hub.log (ran.joins.seen o.0 o.1 o.2) seen in
-        let long : length o.1.seat.view.seen + length starts.0 ≡ length hub.log = sym (length-append o.1.seat.view.seen starts.0) ∙ ap length starts.1 in
+        let starts = prefix_trans (inside o.1.seat).view.seen place.view.seen hub.log (ran.joins.seen o.0 o.1 o.2) seen in
+        let long : length (inside o.1.seat).view.seen + length starts.0 ≡ length hub.log = sym (length-append (inside o.1.seat).view.seen starts.0) ∙ ap length starts.1 in
         let short = closed_short in
         omega (arith, full, long, short)
 
@@ -389,23 +389,23 @@ module _ (tables : List Versions) (lock : TableId) (programs : List (List Script
     pub are_left : tables ≡ versions_of hub.world → (list : List (List StepReply)) → replies ≡ Ok list → AreLogOf hub.world (clients_of programs) hub.log list
     are_left reads list is = record {
       known = all_known;
-      all = ap length (ran.collects.all list is) ∙ (map_long (λ (g : Finished). replies_in g.run) ran.clients ∙ (ran.long ∙ sym (map_long moves_of programs)));
+      all = ap length (ran.collects.all list is) ∙ (map_long (λ (g : SeatedRun). replies_in g.run) ran.clients ∙ (ran.long ∙ sym (map_long moves_of programs)));
       each = λ c steps rs at_steps at_rs.
           let p = program_of c steps at_steps in
           let own = get_some ran.clients c (let l = slice_get_within programs c p.0 p.1 in let long = ran.long in omega (arith, l, long)) in
-          let f : Finished = own.0 in
+          let f : SeatedRun = own.0 in
           let worked = ran.each c f own.1 in
-          let is_rs : replies_in f.run ≡ rs = same_Some (replies_in f.run) rs (sym (slice_get-map (λ (g : Finished). replies_in g.run) ran.clients c ∙ ap (option_map (λ (g : Finished). replies_in g.run)) own.1) ∙ (λ k. slice_get (sym (ran.collects.all list is) k) c) ∙ at_rs) in
-          let ended : HasEnded tables p.0 f.seat.view f.run = subst (λ (r : Result (Unit {0}) RunFault). OnOk r ((q : List ScriptStep) → slice_get programs c ≡ Some q → HasEnded tables q f.seat.view f.run)) (ran.collects.ended list is c f own.1) worked.ended p.0 p.1 in
-          let number : f.seat.view.number ≡ c = worked.keeps.1.0 in
-          let there : (known f.seat.view).world ≡ hub.world = ap (λ (g : Option (List Domain)). unwrap_or g []) worked.keeps.1.1 ∙ same_world in
-          let starts = prefix_trans f.seat.view.seen place.view.seen hub.log (ran.joins.seen c f own.1) seen in
+          let is_rs : replies_in f.run ≡ rs = same_Some (replies_in f.run) rs (sym (slice_get-map (λ (g : SeatedRun). replies_in g.run) ran.clients c ∙ ap (option_map (λ (g : SeatedRun). replies_in g.run)) own.1) ∙ (λ k. slice_get (sym (ran.collects.all list is) k) c) ∙ at_rs) in
+          let ended : HasEnded tables p.0 (inside f.seat).view f.run = subst (λ (r : Result (Unit {0}) RunFault). OnOk r ((q : List ScriptStep) → slice_get programs c ≡ Some q → HasEnded tables q (inside f.seat).view f.run)) (ran.collects.ended list is c f own.1) worked.ended p.0 p.1 in
+          let number : (inside f.seat).view.number ≡ c = worked.keeps.1.0 in
+          let there : (known (inside f.seat).view).world ≡ hub.world = ap (λ (g : Option (List Domain)). unwrap_or g []) worked.keeps.1.1 ∙ same_world in
+          let starts = prefix_trans (inside f.seat).view.seen place.view.seen hub.log (ran.joins.seen c f own.1) seen in
           let last : Run = record { client = client_of f.run.client; steps = [] } in
-          let at : IsAt tables hub.world c (moves_of p.0) f.seat.view.seen last =
-          subst (λ (w : List Domain). IsAt tables w c (moves_of p.0) f.seat.view.seen last) there
-          (subst (λ (n : ℕ). IsAt tables (known f.seat.view).world n (moves_of p.0) f.seat.view.seen last) number ended.at) in
-          let whole : entries_by maker_of c f.seat.view.seen ≡ f.seat.view.own = subst (λ (n : ℕ). entries_by maker_of n f.seat.view.seen ≡ f.seat.view.own) number ended.whole in
-          let closed = at_found_own tables hub.world c (moves_of p.0) f.seat.view.seen hub.log f.seat.view.own last starts whole (theirs c f own.1) at in
+          let at : IsAt tables hub.world c (moves_of p.0) (inside f.seat).view.seen last =
+          subst (λ (w : List Domain). IsAt tables w c (moves_of p.0) (inside f.seat).view.seen last) there
+          (subst (λ (n : ℕ). IsAt tables (known (inside f.seat).view).world n (moves_of p.0) (inside f.seat).view.seen last) number ended.at) in
+          let whole : entries_by maker_of c (inside f.seat).view.seen ≡ (inside f.seat).view.own = subst (λ (n : ℕ). entries_by maker_of n (inside f.seat).view.seen ≡ (inside f.seat).view.own) number ended.whole in
+          let closed = at_found_own tables hub.world c (moves_of p.0) (inside f.seat).view.seen hub.log (inside f.seat).view.own last starts whole (theirs c f own.1) at in
           let finishes : PerformsAlong tables hub.world c hub.log (moves_of p.0) (replies_in f.run) = at_end tables hub.world c (moves_of p.0) hub.log (client_of f.run.client) closed in
           subst (λ (t : List Versions). PerformsAlong t hub.world c hub.log steps rs) reads
           (subst (λ (ms : List Move). PerformsAlong tables hub.world c hub.log ms rs) p.2

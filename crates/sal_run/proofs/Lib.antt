@@ -1,4 +1,6 @@
+pub mod Answered
 pub mod Everyone
 pub mod Going
+pub mod Looking
 pub mod Sendable
 pub mod Standing

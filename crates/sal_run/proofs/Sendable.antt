@@ -80,7 +80,6 @@ use Rattle.sal_json.specs.contracts.patterns.Patterns as Patterns
 use Rattle.sal_client.specs.contracts.reader.Reader as Reader
 use Rattle.sal_client.specs.contracts.readers.Readers as Readers
 use Rattle.sal_run.specs.contracts.clients.SeatedRun as SeatedRun
-use Rattle.sal_run.specs.contracts.clients.Finished as Finished
 
 YangType-send : IsSend YangType.the_row
 YangType-send = search (YangType-knot.crosses, Seq-here.the_send, Str-here.the_send, Ranges-here.the_send, Pattern-here.the_send, crosses, maps.crosses, sendable) depth 40 fits 20000
@@ -230,7 +229,4 @@ pub Readers-sync : IsSync Readers.the_row
 Readers-sync = search (Reader-sync, crosses, maps.crosses, sendable) depth 40 fits 20000
 
 pub SeatedRun-send : IsSend SeatedRun.the_row
-SeatedRun-send = search (ClientRun-field_send, Seat-send, crosses, sendable) depth 40 fits 20000
-
-pub Finished-send : IsSend Finished.the_row
-Finished-send = search (ClientRun-field_send, Seat-send, RunFault-here.the_send, crosses, sendable) depth 40 fits 20000
+SeatedRun-send = search (ClientRun-field_send, Seat-send, RunFault-here.the_send, crosses, sendable) depth 40 fits 20000

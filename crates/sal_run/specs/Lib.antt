@@ -1,4 +1,5 @@
 pub mod Joined
+pub mod Looked
 pub mod Ran
 pub mod Stands
 pub mod Worked

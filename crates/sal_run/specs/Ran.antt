@@ -9,7 +9,7 @@ use Rattle.sal_script.specs.declared.reply.StepReply.{StepReply}
 use Rattle.sal_script.specs.declared.script.ScriptStep.{ScriptStep}
 use Rattle.sal_script.specs.Tables.{Versions}
 use Rattle.sal_client.specs.declared.wish.RunFault.{RunFault}
-use Rattle.sal_run.specs.declared.clients.Finished.{Finished}
+use Rattle.sal_run.specs.declared.clients.SeatedRun.{SeatedRun}
 use Rattle.sal_run.specs.Joined.{Collects, Joins, upto}
 use Rattle.sal_run.specs.Worked.{Worked}
 
@@ -25,8 +25,8 @@ pub record IsOpening (turn : TableId) (p : Place Entry (List Domain)) : Type 0 w
 
 -- Each client of the programs went through its own at a seat off the opening one, that knew v, and was taken in again at this seat.
 pub record AreRan (tables : List Versions) (lock : TableId) (programs : List (List ScriptStep)) (v : SeatView) (place : Place Entry (List Domain)) (replies : Result (List (List StepReply)) RunFault) : Type 0 where
-  pub clients : List Finished
+  pub clients : List SeatedRun
   pub long : length clients ≡ length programs
-  pub each : (i : ℕ) (f : Finished) → slice_get clients i ≡ Some f → Worked tables lock programs (record { lock = lock; view = newcomer i v }) f
+  pub each : (i : ℕ) (f : SeatedRun) → slice_get clients i ≡ Some f → Worked tables lock programs (record { lock = lock; view = newcomer i v }) f
   pub joins : Joins lock (record v { given = 65535 ∷ upto (length programs) }) clients place
   pub collects : Collects clients replies

@@ -1,5 +1,6 @@
 //! Clients that have their seats, each on a thread of its own.
-ghost use Rattle.std.specs.Prelude.{◌≡◌, ◌<◌, ℕ, IsTrue, IfOk, length, slice_index_or};
+ghost use Rattle.std.specs.Prelude.{◌≡◌, ◌<◌, ℕ, IsSome, IsTrue, length, slice_index_or};
+ghost use Rattle.sal_broker.specs.Seats.{inside};
 ghost use Rattle.sal_script.specs.JsonMoves.{have_json_moves};
 ghost use Rattle.sal_script.specs.Limits.{within_limits};
 ghost use Rattle.sal_script.specs.Moves.{clients_of};
@@ -10,9 +11,9 @@ use sal_broker::{Sal, Seat};
 use sal_client::{ClientRun, Readers, RunFault};
 use sal_io::Gate;
 use sal_script::Program;
-use std::alloc::{AllocError, Global};
+use std::alloc::Global;
 use std::sync::Wait;
-use std::thread::{Threads, map_vec};
+use std::thread::{Threads, for_each_mut};
 
 /// Where clients run: the broker that they share, what reads their steps, and the gate that each passes before each of its steps.
 #[derive(Drop)]
@@ -22,20 +23,24 @@ pub struct Hall<'a, G> {
     pub gate: &'a G,
 }
 
-/// A client with its seat at the broker.
+/// A client with its seat at the broker: before its first step, and when it has ended or was stopped. It stands where it came to, with its
+/// replies so far.
 #[derive(Drop)]
 pub struct SeatedRun {
     pub run: ClientRun,
-    pub seat: Seat,
+    /// Its seat: none only while it runs.
+    pub seat: Option<Seat>,
+    /// Whether it came to the end of its program; of a client before its first step it says nothing.
+    pub end: Result<(), RunFault>,
 }
 
-/// A client that has ended or was stopped, with its seat. It stands where it came to, with its replies so far.
-#[derive(Drop)]
-pub struct Finished {
-    pub run: ClientRun,
-    pub seat: Seat,
-    /// Whether it came to the end of its program.
-    pub end: Result<(), RunFault>,
+// The seat of a client that does not run.
+pub(crate) fn seat_in(place: Option<Seat>) -> Seat
+    requires { IsSome place }
+    ensures { result ≡ inside place }
+{
+    let Some(seat) = place else { unreachable!() };
+    seat
 }
 
 // Takes the client through its program.
@@ -44,46 +49,49 @@ fn run_one<R: Wait, G: Gate>(
     alloc: Global,
     hall: &Hall<'_, G>,
     programs: &[Program],
-    seated: SeatedRun,
-) -> Finished
+    seated: &mut SeatedRun,
+)
     requires limits { IsTrue (within_limits programs.now) }
     requires json { IsTrue (have_json_moves (clients_of programs.now)) }
-    requires new { IsNew hall.now.readers.now hall.now.sal.now programs.now seated }
-    ensures { Worked hall.now.readers.now hall.now.sal.now programs.now seated.seat result }
+    requires new { IsNew hall.now.readers.now hall.now.sal.now programs.now seated.old }
+    ensures { Worked hall.now.readers.now hall.now.sal.now programs.now (inside seated.old.seat) seated.new }
 {
-    let SeatedRun { mut run, seat } = seated;
+    let seat = seat_in(seated.seat.take());
     let worker = Worker {
         sal: hall.sal,
         readers: hall.readers,
-        steps: programs[run.client.number as usize].items(),
+        steps: programs[seated.run.client.number as usize].items(),
         gate: hall.gate,
     };
-    let (seat, end) = worker.work(rt, alloc, &mut run, seat);
-    Finished { run, seat, end }
+    let (seat, end) = worker.work(rt, alloc, &mut seated.run, seat);
+    seated.seat = Some(seat);
+    seated.end = end;
 }
 
 /// Takes each client through its program, on a thread of its own. The clients are at their beginning, in one of the programs each,
-/// and their seats have no entries. Each comes to its end or stops: where its seat has seen a full log, or for want of memory. An
-/// error where there was no memory for the threads; the seats are dropped then.
+/// and their seats have no entries. Each comes to its end or stops: where its seat has seen a full log, or for want of memory. It then
+/// stands where it came to, at its seat. The threads themselves take no memory of `alloc`.
 pub fn run_clients<R: Threads + Wait + Sync, G: Gate>(
     rt: &R,
     alloc: Global,
     hall: &Hall<'_, G>,
     programs: &[Program],
-    runs: Vec<SeatedRun>,
-) -> Result<Vec<Finished>, AllocError>
+    runs: &mut [SeatedRun],
+)
     requires limits { IsTrue (within_limits programs.now) }
     requires json { IsTrue (have_json_moves (clients_of programs.now)) }
-    requires new { (i : ℕ) (r : SeatedRun) → i < length runs.items → r ≡ slice_index_or runs.items i r → IsNew hall.now.readers.now hall.now.sal.now programs.now r }
-    ensures long { IfOk result (λ v. length v.items ≡ length runs.items) }
-    ensures each { IfOk result (λ v. (i : ℕ) (f : Finished) (r : SeatedRun) → i < length runs.items → r ≡ slice_index_or runs.items i r → Worked hall.now.readers.now hall.now.sal.now programs.now r.seat (slice_index_or v.items i f)) }
+    requires new { (i : ℕ) (r : SeatedRun) → i < length runs.old → r ≡ slice_index_or runs.old i r → IsNew hall.now.readers.now hall.now.sal.now programs.now r }
+    ensures long { length runs.new ≡ length runs.old }
+    ensures each { (i : ℕ) (r : SeatedRun) → i < length runs.old → Worked hall.now.readers.now hall.now.sal.now programs.now (inside (slice_index_or runs.old i r).seat) (slice_index_or runs.new i r) }
 {
-    map_vec(
+    let threads = runs.len().max(1);
+    for_each_mut(
         rt,
         runs,
-        &|mine: SeatedRun| -> Finished
-            requires { IsTrue (within_limits programs.now) × IsTrue (have_json_moves (clients_of programs.now)) × IsNew hall.now.readers.now hall.now.sal.now programs.now mine }
-            ensures { Worked hall.entry.now.readers.now hall.entry.now.sal.now programs.entry.now mine.seat result }
+        threads,
+        &|_index: usize, mine: &mut SeatedRun|
+            requires { IsTrue (within_limits programs.now) × IsTrue (have_json_moves (clients_of programs.now)) × IsNew hall.now.readers.now hall.now.sal.now programs.now mine.now }
+            ensures { Worked hall.entry.now.readers.now hall.entry.now.sal.now programs.entry.now (inside mine.entry.now.seat) mine.exit.now }
         { run_one(rt, alloc, hall, programs, mine) },
-    )
+    );
 }

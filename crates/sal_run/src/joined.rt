@@ -1,6 +1,7 @@
 //! Seats for all clients, and the clients taken in again.
-ghost use Rattle.std.specs.Prelude.{◌≡◌, ◌⊎◌, ◌<◌, ◌++◌, ℕ, [], ◌∷◌, Ok, Err, IfOk, OnOk, length, map, true, slice_get, Some};
+ghost use Rattle.std.specs.Prelude.{◌≡◌, ◌⊎◌, ◌<◌, ◌++◌, ℕ, [], ◌∷◌, Ok, Err, IfOk, IsSome, OnOk, length, map, true, slice_get, Some};
 ghost use Rattle.sal_hub.specs.HubHistory.{HubHistory};
+ghost use Rattle.sal_broker.specs.Seats.{inside};
 ghost use Rattle.sal_client.specs.Clients.{IsSound, client_of};
 ghost use Rattle.sal_client.specs.Runs.{replies_in};
 ghost use Rattle.sal_script.specs.Play.{new_client};
@@ -8,7 +9,7 @@ ghost use Rattle.sal_turn.specs.Lists.{In};
 ghost use Rattle.sal_turn.specs.Views.{newcomer};
 ghost use Rattle.sal_run.specs.Joined.{AreSeated, IsSeated, Collects, Joins, upto, with_replies};
 
-use crate::clients::{Finished, SeatedRun};
+use crate::clients::{SeatedRun, seat_in};
 use sal_broker::{Sal, Seat};
 use sal_client::{ClientRun, RunFault};
 use sal_script::StepReply;
@@ -28,7 +29,8 @@ fn seated(alloc: Global, sal: &Sal, opening: &mut Seat, number: u32) -> SeatedRu
 {
     SeatedRun {
         run: ClientRun::new(alloc, number),
-        seat: sal.split(opening, number),
+        seat: Some(sal.split(opening, number)),
+        end: Ok(()),
     }
 }
 
@@ -79,21 +81,21 @@ pub(crate) fn join_all(
     alloc: Global,
     sal: &Sal,
     mut seat: Seat,
-    finished: Vec<Finished>,
+    finished: Vec<SeatedRun>,
 ) -> (Seat, Replies)
     requires lock { seat.lock ≡ sal.now }
     requires none { seat.view.joined ≡ [] }
-    requires others { (i : ℕ) (f : Finished) → slice_get finished.items i ≡ Some f → (f.seat.lock ≡ sal.now) × (f.seat.view.joined ≡ []) }
+    requires others { (i : ℕ) (f : SeatedRun) → slice_get finished.items i ≡ Some f → IsSome f.seat × ((inside f.seat).lock ≡ sal.now) × ((inside f.seat).view.joined ≡ []) }
     ensures joins { Joins sal.now seat.view finished.items result.0 }
     ensures collects { Collects finished.items result.1 }
 {
     let mut replies = Ok(Seq::new(alloc));
-    for Finished {
+    for SeatedRun {
         run,
-        seat: other,
+        seat: place,
         end,
     } in finished {
-        seat = sal.join(seat, other);
+        seat = sal.join(seat, seat_in(place));
         replies = with_next(replies, run, end);
     }
     (seat, replies)

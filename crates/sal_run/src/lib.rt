@@ -3,9 +3,9 @@
 //! | item | what it is |
 //! |---|---|
 //! | `run` | a whole script: each client on a thread, with a seat of its own; then the hub, and what each client was answered |
-//! | `run_clients` | clients that have their seats already, each on a thread, until its program ends or it stops |
+//! | `run_clients` | clients that have their seats already, each on a thread, until its program ends or it stops; each then stands where it came to |
 //! | `Hall` | where they run: the broker that they share, and what reads their steps |
-//! | `SeatedRun`, `Finished` | a client with its seat, before and after |
+//! | `SeatedRun` | a client with its seat, before and after |
 //!
 //! A client answers its local steps by itself, beside all others, and takes a turn at the hub for each shared call. A look for a
 //! mark takes a turn for each time that it looks. What is said holds in whatever order the turns come: the log that they leave
@@ -30,5 +30,5 @@ mod joined;
 mod script;
 mod worker;
 
-pub use clients::{Finished, Hall, SeatedRun, run_clients};
+pub use clients::{Hall, SeatedRun, run_clients};
 pub use script::run;

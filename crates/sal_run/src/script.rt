@@ -1,14 +1,15 @@
 //! A whole script, its clients on threads of their own.
-ghost use Rattle.std.specs.Prelude.{◌≡◌, [], ◌∷◌, IfOk, IsTrue, length, true};
-ghost use Rattle.sal_broker.specs.Seats.{known};
+ghost use Rattle.std.specs.Prelude.{◌≡◌, ◌<◌, ℕ, [], ◌∷◌, IfOk, IsTrue, length, slice_index_or, true};
+ghost use Rattle.sal_broker.specs.Seats.{inside, known};
 ghost use Rattle.sal_script.specs.Along.{AreLogOf};
 ghost use Rattle.sal_script.specs.JsonMoves.{have_json_moves};
 ghost use Rattle.sal_script.specs.Limits.{within_limits};
 ghost use Rattle.sal_script.specs.Moves.{clients_of};
 ghost use Rattle.sal_script.specs.Tables.{versions_of};
 ghost use Rattle.sal_run.specs.Ran.{AreRan, IsOpening};
+ghost use Rattle.sal_run.specs.Worked.{IsNew, Worked};
 
-use crate::clients::{Hall, run_clients};
+use crate::clients::{Hall, SeatedRun, run_clients};
 use crate::joined::{Replies, join_all, seat_all};
 use sal_broker::{Sal, Seat};
 use sal_client::{Played, Readers, RunFault};
@@ -16,9 +17,27 @@ use sal_hub::Hub;
 use sal_io::Gate;
 use sal_script::{Program, Script};
 use sal_types::NoMemory;
-use std::alloc::{AllocError, Global};
+use std::alloc::Global;
 use std::sync::Wait;
 use std::thread::Threads;
+
+// The clients where they came to, each on a thread.
+fn all_run<R: Threads + Wait + Sync, G: Gate>(
+    rt: &R,
+    alloc: Global,
+    hall: &Hall<'_, G>,
+    programs: &[Program],
+    mut runs: Vec<SeatedRun>,
+) -> Vec<SeatedRun>
+    requires limits { IsTrue (within_limits programs.now) }
+    requires json { IsTrue (have_json_moves (clients_of programs.now)) }
+    requires new { (i : ℕ) (r : SeatedRun) → i < length runs.items → r ≡ slice_index_or runs.items i r → IsNew hall.now.readers.now hall.now.sal.now programs.now r }
+    ensures long { length result.items ≡ length runs.items }
+    ensures each { (i : ℕ) (r : SeatedRun) → i < length runs.items → Worked hall.now.readers.now hall.now.sal.now programs.now (inside (slice_index_or runs.items i r).seat) (slice_index_or result.items i r) }
+{
+    run_clients(rt, alloc, hall, programs, runs.as_mut_slice());
+    runs
+}
 
 // The clients of the programs at seats off the opening one, each on a thread, and all taken in again.
 fn run_all<R: Threads + Wait + Sync, G: Gate>(
@@ -35,10 +54,8 @@ fn run_all<R: Threads + Wait + Sync, G: Gate>(
     ensures { IfOk result (λ r. AreRan hall.now.readers.now hall.now.sal.now programs.now opening.view r.0 r.1) }
 {
     let runs = seat_all(alloc, hall.sal, &mut opening, programs.len() as u32)?;
-    match run_clients(rt, alloc, hall, programs, runs) {
-        Ok(finished) => Ok(join_all(alloc, hall.sal, opening, finished)),
-        Err(AllocError) => Err(NoMemory),
-    }
+    let finished = all_run(rt, alloc, hall, programs, runs);
+    Ok(join_all(alloc, hall.sal, opening, finished))
 }
 
 /// Runs the clients of the script over a hub without calls, whose domains have the readers' schemas: each on a thread of its own, with a

@@ -4,6 +4,7 @@ ghost use Rattle.sal_broker.specs.Turns.{Keeps};
 ghost use Rattle.sal_client.specs.Runs.{asking, run_of};
 ghost use Rattle.sal_client.specs.Wishes.{CanMake, ReadBy};
 ghost use Rattle.sal_hub.specs.Answers.{limit};
+ghost use Rattle.sal_run.specs.Looked.{Looked, LooksFor};
 ghost use Rattle.sal_run.specs.Stands.{Enters, HasEnded, Stands};
 
 use sal_broker::{Held, Sal, Seat};
@@ -31,7 +32,8 @@ impl<'a, G: Gate> Worker<'a, G> {
     // The turn for the call: the next one; for a look for a mark one at which the mark was left, or the last of all looks.
     fn turn_for<R: Wait>(&self, rt: &R, seat: Seat, wish: &Wish) -> Held
         requires { seat.lock ≡ self.now.sal.now }
-        ensures { Enters self.now.sal.now seat.view result }
+        ensures enters { Enters self.now.sal.now seat.view result }
+        ensures looks { LooksFor wish.now seat.view result }
     {
         match wish {
             Wish::After { mark } => self.sal.enter_after(rt, seat, *mark),
@@ -60,6 +62,7 @@ impl<'a, G: Gate> Worker<'a, G> {
         ensures goes { result.1 ≡ Ok true → Stands self.now.readers.now self.now.steps.now result.0.view run.new (run_of self.now.steps.now run.new) }
         ensures made { result.1 ≡ Ok false → ⊥ }
         ensures full { result.1 ≡ Err RunFault.HistoryFull → limit ≤ length result.0.view.seen }
+        ensures looks { OnOk result.1 (Looked seat.view result.0.view) }
     {
         laws::tokens_last();
         let mut held = self.turn_for(rt, seat, &wish);
@@ -90,6 +93,7 @@ impl<'a, G: Gate> Worker<'a, G> {
         ensures goes { result.1 ≡ Ok true → Stands self.now.readers.now self.now.steps.now result.0.view run.new (run_of self.now.steps.now run.new) }
         ensures ended { result.1 ≡ Ok false → HasEnded self.now.readers.now self.now.steps.now result.0.view run.new }
         ensures full { result.1 ≡ Err RunFault.HistoryFull → limit ≤ length result.0.view.seen }
+        ensures looks { OnOk result.1 (Looked seat.view result.0.view) }
     {
         laws::tokens_last();
         match run.next(alloc, self.readers, self.steps, self.gate) {
@@ -100,6 +104,7 @@ impl<'a, G: Gate> Worker<'a, G> {
     }
 
     /// Goes through the program to its end, or to the call at which the client stops.
+    #[tactic(auto, using(crate::proofs::Looking::looked_on))]
     pub(crate) fn work<R: Wait>(
         &self,
         rt: &R,
@@ -114,6 +119,7 @@ impl<'a, G: Gate> Worker<'a, G> {
         ensures few { length result.0.view.own ≤ length self.now.steps.now }
         ensures ended { OnOk result.1 (HasEnded self.now.readers.now self.now.steps.now result.0.view run.new) }
         ensures full { result.1 ≡ Err RunFault.HistoryFull → limit ≤ length result.0.view.seen }
+        ensures looks { OnOk result.1 (Looked seat.view result.0.view) }
     {
         for _turn in 0..MOST_TURNS {
             let (next, went) = self.go(rt, alloc, run, seat);

@@ -15,9 +15,13 @@
 //!
 //! A file that belongs to no case is told, and so is a case that lacks its files. Where a report or a summary is written, the gate is to
 //! have been passed once before each step.
+//!
+//! `each_fault.txt` lists cases that are played once more for each read of their input, which fails, and for each number of bytes, for
+//! which alone the sink has room.
 #![tactic(auto)]
 
 mod case;
+mod each;
 mod folder;
 mod gate;
 mod input;
@@ -29,5 +33,7 @@ use std::{fs, io};
 fn main(rt: HostRuntime) -> io::Result<()> {
     let folders = fs::read_to_string(&rt, "folders.txt")?;
     let tally = folder::play_each(&rt, &rt, folders.as_str())?;
-    folder::say(&rt, "in all", tally)
+    folder::say(&rt, "in all", tally)?;
+    let names = fs::read_to_string(&rt, "each_fault.txt")?;
+    each::play_each_fault(&rt, &rt, names.as_str())
 }

@@ -99,7 +99,8 @@ fn numbered(alloc: Global, number: u8, line: &str) -> io::Result<String> {
     Ok(format!(in alloc; "{number} {line}")?)
 }
 
-fn words_of(case: Case<'_>) -> io::Result<Vec<Str>> {
+/// The words of the case.
+pub fn words_of(case: Case<'_>) -> io::Result<Vec<Str>> {
     let text = words_text(case)?;
     lines_of(case.alloc(), text.as_str())
 }
@@ -136,7 +137,12 @@ fn source_of(case: Case<'_>) -> io::Result<MemSource> {
 fn sink_of(case: Case<'_>) -> io::Result<MemSink> {
     let room = room_of(case)?;
     let fails = numbers_of(case, "write")?;
-    match MemSink::new(case.alloc(), room, fails) {
+    sink_with(case.alloc(), room, fails)
+}
+
+/// A sink with this room, whose writes of these numbers fail.
+pub fn sink_with(alloc: Global, room: usize, fails: Vec<u64>) -> io::Result<MemSink> {
+    match MemSink::new(alloc, room, fails) {
         Ok(sink) => Ok(sink),
         Err(NoMemory) => Err(Error::from(ErrorKind::OutOfMemory)),
     }

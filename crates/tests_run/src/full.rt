@@ -14,7 +14,7 @@ use sal_history::{Device, Opening};
 use sal_hub::MAX_ENTRIES;
 use sal_io::OpenGate;
 use sal_rows::{Rows, Rules};
-use sal_run::{Finished, Hall, SeatedRun, run_clients};
+use sal_run::{Hall, SeatedRun, run_clients};
 use sal_schema::Schema;
 use sal_script::{Program, read_script};
 use sal_stmt::read_module;
@@ -90,12 +90,16 @@ fn client(alloc: Global, hall: &Hall<'_, OpenGate>, programs: &[Program], seat: 
     ensures { IsNew hall.now.readers.now hall.now.sal.now programs.now result }
 {
     let run = ClientRun::new(alloc, 0);
-    SeatedRun { run, seat }
+    SeatedRun {
+        run,
+        seat: Some(seat),
+        end: Ok(()),
+    }
 }
 
 // Whether the one client was told that the history is full, at its first step.
-fn is_refused(finished: &[Finished]) -> bool {
-    match finished {
+fn is_refused(runs: &[SeatedRun]) -> bool {
+    match runs {
         [one] => match one.end {
             Err(RunFault::HistoryFull) => one.run.replies().is_empty(),
             _ => false,
@@ -117,9 +121,9 @@ fn is_stopped<R: Threads + Wait + Sync>(
     requires some { 0 < length programs.now }
     requires seat { IsFirst hall.now.readers.now hall.now.sal.now seat }
 {
-    let runs = vec![in alloc; client(alloc, hall, programs, seat)]?;
-    let finished = run_clients(rt, alloc, hall, programs, runs)?;
-    Ok(is_refused(&finished))
+    let mut runs = vec![in alloc; client(alloc, hall, programs, seat)]?;
+    run_clients(rt, alloc, hall, programs, &mut runs);
+    Ok(is_refused(&runs))
 }
 
 // The same, where the client asks once to decide what is pending.

@@ -1,4 +1,4 @@
-use Rattle.std.proofs.Common.{◌≡◌, ◌≤◌, length, true, false, rules, arith}
+use Rattle.std.proofs.Common.{◌≤◌, length, rules, arith}
 use Rattle.sal_follow.proofs.Rising.{kept, fails, ended}
 use Rattle.sal_follow.proofs.reader.is_ascending.Goals as goal
 

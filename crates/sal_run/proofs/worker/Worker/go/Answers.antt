@@ -5,6 +5,7 @@ use Rattle.sal_client.specs.Runs.{Comes}
 use Rattle.sal_broker.specs.Seats.{known}
 use Rattle.sal_client.proofs.Soundness.{HasSchema-sound}
 use Rattle.sal_run.proofs.Going.{at_last, stands_asking}
+use Rattle.sal_run.proofs.Looking.{looked_same}
 use Rattle.sal_run.proofs.worker.Worker.go.Goals as goal
 
 pub next-requires-clause-schema : goal.next-requires-clause-schema
@@ -36,3 +37,6 @@ returns-in-Ok-None-clause-ended g c ended =
       whole = c.requires.stands.whole;
       at = at_last (last.begun, last.given, last.opened, last.called) tables steps v.number (known v) v.own c.args.run.now mid comes e.sound e.number c.requires.stands;
     }
+
+pub returns-in-Ok-None-clause-looks : goal.returns-in-Ok-None-clause-looks
+returns-in-Ok-None-clause-looks g c = looked_same c.args.seat.view

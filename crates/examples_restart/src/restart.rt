@@ -1,0 +1,83 @@
+//! Two controllers, one after the other.
+use crate::counter::{Counter, number_in};
+use crate::counting::count;
+use crate::domain::{device, schema};
+use anyhow::bail;
+use sal::{Bytes, Hub, Patterns, Rules, Schema, Store};
+use sal_follow::Follower;
+use sal_resume::{follower_of, frames_of, resume};
+use std::alloc::Global;
+use std::sync::Arc;
+
+// How far each controller counts.
+const HALF: u64 = 3;
+
+/// What was left when both controllers were done.
+#[derive(Drop)]
+pub(crate) struct End {
+    /// How many bytes the frames of the first one have.
+    pub(crate) bytes: usize,
+    /// The commit that the follower held.
+    pub(crate) held: u64,
+    /// How many commits the second one made.
+    pub(crate) commits: u64,
+    /// The number in the counter.
+    pub(crate) last: u64,
+}
+
+/// Counts with one controller, and on with the next one.
+pub(crate) fn run(alloc: Global) -> anyhow::Result<End> {
+    let schema = Arc::new(alloc, schema(alloc)?)?;
+    let counter = Counter::at(alloc, &schema, "/tunnels:tunnels/last-number")?;
+    let stream = first_half(alloc, &schema, &counter)?;
+    let follower = follow(alloc, schema, stream.items())?;
+    second_half(alloc, stream.items().len(), follower, &counter)
+}
+
+// The frames that the first controller leaves.
+fn first_half(alloc: Global, schema: &Arc<Schema>, counter: &Counter) -> anyhow::Result<Bytes> {
+    let hub = open(alloc, schema)?;
+    let hub = count(alloc, hub, counter, HALF)?;
+    frames(alloc, &hub)
+}
+
+// A hub over the domain.
+fn open(alloc: Global, schema: &Arc<Schema>) -> anyhow::Result<Hub> {
+    let devices = vec![in alloc; device(alloc, schema)?]?;
+    Ok(Hub::open(alloc, devices, Rules::Two)?)
+}
+
+// The frames of the hub's first domain.
+fn frames(alloc: Global, hub: &Hub) -> anyhow::Result<Bytes> {
+    if hub.domains().is_empty() {
+        bail!("the hub has no domain");
+    }
+    Ok(frames_of(alloc, hub, 0)?)
+}
+
+// A follower that has taken the stream.
+fn follow(alloc: Global, schema: Arc<Schema>, stream: &[u8]) -> anyhow::Result<Follower> {
+    let patterns = Patterns::of(alloc, &schema)?;
+    Ok(follower_of(alloc, schema, patterns, stream)?)
+}
+
+// What the second controller makes of it.
+fn second_half(
+    alloc: Global,
+    bytes: usize,
+    follower: Follower,
+    counter: &Counter,
+) -> anyhow::Result<End> {
+    let Some(held) = follower.version() else {
+        bail!("no frame came");
+    };
+    let hub = resume(alloc, follower, Rules::Two)?;
+    let hub = count(alloc, hub, counter, HALF)?;
+    let rows = hub.trees().config.rows(alloc, counter.path())?;
+    Ok(End {
+        bytes,
+        held,
+        commits: hub.newest(),
+        last: number_in(&rows),
+    })
+}

@@ -1,0 +1,320 @@
+//! What an entry shows beside its texts. Each function adds behind the acts that stand there.
+ghost use Rattle.std.specs.Prelude.{◌≡◌, ◌+◌, ◌-◌, ◌++◌, ◌∷◌, [], ℕ, None, IfOk, OnOk, map, slice_index, slice_index_or};
+ghost use Rattle.std.specs.List.{flat_map};
+ghost use Rattle.sal_draw.specs.Acts as spec;
+ghost use Rattle.sal_shapes.specs.declared.scene.Made.{Made as Maker};
+
+use sal_history::{Call, Reply};
+use sal_rows::{CallFault, Outcome, Part};
+use sal_shapes::{Act, Made, Pin, Style};
+use sal_types::{NoMemory, append};
+use std::alloc::Global;
+
+type Acts = Vec<Act>;
+
+fn join(acts: &mut Acts, style: Style, pin: Pin) -> Result<(), NoMemory>
+    ensures { OnOk result (acts.new.items ≡ acts.old.items ++ Act.Joins style pin ∷ []) }
+{
+    append(acts, Act::Joins { style, pin })
+}
+
+fn set(acts: &mut Acts, pin: Pin) -> Result<(), NoMemory>
+    ensures { OnOk result (acts.new.items ≡ acts.old.items ++ Act.Sets pin ∷ []) }
+{
+    append(acts, Act::Sets { pin })
+}
+
+fn span(acts: &mut Acts, place: u64) -> Result<(), NoMemory>
+    ensures { OnOk result (acts.new.items ≡ acts.old.items ++ Act.Spans place ∷ []) }
+{
+    append(acts, Act::Spans { place })
+}
+
+// ---- by the reply
+
+fn add_outcome(acts: &mut Acts, domain: u32, outcome: &Outcome) -> Result<(), NoMemory>
+    ensures { OnOk result (acts.new.items ≡ acts.old.items ++ spec.outcome_acts domain outcome.now) }
+{
+    match outcome {
+        Outcome::Done { commit } => join(acts, Style::Told, commit_pin(domain, *commit)),
+        Outcome::Conflict { commit, .. } => join(acts, Style::Clash, commit_pin(domain, *commit)),
+        Outcome::Invalid { .. } => Ok(()),
+        Outcome::ChainFailed { receipt } => {
+            join(acts, Style::Fails, Pin::Receipt { number: *receipt })
+        }
+        Outcome::Unmounted { domain } => join(acts, Style::Fails, Pin::Gone { domain: *domain }),
+    }
+}
+
+fn commit_pin(domain: u32, number: u64) -> Pin
+    ensures { result ≡ Pin.Commit domain number }
+{
+    Pin::Commit { domain, number }
+}
+
+fn base_pin(domain: u32, commit: u64, on: Option<u64>) -> Pin
+    ensures { result ≡ spec.base_pin domain commit on }
+{
+    match on {
+        None => commit_pin(domain, commit),
+        Some(number) => Pin::Receipt { number },
+    }
+}
+
+// The domain of the chain.
+fn domain_of(chains: &[u32], chain: u64) -> u32
+    ensures { result ≡ slice_index chains.now (chain - 1) }
+{
+    match chains.get(chain.saturating_sub(1) as usize) {
+        Some(domain) => *domain,
+        None => 0,
+    }
+}
+
+fn add_begun(acts: &mut Acts, chains: &[u32], call: &Call, on: Base) -> Result<(), NoMemory>
+    ensures { OnOk result (acts.new.items ≡ acts.old.items ++ spec.begun_acts chains.now call.now on.commit on.receipt) }
+{
+    match call {
+        Call::Begin { domain, .. } => {
+            join(
+                acts,
+                Style::Stands,
+                base_pin(*domain, on.commit, on.receipt),
+            )
+        }
+        Call::ChainBegin { chain, .. } => {
+            let domain = domain_of(chains, *chain);
+            join(acts, Style::Chained, Pin::Chain { id: *chain })?;
+            set(acts, Pin::Chain { id: *chain })?;
+            join(acts, Style::Stands, base_pin(domain, on.commit, on.receipt))
+        }
+        _ => Ok(()),
+    }
+}
+
+// On which commit, or pending receipt, a transaction stands.
+#[derive(Clone, Copy)]
+pub struct Base {
+    pub commit: u64,
+    pub receipt: Option<u64>,
+}
+
+fn add_sent(acts: &mut Acts, call: &Call, number: u64) -> Result<(), NoMemory>
+    ensures { OnOk result (acts.new.items ≡ acts.old.items ++ spec.sent_acts call.now number) }
+{
+    match call {
+        Call::Submit { place, .. } => {
+            span(acts, *place)?;
+            set(acts, Pin::Receipt { number })
+        }
+        _ => Ok(()),
+    }
+}
+
+fn add_accepted(acts: &mut Acts, call: &Call) -> Result<(), NoMemory>
+    ensures { OnOk result (acts.new.items ≡ acts.old.items ++ spec.accepted_acts call.now) }
+{
+    match call {
+        Call::Cancel { place } => span(acts, *place),
+        Call::Answer { id, .. } => set(acts, Pin::Output { id: *id }),
+        Call::Mount { device, .. } => set(acts, commit_pin(*device, 0)),
+        Call::Unmount { domain } => set(acts, Pin::Gone { domain: *domain }),
+        Call::Mark { mark } => set(acts, Pin::Mark { mark: *mark }),
+        _ => Ok(()),
+    }
+}
+
+fn add_found(acts: &mut Acts, call: &Call) -> Result<(), NoMemory>
+    ensures { OnOk result (acts.new.items ≡ acts.old.items ++ spec.found_acts call.now) }
+{
+    match call {
+        Call::After { mark } => join(acts, Style::Found, Pin::Mark { mark: *mark }),
+        _ => Ok(()),
+    }
+}
+
+fn add_output(acts: &mut Acts, call: &Call) -> Result<(), NoMemory>
+    ensures { OnOk result (acts.new.items ≡ acts.old.items ++ spec.output_acts call.now) }
+{
+    match call {
+        Call::Collect { id } => join(acts, Style::Hands, Pin::Output { id: *id }),
+        _ => Ok(()),
+    }
+}
+
+fn add_refused(acts: &mut Acts, fault: &CallFault) -> Result<(), NoMemory>
+    ensures { OnOk result (acts.new.items ≡ acts.old.items ++ spec.refused_acts fault.now) }
+{
+    match fault {
+        CallFault::ChainFailed { receipt } => {
+            join(acts, Style::Fails, Pin::Receipt { number: *receipt })
+        }
+        _ => Ok(()),
+    }
+}
+
+// A line from the commit of each part of a batch.
+fn add_parts(acts: &mut Acts, domain: u32, parts: &[Part]) -> Result<(), NoMemory>
+    ensures { OnOk result (acts.new.items ≡ acts.old.items ++ map (spec.part_act domain) parts.now) }
+{
+    for part in parts {
+        join(acts, Style::Gives, commit_pin(domain, part.commit))?;
+    }
+    Ok(())
+}
+
+fn add_reply(acts: &mut Acts, chains: &[u32], call: &Call, reply: &Reply) -> Result<(), NoMemory>
+    ensures { OnOk result (acts.new.items ≡ acts.old.items ++ spec.reply_acts chains.now call.now reply.now) }
+{
+    match reply {
+        Reply::Begun { commit, on } => {
+            let on = Base {
+                commit: *commit,
+                receipt: *on,
+            };
+            add_begun(acts, chains, call, on)
+        }
+        Reply::Chain { id } => set(acts, Pin::Chain { id: *id }),
+        Reply::Accepted => add_accepted(acts, call),
+        Reply::Receipt { number } => add_sent(acts, call, *number),
+        Reply::Settled { domain, outcome } => add_outcome(acts, *domain, outcome),
+        Reply::Decided {
+            domain,
+            outcome,
+            ..
+        } => add_outcome(acts, *domain, outcome),
+        Reply::Listener { domain, opened, .. } => {
+            join(acts, Style::Stands, commit_pin(*domain, opened.version))
+        }
+        Reply::Batch { domain, batch } => add_parts(acts, *domain, batch.lists.items()),
+        Reply::CallMade { id } => set(acts, Pin::Request { id: *id }),
+        Reply::Request { request } => join(acts, Style::Hands, Pin::Request { id: request.id }),
+        Reply::Output { .. } => add_output(acts, call),
+        Reply::Found => add_found(acts, call),
+        Reply::Refused { fault } => add_refused(acts, fault),
+        Reply::Nothing
+        | Reply::Offered { .. }
+        | Reply::Notes { .. }
+        | Reply::MountAt { .. }
+        | Reply::Late => Ok(()),
+    }
+}
+
+// ---- what was decided
+
+// The receipt that is settled.
+fn settled_receipt(call: &Call) -> u64
+    ensures { result ≡ spec.settled_receipt call.now }
+{
+    match call {
+        Call::Settle { receipt } => *receipt,
+        _ => 0,
+    }
+}
+
+// Up to which receipt all are decided.
+fn decided_upto(call: &Call, reply: &Reply, before: u64) -> u64
+    ensures { result ≡ spec.decided_upto call.now reply.now before }
+{
+    match reply {
+        Reply::Settled { .. } => u64::max(before, settled_receipt(call)),
+        Reply::Decided { receipt, .. } => u64::max(before, *receipt),
+        _ => before,
+    }
+}
+
+fn add_made(acts: &mut Acts, made: Option<Made>) -> Result<(), NoMemory>
+    ensures { OnOk result (acts.new.items ≡ acts.old.items ++ spec.made_acts made) }
+{
+    match made {
+        None => Ok(()),
+        Some(made) => {
+            let pin = commit_pin(made.domain, made.number);
+            set(acts, pin)?;
+            join(acts, Style::Makes, pin)
+        }
+    }
+}
+
+fn made_at(made: &[Option<Made>], i: u64) -> Option<Made>
+    ensures { result ≡ spec.made_in made.now i }
+{
+    match made.get(i as usize) {
+        Some(made) => *made,
+        None => None,
+    }
+}
+
+// The commits that the receipts behind this one made, up to the other.
+fn add_decided(
+    acts: &mut Acts,
+    made: &[Option<Made>],
+    before: u64,
+    upto: u64,
+) -> Result<(), NoMemory>
+    ensures { OnOk result (acts.new.items ≡ acts.old.items ++ spec.decided_acts (spec.made_in made.now) before upto) }
+{
+    for i in before..upto {
+        add_made(acts, made_at(made, i))?;
+    }
+    Ok(())
+}
+
+// ---- along a log
+
+/// What is known of the entries before: up to which receipt all are decided, and the domain of each chain.
+#[derive(Drop)]
+pub struct Track {
+    pub decided: u64,
+    pub chains: Vec<u32>,
+}
+
+impl Track {
+    /// No entry.
+    pub fn new(alloc: Global) -> Track
+        ensures { spec.track_of result ≡ spec.new_track }
+    {
+        Track {
+            decided: 0,
+            chains: Vec::new(alloc),
+        }
+    }
+
+    /// What the entry at this place shows.
+    pub fn acts(
+        &self,
+        alloc: Global,
+        made: &[Option<Made>],
+        place: u64,
+        said: Said,
+    ) -> Result<Vec<Act>, NoMemory>
+        ensures { IfOk result (λ acts. acts.items ≡ spec.entry_acts (spec.made_in made.now) (spec.track_of self.now) place said.entry.call.now said.entry.reply.now) }
+    {
+        let mut acts = Vec::new(alloc);
+        let upto = decided_upto(said.call, said.reply, self.decided);
+        set(&mut acts, Pin::Entry { place })?;
+        add_decided(&mut acts, made, self.decided, upto)?;
+        add_reply(&mut acts, &self.chains, said.call, said.reply)?;
+        Ok(acts)
+    }
+
+    /// One entry more.
+    pub fn note(&mut self, said: Said) -> Result<(), NoMemory>
+        ensures { OnOk result (spec.track_of self.new ≡ spec.track_after (spec.track_of self.old) said.entry.call.now said.entry.reply.now) }
+    {
+        self.decided = decided_upto(said.call, said.reply, self.decided);
+        match (said.call, said.reply) {
+            (Call::OpenChain { domain }, Reply::Chain { .. }) => {
+                append(&mut self.chains, *domain)
+            }
+            _ => Ok(()),
+        }
+    }
+}
+
+/// A shared call with its answer.
+#[derive(Clone, Copy)]
+pub struct Said<'a> {
+    pub call: &'a Call,
+    pub reply: &'a Reply,
+}

@@ -1,0 +1,3 @@
+pub mod Beads
+pub mod Fractions
+pub mod Weaving

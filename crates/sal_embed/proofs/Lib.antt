@@ -1,0 +1,14 @@
+mod Answering
+mod Coming
+mod Emptiness
+mod Following
+mod Longer
+mod Made
+mod Opened
+mod OneStep
+mod Placed
+mod Script
+mod Standing
+mod Telling
+mod Turns
+mod Wished

@@ -1,0 +1,34 @@
+-- The step is read, the client has a place, and it makes the step.
+use Rattle.std.proofs.Common.{◌≡◌, ℕ, List, Result, Ok, Err, length, refl, ap, sym, ◌∙◌, subst, arith}
+use Rattle.sal_hub.specs.HubHistory.{HubHistory}
+use Rattle.sal_script.specs.Moves.{move_of}
+use Rattle.sal_script.specs.Tables.{tables_of, versions_of}
+use Rattle.sal_client.proofs.Faults.{err_so}
+use Rattle.sal_embed.specs.declared.fault.StepFault.{StepFault}
+use Rattle.sal_embed.specs.declared.fault.StepFault.TheVariants.{NoMemory}
+use Rattle.sal_embed.specs.declared.clients.Clients.{Clients}
+use Rattle.sal_embed.specs.Answers.{fault_of}
+use Rattle.sal_embed.specs.Outcomes.{Steps}
+use Rattle.sal_embed.proofs.Opened.{bad_step, whole_on}
+use Rattle.sal_embed.proofs.Placed.{steps_by}
+use Rattle.sal_embed.proofs.embedded.Embedded.step.Goals as goal
+
+pub returns-in_err-step : goal.returns-in_err-step
+returns-in_err-step c =
+    let e = c.in_err-step.field-0.0 in
+    let it = c.args.self.now in
+    err_so (λ (r : Result (List ℕ) StepFault). Steps it it c.args.client c.args.step.now r) _ (fault_of e) c.from_residual.ensures.1
+    (bad_step it c.args.client c.args.step.now e (omega arith) c.in_err-step.ensures.reads)
+
+pub returns-in_err-place : goal.returns-in_err-place
+returns-in_err-place c =
+    let new = c.place.new.self in
+    let placing = c.place.ensures.placing in
+    subst (λ (old : Clients). Steps old new c.args.client c.args.step.now c.from_residual-in_err-place.result) c.self.view_is
+    (err_so (λ (r : Result (List ℕ) StepFault). Steps c.self.inside.clients new c.args.client c.args.step.now r) _ NoMemory c.from_residual-in_err-place.ensures.1 (placing.same, λ k other. placing.loses k))
+
+pub returns : goal.returns
+returns c =
+    subst (λ (old : Clients). Steps old c.make.new.self c.args.client c.args.step.now c.make.result) c.self.view_is
+    (steps_by c.self.inside.clients c.place.new.self c.make.new.self c.place.ensures.placing c.args.client (move_of c.in_ok-step.step) c.args.step.now (omega arith) c.in_ok-step.ensures.reads
+    c.make.result c.make.ensures.makes)

@@ -1,0 +1,143 @@
+//! A broker inside another program.
+ghost use Rattle.std.specs.Prelude.{◌≡◌, ◌≤◌, [], codes, length};
+ghost use Rattle.sal_prepare.specs.Scripted.{tables_in};
+ghost use Rattle.sal_script.specs.Tables.{tables_of, versions_of};
+ghost use Rattle.sal_script.specs.Reading.{parts};
+ghost use Rattle.sal_embed.specs.Opening.{HasNone, IsBadAt, IsBareOr};
+
+use crate::caller::Caller;
+use crate::clients::Clients;
+use crate::fault::StepFault;
+use sal_client::Readers;
+use sal_prepare::scripted::{Prepared, ReadScript, prepare};
+use sal_prepare::status::Status;
+use sal_schema::Schema;
+use sal_script::{Script, read_step};
+use sal_types::{NoMemory, Str};
+use std::alloc::Global;
+use std::marker::Model;
+use std::sync::Arc;
+
+/// Client numbers are below this.
+pub const CLIENTS: u32 = 65536;
+
+/// A broker: the hub over a script's opening trees with the clients that made steps, and what reads and writes by the schemas of its
+/// domains. A contract sees the hub and the clients.
+#[derive(Drop)]
+pub struct Embedded {
+    clients: Clients,
+    schemas: Vec<Arc<Schema>>,
+    readers: Readers,
+}
+
+impl Model for Embedded {
+    ghost use Rattle.sal_embed.specs.declared.clients.Clients.{Clients as Seen};
+    ghost use Rattle.sal_embed.specs.contracts.clients.Clients as e;
+
+    ghost Value = { Seen };
+
+    ghost coded = { e.the_row.coded };
+
+    ghost use Rattle.sal_prepare.specs.Scripted.{tables_in};
+    ghost use Rattle.sal_embed.specs.Whole.{IsWhole};
+
+    ghost view = { λ e. e.clients };
+
+    ghost invariant = { λ e. IsWhole e.clients (tables_in e.schemas.items) e.readers };
+}
+
+impl Embedded {
+    ghost use Rattle.std.specs.Prelude.{IfOk};
+    ghost use Rattle.sal_embed.specs.Opening.{IsBegun, opened, world_of};
+    ghost use Rattle.sal_embed.specs.Outcomes.{Reports, Steps};
+    ghost use Rattle.sal_prepare.specs.Scripted as prepared;
+
+    /// Opens the broker of a script that has no clients and no order; or says what is wrong first.
+    pub fn open(alloc: Global, script: &[u8]) -> Result<Embedded, Status>
+        ensures opens { prepared.Comes (λ e. e.hub.world) (world_of (opened script.now)) result }
+        ensures begun { IfOk result IsBegun }
+    {
+        let prepared = prepare(alloc, script)?;
+        bare(alloc, &prepared)?;
+        Ok(over(alloc, prepared))
+    }
+
+    /// Makes the client's next step, and returns the text of its reply.
+    pub fn step(&mut self, alloc: Global, client: u32, step: &[u8]) -> Result<Str, StepFault>
+        ensures { Steps self.old self.new client step.now result }
+    {
+        if client >= CLIENTS {
+            return Err(StepFault::BadClient);
+        }
+        let step = read_step(alloc, step)?;
+        self.clients.place(alloc, client)?;
+        self.clients
+            .make(alloc, &self.readers, &self.schemas, client, &step)
+    }
+
+    /// The report of all steps so far.
+    pub fn report(&mut self, alloc: Global) -> Result<Str, NoMemory>
+        ensures { Reports self.old self.new result }
+    {
+        self.clients.report(alloc, &self.schemas)
+    }
+}
+
+// The broker over what was prepared.
+fn over(alloc: Global, prepared: Prepared) -> Embedded
+    requires schemas { tables_in prepared.read.schemas.items ≡ tables_of prepared.hub.world }
+    requires few { length prepared.read.schemas.items ≤ 64 }
+    requires readers { prepared.read.readers ≡ versions_of prepared.hub.world }
+    requires fresh { prepared.hub.log ≡ [] }
+    ensures hub { result.hub ≡ prepared.hub }
+    ensures callers { result.callers.items ≡ [] }
+{
+    let Prepared { read, hub } = prepared;
+    let ReadScript {
+        script: _,
+        schemas,
+        readers,
+    } = read;
+    let callers: Vec<Caller> = Vec::new(alloc);
+    Embedded {
+        clients: Clients { hub, callers },
+        schemas,
+        readers,
+    }
+}
+
+// Whether the script has no clients and no order.
+fn bare(alloc: Global, it: &Prepared) -> Result<(), Status>
+    ensures { IsBareOr it.now result }
+{
+    no_clients(alloc, &it.read.script)?;
+    no_order(alloc, &it.read.script)
+}
+
+fn no_clients(alloc: Global, script: &Script) -> Result<(), Status>
+    ensures { HasNone (codes "clients") (parts script.now).clients result }
+{
+    if script.clients.items().is_empty() {
+        return Ok(());
+    }
+    Err(bad(alloc, "clients"))
+}
+
+fn no_order(alloc: Global, script: &Script) -> Result<(), Status>
+    ensures { HasNone (codes "order") (parts script.now).order result }
+{
+    if script.order.items().is_empty() {
+        return Ok(());
+    }
+    Err(bad(alloc, "order"))
+}
+
+// The status of a script with a bad member, or of want of memory.
+fn bad(alloc: Global, place: &str) -> Status
+    ensures { IsBadAt place.now result }
+{
+    match Str::new(alloc, place) {
+        Ok(place) => Status::BadScript { place },
+        Err(NoMemory) => Status::NoMemory,
+    }
+}

@@ -1,0 +1,3 @@
+pub mod Leader
+pub mod Fed
+pub mod Ends

@@ -1,0 +1,3 @@
+pub mod Scenes
+pub mod Tables
+pub mod Unplayed

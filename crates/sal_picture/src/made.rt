@@ -1,0 +1,88 @@
+//! The commits of a hub by their receipts.
+ghost use Rattle.std.specs.Prelude.{◌≡◌, ◌<◌, ◌^◌, ℕ, None, Some, IfOk, OnOk, if◌then◌else◌, length, map, nat_eq};
+ghost use Rattle.std.specs.Option.{option_or};
+ghost use Rattle.sal_commit.specs.Stamps.{receipts_of};
+ghost use Rattle.sal_draw.specs.Acts.{made_in};
+ghost use Rattle.sal_picture.specs.Made as spec;
+
+use sal_commit::Domain;
+use sal_hub::Hub;
+use sal_shapes::Made;
+use sal_tree::Commit;
+use sal_types::NoMemory;
+use std::alloc::Global;
+
+type Table = Vec<Option<Made>>;
+
+/// How many submissions a table has at most; with more, memory is wanting.
+const MAX_RECEIPTS: usize = 4611686018427387904;
+
+// The table reaches to the index.
+fn reach(table: &mut Table, index: usize) -> Result<(), NoMemory>
+    requires { index < 2 ^ 62 }
+    ensures long { OnOk result (index < length table.new.items) }
+    ensures same { OnOk result ((i : ℕ) → made_in table.new.items i ≡ made_in table.old.items i) }
+{
+    if index < table.len() {
+        return Ok(());
+    }
+    table.resize(index + 1, None)?;
+    Ok(())
+}
+
+// The commit, unless there is one with the same receipt.
+fn put(table: &mut Table, index: usize, made: Made)
+    requires { index < length table.old.items }
+    ensures { (i : ℕ) → made_in table.new.items i ≡ option_or (made_in table.old.items i) (if nat_eq index i then Some made else None) }
+{
+    if let None = table[index] {
+        table[index] = Some(made);
+    }
+}
+
+fn add_commit(table: &mut Table, receipt: u64, made: Made) -> Result<(), NoMemory>
+    ensures { OnOk result ((i : ℕ) → made_in table.new.items i ≡ option_or (made_in table.old.items i) (spec.here made.domain made.number receipt i)) }
+{
+    if receipt == 0 {
+        return Ok(());
+    }
+    let index = receipt as usize - 1;
+    if index >= MAX_RECEIPTS {
+        return Err(NoMemory);
+    }
+    reach(table, index)?;
+    put(table, index, made);
+    Ok(())
+}
+
+fn add_domain(table: &mut Table, domain: u32, commits: &[Commit]) -> Result<(), NoMemory>
+    ensures { OnOk result ((i : ℕ) → made_in table.new.items i ≡ option_or (made_in table.old.items i) (spec.made_from «domain» 0 (receipts_of commits.now) i)) }
+{
+    for (number, commit) in commits.iter().enumerate() {
+        let made = Made {
+            domain,
+            number: number as u64,
+        };
+        add_commit(table, commit.receipt, made)?;
+    }
+    Ok(())
+}
+
+// The commits of these domains.
+fn made_among(alloc: Global, domains: &[Domain]) -> Result<Table, NoMemory>
+    requires { spec.AreNumbered domains.now }
+    ensures { IfOk result (λ table. (i : ℕ) → made_in table.items i ≡ spec.made_among 0 (map spec.receipts_in domains.now) i) }
+{
+    let mut table = Vec::new(alloc);
+    for domain in domains {
+        add_domain(&mut table, domain.number, &domain.commits)?;
+    }
+    Ok(table)
+}
+
+/// The commits of a hub by their receipts, from index 0 on.
+pub fn made_of(alloc: Global, hub: &Hub) -> Result<Vec<Option<Made>>, NoMemory>
+    ensures { IfOk result (λ table. (i : ℕ) → made_in table.items i ≡ spec.made_at hub.now i) }
+{
+    made_among(alloc, hub.domains())
+}

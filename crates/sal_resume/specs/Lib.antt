@@ -1,0 +1,4 @@
+pub mod Committed
+pub mod Newest
+pub mod Resumed
+pub mod Streamed

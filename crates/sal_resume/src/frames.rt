@@ -1,0 +1,47 @@
+//! The frames of a hub's domain.
+ghost use Rattle.std.specs.Prelude.{◌≡◌, ◌<◌, length, map};
+ghost use Rattle.sal_graft.specs.Kept.{AreKept};
+ghost use Rattle.sal_history.specs.History.{history};
+ghost use Rattle.sal_history.specs.Versions.{tables_now};
+ghost use Rattle.sal_follow.specs.Framed.{Exports, ExportsSince, trees_of};
+ghost use Rattle.sal_resume.specs.Committed.{committed};
+
+use sal_commit::Domain;
+use sal_follow::{ExportFault, export_since};
+use sal_hub::Hub;
+use sal_schema::Schema;
+use sal_types::Bytes;
+use std::alloc::Global;
+
+// The frames of its commits by the schema, from the commit of this number on.
+fn domain_frames(
+    alloc: Global,
+    schema: &Schema,
+    domain: &Domain,
+    from: u64,
+) -> Result<Bytes, ExportFault>
+    requires { AreKept domain.now.commits.items }
+    ensures { ExportsSince schema.now (map trees_of domain.now.commits.items) from result }
+{
+    export_since(alloc, schema, &domain.commits, from)
+}
+
+/// The frames of the domain's opening and of all its commits, by the present version of its schema.
+///
+/// A follower of these bytes by that schema holds the newest trees of the domain (`laws::frames_lead_to_the_newest`).
+pub fn frames_of(alloc: Global, hub: &Hub, domain: u32) -> Result<Bytes, ExportFault>
+    requires { domain < length hub.now.world }
+    ensures { Exports (tables_now hub.now.world (history hub.now.world hub.now.log) domain) (committed hub.now domain) result }
+{
+    frames_since(alloc, hub, domain, 0)
+}
+
+/// The frames of the domain's commits from that of this number on: what a stream goes on with that has the frames before it. There are none if the
+/// newest commit has a smaller number.
+pub fn frames_since(alloc: Global, hub: &Hub, domain: u32, from: u64) -> Result<Bytes, ExportFault>
+    requires { domain < length hub.now.world }
+    ensures { ExportsSince (tables_now hub.now.world (history hub.now.world hub.now.log) domain) (committed hub.now domain) from result }
+{
+    let domain = &hub.domains()[domain as usize];
+    domain_frames(alloc, &domain.schema, domain, from)
+}

@@ -1,0 +1,211 @@
+-- From a scene to its shapes. Time goes down, a row of 19 pixels for each step; on the left a lane for each client, on the right one for
+-- each domain with a point for each commit.
+use Rattle.std.specs.Prelude.{ℕ, ◌+◌, ◌-◌, ◌*◌, ◌%◌, ◌^◌, ◌≤◌, not, Bool, true, false, List, [], ◌∷◌, ◌++◌, length, map, Option, None, Some, codes, decimal, if◌then◌else◌, max, min, nat_eq}
+use Rattle.std.specs.BTreeMap.{insert_entry, is_at}
+use Rattle.std.specs.List.{flat_map, fold, position_or_len, enumerate_from}
+use Rattle.std.specs.Map.{lookup}
+use Rattle.std.specs.Option.{option_map_or}
+use Rattle.std.specs.declared.cmp.Ordering.{Ordering}
+use Rattle.sal_shapes.specs.contracts.scene.PinOrd.TheImpl as pin_ord
+use Rattle.sal_shapes.specs.declared.frame.Frame.{Frame}
+use Rattle.sal_shapes.specs.declared.frame.Here.{Here}
+use Rattle.sal_shapes.specs.declared.scene.Act.{Act}
+use Rattle.sal_shapes.specs.declared.scene.Act.TheVariants.{Joins, Sets, Spans}
+use Rattle.sal_shapes.specs.declared.scene.Picture.{Picture}
+use Rattle.sal_shapes.specs.declared.scene.Pin.{Pin}
+use Rattle.sal_shapes.specs.declared.scene.Pin.TheVariants as pin
+use Rattle.sal_shapes.specs.declared.scene.Row.{Row}
+use Rattle.sal_shapes.specs.declared.scene.Scene.{Scene}
+use Rattle.sal_shapes.specs.declared.scene.Shape.{Shape}
+use Rattle.sal_shapes.specs.declared.scene.Shape.TheVariants.{Area, Line, Point, Words}
+use Rattle.sal_shapes.specs.declared.scene.Size.{Size}
+use Rattle.sal_shapes.specs.declared.scene.Spot.{Spot}
+use Rattle.sal_shapes.specs.declared.scene.Style.{Style}
+use Rattle.sal_shapes.specs.declared.scene.Style.TheVariants.{Axis, Bar, Commit, Heading, Lane, Number, Opening, Place, Refusal, Refused}
+
+-- ---- where things stand
+
+abbrev pub spot : ℕ → ℕ → Spot
+spot x y = record { x = x; y = y }
+
+abbrev pub size : ℕ → ℕ → Size
+size width height = record { width = width; height = height }
+
+abbrev pub longer : ℕ → Row → ℕ
+longer n row = max n (length row.label)
+
+-- a lane has room for the longest label
+abbrev pub width_of : List Row → ℕ
+width_of rows = 40 + 7 * min 44 (fold longer 8 rows)
+
+abbrev pub lane_x : ℕ → ℕ → ℕ
+lane_x width lane = 46 + lane * width
+
+-- of so many lanes, for these domains
+abbrev pub frame_of : ℕ → List Row → List ℕ → Frame
+frame_of lanes rows domains = record { width = width_of rows; side = lane_x (width_of rows) lanes; domains = domains }
+
+abbrev pub column_x : Frame → ℕ → ℕ
+column_x frame domain = frame.side + 40 + 70 * position_or_len (λ d. nat_eq d domain) frame.domains
+
+-- the middle of a row
+abbrev pub row_y : ℕ → ℕ
+row_y row = 55 + 19 * row
+
+-- the upper edge, at which the openings stand, and what stands above the first row
+abbrev pub top : ℕ
+top = 40
+
+-- what belongs to a domain stands in its column
+abbrev pub domain_of : Pin → Option ℕ
+domain_of (pin.Entry place) = None
+domain_of (pin.Commit domain number) = Some domain
+domain_of (pin.Gone domain) = Some domain
+domain_of (pin.Receipt number) = None
+domain_of (pin.Chain id) = None
+domain_of (pin.Request id) = None
+domain_of (pin.Output id) = None
+domain_of (pin.Mark mark) = None
+
+abbrev pub spot_of : Frame → Here → Pin → Spot
+spot_of frame here p = spot (option_map_or (column_x frame) (domain_of p) (here.x + 19)) here.y
+
+-- a line ends at the side of the lane from which it comes
+abbrev pub end_of : Frame → Here → Pin → Spot
+end_of frame here p = spot (option_map_or (λ domain. here.x + frame.width - 14) (domain_of p) (here.x + 19)) here.y
+
+-- ---- what is drawn
+
+abbrev pub pin_cmp : Pin → Pin → Ordering
+pin_cmp = (pin_ord.ghosts).cmp
+
+-- so far: in which frame, where each pin stands, the lines, what stands over them, and how many rows there are
+pub record Drawn : Type 0 where
+  pub frame : Frame
+  pub pins : List (Pin × Spot)
+  pub lines : List Shape
+  pub marks : List Shape
+  pub rows : ℕ
+
+abbrev pub found : Pin → List (Pin × Spot) → Option Spot
+found p pins = lookup (is_at (pin_cmp p)) pins
+
+abbrev pub plain : Style → ℕ → ℕ → List ℕ → Shape
+plain style x y text = Words style (spot x y) text text
+
+-- the point of a commit with its number, that of an opening, or of an end
+abbrev pub pin_marks : Pin → Spot → List Shape
+pin_marks (pin.Entry place) s = []
+pin_marks (pin.Commit domain number) s = if nat_eq number 0 then Point Opening s ∷ [] else Point Commit s ∷ plain Number (s.x + 8) (s.y + 4) (decimal number) ∷ []
+pin_marks (pin.Gone domain) s = Point Opening s ∷ []
+pin_marks (pin.Receipt number) s = []
+pin_marks (pin.Chain id) s = []
+pin_marks (pin.Request id) s = []
+pin_marks (pin.Output id) s = []
+pin_marks (pin.Mark mark) s = []
+
+abbrev pub if_shown : Bool → List Shape → List Shape
+if_shown shown shapes = if shown then shapes else []
+
+-- the pin stands there from now on
+abbrev pub set_pin : Bool → Pin → Spot → Drawn → Drawn
+set_pin shown p s d = record d { pins = insert_entry pin_cmp d.pins p s; marks = d.marks ++ if_shown shown (pin_marks p s) }
+
+-- a line from where the pin stands, if it does
+abbrev pub join_line : Style → Spot → Option Spot → List Shape
+join_line style to None = []
+join_line style to (Some from) = Line style from to ∷ []
+
+-- a bar from where the transaction began; neighbours stand side by side
+abbrev pub bar : Here → ℕ → Spot → Shape
+bar here place from = Area Bar (spot (here.x + 2 + 5 * (place % 3)) from.y) (size 4 (here.y + 5 - from.y))
+
+abbrev pub bar_from : Here → ℕ → Option Spot → List Shape
+bar_from here place None = []
+bar_from here place (Some from) = bar here place from ∷ []
+
+abbrev pub act : Here → Drawn → Act → Drawn
+act here d (Sets p) = set_pin here.shown p (spot_of d.frame here p) d
+act here d (Joins style p) = record d { lines = d.lines ++ if_shown here.shown (join_line style (end_of d.frame here p) (found p d.pins)) }
+act here d (Spans place) = record d { marks = d.marks ++ if_shown here.shown (bar_from here place (found (pin.Entry place) d.pins)) }
+
+abbrev pub acts : Here → List Act → Drawn → Drawn
+acts here list d = fold (act here) d list
+
+abbrev pub place_words : ℕ → Option ℕ → List Shape
+place_words y None = []
+place_words y (Some place) = plain Place 40 (y + 4) (decimal place) ∷ []
+
+abbrev pub refusal_point : Here → Style → List Shape
+refusal_point here Refused = Point Refusal (spot (here.x + 19) here.y) ∷ []
+refusal_point here style = []
+
+-- the texts of a row
+abbrev pub row_words : Here → Row → List Shape
+row_words here row =
+    place_words here.y row.place ++ (refusal_point here row.style ++ Words row.style (spot (here.x + 27) (here.y + 4)) row.label row.title ∷ [])
+
+abbrev pub here_of : Row → Drawn → Here
+here_of row d = record { x = lane_x d.frame.width row.lane; y = if row.hidden then top else row_y d.rows; shown = not row.hidden }
+
+-- the texts of a row that is drawn
+abbrev pub with_words : Here → Row → Drawn → Drawn
+with_words here row d = record d { marks = d.marks ++ if_shown here.shown (row_words here row); rows = d.rows + (if here.shown then 1 else 0) }
+
+-- one row more
+abbrev pub draw_row : Drawn → Row → Drawn
+draw_row d row = acts (here_of row d) row.acts (with_words (here_of row d) row d)
+
+-- ---- the whole
+
+-- domain 0 stands from the beginning on
+abbrev pub opening : Frame → Drawn
+opening frame = set_pin true (pin.Commit 0 0) (spot (column_x frame 0) top) (record { frame = frame; pins = []; lines = []; marks = []; rows = 0 })
+
+abbrev pub height_of : Option Spot → ℕ → ℕ
+height_of place y = option_map_or (λ (s : Spot). s.y) place y
+
+-- a client's lane, down to the bottom
+abbrev pub lane_shapes : ℕ → ℕ → (ℕ × List ℕ) → List Shape
+lane_shapes width bottom (lane, name) =
+    Area Lane (spot (lane_x width lane) 8) (size (width - 8) (bottom - 8)) ∷ plain Heading (lane_x width lane + 8) 26 name ∷ []
+
+abbrev pub domain_name : ℕ → List ℕ
+domain_name domain = codes "domain " ++ decimal domain
+
+-- a domain's line, from its opening to its end or to the bottom
+abbrev pub axis : Drawn → ℕ → Shape
+axis d domain =
+    Line Axis (spot (column_x d.frame domain) (height_of (found (pin.Commit domain 0) d.pins) top)) (spot (column_x d.frame domain) (height_of (found (pin.Gone domain) d.pins) (row_y d.rows)))
+
+abbrev pub domain_shapes : Drawn → ℕ → List Shape
+domain_shapes d domain = axis d domain ∷ plain Heading (column_x d.frame domain - 28) 26 (domain_name domain) ∷ []
+
+-- how high the legend is
+abbrev pub legend_height : ℕ
+legend_height = 226
+
+abbrev pub size_of : Drawn → Size
+size_of d = size (d.frame.side + 40 + 70 * length d.frame.domains) (row_y d.rows + legend_height)
+
+abbrev pub picture_with : List (List ℕ) → Drawn → Picture
+picture_with lanes d =
+    record {
+      size = size_of d;
+      legend = row_y d.rows;
+      shapes = flat_map (lane_shapes d.frame.width (row_y d.rows)) (enumerate_from 0 lanes) ++ (flat_map (domain_shapes d) d.frame.domains ++ (d.lines ++ d.marks));
+    }
+
+abbrev pub picture_of : Scene → Picture
+picture_of scene = picture_with scene.lanes (fold draw_row (opening (frame_of (length scene.lanes) scene.rows scene.domains)) scene.rows)
+
+-- ---- for the code: the numbers fit
+
+pub record Fits (frame : Frame) : Type 0 where
+  pub narrow : frame.width ≤ 400
+  pub near : frame.side ≤ 2 ^ 42
+  pub few : length frame.domains ≤ 2 ^ 32
+
+pub record IsNear (here : Here) : Type 0 where
+  pub x : here.x ≤ 2 ^ 42
+  pub y : here.y ≤ 2 ^ 42

@@ -1,0 +1,143 @@
+//! Where things stand: the lanes of the clients, the columns of the domains, and the rows.
+ghost use Rattle.std.specs.Prelude.{◌≡◌, ◌<◌, ◌≤◌, ◌^◌, length, nat_eq};
+ghost use Rattle.std.specs.List.{fold, position_or_len};
+ghost use Rattle.sal_shapes.specs.Shapes as spec;
+
+use crate::scene::{Pin, Row, Spot};
+use sal_types::Seq;
+
+/// How many rows, lanes or domains a picture has at most.
+pub const MAX_PARTS: usize = 4294967295;
+
+/// At which height the openings stand, and what stands above the first row.
+pub(crate) const TOP: u64 = 40;
+
+/// The width of a client's lane, where the domains begin, and these in the order of their columns.
+#[derive(Drop)]
+pub struct Frame {
+    pub width: u64,
+    pub side: u64,
+    pub domains: Seq<u32>,
+}
+
+/// Where an entry stands: the left edge of its lane, the middle of its row, and whether it is drawn.
+#[derive(Clone, Copy)]
+pub struct Here {
+    pub x: u64,
+    pub y: u64,
+    pub shown: bool,
+}
+
+// How long the longest label is, and 8 at least.
+fn longest(rows: &[Row]) -> usize
+    ensures { result ≡ fold spec.longer 8 rows.now }
+{
+    let mut most = 8;
+    for row in rows {
+        most = usize::max(most, row.label.items().len());
+    }
+    most
+}
+
+fn width_of(rows: &[Row]) -> u64
+    ensures width { result ≡ spec.width_of rows.now }
+    ensures narrow { result ≤ 400 }
+{
+    40 + 7 * (usize::min(44, longest(rows)) as u64)
+}
+
+pub(crate) fn lane_x(width: u64, lane: u32) -> u64
+    requires { width ≤ 400 }
+    ensures x { result ≡ spec.lane_x width lane }
+    ensures near { result ≤ 2 ^ 42 }
+{
+    46 + u64::from(lane) * width
+}
+
+/// The frame of these lanes, for these domains.
+pub(crate) fn frame_of(lanes: u32, rows: &[Row], domains: Seq<u32>) -> Frame
+    requires { length «domains» ≤ 2 ^ 32 }
+    ensures frame { result ≡ spec.frame_of lanes rows.now «domains» }
+    ensures fits { spec.Fits result }
+{
+    let width = width_of(rows);
+    let side = lane_x(width, lanes);
+    Frame {
+        width,
+        side,
+        domains,
+    }
+}
+
+impl Frame {
+    /// Where the domain's line stands.
+    pub(crate) fn column_x(&self, domain: u32) -> u64
+        requires { spec.Fits self.now }
+        ensures x { result ≡ spec.column_x self.now domain }
+        ensures near { result ≤ 2 ^ 43 }
+    {
+        let index = index_of(&self.domains, domain);
+        self.side + 40 + 70 * (index as u64)
+    }
+
+    /// Where the pin stands that the entry sets.
+    pub(crate) fn spot_of(&self, here: Here, pin: Pin) -> Spot
+        requires fits { spec.Fits self.now }
+        requires near { spec.IsNear here }
+        ensures spot { result ≡ spec.spot_of self.now here pin }
+        ensures near { result.x ≤ 2 ^ 43 }
+        ensures high { result.y ≤ 2 ^ 42 }
+    {
+        let x = match domain_of(pin) {
+            None => here.x + 19,
+            Some(domain) => self.column_x(domain),
+        };
+        Spot { x, y: here.y }
+    }
+
+    /// Where a line from the pin to the entry ends.
+    pub(crate) fn end_of(&self, here: Here, pin: Pin) -> Spot
+        requires fits { spec.Fits self.now }
+        requires near { spec.IsNear here }
+        ensures { result ≡ spec.end_of self.now here pin }
+    {
+        let x = match domain_of(pin) {
+            None => here.x + 19,
+            Some(_) => (here.x + self.width).saturating_sub(14),
+        };
+        Spot { x, y: here.y }
+    }
+}
+
+// The domain in whose column the pin stands.
+fn domain_of(pin: Pin) -> Option<u32>
+    ensures { result ≡ spec.domain_of pin }
+{
+    match pin {
+        Pin::Commit { domain, .. } | Pin::Gone { domain } => Some(domain),
+        _ => None,
+    }
+}
+
+// The first place at which the domain stands, or how many there are.
+fn index_of(domains: &Seq<u32>, domain: u32) -> usize
+    ensures index { result ≡ position_or_len (λ d. nat_eq d domain) domains.now }
+    ensures within { result ≤ length domains.now }
+{
+    let list = domains.items();
+    for i in 0..list.len() {
+        if list[i] == domain {
+            return i;
+        }
+    }
+    list.len()
+}
+
+/// The middle of the row.
+pub(crate) fn row_y(row: u64) -> u64
+    requires { row < 2 ^ 32 }
+    ensures y { result ≡ spec.row_y row }
+    ensures high { result ≤ 2 ^ 42 }
+{
+    55 + 19 * row
+}

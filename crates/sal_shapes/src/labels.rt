@@ -1,0 +1,60 @@
+//! The labels of rows.
+ghost use Rattle.std.specs.Prelude.{◌≡◌, ◌++◌, IfOk, OnOk};
+ghost use Rattle.sal_shapes.specs.Labels as spec;
+
+use crate::pieces::push;
+use sal_types::{NoMemory, Seq, append};
+use std::alloc::Global;
+
+/// How many bytes of a label are shown.
+const ROOM: usize = 42;
+
+// Whether the byte goes on with the character before it.
+fn goes_on(b: u8) -> bool
+    ensures { result ≡ spec.goes_on b }
+{
+    128 <= b && b < 192
+}
+
+// Adds the first characters of a text.
+fn push_cut(out: &mut Vec<u8>, text: &[u8]) -> Result<(), NoMemory>
+    ensures { OnOk result (out.new.items ≡ out.old.items ++ spec.cut spec.room text.now) }
+{
+    for i in 0..text.len() {
+        let b = text[i];
+        if i >= ROOM && !goes_on(b) {
+            return push(out, "..");
+        }
+        append(out, b)?;
+    }
+    Ok(())
+}
+
+// What stands before the first space.
+fn first_word(text: &[u8]) -> &[u8]
+    ensures { result.now ≡ spec.first_word text.now }
+{
+    for i in 0..text.len() {
+        if text[i] == b' ' {
+            return &text[..i];
+        }
+    }
+    text
+}
+
+/// The label of a step, which tells its word and the reply, or the step itself where it is done and has nothing more to tell.
+pub fn label_of(alloc: Global, ok: bool, step: &[u8], replied: &[u8]) -> Result<Seq<u8>, NoMemory>
+    ensures { IfOk result (λ label. label ≡ spec.label_text ok step.now replied.now) }
+{
+    let mut out = Vec::new(alloc);
+    if ok {
+        push_cut(&mut out, step)?;
+        return Ok(Seq::from_items(out));
+    }
+    let mut whole = Vec::new(alloc);
+    whole.extend_from_slice(first_word(step))?;
+    push(&mut whole, ": ")?;
+    whole.extend_from_slice(replied)?;
+    push_cut(&mut out, &whole)?;
+    Ok(Seq::from_items(out))
+}

@@ -1,0 +1,156 @@
+//! What a picture is made of: rows with their texts and what they are joined to, and the shapes that they come to.
+use sal_types::{Seq, Str};
+
+/// A place of the picture that lines lead to, by the name of what stands there.
+#[derive(Clone, Copy, PartialEq, Eq, PartialOrd, Ord)]
+pub enum Pin {
+    /// The entry at this place of the log.
+    Entry { place: u64 },
+    /// The domain's commit of this number; number 0 is its opening.
+    Commit { domain: u32, number: u64 },
+    /// The end of the domain, which was unmounted.
+    Gone { domain: u32 },
+    /// The submission with this receipt.
+    Receipt { number: u64 },
+    /// The last transaction of the chain, or its opening.
+    Chain { id: u64 },
+    /// The request with this id.
+    Request { id: u64 },
+    /// The answer to the request with this id.
+    Output { id: u64 },
+    /// The mark, where it was left last.
+    Mark { mark: u32 },
+}
+
+/// How a shape looks, and so what it means.
+#[derive(Clone, Copy)]
+pub enum Style {
+    /// A client's lane.
+    Lane,
+    /// A transaction, from where it began to where it was submitted or cancelled.
+    Bar,
+    /// A domain, from its opening to its end.
+    Axis,
+    /// From the commit, or the pending submission, on which a transaction or a listener stands.
+    Stands,
+    /// From a commit to the entry that decided it.
+    Makes,
+    /// From a commit to the entry that is told of it as its own.
+    Told,
+    /// From the commit that a conflict names.
+    Clash,
+    /// From what a submission failed by: one of its chain, or the end of its domain.
+    Fails,
+    /// From a commit to the batch that has it.
+    Gives,
+    /// From a request to the client that was handed it, or from its answer.
+    Hands,
+    /// From a mark to where it was found.
+    Found,
+    /// From the transaction of a chain before.
+    Chained,
+    /// A commit.
+    Commit,
+    /// The opening of a domain, or its end.
+    Opening,
+    /// A refusal.
+    Refusal,
+    /// The heading of a lane.
+    Heading,
+    /// A shared call.
+    Shared,
+    /// A local step.
+    Local,
+    /// A step that was refused, or a submission that was not done.
+    Refused,
+    /// The place of an entry.
+    Place,
+    /// The number of a commit.
+    Number,
+}
+
+/// What an entry shows beside its texts.
+#[derive(Clone, Copy)]
+pub enum Act {
+    /// Later lines to the pin lead here.
+    Sets { pin: Pin },
+    /// A line leads from the pin to here.
+    Joins { style: Style, pin: Pin },
+    /// The transaction that began at this place ends here.
+    Spans { place: u64 },
+}
+
+/// A commit: its domain and its number there.
+#[derive(Clone, Copy)]
+pub struct Made {
+    pub domain: u32,
+    pub number: u64,
+}
+
+/// A row of the picture: a step of the client in this lane, with the place of its entry if it is a shared call. A hidden row is
+/// not drawn; what it sets stands at the upper edge.
+#[derive(Drop)]
+pub struct Row {
+    pub lane: u32,
+    pub place: Option<u64>,
+    pub style: Style,
+    pub label: Seq<u8>,
+    pub title: Str,
+    pub acts: Seq<Act>,
+    pub hidden: bool,
+}
+
+/// What is drawn: the headings of the lanes, the domains in the order of their columns, and the rows from above.
+#[derive(Drop)]
+pub struct Scene {
+    pub lanes: Seq<Str>,
+    pub domains: Seq<u32>,
+    pub rows: Seq<Row>,
+}
+
+/// A spot, in pixels from the upper left.
+#[derive(Clone, Copy)]
+pub struct Spot {
+    pub x: u64,
+    pub y: u64,
+}
+
+/// A width and a height, in pixels.
+#[derive(Clone, Copy)]
+pub struct Size {
+    pub width: u64,
+    pub height: u64,
+}
+
+/// A shape, in pixels from the upper left.
+#[derive(Drop)]
+pub enum Shape {
+    Area {
+        style: Style,
+        at: Spot,
+        size: Size,
+    },
+    Line {
+        style: Style,
+        from: Spot,
+        to: Spot,
+    },
+    Point {
+        style: Style,
+        at: Spot,
+    },
+    Words {
+        style: Style,
+        at: Spot,
+        text: Seq<u8>,
+        title: Seq<u8>,
+    },
+}
+
+/// A picture: its size in pixels, at which height its legend stands, and its shapes, the lower ones first.
+#[derive(Drop)]
+pub struct Picture {
+    pub size: Size,
+    pub legend: u64,
+    pub shapes: Seq<Shape>,
+}

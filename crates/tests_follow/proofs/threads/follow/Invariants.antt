@@ -1,0 +1,6 @@
+-- The follower has had so many bytes.
+use Rattle.tests_follow.specs.Fed.{IsFedBy}
+use Rattle.tests_follow.proofs.threads.follow.Given as goal
+
+abbrev pub invariant-loop : goal.invariant-loop
+invariant-loop g l = IsFedBy l.fed l.follower

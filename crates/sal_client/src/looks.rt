@@ -151,9 +151,9 @@ impl ClientState {
             None => Ok(refused(StepRefusal::EmptySlot)),
             Some(taken) => {
                 let mut tx = taken;
-                let reply = looked(alloc, readers, &mut tx, place, look)?;
+                let reply = looked(alloc, readers, &mut tx, place, look);
                 fill_slot(&mut self.transactions, slot, tx)?;
-                Ok(reply)
+                reply
             }
         }
     }

@@ -257,7 +257,9 @@ impl WriteTx {
         }
     }
 
-    /// The rows at the path and below it, under its own writes. A transaction that only writes refuses.
+    /// The rows at the path and below it, under its own writes. A transaction that only writes refuses. Its view may be made for
+    /// the look, which no contract sees: for its caller, and each contract, the transaction stays the same, also where memory runs
+    /// out.
     pub fn read(&mut self, alloc: Global, store: Store, path: &Path) -> Result<Rows, TxFault>
         ensures rows { IfOk result (λ rows. rows ≡ under (apply_ops (spec.rows_in self.old.base store) store self.old.changes) path.now) }
         ensures cause { MatchResult result (λ _. self.old.mode ≢ Mode.Wo) (λ e. (e ≡ TxFault.NoMemory) ⊎ ((e ≡ TxFault.WriteOnly) × (self.old.mode ≡ Mode.Wo))) }
@@ -275,7 +277,8 @@ impl WriteTx {
         }
     }
 
-    /// Whether a row stands at the path or below it, under its own writes. A transaction that only writes refuses.
+    /// Whether a row stands at the path or below it, under its own writes. A transaction that only writes refuses. As with `read`,
+    /// its view may be made for the look, and the transaction stays the same for each contract.
     pub fn exists(&mut self, alloc: Global, store: Store, path: &Path) -> Result<bool, TxFault>
         ensures found { IfOk result (λ b. b ≡ has (apply_ops (spec.rows_in self.old.base store) store self.old.changes) path.now) }
         ensures cause { MatchResult result (λ _. self.old.mode ≢ Mode.Wo) (λ e. (e ≡ TxFault.NoMemory) ⊎ ((e ≡ TxFault.WriteOnly) × (self.old.mode ≡ Mode.Wo))) }

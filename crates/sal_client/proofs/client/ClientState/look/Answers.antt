@@ -3,6 +3,7 @@ use Rattle.std.proofs.Common.{◌≡◌, Some, ap, sym, ◌∙◌, subst}
 use Rattle.sal_client.specs.Looks.{look_move}
 use Rattle.sal_client.specs.Slots.{held}
 use Rattle.sal_client.specs.Meeting.{Answers}
+use Rattle.sal_client.proofs.Faults.{if_ok}
 use Rattle.sal_client.proofs.Looking.{looks_nowhere, stays_answered}
 use Rattle.sal_client.proofs.Places.{put_back, took_nothing}
 use Rattle.sal_client.proofs.client.ClientState.look.Goals as goal
@@ -26,7 +27,7 @@ returns-in-Some c =
     let step = look_move place.slot place.store place.text.now c.args.look in
     let there : held old.transactions place.slot ≡ Some c.in-Some.taken = sym c.in-Some.ensures.value in
     let same = put_back (held old.transactions) (held c.take_slot.new.slots) (held c.fill_slot.new.slots) place.slot c.in-Some.taken there c.take_slot.ensures.after (c.in_ok-fill_slot.ensures) in
-    stays_answered tables old step c.fill_slot.new.slots same c.requires c.in_ok-reply.reply (c.in_ok-reply.ensures.shown old there)
+    if_ok c.looked-reply.result _ _ (λ r shown. stays_answered tables old step c.fill_slot.new.slots same c.requires r (shown old there)) c.looked-reply.ensures.shown
 
-pub looked-requires : goal.looked-requires
-looked-requires c = c.requires c.args.place.slot c.in-Some.taken (sym c.in-Some.ensures.value)
+pub looked-reply-requires : goal.looked-reply-requires
+looked-reply-requires c = c.requires c.args.place.slot c.in-Some.taken (sym c.in-Some.ensures.value)

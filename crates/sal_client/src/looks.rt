@@ -81,14 +81,14 @@ fn found_seen(alloc: Global, tx: &mut Tx, store: Store, path: &Path) -> Result<S
     ensures seen { IfOk result (IsSeen tx.old store path.now Look.Exists) }
     ensures same { tx.new ≡ tx.old }
 {
-    let domain = domain_of(tx);
+    let own = domain_of(tx);
     match tx {
         Tx::Read(tx) => Ok(StepReply::Exists {
             found: tx.exists(store, path),
         }),
         Tx::Write(tx) => match tx.exists(alloc, store, path) {
             Ok(found) => Ok(StepReply::Exists { found }),
-            Err(TxFault::WriteOnly) => Ok(only_writes(domain)),
+            Err(TxFault::WriteOnly) => Ok(only_writes(own)),
             Err(TxFault::NoMemory) => Err(NoMemory),
             Err(_) => unreachable!(),
         },

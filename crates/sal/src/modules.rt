@@ -51,8 +51,8 @@ impl<T: Drop> From<AllocFailed<T>> for SchemaFault {
     }
 }
 
-/// The schema of the modules with these texts, or why they have none. The first text that can't be read counts, and then the
-/// first fault of the modules.
+/// The schema of the modules with these texts, or their first fault: that they are too long, else that of the first text that is
+/// no statement, else that of all modules.
 pub fn schema_of(alloc: Global, texts: &[&str]) -> Result<Schema, SchemaFault>
     ensures schema { IfOk result (IsSchemaOf (texts_in texts.now)) }
     ensures fault { IfErr result (IsFaultOf (texts_in texts.now)) }

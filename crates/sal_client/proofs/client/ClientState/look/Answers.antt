@@ -1,5 +1,7 @@
 -- A look into an empty slot, or into the transaction that stands there, and stands there again.
-use Rattle.std.proofs.Common.{◌≡◌, Some, sym, subst}
+use Rattle.std.proofs.Common.{◌≡◌, Some, ap, sym, ◌∙◌, subst}
+use Rattle.sal_tx.specs.declared.tx.Tx.{Tx}
+use Rattle.sal_script.specs.Play.{set_slot}
 use Rattle.sal_client.specs.Looks.{look_move}
 use Rattle.sal_client.specs.Slots.{held}
 use Rattle.sal_client.specs.Meeting.{Answers}
@@ -19,14 +21,17 @@ returns-in-None c =
     stays_answered tables old step c.take_slot.new.slots same c.requires c.refused.result
     (subst (λ r. Answers tables old step r old) (sym c.refused.ensures) (looks_nowhere tables old place.slot place.store place.text.now c.args.look empty))
 
-pub returns-in-Some : goal.returns-in-Some
-returns-in-Some c =
+pub returns-in_ok-fill_slot-in-Some : goal.returns-in_ok-fill_slot-in-Some
+returns-in_ok-fill_slot-in-Some c =
     let place = c.args.place in
     let old = c.args.self.now in
     let tables = c.args.readers.now in
     let step = look_move place.slot place.store place.text.now c.args.look in
-    let there : held old.transactions place.slot ≡ Some c.in-Some.taken = sym c.in-Some.ensures.value in
-    let same = put_back (held old.transactions) (held c.take_slot.new.slots) (held c.fill_slot.new.slots) place.slot c.in-Some.taken there c.take_slot.ensures.after (c.in_ok-fill_slot.ensures) in
+    let taken = c.in-Some.taken in
+    let there : held old.transactions place.slot ≡ Some taken = sym c.in-Some.ensures.value in
+    let filled : held c.fill_slot.new.slots ≡ set_slot place.slot (Some taken) (held c.take_slot.new.slots) =
+    c.in_ok-fill_slot-in-Some.ensures ∙ ap (λ (tx : Tx). set_slot place.slot (Some tx) (held c.take_slot.new.slots)) c.looked-reply.ensures.same in
+    let same = put_back (held old.transactions) (held c.take_slot.new.slots) (held c.fill_slot.new.slots) place.slot taken there c.take_slot.ensures.after filled in
     if_ok c.looked-reply.result _ _ (λ r shown. stays_answered tables old step c.fill_slot.new.slots same c.requires r (shown old there)) c.looked-reply.ensures.shown
 
 pub looked-reply-requires : goal.looked-reply-requires

@@ -1,0 +1,4 @@
+pub mod Differing
+pub mod FirstRead
+pub mod Parting
+pub mod Told

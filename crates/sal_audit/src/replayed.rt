@@ -56,12 +56,7 @@ fn reorder(alloc: Global, script: &mut Script, text: &[u8]) -> Result<bool, NoMe
 }
 
 // The verdict by the script's own order.
-fn replay(
-    alloc: Global,
-    read: ReadScript,
-    hub: Hub,
-    text: &[u8],
-) -> Result<Verdict, NoMemory>
+fn replay(alloc: Global, read: ReadScript, hub: Hub, text: &[u8]) -> Result<Verdict, NoMemory>
     requires schemas { tables_in read.schemas.items ≡ tables_of hub.world }
     requires few { length read.schemas.items ≤ 64 }
     requires readers { read.readers ≡ versions_of hub.world }

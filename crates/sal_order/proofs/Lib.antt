@@ -1,4 +1,4 @@
-pub mod Differing
 pub mod FirstRead
+pub mod Indices
 pub mod Parting
 pub mod Told

@@ -1,6 +1,6 @@
 -- One of the texts has ended before the other.
 use Rattle.std.proofs.Common.{sym, ◌∙◌, arith}
-use Rattle.sal_order.proofs.Differing.{difference-long, difference-short}
+use Rattle.sal_order.proofs.Indices.{difference-long, difference-short}
 use Rattle.sal_order.proofs.differing.difference.Goals as goal
 
 pub returns-then-i-other : goal.returns-then-i-other

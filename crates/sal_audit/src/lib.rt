@@ -21,6 +21,7 @@
 #![tactic(auto)]
 
 mod audited;
+pub mod examples;
 pub mod laws;
 mod replayed;
 pub mod verdict;

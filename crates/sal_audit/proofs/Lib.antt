@@ -1,2 +1,3 @@
+pub mod Few
 pub mod Judging
 pub mod Own

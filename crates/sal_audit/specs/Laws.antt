@@ -30,8 +30,8 @@ abbrev pub PlaysAreYes : Type 0
 PlaysAreYes =
     (world : List Domain) (clients : List (List Move)) (order : List ℕ) (played : Played) → length clients < 2 ^ 32 → play world clients order ≡ Ok played → verdict world clients (report world played) ≡ Yes
 
--- an input of a script that is prepared, and a report of it in some order
+-- an input of a script that is prepared, and a report of it in some order; a script has at most 16 clients
 abbrev pub InputsOfReportsAreYes : Type 0
 InputsOfReportsAreYes =
-    (bytes : List ℕ) (both : Parted) (script : Prepared) → parted bytes ≡ Some both → prepared both.first ≡ Ok script → length script.parts.clients < 2 ^ 32
+    (bytes : List ℕ) (both : Parted) (script : Prepared) → parted bytes ≡ Some both → prepared both.first ≡ Ok script
     → IsReportInSomeOrder script.world script.parts.clients both.second → audit_text bytes ≡ Ok (codes "yes\n")

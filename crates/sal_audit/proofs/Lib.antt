@@ -1,3 +1,4 @@
 pub mod Few
 pub mod Judging
+pub mod Orders
 pub mod Own

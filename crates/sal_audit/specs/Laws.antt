@@ -14,7 +14,7 @@ use Rattle.sal_audit.specs.Verdicts.{Judged, verdict}
 
 -- a verdict is given just where it is the one that is meant
 abbrev pub VerdictsAreJudged : Type 0
-VerdictsAreJudged = (world : List Domain) (clients : List (List Move)) (text : List ℕ) (it : Verdict) → length clients < 2 ^ 32 → Judged world clients text it ↔ (it ≡ verdict world clients text)
+VerdictsAreJudged = (world : List Domain) (clients : List (List Move)) (text : List ℕ) (it : Verdict) → length clients < 2 ^ 32 → (Judged world clients text it ↔ (it ≡ verdict world clients text))
 
 -- no text has two verdicts
 abbrev pub VerdictsAreOne : Type 0

@@ -35,4 +35,4 @@ pub record PartsBehind (text : List ℕ) (other : List ℕ) (line : ℕ) : Type 
 -- there is none just where two texts are the same, and else it is that many lines
 abbrev pub DifferencesEndLines : Type 0
 DifferencesEndLines =
-    (text other : List ℕ) → ((difference 0 text other ≡ None) ↔ (text ≡ other)) × ((line : ℕ) → (difference 0 text other ≡ Some line) ↔ PartsBehind text other line)
+    (text other : List ℕ) → ((difference 0 text other ≡ None) ↔ (text ≡ other)) × ((line : ℕ) → ((difference 0 text other ≡ Some line) ↔ PartsBehind text other line))

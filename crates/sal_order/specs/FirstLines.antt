@@ -38,4 +38,4 @@ told_order text = if starts_with nat_eq text (line_of (numbers_in text)) then So
 
 -- it is told just where the first line is that of an order with numbers below 2^32
 abbrev pub OrdersAreTold : Type 0
-OrdersAreTold = (text order : List ℕ) → (told_order text ≡ Some order) ↔ (Tells text order × All (λ n. n < 2 ^ 32) order)
+OrdersAreTold = (text order : List ℕ) → ((told_order text ≡ Some order) ↔ (Tells text order × All (λ n. n < 2 ^ 32) order))

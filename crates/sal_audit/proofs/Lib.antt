@@ -1,4 +1,3 @@
 pub mod Few
-pub mod Judging
 pub mod Orders
 pub mod Own

@@ -5,9 +5,9 @@ use Rattle.sal_history.specs.World.{Domain}
 use Rattle.sal_script.specs.declared.script.Script.{Script}
 use Rattle.sal_script.specs.Moves.{clients_of}
 use Rattle.sal_script.specs.Play.{play}
-use Rattle.sal_audit.specs.declared.verdict.Verdict.TheVariants.{No}
+use Rattle.sal_verdict.specs.declared.verdict.Verdict.TheVariants.{No}
 use Rattle.sal_audit.specs.Replayed.{IsReordered}
-use Rattle.sal_audit.specs.Verdicts.{by_order, by_play, verdict}
+use Rattle.sal_verdict.specs.Verdicts.{by_order, by_play, verdict}
 
 -- the script has it
 pub told-verdict : (world : List Domain) (text : List ℕ) (old new : Script) (b : Bool) → b ≡ true → IsReordered text old new b

@@ -6,7 +6,7 @@ use Rattle.sal_prepare.specs.Parted.{Parted, parted}
 use Rattle.sal_prepare.specs.Scripted.{Prepared, prepared}
 use Rattle.sal_prepare.specs.declared.status.Status.{Status}
 use Rattle.sal_prepare.specs.declared.status.Status.TheVariants.{NoPart}
-use Rattle.sal_audit.specs.Verdicts.{line_of, verdict}
+use Rattle.sal_verdict.specs.Verdicts.{line_of, verdict}
 
 -- the line of the verdict on a text, by a script that is prepared; its own order is not used
 abbrev pub audited : List ℕ → Prepared → List ℕ

@@ -1,4 +1,3 @@
 pub mod Audited
 pub mod Laws
 pub mod Replayed
-pub mod Verdicts

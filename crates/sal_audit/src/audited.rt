@@ -5,15 +5,15 @@ ghost use Rattle.sal_script.specs.Tables.{tables_of, versions_of};
 ghost use Rattle.sal_prepare.specs.Scripted.{tables_in};
 ghost use Rattle.sal_prepare.specs.Texts.{IsTextOr};
 ghost use Rattle.sal_audit.specs.Audited as spec;
-ghost use Rattle.sal_audit.specs.Verdicts as verdicts;
+ghost use Rattle.sal_verdict.specs.Verdicts as verdicts;
 
 use crate::replayed::audit;
-use crate::verdict::line_of;
 use sal_hub::Hub;
 use sal_prepare::parted::{TwoParts, two_parts};
 use sal_prepare::scripted::{Prepared, ReadScript, prepare};
 use sal_prepare::status::Status;
 use sal_types::{NoMemory, Str};
+use sal_verdict::line_of;
 use std::alloc::Global;
 
 /// The line of the verdict on a report: `yes`, or `no` with a number. The input is a script, a zero byte, and the report; the first zero byte divides

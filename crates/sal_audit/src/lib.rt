@@ -4,12 +4,11 @@
 //! |---|---|
 //! | `audit_text` | from a script, a zero byte and a report to the line `yes` or `no LINE`, or the status of the first that is wrong |
 //! | `audit` | the verdict on a report of a script that is prepared |
-//! | `Verdict` | `Yes`, or `No` with the first line that differs |
-//! | `laws` | what the verdict means; that no report has two; that reports of `run` and `sim` are said yes to |
+//! | `laws` | what `run` wrote is said yes to |
 //!
 //! The script is played in the order on the report's first line, by the player that `sim` uses, and the report of that is written and compared. So a
-//! yes says that the text is what the definitions of `sal_script` give for that order, and nothing of the program that wrote it. `specs/Verdicts` has
-//! the definition.
+//! yes says that the text is what the definitions of `sal_script` give for that order, and nothing of the program that wrote it. `sal_verdict` has
+//! the definition of the verdict, and its laws.
 //!
 //! ```
 //! let text = audit_text(alloc, input)?;
@@ -21,11 +20,8 @@
 #![tactic(auto)]
 
 mod audited;
-pub mod examples;
 pub mod laws;
 mod replayed;
-pub mod verdict;
 
 pub use audited::audit_text;
 pub use replayed::audit;
-pub use verdict::Verdict;

@@ -5,9 +5,8 @@ ghost use Rattle.sal_script.specs.Play.{play as play_spec};
 ghost use Rattle.sal_script.specs.Tables.{tables_of, versions_of};
 ghost use Rattle.sal_prepare.specs.Scripted.{tables_in};
 ghost use Rattle.sal_audit.specs.Replayed.{IsReordered};
-ghost use Rattle.sal_audit.specs.Verdicts as spec;
+ghost use Rattle.sal_verdict.specs.Verdicts as spec;
 
-use crate::verdict::{Verdict, judged};
 use sal_client::{PlayFault, Played, play};
 use sal_hub::Hub;
 use sal_io::OpenGate;
@@ -17,6 +16,7 @@ use sal_prepare::scripted::ReadScript;
 use sal_schema::Schema;
 use sal_script::Script;
 use sal_types::{NoMemory, Seq};
+use sal_verdict::{Verdict, judged};
 use std::alloc::Global;
 use std::mem;
 use std::sync::Arc;

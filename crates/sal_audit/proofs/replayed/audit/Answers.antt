@@ -1,7 +1,7 @@
 -- The verdict is that by the order that the text tells.
 use Rattle.std.proofs.Common.{◌≡◌, subst}
 use Rattle.std.specs.Prelude.{IfOk}
-use Rattle.sal_audit.specs.declared.verdict.Verdict.{Verdict}
+use Rattle.sal_verdict.specs.declared.verdict.Verdict.{Verdict}
 use Rattle.sal_audit.proofs.Orders.{told-verdict, untold-verdict}
 use Rattle.sal_audit.proofs.replayed.audit.Goals as goal
 

@@ -3,8 +3,8 @@ use Rattle.std.proofs.Common.{◌≡◌, ℕ, List, ap, sym, ◌∙◌, subst}
 use Rattle.std.specs.Prelude.{IfOk}
 use Rattle.sal_history.specs.World.{Domain}
 use Rattle.sal_script.specs.Play.{Played}
-use Rattle.sal_audit.specs.declared.verdict.Verdict.{Verdict}
-use Rattle.sal_audit.specs.Verdicts.{by_play, by_played}
+use Rattle.sal_verdict.specs.declared.verdict.Verdict.{Verdict}
+use Rattle.sal_verdict.specs.Verdicts.{by_play, by_played}
 use Rattle.sal_audit.proofs.replayed.replay.Goals as goal
 
 pub returns-in-Ok : goal.returns-in-Ok

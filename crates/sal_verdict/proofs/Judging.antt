@@ -12,10 +12,10 @@ use Rattle.sal_script.specs.Report.{report}
 use Rattle.sal_script.specs.SomeOrder.{IsReportInSomeOrder, Tells}
 use Rattle.sal_order.specs.Differences.{DifferencesEndLines, difference}
 use Rattle.sal_order.specs.FirstLines.{OrdersAreTold, told_order}
-use Rattle.sal_audit.specs.declared.verdict.Verdict.{Verdict}
-use Rattle.sal_audit.specs.declared.verdict.Verdict.TheVariants.{Yes, No}
-use Rattle.sal_audit.specs.Laws.{VerdictsAreJudged}
-use Rattle.sal_audit.specs.Verdicts.{Differs, IsOrder, Judged, TellsNone, by_difference, by_order, by_play, verdict}
+use Rattle.sal_verdict.specs.declared.verdict.Verdict.{Verdict}
+use Rattle.sal_verdict.specs.declared.verdict.Verdict.TheVariants.{Yes, No}
+use Rattle.sal_verdict.specs.Laws.{VerdictsAreJudged}
+use Rattle.sal_verdict.specs.Verdicts.{Differs, IsOrder, Judged, TellsNone, by_difference, by_order, by_play, verdict}
 
 -- numbers of clients are small, where there are few clients
 all-known : (m : ℕ) (order : List ℕ) → m < 2 ^ 32 → ((i client : ℕ) → slice_get order i ≡ Some client → client < m) → All (λ n. n < 2 ^ 32) order

@@ -1,8 +1,8 @@
 //! Worked examples of the verdict. Each function does nothing; its contract says what the definitions give for some texts, and the proof
 //! computes it.
 ghost use Rattle.std.specs.Prelude.{◌≡◌, codes};
-ghost use Rattle.sal_audit.specs.declared.verdict.Verdict.TheVariants.{No, Yes};
-ghost use Rattle.sal_audit.specs.Verdicts.{by_report, line_of};
+ghost use Rattle.sal_verdict.specs.declared.verdict.Verdict.TheVariants.{No, Yes};
+ghost use Rattle.sal_verdict.specs.Verdicts.{by_report, line_of};
 
 /// A text gets no on the line behind those that it has whole in common with the report.
 pub fn reports_differ()

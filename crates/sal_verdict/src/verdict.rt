@@ -1,6 +1,6 @@
 //! The verdict on a text that is said to be a report.
 ghost use Rattle.std.specs.Prelude.{◌≡◌, IfOk};
-ghost use Rattle.sal_audit.specs.Verdicts as spec;
+ghost use Rattle.sal_verdict.specs.Verdicts as spec;
 
 use sal_order::difference;
 use sal_types::{NoMemory, Str};
@@ -17,7 +17,7 @@ pub enum Verdict {
 }
 
 /// The verdict on a text where this is the report of the order that it tells.
-pub(crate) fn judged(text: &[u8], own: &[u8]) -> Verdict
+pub fn judged(text: &[u8], own: &[u8]) -> Verdict
     ensures { result ≡ spec.by_report text.now own.now }
 {
     match difference(text, own) {
@@ -27,7 +27,7 @@ pub(crate) fn judged(text: &[u8], own: &[u8]) -> Verdict
 }
 
 /// The line of a verdict.
-pub(crate) fn line_of(alloc: Global, verdict: Verdict) -> Result<Str, NoMemory>
+pub fn line_of(alloc: Global, verdict: Verdict) -> Result<Str, NoMemory>
     ensures { IfOk result (λ text. text ≡ spec.line_of verdict) }
 {
     match verdict {

@@ -7,8 +7,8 @@ use Rattle.sal_script.specs.Report.{report}
 use Rattle.sal_script.specs.SomeOrder.{IsReportInSomeOrder, Tells}
 use Rattle.sal_order.specs.Differences.{PartsBehind, difference}
 use Rattle.sal_order.specs.FirstLines.{told_order}
-use Rattle.sal_audit.specs.declared.verdict.Verdict.{Verdict}
-use Rattle.sal_audit.specs.declared.verdict.Verdict.TheVariants.{Yes, No}
+use Rattle.sal_verdict.specs.declared.verdict.Verdict.{Verdict}
+use Rattle.sal_verdict.specs.declared.verdict.Verdict.TheVariants.{Yes, No}
 
 -- ---- the verdict
 

@@ -1,5 +1,0 @@
-use Rattle.sal_audit.proofs.Own.{verdicts-are-one}
-use Rattle.sal_audit.proofs.laws.verdicts_are_one.Goals as goal
-
-pub returns : goal.returns
-returns c = verdicts-are-one c.verdicts_are_judged.ensures

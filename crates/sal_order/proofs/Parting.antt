@@ -1,5 +1,5 @@
 -- A difference stands behind the longest front that two texts have in common.
-use Rattle.std.proofs.Common.{◌≡◌, ℕ, ◌+◌, List, [], ◌∷◌, ◌++◌, Bool, true, false, Option, None, Some, is_some, refl, ap, sym, ◌∙◌, subst, arith, if◌then◌else◌, nat_eq}
+use Rattle.std.proofs.Common.{◌≡◌, ℕ, ◌+◌, List, [], ◌∷◌, ◌++◌, Bool, true, false, Option, None, Some, is_some, refl, ap, sym, ◌∙◌, arith, if◌then◌else◌, nat_eq}
 use Rattle.std.specs.Prelude.{unwrap_or}
 use Rattle.std.proofs.lemmas.Bool.{eq-eqb, eqb-false, eqb-true, ne_eqb, true≢false}
 use Rattle.sal_order.specs.Differences.{DifferencesEndLines, Part, PartsBehind, difference, line_ends}

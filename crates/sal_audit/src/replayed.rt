@@ -35,7 +35,8 @@ pub fn audit(
     requires fresh { hub.log ≡ [] }
     ensures { IfOk result (λ verdict. verdict ≡ spec.verdict hub.world (clients_of read.script.clients) text.now) }
 {
-    if reorder(alloc, &mut read.script, text)? {
+    let told = reorder(alloc, &mut read.script, text)?;
+    if told {
         replay(alloc, read, hub, text)
     } else {
         Ok(Verdict::No { line: 0 })

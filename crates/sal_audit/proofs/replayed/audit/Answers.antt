@@ -5,10 +5,10 @@ use Rattle.sal_verdict.specs.declared.verdict.Verdict.{Verdict}
 use Rattle.sal_audit.proofs.Orders.{told-verdict, untold-verdict}
 use Rattle.sal_audit.proofs.replayed.audit.Goals as goal
 
-pub returns-then-reorder : goal.returns-then-reorder
-returns-then-reorder c =
+pub returns-then-told : goal.returns-then-told
+returns-then-told c =
     subst (λ (v : Verdict). IfOk c.replay.result (λ verdict. verdict ≡ v))
-    (told-verdict c.args.hub.world c.args.text.now c.args.read.script c.reorder.new.script _ c.if-reorder.true c.in_ok-reorder.ensures) c.replay.ensures
+    (told-verdict c.args.hub.world c.args.text.now c.args.read.script c.reorder.new.script c.in_ok-told.told c.if-told.true c.in_ok-told.ensures) c.replay.ensures
 
-pub returns-else-reorder : goal.returns-else-reorder
-returns-else-reorder c = untold-verdict c.args.hub.world c.args.text.now c.args.read.script c.reorder.new.script _ c.if-reorder.false c.in_ok-reorder.ensures
+pub returns-else-told : goal.returns-else-told
+returns-else-told c = untold-verdict c.args.hub.world c.args.text.now c.args.read.script c.reorder.new.script c.in_ok-told.told c.if-told.false c.in_ok-told.ensures

@@ -19,6 +19,7 @@ use Rattle.sal_feed_script.specs.Feeding.{feed_text}
 use Rattle.sal_follow_script.specs.Exports.{export_text}
 use Rattle.sal_follow_script.specs.Follows.{follow_text}
 use Rattle.sal_picture.specs.Pictured.{draw_text}
+use Rattle.sal_audit.specs.Audited.{audit_text}
 use Rattle.sal_command.specs.declared.top.TheConstants.{HELP, VERSION}
 use Rattle.sal_prepare.specs.declared.status.Status.{Status}
 use Rattle.sal_prepare.specs.declared.status.Status.TheVariants.{Done, BadWords, ReadFault, WriteFault, TooLong, BadScript, BadSchema, BadOpening, BadOrder, NoMemory, NoPart, BadStream, BadExport}
@@ -27,7 +28,7 @@ use Rattle.sal_command.specs.declared.texts.Made.{Made}
 use Rattle.sal_command.specs.declared.texts.Made.TheVariants as made_as
 use Rattle.sal_command.specs.declared.words.Form.TheVariants.{Run, Text, Load, Feed, Help, Version}
 use Rattle.sal_command.specs.declared.words.TextForm.{TextForm}
-use Rattle.sal_command.specs.declared.words.TextForm.TheVariants.{Sim, Schema, Owner, Export, Follow, Draw}
+use Rattle.sal_command.specs.declared.words.TextForm.TheVariants.{Sim, Schema, Owner, Export, Follow, Draw, Audit}
 
 -- ---- what a script comes to
 
@@ -87,6 +88,7 @@ made_text Owner bytes = owner_text bytes
 made_text Export bytes = export_text bytes
 made_text Follow bytes = follow_text bytes
 made_text (Draw range) bytes = draw_text range bytes
+made_text Audit bytes = audit_text bytes
 
 -- a text that is made of the bytes, or its status, is this one
 abbrev pub IsMadeBy : (List ℕ → Result (List ℕ) Status) → List ℕ → Result (List ℕ) Status → Type 0

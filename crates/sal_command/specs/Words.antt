@@ -6,7 +6,7 @@ use Rattle.sal_script.specs.Json.{text_eq}
 use Rattle.sal_command.specs.declared.words.Form.{Form}
 use Rattle.sal_command.specs.declared.words.Form.TheVariants.{Run, Text, Load, Feed, Help, Version}
 use Rattle.sal_command.specs.declared.words.TextForm.{TextForm}
-use Rattle.sal_command.specs.declared.words.TextForm.TheVariants.{Sim, Schema, Owner, Export, Follow, Draw}
+use Rattle.sal_command.specs.declared.words.TextForm.TheVariants.{Sim, Schema, Owner, Export, Follow, Draw, Audit}
 use Rattle.sal_draw_script.specs.declared.rows.Range.{Range}
 
 -- ---- numbers
@@ -55,7 +55,8 @@ text_form_named word =
     else (if text_eq word (codes "owner") then Some Owner
     else (if text_eq word (codes "export") then Some Export
     else (if text_eq word (codes "follow") then Some Follow
-    else (if text_eq word (codes "draw") then Some (Draw (range_of 0 1000000)) else None)))))
+    else (if text_eq word (codes "draw") then Some (Draw (range_of 0 1000000))
+    else (if text_eq word (codes "audit") then Some Audit else None))))))
 
 -- the form of a single word
 abbrev pub form_named : List ℕ → Option Form

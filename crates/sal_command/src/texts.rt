@@ -7,6 +7,7 @@ ghost use Rattle.sal_command.specs.Top as spec;
 
 use crate::played::sim_text;
 use crate::words::TextForm;
+use sal_audit::audit_text;
 use sal_follow_script::{export_text, follow_text};
 use sal_io::Gate;
 use sal_picture::draw_text;
@@ -54,6 +55,7 @@ pub(crate) fn made_by<G: Gate>(
         TextForm::Export => as_plain(export_text(alloc, bytes)),
         TextForm::Follow => as_words(follow_text(alloc, bytes)),
         TextForm::Draw(range) => as_plain(draw_text(alloc, bytes, range)),
+        TextForm::Audit => as_words(audit_text(alloc, bytes)),
     }
 }
 

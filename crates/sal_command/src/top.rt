@@ -31,6 +31,7 @@ usage: mdsal run < SCRIPT\n\
        mdsal follow < SCRIPT, A ZERO BYTE, FRAMES\n\
        mdsal feed N C\n\
        mdsal draw [FROM TO] < SCRIPT, or A SCRIPT, A ZERO BYTE, A REPORT\n\
+       mdsal audit < SCRIPT, A ZERO BYTE, A REPORT\n\
        mdsal --help | --version\n\
 \n\
 run reads a JSON script from standard input, runs its clients at the same time, each on a thread of its own, and\n\
@@ -59,6 +60,9 @@ It writes how many came, and the sum of their numbers. N is 1 to 100000, and C 1
 draw plays a script as sim does, or in the order that the first line of the report tells, and writes a picture of what its clients\n\
 did to each other, as SVG, of the entries from place FROM of the log to place TO. FROM and TO are 0 to 1000000.\n\
 \n\
+audit reads a script, then a zero byte, then a report. It writes yes where that is the report of the script for the order on its first\n\
+line, and else no with the number of the first line that differs, from 0.\n\
+\n\
 exit status, each but 0 with its line on standard error:\n\
   0  done: the whole text was written\n\
   2  bad words: the command line is none of the forms above\n\
@@ -70,7 +74,7 @@ exit status, each but 0 with its line on standard error:\n\
   8  bad opening DEVICE STORE FAULT: an opening tree is no data of the schema, or it breaks a rule of it\n\
   9  bad order at INDEX, sim, export and draw alone: the order names a client without a shared call left, or ends too early\n\
  10  no memory\n\
- 11  no second part, follow alone: the input has no zero byte\n\
+ 11  no second part, follow and audit alone: the input has no zero byte\n\
  12  bad stream FAULT, follow alone: bad-frame BYTE, gap WANTED FOUND or unfinished BYTE\n\
  13  bad export COMMIT, export alone: the text of a frame has more than 16777216 bytes\n";
 

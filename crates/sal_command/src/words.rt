@@ -42,6 +42,8 @@ pub enum TextForm {
     Follow,
     /// The picture of the script, of the entries in this range, played in its order or in that of a report.
     Draw(Range),
+    /// The verdict on a report of the script, for the order on its first line.
+    Audit,
 }
 
 /// The greatest place of an entry that words tell; no script has as many steps.
@@ -92,6 +94,8 @@ fn text_form_named(word: &str) -> Option<TextForm>
         Some(TextForm::Follow)
     } else if word == "draw" {
         Some(TextForm::Draw(range_of(0, MAX_PLACE)))
+    } else if word == "audit" {
+        Some(TextForm::Audit)
     } else {
         None
     }

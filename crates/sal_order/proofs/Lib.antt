@@ -1,0 +1,4 @@
+pub mod FirstRead
+pub mod Indices
+pub mod Parting
+pub mod Told

@@ -1,0 +1,34 @@
+//! Laws of the verdict. A call does nothing: its clauses are the laws.
+ghost use Rattle.sal_verdict.specs.Laws.{PlaysAreYes, RunsAreYes, VerdictsAreJudged, VerdictsAreOne};
+
+use sal_order::laws as texts;
+use sal_script::laws as scripts;
+
+/// The verdict is what is said of a text in plain words. It is yes just where the text is the report of the script for a legal order that its first
+/// line tells. It is no with 0 where the first line tells no legal order, and else with the number of LF that the text and that report have in
+/// common at their front. There are fewer clients than 2^32: a script has at most 16.
+pub fn verdicts_are_judged()
+    ensures { VerdictsAreJudged }
+{
+    texts::orders_are_told();
+    texts::differences_end_lines();
+    scripts::plays_follow_their_order();
+}
+
+/// No text has two verdicts.
+pub fn verdicts_are_one()
+    ensures { VerdictsAreOne }
+{
+    verdicts_are_judged();
+}
+
+/// What `run` and `sim` write is said yes to: each text that is a script's report in some order, and each report of a script that was played in an
+/// order.
+pub fn own_reports_are_said_yes_to()
+    ensures run { RunsAreYes }
+    ensures sim { PlaysAreYes }
+{
+    verdicts_are_judged();
+    scripts::what_is_left_is_reported();
+    scripts::what_is_played_can_be_left();
+}

@@ -1,0 +1,26 @@
+//! The verdict of an audit: whether a text is the report of a script, for the order on the text's own first line. Definitions and laws, and what is
+//! decided once the report of that order is written.
+//!
+//! | item | what it is |
+//! |---|---|
+//! | `Verdict` | `Yes`, or `No` with the first line that differs |
+//! | `judged` | the verdict on a text by the report of the order that it tells |
+//! | `line_of` | the line of a verdict |
+//! | `laws` | what the verdict means; that no text has two; that reports of `run` and `sim` are said yes to |
+//! | `examples` | worked examples |
+//!
+//! `specs/Verdicts` has the definition, over the play and the report of `sal_script`. `sal_audit` finds the verdict.
+//!
+//! ```
+//! let verdict = judged(b"order\ntree 0 1 {} {}\n", b"order\ntree 0 0 {} {}\n");
+//! // Verdict::No { line: 1 }
+//! ```
+//!
+//! Cost: one look at each byte that the two texts have in common at their front.
+#![tactic(auto)]
+
+pub mod examples;
+pub mod laws;
+pub mod verdict;
+
+pub use verdict::{Verdict, judged, line_of};

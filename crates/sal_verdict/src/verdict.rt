@@ -1,0 +1,45 @@
+//! The verdict on a text that is said to be a report.
+ghost use Rattle.std.specs.Prelude.{◌≡◌, IfOk};
+ghost use Rattle.sal_verdict.specs.Verdicts as spec;
+
+use sal_order::difference;
+use sal_types::{NoMemory, Str};
+use std::alloc::Global;
+
+/// What an audit says of a text.
+#[derive(Clone, Copy, Debug, PartialEq, Eq)]
+pub enum Verdict {
+    /// It is the report of the script, played in the order that its own first line tells, and that order is legal.
+    Yes,
+    /// It is not. The first line that differs from that report, counted from 0: so many LF the two have in common. It is 0 where the first line
+    /// tells no legal order.
+    No { line: u64 },
+}
+
+/// The verdict on a text where this is the report of the order that it tells.
+pub fn judged(text: &[u8], own: &[u8]) -> Verdict
+    ensures { result ≡ spec.by_report text.now own.now }
+{
+    match difference(text, own) {
+        None => Verdict::Yes,
+        Some(line) => Verdict::No { line },
+    }
+}
+
+/// The line of a verdict.
+pub fn line_of(alloc: Global, verdict: Verdict) -> Result<Str, NoMemory>
+    ensures { IfOk result (λ text. text ≡ spec.line_of verdict) }
+{
+    match verdict {
+        Verdict::Yes => Str::new(alloc, "yes\n"),
+        Verdict::No { line } => no_line(alloc, line),
+    }
+}
+
+fn no_line(alloc: Global, line: u64) -> Result<Str, NoMemory>
+    ensures { IfOk result (λ text. text ≡ spec.line_of (Verdict.No line)) }
+{
+    let mut text = String::new(alloc);
+    write!(text, "no {line}\n")?;
+    Ok(Str::from_string(text))
+}

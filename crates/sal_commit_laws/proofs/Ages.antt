@@ -103,8 +103,8 @@ module _ (commits : List Commit) (following : AreFollowing commits) where
   again i j k b c d s p n m first second at_b at_c at_d stands still same = elim (since_then s p j k c d m second at_c at_d still) [
     | inl was ↦ was ∙ ap Some (sym (agree i k b d s at_b at_d p n m stands still same))
     | inr new ↦ absurd (
-      let most : n.stamp ≤ stamp_of b.receipt = old i b s p n at_b stands in
-      let rises : b.receipt + (j - i) ≤ c.receipt = rising_to i j b c first at_b at_c in
-      omega (arith, most, rises, new, same)
-    )
+        let most : n.stamp ≤ stamp_of b.receipt = old i b s p n at_b stands in
+        let rises : b.receipt + (j - i) ≤ c.receipt = rising_to i j b c first at_b at_c in
+        omega (arith, most, rises, new, same)
+        )
   ]

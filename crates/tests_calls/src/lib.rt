@@ -1,6 +1,7 @@
-//! Tests of the broker's calls: each is made, and its answer compared; and one that finds no memory.
+//! Tests of the broker's calls: each is made, and its answer compared. And a settle that finds no memory, as a contract.
 #![tactic(auto)]
 
+pub mod again;
 #[cfg(test)]
 mod calls;
 #[cfg(test)]

@@ -16,6 +16,7 @@ use std::sync::Wait;
 
 // The number of an RPC, and that of a notification.
 const PING: u32 = 2;
+
 const ALARM: u32 = 7;
 
 // ---- RPCs

@@ -9,71 +9,120 @@ use crate::listening::{found, removed, told};
 use crate::opened::{Desk, opened};
 use crate::services::{mounted, notified, provided, requested, upgraded, withdrawn};
 use crate::transactions::{chained, closed, committed, given_up, pumped};
-use sal_broker::{Sal, Seat};
+use sal_broker::Seat;
 use sal_types::Path;
 use std::alloc::Global;
 use std::mem::forget;
 use std::sync::Wait;
 use std::test::Fail;
 
-/// What the calls of one client answer, in their order.
-#[derive(Debug, PartialEq, Eq)]
-struct Alone {
-    upgrade: u64,
-    begin_cancel: [u64; 2],
-    submit_settle: [u64; 2],
-    open_chain_submit: [u64; 2],
-    pump: [u64; 2],
-    pump_again: [u64; 2],
-    open_chain_close: [u64; 2],
-    listen_unlisten: [u64; 3],
-    mark_after: [u64; 2],
-    mount_unmount: [u64; 4],
-}
+// What the calls of one client answer: 1 for an answer without a number.
+const ALONE: [(&str, u64); 22] = [
+    ("upgrade", 1),
+    ("begin", 1),
+    ("cancel", 1),
+    ("submit: its receipt", 1),
+    ("settle: its commit", 1),
+    ("open_chain: its number", 1),
+    ("submit in a chain: its receipt", 2),
+    ("pump: the receipt", 2),
+    ("pump: its commit", 2),
+    ("pump again: no receipt", 0),
+    ("pump again: no commit", 0),
+    ("open_chain again: its number", 2),
+    ("close_chain", 1),
+    ("listen: its number", 1),
+    ("listen: the newest commit", 2),
+    ("unlisten", 1),
+    ("mark", 1),
+    ("after: the mark is found", 1),
+    ("mount", 1),
+    ("mount_at: domain 1, and 1", 2),
+    ("unmount", 1),
+    ("mount_at again: none", 0),
+];
 
-/// What those of two clients answer.
-#[derive(Debug, PartialEq, Eq)]
-struct Together {
-    listen_take: [u64; 6],
-    provide: u64,
-    invoke_collect: [u64; 5],
-    withdraw: u64,
-    subscribe_take: [u64; 4],
-}
+// What those of two clients answer.
+const TOGETHER: [(&str, u64); 17] = [
+    ("listen: its number", 2),
+    ("listen: the newest commit", 2),
+    ("submit: its receipt", 3),
+    ("settle: its commit", 3),
+    ("take: from commit", 2),
+    ("take: to commit", 3),
+    ("provide", 1),
+    ("invoke: its number", 1),
+    ("next_call: its number", 1),
+    ("next_call: its RPC", 2),
+    ("answer", 1),
+    ("collect: rows", 1),
+    ("withdraw", 1),
+    ("subscribe", 1),
+    ("offer: subscribers", 1),
+    ("take_notes: notifications", 1),
+    ("take_notes: the number of the first", 7),
+];
+
+// An entry of each call.
+const ENTRIES: u64 = 34;
 
 // What one seat does.
-fn alone<R: Wait>(at: &Desk<'_, R>, seat: &mut Seat) -> Alone
+fn alone<R: Wait>(at: &Desk<'_, R>, seat: &mut Seat) -> [u64; 22]
     requires lock { seat.old.lock ≡ at.now.sal.now }
     requires version { upgrades_of (known seat.old.view).world ≡ 1 }
     ensures { Keeps at.now.sal.now seat.old seat.new }
 {
-    Alone {
-        upgrade: upgraded(at, seat),
-        begin_cancel: given_up(at, seat),
-        submit_settle: committed(at, seat),
-        open_chain_submit: chained(at, seat),
-        pump: pumped(at, seat),
-        pump_again: pumped(at, seat),
-        open_chain_close: closed(at, seat),
-        listen_unlisten: removed(at, seat),
-        mark_after: found(at, seat),
-        mount_unmount: mounted(at, seat),
-    }
+    let upgrade = upgraded(at, seat);
+    let [begin, cancel] = given_up(at, seat);
+    let [submit, settle] = committed(at, seat);
+    let [chain, chained] = chained(at, seat);
+    let [receipt, commit] = pumped(at, seat);
+    let [no_receipt, no_commit] = pumped(at, seat);
+    let [other_chain, close] = closed(at, seat);
+    let [listener, version, unlisten] = removed(at, seat);
+    let [mark, after] = found(at, seat);
+    let [mount, there, unmount, gone] = mounted(at, seat);
+    [
+        upgrade,
+        begin,
+        cancel,
+        submit,
+        settle,
+        chain,
+        chained,
+        receipt,
+        commit,
+        no_receipt,
+        no_commit,
+        other_chain,
+        close,
+        listener,
+        version,
+        unlisten,
+        mark,
+        after,
+        mount,
+        there,
+        unmount,
+        gone,
+    ]
 }
 
 // What two seats do.
-fn together<R: Wait>(at: &Desk<'_, R>, one: &mut Seat, two: &mut Seat) -> Together
+fn together<R: Wait>(at: &Desk<'_, R>, one: &mut Seat, two: &mut Seat) -> [u64; 17]
     requires { (one.old.lock ≡ at.now.sal.now) × (two.old.lock ≡ at.now.sal.now) }
     ensures one { Keeps at.now.sal.now one.old one.new }
     ensures two { Keeps at.now.sal.now two.old two.new }
 {
-    Together {
-        listen_take: told(at, one, two),
-        provide: provided(at, one),
-        invoke_collect: requested(at, one, two),
-        withdraw: withdrawn(at, one),
-        subscribe_take: notified(at, one, two),
-    }
+    let [listener, version, submit, settle, from, to] = told(at, one, two);
+    let provide = provided(at, one);
+    let [invoke, next, rpc, answer, collect] = requested(at, one, two);
+    let withdraw = withdrawn(at, one);
+    let [subscribe, offer, notes, note] = notified(at, one, two);
+    [
+        listener, version, submit, settle, from, to, provide, invoke, next, rpc, answer, collect,
+        withdraw, subscribe, offer, notes, note,
+    ]
 }
 
 // How long the log is, by a turn in the caller's hands.
@@ -86,62 +135,66 @@ fn entered<R: Wait>(at: &Desk<'_, R>, seat: Seat) -> u64
     entries
 }
 
-// What all calls answer, and how many entries they left.
-fn all<R: Wait>(at: &Desk<'_, R>, mut one: Seat) -> (Alone, Together, u64)
+// What differs from what is wanted, if something does.
+fn wrong(found: &[u64], wanted: &[(&'static str, u64)]) -> Option<&'static str> {
+    if found.len() != wanted.len() {
+        return Some("the count");
+    }
+    for (number, (name, right)) in found.iter().zip(wanted) {
+        if number != right {
+            return Some(name);
+        }
+    }
+    None
+}
+
+// The first answer that differs, of all calls at a new broker.
+fn first_wrong<R: Wait>(at: &Desk<'_, R>, mut one: Seat) -> Option<&'static str>
     requires { IsOpened at.now.sal.now one }
 {
     let mut two = at.sal.split(&mut one, 1);
     let alone = alone(at, &mut one);
     let together = together(at, &mut one, &mut two);
     forget(two);
-    (alone, together, entered(at, one))
+    let entries = entered(at, one);
+    if let Some(name) = wrong(&alone, &ALONE) {
+        return Some(name);
+    }
+    if let Some(name) = wrong(&together, &TOGETHER) {
+        return Some(name);
+    }
+    if entries != ENTRIES {
+        return Some("enter: entries of the log");
+    }
+    None
 }
 
-// The same, at a new broker. Nothing is dropped: each drop would be one more thing to prove.
-fn answers<R: Wait>(rt: &R, alloc: Global) -> Option<(Alone, Together, u64)> {
-    let (sal, seat) = opened(alloc)?;
-    let top = Path::root(alloc);
-    let desk = Desk {
-        rt,
-        alloc,
-        sal: &sal,
-        top: &top,
-    };
-    let answers = all(&desk, seat);
-    forget(top);
-    forget(sal);
-    Some(answers)
+// The same, with the broker. Nothing is dropped: each drop would be one more thing to prove.
+fn tried<R: Wait>(rt: &R, alloc: Global) -> Option<&'static str> {
+    match opened(alloc) {
+        Some((sal, seat)) => {
+            let top = Path::root(alloc);
+            let found = first_wrong(
+                &Desk {
+                    rt,
+                    alloc,
+                    sal: &sal,
+                    top: &top,
+                },
+                seat,
+            );
+            forget(top);
+            forget(sal);
+            found
+        }
+        None => Some("open"),
+    }
 }
 
 #[test]
 fn each_call_is_answered(rt: HostRuntime) -> Result<(), Fail> {
-    let alone = Alone {
-        upgrade: 1,
-        begin_cancel: [1, 1],
-        // (receipt 1 is commit 1)
-        submit_settle: [1, 1],
-        open_chain_submit: [1, 2],
-        // (receipt 2 is commit 2; then none is pending)
-        pump: [2, 2],
-        pump_again: [0, 0],
-        open_chain_close: [2, 1],
-        // (listener 1, from commit 2 on)
-        listen_unlisten: [1, 2, 1],
-        mark_after: [1, 1],
-        // (domain 1 is mounted there; then none)
-        mount_unmount: [1, 2, 1, 0],
-    };
-    let together = Together {
-        // (listener 2, from commit 2 on; receipt 3 is commit 3; the batch is from commit 2 to 3)
-        listen_take: [2, 2, 3, 3, 2, 3],
-        provide: 1,
-        // (request 1 of RPC 2)
-        invoke_collect: [1, 1, 2, 1, 1],
-        withdraw: 1,
-        // (one subscriber has got one notification of number 7)
-        subscribe_take: [1, 1, 1, 7],
-    };
-    // (an entry for each of the 34 calls)
-    assert_eq!(rt; answers(&rt, rt.alloc()), Some((alone, together, 34)));
-    Ok(())
+    match tried(&rt, rt.alloc()) {
+        None => Ok(()),
+        Some(name) => Err(name.into()),
+    }
 }

@@ -14,6 +14,7 @@ use std::mem::forget;
 use std::sync::Arc;
 
 /// What a call takes beside a seat: the runtime, the broker, and the path of the root.
+#[derive(Drop)]
 pub(crate) struct Desk<'a, R> {
     pub(crate) rt: &'a R,
     pub(crate) alloc: Global,

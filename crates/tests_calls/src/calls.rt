@@ -141,8 +141,8 @@ fn wrong(found: &[u64], wanted: &[(&'static str, u64)]) -> Option<&'static str> 
         return Some("the count");
     }
     for (number, (name, right)) in found.iter().zip(wanted) {
-        if number != right {
-            return Some(name);
+        if *number != *right {
+            return Some(*name);
         }
     }
     None

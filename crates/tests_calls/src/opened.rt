@@ -108,7 +108,10 @@ fn over(alloc: Global, schema: &Schema, devices: Vec<Device>) -> Option<(Sal, Se
 {
     match Sal::open(alloc, devices, Rules::One) {
         Ok(opened) => Some(opened),
-        Err(_) => None,
+        Err(fault) => {
+            forget(fault);
+            None
+        }
     }
 }
 

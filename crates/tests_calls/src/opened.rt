@@ -1,6 +1,7 @@
 //! A broker with the controller's own domain, whose schema has a second version, and one device.
-ghost use Rattle.std.specs.Prelude.{◌≡◌, [], ◌∷◌, IfOk, IfSome};
+ghost use Rattle.std.specs.Prelude.{◌≡◌, [], ◌∷◌, ◌++◌, IfSome, IsTrue};
 ghost use Rattle.sal_commit.specs.Versions.{tables_of};
+ghost use Rattle.sal_history.specs.declared.opening.Device.{Device as Domain};
 ghost use Rattle.tests_calls.specs.Ready.{AreTwo, IsDomain, IsOpened};
 
 use sal_broker::{Sal, Seat};
@@ -8,7 +9,7 @@ use sal_history::{Device, Opening};
 use sal_rows::{CallFault, Rows, Rules};
 use sal_schema::{Schema, SchemaTable};
 use sal_schema_of_table::schema_of;
-use sal_types::{NoMemory, Path, Seq};
+use sal_types::{Path, Seq};
 use std::alloc::Global;
 use std::mem::forget;
 use std::sync::Arc;
@@ -69,36 +70,71 @@ fn domain(alloc: Global, schema: Arc<Schema>, upgrades: Vec<Arc<Schema>>) -> Dev
     }
 }
 
-// The schema once more, as the second version.
-fn again(alloc: Global, schema: &Arc<Schema>) -> Result<Vec<Arc<Schema>>, NoMemory>
-    ensures { IfOk result (λ upgrades. tables_of upgrades.items ≡ schema.now.value ∷ []) }
+// Puts the schema once more at the end, as a version.
+fn add_version(upgrades: &mut Vec<Arc<Schema>>, schema: &Arc<Schema>) -> bool
+    ensures { IsTrue result → tables_of upgrades.new.items ≡ tables_of upgrades.old.items ++ schema.now.value ∷ [] }
 {
-    let upgrades = vec![in alloc; Arc::try_clone(schema)?]?;
-    Ok(upgrades)
+    match Arc::try_clone(schema) {
+        Ok(version) => match upgrades.push(version) {
+            Ok(()) => true,
+            Err(back) => {
+                forget(back);
+                false
+            }
+        },
+        Err(_) => false,
+    }
+}
+
+// Puts a domain at the end.
+fn add_domain(devices: &mut Vec<Device>, device: Device) -> bool
+    ensures { IsTrue result → devices.new.items ≡ devices.old.items ++ device ∷ [] }
+{
+    match devices.push(device) {
+        Ok(()) => true,
+        Err(back) => {
+            forget(back);
+            false
+        }
+    }
+}
+
+// The domain of the schema and of these later versions, put at the end.
+fn add(
+    alloc: Global,
+    devices: &mut Vec<Device>,
+    schema: &Arc<Schema>,
+    upgrades: Vec<Arc<Schema>>,
+) -> bool
+    ensures { IsTrue result → (d : Domain) × (devices.new.items ≡ devices.old.items ++ d ∷ []) × IsDomain schema.now.value (tables_of upgrades.items) d }
+{
+    match Arc::try_clone(schema) {
+        Ok(first) => add_domain(devices, domain(alloc, first, upgrades)),
+        Err(_) => {
+            forget(upgrades);
+            false
+        }
+    }
 }
 
 // The controller's own domain.
-fn own(alloc: Global, schema: &Arc<Schema>) -> Result<Device, NoMemory>
-    ensures { IfOk result (IsDomain schema.now.value (schema.now.value ∷ [])) }
+fn add_own(alloc: Global, devices: &mut Vec<Device>, schema: &Arc<Schema>) -> bool
+    ensures { IsTrue result → (d : Domain) × (devices.new.items ≡ devices.old.items ++ d ∷ []) × IsDomain schema.now.value (schema.now.value ∷ []) d }
 {
-    let upgrades = again(alloc, schema)?;
-    let first = Arc::try_clone(schema)?;
-    Ok(domain(alloc, first, upgrades))
+    let mut upgrades = Vec::new(alloc);
+    if add_version(&mut upgrades, schema) {
+        return add(alloc, devices, schema, upgrades);
+    }
+    forget(upgrades);
+    false
 }
 
-// A device's domain.
-fn other(alloc: Global, schema: &Arc<Schema>) -> Result<Device, NoMemory>
-    ensures { IfOk result (IsDomain schema.now.value []) }
+// The controller's own domain and a device's.
+fn add_both(alloc: Global, devices: &mut Vec<Device>, schema: &Arc<Schema>) -> bool
+    requires { devices.old.items ≡ [] }
+    ensures { IsTrue result → AreTwo schema.now.value devices.new.items }
 {
-    let first = Arc::try_clone(schema)?;
-    Ok(domain(alloc, first, Vec::new(alloc)))
-}
-
-fn both(alloc: Global, schema: &Arc<Schema>) -> Result<Vec<Device>, NoMemory>
-    ensures { IfOk result (λ devices. AreTwo schema.now.value devices.items) }
-{
-    let devices = vec![in alloc; own(alloc, schema)?, other(alloc, schema)?]?;
-    Ok(devices)
+    add_own(alloc, devices, schema) && add(alloc, devices, schema, Vec::new(alloc))
 }
 
 // A broker over the two domains.
@@ -115,13 +151,28 @@ fn over(alloc: Global, schema: &Schema, devices: Vec<Device>) -> Option<(Sal, Se
     }
 }
 
+// The same, with a schema for both.
+fn of_schema(alloc: Global, schema: &Arc<Schema>) -> Option<(Sal, Seat)>
+    ensures { IfSome result (λ r. IsOpened r.0 r.1) }
+{
+    let mut devices = Vec::new(alloc);
+    if add_both(alloc, &mut devices, schema) {
+        return over(alloc, schema, devices);
+    }
+    forget(devices);
+    None
+}
+
 /// The broker, and its opening seat.
 pub(crate) fn opened(alloc: Global) -> Option<(Sal, Seat)>
     ensures { IfSome result (λ r. IsOpened r.0 r.1) }
 {
-    let schema = schema(alloc)?;
-    match both(alloc, &schema) {
-        Ok(devices) => over(alloc, &schema, devices),
-        Err(NoMemory) => None,
+    match schema(alloc) {
+        Some(schema) => {
+            let opened = of_schema(alloc, &schema);
+            forget(schema);
+            opened
+        }
+        None => None,
     }
 }

@@ -2,5 +2,5 @@
 use Rattle.sal_commit_laws.proofs.Ages.{agree}
 use Rattle.sal_commit_laws.proofs.laws.domains_keep_stamps.Goals as goal
 
-pub returns-clause-agree : goal.returns-clause-agree
-returns-clause-agree c = agree c.args.domain.now.commits.items c.args.domain.now.following
+pub returns : goal.returns
+returns c = agree c.args.domain.now.commits.items c.args.domain.now.following

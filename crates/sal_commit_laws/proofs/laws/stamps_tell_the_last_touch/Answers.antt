@@ -18,8 +18,8 @@ given : (commits : List Commit) (are : AreKept commits) (following : AreFollowin
 given commits are following n c d s p m None at_c stands tell x at_x = ap (λ (y : Commit). at (Some (tree_in y.trees s)) p) (same_at commits 0 0 x c (omega arith) at_x at_c) ∙ sym tell ∙ stands
 given commits are following n c d s p m (Some j) at_c stands tell x at_x = tell.2 x m at_x.1 stands
 
-pub returns-clause-last : goal.returns-clause-last
-returns-clause-last _ commits k d s p m are following at_d stands =
+pub returns : goal.returns
+returns _ commits k d s p m are following at_d stands =
     let c : Commit = get_or commits 0 d in
     let at_c : StandsAt commits 0 c = there commits 0 d (omega (arith, at_d.0)) in
     let long : 0 + (k - 0) ≡ k = omega arith in

@@ -15,8 +15,8 @@ use Rattle.sal_commit_laws.proofs.laws.stamps_tell_the_last_touch.Goals as goal
 
 given : (commits : List Commit) (are : AreKept commits) (following : AreFollowing commits) (n : ℕ) (c d : Commit) (s : Store) (p : List Step) (m : Tree) (o : Option ℕ) → StandsAt commits 0 c
     → at (Some (tree_in d.trees s)) p ≡ Some m → Tells commits are following s p 0 n c d o → IsGivenBy commits s p m o
-given commits are following n c d s p m None at_c stands tell x at_x = ap (λ (y : Commit). at (Some (tree_in y.trees s)) p) (same_at commits 0 0 x c (omega arith) at_x at_c) ∙ sym tell ∙ stands
-given commits are following n c d s p m (Some j) at_c stands tell x at_x = tell.2 x m at_x.1 stands
+given commits are following n c d s p m None at_c stands tell = λ x at_x. ap (λ (y : Commit). at (Some (tree_in y.trees s)) p) (same_at commits 0 0 x c (omega arith) at_x at_c) ∙ sym tell ∙ stands
+given commits are following n c d s p m (Some j) at_c stands tell = λ x at_x. tell.2 x m at_x.1 stands
 
 pub returns : goal.returns
 returns _ commits k d s p m are following at_d stands =

@@ -6,13 +6,12 @@ ghost use Rattle.sal_hub.specs.Upgrades.{upgrades_of};
 ghost use Rattle.tests_calls.specs.Ready.{IsOpened};
 
 use crate::listening::{found, removed, told};
-use crate::opened::{Desk, opened};
+use crate::opened::{Desk, let_go, opened};
 use crate::services::{mounted, notified, provided, requested, upgraded, withdrawn};
 use crate::transactions::{chained, closed, committed, given_up, pumped};
 use sal_broker::Seat;
 use sal_types::Path;
 use std::alloc::Global;
-use std::mem::forget;
 use std::sync::Wait;
 use std::test::Fail;
 
@@ -131,7 +130,7 @@ fn entered<R: Wait>(at: &Desk<'_, R>, seat: Seat) -> u64
 {
     let mut held = at.sal.enter(at.rt, seat);
     let entries = held.hub().log().len() as u64;
-    forget(at.sal.leave(held));
+    let_go(at.sal.leave(held));
     entries
 }
 
@@ -155,7 +154,7 @@ fn first_wrong<R: Wait>(at: &Desk<'_, R>, mut one: Seat) -> Option<&'static str>
     let mut two = at.sal.split(&mut one, 1);
     let alone = alone(at, &mut one);
     let together = together(at, &mut one, &mut two);
-    forget(two);
+    let_go(two);
     let entries = entered(at, one);
     if let Some(name) = wrong(&alone, &ALONE) {
         return Some(name);
@@ -183,8 +182,8 @@ fn tried<R: Wait>(rt: &R, alloc: Global) -> Option<&'static str> {
                 },
                 seat,
             );
-            forget(top);
-            forget(sal);
+            let_go(top);
+            let_go(sal);
             found
         }
         None => Some("open"),

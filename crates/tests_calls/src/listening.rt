@@ -4,13 +4,12 @@ ghost use Rattle.sal_hub.specs.Tokens.{IsListener};
 ghost use Rattle.sal_broker.specs.Seats.{known};
 ghost use Rattle.sal_broker.specs.Turns.{Keeps};
 
-use crate::opened::{Desk, yes};
+use crate::opened::{Desk, let_go, yes};
 use crate::transactions::committed;
 use sal_broker::Seat;
 use sal_hub::{ListenerId, Seen};
 use sal_rows::{Batch, CallFault};
 use sal_types::Store;
-use std::mem::forget;
 use std::sync::Wait;
 
 // A listener, and the commit from which on it listens.
@@ -25,7 +24,7 @@ fn listened<R: Wait>(at: &Desk<'_, R>, seat: &mut Seat) -> Option<(ListenerId, u
     {
         Ok((id, opened)) => {
             let version = opened.version;
-            forget(opened);
+            let_go(opened);
             Some((id, version))
         }
         Err(_) => None,
@@ -47,7 +46,7 @@ fn taken<R: Wait>(at: &Desk<'_, R>, seat: &mut Seat, id: ListenerId) -> [u64; 2]
 {
     let answer = at.sal.take(at.rt, at.alloc, seat, id);
     let ends = ends_of(&answer);
-    forget(answer);
+    let_go(answer);
     ends
 }
 

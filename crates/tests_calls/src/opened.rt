@@ -11,7 +11,7 @@ use sal_schema::{Schema, SchemaTable};
 use sal_schema_of_table::schema_of;
 use sal_types::{Path, Seq};
 use std::alloc::Global;
-use std::mem::forget;
+use std::mem::ManuallyDrop;
 use std::sync::Arc;
 
 /// What a call takes beside a seat: the runtime, the broker, and the path of the root.
@@ -21,6 +21,11 @@ pub(crate) struct Desk<'a, R> {
     pub(crate) alloc: Global,
     pub(crate) sal: &'a Sal,
     pub(crate) top: &'a Path,
+}
+
+/// Lets the value go without a drop, which would be one more thing to prove: with all that a broker holds, one for each type.
+pub(crate) fn let_go<T>(value: T) {
+    let _left = unsafe { ManuallyDrop::new_unchecked(value) };
 }
 
 /// 1 for an answer, 0 for a refusal.
@@ -49,7 +54,7 @@ fn shared(alloc: Global, schema: Schema) -> Option<Arc<Schema>> {
     match Arc::new(alloc, schema) {
         Ok(schema) => Some(schema),
         Err(back) => {
-            forget(back);
+            let_go(back);
             None
         }
     }
@@ -78,7 +83,7 @@ fn add_version(upgrades: &mut Vec<Arc<Schema>>, schema: &Arc<Schema>) -> bool
         Ok(version) => match upgrades.push(version) {
             Ok(()) => true,
             Err(back) => {
-                forget(back);
+                let_go(back);
                 false
             }
         },
@@ -93,7 +98,7 @@ fn add_domain(devices: &mut Vec<Device>, device: Device) -> bool
     match devices.push(device) {
         Ok(()) => true,
         Err(back) => {
-            forget(back);
+            let_go(back);
             false
         }
     }
@@ -111,7 +116,7 @@ fn add(
     match Arc::try_clone(schema) {
         Ok(first) => add_domain(devices, domain(alloc, first, upgrades)),
         Err(_) => {
-            forget(upgrades);
+            let_go(upgrades);
             false
         }
     }
@@ -125,7 +130,7 @@ fn add_own(alloc: Global, devices: &mut Vec<Device>, schema: &Arc<Schema>) -> bo
     if add_version(&mut upgrades, schema) {
         return add(alloc, devices, schema, upgrades);
     }
-    forget(upgrades);
+    let_go(upgrades);
     false
 }
 
@@ -145,7 +150,7 @@ fn over(alloc: Global, schema: &Schema, devices: Vec<Device>) -> Option<(Sal, Se
     match Sal::open(alloc, devices, Rules::One) {
         Ok(opened) => Some(opened),
         Err(fault) => {
-            forget(fault);
+            let_go(fault);
             None
         }
     }
@@ -159,7 +164,7 @@ fn of_schema(alloc: Global, schema: &Arc<Schema>) -> Option<(Sal, Seat)>
     if add_both(alloc, &mut devices, schema) {
         return over(alloc, schema, devices);
     }
-    forget(devices);
+    let_go(devices);
     None
 }
 
@@ -170,7 +175,7 @@ pub(crate) fn opened(alloc: Global) -> Option<(Sal, Seat)>
     match schema(alloc) {
         Some(schema) => {
             let opened = of_schema(alloc, &schema);
-            forget(schema);
+            let_go(schema);
             opened
         }
         None => None,

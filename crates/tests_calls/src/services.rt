@@ -5,13 +5,12 @@ ghost use Rattle.sal_hub.specs.Upgrades.{upgrades_of};
 ghost use Rattle.sal_broker.specs.Seats.{known};
 ghost use Rattle.sal_broker.specs.Turns.{Keeps};
 
-use crate::opened::{Desk, yes};
+use crate::opened::{Desk, let_go, yes};
 use sal_broker::Seat;
 use sal_hub::CallId;
 use sal_note::NoteList;
 use sal_rows::{CallFault, Rows};
 use sal_rpc::Request;
-use std::mem::forget;
 use std::sync::Wait;
 
 // The number of an RPC, and that of a notification.
@@ -47,7 +46,7 @@ fn next<R: Wait>(at: &Desk<'_, R>, seat: &mut Seat) -> [u64; 2]
 {
     let answer = at.sal.next_call(at.rt, at.alloc, seat);
     let request = request_in(&answer);
-    forget(answer);
+    let_go(answer);
     request
 }
 
@@ -80,7 +79,7 @@ fn collected<R: Wait>(at: &Desk<'_, R>, seat: &mut Seat, id: CallId) -> u64
 {
     let answer = at.sal.collect(at.rt, at.alloc, seat, id);
     let rows = are_rows(&answer);
-    forget(answer);
+    let_go(answer);
     rows
 }
 
@@ -135,7 +134,7 @@ fn taken<R: Wait>(at: &Desk<'_, R>, seat: &mut Seat) -> [u64; 2]
 {
     let answer = at.sal.take_notes(at.rt, at.alloc, seat);
     let notes = notes_in(&answer);
-    forget(answer);
+    let_go(answer);
     notes
 }
 

@@ -4,12 +4,11 @@ ghost use Rattle.sal_hub.specs.Tokens.{IsBegun, IsChain, IsGiven, IsToken};
 ghost use Rattle.sal_broker.specs.Seats.{known};
 ghost use Rattle.sal_broker.specs.Turns.{Keeps};
 
-use crate::opened::{Desk, yes};
+use crate::opened::{Desk, let_go, yes};
 use sal_broker::Seat;
 use sal_hub::{Chain, Receipt};
 use sal_rows::{CallFault, Mode, Outcome};
 use sal_tx::{Tx, WriteTx};
-use std::mem::forget;
 use std::sync::Wait;
 
 // The number of the commit; 0 where there is none.
@@ -43,7 +42,7 @@ fn cancelled<R: Wait>(at: &Desk<'_, R>, seat: &mut Seat, tx: Tx) -> u64
     match at.sal.cancel(at.rt, at.alloc, seat, tx) {
         Ok(()) => 1,
         Err(back) => {
-            forget(back);
+            let_go(back);
             0
         }
     }
@@ -70,7 +69,7 @@ fn submitted<R: Wait>(at: &Desk<'_, R>, seat: &mut Seat, tx: WriteTx) -> Option<
     match at.sal.submit(at.rt, at.alloc, seat, tx) {
         Ok(receipt) => Some(receipt),
         Err(back) => {
-            forget(back);
+            let_go(back);
             None
         }
     }
@@ -84,7 +83,7 @@ fn sent<R: Wait>(at: &Desk<'_, R>, seat: &mut Seat) -> Option<Receipt>
     match at.sal.begin(at.rt, at.alloc, seat, 0, Mode::Rw) {
         Ok(Tx::Write(tx)) => submitted(at, seat, tx),
         Ok(tx) => {
-            forget(tx);
+            let_go(tx);
             None
         }
         Err(_) => None,
@@ -98,7 +97,7 @@ fn settled<R: Wait>(at: &Desk<'_, R>, seat: &mut Seat, receipt: Receipt) -> u64
 {
     let answer = at.sal.settle(at.rt, at.alloc, seat, receipt);
     let commit = commit_of(&answer);
-    forget(answer);
+    let_go(answer);
     commit
 }
 
@@ -120,7 +119,7 @@ pub(crate) fn pumped<R: Wait>(at: &Desk<'_, R>, seat: &mut Seat) -> [u64; 2]
 {
     let answer = at.sal.pump(at.rt, at.alloc, seat);
     let decided = decided_of(&answer);
-    forget(answer);
+    let_go(answer);
     decided
 }
 
@@ -136,7 +135,7 @@ fn sent_in<R: Wait>(at: &Desk<'_, R>, seat: &mut Seat, chain: &Chain) -> u64
             None => 0,
         },
         Ok(tx) => {
-            forget(tx);
+            let_go(tx);
             0
         }
         Err(_) => 0,

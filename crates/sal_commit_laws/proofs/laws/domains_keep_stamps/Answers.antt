@@ -3,4 +3,4 @@ use Rattle.sal_commit_laws.proofs.Ages.{agree}
 use Rattle.sal_commit_laws.proofs.laws.domains_keep_stamps.Goals as goal
 
 pub returns : goal.returns
-returns c = agree c.args.domain.now.commits.items c.args.domain.now.following
+returns c = record { agree = agree c.args.domain.now.commits.items c.args.domain.now.following }

@@ -1,5 +1,5 @@
 -- What stands in both commits is as old as the first.
-use Rattle.std.proofs.Common.{◌≡◌, Some, ap, sym, ◌∙◌}
+use Rattle.std.proofs.Common.{Some, ap, sym, ◌∙◌}
 use Rattle.sal_tree.proofs.Commits.{under-same}
 use Rattle.sal_graft.specs.Kept.{tree_in}
 use Rattle.sal_commit_laws.proofs.Ages.{agree}

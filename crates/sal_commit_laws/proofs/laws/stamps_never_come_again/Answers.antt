@@ -1,5 +1,5 @@
 -- What is there again was there before all that came between.
-use Rattle.std.proofs.Common.{◌≡◌, ◌+◌, ◌-◌, ◌≤◌, arith}
+use Rattle.std.proofs.Common.{◌+◌, ◌-◌, ◌≤◌, arith}
 use Rattle.sal_graft.specs.Following.{stamp_of}
 use Rattle.sal_commit_laws.proofs.Ages.{again, old, rising_to}
 use Rattle.sal_commit_laws.proofs.laws.stamps_never_come_again.Goals as goal

@@ -1,12 +1,12 @@
 -- What the commits from the opening on tell of a path.
-use Rattle.std.proofs.Common.{◌≡◌, ℕ, ◌+◌, ◌-◌, ◌<◌, List, length, get_or, Option, None, Some, ap, sym, subst, ◌∙◌, arith}
+use Rattle.std.proofs.Common.{◌≡◌, ℕ, ◌+◌, ◌-◌, List, get_or, Option, None, Some, ap, sym, ◌∙◌, arith}
 use Rattle.sal_types.specs.declared.value.Store.{Store}
 use Rattle.sal_types.specs.declared.value.Step.{Step}
 use Rattle.sal_rows.specs.Commits.{last_touch}
 use Rattle.sal_node.specs.Tree.{Tree}
 use Rattle.sal_tree.specs.Grow.{at}
 use Rattle.sal_tree.specs.declared.commit.Commit.{Commit}
-use Rattle.sal_graft.specs.Following.{AreFollowing, stamp_of}
+use Rattle.sal_graft.specs.Following.{AreFollowing}
 use Rattle.sal_graft.specs.Kept.{AreKept, opening_in, ops_of, tree_in}
 use Rattle.sal_graft.proofs.Following.{Tells, tells}
 use Rattle.sal_commit_laws.specs.Stamps.{IsGivenBy, StampsTellTheLastTouch, StandsAt}

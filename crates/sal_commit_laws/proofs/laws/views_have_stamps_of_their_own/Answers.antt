@@ -1,10 +1,7 @@
 -- A view follows its base.
-use Rattle.std.proofs.Common.{◌≡◌, ◌≢◌, Bool, true, false, List, None, Some, refl, ap, sym, ◌∙◌}
+use Rattle.std.proofs.Common.{◌≡◌, true, false, refl, ap, sym, ◌∙◌}
 use Rattle.std.proofs.lemmas.Option.{none-some}
-use Rattle.sal_types.specs.declared.value.Store.{Store}
-use Rattle.sal_types.specs.declared.value.Step.{Step}
 use Rattle.sal_rows.specs.Touch.{touches}
-use Rattle.sal_rows.specs.declared.op.Op.{Op}
 use Rattle.sal_node.specs.Tree.{Tree}
 use Rattle.sal_tree.specs.Rows.{rows_of}
 use Rattle.sal_tree.proofs.Follows.{some_same}

@@ -1,0 +1,37 @@
+//! Laws of stamps. Each function does nothing; its contract is the law.
+ghost use Rattle.sal_commit_laws.specs.Stamps.{AgreeByStamps, LaterStampsAreNew, OneStampHasOneTree, OneStampIsOneNode, StampsNeverComeAgain, StampsTellTheLastTouch, ViewStampsAreNoCommits, ViewsDifferWhereTouched, ViewsHaveOneStamp};
+
+use sal_commit::Domain;
+
+/// In the trees of two commits, nodes at one path with one stamp are the same, with all that is below them; the rows at the path and below
+/// it are equal.
+pub fn one_stamp_is_one_node()
+    ensures node { OneStampIsOneNode }
+    ensures rows { OneStampHasOneTree }
+{}
+
+/// The commits of a domain agree so, by what the type `Domain` keeps.
+pub fn domains_keep_stamps(domain: &Domain)
+    ensures agree { AgreeByStamps domain.now.commits.items }
+{
+    let _ = &domain.commits;
+}
+
+/// A node's stamp is that of the last commit that touched its path, or the node is the opening's.
+pub fn stamps_tell_the_last_touch()
+    ensures last { StampsTellTheLastTouch }
+{}
+
+/// A node that stands at a path in two commits stands there in each commit between. No tree has the stamp of a later commit.
+pub fn stamps_never_come_again()
+    ensures again { StampsNeverComeAgain }
+    ensures new { LaterStampsAreNew }
+{}
+
+/// No committed tree has the stamp of a transaction. What a transaction touched has its stamp in its view, and everything else is the node
+/// of its base.
+pub fn views_have_stamps_of_their_own()
+    ensures own { ViewStampsAreNoCommits }
+    ensures touched { ViewsDifferWhereTouched }
+    ensures others { ViewsHaveOneStamp }
+{}

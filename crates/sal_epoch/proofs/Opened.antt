@@ -1,6 +1,6 @@
 -- What the next hub is.
 use Rattle.std.proofs.Common.{◌≡◌, ◌≤◌, inl, inr, List, [], None, Some, refl, ap, sym, subst, ◌∙◌}
-use Rattle.std.specs.Prelude.{Result, Ok, Err, MatchResult, IfOk, OnErr}
+use Rattle.std.specs.Prelude.{Result, Ok, Err, MatchResult, IfErr, IfOk}
 use Rattle.sal_rows.specs.declared.clash.Rules.{Rules}
 use Rattle.sal_history.specs.World.{Domain}
 use Rattle.sal_hub.specs.HubHistory.{HubHistory}
@@ -27,7 +27,7 @@ module _ (rules : Rules) (known : HubHistory) where
   leader-so (Ok hub) told = subst (λ (h : HubHistory). OpensAtTheNewest known h.world) (sym told.1) (begin-where-one-ends rules known)
   leader-so (Err fault) told = tt
 
-  pub whole-so : (result : Result HubHistory OpenFault) → Opens (next_world rules known) result → fault_of (next_world rules known) ≡ None → OnErr result (λ (fault : OpenFault). fault ≡ NoMemory)
+  pub whole-so : (result : Result HubHistory OpenFault) → Opens (next_world rules known) result → fault_of (next_world rules known) ≡ None → IfErr result (λ (fault : OpenFault). fault ≡ NoMemory)
   whole-so (Ok hub) told none = tt
   whole-so (Err fault) told none = elim told [ inl full ↦ full | inr found ↦ absurd (nothing (sym none ∙ found)) ]
     where

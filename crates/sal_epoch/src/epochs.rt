@@ -1,5 +1,5 @@
 //! The next hub.
-ghost use Rattle.std.specs.Prelude.{◌≡◌, ◌<◌, ◌≤◌, [], ◌∷◌, ◌++◌, IfOk, MatchResult, OnErr, OnOk, length};
+ghost use Rattle.std.specs.Prelude.{◌≡◌, ◌<◌, ◌≤◌, [], ◌∷◌, ◌++◌, IfOk, MatchResult, IfErr, OnOk, length};
 ghost use Rattle.sal_types.specs.declared.value.Store.TheVariants.{Config, Oper};
 ghost use Rattle.sal_rows.specs.declared.clash.Rules.{Rules as RulesOf};
 ghost use Rattle.sal_tree.specs.Rows.{rows_of};
@@ -123,7 +123,7 @@ pub fn next_hub(alloc: Global, hub: Hub, rules: Rules) -> Result<Hub, OpenFault>
     requires few { length hub.world ≤ 64 }
     ensures opened { MatchResult result (λ next. next ≡ next_hub rules hub) (IsFaultOf (next_world rules hub)) }
     ensures sound { IfOk result (λ next. fault_of next.world ≡ None) }
-    ensures whole { AreStateless hub → OnErr result (λ fault. fault ≡ Full) }
+    ensures whole { AreStateless hub → IfErr result (λ fault. fault ≡ Full) }
     ensures leader { IfOk result (λ next. OpensAtTheNewest hub next.world) }
 {
     let devices = devices_of(alloc, hub)?;

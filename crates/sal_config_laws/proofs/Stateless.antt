@@ -163,6 +163,7 @@ module _ (tables : ℕ → SchemaTable) (domain : ℕ) where
   done_free [] os lawful = tt
   done_free (s ∷ ss) [] lawful = tt
   done_free (s ∷ ss) (o ∷ os) lawful =
+      let rest : AllFree (tables domain) (done_ops domain ss os) = done_free ss os (λ i t at. lawful (suc i) t at) in
       elim (nat_eq s.base.domain domain) as (λ b. nat_eq s.base.domain domain ≡ b → AllFree (tables domain) (map (λ (x : Sent). x.ops) ((if b then if_done o s else []) ++ done domain ss os))) [
         | true ↦ λ mine.
             elim (is_done o) as (λ b. AllFree (tables domain) (map (λ (x : Sent). x.ops) ((if b then s ∷ [] else []) ++ done domain ss os))) [
@@ -171,9 +172,6 @@ module _ (tables : ℕ → SchemaTable) (domain : ℕ) where
             ]
         | false ↦ λ other. rest
       ] refl
-    where
-      rest : AllFree (tables domain) (done_ops domain ss os)
-      rest = done_free ss os (λ i t at. lawful (suc i) t at)
 
 -- ---- openings
 

@@ -2,7 +2,10 @@
 use Rattle.std.proofs.Common.{◌≡◌, ℕ, zero, suc, ◌+◌, ◌<◌, ◌≤◌, Bool, cond, true, false, List, [], ◌∷◌, ◌++◌, length, map, Option, Some, None, refl, ap, sym, ◌∙◌, subst, append-nil, append_assoc, take, arith}
 use Rattle.std.proofs.lemmas.List.Elements.{filter_map-append}
 use Rattle.std.proofs.lemmas.List.Sums.{fold-append, fold_more}
-use Rattle.std.specs.Prelude.{slice_index_or}
+use Rattle.std.specs.Prelude.{Result, Ok, Err, IfOk}
+use Rattle.std.specs.declared.alloc.Global.{Global}
+use Rattle.std.specs.declared.vec.Vec.{Vec}
+use Rattle.sal_types.specs.declared.memory.NoMemory.{NoMemory as Wanting}
 use Rattle.std.specs.List.{cons_option, filter, filter_map, fold}
 use Rattle.sal_mount.specs.declared.call.MountCall.{MountCall}
 use Rattle.sal_mount.specs.declared.call.MountCall.TheVariants.{Mount as Mounting}
@@ -106,3 +109,9 @@ left_is known r made list many follows found =
     ∙ ap (filter (λ (m : Mounted). live_after r (mounts_in known.log) m.device)) follows.all
     ∙ ap (λ (calls : List MountCall). filter (λ (m : Mounted). live_after r calls m.device) (mounted (made_of r.devices calls))) (sym (mounting-is known.world known.log))
     ∙ ap (λ n. filter (λ (m : Mounted). is_live (made_of n (mounting (history known.world known.log))) m.device) (mounted (made_of n (mounting (history known.world known.log))))) many
+
+pub left-so : (known : HubHistory) (r : Register) (made : List Mount) (result : Result (Vec Mount Global) Wanting) → r.devices ≡ length known.world → Follows (mounts_in known.log) r made
+    → IfOk result (λ (list : Vec Mount Global). (calls : List MountCall) → IsOf calls r → map mount_of list.items ≡ live_among (live_after r calls) made)
+    → IfOk result (λ (list : Vec Mount Global). map mount_of list.items ≡ mounts_left known)
+left-so known r made (Ok list) many follows found = left_is known r made list.items many follows (found (mounts_in known.log) follows.register)
+left-so known r made (Err e) many follows found = tt

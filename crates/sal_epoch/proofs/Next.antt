@@ -1,6 +1,6 @@
 -- The world of the next epoch, device by device.
 use Rattle.std.proofs.Common.{◌≡◌, ℕ, zero, suc, ◌+◌, ◌-◌, ◌<◌, ◌≤◌, Bool, true, false, not, List, [], ◌∷◌, ◌++◌, length, map, take, Option, Some, None, refl, ap, sym, subst, ◌∙◌, arith, append_assoc, append-nil, IsTrue}
-use Rattle.std.specs.Prelude.{find, option_map, slice_get, if◌then◌else◌, ◌&&◌}
+use Rattle.std.specs.Prelude.{find, option_map, slice_get, if◌then◌else◌, ◌&&◌, Result, Ok, Err, IfOk}
 use Rattle.std.specs.Option.{option_or}
 use Rattle.std.specs.List.{AllByRecursion, list_all}
 use Rattle.std.proofs.lemmas.Bool.{and_parts}
@@ -8,8 +8,9 @@ use Rattle.std.proofs.lemmas.List.{take_all, length-map}
 use Rattle.std.proofs.lemmas.Option.{none-some, same_Some}
 use Rattle.sal_types.specs.declared.value.Store.{Store}
 use Rattle.sal_types.specs.declared.value.Store.TheVariants.{Config, Oper}
-use Rattle.sal_types.specs.declared.value.Step.{Step}
+use Rattle.sal_types.specs.declared.memory.NoMemory.{NoMemory}
 use Rattle.sal_types.specs.declared.row.Row.{Row}
+use Rattle.sal_types.specs.Tree.{under}
 use Rattle.sal_rows.specs.declared.clash.Rules.{Rules}
 use Rattle.sal_rows.specs.Commits.{tree_after}
 use Rattle.sal_rows.specs.declared.outcome.Breach.{Breach}
@@ -25,7 +26,9 @@ use Rattle.sal_history.specs.World.{AreVersions, Domain, IsChain, opening_of}
 use Rattle.sal_history_laws.specs.Logs.{AreSentLawful, AreSound, IsClosedLog}
 use Rattle.sal_config_laws.specs.Configurations.{BeginWithoutState, is_config, is_config_row}
 use Rattle.sal_config_laws.proofs.Stateless.{configurations_have_no_state}
+use Rattle.sal_commit.specs.declared.domain.Domain.{Domain as Kept}
 use Rattle.sal_commit.specs.Versions.{tables_of}
+use Rattle.sal_hub.specs.Domains.{IsDomain}
 use Rattle.sal_hub.specs.HubHistory.{HubHistory}
 use Rattle.sal_hub.specs.declared.opening.OpenFault.{OpenFault}
 use Rattle.sal_hub.specs.declared.opening.OpenFault.TheVariants.{Broken, NotConfig}
@@ -42,6 +45,11 @@ newest-closed known n s closed =
     let whole : take (length (commits answered n)) (commits answered n) ≡ commits answered n = take_all (length (commits answered n)) (commits answered n) (omega arith) in
     subst (λ ops. IsTrue (is_closed (tables_now known.world answered n) (tree_after s (opening_of known.world n s) ops))) whole (closed.commits n (length (commits answered n)) s)
 
+-- all rows are at the root or below it
+pub under-root : (rows : List Row) → under rows [] ≡ rows
+under-root [] = refl
+under-root (row ∷ rows) = ap (λ rest. row ∷ rest) (under-root rows)
+
 -- ---- devices
 
 -- the device of the domain
@@ -56,6 +64,32 @@ device-closed known n device closed schema config oper = record {
   config = (λ i. is_closed (schema i) (config i)) ∙ newest-closed known n Config closed;
   oper = (λ i. is_closed (schema i) (oper i)) ∙ newest-closed known n Oper closed;
 }
+
+-- what the device of a domain is
+module _ (known : HubHistory) (n : ℕ) (domain : Kept) (is : IsDomain known n domain) where
+  abbrev HasSchema : Device → Type 0
+  HasSchema device = device.schema.value ≡ domain.schema.value
+
+  abbrev HasTree : (Device → List Row) → Store → Device → Type 0
+  HasTree of s device = of device ≡ newest_tree known.world known.log domain.number s
+
+  abbrev config_of : Device → List Row
+  config_of device = device.opening.config
+
+  abbrev oper_of : Device → List Row
+  oper_of device = device.opening.oper
+
+  by-number : (s : Store) → newest_tree known.world known.log domain.number s ≡ newest_tree known.world known.log n s
+  by-number s = ap (λ k. newest_tree known.world known.log k s) is.number
+
+  pub next-so : (result : Result Device NoMemory) → IfOk result HasSchema → IfOk result (λ device. device.upgrades.items ≡ []) → IfOk result (HasTree config_of Config) → IfOk result (HasTree oper_of Oper)
+      → IfOk result (λ (device : Device). (rules : Rules) → domain_of rules device ≡ next_domain rules known n)
+  next-so (Ok device) schema upgrades config oper = λ rules. device-is rules known n device (schema ∙ is.schema) upgrades (config ∙ by-number Config) (oper ∙ by-number Oper)
+  next-so (Err e) schema upgrades config oper = tt
+
+  pub closed-so : (result : Result Device NoMemory) → IsClosedLog known.world (history known.world known.log) → IfOk result HasSchema → IfOk result (HasTree config_of Config) → IfOk result (HasTree oper_of Oper) → IfOk result IsClosedDevice
+  closed-so (Ok device) closed schema config oper = device-closed known n device closed (schema ∙ is.schema) (config ∙ by-number Config) (oper ∙ by-number Oper)
+  closed-so (Err e) closed schema config oper = tt
 
 pub closed-more : (ds : List Device) (d : Device) → AreClosedDevices ds → IsClosedDevice d → AreClosedDevices (ds ++ d ∷ [])
 closed-more [] d all here = (here, tt)
@@ -75,6 +109,9 @@ pub next-end : (rules : Rules) (known : HubHistory) (done whole : List Domain) (
 next-end rules known done whole i past so =
     let none : length known.world - i ≡ 0 = omega (arith, past) in
     sym (append-nil done) ∙ ap (λ k. done ++ next_from rules known i k) (sym none) ∙ so
+
+pub next-start : (rules : Rules) (known : HubHistory) → next_from rules known 0 (length known.world - 0) ≡ next_world rules known
+next-start rules known = let all : length known.world - 0 ≡ length known.world = omega arith in ap (next_from rules known 0) all
 
 pub next-length : (rules : Rules) (known : HubHistory) (n count : ℕ) → length (next_from rules known n count) ≡ count
 next-length rules known n zero = refl

@@ -13,7 +13,7 @@ use sal_history::{Device, Opening};
 use sal_hub::{Hub, OpenFault};
 use sal_rows::{Rows, Rules};
 use sal_tree::Root;
-use sal_types::{NoMemory, Path};
+use sal_types::{NoMemory, Path, append};
 use std::alloc::Global;
 use std::sync::Arc;
 
@@ -21,7 +21,8 @@ use std::sync::Arc;
 fn rows_of(alloc: Global, tree: &Root) -> Result<Rows, NoMemory>
     ensures { IfOk result (λ rows. rows ≡ rows_of tree.now) }
 {
-    tree.rows(alloc, &Path::root(alloc))
+    let rows = tree.rows(alloc, &Path::root(alloc))?;
+    Ok(rows)
 }
 
 // The newest trees of the domain of this number.
@@ -76,7 +77,7 @@ fn add_next(
     ensures closed { OnOk result (AreClosedDevices devices.old.items → AreClosedDevices devices.new.items) }
 {
     let device = next_device(alloc, hub, index)?;
-    devices.push(device)?;
+    append(devices, device)?;
     Ok(())
 }
 

@@ -145,7 +145,9 @@ opening-from rules known i (suc count) (suc n) s inside =
     opening-from rules known (i + 1) count n s (omega (arith, inside)) ∙ ap (λ k. newest_tree known.world known.log k s) there
 
 pub begin-where-one-ends : EpochsBeginWhereOneEnds
-begin-where-one-ends rules known n s log inside = opening-from rules known 0 (length known.world) n s inside
+begin-where-one-ends rules known n s log inside =
+    let same : 0 + n ≡ n = omega arith in
+    opening-from rules known 0 (length known.world) n s inside ∙ ap (λ k. newest_tree known.world known.log k s) same
 
 -- ---- the only faults
 

@@ -70,7 +70,7 @@ fn replay(register: &mut Mounts, made: &mut Vec<Mount>, call: &Call) -> Result<(
     ensures devices { OnOk result (register.new.devices ≡ register.old.devices) }
 {
     match call {
-        Call::Mount { path, device } => mount(register, made, path, *device),
+        Call::Mount { path, device } => make_mount(register, made, path, *device),
         Call::Unmount { domain } => {
             unmount(register, *domain);
             Ok(())
@@ -84,7 +84,7 @@ fn replay(register: &mut Mounts, made: &mut Vec<Mount>, call: &Call) -> Result<(
 }
 
 // Mounts the device, unless that is refused, and lists it.
-fn mount(
+fn make_mount(
     register: &mut Mounts,
     made: &mut Vec<Mount>,
     path: &Path,

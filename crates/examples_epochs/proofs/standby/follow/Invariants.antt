@@ -1,0 +1,6 @@
+-- The follower has had so many bytes.
+use Rattle.examples_epochs.specs.Fed.{IsFedBy}
+use Rattle.examples_epochs.proofs.standby.follow.Given as goal
+
+abbrev pub invariant-loop : goal.invariant-loop
+invariant-loop g l = IsFedBy l.standing.fed l.standing.follower

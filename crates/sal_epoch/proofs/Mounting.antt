@@ -1,0 +1,117 @@
+-- Lists of mounts follow the calls, and the calls on mounts of a log are those of its history.
+use Rattle.std.proofs.Common.{◌≡◌, ℕ, zero, suc, ◌+◌, ◌<◌, ◌≤◌, Bool, cond, true, false, List, [], ◌∷◌, ◌++◌, length, map, Option, Some, None, refl, ap, sym, ◌∙◌, subst, append-nil, append_assoc, take, arith}
+use Rattle.std.proofs.lemmas.List.Elements.{filter_map-append}
+use Rattle.std.proofs.lemmas.List.Sums.{fold-append, fold_more}
+use Rattle.std.specs.Prelude.{Result, Ok, Err, IfOk}
+use Rattle.std.specs.declared.alloc.Global.{Global}
+use Rattle.std.specs.declared.vec.Vec.{Vec}
+use Rattle.sal_types.specs.declared.memory.NoMemory.{NoMemory as Wanting}
+use Rattle.std.specs.List.{cons_option, filter, filter_map, fold}
+use Rattle.sal_mount.specs.declared.call.MountCall.{MountCall}
+use Rattle.sal_mount.specs.declared.call.MountCall.TheVariants.{Mount as Mounting}
+use Rattle.sal_mount.specs.declared.call.MountFault.{MountFault}
+use Rattle.sal_mount.specs.declared.call.MountFault.TheVariants.{NoDomain, DeviceUsed, MountTaken, NoMemory}
+use Rattle.sal_mount.specs.declared.call.MountReply.{MountReply}
+use Rattle.sal_mount.specs.declared.call.MountReply.TheVariants.{Accepted, Refused}
+use Rattle.sal_mount.specs.Answers.{Makes, Refuses}
+use Rattle.sal_mount.specs.Mounts.{Made, Mounted, is_live, make, made_of, mounted, mounts, reply_to}
+use Rattle.sal_mount.specs.Register.{IsOf, Register}
+use Rattle.sal_mount.proofs.Made.{mounted-one, mounted-same}
+use Rattle.sal_history.specs.declared.call.Entry.{Entry}
+use Rattle.sal_history.specs.Answered.{Answered}
+use Rattle.sal_history.specs.History.{answer, history}
+use Rattle.sal_history.specs.Services.{mount_call, mounting}
+use Rattle.sal_history.specs.World.{Domain}
+use Rattle.sal_hub.specs.HubHistory.{HubHistory}
+use Rattle.sal_epoch.specs.declared.mounts.Mount.{Mount}
+use Rattle.sal_epoch.specs.Mounts.{Follows, live_after, live_among, mount_of, mounted_at, mounts_in, mounts_left, with_call, with_live}
+
+-- ---- one call
+
+-- one call more, with its answer
+made-more : (n : ℕ) (calls : List MountCall) (call : MountCall) (reply : MountReply) → reply_to n (made_of n calls) call ≡ reply
+    → made_of n (calls ++ call ∷ []) ≡ made_of n calls ++ record { call = call; reply = reply } ∷ []
+made-more n calls call reply e =
+    fold-append (make n) [] calls (call ∷ []) ∙ ap (λ (r : MountReply). made_of n calls ++ record { call = call; reply = r } ∷ []) e
+
+module _ {calls : List MountCall} {old new : Register} {made : List Mount} (was : Follows calls old made) where
+  -- what was mounted after the call
+  told : (call : MountCall) (reply : MountReply) → Makes old new call reply → mounted (made_of old.devices calls ++ record { call = call; reply = reply } ∷ []) ≡ mounted (made_of new.devices (calls ++ call ∷ []))
+  told call reply makes =
+      ap mounted (sym (made-more old.devices calls call reply (makes.answer calls was.register)))
+      ∙ ap (λ n. mounted (made_of n (calls ++ call ∷ []))) (sym makes.devices)
+
+  -- a call that mounts nothing
+  pub unmoved : (call : MountCall) (reply : MountReply) → Makes old new call reply → mounts call reply ≡ None → Follows (calls ++ call ∷ []) new made
+  unmoved call reply makes none = record {
+    register = makes.longer calls was.register;
+    all = was.all ∙ sym (mounted-same (made_of old.devices calls) (record { call = call; reply = reply }) none) ∙ told call reply makes;
+  }
+
+  -- a device that was mounted and listed
+  pub mounted_listed : (path : _) (device : ℕ) (more : List Mount) → Makes old new (Mounting path device) Accepted → map mount_of more ≡ map mount_of made ++ mounted_at device path ∷ []
+      → Follows (calls ++ Mounting path device ∷ []) new more
+  mounted_listed path device more makes listed = record {
+    register = makes.longer calls was.register;
+    all =
+        listed ∙ ap (λ (ms : List Mounted). ms ++ mounted_at device path ∷ []) was.all
+        ∙ sym (mounted-one (made_of old.devices calls) (record { call = Mounting path device; reply = Accepted }) (mounted_at device path) refl) ∙ told (Mounting path device) Accepted makes;
+  }
+
+-- a call that is refused was made
+pub made_if_refused : (old new : Register) (call : MountCall) (fault : MountFault) → Refuses old new call fault → Makes old new call (Refused fault)
+made_if_refused old new call NoMemory it = absurd it
+made_if_refused old new call (NoDomain id) it = it.made
+made_if_refused old new call (DeviceUsed id) it = it.made
+made_if_refused old new call (MountTaken id) it = it.made
+
+-- ---- a log
+
+-- before the first call nothing is mounted
+pub nothing_listed : (r : Register) (made : List Mount) → IsOf [] r → made ≡ [] → Follows [] r made
+nothing_listed r made register none = record { register = register; all = ap (map mount_of) none }
+
+abbrev with_entry : List MountCall → Entry → List MountCall
+with_entry calls x = with_call calls (mount_call x.call)
+
+module _ (world : List Domain) where
+  one_more : (answered : List Answered) (e : Entry) → mounting (answer world answered e) ≡ with_call (mounting answered) (mount_call e.call)
+  one_more answered e =
+      filter_map-append (λ (a : Answered). mount_call a.entry.call) answered _ ∙ with_option (mounting answered) (mount_call e.call)
+    where
+      with_option : (calls : List MountCall) (o : Option MountCall) → calls ++ cons_option o [] ≡ with_call calls o
+      with_option calls None = append-nil calls
+      with_option calls (Some call) = refl
+
+  from : (answered : List Answered) (log : List Entry) → mounting (fold (answer world) answered log) ≡ fold with_entry (mounting answered) log
+  from answered [] = refl
+  from answered (e ∷ log) = from (answer world answered e) log ∙ ap (λ (calls : List MountCall). fold with_entry calls log) (one_more answered e)
+
+  pub mounting-is : (log : List Entry) → mounting (history world log) ≡ mounts_in log
+  mounting-is log = from [] log
+
+-- ---- those that are live
+
+cond_on : (b : Bool) (m : Mounted) (ms : List Mounted) → cond b (m ∷ []) [] ++ ms ≡ cond b (m ∷ ms) ms
+cond_on true m ms = refl
+cond_on false m ms = refl
+
+live_from : (live : ℕ → Bool) (before : List Mounted) (made : List Mount) → fold (with_live live) before made ≡ before ++ filter (λ (m : Mounted). live m.device) (map mount_of made)
+live_from live before [] = sym (append-nil before)
+live_from live before (m ∷ made) =
+    let rest : List Mounted = filter (λ (x : Mounted). live x.device) (map mount_of made) in
+    live_from live (with_live live before m) made ∙ append_assoc before (cond (live m.device) (mount_of m ∷ []) []) rest ∙ ap (λ (ms : List Mounted). before ++ ms) (cond_on (live m.device) (mount_of m) rest)
+
+pub left_is : (known : HubHistory) (r : Register) (made list : List Mount) → r.devices ≡ length known.world → Follows (mounts_in known.log) r made
+    → map mount_of list ≡ live_among (live_after r (mounts_in known.log)) made → map mount_of list ≡ mounts_left known
+left_is known r made list many follows found =
+    found ∙ live_from (live_after r (mounts_in known.log)) [] made
+    ∙ ap (filter (λ (m : Mounted). live_after r (mounts_in known.log) m.device)) follows.all
+    ∙ ap (λ (calls : List MountCall). filter (λ (m : Mounted). live_after r calls m.device) (mounted (made_of r.devices calls))) (sym (mounting-is known.world known.log))
+    ∙ ap (λ n. filter (λ (m : Mounted). is_live (made_of n (mounting (history known.world known.log))) m.device) (mounted (made_of n (mounting (history known.world known.log))))) many
+
+pub left-so : (known : HubHistory) (r : Register) (made : List Mount) (result : Result (Vec Mount Global) Wanting) → r.devices ≡ length known.world → Follows (mounts_in known.log) r made
+    → IfOk result (λ (list : Vec Mount Global). (calls : List MountCall) → IsOf calls r → map mount_of list.items ≡ live_among (live_after r calls) made)
+    → IfOk result (λ (list : Vec Mount Global). map mount_of list.items ≡ mounts_left known)
+left-so known r made (Ok list) many follows found = left_is known r made list.items many follows (found (mounts_in known.log) follows.register)
+left-so known r made (Err e) many follows found = tt

@@ -1,0 +1,31 @@
+-- One domain after another.
+use Rattle.std.proofs.Common.{rules, ◌≡◌, ◌<◌, ◌≤◌, ◌-◌, length, ap, refl, ◌∙◌, arith}
+use Rattle.sal_rows.specs.declared.clash.Rules.{Rules}
+use Rattle.sal_hub.specs.Openings.{world_of}
+use Rattle.sal_epoch.specs.Epochs.{next_from, next_world}
+use Rattle.sal_epoch.proofs.Next.{next-end, next-start, next-step}
+use Rattle.sal_epoch.proofs.epochs.all_devices.Goals as goal
+
+pub loop-index-init : goal.loop-index-init
+loop-index-init c = record { world = λ rules. next-start rules c.args.hub.now; closed = tt }
+
+pub loop-index-preserved : goal.loop-index-preserved
+loop-index-preserved c =
+    let l = c.loop-index in
+    let all = c.domains.ensures.all in
+    let below : l.index < length c.domains.result.now = search rules in
+    let inside : l.index < length c.args.hub.now.world = omega (arith, below, all) in
+    let added = c.in_ok-add_next.ensures in record {
+      world = λ rules. next-step rules c.args.hub.now (world_of rules l.devices.items) _ (next_world rules c.args.hub.now) l.index inside (added.next rules) (l.invariant.world rules);
+      closed = added.closed l.invariant.closed;
+    }
+
+pub returns : goal.returns
+returns c =
+    let l = c.loop-index in
+    let all = c.domains.ensures.all in
+    let past : length c.domains.result.now ≤ l.index = search rules in
+    let end : length c.args.hub.now.world ≤ l.index = omega (arith, past, all) in record {
+      world = λ rules. next-end rules c.args.hub.now (world_of rules l.devices.items) (next_world rules c.args.hub.now) l.index end (l.invariant.world rules);
+      closed = l.invariant.closed;
+    }

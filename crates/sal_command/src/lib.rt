@@ -6,7 +6,7 @@
 //! | `words` | the forms of the command line |
 //! | `texts` | the texts that are made of an input alone |
 //! | `played` | the report of a script: run, or played in its order |
-//! | `reported` | what a script came to, as text |
+//! | `summed` | the summary of a load, as text |
 //! | `loaded` | a load: from its two numbers to its summary |
 //!
 //! The script is prepared by `sal_prepare`, run by `sal_run` over the broker or played by `sal_client` over a hub, and told by `sal_report`. The steps of
@@ -16,7 +16,7 @@
 
 mod loaded;
 mod played;
-mod reported;
+mod summed;
 mod texts;
 pub mod top;
 pub mod words;

@@ -7,7 +7,7 @@ ghost use Rattle.sal_script.specs.Tables.{versions_of};
 ghost use Rattle.sal_prepare.specs.Loads.{load_world};
 ghost use Rattle.sal_command.specs.Top as spec;
 
-use crate::reported::summary_of;
+use crate::summed::summary_of;
 use sal_io::Gate;
 use sal_prepare::laws as own_laws;
 use sal_prepare::scripted::{Prepared, prepare_script};

@@ -12,10 +12,10 @@ ghost use Rattle.sal_prepare.specs.Scripted.{tables_in};
 ghost use Rattle.sal_prepare.specs.Texts.{IsTextOr};
 ghost use Rattle.sal_command.specs.Top as spec;
 
-use crate::reported::report_of;
 use sal_client::{PlayFault, Played, play};
 use sal_hub::Hub;
 use sal_io::Gate;
+use sal_prepare::plays::report_of;
 use sal_prepare::scripted::{self, Prepared, ReadScript};
 use sal_prepare::status::Status;
 use sal_run::run;

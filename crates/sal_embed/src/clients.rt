@@ -9,10 +9,10 @@ ghost use Rattle.sal_embed.specs.Broker.{AllFollow, AreCallers, AreNear, AreTold
 ghost use Rattle.sal_embed.specs.Outcomes.{IsPlacing, Makes, Reports, broken_if};
 
 use crate::caller::Caller;
-use crate::ending::trees_of;
 use crate::fault::StepFault;
 use sal_client::Readers;
 use sal_hub::{Hub, laws};
+use sal_prepare::plays::trees_of;
 use sal_report::report_of_lines;
 use sal_schema::Schema;
 use sal_script::ScriptStep;

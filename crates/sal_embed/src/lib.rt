@@ -24,7 +24,6 @@
 mod caller;
 mod clients;
 mod embedded;
-mod ending;
 mod fault;
 pub mod laws;
 mod stepping;

@@ -26,7 +26,8 @@ use Rattle.sal_versions.specs.Shared.{tables_in}
 use Rattle.sal_follow.specs.Framed.{trees_of}
 use Rattle.sal_prepare.specs.declared.status.Status.{Status}
 use Rattle.sal_prepare.specs.Texts.{IsTextOr, IsTextStatus}
-use Rattle.sal_follow_script.specs.Exports.{export_log, export_play, frames_by, own_trees, play_status, trees_by}
+use Rattle.sal_prepare.specs.Plays.{play_status}
+use Rattle.sal_follow_script.specs.Exports.{export_log, export_play, frames_by, own_trees, trees_by}
 
 -- ---- lists by their numbers
 

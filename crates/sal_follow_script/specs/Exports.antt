@@ -9,10 +9,8 @@ use Rattle.sal_history.specs.History.{commits, history, trees_at}
 use Rattle.sal_history.specs.World.{Domain, last_of}
 use Rattle.sal_follow.specs.Framed.{Trees, exported, frames, too_long}
 use Rattle.sal_script.specs.Play.{Played, play}
-use Rattle.sal_client.specs.declared.simulation.PlayFault.{PlayFault}
-use Rattle.sal_client.specs.declared.simulation.PlayFault.TheVariants as fault_of
 use Rattle.sal_prepare.specs.declared.status.Status.{Status}
-use Rattle.sal_prepare.specs.declared.status.Status.TheVariants.{BadExport, BadOrder, NoMemory}
+use Rattle.sal_prepare.specs.declared.status.Status.TheVariants.{BadExport, BadOrder}
 use Rattle.sal_prepare.specs.Scripted.{prepared}
 
 -- ---- what is exported of a log
@@ -43,11 +41,6 @@ export_log world log = frames_by (last_of world 0) (own_trees world log)
 abbrev pub export_play : List Domain → Result Played ℕ → Result (List ℕ) Status
 export_play world (Ok played) = export_log world played.log
 export_play world (Err index) = Err (BadOrder index)
-
--- the status of a play's fault
-abbrev pub play_status : PlayFault → Status
-play_status (fault_of.BadOrder index) = BadOrder index
-play_status fault_of.NoMemory = NoMemory
 
 -- The frames of the script that the bytes stand for, played in its order. What is wrong ahead of that counts first.
 abbrev pub export_text : List ℕ → Result (List ℕ) Status

@@ -10,11 +10,12 @@ ghost use Rattle.sal_prepare.specs.Texts.{IsTextOr};
 ghost use Rattle.sal_history.specs.World.{last_of};
 ghost use Rattle.sal_follow_script.specs.Exports as spec;
 
-use sal_client::{PlayFault, Played, play};
+use sal_client::{Played, play};
 use sal_commit::Domain;
 use sal_follow::{ExportFault, export_kept};
 use sal_hub::Hub;
 use sal_io::OpenGate;
+use sal_prepare::plays::play_status;
 use sal_prepare::scripted::{Prepared, ReadScript, prepare};
 use sal_prepare::status::Status;
 use sal_schema::Schema;
@@ -43,16 +44,6 @@ fn export_over(alloc: Global, read: ReadScript, hub: Hub) -> Result<Bytes, Statu
     match play(alloc, &read.readers, &read.script, hub, &OpenGate) {
         Ok(played) => export_played(alloc, &read.schemas, played),
         Err(fault) => Err(play_status(fault)),
-    }
-}
-
-// The status of a play's fault.
-fn play_status(fault: PlayFault) -> Status
-    ensures { result ≡ spec.play_status fault }
-{
-    match fault {
-        PlayFault::BadOrder { index } => Status::BadOrder { index },
-        PlayFault::NoMemory => Status::NoMemory,
     }
 }
 

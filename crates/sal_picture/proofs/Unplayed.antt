@@ -9,7 +9,8 @@ use Rattle.sal_client.specs.Runs.{PlaysAs}
 use Rattle.sal_prepare.specs.declared.status.Status.{Status}
 use Rattle.sal_prepare.specs.Texts.{IsTextStatus}
 use Rattle.sal_draw_script.specs.declared.rows.Range.{Range}
-use Rattle.sal_picture.specs.Pictured.{play_status, play_text}
+use Rattle.sal_prepare.specs.Plays.{play_status}
+use Rattle.sal_picture.specs.Pictured.{play_text}
 
 pub unplayed : (range : Range) (clients : List (List Move)) (world : List Domain) (made : Result Played ℕ) (fault : PlayFault) (status : Status)
     → PlaysAs world (Err fault) made → status ≡ play_status fault → IsTextStatus (play_text range clients world made) status

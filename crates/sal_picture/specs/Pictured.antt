@@ -3,8 +3,6 @@ use Rattle.std.specs.Prelude.{ℕ, List, Option, None, Some, Result, Ok, Err}
 use Rattle.std.specs.Option.{option_map_or}
 use Rattle.sal_types.specs.Reading.{◌>>=◌}
 use Rattle.sal_history.specs.World.{Domain}
-use Rattle.sal_client.specs.declared.simulation.PlayFault.{PlayFault}
-use Rattle.sal_client.specs.declared.simulation.PlayFault.TheVariants as fault_of
 use Rattle.sal_hub.specs.HubHistory.{HubHistory}
 use Rattle.sal_script.specs.Moves.{Move}
 use Rattle.sal_script.specs.Play.{Played, play}
@@ -13,7 +11,7 @@ use Rattle.sal_script.specs.Tables.{tables_of}
 use Rattle.sal_prepare.specs.Parted.{Parted, parted}
 use Rattle.sal_prepare.specs.Scripted.{prepared}
 use Rattle.sal_prepare.specs.declared.status.Status.{Status}
-use Rattle.sal_prepare.specs.declared.status.Status.TheVariants.{BadOrder, NoMemory}
+use Rattle.sal_prepare.specs.declared.status.Status.TheVariants.{BadOrder}
 use Rattle.sal_shapes.specs.declared.scene.Scene.{Scene}
 use Rattle.sal_shapes.specs.Shapes.{picture_of}
 use Rattle.sal_shapes.specs.Svg.{svg_of}
@@ -39,11 +37,6 @@ played_text range clients world played = svg_of (picture_of (scene_in range clie
 abbrev pub play_text : Range → List (List Move) → List Domain → Result Played ℕ → Result (List ℕ) Status
 play_text range clients world (Ok played) = Ok (played_text range clients world played)
 play_text range clients world (Err index) = Err (BadOrder index)
-
--- the status of a play's fault
-abbrev pub play_status : PlayFault → Status
-play_status (fault_of.BadOrder index) = BadOrder index
-play_status fault_of.NoMemory = NoMemory
 
 -- the picture of these clients, played over a world in an order
 abbrev pub drawn_over : Range → List (List Move) → List Domain → List ℕ → Result (List ℕ) Status

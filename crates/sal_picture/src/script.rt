@@ -12,11 +12,12 @@ ghost use Rattle.sal_picture.specs.Pictured as spec;
 
 use crate::made::made_of;
 use crate::order::order_in;
-use sal_client::{PlayFault, Played, play};
+use sal_client::{Played, play};
 use sal_draw_script::{Ground, Play, Range, scene_of};
 use sal_hub::Hub;
 use sal_io::OpenGate;
 use sal_prepare::parted::two_parts;
+use sal_prepare::plays::play_status;
 use sal_prepare::scripted::{Prepared, ReadScript, prepare};
 use sal_prepare::status::Status;
 use sal_report::told_domains;
@@ -74,16 +75,6 @@ fn draw_over(
     match play(alloc, &read.readers, &read.script, hub, &OpenGate) {
         Ok(played) => draw_played(alloc, &read, played, range),
         Err(fault) => Err(play_status(fault)),
-    }
-}
-
-// The status of a play's fault.
-fn play_status(fault: PlayFault) -> Status
-    ensures { result ≡ spec.play_status fault }
-{
-    match fault {
-        PlayFault::BadOrder { index } => Status::BadOrder { index },
-        PlayFault::NoMemory => Status::NoMemory,
     }
 }
 

@@ -3,6 +3,7 @@ pub mod Loads
 pub mod Openings
 pub mod OwnSchemas
 pub mod Parted
+pub mod Plays
 pub mod Scripted
 pub mod Statuses
 pub mod Texts

@@ -6,6 +6,7 @@
 //! | `domains`, `openings` | the schemas of the controller's own domain and of the devices, with what reads by them; their opening trees |
 //! | `own_schema` | the last version of the schema of domain 0 alone, with its patterns |
 //! | `parted` | an input of two parts, which its first zero byte divides |
+//! | `plays` | what a played script comes to: its report, the trees at the end, the status of what failed |
 //! | `status` | how the command ends |
 //! | `laws` | the worlds of scripts are sound; a load's own script is always a script |
 //!
@@ -17,5 +18,6 @@ pub mod laws;
 mod openings;
 pub mod own_schema;
 pub mod parted;
+pub mod plays;
 pub mod scripted;
 pub mod status;

@@ -1,24 +1,31 @@
-//! What a script came to, as text: the report, with what was answered and the trees of each domain that was told; the summary of a load.
+//! What a played script comes to: its report, the trees at the end, or the status of what failed.
 ghost use Rattle.std.specs.Prelude.{◌≡◌, ◌<◌, ◌≤◌, All, IfOk, length, map};
-ghost use Rattle.sal_script.specs.LoadOrder as load;
 ghost use Rattle.sal_script.specs.Report as spec;
 ghost use Rattle.sal_script.specs.Tables.{tables_of};
+ghost use Rattle.sal_prepare.specs.Plays.{play_status};
 ghost use Rattle.sal_prepare.specs.Scripted.{tables_in};
 
-use sal_client::Played;
+use crate::status::Status;
+use sal_client::{PlayFault, Played};
 use sal_hub::Hub;
-use sal_report::{DomainEnd, report, summary, told_domains};
+use sal_report::{DomainEnd, report, told_domains};
 use sal_schema::Schema;
 use sal_types::{NoMemory, Str};
 use std::alloc::Global;
 use std::sync::Arc;
 
+/// The status of a play's fault.
+pub fn play_status(fault: PlayFault) -> Status
+    ensures { result ≡ play_status fault }
+{
+    match fault {
+        PlayFault::BadOrder { index } => Status::BadOrder { index },
+        PlayFault::NoMemory => Status::NoMemory,
+    }
+}
+
 /// The report of what was played, by the last versions of the schemas of its domains.
-pub(crate) fn report_of(
-    alloc: Global,
-    schemas: &[Arc<Schema>],
-    played: &Played,
-) -> Result<Str, NoMemory>
+pub fn report_of(alloc: Global, schemas: &[Arc<Schema>], played: &Played) -> Result<Str, NoMemory>
     requires schemas { tables_in schemas.now ≡ tables_of played.now.hub.world }
     requires few { length schemas.now ≤ 64 }
     ensures { IfOk result (λ text. text ≡ spec.report played.now.hub.world (record { log = played.now.hub.log; replies = played.now.replies })) }
@@ -33,37 +40,12 @@ pub(crate) fn report_of(
     )
 }
 
-/// The summary of a load of so many rounds behind this number.
-pub(crate) fn summary_of(
+/// The trees at the end of each domain of which the report tells, out of so many domains.
+pub fn trees_of<'a>(
     alloc: Global,
-    rounds: u32,
-    start: u32,
-    played: &Played,
-) -> Result<Str, NoMemory>
-    ensures { IfOk result (λ text. text ≡ load.summary rounds start played.now.hub.world (record { log = played.now.hub.log; replies = played.now.replies })) }
-{
-    summary(
-        alloc,
-        rounds,
-        start,
-        played.hub.log(),
-        &own_trees(&played.hub),
-    )
-}
-
-// The trees at the end of the controller's own domain.
-fn own_trees(hub: &Hub) -> DomainEnd
-    ensures { result ≡ spec.trees_in hub.now.world hub.now.log 0 }
-{
-    DomainEnd {
-        domain: 0,
-        commits: hub.newest(),
-        trees: hub.trees(),
-    }
-}
-
-// The trees at the end of each domain that is told, of so many.
-fn trees_of<'a>(alloc: Global, hub: &'a Hub, domains: u32) -> Result<Vec<DomainEnd<'a>>, NoMemory>
+    hub: &'a Hub,
+    domains: u32,
+) -> Result<Vec<DomainEnd<'a>>, NoMemory>
     requires { «domains» ≡ length hub.now.world }
     ensures { IfOk result (λ trees. trees.items ≡ map (spec.trees_in hub.entry.now.world hub.entry.now.log) (spec.told_domains hub.entry.now.world hub.entry.now.log)) }
 {

@@ -3,6 +3,8 @@
 **
 **   hostile          tries them all, and prints `c: ok`
 **   hostile STEPS    makes so many shared calls after that, and prints how long one took; the call beyond 1,000,000 is refused
+**
+** Built with WRONG, LEAK or ROOM it does what it should not, for tools/embed to see that it is reported.
 */
 #include "mdsal.h"
 
@@ -85,6 +87,9 @@ static void bad_steps(mdsal *broker) {
         "[\"begin\",-1,0,\"rw\"]", "[\"begin\",0.5,0,\"rw\"]", "[\"begin\",\"0\",0,\"rw\"]", "[\"begin\",0,4294967296,\"rw\"]", "[\"begin\",0,0,\"wr\"]",
         "[\"put\",0,\"config\",\"/plain:box/a\"]", "[\"put\",0,\"state\",\"/plain:box/a\",\"x\"]", "[\"put\",0,\"config\",7,\"x\"]", "[\"submit\"]",
         "[\"submit\",0,0]", "[\"upgrade\",0]", "[\"upgrade\",17]", "[\"mark\",4294967296]", "[\"provide\",\"m:r\",7]", "\xff", "[\"mark\",\xff]",
+#ifdef WRONG
+        "[\"pump\"]",
+#endif
     };
     for (size_t i = 0; i < sizeof steps / sizeof *steps; i++) {
         CHECK(stepped(broker, 0, steps[i]) == MDSAL_BAD_STEP && said(""));
@@ -107,6 +112,41 @@ static void rooms(mdsal *broker) {
         for (size_t i = fits; i < sizeof out; i++) {
             CHECK(out[i] == '#');
         }
+    }
+}
+
+/* The report is copied whole into a block of its own length, and in part into each smaller one. */
+static void report_rooms(mdsal *broker) {
+    CHECK(mdsal_report(broker) == MDSAL_OK);
+    size_t length = mdsal_reply(broker, text, sizeof text);
+    CHECK(length > 40 && length < sizeof text);
+    for (size_t room = 0; room <= length + 1; room++) {
+        size_t fits = room < length ? room : length;
+        uint8_t *out = malloc(room > 0 ? room : 1);
+        CHECK(out != NULL);
+        memset(out, '#', room);
+#ifdef ROOM
+        CHECK(mdsal_reply(broker, out, room + 1) == length);
+#else
+        CHECK(mdsal_reply(broker, out, room) == length);
+#endif
+        CHECK(memcmp(out, text, fits) == 0 && (room <= length || out[length] == '#'));
+        free(out);
+    }
+}
+
+/* A handle may be moved, and opened again once it is closed. */
+static void moved(void) {
+    mdsal first = {0}, second;
+    for (int i = 0; i < 3; i++) {
+        CHECK(opened(&first, "{}") == MDSAL_OK);
+        CHECK(stepped(&first, 0, "[\"begin\",0,0,\"rw\"]") == MDSAL_OK && said("begun 0"));
+        second = first;
+        CHECK(stepped(&second, 0, "[\"submit\",0]") == MDSAL_OK && said("receipt 1"));
+        CHECK(stepped(&second, 0, "[\"submit\",0]") == MDSAL_OK && said("refused empty-slot"));
+        mdsal_close(&second);
+        first = second;
+        closed(&first);
     }
 }
 
@@ -152,11 +192,17 @@ int main(int argc, char **argv) {
     CHECK(opened(&broker, "{}") == MDSAL_OK && said(""));
     bad_steps(&broker);
     rooms(&broker);
+    report_rooms(&broker);
+    moved();
     others(&broker);
     if (argc > 1) {
         many(&broker, strtoul(argv[1], NULL, 10));
     }
+#ifdef LEAK
+    memset(&broker, 0, sizeof broker);
+#else
     mdsal_close(&broker);
+#endif
     closed(&broker);
     puts("c: ok");
     return 0;

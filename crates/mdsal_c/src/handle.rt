@@ -5,9 +5,8 @@ ghost use Rattle.std.specs.declared.option.Option.TheVariants.{None, Some};
 ghost use Rattle.mdsal_c.specs.Handles.{Opens, is_open};
 
 use crate::held::Held;
-use sal_session::Session;
-use sal_session::{NO_MEMORY, close};
 use sal_handle::loose::Loose;
+use sal_session::{NO_MEMORY, Session, close};
 use std::alloc::Global;
 use std::mem;
 

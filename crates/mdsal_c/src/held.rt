@@ -8,8 +8,8 @@ ghost use Rattle.sal_session.specs.declared.Session.{Session as SessionValue};
 ghost use Rattle.sal_session.specs.contracts.Session.{the_row as session_row};
 ghost use Rattle.mdsal_c.specs.Owned.{held_owns};
 
-use sal_session::Session;
 use sal_handle::loose::Loose;
+use sal_session::Session;
 use std::alloc::Global;
 use std::marker::Model;
 use std::ptr::null_mut;

@@ -37,7 +37,9 @@ impl Counter {
     }
 
     // The last number given.
-    fn last(&self, alloc: Global, tx: &WriteTx) -> anyhow::Result<u64> {
+    fn last(&self, alloc: Global, tx: &mut WriteTx) -> anyhow::Result<u64>
+        ensures { tx.new ≡ tx.old }
+    {
         let rows = tx.read(alloc, Store::Config, &self.path)?;
         Ok(number_in(&rows))
     }

@@ -7,7 +7,7 @@
 //! | `Device`, `Opening`, `OpenFault` | a domain before the first commit, its opening trees, why they are refused |
 //! | `Rules` | the version rules, 1 or 2 |
 //! | `Hub` | what a closed broker leaves: its log and its trees |
-//! | `Mode`, `Tx`, `ReadTx`, `WriteTx`, `TxFault`, `WriteOnly` | transactions, and why a write or a read is refused |
+//! | `Mode`, `Tx`, `ReadTx`, `WriteTx`, `TxFault` | transactions, and why a write or a read is refused |
 //! | `Receipt`, `Outcome`, `ClashKind`, `Rule` | a submission, and what became of it |
 //! | `Chain`, `ListenerId`, `CallId` | the tokens of a chain, of a listener, of a request |
 //! | `Opened`, `Batch`, `Part`, `Change`, `CandidateKind`, `Mirror`, `MirrorFault` | what a listener gets, and a copy that follows it |
@@ -75,7 +75,7 @@ pub use sal_rows::{
 pub use sal_rpc::Request;
 pub use sal_schema::{Kind, Schema};
 pub use sal_stmt::{Stmt, StmtFault, read_module};
-pub use sal_tx::{Begun, ReadTx, Tx, TxFault, WriteOnly, WriteTx};
+pub use sal_tx::{Begun, ReadTx, Tx, TxFault, WriteTx};
 pub use sal_types::{
     Atom, Bytes, Cell, Duplicate, Keys, MAX_STEPS, NoMemory, Path, PathFault, Row, Seq, Step,
     Store, Str, Value,

@@ -1,5 +1,7 @@
 -- Looks into what a client's transactions see, and at what its listeners follow.
 use Rattle.std.proofs.Common.{◌≡◌, ℕ, List, Option, None, Some, Result, Ok, Err, refl, ap, sym, ◌∙◌}
+use Rattle.std.specs.Prelude.{Vec}
+use Rattle.std.specs.declared.alloc.Global.{Global}
 use Rattle.std.specs.Option.{option_map}
 use Rattle.sal_types.specs.declared.value.Store.{Store}
 use Rattle.sal_types.specs.declared.value.Step.{Step}
@@ -13,7 +15,7 @@ use Rattle.sal_script.specs.declared.reply.StepReply.{StepReply}
 use Rattle.sal_script.specs.declared.reply.StepReply.TheVariants as reply
 use Rattle.sal_script.specs.declared.reply.StepRefusal.{StepRefusal}
 use Rattle.sal_script.specs.declared.reply.StepRefusal.TheVariants.{EmptySlot}
-use Rattle.sal_script.specs.Moves.{Mirror}
+use Rattle.sal_script.specs.Moves.{Mirror, Move}
 use Rattle.sal_script.specs.Play.{Client, local, look_at, look_in, look_with, meet, mirror, seen_by}
 use Rattle.sal_script.specs.Tables.{Versions, table_at}
 use Rattle.sal_script.specs.Services.{path_or}
@@ -23,11 +25,12 @@ use Rattle.sal_client.specs.declared.client.ClientState.{ClientState}
 use Rattle.sal_client.specs.declared.follower.Follower.{Follower}
 use Rattle.sal_client.specs.declared.looks.Look.{Look}
 use Rattle.sal_client.specs.declared.looks.Look.TheVariants.{Read, Exists}
-use Rattle.sal_client.specs.Clients.{client_of, open_of}
+use Rattle.sal_client.specs.Clients.{HasSchema, client_of, open_of}
 use Rattle.sal_client.specs.Followers.{listener_of}
 use Rattle.sal_client.specs.Looks.{IsSeen, look_move, shown_by}
-use Rattle.sal_client.specs.Meeting.{Answers}
+use Rattle.sal_client.specs.Meeting.{Answers, IsAnswered}
 use Rattle.sal_client.specs.Slots.{held}
+use Rattle.sal_client.specs.declared.slots.Slot.{Slot}
 use Rattle.sal_client.proofs.Reading.{path_ok}
 use Rattle.sal_client.proofs.Soundness.{based}
 
@@ -65,6 +68,32 @@ module _ (tables : List Versions) (c : ClientState) (slot : ℕ) (store : Store)
 
     pub looks_badly : (refusal : StepRefusal) → path_or (read_path own text) ≡ Err refusal → Answers tables c (look_move slot store text look) (reply.Refused refusal) c
     looks_badly refusal bad known is of = at_tx known ∙ refused_at (shown known) (begun_of tx).domain (mode_of tx) (read_path own text) (client_of c) refusal bad
+
+-- The slots hold what they held: what was answered so stays so.
+module _ (tables : List Versions) (old : ClientState) (step : Move) (slots : Vec (Slot Tx) Global) (same : held slots ≡ held old.transactions) (schema : HasSchema tables old) where
+  abbrev new : ClientState
+  new = record old { transactions = slots }
+
+  here : (k : ℕ) (tx : Tx) → held slots k ≡ Some tx → held old.transactions k ≡ Some tx
+  here k tx at = sym (ap (λ (h : ℕ → Option Tx). h k) same) ∙ at
+
+  pub stays_answered : (r : StepReply) → Answers tables old step r old → IsAnswered tables old step r new
+  stays_answered r answers = record {
+    answers = λ known is of. answers known is of ∙ (λ i. local r (record (client_of old) { transactions = λ k. option_map open_of (sym same i k) }));
+    sound = record {
+      steady = λ known is. record { transactions = λ k tx at. is.transactions k tx (here k tx at); followers = is.followers };
+      sound = λ known is. record {
+        steady = record { transactions = λ k tx at. is.steady.transactions k tx (here k tx at); followers = is.steady.followers };
+        receipts = is.receipts;
+        chains = is.chains;
+        invoked = is.invoked;
+        listeners = is.listeners;
+        apart = is.apart;
+      };
+    };
+    schema = λ k tx at. schema k tx (here k tx at);
+    same = record { number = refl; replies = refl };
+  }
 
 -- the rows that follow a listener
 pub mirrors_nothing : (tables : List Versions) (c : ClientState) (slot : ℕ) → held c.listeners slot ≡ None → Answers tables c (Mirror slot) (reply.Refused EmptySlot) c

@@ -63,6 +63,17 @@ put_same h slot x here = λ i k. at k i
 pub put_back : {X : Type 0} (h emptied after : ℕ → Option X) (slot : ℕ) (x : X) → h slot ≡ Some x → emptied ≡ set_slot slot None h → after ≡ set_slot slot (Some x) emptied → after ≡ h
 put_back h emptied after slot x here out in_ = changed h emptied after slot x out in_ ∙ put_same h slot x here
 
+-- nothing taken out of an empty slot
+pub took_nothing : {X : Type 0} (h emptied : ℕ → Option X) (slot : ℕ) → h slot ≡ None → emptied ≡ set_slot slot None h → emptied ≡ h
+took_nothing {X} h emptied slot none out = out ∙ (λ i k. at k i)
+  where
+    at : (k : ℕ) → set_slot slot None h k ≡ h k
+    at k =
+        elim (nat_eq k slot) as (λ b. nat_eq k slot ≡ b → (if b then None else h k) ≡ h k) [
+          | true ↦ λ e. let same : k ≡ slot = grind (arith, nat_tests) in sym (ap h same ∙ none)
+          | false ↦ λ e. refl
+        ] refl
+
 -- what follows from what an Ok tells
 pub on_ok : {T E P Q : Type 0} (r : Result T E) → (P → Q) → OnOk r P → OnOk r Q
 on_ok (Ok x) f p = f p

@@ -1,15 +1,19 @@
 //! Looks into what a transaction sees.
-ghost use Rattle.std.specs.Prelude.{◌≡◌, IfOk};
+ghost use Rattle.std.specs.Prelude.{◌≡◌, Some, IfOk};
 ghost use Rattle.sal_hub.specs.Tokens.{begun_of};
+ghost use Rattle.sal_client.specs.declared.client.ClientState.{ClientState as Client};
+ghost use Rattle.sal_client.specs.Clients.{IsOfSchema};
 ghost use Rattle.sal_client.specs.Looks.{IsSeen, look_move};
+ghost use Rattle.sal_client.specs.Meeting.{Answers};
+ghost use Rattle.sal_client.specs.Slots.{held};
 
 use crate::client::{ClientState, refused};
 use crate::fault::refusal_reply;
 use crate::operations::{Place, path_of};
 use crate::readers::Readers;
-use crate::slots::look_at;
+use crate::slots::{fill_slot, take_slot};
 use sal_script::{StepRefusal, StepReply};
-use sal_tx::{Tx, TxFault, WriteOnly};
+use sal_tx::{Tx, TxFault};
 use sal_types::{NoMemory, Path, Store};
 use std::alloc::Global;
 
@@ -53,8 +57,9 @@ fn only_writes(domain: u32) -> StepReply
 }
 
 // What a transaction sees at the path and below it.
-fn rows_seen(alloc: Global, tx: &Tx, store: Store, path: Path) -> Result<StepReply, NoMemory>
-    ensures { IfOk result (IsSeen tx.now store path Look.Read) }
+fn rows_seen(alloc: Global, tx: &mut Tx, store: Store, path: Path) -> Result<StepReply, NoMemory>
+    ensures seen { IfOk result (IsSeen tx.old store path Look.Read) }
+    ensures same { tx.new ≡ tx.old }
 {
     let domain = domain_of(tx);
     match tx {
@@ -72,53 +77,83 @@ fn rows_seen(alloc: Global, tx: &Tx, store: Store, path: Path) -> Result<StepRep
 }
 
 // Whether a transaction sees something at the path or below it.
-fn found_seen(tx: &Tx, store: Store, path: &Path) -> StepReply
-    ensures { IsSeen tx.now store path.now Look.Exists result }
+fn found_seen(alloc: Global, tx: &mut Tx, store: Store, path: &Path) -> Result<StepReply, NoMemory>
+    ensures seen { IfOk result (IsSeen tx.old store path.now Look.Exists) }
+    ensures same { tx.new ≡ tx.old }
 {
+    let own = domain_of(tx);
     match tx {
-        Tx::Read(tx) => StepReply::Exists {
+        Tx::Read(tx) => Ok(StepReply::Exists {
             found: tx.exists(store, path),
-        },
-        Tx::Write(tx) => match tx.exists(store, path) {
-            Ok(found) => StepReply::Exists { found },
-            Err(WriteOnly) => only_writes(tx.domain()),
+        }),
+        Tx::Write(tx) => match tx.exists(alloc, store, path) {
+            Ok(found) => Ok(StepReply::Exists { found }),
+            Err(TxFault::WriteOnly) => Ok(only_writes(own)),
+            Err(TxFault::NoMemory) => Err(NoMemory),
+            Err(_) => unreachable!(),
         },
     }
 }
 
 // What a look at the path shows of what a transaction sees.
-fn seen(alloc: Global, tx: &Tx, store: Store, path: Path, look: Look) -> Result<StepReply, NoMemory>
-    ensures { IfOk result (IsSeen tx.now store path look) }
+fn seen(
+    alloc: Global,
+    tx: &mut Tx,
+    store: Store,
+    path: Path,
+    look: Look,
+) -> Result<StepReply, NoMemory>
+    ensures seen { IfOk result (IsSeen tx.old store path look) }
+    ensures same { tx.new ≡ tx.old }
 {
     match look {
         Look::Read => rows_seen(alloc, tx, store, path),
-        Look::Exists => Ok(found_seen(tx, store, &path)),
+        Look::Exists => found_seen(alloc, tx, store, &path),
+    }
+}
+
+// What a look at the path of the text shows of the transaction, which stands in the slot.
+fn looked(
+    alloc: Global,
+    readers: &Readers,
+    tx: &mut Tx,
+    place: Place,
+    look: Look,
+) -> Result<StepReply, NoMemory>
+    requires { IsOfSchema readers.now tx.old }
+    ensures shown { IfOk result (λ r. (c : Client) → held c.transactions place.entry.slot ≡ Some tx.old → Answers readers.now c (look_move place.entry.slot place.entry.store place.entry.text.now look) r c) }
+    ensures same { tx.new ≡ tx.old }
+{
+    let reader = readers.reader(domain_of(tx), version_of(tx));
+    match path_of(alloc, reader, place.text) {
+        Ok(path) => seen(alloc, tx, place.store, path, look),
+        Err(fault) => refusal_reply(fault),
     }
 }
 
 impl ClientState {
     ghost use Rattle.sal_client.specs.Clients.{HasSchema};
-    ghost use Rattle.sal_client.specs.Meeting.{Answers};
+    ghost use Rattle.sal_client.specs.Meeting.{IsAnswered};
 
     /// Looks at the path of the text in what the slot's transaction sees.
     pub(crate) fn look(
-        &self,
+        &mut self,
         alloc: Global,
         readers: &Readers,
         place: Place,
         look: Look,
     ) -> Result<StepReply, NoMemory>
-        requires { HasSchema readers.now self.now }
-        ensures { IfOk result (λ r. Answers readers.now self.now (look_move place.entry.slot place.entry.store place.entry.text.now look) r self.now) }
+        requires { HasSchema readers.now self.old }
+        ensures { IfOk result (λ r. IsAnswered readers.now self.old (look_move place.entry.slot place.entry.store place.entry.text.now look) r self.new) }
     {
-        match look_at(&self.transactions, place.slot) {
+        let slot = place.slot;
+        match take_slot(&mut self.transactions, slot) {
             None => Ok(refused(StepRefusal::EmptySlot)),
-            Some(tx) => {
-                let reader = readers.reader(domain_of(tx), version_of(tx));
-                match path_of(alloc, reader, place.text) {
-                    Ok(path) => seen(alloc, tx, place.store, path, look),
-                    Err(fault) => refusal_reply(fault),
-                }
+            Some(taken) => {
+                let mut tx = taken;
+                let reply = looked(alloc, readers, &mut tx, place, look);
+                fill_slot(&mut self.transactions, slot, tx)?;
+                reply
             }
         }
     }

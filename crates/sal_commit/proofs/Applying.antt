@@ -1,13 +1,13 @@
 -- One operation more, on both trees.
-use Rattle.std.proofs.Common.{◌≡◌, ℕ, zero, suc, ◌+◌, ◌-◌, ◌<◌, arith, true, false, List, [], ◌∷◌, ◌++◌, length, get_or, take, refl, ap, sym, ◌∙◌}
+use Rattle.std.proofs.Common.{◌≡◌, ℕ, ◌+◌, ◌-◌, ◌<◌, true, false, List, [], ◌∷◌, ◌++◌, length, get_or, take, refl, ap, sym, ◌∙◌}
 use Rattle.std.proofs.lemmas.List.{take_more}
 use Rattle.sal_types.specs.declared.value.Store.{Store}
 use Rattle.sal_types.specs.declared.value.Store.TheVariants.{Config, Oper}
 use Rattle.sal_types.specs.declared.value.Step.{Step}
 use Rattle.sal_types.specs.declared.row.Row.{Row}
-use Rattle.sal_types.specs.Tree.{cell, under}
+use Rattle.sal_types.specs.Tree.{cell}
 use Rattle.sal_rows.specs.declared.op.Op.{Op}
-use Rattle.sal_rows.specs.Apply.{same_store, act_setting, setting, cell_by, apply_ops, rows_of_act}
+use Rattle.sal_rows.specs.Apply.{same_store, act_setting, setting, cell_by, apply_ops}
 use Rattle.sal_rows.proofs.Applied.{apply_ops-unique, cell-apply_ops, cell_after_push, IsAscending-apply_ops, setting-same, setting-other}
 use Rattle.sal_node.specs.Tree.{Tree, IsGrove}
 use Rattle.sal_tree.specs.Rows.{rows_of}
@@ -17,7 +17,6 @@ use Rattle.sal_tree.specs.declared.commit.Pair.{Pair}
 use Rattle.sal_rows.specs.Clash.{tip}
 use Rattle.sal_graft.specs.Kept.{AreKept, opening_in, ops_of, rows_in}
 use Rattle.sal_graft.proofs.KeptLemmas.{tip-kept}
-use Rattle.sal_commit.specs.Deciding.{LieBelow}
 
 -- no operation
 pub after-none : (tree : Tree) (s : Store) → IsGrove tree.kids → rows_of tree ≡ apply_ops (rows_of tree) s []
@@ -49,12 +48,6 @@ pub apply_ops-more : (tree : List Row) (s : Store) (ops : List Op) (i : ℕ) (op
 apply_ops-more tree s ops i op now next short at was is =
     is ∙ ap (λ t. apply_ops t s (op ∷ [])) was ∙ apply_ops-push tree s (take i ops) op
     ∙ ap (apply_ops tree s) (ap (λ (o : Op). take i ops ++ o ∷ []) at ∙ sym (take_more ops i op short))
-
--- each operation's rows lie below its path
-pub LieBelow-at : (ops : List Op) (i : ℕ) (op : Op) → LieBelow ops → i < length ops → op ≡ get_or ops i op → under (rows_of_act op.act) op.path ≡ rows_of_act op.act
-LieBelow-at [] i op lie short at = absurd (omega arith)
-LieBelow-at (o ∷ ops) zero op lie short at = rw at lie.0
-LieBelow-at (o ∷ ops) (suc i) op lie short at = LieBelow-at ops i op lie.1 (omega (arith, short)) at
 
 -- the newest trees, copied
 pub newest-none : (kept : List Commit) (c : Commit) (copy : Pair) (s : Store) → AreKept kept → c ≡ get_or kept (length kept - 1) c → copy ≡ c.trees

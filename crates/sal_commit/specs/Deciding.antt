@@ -4,11 +4,10 @@ use Rattle.std.specs.Option.{option_or, option_map}
 use Rattle.sal_types.specs.declared.value.Store.{Store}
 use Rattle.sal_types.specs.declared.value.Store.TheVariants.{Config, Oper}
 use Rattle.sal_types.specs.declared.row.Row.{Row}
-use Rattle.sal_types.specs.Tree.{under}
 use Rattle.sal_rows.specs.declared.op.Op.{Op}
 use Rattle.sal_rows.specs.declared.outcome.Outcome.{Outcome}
 use Rattle.sal_rows.specs.declared.outcome.Outcome.TheVariants.{ChainFailed, Invalid}
-use Rattle.sal_rows.specs.Apply.{apply_ops, rows_of_act}
+use Rattle.sal_rows.specs.Apply.{apply_ops}
 use Rattle.sal_rows.specs.declared.clash.Span.{Span}
 use Rattle.sal_rows.specs.Spans.{spans}
 use Rattle.sal_schema.specs.declared.table.SchemaTable.{SchemaTable}
@@ -17,17 +16,13 @@ use Rattle.sal_tree.specs.declared.commit.Commit.{Commit}
 use Rattle.sal_rows.specs.Clash.{tip}
 use Rattle.sal_graft.specs.Kept.{AreKept, chains_of, opening_in, ops_of, rows_in}
 use Rattle.sal_tx.specs.declared.tx.Submission.{Submission}
+pub use Rattle.sal_tx.specs.Views.{LieBelow}
 use Rattle.sal_history.specs.History.{unmounted_of}
 use Rattle.sal_history.specs.Outcome as outcome
 use Rattle.sal_history.specs.Submissions.{if_done}
 use Rattle.sal_commit.specs.declared.domain.Domain.{Domain}
 use Rattle.sal_commit.specs.Domains.{IsSame}
 use Rattle.sal_commit.specs.Stamps.{receipts_of}
-
--- the rows of each operation lie at and below its path
-abbrev pub LieBelow : List Op → Type 0
-LieBelow [] = Unit {0}
-LieBelow (op ∷ ops) = (under (rows_of_act op.act) op.path ≡ rows_of_act op.act) × LieBelow ops
 
 -- A submission that can be decided in the domain: it stands on one of the domain's commits, and its rows lie below their
 -- paths.

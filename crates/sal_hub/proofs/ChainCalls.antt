@@ -8,6 +8,7 @@ use Rattle.sal_types.specs.declared.value.Store.{Store}
 use Rattle.sal_rows.specs.declared.outcome.CallFault.{CallFault}
 use Rattle.sal_rows.specs.declared.outcome.CallFault.TheVariants.{ChainClosed, ChainFailed, NoDomain, PreviousOpen}
 use Rattle.sal_rows.specs.declared.outcome.Mode.{Mode}
+use Rattle.sal_rows.specs.Apply.{apply_ops}
 use Rattle.sal_rows.specs.Spans.{is_of_chain}
 use Rattle.sal_tree.specs.declared.commit.Pair.{Pair}
 use Rattle.sal_graft.specs.Kept.{rows_in as kept_rows}
@@ -106,7 +107,7 @@ module _ (journal journal' : Noted) (p : Pipeline) (is : IsKept journal p) (clie
       behind = is.current.sound.behind;
       domains = λ n d at. let had = is.current.sound.domains n d at in record { number = had.number; commits = had.commits; chains = had.chains; receipts = had.receipts };
       waiting = is.current.sound.waiting;
-      standing = λ i s at. let had = is.current.sound.standing i s at in record { domain = had.domain; base = had.base; chain = subst (λ n. IsWithin n s.chain) (sym longer) (wider (length (queue_of p).failures) s.chain had.chain); view = had.view; below = had.below };
+      standing = λ i s at. let had = is.current.sound.standing i s at in record { domain = had.domain; base = had.base; chain = subst (λ n. IsWithin n s.chain) (sym longer) (wider (length (queue_of p).failures) s.chain had.chain); seen = had.seen };
       numbers = is.current.sound.numbers;
       failures = λ k. noted_in-push (queue_of p).failures k ∙ is.current.sound.failures k;
     }
@@ -290,7 +291,7 @@ module _ (journal : Noted) (p : Pipeline) (is : IsKept journal p) (cs : Chains) 
         domain = (last_domain n sub (last n refl) here ∙ sym number) i;
         commit = sym (starts.commit ∙ on.2.commit) i;
         chain = sym starts.chain i;
-        trees = λ s. (sym (had.view s) ∙ ap (λ (x : Pair). kept_rows x s) (sym on.2.trees) ∙ sym (trees s)) i;
+        trees = λ s. (ap (λ rows. apply_ops rows s sub.changes) (sym (same_rows sub.base s)) ∙ sym (on.2.trees s) ∙ same_rows footing.trees s ∙ sym (trees s)) i;
       } in b)
 
   base_is : chained_base there so_far chain.id ≡ begun_base

@@ -184,7 +184,7 @@ sound-shorter ss queue sound =
       waiting = sym (drop-map sent_of more queue.waiting) ∙ ap (drop more) sound.waiting ∙ drop-drop more queue.gone ss ∙ ap (λ n. drop n ss) all;
       standing = λ i s at.
           let had = sound.standing (more + i) s (sym (slice_get-drop queue.waiting more i) ∙ at) in
-          record { domain = had.domain; base = had.base; chain = had.chain; view = had.view; below = had.below };
+          record { domain = had.domain; base = had.base; chain = had.chain; seen = had.seen };
       numbers = λ i s at. omega (arith, all, sound.numbers (more + i) s (sym (slice_get-drop queue.waiting more i) ∙ at));
       failures = sound.failures;
     }
@@ -209,7 +209,7 @@ module _ (ss : List Sent) (queue : PipelineView) (sound : IsSound ss queue) (k :
   can_decide = record {
     kept = kept;
     base = omega (arith, stands.base, long, kept.opened);
-    below = stands.below;
+    below = stands.seen.below;
   }
 
   its_number : sub.receipt ≡ length queue.outcomes + 1
@@ -311,8 +311,7 @@ module _ (ss : List Sent) (queue : PipelineView) (sound : IsSound ss queue) (k :
       domain = omega (arith, was.domain, length-set queue.domains sub.domain (shown d'));
       base = omega (arith, was.base, ap length (commits-more s.domain), length-append (commits_in ss queue s.domain) (map ops_in (added s.domain (sent_of sub) o)));
       chain = subst (λ n. IsWithin n s.chain) (sym as_many) was.chain;
-      view = was.view;
-      below = was.below;
+      seen = was.seen;
     }
 
     failures-now : (id : ℕ) → noted_in now.failures id ≡ failing (Some id) ss (queue.outcomes ++ o ∷ [])

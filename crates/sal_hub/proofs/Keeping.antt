@@ -173,8 +173,7 @@ module _ (ss : List Sent) (queue : PipelineView) (sound : IsSound ss queue) (s :
     domain = was.domain;
     base = subst (λ (cs : List (List Op)). t.base_commit ≤ length cs) (sym (commits-longer t.domain)) was.base;
     chain = was.chain;
-    view = was.view;
-    below = was.below;
+    seen = was.seen;
   }
 
   pub sound-longer : IsSound (ss ++ sent_of s ∷ []) longer

@@ -112,7 +112,7 @@ sound-with ss queue i b sound = record {
       }
       );
   waiting = sound.waiting;
-  standing = λ k s at. let had = sound.standing k s at in record { domain = omega (arith, had.domain, length-with queue.domains i b); base = had.base; chain = had.chain; view = had.view; below = had.below };
+  standing = λ k s at. let had = sound.standing k s at in record { domain = omega (arith, had.domain, length-with queue.domains i b); base = had.base; chain = had.chain; seen = had.seen };
   numbers = sound.numbers;
   failures = sound.failures;
 }

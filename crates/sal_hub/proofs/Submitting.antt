@@ -1,25 +1,21 @@
 -- A submit: what is kept stays the log's, and the answer is the log's.
 use Rattle.std.proofs.Common.{◌≡◌, ℕ, ◌+◌, ◌-◌, ◌<◌, ◌≤◌, Bool, true, false, List, [], ◌∷◌, ◌++◌, length, map, Option, None, Some, refl, ap, sym, ◌∙◌, subst, arith, append-nil, if◌then◌else◌, nat_eq, nat_lt}
-use Rattle.std.specs.Prelude.{slice_get, unwrap_or, ◌||◌}
+use Rattle.std.specs.Prelude.{slice_get, unwrap_or, IfSome, ◌||◌}
 use Rattle.std.specs.Option.{option_map, option_to_list}
 use Rattle.std.proofs.lemmas.List.{length-map}
 use Rattle.std.proofs.lemmas.Option.{same_Some}
 use Rattle.sal_types.specs.declared.row.Row.{Row}
 use Rattle.sal_rows.specs.declared.op.Op.{Op}
-use Rattle.sal_rows.specs.Apply.{apply_ops, rows_of_act}
 use Rattle.sal_rows.specs.declared.outcome.CallFault.{CallFault}
 use Rattle.sal_rows.specs.declared.outcome.CallFault.TheVariants.{PipelineFull, TxSpent}
 use Rattle.sal_schema.specs.declared.table.SchemaTable.{SchemaTable}
 use Rattle.sal_types.specs.declared.value.Store.{Store}
-use Rattle.sal_types.specs.declared.value.Store.TheVariants.{Config, Oper}
 use Rattle.sal_tree.specs.declared.commit.Pair.{Pair}
 use Rattle.sal_tx.specs.declared.tx.Submission.{Submission}
 use Rattle.sal_tx.specs.declared.writing.Writing.{Writing}
-use Rattle.sal_tx.specs.Views.{AreLawful, IsRight, rows_in as tx_rows}
-use Rattle.sal_tx.proofs.Nexts.{lie_under}
-use Rattle.sal_graft.specs.Kept.{rows_in}
+use Rattle.sal_tx.specs.Views.{AreLawful, IsRight, Shows, rows_in as tx_rows}
+use Rattle.sal_tx.proofs.Nexts.{lie_below}
 use Rattle.sal_commit.specs.declared.domain.Domain.{Domain}
-use Rattle.sal_commit.specs.Deciding.{LieBelow}
 use Rattle.sal_history.specs.declared.call.Call.TheVariants.{Submit}
 use Rattle.sal_history.specs.declared.call.Entry.{Entry}
 use Rattle.sal_history.specs.declared.reply.Reply.{Reply}
@@ -47,11 +43,6 @@ use Rattle.sal_hub.proofs.Versioned.{numbered, version_at-low}
 use Rattle.sal_hub.proofs.Listed.{slice_get_seam}
 use Rattle.sal_hub.proofs.Standing.{IsAt, are_at}
 use Rattle.sal_hub.proofs.Starting.{same_rows}
-
--- the rows of lawful operations lie below their paths
-lie_below : (table : SchemaTable) (base : Pair) (earlier ops : List Op) → AreLawful table base earlier ops → LieBelow ops
-lie_below table base earlier [] l = tt
-lie_below table base earlier (op ∷ ops) l = (lie_under table op.path (rows_of_act op.act) l.0.0.rows, lie_below table base (earlier ++ op ∷ []) ops l.1)
 
 -- the operations of a transaction are lawful, as the log has it
 as_sent : (table : SchemaTable) (base : Pair) (earlier ops : List Op) → AreLawful table base earlier ops → AreSentOver table (λ s. tx_rows base s) earlier ops
@@ -144,8 +135,8 @@ given_domain journal p is i s at = ap (option_map (λ (t : Sent). t.base.domain)
 
 -- ---- a submission more
 
-module _ (journal journal' : Noted) (p p' : Pipeline) (is : IsKept journal p) (client : ℕ) (tx : Writing) (token : IsBegun (known_of journal p) tx.begun tx.base) (right : IsRight tx) (log : journal'.log ≡ jotted journal.log client (Submit tx.begun.place tx.changes)) (open_now : refusal_of (p.gone + length p.waiting.items - length p.outcomes.items) (mark_at journal.marks tx.begun.place) ≡ None)
-    (member : IsWithin (length p.failures.items) tx.begun.chain) (domains : p'.domains ≡ p.domains) (failures_same : p'.failures ≡ p.failures) (outcomes_same : p'.outcomes ≡ p.outcomes) (as_gone : p'.gone ≡ p.gone) (waits : p'.waiting.items ≡ p.waiting.items ++ submission_of tx (p.gone + length p.waiting.items + 1) ∷ []) (marks : (k : ℕ) → mark_at journal'.marks k ≡ (nat_eq tx.begun.place k || mark_at journal.marks k)) where
+module _ (journal journal' : Noted) (p p' : Pipeline) (is : IsKept journal p) (client : ℕ) (tx : Writing) (token : IsBegun (known_of journal p) tx.begun tx.base) (right : IsRight tx) (view : Option Pair) (shown_so : IfSome view (Shows tx.base tx.changes)) (log : journal'.log ≡ jotted journal.log client (Submit tx.begun.place tx.changes)) (open_now : refusal_of (p.gone + length p.waiting.items - length p.outcomes.items) (mark_at journal.marks tx.begun.place) ≡ None)
+    (member : IsWithin (length p.failures.items) tx.begun.chain) (domains : p'.domains ≡ p.domains) (failures_same : p'.failures ≡ p.failures) (outcomes_same : p'.outcomes ≡ p.outcomes) (as_gone : p'.gone ≡ p.gone) (waits : p'.waiting.items ≡ p.waiting.items ++ submission_of tx (p.gone + length p.waiting.items + 1) view ∷ []) (marks : (k : ℕ) → mark_at journal'.marks k ≡ (nat_eq tx.begun.place k || mark_at journal.marks k)) where
   abbrev new_world : List world.Domain
   new_world = world_in (queue_of p).domains
 
@@ -153,7 +144,7 @@ module _ (journal journal' : Noted) (p p' : Pipeline) (is : IsKept journal p) (c
   before = answers journal.log (queue_of p)
 
   abbrev sub : Submission
-  sub = submission_of tx (p.gone + length p.waiting.items + 1)
+  sub = submission_of tx (p.gone + length p.waiting.items + 1) view
 
   abbrev made_entry : Entry
   made_entry = record { client = client; number = entries_of journal.log client; call = Submit tx.begun.place tx.changes }
@@ -163,10 +154,6 @@ module _ (journal journal' : Noted) (p p' : Pipeline) (is : IsKept journal p) (c
 
   queue_is : more ≡ queue_of p'
   queue_is = λ i. record { domains = map shown (sym domains i).items; gone = sym as_gone i; waiting = sym waits i; outcomes = (sym outcomes_same i).items; failures = (sym failures_same i).items }
-
-  view : (store : Store) → rows_in tx.view store ≡ apply_ops (rows_in tx.base store) store tx.changes
-  view Config = right.config.rows
-  view Oper = right.oper.rows
 
   stands : Stands (sents before) (queue_of p) sub
   stands =
@@ -178,8 +165,7 @@ module _ (journal journal' : Noted) (p p' : Pipeline) (is : IsKept journal p) (c
         domain = omega (arith, on.0, length-map (queue_of p).domains opened_as);
         base = subst (λ (cs : List (List Op)). tx.begun.base_commit ≤ length cs) (sym same) on.1;
         chain = member;
-        view = view;
-        below = lie_below tx.begun.schema.value tx.base [] tx.changes right.lawful;
+        seen = record { below = lie_below tx.begun.schema.value tx.base [] tx.changes right.lawful; view = shown_so };
       }
 
   reply_now : reply_to new_world before client (Submit tx.begun.place tx.changes) ≡ Receipt (p.gone + length p.waiting.items + 1)

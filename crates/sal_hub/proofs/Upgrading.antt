@@ -165,7 +165,7 @@ sound-upgraded ss queue v sound = record {
       }
       );
   waiting = sound.waiting;
-  standing = λ k s at. let had = sound.standing k s at in record { domain = omega (arith, had.domain, length-upgraded queue.domains v); base = had.base; chain = had.chain; view = had.view; below = had.below };
+  standing = λ k s at. let had = sound.standing k s at in record { domain = omega (arith, had.domain, length-upgraded queue.domains v); base = had.base; chain = had.chain; seen = had.seen };
   numbers = sound.numbers;
   failures = sound.failures;
 }

@@ -1,6 +1,6 @@
 -- What a hub keeps beside its log: the domains with their commits, the submissions that were not let go, the outcomes, and which
 -- chains failed.
-use Rattle.std.specs.Prelude.{◌≡◌, ℕ, zero, suc, ◌+◌, ◌-◌, ◌<◌, ◌≤◌, Bool, List, [], ◌∷◌, ◌++◌, false, drop, length, map, take, Option, Some, All, slice_get}
+use Rattle.std.specs.Prelude.{◌≡◌, ℕ, zero, suc, ◌+◌, ◌-◌, ◌<◌, ◌≤◌, Bool, List, [], ◌∷◌, ◌++◌, false, drop, length, map, take, Option, Some, IfSome, All, slice_get}
 use Rattle.std.specs.Option.{option_map_or}
 use Rattle.sal_types.specs.declared.value.Store.{Store}
 use Rattle.sal_types.specs.declared.value.Store.TheVariants.{Config, Oper}
@@ -8,10 +8,10 @@ use Rattle.sal_types.specs.declared.row.Row.{Row}
 use Rattle.sal_rows.specs.declared.clash.Rules.{Rules}
 use Rattle.sal_rows.specs.declared.op.Op.{Op}
 use Rattle.sal_rows.specs.declared.outcome.Outcome.{Outcome}
-use Rattle.sal_rows.specs.Apply.{apply_ops}
 use Rattle.sal_schema.specs.declared.table.SchemaTable.{SchemaTable}
 use Rattle.sal_graft.specs.Kept.{AreKept, chains_of, opening_in, ops_of, rows_in}
 use Rattle.sal_tx.specs.declared.tx.Submission.{Submission}
+use Rattle.sal_tx.specs.Views.{Shows}
 use Rattle.sal_commit.specs.declared.domain.Domain.{Domain}
 use Rattle.sal_commit.specs.Deciding.{LieBelow}
 use Rattle.sal_commit.specs.Stamps.{receipts_of}
@@ -121,14 +121,17 @@ pub record IsStored (ss : List Sent) (queue : PipelineView) (n : ℕ) (d : Domai
   pub chains : d.chains ≡ chains_in ss queue n
   pub receipts : d.receipts ≡ receipts_in ss queue n
 
--- A submission stands on a commit of its domain, and its chain is one that was opened; its view is its base after its
--- operations, whose rows lie below their paths.
+-- the rows of its operations lie below their paths, and its view, if it was made, is its base after them
+pub record CanBeSeen (s : Submission) : Type 0 where
+  pub below : LieBelow s.changes
+  pub view : IfSome s.view (Shows s.base s.changes)
+
+-- A submission stands on a commit of its domain, and its chain is one that was opened; its base after its operations can be seen.
 pub record Stands (ss : List Sent) (queue : PipelineView) (s : Submission) : Type 0 where
   pub domain : s.domain < length queue.domains
   pub base : s.base_commit ≤ length (commits_in ss queue s.domain)
   pub chain : IsWithin (length queue.failures) s.chain
-  pub view : (store : Store) → rows_in s.view store ≡ apply_ops (rows_in s.base store) store s.changes
-  pub below : LieBelow s.changes
+  pub seen : CanBeSeen s
 
 -- only what is decided was let go, and the rest is kept
 pub record IsSound (ss : List Sent) (queue : PipelineView) : Type 0 where

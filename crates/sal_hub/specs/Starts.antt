@@ -6,6 +6,7 @@ use Rattle.sal_rows.specs.Clash.{tip}
 use Rattle.sal_graft.specs.Kept.{opening_in, ops_of as commits_of, rows_in}
 use Rattle.sal_tx.specs.declared.tx.Submission.{Submission}
 use Rattle.sal_tx.specs.declared.tx.Tx.{Tx}
+use Rattle.sal_tx.specs.Views.{Shows}
 use Rattle.sal_commit.specs.declared.domain.Domain.{Domain}
 use Rattle.sal_hub.specs.declared.start.Footing.{Footing}
 use Rattle.sal_hub.specs.Tokens.{base_of, begun_of, mode_of, ops_of}
@@ -20,7 +21,7 @@ pub record IsNewest (d : Domain) (footing : Footing) : Type 0 where
 pub record IsOn (sub : Submission) (receipt : ℕ) (footing : Footing) : Type 0 where
   pub commit : footing.commit ≡ sub.base_commit
   pub pending : footing.on ≡ Some receipt
-  pub trees : footing.trees ≡ sub.view
+  pub trees : Shows sub.base sub.changes footing.trees
 
 -- a transaction of the domain and the chain, if of any, that begins there
 pub record Starts (d : Domain) (footing : Footing) (member : Option ℕ) (under : Mode) (at : ℕ) (tx : Tx) : Type 0 where

@@ -1,8 +1,9 @@
 //! The calls of chains.
-ghost use Rattle.std.specs.Prelude.{◌≡◌, ℕ, ◌+◌, ◌-◌, ◌<◌, ◌≤◌, ◌∷◌, ◌++◌, [], not, true, None, Some, IfOk, OnErr, OnOk, length, set};
+ghost use Rattle.std.specs.Prelude.{◌≡◌, ℕ, ◌+◌, ◌-◌, ◌<◌, ◌≤◌, ◌∷◌, ◌++◌, [], not, true, None, Some, IfOk, OnErr, OnOk, length, set, slice_get};
 ghost use Rattle.std.specs.Option.{option_map, option_or};
 ghost use Rattle.sal_rows.specs.declared.outcome.CallFault.TheVariants.{ChainClosed, ChainFailed, NoDomain, PreviousOpen};
 ghost use Rattle.sal_graft.specs.Kept.{AreKept};
+ghost use Rattle.sal_tx.specs.declared.tx.Submission.{Submission as Pending};
 ghost use Rattle.sal_tx.specs.declared.tx.Tx.{Tx as Token};
 ghost use Rattle.sal_history.specs.declared.call.Call.TheVariants.{ChainBegin, CloseChain, OpenChain};
 ghost use Rattle.sal_history.specs.declared.reply.Reply.TheVariants.{Begun as Answered, Chain as Opened};
@@ -14,7 +15,7 @@ ghost use Rattle.sal_hub.specs.Current.{IsKept, answers, known_of};
 ghost use Rattle.sal_hub.specs.Failures.{IsWithin, flag_in};
 ghost use Rattle.sal_hub.specs.Journals.{jotted, mark_at};
 ghost use Rattle.sal_hub.specs.HubHistory.{entry_of};
-ghost use Rattle.sal_hub.specs.PipelineView.{queue_of, world_in};
+ghost use Rattle.sal_hub.specs.PipelineView.{CanBeSeen, queue_of, world_in};
 ghost use Rattle.sal_hub.specs.Tokens.{IsChain, IsFresh, IsToken, begun_of};
 
 use crate::chain::Chain;
@@ -208,7 +209,7 @@ fn begin_next(
     };
     let domain = &pipeline.domains[chain.domain() as usize];
     let sent = chains.sent[chain.id() as usize - 1];
-    let footing = footing_in(pipeline, domain, sent)?;
+    let footing = footing_in(alloc, pipeline, domain, sent)?;
     let place = journal.entries().len() as u64;
     let tx = enter(alloc, journal, domain, footing, wish)?;
     note(&mut chains.begun, member, place);
@@ -216,10 +217,16 @@ fn begin_next(
 }
 
 // Where a transaction behind the submission with this receipt, if any, begins.
-fn footing_in(pipeline: &Pipeline, domain: &Domain, sent: Option<u64>) -> Result<Footing, NoMemory>
+fn footing_in(
+    alloc: Global,
+    pipeline: &Pipeline,
+    domain: &Domain,
+    sent: Option<u64>,
+) -> Result<Footing, NoMemory>
     requires kept { AreKept domain.now.commits.items }
     requires given { IsWithin (pipeline.now.gone + length pipeline.now.waiting.items) sent }
     requires behind { pipeline.now.gone ≤ length pipeline.now.outcomes.items }
+    requires seen { (i : ℕ) (s : Pending) → slice_get pipeline.now.waiting.items i ≡ Some s → CanBeSeen s }
     ensures { IfOk result (IsFooting (pending_of (length pipeline.now.outcomes.items) sent) pipeline.now domain.now) }
 {
     match sent {
@@ -227,7 +234,7 @@ fn footing_in(pipeline: &Pipeline, domain: &Domain, sent: Option<u64>) -> Result
         Some(receipt) => {
             if pipeline.outcomes.len() < receipt as usize {
                 let index = receipt as usize - 1 - pipeline.gone;
-                on_pending(&pipeline.waiting[index], receipt)
+                on_pending(alloc, &pipeline.waiting[index], receipt)
             } else {
                 newest(domain)
             }

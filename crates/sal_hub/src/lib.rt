@@ -21,7 +21,7 @@
 //! once: where memory is wanting, the hub is as it was. A settle that finds no memory takes back what it decided, and a call on a
 //! service that finds none takes its entry back.
 //!
-//! A submission is let go once it was decided, with its base, its view and the look-ups of its operations: what stays of it is its
+//! A submission is let go once it was decided, with its base, its view if it was made, and the look-ups of its operations: what stays of it is its
 //! entry in the log, its outcome and, where it is done, its commit. A settle that finds no memory lets nothing go. The operations are
 //! copied once, for the entry, and the commit has the same list.
 //!
@@ -43,7 +43,7 @@
 //! memory behind it.
 //!
 //! The next transaction of a chain begins on the chain's last submission while that is pending: it shares the view of that
-//! submission, and has its base commit. Else it begins at the newest commit. A chain that failed begins no transaction, and its
+//! submission, or makes it where nobody asked for it, and has its base commit. Else it begins at the newest commit. A chain that failed begins no transaction, and its
 //! pending submissions are decided by the receipt that failed. All transactions of a chain are of one domain.
 //!
 //! A listener is asked by its client: nothing is kept of what it was not told but the number of the last commit of which it was.

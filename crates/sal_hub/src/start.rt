@@ -12,6 +12,7 @@ ghost use Rattle.sal_hub.specs.Chains.{call_of};
 ghost use Rattle.sal_hub.specs.Current.{IsKept, known_of};
 ghost use Rattle.sal_hub.specs.Journals.{jotted, mark_at};
 ghost use Rattle.sal_hub.specs.HubHistory.{entry_of};
+ghost use Rattle.sal_hub.specs.PipelineView.{CanBeSeen};
 ghost use Rattle.sal_hub.specs.Starts.{IsNewest, IsOn, Starts};
 ghost use Rattle.sal_hub.specs.Tokens.{IsFresh, IsToken, begun_of};
 
@@ -65,10 +66,15 @@ pub(crate) fn newest(domain: &Domain) -> Result<Footing, NoMemory>
 }
 
 /// The submission, which is pending with this receipt.
-pub(crate) fn on_pending(submission: &Submission, receipt: u64) -> Result<Footing, NoMemory>
+pub(crate) fn on_pending(
+    alloc: Global,
+    submission: &Submission,
+    receipt: u64,
+) -> Result<Footing, NoMemory>
+    requires { CanBeSeen submission.now }
     ensures { IfOk result (IsOn submission.now receipt) }
 {
-    let trees = submission.view.copy()?;
+    let trees = submission.trees(alloc)?;
     Ok(Footing {
         commit: submission.base_commit,
         on: Some(receipt),

@@ -1,5 +1,5 @@
 //! Submissions that are handed in.
-ghost use Rattle.std.specs.Prelude.{◌≡◌, ℕ, ◌+◌, ◌-◌, ◌<◌, ◌≤◌, ◌∷◌, ◌++◌, ◌||◌, [], IfOk, MatchResult, OnErr, OnOk, length, nat_eq};
+ghost use Rattle.std.specs.Prelude.{◌≡◌, ℕ, ◌+◌, ◌-◌, ◌<◌, ◌≤◌, ◌||◌, IfOk, MatchResult, OnErr, OnOk, length, nat_eq};
 ghost use Rattle.sal_tx.specs.Views.{IsRight};
 ghost use Rattle.sal_history.specs.declared.call.Call.TheVariants.{Submit};
 ghost use Rattle.sal_history.specs.declared.reply.Reply.TheVariants.{Receipt as Numbered};
@@ -9,7 +9,7 @@ ghost use Rattle.sal_hub.specs.Current.{IsKept, known_of};
 ghost use Rattle.sal_hub.specs.Failures.{IsWithin};
 ghost use Rattle.sal_hub.specs.Journals.{jotted, mark_at};
 ghost use Rattle.sal_hub.specs.HubHistory.{entry_of};
-ghost use Rattle.sal_hub.specs.Submits.{refusal_of, submission_of};
+ghost use Rattle.sal_hub.specs.Submits.{IsAdded, refusal_of};
 ghost use Rattle.sal_hub.specs.Tokens.{IsBegun, IsGiven};
 
 use crate::hub::MAX_PENDING;
@@ -108,7 +108,7 @@ fn accept(
     requires placed { tx.begun.place < length journal.old.log }
     ensures receipt { IfOk result (λ receipt. receipt ≡ record { number = pipeline.old.gone + length pipeline.old.waiting.items + 1; domain = tx.begun.domain }) }
     ensures right { OnOk result (IsRight tx) }
-    ensures waiting { OnOk result (pipeline.new.waiting.items ≡ pipeline.old.waiting.items ++ submission_of tx (pipeline.old.gone + length pipeline.old.waiting.items + 1) ∷ []) }
+    ensures waiting { OnOk result (IsAdded tx (pipeline.old.gone + length pipeline.old.waiting.items + 1) pipeline.old.waiting.items pipeline.new.waiting.items) }
     ensures gone { pipeline.new.gone ≡ pipeline.old.gone }
     ensures log { OnOk result (journal.new.log ≡ jotted journal.old.log client (Submit tx.begun.place tx.changes)) }
     ensures marks { OnOk result ((k : ℕ) → mark_at journal.new.marks k ≡ (nat_eq tx.begun.place k || mark_at journal.old.marks k)) }

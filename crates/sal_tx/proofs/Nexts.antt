@@ -1,8 +1,8 @@
 -- One operation more.
-use Rattle.std.proofs.Common.{◌≡◌, ◌≢◌, ℕ, ◌-◌, ◌<◌, ◌^◌, Bool, true, false, ◌&&◌, IsTrue, List, [], ◌∷◌, ◌++◌, None, sym, refl, ap, subst, ◌∙◌}
+use Rattle.std.proofs.Common.{◌≡◌, ℕ, zero, suc, ◌<◌, length, get_or, arith, Bool, true, false, ◌&&◌, IsTrue, List, [], ◌∷◌, ◌++◌, None, sym, refl, ap, subst, ◌∙◌}
 use Rattle.std.proofs.lemmas.List.{append_assoc, append-nil}
 use Rattle.std.proofs.lemmas.List.Folds.{list_any-append}
-use Rattle.std.specs.Prelude.{◌||◌}
+use Rattle.std.specs.Prelude.{◌||◌, Option, Some, IfSome}
 use Rattle.std.specs.List.{list_all}
 use Rattle.sal_types.specs.declared.value.Store.{Store}
 use Rattle.sal_types.specs.declared.value.Step.{Step}
@@ -10,7 +10,7 @@ use Rattle.sal_types.specs.declared.row.Row.{Row}
 use Rattle.sal_types.specs.Prefix.{is_prefix}
 use Rattle.sal_types.specs.Tree.{cell, under}
 use Rattle.sal_rows.specs.declared.op.Op.{Op}
-use Rattle.sal_rows.specs.Apply.{same_store, act_setting, cell_by, cell_after, apply_ops, setting}
+use Rattle.sal_rows.specs.Apply.{same_store, act_setting, cell_by, cell_after, apply_ops, rows_of_act, setting}
 use Rattle.sal_rows.specs.Touch.{touches, op_touches}
 use Rattle.sal_rows.proofs.Applied.{cell_after_push, cell-apply_ops, apply_ops-unique, IsAscending-apply_ops, setting-same, setting-other}
 use Rattle.sal_node.specs.Tree.{Tree, IsGrove}
@@ -26,8 +26,7 @@ use Rattle.sal_schema.specs.declared.table.SchemaTable.{SchemaTable}
 use Rattle.sal_schema.specs.Fitting.{fits, row_fits}
 use Rattle.sal_schema.specs.Paths.{fits_path}
 use Rattle.sal_rules.specs.Refusals.{refusal}
-use Rattle.sal_tx.specs.Views.{IsAfter, IsRight, IsNext, AreLawful, refused, rows_in, tree_in, stamp_of}
-use Rattle.sal_tx.specs.Written.{IsWritten, with_tree}
+use Rattle.sal_tx.specs.Views.{IsAfter, IsRight, HasOneMore, IsSeen, IsView, AreLawful, LieBelow, Shows, refused, rows_in, tree_in, stamp_of, with_tree}
 use Rattle.sal_rules.specs.Writes.{IsForSchema}
 use Rattle.sal_tx.specs.declared.writing.Writing.{Writing}
 use Rattle.sal_types.specs.declared.value.Store.TheVariants.{Config, Oper}
@@ -105,65 +104,78 @@ all_lie table p all (row ∷ rows) h =
 pub lie_under : (table : SchemaTable) (p : List Step) (rows : List Row) → IsTrue (fits table p rows) → under rows p ≡ rows
 lie_under table p rows h = filter-all (λ (row : Row). is_prefix p row.path) rows (all_lie table p rows rows h)
 
--- ---- the parts of a transaction
+-- the rows of lawful operations lie below their paths
+pub lie_below : (table : SchemaTable) (base : Pair) (earlier ops : List Op) → AreLawful table base earlier ops → LieBelow ops
+lie_below table base earlier [] l = tt
+lie_below table base earlier (op ∷ ops) l = (lie_under table op.path (rows_of_act op.act) l.0.0.rows, lie_below table base (earlier ++ op ∷ []) ops l.1)
 
--- what a transaction has when it is opened
-pub IsRight-open : (w : Writing) → w.mode ≢ Ro → w.begun.place < 2 ^ 63 - 1 → w.changes ≡ [] → w.view ≡ w.base → IsGrove w.base.config.kids → IsGrove w.base.oper.kids
-    → IsRight w
-IsRight-open w writes low none same g h = record {
-  writes = writes;
-  low = low;
-  config = rw (none, same) (IsAfter-none (stamp_of w.begun.place) Config w.base.config g);
-  oper = rw (none, same) (IsAfter-none (stamp_of w.begun.place) Oper w.base.oper h);
-  lawful = rw none tt;
-}
+pub LieBelow-at : (ops : List Op) (i : ℕ) (op : Op) → LieBelow ops → i < length ops → op ≡ get_or ops i op → under (rows_of_act op.act) op.path ≡ rows_of_act op.act
+LieBelow-at [] i op lie short at = absurd (omega arith)
+LieBelow-at (o ∷ ops) zero op lie short at = rw at lie.0
+LieBelow-at (o ∷ ops) (suc i) op lie short at = LieBelow-at ops i op lie.1 (omega (arith, short)) at
 
-after_in : (w : Writing) → IsRight w → (store : Store) → IsAfter (stamp_of w.begun.place) store w.changes (tree_in w.base store) (tree_in w.view store)
-after_in w right Config = right.config
-after_in w right Oper = right.oper
+-- ---- what a transaction sees
 
--- what a write is refused for over the tree that is seen
-pub refused-seen : (w : Writing) (op : Op) (table : SchemaTable) (tree : Tree) → IsRight w → table ≡ w.begun.schema.value → tree ≡ tree_in w.view op.store
-    → refusal table (rows_of tree) op ≡ refused w op
-refused-seen w op table tree right same is =
-    ap (λ t. refusal t (rows_of tree) op) same
-    ∙ ap (λ rows. refusal w.begun.schema.value rows op) (ap rows_of is ∙ (after_in w right op.store).rows)
+seen_in : (stamp : ℕ) (ops : List Op) (base view : Pair) → IsSeen stamp ops base view → (s : Store) → IsAfter stamp s ops (tree_in base s) (tree_in view s)
+seen_in stamp ops base view seen Config = seen.config
+seen_in stamp ops base view seen Oper = seen.oper
 
--- the tree that was written is the next one
-pub IsNext-written : (w : Writing) (op : Op) (table : SchemaTable) (stamp : ℕ) (base tree next : Tree) → IsRight w → table ≡ w.begun.schema.value
-    → stamp ≡ stamp_of w.begun.place → base ≡ tree_in w.base op.store → tree ≡ tree_in w.view op.store → IsGrove base.kids → IsGrove tree.kids → IsGrove next.kids
-    → IsWritten table stamp tree op next → IsNext w op next
-IsNext-written w op table stamp base tree next right same marked below is g h k done = record {
-  allowed = sym (refused-seen w op table tree right same is) ∙ done.allowed;
-  after =
-      let was : IsAfter stamp op.store w.changes base tree = rw (marked, below, is) (after_in w right op.store) in
-      let now = IsAfter-more stamp w.changes op base tree next g h k (itself op.store) was done.cells done.stamps in
-      rw (← marked, ← below) now;
-}
+pub shows : (stamp : ℕ) (ops : List Op) (base view : Pair) → IsSeen stamp ops base view → Shows base ops view
+shows stamp ops base view seen Config = seen.config.rows
+shows stamp ops base view seen Oper = seen.oper.rows
 
--- the transaction after one more operation
-pub IsRight-more : (w v : Writing) (op : Op) (store : Store) (tree : Tree) → IsRight w → IsForSchema w.begun.schema.value op → IsNext w op tree → store ≡ op.store
-    → v ≡ record { begun = w.begun; mode = w.mode; base = w.base; view = with_tree w.view store tree; changes = w.changes ++ op ∷ [] } → IsRight v
-IsRight-more w v op store tree right good next of is = rw (is, of) (more op.store refl)
+-- of a view that was made
+pub shown_if : (w : Writing) (o : Option Pair) → IfSome o (IsView w) → IfSome o (Shows w.base w.changes)
+shown_if w None has = tt
+shown_if w (Some view) has = shows (stamp_of w.begun.place) w.changes w.base view has
+
+-- no operation yet
+pub IsSeen-none : (stamp : ℕ) (base view : Pair) → view ≡ base → IsGrove base.config.kids → IsGrove base.oper.kids → IsSeen stamp [] base view
+IsSeen-none stamp base view same g h = rw same (record { config = IsAfter-none stamp Config base.config g; oper = IsAfter-none stamp Oper base.oper h })
+
+-- and one more, by the tree of its store
+pub IsSeen-more : (stamp : ℕ) (ops : List Op) (op : Op) (base view : Pair) (next : Tree) → IsGrove (tree_in base op.store).kids → IsGrove (tree_in view op.store).kids → IsGrove next.kids
+    → ((r : List Step) → cell (rows_of next) r ≡ cell_by (act_setting op.path op.act r) (cell (rows_in view op.store) r))
+    → Follows (exactly stamp) (act_touches (rows_in view op.store) op.path op.act) (tree_in view op.store) next
+    → IsSeen stamp ops base view → IsSeen stamp (ops ++ op ∷ []) base (with_tree view op.store next)
+IsSeen-more stamp ops op base view next g h k cells stamps seen = more op.store refl
   where
-    lawful : AreLawful w.begun.schema.value w.base [] (w.changes ++ op ∷ [])
-    lawful = AreLawful-more w.begun.schema.value w.base [] w.changes op right.lawful good next.allowed
+    now : IsAfter stamp op.store (ops ++ op ∷ []) (tree_in base op.store) next
+    now = IsAfter-more stamp ops op (tree_in base op.store) (tree_in view op.store) next g h k (itself op.store) (seen_in stamp ops base view seen op.store) cells stamps
 
-    after : (s : Store) → op.store ≡ s → IsAfter (stamp_of w.begun.place) s (w.changes ++ op ∷ []) (tree_in w.base s) tree
-    after s here = let P : Store → Type 0 = λ t. IsAfter (stamp_of w.begun.place) t (w.changes ++ op ∷ []) (tree_in w.base t) tree in subst P here next.after
+    after : (s : Store) → op.store ≡ s → IsAfter stamp s (ops ++ op ∷ []) (tree_in base s) next
+    after s here = let P : Store → Type 0 = λ t. IsAfter stamp t (ops ++ op ∷ []) (tree_in base t) next in subst P here now
 
-    more : (s : Store) → op.store ≡ s → IsRight (record { begun = w.begun; mode = w.mode; base = w.base; view = with_tree w.view s tree; changes = w.changes ++ op ∷ [] })
+    more : (s : Store) → op.store ≡ s → IsSeen stamp (ops ++ op ∷ []) base (with_tree view s next)
     more Config here = record {
-      writes = right.writes;
-      low = right.low;
       config = after Config here;
-      oper = IsAfter-other (stamp_of w.begun.place) Oper w.changes op w.base.oper w.view.oper (ap (λ s. same_store s Oper) here) right.oper;
-      lawful = lawful;
+      oper = IsAfter-other stamp Oper ops op base.oper view.oper (ap (λ s. same_store s Oper) here) seen.oper;
     }
     more Oper here = record {
-      writes = right.writes;
-      low = right.low;
-      config = IsAfter-other (stamp_of w.begun.place) Config w.changes op w.base.config w.view.config (ap (λ s. same_store s Config) here) right.config;
+      config = IsAfter-other stamp Config ops op base.config view.config (ap (λ s. same_store s Config) here) seen.config;
       oper = after Oper here;
-      lawful = lawful;
     }
+
+-- ---- one write
+
+-- the rows that a write is looked at over: of the base, for the first one
+pub rows-first : (w : Writing) (store : Store) (tree : Tree) → w.changes ≡ [] → tree ≡ tree_in w.base store → IsGrove tree.kids → rows_of tree ≡ apply_ops (rows_in w.base store) store w.changes
+rows-first w store tree none is g = (IsAfter-none 0 store tree g).rows ∙ (λ i. apply_ops (rows_of (is i)) store (sym none i))
+
+-- and of the view
+pub rows-seen : (w : Writing) (view : Pair) (store : Store) (tree : Tree) → IsView w view → tree ≡ tree_in view store → rows_of tree ≡ apply_ops (rows_in w.base store) store w.changes
+rows-seen w view store tree seen is = ap rows_of is ∙ shows (stamp_of w.begun.place) w.changes w.base view seen store
+
+-- one more operation is lawful
+pub IsRight-more : (w v : Writing) (op : Op) → IsRight w → IsForSchema w.begun.schema.value op → refused w op ≡ None
+    → v ≡ record { begun = w.begun; mode = w.mode; base = w.base; changes = w.changes ++ op ∷ [] } → IsRight v
+IsRight-more w v op right good allowed of = rw of (record {
+  writes = right.writes;
+  low = right.low;
+  lawful = AreLawful-more w.begun.schema.value w.base [] w.changes op right.lawful good allowed;
+})
+
+pub one_more : (w v : Writing) (op : Op) → IsRight w → IsForSchema w.begun.schema.value op → refused w op ≡ None
+    → v ≡ record { begun = w.begun; mode = w.mode; base = w.base; changes = w.changes ++ op ∷ [] } → (refused w op ≡ None) × HasOneMore w op v
+one_more w v op right good allowed of =
+    (allowed, (ap (λ (x : Writing). x.changes) of, ap (λ (x : Writing). x.begun) of, ap (λ (x : Writing). x.mode) of, ap (λ (x : Writing). x.base) of, IsRight-more w v op right good allowed of))

@@ -5,7 +5,8 @@ use Rattle.sal_types.specs.declared.value.Store.TheVariants.{Config, Oper}
 use Rattle.sal_types.specs.declared.row.Row.{Row}
 use Rattle.sal_rows.specs.declared.op.Op.{Op}
 use Rattle.sal_rows.specs.declared.outcome.Mode.TheVariants.{Ro}
-use Rattle.sal_rows.specs.Apply.{apply_ops}
+use Rattle.sal_types.specs.Tree.{under}
+use Rattle.sal_rows.specs.Apply.{apply_ops, rows_of_act}
 use Rattle.sal_rows.specs.Touch.{touches}
 use Rattle.sal_node.specs.Tree.{Tree}
 use Rattle.sal_tree.specs.Follows.{Follows, exactly}
@@ -34,13 +35,36 @@ AreLawful table base earlier [] = Unit {0}
 AreLawful table base earlier (op ∷ ops) =
     (IsForSchema table op × (refusal table (apply_ops (rows_in base op.store) op.store earlier) op ≡ None)) × AreLawful table base (earlier ++ op ∷ []) ops
 
--- a transaction's view is its base after its operations, which are lawful
+-- The rows of each operation lie at and below its path.
+abbrev pub LieBelow : List Op → Type 0
+LieBelow [] = Unit {0}
+LieBelow (op ∷ ops) = (under (rows_of_act op.act) op.path ≡ rows_of_act op.act) × LieBelow ops
+
+-- its operations are lawful
 pub record IsRight (w : Writing) : Type 0 where
   pub writes : w.mode ≢ Ro
   pub low : w.begun.place < 2 ^ 63 - 1
-  pub config : IsAfter (stamp_of w.begun.place) Config w.changes w.base.config w.view.config
-  pub oper : IsAfter (stamp_of w.begun.place) Oper w.changes w.base.oper w.view.oper
   pub lawful : AreLawful w.begun.schema.value w.base [] w.changes
+
+-- ---- what it sees
+
+-- The trees are a base after operations: by rows, and by stamps that tell what was touched.
+pub record IsSeen (stamp : ℕ) (ops : List Op) (base view : Pair) : Type 0 where
+  pub config : IsAfter stamp Config ops base.config view.config
+  pub oper : IsAfter stamp Oper ops base.oper view.oper
+
+-- a transaction's view is its base after its operations
+abbrev pub IsView : Writing → Pair → Type 0
+IsView w view = IsSeen (stamp_of w.begun.place) w.changes w.base view
+
+-- by rows alone
+abbrev pub Shows : Pair → List Op → Pair → Type 0
+Shows base ops view = (s : Store) → rows_in view s ≡ apply_ops (rows_in base s) s ops
+
+-- both trees, with another one of a store
+abbrev pub with_tree : Pair → Store → Tree → Pair
+with_tree pair Config tree = record { config = tree; oper = pair.oper }
+with_tree pair Oper tree = record { config = pair.config; oper = tree }
 
 -- ---- one write
 
@@ -49,11 +73,11 @@ abbrev pub refused : Writing → Op → Option TxFault
 refused w op = refusal w.begun.schema.value (apply_ops (rows_in w.base op.store) op.store w.changes) op
 
 -- a tree of the store after one more operation that is not refused
-pub record IsNext (w : Writing) (op : Op) (tree : Tree) : Type 0 where
+pub record IsNext (w : Writing) (view : Pair) (op : Op) (tree : Tree) : Type 0 where
   pub allowed : refused w op ≡ None
-  pub after : IsAfter (stamp_of w.begun.place) op.store (w.changes ++ op ∷ []) (tree_in w.base op.store) tree
+  pub seen : IsSeen (stamp_of w.begun.place) (w.changes ++ op ∷ []) w.base (with_tree view op.store tree)
 
--- one more operation, and the tree of its store after it
+-- one more operation
 abbrev pub HasOneMore : Writing → Op → Writing → Type 0
 HasOneMore w op v =
     (v.changes ≡ w.changes ++ op ∷ []) × (v.begun ≡ w.begun) × (v.mode ≡ w.mode) × (v.base ≡ w.base) × IsRight v

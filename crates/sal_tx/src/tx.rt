@@ -1,6 +1,5 @@
 //! Transactions.
-ghost use Rattle.std.specs.Prelude.{◌≡◌, ◌≢◌, ◌⊎◌, ◌↔◌, ◌+◌, ◌*◌, ◌-◌, ◌<◌, ◌^◌, [], Some, IsTrue, IfOk, OnErr, MatchResult};
-ghost use Rattle.sal_types.specs.declared.value.Store.{Store};
+ghost use Rattle.std.specs.Prelude.{◌≡◌, ◌≢◌, ◌⊎◌, ◌↔◌, ◌-◌, ◌<◌, ◌^◌, [], IfSome, IsTrue, IfOk, OnErr, MatchResult};
 ghost use Rattle.sal_types.specs.Tree.{has, under};
 ghost use Rattle.sal_rows.specs.Apply.{apply_ops};
 ghost use Rattle.sal_rows.specs.declared.op.Act.TheVariants.{Put as SetAll, Merge as SetSome, Delete as ClearAll};
@@ -8,10 +7,11 @@ ghost use Rattle.sal_tx.specs.Views as spec;
 ghost use Rattle.sal_rules.specs.Writes.{IsForSchema};
 
 use crate::begun::Begun;
-use crate::writing::{Writing, set_tree, written};
+use crate::views::viewed;
+use crate::writing::{Writing, push, push_first, stamp_of};
 use sal_mod::Mod;
 use sal_rows::{Act, Mode, Op, Ops, Rows};
-use sal_rules::{TxFault, WriteOnly};
+use sal_rules::TxFault;
 use sal_schema::Schema;
 use sal_tree::{Pair, Root, tree_of};
 use sal_types::{Duplicate, NoMemory, Path, Store};
@@ -30,6 +30,8 @@ pub struct ReadTx {
 #[derive(Drop)]
 pub struct WriteTx {
     parts: Writing,
+    /// Its base after its operations, once that was asked for: by a read, or by a second write.
+    view: Option<Pair>,
 }
 
 impl Model for WriteTx {
@@ -40,11 +42,12 @@ impl Model for WriteTx {
 
     ghost coded = { e.the_row.coded };
 
-    ghost use Rattle.sal_tx.specs.Views.{IsRight};
+    ghost use Rattle.std.specs.Prelude.{IfSome};
+    ghost use Rattle.sal_tx.specs.Views.{IsRight, IsView};
 
     ghost view = { λ a. a.parts };
 
-    ghost invariant = { λ a. IsRight a.parts };
+    ghost invariant = { λ a. IsRight a.parts × IfSome a.view (IsView a.parts) };
 }
 
 /// A transaction.
@@ -62,8 +65,25 @@ pub struct Submission {
     pub chain: Option<u64>,
     pub base_commit: u64,
     pub base: Pair,
-    pub view: Pair,
+    /// Its base after its operations, if that was made.
+    pub view: Option<Pair>,
+    /// The stamp of the nodes that its operations make there.
+    pub stamp: u64,
     pub changes: Mod,
+}
+
+impl Submission {
+    /// Its base after its operations.
+    pub fn trees(&self, alloc: Global) -> Result<Pair, NoMemory>
+        requires below { spec.LieBelow self.now.changes }
+        requires view { IfSome self.now.view (spec.Shows self.now.base self.now.changes) }
+        ensures { IfOk result (spec.Shows self.now.base self.now.changes) }
+    {
+        match &self.view {
+            Some(view) => view.copy(),
+            None => viewed(alloc, &self.base, self.changes.ops(), self.stamp),
+        }
+    }
 }
 
 impl ReadTx {
@@ -143,20 +163,16 @@ impl WriteTx {
     pub fn open(alloc: Global, begun: Begun, base: Pair, mode: Mode) -> Result<WriteTx, NoMemory>
         requires writes { mode ≢ Mode.Ro }
         requires low { begun.place < 2 ^ 63 - 1 }
-        ensures { IfOk result (λ tx. tx ≡ record { begun = begun; mode = mode; base = base; view = base; changes = [] }) }
+        ensures { IfOk result (λ tx. tx ≡ record { begun = begun; mode = mode; base = base; changes = [] }) }
     {
-        // For the proof alone: `node` says that the trees are whole.
-        let _ = base.config.node();
-        let _ = base.oper.node();
-        let view = base.copy()?;
         Ok(WriteTx {
             parts: Writing {
                 begun,
                 mode,
                 base,
-                view,
                 changes: Mod::new(alloc),
             },
+            view: None,
         })
     }
 
@@ -227,34 +243,54 @@ impl WriteTx {
         }
     }
 
-    /// The rows at the path and below it, under its own writes. A transaction that only writes refuses.
-    pub fn read(&self, alloc: Global, store: Store, path: &Path) -> Result<Rows, TxFault>
-        ensures rows { IfOk result (λ rows. rows ≡ under (apply_ops (spec.rows_in self.now.base store) store self.now.changes) path.now) }
-        ensures cause { MatchResult result (λ _. self.now.mode ≢ Mode.Wo) (λ e. (e ≡ TxFault.NoMemory) ⊎ ((e ≡ TxFault.WriteOnly) × (self.now.mode ≡ Mode.Wo))) }
+    // Takes out its base after its operations, which is made where it was not.
+    fn take_view(&mut self, alloc: Global) -> Result<Pair, NoMemory>
+        ensures same { self.new ≡ self.old }
+        ensures view { IfOk result (spec.IsView self.old) }
+    {
+        match self.view.take() {
+            Some(view) => Ok(view),
+            None => {
+                let stamp = stamp_of(&self.parts.begun);
+                viewed(alloc, &self.parts.base, self.parts.changes.ops(), stamp)
+            }
+        }
+    }
+
+    /// The rows at the path and below it, under its own writes. A transaction that only writes refuses. Its view may be made for
+    /// the look, which no contract sees: for its caller, and each contract, the transaction stays the same, also where memory runs
+    /// out.
+    pub fn read(&mut self, alloc: Global, store: Store, path: &Path) -> Result<Rows, TxFault>
+        ensures rows { IfOk result (λ rows. rows ≡ under (apply_ops (spec.rows_in self.old.base store) store self.old.changes) path.now) }
+        ensures cause { MatchResult result (λ _. self.old.mode ≢ Mode.Wo) (λ e. (e ≡ TxFault.NoMemory) ⊎ ((e ≡ TxFault.WriteOnly) × (self.old.mode ≡ Mode.Wo))) }
+        ensures same { self.new ≡ self.old }
     {
         if self.only_writes() {
             return Err(TxFault::WriteOnly);
         }
-        let rows = self.view_of(store).rows(alloc, path)?;
-        Ok(rows)
+        let view = self.take_view(alloc)?;
+        let rows = tree_of(&view, store).rows(alloc, path);
+        self.view = Some(view);
+        match rows {
+            Ok(rows) => Ok(rows),
+            Err(NoMemory) => Err(TxFault::NoMemory),
+        }
     }
 
-    /// Whether a row stands at the path or below it, under its own writes. A transaction that only writes refuses. It takes
-    /// no memory.
-    pub fn exists(&self, store: Store, path: &Path) -> Result<bool, WriteOnly>
-        ensures { MatchResult result (λ b. (b ≡ has (apply_ops (spec.rows_in self.now.base store) store self.now.changes) path.now) × (self.now.mode ≢ Mode.Wo)) (λ _. self.now.mode ≡ Mode.Wo) }
+    /// Whether a row stands at the path or below it, under its own writes. A transaction that only writes refuses. As with `read`,
+    /// its view may be made for the look, and the transaction stays the same for each contract.
+    pub fn exists(&mut self, alloc: Global, store: Store, path: &Path) -> Result<bool, TxFault>
+        ensures found { IfOk result (λ b. b ≡ has (apply_ops (spec.rows_in self.old.base store) store self.old.changes) path.now) }
+        ensures cause { MatchResult result (λ _. self.old.mode ≢ Mode.Wo) (λ e. (e ≡ TxFault.NoMemory) ⊎ ((e ≡ TxFault.WriteOnly) × (self.old.mode ≡ Mode.Wo))) }
+        ensures same { self.new ≡ self.old }
     {
         if self.only_writes() {
-            return Err(WriteOnly);
+            return Err(TxFault::WriteOnly);
         }
-        Ok(self.view_of(store).exists(path))
-    }
-
-    fn view_of(&self, store: Store) -> &Root
-        ensures tree { result.now ≡ spec.tree_in self.now.view store }
-        ensures rows { spec.rows_in self.now.view store ≡ apply_ops (spec.rows_in self.now.base store) store self.now.changes }
-    {
-        tree_of(&self.parts.view, store)
+        let view = self.take_view(alloc)?;
+        let found = tree_of(&view, store).exists(path);
+        self.view = Some(view);
+        Ok(found)
     }
 
     /// Sets all at and below the path to what the rows say, and to absent where they are silent.
@@ -323,61 +359,34 @@ impl WriteTx {
         ensures outcome { spec.IsOutcome self.old op self.new result }
         ensures err { OnErr result (self.new ≡ self.old) }
     {
-        let tree = match self.edited(alloc, &op) {
-            Ok(tree) => tree,
-            Err(fault) => return Err(fault),
-        };
-        let store = op.store;
-        match self.parts.changes.add(alloc, op) {
-            Ok(()) => {
-                set_tree(&mut self.parts.view, store, tree);
-                Ok(())
-            }
-            Err(_) => Err(TxFault::NoMemory),
+        if self.parts.changes.ops().is_empty() {
+            self.view = None;
+            return push_first(alloc, &mut self.parts, op);
         }
+        let mut view = self.take_view(alloc)?;
+        let done = push(alloc, &mut self.parts, &mut view, op);
+        self.view = Some(view);
+        done
     }
 
-    // The view of the store after one more operation, unless that is refused.
-    fn edited(&self, alloc: Global, op: &Op) -> Result<Root, TxFault>
-        requires { IsForSchema self.now.begun.schema.value op.now }
-        ensures { MatchResult result (spec.IsNext self.now op.now) (λ e. (e ≡ TxFault.NoMemory) ⊎ (spec.refused self.now op.now ≡ Some e)) }
-    {
-        let stamp = self.parts.begun.place * 2 + 2;
-        let tree = self.view_of(op.store);
-        let base = tree_of(&self.parts.base, op.store);
-        // For the proof alone: `node` says that the trees are whole.
-        let _ = base.node();
-        let _ = tree.node();
-        match written(alloc, self.schema(), tree, op, stamp) {
-            Ok(next) => {
-                // For the proof alone: `node` says that the tree is whole.
-                let _ = next.node();
-                Ok(next)
-            }
-            Err(fault) => Err(fault),
-        }
-    }
-
-    /// The submission of this receipt: the transaction's chain, base, view and operations. It takes no memory.
+    /// The submission of this receipt: the transaction's chain, base and operations, and its view if it was made. It takes no
+    /// memory.
     pub fn into_submission(self, receipt: u64) -> Submission
-        ensures submission { result ≡ record { receipt = receipt; domain = self.begun.domain; chain = self.begun.chain; base_commit = self.begun.base_commit; base = self.base; view = self.view; changes = self.changes } }
+        ensures submission { result ≡ record { receipt = receipt; domain = self.begun.domain; chain = self.begun.chain; base_commit = self.begun.base_commit; base = self.base; view = result.view; stamp = spec.stamp_of self.begun.place; changes = self.changes } }
+        ensures view { IfSome result.view (spec.Shows self.base self.changes) }
         ensures right { spec.IsRight self }
     {
-        let Writing {
-            begun,
-            mode: _,
-            base,
-            view,
-            changes,
-        } = self.parts;
+        let WriteTx { parts, view } = self;
+        let stamp = stamp_of(&parts.begun);
         Submission {
             receipt,
-            domain: begun.domain,
-            chain: begun.chain,
-            base_commit: begun.base_commit,
-            base,
+            domain: parts.begun.domain,
+            chain: parts.begun.chain,
+            base_commit: parts.begun.base_commit,
+            base: parts.base,
             view,
-            changes,
+            stamp,
+            changes: parts.changes,
         }
     }
 }

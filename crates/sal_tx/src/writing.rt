@@ -1,70 +1,119 @@
-//! What a transaction that writes has.
-ghost use Rattle.std.specs.Prelude.{◌≡◌, ◌⊎◌, List, Some, IfOk, MatchResult};
-ghost use Rattle.sal_types.specs.declared.value.Step.{Step};
-ghost use Rattle.sal_types.specs.Tree.{cell, under};
-ghost use Rattle.sal_rows.specs.Apply.{act_setting, cell_by, rows_of_act};
-ghost use Rattle.sal_tree.specs.Follows.{Follows, exactly};
+//! What a transaction that writes has, and one operation more.
+ghost use Rattle.std.specs.Prelude.{◌≡◌, ◌⊎◌, ◌+◌, ◌*◌, ◌-◌, ◌<◌, ◌^◌, [], None, Some, MatchResult, OnErr};
+ghost use Rattle.sal_rows.specs.Apply.{apply_ops};
 ghost use Rattle.sal_tree.specs.Rows.{rows_of};
-ghost use Rattle.sal_tree.specs.Touched.{act_touches};
-ghost use Rattle.sal_rules.specs.Refusals.{refusal};
+ghost use Rattle.sal_tx.specs.Views as spec;
+ghost use Rattle.sal_tx.specs.Views.{IsRight, IsSeen, stamp_of};
 ghost use Rattle.sal_rules.specs.Writes.{IsForSchema};
-ghost use Rattle.sal_tx.specs.Written as spec;
 
 use crate::begun::Begun;
 use crate::refusal::check;
+use crate::views::{next_tree, set_tree};
 use sal_mod::Mod;
-use sal_rows::{Act, Mode, Op};
+use sal_rows::{Mode, Op};
 use sal_rules::TxFault;
 use sal_schema::Schema;
-use sal_tree::{Pair, Root};
-use sal_types::{NoMemory, Store};
+use sal_tree::{Pair, Root, tree_of};
 use std::alloc::Global;
 
-/// The parts of a transaction that writes: its base, its view under its own writes, and its operations.
+/// The parts of a transaction that writes: its base, and its operations.
 #[derive(Drop)]
 pub struct Writing {
     pub begun: Begun,
     pub mode: Mode,
     pub base: Pair,
-    pub view: Pair,
     pub changes: Mod,
 }
 
-/// The tree after the operation, whose touched nodes get the stamp.
-pub fn edited(alloc: Global, tree: &Root, op: &Op, stamp: u64) -> Result<Root, NoMemory>
-    requires { under (rows_of_act op.now.act) op.now.path ≡ rows_of_act op.now.act }
-    ensures cells { IfOk result (λ r. (q : List Step) → cell (rows_of r) q ≡ cell_by (act_setting op.now.path op.now.act q) (cell (rows_of tree.now) q)) }
-    ensures stamps { IfOk result (λ r. Follows (exactly stamp) (act_touches (rows_of tree.now) op.now.path op.now.act) tree.now r) }
+/// The stamp of the nodes that a transaction that began so makes.
+pub(crate) fn stamp_of(begun: &Begun) -> u64
+    requires { begun.now.place < 2 ^ 63 - 1 }
+    ensures { result ≡ stamp_of begun.now.place }
 {
-    match &op.act {
-        Act::Put(rows) => tree.put(alloc, &op.path, rows, stamp),
-        Act::Merge(rows) => tree.merge(alloc, &op.path, rows, stamp),
-        Act::Delete => tree.delete(alloc, &op.path, stamp),
-    }
+    begun.place * 2 + 2
 }
 
-/// The tree after the operation, unless that is refused.
-pub(crate) fn written(
+/// The first operation, unless that is refused. No view is wanted for it: it is looked at over the base.
+pub(crate) fn push_first(alloc: Global, parts: &mut Writing, op: Op) -> Result<(), TxFault>
+    requires right { IsRight parts.old }
+    requires none { parts.old.changes ≡ [] }
+    requires for_schema { IsForSchema parts.old.begun.schema.value op }
+    ensures outcome { spec.IsOutcome parts.old op parts.new result }
+    ensures err { OnErr result (parts.new ≡ parts.old) }
+{
+    match first_checked(alloc, parts, &op) {
+        Ok(()) => {}
+        Err(fault) => return Err(fault),
+    }
+    match parts.changes.add(alloc, op) {
+        Ok(()) => {}
+        Err(_) => return Err(TxFault::NoMemory),
+    }
+    Ok(())
+}
+
+// Refuses a first operation for the first of its causes, if there is one.
+fn first_checked(alloc: Global, parts: &Writing, op: &Op) -> Result<(), TxFault>
+    requires { parts.now.changes ≡ [] }
+    ensures { MatchResult result (λ _. spec.refused parts.now op.now ≡ None) (λ e. (e ≡ TxFault.NoMemory) ⊎ (spec.refused parts.now op.now ≡ Some e)) }
+{
+    let base = tree_of(&parts.base, op.store);
+    // For the proof alone: `node` says that the tree is whole.
+    let _ = base.node();
+    checked(alloc, parts, base, op)
+}
+
+// Refuses an operation for the first of its causes over what the transaction sees, if there is one.
+fn checked(alloc: Global, parts: &Writing, tree: &Root, op: &Op) -> Result<(), TxFault>
+    requires { rows_of tree.now ≡ apply_ops (spec.rows_in parts.now.base op.now.store) op.now.store parts.now.changes }
+    ensures { MatchResult result (λ _. spec.refused parts.now op.now ≡ None) (λ e. (e ≡ TxFault.NoMemory) ⊎ (spec.refused parts.now op.now ≡ Some e)) }
+{
+    check(alloc, schema_of(&parts.begun), tree, op)
+}
+
+fn schema_of(begun: &Begun) -> &Schema
+    ensures { result.now ≡ begun.now.schema.value }
+{
+    &begun.schema
+}
+
+/// One operation more, unless that is refused, with the view after it.
+pub(crate) fn push(
     alloc: Global,
-    schema: &Schema,
-    tree: &Root,
-    op: &Op,
-    stamp: u64,
-) -> Result<Root, TxFault>
-    requires { IsForSchema schema.now op.now }
-    ensures { MatchResult result (spec.IsWritten schema.now stamp tree.now op.now) (λ e. (e ≡ TxFault.NoMemory) ⊎ (refusal schema.now (rows_of tree.now) op.now ≡ Some e)) }
+    parts: &mut Writing,
+    view: &mut Pair,
+    op: Op,
+) -> Result<(), TxFault>
+    requires right { IsRight parts.old }
+    requires seen { IsSeen (stamp_of parts.old.begun.place) parts.old.changes parts.old.base view.old }
+    requires for_schema { IsForSchema parts.old.begun.schema.value op }
+    ensures outcome { spec.IsOutcome parts.old op parts.new result }
+    ensures seen { IsSeen (stamp_of parts.new.begun.place) parts.new.changes parts.new.base view.new }
+    ensures err { OnErr result (parts.new ≡ parts.old) }
 {
-    check(alloc, schema, tree, op)?;
-    let next = edited(alloc, tree, op, stamp)?;
-    Ok(next)
+    let tree = match written(alloc, parts, view, &op) {
+        Ok(tree) => tree,
+        Err(fault) => return Err(fault),
+    };
+    let store = op.store;
+    match parts.changes.add(alloc, op) {
+        Ok(()) => {
+            set_tree(view, store, tree);
+            Ok(())
+        }
+        Err(_) => Err(TxFault::NoMemory),
+    }
 }
 
-/// Puts a tree in the place of that of a store.
-pub(crate) fn set_tree(pair: &mut Pair, store: Store, tree: Root)
-    ensures { pair.new ≡ spec.with_tree pair.old store tree }
+// The tree of its store after one operation more, unless that is refused.
+fn written(alloc: Global, parts: &Writing, view: &Pair, op: &Op) -> Result<Root, TxFault>
+    requires right { IsRight parts.now }
+    requires seen { IsSeen (stamp_of parts.now.begun.place) parts.now.changes parts.now.base view.now }
+    requires for_schema { IsForSchema parts.now.begun.schema.value op.now }
+    ensures { MatchResult result (spec.IsNext parts.now view.now op.now) (λ e. (e ≡ TxFault.NoMemory) ⊎ (spec.refused parts.now op.now ≡ Some e)) }
 {
-    match store {
-        Store::Config => pair.config = tree,
-        Store::Oper => pair.oper = tree,
-    }
+    checked(alloc, parts, tree_of(view, op.store), op)?;
+    let stamp = stamp_of(&parts.begun);
+    let tree = next_tree(alloc, &parts.base, view, op, stamp)?;
+    Ok(tree)
 }

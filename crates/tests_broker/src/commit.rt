@@ -10,7 +10,7 @@ use sal_commit::{Domain, Prepared, can, decide, pre};
 use sal_history::Device;
 use sal_mod::Mod;
 use sal_rows::{Op, Outcome, Rows, Rules};
-use sal_tree::{Commit, Pair};
+use sal_tree::Commit;
 use sal_tx::Submission;
 use sal_types::{Duplicate, NoMemory, Row};
 use std::alloc::Global;
@@ -65,12 +65,6 @@ pub(crate) fn changed(alloc: Global, wish: Wish) -> Result<Mod, Fail>
     Ok(looked_up(alloc, op)?)
 }
 
-fn copies(trees: &Pair) -> Result<(Pair, Pair), NoMemory> {
-    let base = trees.copy()?;
-    let view = trees.copy()?;
-    Ok((base, view))
-}
-
 fn newest(commits: &[Commit]) -> &Commit
     requires { 1 ≤ length commits.now }
     ensures { result.now ≡ slice_index_or commits.now (length commits.now - 1) result.now }
@@ -109,14 +103,15 @@ pub(crate) fn submission(alloc: Global, domain: &Domain, wish: Wish) -> Result<S
     let receipt = next_receipt(domain)?;
     let newest = domain.commits.len() - 1;
     let changes = changed(alloc, wish)?;
-    let (base, view) = copies(&domain.commits[newest].trees)?;
+    let base = domain.commits[newest].trees.copy()?;
     Ok(Submission {
         receipt,
         domain: 0,
         chain: None,
         base_commit: newest as u64,
         base,
-        view,
+        view: None,
+        stamp: 2,
         changes,
     })
 }

@@ -10,7 +10,8 @@ use Rattle.sal_rows.specs.Clash.{tip}
 use Rattle.sal_rows.specs.Touch.{touches}
 use Rattle.sal_graft.specs.Kept.{opening_in, ops_of, rows_in, tree_in}
 use Rattle.sal_commit.specs.Deciding.{LieBelow}
-use Rattle.sal_commit.proofs.Applying.{apply_ops-more, LieBelow-at}
+use Rattle.sal_tx.proofs.Nexts.{LieBelow-at}
+use Rattle.sal_commit.proofs.Applying.{apply_ops-more}
 use Rattle.sal_commit.proofs.Following.{Follows-step}
 use Rattle.sal_commit.proofs.trees.next_trees.Goals as goal
 

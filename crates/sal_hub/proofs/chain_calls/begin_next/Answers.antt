@@ -24,6 +24,9 @@ footing_in-requires-clause-given c =
 pub footing_in-requires-clause-behind : goal.footing_in-requires-clause-behind
 footing_in-requires-clause-behind c = c.requires.kept.current.sound.behind
 
+pub footing_in-requires-clause-seen : goal.footing_in-requires-clause-seen
+footing_in-requires-clause-seen c = λ i s at. (c.requires.kept.current.sound.standing i s at).seen
+
 pub note-requires : goal.note-requires
 note-requires c = λ id same.
     let is : id ≡ c.args.ask.chain.id = sym (same_Some c.id.result id same) ∙ c.id.ensures in

@@ -41,7 +41,7 @@ returns-in-Ok-accept-clause-kept c =
     let free : refusal_of (p.gone + length p.waiting.items - length p.outcomes.items) (mark_at c.args.journal.now.marks tx.begun.place) ≡ None =
     sym (c.refusal.ensures ∙ ap (λ (b : Begun). refusal_of (p.gone + length p.waiting.items - length p.outcomes.items) (mark_at c.args.journal.now.marks b.place)) c.begun.ensures) ∙ c.in-None.is in
     let done = c.in-Ok-accept.ensures in
-    accepted_kept c.args.journal.now c.accept.new.journal p c.accept.new.pipeline c.requires.kept c.args.client tx c.requires.token done.right done.log free c.requires.member done.domains done.failures done.outcomes done.gone done.waiting done.marks
+    accepted_kept c.args.journal.now c.accept.new.journal p c.accept.new.pipeline c.requires.kept c.args.client tx c.requires.token done.right done.waiting.0 done.waiting.1 done.log free c.requires.member done.domains done.failures done.outcomes done.gone done.waiting.2 done.marks
 
 pub returns-in-Ok-accept-clause-answer : goal.returns-in-Ok-accept-clause-answer
 returns-in-Ok-accept-clause-answer c =
@@ -51,7 +51,7 @@ returns-in-Ok-accept-clause-answer c =
     sym (c.refusal.ensures ∙ ap (λ (b : Begun). refusal_of (p.gone + length p.waiting.items - length p.outcomes.items) (mark_at c.args.journal.now.marks b.place)) c.begun.ensures) ∙ c.in-None.is in
     let done = c.in-Ok-accept.ensures in
     subst (λ (r : Given). Made (known_of c.args.journal.now p) (known_of c.accept.new.journal c.accept.new.pipeline) (entry_of (known_of c.args.journal.now p) c.args.client (Submit tx.begun.place tx.changes)) (Receipt r.number)) (sym done.receipt)
-    (accepted_made c.args.journal.now c.accept.new.journal p c.accept.new.pipeline c.requires.kept c.args.client tx c.requires.token done.right done.log free c.requires.member done.domains done.failures done.outcomes done.gone done.waiting done.marks c.requires.room)
+    (accepted_made c.args.journal.now c.accept.new.journal p c.accept.new.pipeline c.requires.kept c.args.client tx c.requires.token done.right done.waiting.0 done.waiting.1 done.log free c.requires.member done.domains done.failures done.outcomes done.gone done.waiting.2 done.marks c.requires.room)
 
 pub returns-in-Ok-accept-clause-given : goal.returns-in-Ok-accept-clause-given
 returns-in-Ok-accept-clause-given c =
@@ -61,7 +61,7 @@ returns-in-Ok-accept-clause-given c =
     sym (c.refusal.ensures ∙ ap (λ (b : Begun). refusal_of (p.gone + length p.waiting.items - length p.outcomes.items) (mark_at c.args.journal.now.marks b.place)) c.begun.ensures) ∙ c.in-None.is in
     let done = c.in-Ok-accept.ensures in
     subst (λ (r : Given). IsGiven (known_of c.accept.new.journal c.accept.new.pipeline) r) (sym done.receipt)
-    (accepted_given c.args.journal.now c.accept.new.journal p c.accept.new.pipeline c.requires.kept c.args.client tx c.requires.token done.right done.log free c.requires.member done.domains done.failures done.outcomes done.gone done.waiting done.marks)
+    (accepted_given c.args.journal.now c.accept.new.journal p c.accept.new.pipeline c.requires.kept c.args.client tx c.requires.token done.right done.waiting.0 done.waiting.1 done.log free c.requires.member done.domains done.failures done.outcomes done.gone done.waiting.2 done.marks)
 
 pub accept-requires-clause-few : goal.accept-requires-clause-few
 accept-requires-clause-few c = few c.args.journal.now c.args.pipeline.now c.requires.kept

@@ -35,18 +35,16 @@ returns-in-Read c =
     let place = c.place_at-in-Read.result in
     let same = c.place_at-in-Read.ensures in
     let step = look_move place.slot place.store place.text.now looks.Read in
-    for_step c.args.readers.now c.args.self.now c.args.self.now step (move_of c.args.step.now) c.look.result
-    ((λ i. asked.Read (same.0 i) (same.1 i) (same.2 i)) ∙ ap move_of (sym c.in-Read.is))
-    (if_ok c.look.result _ _ (λ r. only_answers c.args.readers.now c.args.self.now step r c.requires.schema) c.look.ensures)
+    for_step c.args.readers.now c.args.self.now c.look.new.self step (move_of c.args.step.now) c.look.result
+    ((λ i. asked.Read (same.0 i) (same.1 i) (same.2 i)) ∙ ap move_of (sym c.in-Read.is)) c.look.ensures
 
 pub returns-in-Exists : goal.returns-in-Exists
 returns-in-Exists c =
     let place = c.place_at-in-Exists.result in
     let same = c.place_at-in-Exists.ensures in
     let step = look_move place.slot place.store place.text.now looks.Exists in
-    for_step c.args.readers.now c.args.self.now c.args.self.now step (move_of c.args.step.now) c.look-in-Exists.result
-    ((λ i. asked.Exists (same.0 i) (same.1 i) (same.2 i)) ∙ ap move_of (sym c.in-Exists.is))
-    (if_ok c.look-in-Exists.result _ _ (λ r. only_answers c.args.readers.now c.args.self.now step r c.requires.schema) c.look-in-Exists.ensures)
+    for_step c.args.readers.now c.args.self.now c.look-in-Exists.new.self step (move_of c.args.step.now) c.look-in-Exists.result
+    ((λ i. asked.Exists (same.0 i) (same.1 i) (same.2 i)) ∙ ap move_of (sym c.in-Exists.is)) c.look-in-Exists.ensures
 
 pub returns-in-Mirror : goal.returns-in-Mirror
 returns-in-Mirror c =

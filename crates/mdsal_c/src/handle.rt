@@ -6,7 +6,7 @@ ghost use Rattle.mdsal_c.specs.Handles.{Opens, is_open};
 
 use crate::held::Held;
 use sal_handle::loose::Loose;
-use sal_session::{NO_MEMORY, Session, close};
+use sal_session::{NO_MEMORY, Session, loose};
 use std::alloc::Global;
 use std::mem;
 
@@ -20,25 +20,24 @@ pub struct Mdsal {
 
 impl Mdsal {
     // Takes the session out.
-    pub(crate) fn take(&mut self, alloc: Global) -> Option<Box<Session>>
+    pub(crate) fn take(&mut self, alloc: Global) -> Option<Loose<Session, Global>>
         ensures taken { option_map (λ it. it.value) result ≡ self.old.held.value }
         ensures left { self.new.held.value ≡ None }
     {
         let held = Held::nothing(alloc);
         let Mdsal { full, held } = mem::replace(self, Mdsal { full: false, held });
         if full {
-            let session = held.into_loose().into_box();
-            return Some(session);
+            return Some(held.into_loose());
         }
         None
     }
 
     // Puts a session where none is.
-    pub(crate) fn put(&mut self, session: Box<Session>)
+    pub(crate) fn put(&mut self, session: Loose<Session, Global>)
         requires { self.old.held.value ≡ None }
         ensures { self.new.held.value ≡ Some session.value }
     {
-        let held = Held::of(Loose::of(session));
+        let held = Held::of(session);
         *self = Mdsal { full: true, held };
     }
 
@@ -47,20 +46,24 @@ impl Mdsal {
         ensures open { result ≡ is_open self.old.held.value }
         ensures same { self.new.held.value ≡ self.old.held.value }
     {
-        let Some(session) = self.take(alloc) else {
-            return false;
-        };
-        let is_open = session.is_open();
-        self.put(session);
-        is_open
+        let taken = self.take(alloc);
+        match taken {
+            Some(session) => {
+                let (session, is_open) = loose::is_open(session);
+                self.put(session);
+                is_open
+            }
+            None => false,
+        }
     }
 
     // Lets go of the session.
     pub(crate) fn close(&mut self, alloc: Global)
         ensures { self.new.held.value ≡ None }
     {
-        match self.take(alloc) {
-            Some(session) => close(session),
+        let taken = self.take(alloc);
+        match taken {
+            Some(session) => loose::close(session),
             None => {}
         }
     }
@@ -70,7 +73,7 @@ impl Mdsal {
         requires { self.old.held.value ≡ None }
         ensures { Opens script.now self.new.held.value result }
     {
-        match Session::boxed(alloc, script) {
+        match loose::open(alloc, script) {
             Ok((session, status)) => {
                 self.put(session);
                 status

@@ -9,7 +9,7 @@ mod handle;
 mod held;
 
 use crate::handle::Mdsal;
-use sal_session::{IS_OPEN, NOT_OPEN};
+use sal_session::{IS_OPEN, NOT_OPEN, loose};
 use std::alloc::Global;
 
 /// Opens the broker of a script. Where the script is refused, the handle has the text of why and no broker.
@@ -29,12 +29,15 @@ pub extern "C" fn mdsal_open(alloc: Global, handle: &mut Mdsal, script: &[u8]) -
 pub extern "C" fn mdsal_step(alloc: Global, handle: &mut Mdsal, client: u32, step: &[u8]) -> u32
     ensures { StepsIf handle.old.held.value client step.now handle.new.held.value result }
 {
-    let Some(mut session) = handle.take(alloc) else {
-        return NOT_OPEN;
-    };
-    let status = session.step(alloc, client, step);
-    handle.put(session);
-    status
+    let taken = handle.take(alloc);
+    match taken {
+        Some(session) => {
+            let (session, status) = loose::step(session, alloc, client, step);
+            handle.put(session);
+            status
+        }
+        None => NOT_OPEN,
+    }
 }
 
 /// Copies as much as fits of the text of the last call, and returns how long that is.
@@ -44,12 +47,15 @@ pub extern "C" fn mdsal_reply(alloc: Global, handle: &mut Mdsal, out: &mut [u8])
     ensures length { result ≡ length (reply_of handle.old.held.value) }
     ensures copied { out.new ≡ take (min (length out.old) result) (reply_of handle.old.held.value) ++ drop (min (length out.old) result) out.old }
 {
-    let Some(session) = handle.take(alloc) else {
-        return 0;
-    };
-    let length = copy(session.reply(), out);
-    handle.put(session);
-    length
+    let taken = handle.take(alloc);
+    match taken {
+        Some(session) => {
+            let (session, length) = loose::copy_reply(session, out);
+            handle.put(session);
+            length
+        }
+        None => 0,
+    }
 }
 
 /// Makes the report of all steps so far. It is the text of `mdsal_reply`.
@@ -57,12 +63,15 @@ pub extern "C" fn mdsal_reply(alloc: Global, handle: &mut Mdsal, out: &mut [u8])
 pub extern "C" fn mdsal_report(alloc: Global, handle: &mut Mdsal) -> u32
     ensures { ReportsIf handle.old.held.value handle.new.held.value result }
 {
-    let Some(mut session) = handle.take(alloc) else {
-        return NOT_OPEN;
-    };
-    let status = session.report(alloc);
-    handle.put(session);
-    status
+    let taken = handle.take(alloc);
+    match taken {
+        Some(session) => {
+            let (session, status) = loose::report(session, alloc);
+            handle.put(session);
+            status
+        }
+        None => NOT_OPEN,
+    }
 }
 
 /// Lets go of the broker and of the text. The handle is zeros again.
@@ -71,13 +80,4 @@ pub extern "C" fn mdsal_close(alloc: Global, handle: &mut Mdsal)
     ensures { handle.new.held.value ≡ None }
 {
     handle.close(alloc);
-}
-
-fn copy(from: &[u8], out: &mut [u8]) -> usize
-    ensures length { result ≡ length from.now }
-    ensures copied { out.new ≡ take (min (length out.old) result) from.now ++ drop (min (length out.old) result) out.old }
-{
-    let n = out.len().min(from.len());
-    out[..n].copy_from_slice(&from[..n]);
-    from.len()
 }

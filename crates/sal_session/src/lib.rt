@@ -3,7 +3,7 @@
 //! | item | what it is |
 //! |---|---|
 //! | `Session` | a broker, or none, with the text of the last call: `open`, `boxed`, `step`, `report`, `reply` |
-//! | `close` | lets go of one |
+//! | `loose` | the same behind a pointer, for a host that holds it: what uses it proves nothing of what a broker holds |
 //! | `DONE`, `NO_MEMORY`, .. | the numbers of the statuses |
 //!
 //! ```
@@ -19,6 +19,8 @@ ghost use Rattle.std.specs.Prelude.{◌≡◌, ◌⊎◌, [], IfOk, None, Some};
 ghost use Rattle.std.specs.Option.{is_some};
 ghost use Rattle.sal_prepare.specs.Statuses.{line_of};
 ghost use Rattle.sal_session.specs.Sessions as spec;
+
+pub mod loose;
 
 use sal_embed::{Embedded, StepFault};
 use sal_prepare::status::Status;
@@ -133,11 +135,6 @@ impl Session {
             Err(NoMemory) => NO_MEMORY,
         }
     }
-}
-
-/// Lets go of a session. Only here is all dropped that it has, so a caller proves nothing of that.
-pub fn close(session: Box<Session>) {
-    drop(session);
 }
 
 fn with(broker: Embedded, alloc: Global) -> Session

@@ -13,7 +13,7 @@ use std::sync::Wait;
 /// How many numbers each application takes.
 pub(crate) const NUMBERS: u64 = 100;
 
-// How often an application tries to take one. Each try that fails means that the other application took one meanwhile.
+// How often an application tries to take one. After each failed try the other application has taken one.
 const TRIES: u64 = NUMBERS + 1;
 
 /// Takes all numbers, one after another.
@@ -52,7 +52,7 @@ fn take_number<R: Wait>(
     bail!("the other application took more numbers than it wanted")
 }
 
-// One transaction: whether it was committed. It is not where the other application was faster.
+// One transaction: true if it was committed, false if the other application was faster.
 fn try_once<R: Wait>(
     rt: &R,
     alloc: Global,
@@ -69,7 +69,7 @@ fn try_once<R: Wait>(
     is_done(&outcome)
 }
 
-// A transaction that puts the number behind the last one.
+// A transaction that puts the number after the last one.
 fn counted_up<R: Wait>(
     rt: &R,
     alloc: Global,

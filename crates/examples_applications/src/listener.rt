@@ -16,7 +16,7 @@ pub(crate) struct Listener {
 }
 
 impl Listener {
-    /// Listens from now on. The mirror has what stands there now.
+    /// Listens from now on. The mirror begins with the present rows.
     pub(crate) fn open<R: Wait>(
         rt: &R,
         alloc: Global,
@@ -33,7 +33,7 @@ impl Listener {
         Ok(Listener { id, mirror })
     }
 
-    /// Takes what was committed meanwhile into the mirror: how many commits changed something.
+    /// Takes what was committed since into the mirror, and returns how many commits changed something.
     pub(crate) fn take<R: Wait>(
         &mut self,
         rt: &R,

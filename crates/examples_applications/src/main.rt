@@ -1,17 +1,17 @@
 //! Two applications of a controller share a data broker, each on a thread of its own.
 //!
-//! Both give numbers to tunnels, from one leaf of the configuration that holds the last number given. An application begins a
-//! transaction, reads the leaf, puts the next number, and submits. Where the other one was faster, the broker answers a conflict,
-//! and the application begins again. Before they start, the program itself listens to the whole configuration; when both are
-//! done, it takes what every commit changed into its mirror. What it prints is the same however the two threads were scheduled.
+//! Both give numbers to tunnels, from one leaf of the configuration with the last number given. An application begins a
+//! transaction, reads the leaf, puts the next number, and submits. If the other one was faster, the broker answers a conflict, and
+//! the application begins again. Before they start, the program itself listens to the whole configuration; when both are done, it
+//! takes what every commit changed into its mirror. What it prints is the same however the two threads were scheduled.
 //!
 //! | file | what it shows |
 //! |---|---|
 //! | `device` | from YANG text to a domain of the broker |
 //! | `counter` | a leaf that is read and put in a transaction |
-//! | `application` | begin, read, put, submit, settle, and once more after a conflict |
+//! | `application` | begin, read, put, submit, settle, and again after a conflict |
 //! | `listener` | a listener, and a mirror of what was committed |
-//! | `threads` | a seat for each application, and the broker closed behind them |
+//! | `threads` | a seat for each application; close |
 #![tactic(auto)]
 
 mod application;

@@ -19,13 +19,13 @@ pub(crate) struct End {
     pub(crate) last: u64,
     /// How many commits there are.
     pub(crate) commits: u64,
-    /// Of how many commits the listener was told.
+    /// How many commits the listener took.
     pub(crate) told: usize,
     /// Whether the listener's mirror is the committed tree.
     pub(crate) is_mirrored: bool,
 }
 
-/// Opens a broker for the applications, lets them take their numbers, and tells what that came to.
+/// Opens a broker for the applications, lets them take their numbers, and returns what was left.
 pub(crate) fn share<R: Threads + Wait + Sync>(rt: &R, alloc: Global) -> anyhow::Result<End> {
     let schema = schema(alloc)?;
     let counter = Counter::at(alloc, &schema, "/tunnels:tunnels/last-number")?;

@@ -8,7 +8,7 @@ use sal::{
 };
 use std::alloc::Global;
 
-/// The leaf of the configuration that holds the last number given. Where it is absent none was given.
+/// The leaf of the configuration with the last number given. It is absent if none was given.
 #[derive(Drop)]
 pub(crate) struct Counter {
     path: Path,
@@ -27,7 +27,7 @@ impl Counter {
         &self.path
     }
 
-    /// Puts the number behind the last one given, as the transaction sees it.
+    /// Puts the number after the last one given, as the transaction sees it.
     pub(crate) fn count_up(&self, alloc: Global, tx: &mut WriteTx) -> anyhow::Result<()>
         ensures begun { tx.new.begun ≡ tx.old.begun }
         ensures base { tx.new.base ≡ tx.old.base }

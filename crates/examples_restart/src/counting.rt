@@ -23,7 +23,7 @@ pub(crate) fn count(
     Ok(hub)
 }
 
-// Puts the number behind the last one.
+// Puts the number after the last one.
 fn count_up(alloc: Global, hub: &mut Hub, counter: &Counter) -> anyhow::Result<()> {
     let tx = counted_up(alloc, hub, counter)?;
     let receipt = submit(alloc, hub, tx)?;
@@ -31,7 +31,7 @@ fn count_up(alloc: Global, hub: &mut Hub, counter: &Counter) -> anyhow::Result<(
     must_be_done(&outcome)
 }
 
-// A transaction that puts the number behind the last one.
+// A transaction that puts the number after the last one.
 fn counted_up(alloc: Global, hub: &mut Hub, counter: &Counter) -> anyhow::Result<WriteTx>
     ensures { IfOk result (λ tx. IsBegun hub.new tx.begun tx.base) }
 {

@@ -17,7 +17,7 @@ const HALF: u64 = 3;
 pub(crate) struct End {
     /// How many bytes the frames of the first one have.
     pub(crate) bytes: usize,
-    /// The commit that the follower held.
+    /// The follower's commit.
     pub(crate) held: u64,
     /// How many commits the second one made.
     pub(crate) commits: u64,
@@ -61,7 +61,7 @@ fn follow(alloc: Global, schema: Arc<Schema>, stream: &[u8]) -> anyhow::Result<F
     Ok(follower_of(alloc, schema, patterns, stream)?)
 }
 
-// What the second controller makes of it.
+// The second controller, from the trees of the follower.
 fn second_half(
     alloc: Global,
     bytes: usize,

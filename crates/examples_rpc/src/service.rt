@@ -17,7 +17,7 @@ pub(crate) fn schema(alloc: Global) -> anyhow::Result<Schema> {
     Ok(schema_of(alloc, &[NUMBERS])?)
 }
 
-/// The RPC `next-number`: its node, and the paths of its two leafs. The data of an RPC stand below its input and below its output.
+/// The RPC `next-number`: its node, and the paths of its two leafs. The data of an RPC are below its input and below its output.
 #[derive(Drop)]
 pub(crate) struct Service {
     pub(crate) rpc: u32,

@@ -3,12 +3,12 @@
 //! | item | what it is |
 //! |---|---|
 //! | `Sal`, `Seat` | the broker; a thread's place at it |
-//! | `Held` | a turn at the broker in the caller's hands |
+//! | `Held` | a turn at the broker that the caller keeps |
 //! | `Device`, `Opening`, `OpenFault` | a domain before the first commit, its opening trees, why they are refused |
 //! | `Rules` | the version rules, 1 or 2 |
 //! | `Hub` | what a closed broker leaves: its log and its trees |
 //! | `Mode`, `Tx`, `ReadTx`, `WriteTx`, `TxFault` | transactions, and why a write or a read is refused |
-//! | `Receipt`, `Outcome`, `ClashKind`, `Rule` | a submission, and what became of it |
+//! | `Receipt`, `Outcome`, `ClashKind`, `Rule` | a submission, and its outcome |
 //! | `Chain`, `ListenerId`, `CallId` | the tokens of a chain, of a listener, of a request |
 //! | `Opened`, `Batch`, `Part`, `Change`, `CandidateKind`, `Mirror`, `MirrorFault` | what a listener gets, and a copy that follows it |
 //! | `Request`, `Note`, `NoteList` | what a provider takes, and what a subscriber takes |
@@ -23,10 +23,10 @@
 //! | `is_for`, `is_place` | whether a transaction may put or merge these rows there, and whether it may delete there |
 //! | `what_is_read_is_readable` | does nothing: the law that shows what `build` requires |
 //!
-//! The `specs/` name the definitions that the contracts of these calls cite, so a clause of an application names
-//! `Rattle.sal.specs.Turns.{Keeps}`. `proofs/` has what each application shows: which types may go to another thread
-//! (`Sendable`), that seats which were joined answer for all numbers given (`AllJoined`), and that a world of one device without
-//! upgrades is one of versions, as `Sal::open` requires (`OneVersion`).
+//! `specs/` has the definitions that the contracts of these calls cite: a clause of an application names
+//! `Rattle.sal.specs.Turns.{Keeps}`. `proofs/` has what each application has to show: which types may go to another thread
+//! (`Sendable`), that joined seats answer for all numbers given (`AllJoined`), and that one device without upgrades is what
+//! `Sal::open` requires of versions (`OneVersion`).
 //!
 //! ```
 //! let schema = Arc::new(alloc, schema_of(alloc, &[TEXT])?)?;
@@ -45,7 +45,7 @@
 //! | `is_for` | that of `fits_rows` and a walk along the path |
 //! | `is_place` | a walk along the path |
 //!
-//! The costs of the others stand at the heads of the crates that have them.
+//! The heads of the crates that have the other calls say what these cost.
 #![tactic(auto)]
 
 mod devices;

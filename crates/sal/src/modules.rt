@@ -1,7 +1,6 @@
 //! From the texts of modules to their schema.
-ghost use Rattle.std.specs.Prelude.{◌<◌, ◌^◌, ◌∷◌, [], IfOk, IsTrue, length};
-ghost use Rattle.std.specs.List.{sum_by};
-ghost use Rattle.sal.specs.Modules.{AreRead, IsSchemaOf, texts_in};
+ghost use Rattle.std.specs.Prelude.{◌≡◌, ◌↔◌, ◌<◌, ◌^◌, ◌∷◌, [], IfErr, IfOk, IsTrue, length};
+ghost use Rattle.sal.specs.Modules.{AreRead, AreShort, IsFaultOf, IsSchemaOf, IsUnread, IsUnreadAmong, texts_in};
 
 use sal_build::build;
 use sal_build::laws::what_is_read_is_readable;
@@ -33,21 +32,30 @@ pub enum SchemaFault {
 }
 
 impl From<AllocError> for SchemaFault {
+    ghost use Rattle.sal.specs.declared.modules.SchemaFault.TheVariants.{NoMemory};
+
+    ghost from_gives = { λ _ e. e ≡ NoMemory };
+
     fn from(_refused: AllocError) -> SchemaFault {
         SchemaFault::NoMemory
     }
 }
 
 impl<T: Drop> From<AllocFailed<T>> for SchemaFault {
+    ghost use Rattle.sal.specs.declared.modules.SchemaFault.TheVariants.{NoMemory};
+
+    ghost from_gives = { λ _ e. e ≡ NoMemory };
+
     fn from(_refused: AllocFailed<T>) -> SchemaFault {
         SchemaFault::NoMemory
     }
 }
 
-/// The schema of the modules with these texts, or why they have none. The first text that can't be read counts, and then the
-/// first fault of the modules.
+/// The schema of the modules with these texts, or their first fault: that they are too long, else that of the first text that is
+/// no statement, else that of all modules.
 pub fn schema_of(alloc: Global, texts: &[&str]) -> Result<Schema, SchemaFault>
-    ensures { IfOk result (IsSchemaOf (texts_in texts.now)) }
+    ensures schema { IfOk result (IsSchemaOf (texts_in texts.now)) }
+    ensures fault { IfErr result (IsFaultOf (texts_in texts.now)) }
 {
     if !are_short(texts) {
         return Err(SchemaFault::TooLong);
@@ -58,9 +66,10 @@ pub fn schema_of(alloc: Global, texts: &[&str]) -> Result<Schema, SchemaFault>
 
 // The schema that the statements of the texts build.
 fn built(alloc: Global, texts: &[&str], stmts: &[Stmt]) -> Result<Schema, SchemaFault>
-    requires short { sum_by (λ text. length text.now) texts.now < 2 ^ 32 }
+    requires short { AreShort (texts_in texts.now) }
     requires read { AreRead (texts_in texts.now) stmts.now }
-    ensures { IfOk result (IsSchemaOf (texts_in texts.now)) }
+    ensures schema { IfOk result (IsSchemaOf (texts_in texts.now)) }
+    ensures fault { IfErr result (IsFaultOf (texts_in texts.now)) }
 {
     what_is_read_is_readable();
     match build(alloc, stmts) {
@@ -72,8 +81,9 @@ fn built(alloc: Global, texts: &[&str], stmts: &[Stmt]) -> Result<Schema, Schema
 
 // The statements of the texts.
 fn statements_of(alloc: Global, texts: &[&str]) -> Result<Vec<Stmt>, SchemaFault>
-    requires { sum_by (λ text. length text.now) texts.now < 2 ^ 32 }
-    ensures { IfOk result (λ stmts. AreRead (texts_in texts.now) stmts.items) }
+    requires { AreShort (texts_in texts.now) }
+    ensures read { IfOk result (λ stmts. AreRead (texts_in texts.now) stmts.items) }
+    ensures fault { IfErr result (IsUnreadAmong (texts_in texts.now)) }
 {
     let mut stmts = Vec::with_capacity(alloc, texts.len())?;
     for (module, text) in texts.iter().enumerate() {
@@ -84,20 +94,24 @@ fn statements_of(alloc: Global, texts: &[&str]) -> Result<Vec<Stmt>, SchemaFault
 }
 
 // The statement of the text with this number.
-fn statement_of(alloc: Global, module: usize, text: &str) -> Result<Stmt, SchemaFault>
+fn statement_of(alloc: Global, number: usize, text: &str) -> Result<Stmt, SchemaFault>
     requires { length text.now < 2 ^ 32 }
-    ensures { IfOk result (λ stmt. AreRead (text.now ∷ []) (stmt ∷ [])) }
+    ensures read { IfOk result (λ stmt. AreRead (text.now ∷ []) (stmt ∷ [])) }
+    ensures fault { IfErr result (IsUnread number text.now) }
 {
     match read_module(alloc, text) {
         Ok(stmt) => Ok(stmt),
         Err(StmtFault::NoMemory) => Err(SchemaFault::NoMemory),
-        Err(fault) => Err(SchemaFault::Text { module, fault }),
+        Err(fault) => Err(SchemaFault::Text {
+            module: number,
+            fault,
+        }),
     }
 }
 
 // Whether the texts have fewer than 2^32 bytes together.
 fn are_short(texts: &[&str]) -> bool
-    ensures { IsTrue result → sum_by (λ text. length text.now) texts.now < 2 ^ 32 }
+    ensures { IsTrue result ↔ AreShort (texts_in texts.now) }
 {
     let mut room = MAX_BYTES;
     for text in texts {

@@ -85,8 +85,7 @@ impl Sal {
         answer
     }
 
-    /// Decides what is pending, up to and including the receipt, and answers its outcome. Where memory is wanting, all that
-    /// was pending stays pending.
+    /// Decides all pending receipts up to this one, and returns its outcome. If memory runs out, all stay pending.
     pub fn settle<R: Wait>(
         &self,
         rt: &R,
@@ -107,8 +106,8 @@ impl Sal {
         answer
     }
 
-    /// Decides the first receipt that is pending, and answers it with its outcome; none where no receipt is pending. Where
-    /// memory is wanting, it stays pending.
+    /// Decides the first pending receipt, and returns it with its outcome, or none if no receipt is pending. If memory runs
+    /// out, it stays pending.
     pub fn pump<R: Wait>(
         &self,
         rt: &R,

@@ -21,7 +21,7 @@
 //!
 //! `specs/Turns` says what a call does for a caller with a seat (`InTurn`): the log that its turn found begins with all that
 //! the seat had seen, with just the seat's own entries of its number; the answer is the one that the model gives for the call's
-//! entry behind that log; and then the seat has seen that log and the entry. What other threads do between the calls shows
+//! entry after that log; and then the seat has seen that log and the entry. What other threads do between the calls shows
 //! only in the log that is found.
 //!
 //! ```
@@ -34,15 +34,15 @@
 //! | call | cost |
 //! |---|---|
 //! | `open`, `over` | that of `Hub::open`, or nothing; and the lock's memory |
-//! | the calls, `enter` | a turn at the lock, some 50 ns where no other thread wants one; and what the hub's call costs |
+//! | the calls, `enter` | a turn at the lock, some 150 ns while it is free; and what the hub's call costs |
 //! | `after`, `enter_after` | a turn and one search among the marks for each look, at most 4,194,304 of them; asleep between the looks while the log grows, and for a second after it grew last |
-//! | `split`, `join`, `leave` | one or two atomic steps; `leave` also tells how long the log is |
+//! | `split`, `join`, `leave` | one or two atomic steps; `leave` also stores the log's length beside the lock |
 //!
 //! A call waits for its turn: no contract says that it returns, and a caller that entered and never leaves keeps all others out.
-//! How a seat waits stands in the head of `sal_turn`. A client that looks for a mark reads how long the log is from a word beside
-//! the lock, without a turn. It takes a turn where that has changed. Its sleeps are bounded, and nobody wakes it, so those
-//! who work do nothing for those who wait: at first it looks at the word for some 30 microseconds; then it sleeps 32 microseconds, each
-//! time twice as long, up to 2 milliseconds.
+//! The head of `sal_turn` says how a seat waits. A client that looks for a mark reads the log's length from a word beside the
+//! lock, without a turn, and takes a turn if the length has changed. Nobody wakes it, so clients that work do nothing for clients
+//! that wait. At first it looks at the word for some 30 microseconds; then it sleeps 32 microseconds, each time twice as long, up to
+//! 2 milliseconds.
 #![tactic(auto)]
 
 mod calls;

@@ -19,8 +19,7 @@ use std::alloc::Global;
 use std::sync::Wait;
 
 impl Sal {
-    /// Makes a listener of the store of the domain at the path and below it, and answers what stands there at the newest
-    /// commit.
+    /// Makes a listener at the path of a store of the domain, and returns the rows at and below it at the newest commit.
     pub fn listen<R: Wait>(
         &self,
         rt: &R,

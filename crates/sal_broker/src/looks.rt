@@ -48,7 +48,7 @@ impl Sal {
     ///
     /// Between two looks it sleeps, and it looks no more often than the log grows. Once the log has not grown for about a second,
     /// it makes the looks that are left without waiting, which takes less than a second more on a machine with little else to
-    /// do. Of several clients that come to that, one does it at a time, so a client may wait for each of the others.
+    /// do. Only one client at a time does so, so a client may wait for each of the others.
     pub fn after<R: Wait>(
         &self,
         rt: &R,
@@ -70,8 +70,8 @@ impl Sal {
     }
 
     /// Takes turns, without an entry, until one finds a log that has the mark, or `MAX_LOOKS` turns were taken; that turn is
-    /// the caller's. Where it is not the first, the log that the turn before it left, which the seat has seen, has no such mark: so no
-    /// turn is taken behind one that found it. It waits between them as `after` does.
+    /// the caller's. If it is not the first, the log that the turn before it left, which the seat has seen, has no such mark: so no
+    /// turn follows one that found it. It waits between them as `after` does.
     pub fn enter_after<R: Wait>(&self, rt: &R, seat: Seat, mark: u32) -> Held
         requires { seat.lock ≡ self.now }
         ensures same { (result.lock ≡ self.now) × SameRights seat.view result.view × (result.view.own ≡ seat.view.own) }

@@ -41,7 +41,7 @@ impl Sal {
         answer
     }
 
-    /// Ends the client's registration. Requests that wait for the client go on waiting for it.
+    /// Ends the client's registration. Requests that wait for the client keep waiting for it.
     pub fn withdraw<R: Wait>(
         &self,
         rt: &R,
@@ -84,7 +84,7 @@ impl Sal {
         answer
     }
 
-    /// Takes the next request that waits for the client; none where none waits.
+    /// Takes the next request that waits for the client, or none.
     pub fn next_call<R: Wait>(
         &self,
         rt: &R,
@@ -122,7 +122,7 @@ impl Sal {
         answer
     }
 
-    /// The answer to a request that the client made; none where it is not answered yet.
+    /// The answer to a request that the client made, or none if it is not answered yet.
     pub fn collect<R: Wait>(
         &self,
         rt: &R,

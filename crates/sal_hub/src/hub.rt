@@ -246,8 +246,7 @@ impl Hub {
         Ok(())
     }
 
-    /// Decides what is pending, up to and including the receipt, and answers its outcome. Where memory is wanting, all that
-    /// was pending stays pending.
+    /// Decides all pending receipts up to this one, and returns its outcome. If memory runs out, all stay pending.
     pub fn settle(
         &mut self,
         alloc: Global,
@@ -271,8 +270,8 @@ impl Hub {
         }
     }
 
-    /// Decides the first receipt that is pending, and answers it with its outcome; none where no receipt is pending. Where
-    /// memory is wanting, it stays pending.
+    /// Decides the first pending receipt, and returns it with its outcome, or none if no receipt is pending. If memory runs
+    /// out, it stays pending.
     pub fn pump(
         &mut self,
         alloc: Global,
@@ -367,8 +366,7 @@ impl Hub {
         Ok(())
     }
 
-    /// Makes a listener of the store of the domain at the path and below it, and answers what stands there at the newest
-    /// commit.
+    /// Makes a listener at the path of a store of the domain, and returns the rows at and below it at the newest commit.
     pub fn listen(
         &mut self,
         alloc: Global,

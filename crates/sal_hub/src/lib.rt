@@ -6,53 +6,51 @@
 //! | `Hub::open` | a hub over some devices, whose opening trees fit at the root, unless one is refused (`OpenFault`); each device has its domain, the first is the controller's own |
 //! | `Hub::begin`, `submit`, `cancel`, `settle`, `pump` | the shared calls: each makes one entry of the log and is answered as the log gives |
 //! | `Hub::open_chain`, `chain_begin`, `close_chain` | the same, of transaction chains (MD-SAL `DOMTransactionChain`) |
-//! | `Hub::listen`, `take`, `unlisten` | the same, of listeners (MD-SAL `DOMDataTreeChangeListener`): what stands at a path, and then what each commit changed there |
+//! | `Hub::listen`, `take`, `unlisten` | the same, of listeners (MD-SAL `DOMDataTreeChangeListener`): the rows at a path, and then what each commit changed there |
 //! | `Hub::mount`, `unmount`, `mount_at` | the same, of mounts (MD-SAL `DOMMountPointService`): the domain of a device is live from its mount to its unmount |
 //! | `Hub::provide`, `withdraw`, `invoke`, `next_call`, `answer`, `collect` | the same, of RPCs (MD-SAL `DOMRpcProviderService`, `DOMRpcService`): who answers which RPC, the requests, and what they are answered (`sal_rpc`) |
 //! | `Hub::subscribe`, `offer`, `take_notes` | the same, of notifications (MD-SAL `DOMNotificationService`, `DOMNotificationPublishService`): who gets which, and what waits for whom (`sal_note`) |
-//! | `Hub::upgrade` | the same: the controller's own domain goes over to the next version of its schema, unless a newest tree would break a rule by it |
-//! | `Hub::mark`, `after`, `has_mark` | the same, of marks, by which clients can tell each other how far they are; and a look that makes no entry |
+//! | `Hub::upgrade` | the same: the controller's own domain gets the next version of its schema, unless a newest tree would break a rule of it |
+//! | `Hub::mark`, `after`, `has_mark` | the same, of marks, by which clients show each other how far they are; and a look that makes no entry |
 //! | `Receipt`, `Chain`, `ListenerId`, `CallId` | the tokens of a submission, of a chain, of a listener and of a request |
 //! | `Seen` | what a look for a mark finds |
 //! | `Hub::stays_closed`, `keeps_the_rules` | do nothing: their contracts are the laws that committed trees are closed by the present versions of their schemas, and that the newest break no rule of them |
 //! | `laws` | a function that does nothing, with a law of the tokens as its contract |
 //!
 //! Each call tests first that the log has room, then takes all memory that it needs, and changes what is seen last and all at
-//! once: where memory is wanting, the hub is as it was. A settle that finds no memory takes back what it decided, and a call on a
-//! service that finds none takes its entry back.
+//! once: if memory runs out, the hub is as it was. A settle that finds no memory undoes what it decided, and a call on a
+//! service that finds none removes its entry.
 //!
-//! A submission is let go once it was decided, with its base, its view if it was made, and the look-ups of its operations: what stays of it is its
-//! entry in the log, its outcome and, where it is done, its commit. A settle that finds no memory lets nothing go. The operations are
-//! copied once, for the entry, and the commit has the same list.
+//! A decided submission is dropped, with its base, its view (if it was made) and the look-ups of its operations: its entry in the
+//! log, its outcome and, if it is done, its commit stay. A settle that finds no memory drops nothing. The operations are copied once, for the entry,
+//! and the commit has the same list.
 //!
-//! What is kept beside the log is tied to it by `specs/Current`: the submissions that wait, the outcomes, the marks of spent
-//! transactions and the flags of live domains are those of the answered log, and each submission is lawful over what its
-//! transaction stands on (`sal_history_laws`), from opening trees that are closed, and each domain has the version that the log's upgrades
-//! give; `specs/PipelineView` says that the commits of each domain, and the receipts by which chains failed, are those that the outcomes
-//! tell. What is kept of chains is tied to the log by
-//! `specs/Chains`, what is kept of listeners by `specs/Listeners`, the marks that were left by `specs/Marks`, and what each
-//! service keeps of its calls by `specs/Services`; `specs/Whole` has them all.
+//! Invariants tie to the log what is kept beside it. By `specs/Current` the pending submissions, the outcomes, the flags of spent
+//! transactions and of live domains are those of the answered log; each submission is lawful over its transaction's base
+//! (`sal_history_laws`), from closed opening trees; and each domain has the version that the log's upgrades give. By
+//! `specs/PipelineView` the commits of each domain, and the receipts by which chains failed, are those of the outcomes. `specs/Chains`
+//! does so for chains, `specs/Listeners` for listeners, `specs/Marks` for marks, `specs/Services` for services; `specs/Whole` has
+//! them all.
 //!
 //! A domain that is not live begins no transaction, opens no chain and makes no listener, and a submission that is decided after
 //! the unmount is not committed. Listeners of it are answered as before.
 //!
-//! The controller's own domain has all versions of its schema from the start, and `upgrade` goes to the next one. Decisions are by the
+//! The controller's own domain has all versions of its schema from the start, and `upgrade` goes to the next one. Decisions use the
 //! present version. A transaction keeps the version of its begin, by which it reads and writes, and what was lawful by that version is
-//! so by each later one (`sal_history_laws`), so that no submission is looked at. Whether a listened path has a row of its own is told by the
-//! last version. An upgrade makes the plan of the version's rules and checks the newest trees before its entry is added, and takes no
-//! memory behind it.
+//! so by each later one (`sal_history_laws`), so an upgrade looks at no submission. Whether a listened path has a row of its own follows
+//! from the last version. An upgrade makes the plan of the version's rules and checks the newest trees before its entry is added, and
+//! takes no memory after it.
 //!
 //! The next transaction of a chain begins on the chain's last submission while that is pending: it shares the view of that
 //! submission, or makes it where nobody asked for it, and has its base commit. Else it begins at the newest commit. A chain that failed begins no transaction, and its
 //! pending submissions are decided by the receipt that failed. All transactions of a chain are of one domain.
 //!
-//! A listener is asked by its client: nothing is kept of what it was not told but the number of the last commit of which it was.
-//! A batch is made from the commits of the domain when it is taken.
+//! Of a listener the hub keeps the number of the commit up to which its client has taken. A batch is made from the commits of the
+//! domain when it is taken.
 //!
-//! A service knows nothing of the hub: it keeps what its own calls come to, and answers whatever they were (`sal_rpc`,
-//! `sal_note`, `sal_mount`). The hub adds the entry of such a call, gives the call to the service, and hands on its answer, so
-//! that what the service keeps is at all times what the log's calls on it come to. A refused call is an entry, and a call of the
-//! service, too.
+//! A service knows nothing of the hub: its state is a function of its own calls, and it answers whatever they were (`sal_rpc`,
+//! `sal_note`, `sal_mount`). The hub adds the entry of such a call, gives the call to the service, and returns its answer, so
+//! the service's state is at all times that of the log's calls on it. A refused call is an entry, and a call of the service, too.
 //!
 //! ```
 //! let mut hub = Hub::open(alloc, devices, Rules::One)?;
@@ -63,7 +61,7 @@
 //! |---|---|
 //! | `open` | for each device the nodes of its trees, and the check of both |
 //! | `log`, `domains`, `newest`, `trees`, `newest_of`, `trees_of` | constant |
-//! | `begin`, `cancel`, `open_chain`, `chain_begin`, `close_chain` | one search among the clients; a begin shares the nodes of the trees that it stands on |
+//! | `begin`, `cancel`, `open_chain`, `chain_begin`, `close_chain` | one search among the clients; a begin shares the nodes of its base |
 //! | `mark`, `after`; `has_mark` | the same, and one search among the marks; that search alone |
 //! | `listen` | one search among the clients, and a copy of the rows at the path and below it |
 //! | `take` | the same search, and the changes of each commit after the listener's version (`sal_listen`) |
@@ -71,7 +69,7 @@
 //! | `mount`, `unmount`, `mount_at` | the same, and some searches among mounts (`sal_mount`); a mount copies its path twice |
 //! | `upgrade` | one search among the clients, the plan of the version's rules, and the check of both newest trees of domain 0 (`sal_check`); nothing for each entry or commit |
 //! | `submit` | the same, and a copy of the operations for the log, which the commit shares |
-//! | `settle`, `pump` | the decision of each pending submission up to the receipt, or of the first (`sal_commit`), and one number for each domain; where memory is wanting, one look at each chain |
+//! | `settle`, `pump` | the decision of each pending submission up to the receipt, or of the first (`sal_commit`), and one number for each domain; if memory runs out, one look at each chain |
 //! | `provide`, `withdraw` | one search among the clients, two among the registrations, and a copy of the context for the log |
 //! | `invoke` | the same, one more search among the queues, and a copy of the input for the log |
 //! | `next_call`, `take_notes` | one search among the clients and one among the queues; nothing is copied |

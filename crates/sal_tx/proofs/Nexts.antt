@@ -30,7 +30,6 @@ use Rattle.sal_tx.specs.Views.{IsAfter, IsRight, HasOneMore, IsSeen, IsView, Are
 use Rattle.sal_rules.specs.Writes.{IsForSchema}
 use Rattle.sal_tx.specs.declared.writing.Writing.{Writing}
 use Rattle.sal_types.specs.declared.value.Store.TheVariants.{Config, Oper}
-use Rattle.sal_rows.specs.declared.outcome.Mode.TheVariants.{Ro}
 
 -- the tree of the operation's store
 pub IsAfter-more : (stamp : ℕ) (ops : List Op) (op : Op) (base view next : Tree) → IsGrove base.kids → IsGrove view.kids → IsGrove next.kids

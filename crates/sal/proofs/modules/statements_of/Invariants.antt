@@ -4,4 +4,4 @@ use Rattle.sal.specs.Modules.{AreRead, texts_in}
 use Rattle.sal.proofs.modules.statements_of.Given as goal
 
 abbrev pub invariant-loop-module : goal.invariant-loop-module
-invariant-loop-module l = AreRead (texts_in (take l.module l.texts)) l.stmts.items
+invariant-loop-module l = AreRead (take l.module (texts_in l.texts)) l.stmts.items

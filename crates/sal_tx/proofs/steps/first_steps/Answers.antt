@@ -1,4 +1,4 @@
-use Rattle.std.proofs.Common.{◌≡◌, ◌≤◌, ◌∙◌, take, length, ap, arith}
+use Rattle.std.proofs.Common.{◌≤◌, ◌∙◌, take, length, ap, arith}
 use Rattle.std.proofs.lemmas.List.{length-take-le}
 use Rattle.std.proofs.lemmas.Grind.{common_steps}
 use Rattle.sal_tx.proofs.steps.first_steps.Goals as goal

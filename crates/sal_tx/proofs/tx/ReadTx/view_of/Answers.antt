@@ -1,5 +1,5 @@
 -- A base under no operations is itself.
-use Rattle.std.proofs.Common.{◌≡◌, [], ap, sym, ◌∙◌, subst}
+use Rattle.std.proofs.Common.{◌≡◌, [], subst}
 use Rattle.sal_rows.specs.Apply.{apply_ops}
 use Rattle.sal_node.specs.Tree.{Tree}
 use Rattle.sal_tree.specs.Rows.{rows_of}

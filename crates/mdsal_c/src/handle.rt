@@ -82,3 +82,10 @@ impl Mdsal {
         }
     }
 }
+
+// What C holds may go to another thread.
+pub(crate) fn handles_may_move() {
+    may_move::<Mdsal>();
+}
+
+fn may_move<T: Send>() {}

@@ -27,6 +27,9 @@ impl Model for Held {
     ghost also_owns = { λ h. held_owns (ghosts.dealloc_token h.alloc) session_row h.at h.value };
 }
 
+// It goes where its session may go.
+unsafe impl Send for Held {}
+
 impl Held {
     pub(crate) fn of(session: Loose<Session, Global>) -> Held
         ensures { result.value ≡ Some session.value }

@@ -16,7 +16,8 @@
 ** OWED BY A CALLER, at each call
 **
 **   - The handle began as zeros, and only these functions wrote into it. It may be moved; a copy of it is not used beside it.
-**   - One call at a time on one handle, and all calls on it from one thread. Two handles have nothing to do with each other.
+**   - One call at a time on one handle. The calls may come from different threads, if a lock, or a thread's start or join, orders them;
+**     hold the lock over a step and the copy of its reply. Two handles have nothing to do with each other.
 **   - No pointer is null, also where its length is 0; each is valid for its length; and `out` overlaps neither the handle nor the
 **     broker's memory.
 **   - malloc, realloc and free are those of one allocator. No call is made from a signal handler, nor in the child of a fork in a

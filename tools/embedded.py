@@ -11,6 +11,7 @@ import resource
 import shutil
 import subprocess
 import sys
+import threading
 import time
 
 from kit import ROOT
@@ -217,6 +218,43 @@ def refused(mdsal, broker, step, fault):
         return
     if fault:
         raise Differs(f"the step {step[:80]} has the reply {reply!r}, and should be none")
+
+
+# ---- threads
+
+def threads(folder, room):
+    """Lets eight threads share a broker, each as a client of its own, until each has counted its own mark a thousand times."""
+    mdsal, wrong, count = library(folder), [], 1000
+    with mdsal.Broker("{}") as broker:
+        def works(client):
+            for i in range(count):
+                replies = [broker.step(client, step) for step in (["begin", 0, 0, "rw"], ["put", 0, "config", f"/plain:box/{chr(97 + client)}", str(i)], ["submit", 0], ["settle", 0])]
+                if not (replies[0].startswith("begun ") and replies[1] == "ok" and replies[2].startswith("receipt ") and replies[3].startswith("done ")):
+                    wrong.append(replies)
+
+        workers = [threading.Thread(target=works, args=(client,)) for client in range(8)]
+        for it in workers:
+            it.start()
+        for it in workers:
+            it.join()
+        report = broker.report()
+        broker_moved(mdsal, wrong)
+    lines = report.split("\n")
+    last = f'tree 0 {8 * count} {{"plain:box":{{{",".join(f"{chr(34)}{chr(97 + it)}{chr(34)}:{chr(34)}{count - 1}{chr(34)}" for it in range(8))}}}}} {{}}'
+    if wrong or lines[-2] != last or len(lines) != 8 * 4 * count + 3:
+        raise Differs(f"eight threads at one broker: {wrong[:2]}, and at the end {lines[-2][:300]}")
+    return f"Python: eight threads share a broker, {8 * 4 * count} steps; one opens a broker that another one uses and closes"
+
+
+def broker_moved(mdsal, wrong):
+    """Opens a broker on one thread, and uses and closes it on another."""
+    made = []
+    opener = threading.Thread(target=lambda: made.append(mdsal.Broker("{}")))
+    opener.start()
+    opener.join()
+    with made.pop() as broker:
+        if broker.step(0, ["begin", 0, 0, "rw"]) != "begun 0":
+            wrong.append("a broker that moved")
 
 
 # ---- want of memory

@@ -11,14 +11,14 @@ A script is a text, bytes, or an object that `json.dumps` writes; so is a step. 
 `refused`. What has none raises: `BadScript`, `BadSchema`, `BadOpening`, `BadStep`, `BadClient`, `Full`, `Lost`, `Untold`, `Broken`, `Closed` are all
 `Error`; want of memory is `MemoryError`. `embed/mdsal.h` says what each means.
 
-A broker stays on the thread that opened it: a call from another thread raises `WrongThread`.
+Threads may share a broker: each call holds its lock, so a step has its own reply.
 """
 import ctypes
 import json
 import os
 import threading
 
-__all__ = ["Broker", "Error", "BadScript", "BadSchema", "BadOpening", "BadStep", "BadClient", "Full", "Lost", "Untold", "Broken", "Closed", "WrongThread"]
+__all__ = ["Broker", "Error", "BadScript", "BadSchema", "BadOpening", "BadStep", "BadClient", "Full", "Lost", "Untold", "Broken", "Closed"]
 
 
 class Error(Exception):
@@ -65,10 +65,6 @@ class Closed(Error):
     """No broker is open."""
 
 
-class WrongThread(Error):
-    """The broker was opened by another thread."""
-
-
 _FAULTS = {6: BadScript, 7: BadSchema, 8: BadOpening, 10: MemoryError, 21: Closed, 23: BadStep, 24: BadClient, 25: Full, 26: Lost, 27: Untold, 28: Broken}
 _CLIENTS = 65536
 
@@ -103,7 +99,7 @@ class Broker:
     value of MDSAL_LIBRARY, or else libmdsal.so beside this file."""
 
     def __init__(self, script, library=None):
-        self._handle, self._thread = _Handle(), threading.get_ident()
+        self._handle, self._lock = _Handle(), threading.Lock()
         self._library = _library(library or os.environ.get("MDSAL_LIBRARY") or os.path.join(os.path.dirname(os.path.abspath(__file__)), "libmdsal.so"))
         text = _bytes(script)
         status = self._library.mdsal_open(self._handle, text, len(text))
@@ -114,23 +110,27 @@ class Broker:
 
     def step(self, client, step):
         """Makes the client's next step, and returns the text of its reply."""
-        self._stay()
         if not 0 <= client < _CLIENTS:
             raise BadClient(f"client {client}")
         text = _bytes(step)
-        self._done(self._library.mdsal_step(self._handle, client, text, len(text)), f"client {client}: {text.decode(errors='replace')}")
-        return self._reply()
+        with self._lock:
+            status = self._library.mdsal_step(self._handle, client, text, len(text))
+            if not status:
+                return self._reply()
+        raise self._fault(status, f"client {client}: {text.decode(errors='replace')}")
 
     def report(self):
         """Returns the report of all steps so far, as `mdsal sim` writes it."""
-        self._stay()
-        self._done(self._library.mdsal_report(self._handle), "report")
-        return self._reply()
+        with self._lock:
+            status = self._library.mdsal_report(self._handle)
+            if not status:
+                return self._reply()
+        raise self._fault(status, "report")
 
     def close(self):
         """Lets go of the broker. It may be called again."""
-        self._stay()
-        self._library.mdsal_close(self._handle)
+        with self._lock:
+            self._library.mdsal_close(self._handle)
 
     def __enter__(self):
         return self
@@ -139,17 +139,9 @@ class Broker:
         self.close()
 
     def __del__(self):
-        # (also where __init__ failed early; a handle of another thread is left alone)
-        if getattr(self, "_library", None) and threading.get_ident() == self._thread:
+        # (also where __init__ failed early; no call is under way, since nobody has the broker)
+        if getattr(self, "_library", None):
             self._library.mdsal_close(self._handle)
-
-    def _stay(self):
-        if threading.get_ident() != self._thread:
-            raise WrongThread("a broker stays on the thread that opened it")
-
-    def _done(self, status, what):
-        if status:
-            raise self._fault(status, what)
 
     @staticmethod
     def _fault(status, what):

@@ -7,10 +7,9 @@
 //! # Ok::<(), mdsal::Error>(())
 //! ```
 //!
-//! A step that the broker refuses has a reply, which begins with `refused`. What has none is an [`Error`]. A [`Broker`] stays on its
-//! thread: it is neither `Send` nor `Sync`. It is closed when it is dropped.
+//! A step that the broker refuses has a reply, which begins with `refused`. What has none is an [`Error`]. A [`Broker`] may go to another
+//! thread; to share it, put it behind a `Mutex`. It is closed when it is dropped.
 use std::fmt;
-use std::marker::PhantomData;
 use std::ptr;
 
 #[repr(C)]
@@ -100,8 +99,11 @@ impl std::error::Error for Error {}
 /// A broker over the opening trees of a script without clients and order.
 pub struct Broker {
     handle: Handle,
-    stays: PhantomData<*mut u8>,
 }
+
+// SAFETY: that what a handle holds may go to another thread is proved (`handles_may_move` of crates/mdsal_c), and `&mut self` gives one
+// call at a time.
+unsafe impl Send for Broker {}
 
 impl Broker {
     /// Opens a broker.
@@ -110,10 +112,7 @@ impl Broker {
             full: false,
             at: ptr::null_mut(),
         };
-        let mut broker = Broker {
-            handle,
-            stays: PhantomData,
-        };
+        let mut broker = Broker { handle };
         let script = script.as_ref();
         // SAFETY: the handle is zeros; the pointer and the length are those of a slice.
         let status = unsafe { mdsal_open(&mut broker.handle, script.as_ptr(), script.len()) };

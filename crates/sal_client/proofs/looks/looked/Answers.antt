@@ -1,5 +1,5 @@
 -- A path that is none, or what the transaction sees there.
-use Rattle.std.proofs.Common.{◌≡◌, Some, ap, sym, ◌∙◌}
+use Rattle.std.proofs.Common.{◌≡◌, Some, ◌∙◌}
 use Rattle.sal_script.specs.Tables.{table_at}
 use Rattle.sal_pathtext.specs.Read.{read_path}
 use Rattle.sal_script.specs.Services.{path_or}

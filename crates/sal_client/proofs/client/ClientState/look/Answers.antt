@@ -1,5 +1,5 @@
 -- A look into an empty slot, or into the transaction that stands there, and stands there again.
-use Rattle.std.proofs.Common.{◌≡◌, Some, ap, sym, ◌∙◌, subst}
+use Rattle.std.proofs.Common.{◌≡◌, Some, sym, subst}
 use Rattle.sal_client.specs.Looks.{look_move}
 use Rattle.sal_client.specs.Slots.{held}
 use Rattle.sal_client.specs.Meeting.{Answers}

@@ -10,7 +10,7 @@ use Rattle.sal_embed.specs.declared.fault.StepFault.TheVariants.{BadStep, BadCli
 use Rattle.sal_session.specs.declared.Session.{Session}
 use Rattle.sal_embed.specs.Opening.{IsBegun, opened, world_of}
 use Rattle.sal_embed.specs.Outcomes.{Reports, Steps}
-use Rattle.sal_session.specs.Sessions.{Fails, IsClosed, Opens, ReportsIf, StepsIf, is_broken, kept, number_of, step_number, text_of}
+use Rattle.sal_session.specs.Sessions.{IsClosed, Opens, ReportsIf, StepsIf, is_broken, kept, step_number, text_of}
 
 -- ---- a broker is opened, or none is
 

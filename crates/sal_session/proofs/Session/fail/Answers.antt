@@ -1,5 +1,5 @@
 -- A broken broker is let go of.
-use Rattle.std.proofs.Common.{◌≡◌, ◌∙◌, ◌⊎◌, ℕ, Bool, true, false, Option, None, if◌then◌else◌, refl, ap, sym}
+use Rattle.std.proofs.Common.{◌≡◌, ◌∙◌, Bool, true, Option, None, if◌then◌else◌, refl, ap, sym}
 use Rattle.sal_embed.specs.declared.clients.Clients.{Clients}
 use Rattle.sal_embed.specs.declared.fault.StepFault.{StepFault}
 use Rattle.sal_embed.specs.declared.fault.StepFault.TheVariants.{BadStep, BadClient, Full, Lost, NoMemory, Untold, Broken}

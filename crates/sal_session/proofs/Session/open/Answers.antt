@@ -1,5 +1,5 @@
 -- A broker was opened, or the status says why none was.
-use Rattle.std.proofs.Common.{refl, ◌∙◌}
+use Rattle.std.proofs.Common.{◌∙◌}
 use Rattle.sal_session.proofs.Kept.{opens_with, opens_without}
 use Rattle.sal_session.proofs.Session.open.Goals as goal
 

@@ -1,5 +1,5 @@
 -- No broker is open, or it makes the report.
-use Rattle.std.proofs.Common.{◌≡◌, Ok, Err, refl, ap, sym, ◌∙◌}
+use Rattle.std.proofs.Common.{refl}
 use Rattle.sal_session.proofs.Kept.{none_is, reports_closed, reports_none, reports_open}
 use Rattle.sal_session.proofs.Session.report.Goals as goal
 

@@ -1,5 +1,5 @@
 -- No broker is open, or it makes the step.
-use Rattle.std.proofs.Common.{◌≡◌, ℕ, List, Result, Ok, Err, refl, sym, ◌∙◌}
+use Rattle.std.proofs.Common.{Ok, Err, refl, sym, ◌∙◌}
 use Rattle.sal_session.proofs.Kept.{kept_by, none_is, steps_closed, steps_open}
 use Rattle.sal_session.proofs.Session.step.Goals as goal
 

@@ -209,15 +209,15 @@ Reader-send = search (Schema-send, Schema-sync, Patterns-send, Patterns-sync, cr
 Readers-send : IsSend Readers.the_row
 Readers-send = search (Reader-send, crosses, maps.crosses, sendable) depth 40 fits 20000
 
-Caller-send : IsSend Caller.the_row
-Caller-send = search (ClientRun-field_send, crosses, maps.crosses, sendable) depth 40 fits 20000
+Caller-field_send : IsSend (Caller.the_field).row
+Caller-field_send = search (ClientRun-field_send, crosses, maps.crosses, sendable) depth 40 fits 20000
 
-Clients-send : IsSend Clients.the_row
-Clients-send = search (Hub-send, Caller-send, crosses, maps.crosses, sendable) depth 40 fits 20000
+Clients-field_send : IsSend (Clients.the_field).row
+Clients-field_send = search (Hub-send, Caller-field_send, crosses, maps.crosses, sendable) depth 40 fits 20000
 
-Embedded-field_send : IsSend (Embedded.the_field).row
-Embedded-field_send = search (Clients-send, Schema-send, Schema-sync, Readers-send, crosses, maps.crosses, sendable) depth 40 fits 20000
+Embedded-send : IsSend Embedded.the_row
+Embedded-send = search (Clients-field_send, Schema-send, Schema-sync, Readers-send, crosses, maps.crosses, sendable) depth 40 fits 20000
 
 -- a session may go to another thread
 pub Session-send : IsSend Session.the_row
-Session-send = search (Embedded-field_send, Str-here.the_send, crosses, maps.crosses, sendable) depth 40 fits 20000
+Session-send = search (Embedded-send, Str-here.the_send, crosses, maps.crosses, sendable) depth 40 fits 20000

@@ -1,0 +1,209 @@
+/*
+** Calls that a careless host makes. Each answers its status, and leaves the broker as it was.
+**
+**   hostile          tries them all, and prints `c: ok`
+**   hostile STEPS    makes so many shared calls after that, and prints how long one took; the call beyond 1,000,000 is refused
+**
+** Built with WRONG, LEAK or ROOM it does what it should not, for tools/embed to see that it is reported.
+*/
+#include "mdsal.h"
+
+#include <stdio.h>
+#include <stdlib.h>
+#include <string.h>
+#include <time.h>
+
+static uint8_t text[1 << 16];
+static size_t text_length;
+
+#define CHECK(that) \
+    do { \
+        if (!(that)) { \
+            fprintf(stderr, "hostile: line %d: %s\n%.*s\n", __LINE__, #that, (int)text_length, text); \
+            exit(1); \
+        } \
+    } while (0)
+
+static uint32_t opened(mdsal *broker, const char *script) {
+    uint32_t status = mdsal_open(broker, (const uint8_t *)script, strlen(script));
+    text_length = mdsal_reply(broker, text, sizeof text);
+    return status;
+}
+
+static uint32_t stepped(mdsal *broker, uint32_t client, const char *step) {
+    uint32_t status = mdsal_step(broker, client, (const uint8_t *)step, strlen(step));
+    text_length = mdsal_reply(broker, text, sizeof text);
+    return status;
+}
+
+static bool said(const char *what) {
+    return text_length == strlen(what) && memcmp(text, what, text_length) == 0;
+}
+
+/* Each function may be called on a closed handle. */
+static void closed(mdsal *broker) {
+    CHECK(stepped(broker, 0, "[\"pump\"]") == MDSAL_NOT_OPEN && said(""));
+    CHECK(mdsal_report(broker) == MDSAL_NOT_OPEN);
+    CHECK(mdsal_reply(broker, text, sizeof text) == 0);
+    mdsal_close(broker);
+    CHECK(!broker->full && broker->at == NULL);
+    mdsal_close(broker);
+}
+
+/* A refused script leaves no broker, and the line of its status. */
+static void bad_scripts(void) {
+    static const struct {
+        const char *script;
+        uint32_t status;
+        const char *line;
+    } cases[] = {
+        {"", MDSAL_BAD_SCRIPT, "bad script at json\n"},
+        {"{", MDSAL_BAD_SCRIPT, "bad script at json\n"},
+        {"[]", MDSAL_BAD_SCRIPT, "bad script at script\n"},
+        {"{\"model\":[]}", MDSAL_BAD_SCRIPT, "bad script at script\n"},
+        {"{\"modules\":7}", MDSAL_BAD_SCRIPT, "bad script at modules\n"},
+        {"{\"clients\":[{\"steps\":[]}]}", MDSAL_BAD_SCRIPT, "bad script at clients\n"},
+        {"{\"order\":[0]}", MDSAL_BAD_SCRIPT, "bad script at order\n"},
+        {"{\"rules\":3}", MDSAL_BAD_SCRIPT, "bad script at rules\n"},
+        {"{\"modules\":[\"module m {\"]}", MDSAL_BAD_SCHEMA, NULL},
+        {"{\"config\":{\"plain:box\":7}}", MDSAL_BAD_OPENING, NULL},
+    };
+    for (size_t i = 0; i < sizeof cases / sizeof *cases; i++) {
+        mdsal broker = {0};
+        CHECK(opened(&broker, cases[i].script) == cases[i].status);
+        CHECK(cases[i].line == NULL ? text_length > 0 : said(cases[i].line));
+        CHECK(stepped(&broker, 0, "[\"pump\"]") == MDSAL_NOT_OPEN && said(""));
+        CHECK(opened(&broker, "{}") == MDSAL_OK && said(""));
+        mdsal_close(&broker);
+        closed(&broker);
+    }
+}
+
+/* What is no step is refused, whoever makes it. */
+static void bad_steps(mdsal *broker) {
+    static const char *const steps[] = {
+        "", " ", "{", "{}", "null", "7", "\"pump\"", "[", "[]", "[7]", "[null]", "[[]]", "[\"pump\"", "[\"pump\"],", "[\"pump\"] x", "[\"pump\"]]}],\"order\":[0",
+        "[\"pump\",0]", "[\"Pump\"]", "[\"\"]", "[\"begin\"]", "[\"begin\",0]", "[\"begin\",0,0]", "[\"begin\",0,0,\"rw\",0]", "[\"begin\",256,0,\"rw\"]",
+        "[\"begin\",-1,0,\"rw\"]", "[\"begin\",0.5,0,\"rw\"]", "[\"begin\",\"0\",0,\"rw\"]", "[\"begin\",0,4294967296,\"rw\"]", "[\"begin\",0,0,\"wr\"]",
+        "[\"put\",0,\"config\",\"/plain:box/a\"]", "[\"put\",0,\"state\",\"/plain:box/a\",\"x\"]", "[\"put\",0,\"config\",7,\"x\"]", "[\"submit\"]",
+        "[\"submit\",0,0]", "[\"upgrade\",0]", "[\"upgrade\",17]", "[\"mark\",4294967296]", "[\"provide\",\"m:r\",7]", "\xff", "[\"mark\",\xff]",
+#ifdef WRONG
+        "[\"pump\"]",
+#endif
+    };
+    for (size_t i = 0; i < sizeof steps / sizeof *steps; i++) {
+        CHECK(stepped(broker, 0, steps[i]) == MDSAL_BAD_STEP && said(""));
+        CHECK(stepped(broker, MDSAL_CLIENTS, steps[i]) == MDSAL_BAD_CLIENT && said(""));
+    }
+    CHECK(stepped(broker, MDSAL_CLIENTS, "[\"pump\"]") == MDSAL_BAD_CLIENT && said(""));
+    CHECK(stepped(broker, UINT32_MAX, "[\"pump\"]") == MDSAL_BAD_CLIENT && said(""));
+}
+
+/* The text is copied as far as there is room, and no byte behind it is written. */
+static void rooms(mdsal *broker) {
+    uint8_t out[64];
+    CHECK(stepped(broker, 0, "[\"mark\",7]") == MDSAL_OK && said("ok"));
+    CHECK(stepped(broker, 0, "[\"begin\",0,0,\"rw\"]") == MDSAL_OK && said("begun 0"));
+    for (size_t room = 0; room <= sizeof out; room++) {
+        size_t fits = room < 7 ? room : 7;
+        memset(out, '#', sizeof out);
+        CHECK(mdsal_reply(broker, out, room) == 7);
+        CHECK(memcmp(out, "begun 0", fits) == 0);
+        for (size_t i = fits; i < sizeof out; i++) {
+            CHECK(out[i] == '#');
+        }
+    }
+}
+
+/* The report is copied whole into a block of its own length, and in part into each smaller one. */
+static void report_rooms(mdsal *broker) {
+    CHECK(mdsal_report(broker) == MDSAL_OK);
+    size_t length = mdsal_reply(broker, text, sizeof text);
+    CHECK(length > 40 && length < sizeof text);
+    for (size_t room = 0; room <= length + 1; room++) {
+        size_t fits = room < length ? room : length;
+        uint8_t *out = malloc(room > 0 ? room : 1);
+        CHECK(out != NULL);
+        memset(out, '#', room);
+#ifdef ROOM
+        CHECK(mdsal_reply(broker, out, room + 1) == length);
+#else
+        CHECK(mdsal_reply(broker, out, room) == length);
+#endif
+        CHECK(memcmp(out, text, fits) == 0 && (room <= length || out[length] == '#'));
+        free(out);
+    }
+}
+
+/* A handle may be moved, and opened again once it is closed. */
+static void moved(void) {
+    mdsal first = {0}, second;
+    for (int i = 0; i < 3; i++) {
+        CHECK(opened(&first, "{}") == MDSAL_OK);
+        CHECK(stepped(&first, 0, "[\"begin\",0,0,\"rw\"]") == MDSAL_OK && said("begun 0"));
+        second = first;
+        CHECK(stepped(&second, 0, "[\"submit\",0]") == MDSAL_OK && said("receipt 1"));
+        CHECK(stepped(&second, 0, "[\"submit\",0]") == MDSAL_OK && said("refused empty-slot"));
+        mdsal_close(&second);
+        first = second;
+        closed(&first);
+    }
+}
+
+/* Two handles have nothing to do with each other; an open one is not opened again; the last client's number is a client's. */
+static void others(mdsal *broker) {
+    mdsal other = {0};
+    CHECK(opened(&other, "{}") == MDSAL_OK);
+    CHECK(stepped(&other, 0, "[\"after\",7]") == MDSAL_OK && said("late"));
+    CHECK(stepped(broker, 1, "[\"after\",7]") == MDSAL_OK && said("found"));
+    CHECK(opened(broker, "{") == MDSAL_IS_OPEN && said("found"));
+    CHECK(stepped(&other, MDSAL_CLIENTS - 1, "[\"pump\"]") == MDSAL_OK && said("nothing"));
+    CHECK(mdsal_report(&other) == MDSAL_OK);
+    text_length = mdsal_reply(&other, text, sizeof text);
+    CHECK(said("order 0 65535\n0 0 late\n65535 0 nothing\ntree 0 0 {} {}\n"));
+    mdsal_close(&other);
+    closed(&other);
+}
+
+/* Makes shared calls until the log is full, or so many. */
+static void many(mdsal *broker, unsigned long steps) {
+    clock_t start = clock();
+    for (unsigned long i = 3; i < steps; i++) {
+        CHECK(stepped(broker, 0, "[\"after\",7]") == (i < 1000000 ? MDSAL_OK : MDSAL_FULL));
+    }
+    printf("%.2f microseconds a step\n", (double)(clock() - start) / CLOCKS_PER_SEC * 1e6 / (double)(steps - 3));
+    if (steps >= 1000000) {
+        CHECK(stepped(broker, 0, "[\"pump\"]") == MDSAL_FULL && said(""));
+        CHECK(stepped(broker, 2, "[\"pump\"]") == MDSAL_FULL && said(""));
+        CHECK(stepped(broker, 0, "[\"put\",0,\"config\",\"/plain:box/a\",\"x\"]") == MDSAL_OK && said("ok"));
+        CHECK(stepped(broker, 0, "[\"read\",0,\"config\",\"/plain:box/a\"]") == MDSAL_OK && said("data \"x\""));
+        CHECK(stepped(broker, 0, "[\"settle\",0]") == MDSAL_OK && said("refused empty-slot"));
+        CHECK(stepped(broker, 0, "[\"submit\",0]") == MDSAL_FULL && said(""));
+        CHECK(stepped(broker, 0, "[\"read\",0,\"config\",\"/plain:box/a\"]") == MDSAL_OK && said("data \"x\""));
+        CHECK(mdsal_report(broker) == MDSAL_OK);
+        printf("a report of %zu bytes\n", mdsal_reply(broker, text, sizeof text));
+    }
+}
+
+int main(int argc, char **argv) {
+    mdsal broker = {0};
+    closed(&broker);
+    bad_scripts();
+    CHECK(opened(&broker, "{}") == MDSAL_OK && said(""));
+    bad_steps(&broker);
+    rooms(&broker);
+    report_rooms(&broker);
+    moved();
+    others(&broker);
+    if (argc > 1) {
+        many(&broker, strtoul(argv[1], NULL, 10));
+    }
+#ifdef LEAK
+    memset(&broker, 0, sizeof broker);
+#else
+    mdsal_close(&broker);
+#endif
+    closed(&broker);
+    puts("c: ok");
+    return 0;
+}

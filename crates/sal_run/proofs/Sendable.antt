@@ -127,7 +127,7 @@ Writing-field_send : IsSend (Writing.the_field).row
 Writing-field_send = search (Begun-field_send, Mode-here.the_field_send, Pair-field_send, Mod-here.the_send, crosses, maps.crosses, sendable) depth 40 fits 20000
 
 WriteTx-send : IsSend WriteTx.the_row
-WriteTx-send = search (Writing-field_send, crosses, maps.crosses, sendable) depth 40 fits 20000
+WriteTx-send = search (Writing-field_send, Pair-field_send, crosses, maps.crosses, sendable) depth 40 fits 20000
 
 Tx-send : IsSend Tx.the_row
 Tx-send = search (ReadTx-field_send, WriteTx-send, crosses, maps.crosses, sendable) depth 40 fits 20000

@@ -1,28 +1,26 @@
 -- `of` takes the loose box, and hides its type.
-use Rattle.std.proofs.Common.{◌≡◌, List, [], ◌∷◌, ◌++◌, refl, sym, ap, subst, lit<}
+use Rattle.std.proofs.Common.{◌≡◌, List, [], ◌∷◌, ◌++◌, refl, sym, subst}
 use mir.Val.{Val, vptr}
 use base.Logic.{SProp, ent, emp, id⊢}
 use base.Fml.{ftrue}
 use prog.Wp.{WpFn}
-use types.Kit.{‵, raw, ◌⊛◌, ◌$◌, ◌∵◌, !, qed, by, move, keep, drop, split, fsplit, fjoin, suffices, use0}
-use types.Run.{stop, fld, lit, of_opd, no_more, and_then, returns, enter}
+use types.Kit.{‵, raw, ◌⊛◌, ◌$◌, ◌∵◌, !, qed, by, move, keep, split, fsplit, fjoin, suffices, use0}
+use types.Run.{stop, fld, of_opd, no_more, and_then, returns, enter}
 use types.ByLocal.{alloc_all, pass_all, free_all, look_at, get, get_in, sets}
 use types.Part.{agg, sub, whole}
 use contract.Monad.{fact, fact_i}
 use contract.Running.{tables}
 use denote.Exit.{yes}
-use denote.RattleType.{RattleType, owns}
+use denote.RattleType.{owns}
 use denote.Signature.{types_at, plain}
-use denote.RawPtr.{block_ptr, null_ptr, ptr_val}
-use denote.Steps.{nothing, heard}
+use denote.RawPtr.{block_ptr}
+use denote.Steps.{nothing}
 use denote.Triple.Walked.{Stays, stay_dropped, walk_of, Goes-dropped}
-use Rattle.core.proofs.alloc.Calls.{Goes-blank, handle_tells}
-use Rattle.core.proofs.atomic.Steps.{Ptr-Good}
 use Rattle.std.proofs.raw_atomic.Walks.{proved_at, leaves}
 use Rattle.std.specs.contracts.impls.GlobalAllocator.TheImpl.{ghosts}
-use Rattle.std.specs.declared.option.Option.TheVariants.{None, Some}
-use Rattle.sal_handle.proofs.Values.{both, Loose, loose_good, loose_in, loose_out}
-use Rattle.mdsal_c.proofs.Values.{R, Z, LZ, Held, al, held_out, held_in, held_none}
+use Rattle.std.specs.declared.option.Option.TheVariants.{Some}
+use Rattle.sal_handle.proofs.Values.{both, Loose, loose_good, loose_out}
+use Rattle.mdsal_c.proofs.Values.{R, Z, LZ, held_in}
 use Rattle.mdsal_c.specs.contracts.held.Held.of.{ended, clauses}
 use Rattle.mdsal_c.specs.contracts.held.Held.of.Key.{name as #self}
 use Rattle.mdsal_c.proofs.held.Held.of.Statement.{statement}

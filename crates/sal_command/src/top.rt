@@ -36,47 +36,47 @@ usage: mdsal run < SCRIPT\n\
 \n\
 run reads a JSON script from standard input, runs its clients at the same time, each on a thread of its own, and\n\
 writes the report to standard output: the order of their shared calls, a line for each step, and the trees at the\n\
-end. The script's format is written in docs/FORMATS.md, and examples/ has scripts with their reports.\n\
+end. docs/FORMATS.md has the format of a script, and examples/ scripts with their reports.\n\
 \n\
-sim plays the same on one thread, in the order that the script gives, and writes the report of that.\n\
+sim plays the same on one thread, in the script's order, and writes the report.\n\
 \n\
 load runs four clients at the same time, each on a thread of its own, and reads no input: in each of N rounds each puts\n\
-an entry with a number into one list, in a transaction of its own. The numbers are S + 1 and on. It writes how many calls,\n\
-commits and rows that made, and the sum of the numbers. N is 1 to 10000, and S 0 to 65536.\n\
+an entry into one list, in a transaction of its own. The entries are numbered from S + 1. It writes how many calls, commits\n\
+and rows there are at the end, and the sum of the numbers. N is 1 to 10000, and S 0 to 65536.\n\
 \n\
 schema reads a script too, and writes the table of the schema that its modules build.\n\
 \n\
 owner reads a JSON array of steps, in which clients register for entities such as switches and ask who owns them, and writes\n\
 a line for each step with its reply. The first registered candidate of an entity owns it.\n\
 \n\
-export plays a script as sim does, and writes the commits of the controller's own domain as frames, which a follower takes.\n\
+export plays a script as sim does, and writes the commits of the controller's own domain as frames, for a follower.\n\
 \n\
-follow reads a script for its modules and upgrades, then a zero byte, then frames. It writes the line of the domain with the trees\n\
-of the last commit, as the report ends with it.\n\
+follow reads a script for its modules and upgrades, then a zero byte, then frames. It writes the domain's trees after the last\n\
+commit, as the last line of a report.\n\
 \n\
-feed hands N notifications, numbered from 0, from one thread to another over a feed in which C wait at most, and reads no input.\n\
-It writes how many came, and the sum of their numbers. N is 1 to 100000, and C 1 to 4096.\n\
+feed sends N notifications, numbered from 0, from one thread to another through a feed for at most C, and reads no input.\n\
+It writes how many arrived, and the sum of their numbers. N is 1 to 100000, and C 1 to 4096.\n\
 \n\
-draw plays a script as sim does, or in the order that the first line of the report tells, and writes a picture of what its clients\n\
-did to each other, as SVG, of the entries from place FROM of the log to place TO. FROM and TO are 0 to 1000000.\n\
+draw plays a script as sim does, or in the order on the first line of the report, and writes a picture of what its clients did\n\
+to each other, as SVG: of the whole log, or of its entries from place FROM to place TO. FROM and TO are 0 to 1000000.\n\
 \n\
-audit reads a script, then a zero byte, then a report. It writes yes where that is the report of the script for the order on its first\n\
-line, and else no with the number of the first line that differs, from 0.\n\
+audit reads a script, then a zero byte, then a report. It writes yes if that is the report of the script for the order on its first\n\
+line, else no and the number of the first line that differs, from 0.\n\
 \n\
 exit status, each but 0 with its line on standard error:\n\
   0  done: the whole text was written\n\
   2  bad words: the command line is none of the forms above\n\
   3  read fault\n\
-  4  write fault: a front of the text may have been written\n\
+  4  write fault: a prefix of the text may have been written\n\
   5  too long: the input has more than 16777216 bytes\n\
   6  bad script at PLACE: the first bad place, as clients/0/2\n\
   7  bad schema DEVICE FAULT: the modules build no schema, as bad schema 0 module 0 unclosed 9\n\
   8  bad opening DEVICE STORE FAULT: an opening tree is no data of the schema, or it breaks a rule of it\n\
-  9  bad order at INDEX, sim, export and draw alone: the order names a client without a shared call left, or ends too early\n\
+  9  bad order at INDEX, sim, export and draw only: the order names a client without a shared call left, or ends too early\n\
  10  no memory\n\
- 11  no second part, follow and audit alone: the input has no zero byte\n\
- 12  bad stream FAULT, follow alone: bad-frame BYTE, gap WANTED FOUND or unfinished BYTE\n\
- 13  bad export COMMIT, export alone: the text of a frame has more than 16777216 bytes\n";
+ 11  no second part, follow and audit only: the input has no zero byte\n\
+ 12  bad stream FAULT, follow only: bad-frame BYTE, gap WANTED FOUND or unfinished BYTE\n\
+ 13  bad export COMMIT, export only: the text of a frame has more than 16777216 bytes\n";
 
 /// The name and version.
 pub const VERSION: &str = "mdsal 0.1.0\n";

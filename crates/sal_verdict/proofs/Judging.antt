@@ -1,5 +1,5 @@
 -- The verdict is the one that is meant.
-use Rattle.std.proofs.Common.{◌≡◌, ◌⊎◌, ◌↔◌, ℕ, zero, suc, ◌^◌, ◌<◌, List, [], ◌∷◌, length, slice_get, Option, None, Some, Result, Ok, Err, IsOk, is_some, refl, ap, sym, ◌∙◌, subst, arith}
+use Rattle.std.proofs.Common.{◌≡◌, ℕ, suc, ◌^◌, ◌<◌, List, [], ◌∷◌, length, slice_get, Option, None, Some, Result, Ok, Err, IsOk, is_some, inl, inr, refl, ap, sym, ◌∙◌, subst, arith}
 use Rattle.std.specs.List.{All}
 use Rattle.std.specs.Prelude.{unwrap_or}
 use Rattle.std.proofs.lemmas.Bool.{true≢false}
@@ -7,9 +7,9 @@ use Rattle.std.proofs.lemmas.List.Elements.{All-cons, All-nil}
 use Rattle.sal_history.specs.World.{Domain}
 use Rattle.sal_script.specs.Moves.{Move}
 use Rattle.sal_script.specs.Orders.{PlaysFollow}
-use Rattle.sal_script.specs.Play.{IsLegal, Played, play}
+use Rattle.sal_script.specs.Play.{Played, play}
 use Rattle.sal_script.specs.Report.{report}
-use Rattle.sal_script.specs.SomeOrder.{IsReportInSomeOrder, Tells}
+use Rattle.sal_script.specs.SomeOrder.{IsReportInSomeOrder}
 use Rattle.sal_order.specs.Differences.{DifferencesEndLines, difference}
 use Rattle.sal_order.specs.FirstLines.{OrdersAreTold, told_order}
 use Rattle.sal_verdict.specs.declared.verdict.Verdict.{Verdict}
@@ -34,7 +34,7 @@ module _ (told : OrdersAreTold) (ends : DifferencesEndLines) (follows : PlaysFol
   is-order : (order : List ℕ) (played : Played) → told_order text ≡ Some order → play world clients order ≡ Ok played → IsOrder world clients text order
   is-order order played is plays =
       let read = (told text order).0 is in
-      record { below = read.1; told = read.0; legal = subst (λ (r : Result Played ℕ). IsOk r) (sym plays) tt }
+      record { below = read.1; told = read.0; legal = subst (λ (r : Result Played ℕ). IsOk r) (sym plays) refl }
 
   -- ---- to the verdict
 
@@ -78,7 +78,7 @@ module _ (told : OrdersAreTold) (ends : DifferencesEndLines) (follows : PlaysFol
   fails-alone order index is fails = λ other it.
       let same : other ≡ order = ap (λ o. unwrap_or o []) (sym (order-is other it) ∙ is) in
       let failed : play world clients other ≡ Err index = ap (play world clients) same ∙ fails in
-      subst (λ (r : Result Played ℕ). IsOk r) failed it.legal
+      true≢false (sym (subst (λ (r : Result Played ℕ). IsOk r) failed it.legal))
 
   from-play : (order : List ℕ) (r : Result Played ℕ) → told_order text ≡ Some order → play world clients order ≡ r → Judged world clients text (by_play world text r)
   from-play order (Ok played) is plays = from-difference order played (difference 0 text (report world played)) is plays refl

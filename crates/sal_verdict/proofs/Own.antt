@@ -1,5 +1,5 @@
 -- One verdict for each text, and yes for what `run` and `sim` write.
-use Rattle.std.proofs.Common.{◌≡◌, sym, ◌∙◌}
+use Rattle.std.proofs.Common.{sym, ◌∙◌}
 use Rattle.sal_script.specs.OneOrder.{PlayedCanBeLeft}
 use Rattle.sal_script.specs.SomeOrder.{LeftIsReported}
 use Rattle.sal_verdict.specs.declared.verdict.Verdict.TheVariants.{Yes}

@@ -2,7 +2,7 @@
 use Rattle.std.proofs.Common.{◌≡◌, ℕ, zero, suc, ◌+◌, ◌<◌, ◌≤◌, Bool, cond, true, false, List, [], ◌∷◌, ◌++◌, length, map, Option, Some, None, refl, ap, sym, ◌∙◌, subst, append-nil, append_assoc, take, arith}
 use Rattle.std.proofs.lemmas.List.Elements.{filter_map-append}
 use Rattle.std.proofs.lemmas.List.Sums.{fold-append, fold_more}
-use Rattle.std.specs.Prelude.{Result, Ok, Err, IfOk}
+use Rattle.std.specs.Prelude.{Result, Ok, Err, IfOk, OnOk, slice_index_or}
 use Rattle.std.specs.declared.alloc.Global.{Global}
 use Rattle.std.specs.declared.vec.Vec.{Vec}
 use Rattle.sal_types.specs.declared.memory.NoMemory.{NoMemory as Wanting}
@@ -115,3 +115,20 @@ pub left-so : (known : HubHistory) (r : Register) (made : List Mount) (result : 
     → IfOk result (λ (list : Vec Mount Global). map mount_of list.items ≡ mounts_left known)
 left-so known r made (Ok list) many follows found = left_is known r made list.items many follows (found (mounts_in known.log) follows.register)
 left-so known r made (Err e) many follows found = tt
+
+-- one mount more
+pub live_more : (live : ℕ → Bool) (made : List Mount) (i : ℕ) (m : Mount) → i < length made → m ≡ slice_index_or made i m → with_live live (live_among live (take i made)) m ≡ live_among live (take (i + 1) made)
+live_more live made i m inside here = ap (λ x. with_live live (live_among live (take i made)) x) here ∙ sym (fold_more (with_live live) [] made i m inside)
+
+-- what holds where a call is good
+pub on_ok : {T E P Q : Type 0} (result : Result T E) → (P → Q) → OnOk result P → OnOk result Q
+on_ok (Ok x) f p = f p
+on_ok (Err e) f p = tt
+
+-- one entry more
+pub one_entry : (log : List Entry) (i : ℕ) (e : Entry) (r : Register) (made : List Mount) → i < length log → e ≡ slice_index_or log i e
+    → Follows (with_call (mounts_in (take i log)) (mount_call e.call)) r made → Follows (mounts_in (take (i + 1) log)) r made
+one_entry log i e r made inside here follows =
+    let more : mounts_in (take (i + 1) log) ≡ with_call (mounts_in (take i log)) (mount_call e.call) =
+    fold_more with_entry [] log i e inside ∙ ap (λ (x : Entry). with_call (mounts_in (take i log)) (mount_call x.call)) (sym here) in
+    subst (λ (calls : List MountCall). Follows calls r made) (sym more) follows

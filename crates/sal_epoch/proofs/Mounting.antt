@@ -13,7 +13,7 @@ use Rattle.sal_mount.specs.declared.call.MountFault.{MountFault}
 use Rattle.sal_mount.specs.declared.call.MountFault.TheVariants.{NoDomain, DeviceUsed, MountTaken, NoMemory}
 use Rattle.sal_mount.specs.declared.call.MountReply.{MountReply}
 use Rattle.sal_mount.specs.declared.call.MountReply.TheVariants.{Accepted, Refused}
-use Rattle.sal_mount.specs.Answers.{Makes, Refuses}
+use Rattle.sal_mount.specs.Answers.{Fails, Makes, Refuses}
 use Rattle.sal_mount.specs.Mounts.{Made, Mounted, is_live, make, made_of, mounted, mounts, reply_to}
 use Rattle.sal_mount.specs.Register.{IsOf, Register}
 use Rattle.sal_mount.proofs.Made.{mounted-one, mounted-same}
@@ -132,3 +132,7 @@ one_entry log i e r made inside here follows =
     let more : mounts_in (take (i + 1) log) ≡ with_call (mounts_in (take i log)) (mount_call e.call) =
     fold_more with_entry [] log i e inside ∙ ap (λ (x : Entry). with_call (mounts_in (take i log)) (mount_call x.call)) (sym here) in
     subst (λ (calls : List MountCall). Follows calls r made) (sym more) follows
+
+-- a failure by the fault that it is
+pub fails_as : (old new : Register) (call : MountCall) (fault found : MountFault) → fault ≡ found → Fails old new call fault → Fails old new call found
+fails_as old new call fault found is it = subst (λ (f : MountFault). Fails old new call f) is it

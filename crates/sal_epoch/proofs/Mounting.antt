@@ -2,7 +2,7 @@
 use Rattle.std.proofs.Common.{◌≡◌, ℕ, zero, suc, ◌+◌, ◌<◌, ◌≤◌, Bool, cond, true, false, List, [], ◌∷◌, ◌++◌, length, map, Option, Some, None, refl, ap, sym, ◌∙◌, subst, append-nil, append_assoc, take, arith}
 use Rattle.std.proofs.lemmas.List.Elements.{filter_map-append}
 use Rattle.std.proofs.lemmas.List.Sums.{fold-append, fold_more}
-use Rattle.std.specs.Prelude.{Result, Ok, Err, IfOk}
+use Rattle.std.specs.Prelude.{Result, Ok, Err, IfOk, OnOk, slice_index_or}
 use Rattle.std.specs.declared.alloc.Global.{Global}
 use Rattle.std.specs.declared.vec.Vec.{Vec}
 use Rattle.sal_types.specs.declared.memory.NoMemory.{NoMemory as Wanting}
@@ -13,7 +13,7 @@ use Rattle.sal_mount.specs.declared.call.MountFault.{MountFault}
 use Rattle.sal_mount.specs.declared.call.MountFault.TheVariants.{NoDomain, DeviceUsed, MountTaken, NoMemory}
 use Rattle.sal_mount.specs.declared.call.MountReply.{MountReply}
 use Rattle.sal_mount.specs.declared.call.MountReply.TheVariants.{Accepted, Refused}
-use Rattle.sal_mount.specs.Answers.{Makes, Refuses}
+use Rattle.sal_mount.specs.Answers.{Fails, Makes, Refuses}
 use Rattle.sal_mount.specs.Mounts.{Made, Mounted, is_live, make, made_of, mounted, mounts, reply_to}
 use Rattle.sal_mount.specs.Register.{IsOf, Register}
 use Rattle.sal_mount.proofs.Made.{mounted-one, mounted-same}
@@ -115,3 +115,24 @@ pub left-so : (known : HubHistory) (r : Register) (made : List Mount) (result : 
     → IfOk result (λ (list : Vec Mount Global). map mount_of list.items ≡ mounts_left known)
 left-so known r made (Ok list) many follows found = left_is known r made list.items many follows (found (mounts_in known.log) follows.register)
 left-so known r made (Err e) many follows found = tt
+
+-- one mount more
+pub live_more : (live : ℕ → Bool) (made : List Mount) (i : ℕ) (m : Mount) → i < length made → m ≡ slice_index_or made i m → with_live live (live_among live (take i made)) m ≡ live_among live (take (i + 1) made)
+live_more live made i m inside here = ap (λ x. with_live live (live_among live (take i made)) x) here ∙ sym (fold_more (with_live live) [] made i m inside)
+
+-- what holds where a call is good
+pub on_ok : {T E P Q : Type 0} (result : Result T E) → (P → Q) → OnOk result P → OnOk result Q
+on_ok (Ok x) f p = f p
+on_ok (Err e) f p = tt
+
+-- one entry more
+pub one_entry : (log : List Entry) (i : ℕ) (e : Entry) (r : Register) (made : List Mount) → i < length log → e ≡ slice_index_or log i e
+    → Follows (with_call (mounts_in (take i log)) (mount_call e.call)) r made → Follows (mounts_in (take (i + 1) log)) r made
+one_entry log i e r made inside here follows =
+    let more : mounts_in (take (i + 1) log) ≡ with_call (mounts_in (take i log)) (mount_call e.call) =
+    fold_more with_entry [] log i e inside ∙ ap (λ (x : Entry). with_call (mounts_in (take i log)) (mount_call x.call)) (sym here) in
+    subst (λ (calls : List MountCall). Follows calls r made) (sym more) follows
+
+-- a failure by the fault that it is
+pub fails_as : (old new : Register) (call : MountCall) (fault found : MountFault) → fault ≡ found → Fails old new call fault → Fails old new call found
+fails_as old new call fault found is it = subst (λ (f : MountFault). Fails old new call f) is it

@@ -1,13 +1,8 @@
 //! A commit whose text is too long to be a frame.
 ghost use Rattle.std.specs.Prelude.{◌≡◌};
 
-use sal_client::{Played, play};
-use sal_commit::Domain;
-use sal_follow::{ExportFault, export};
-use sal_io::OpenGate;
-use sal_prepare::scripted::{Prepared, prepare};
-use sal_schema::Schema;
-use sal_types::Bytes;
+use sal_follow_script::export_text;
+use sal_prepare::status::Status;
 use std::alloc::Global;
 use std::io;
 use std::test::Fail;
@@ -28,30 +23,11 @@ fn script(alloc: Global, letters: usize) -> io::Result<String> {
     Ok(text)
 }
 
-// The frames of a domain.
-fn frames_of(alloc: Global, schema: &Schema, domain: &Domain) -> Result<Bytes, ExportFault> {
-    export(alloc, schema, &domain.commits)
-}
-
-// What the export of a script's own domain comes to.
-fn exported(alloc: Global, script: &[u8]) -> Result<Result<Bytes, ExportFault>, Fail> {
-    let Ok(Prepared { read, hub }) = prepare(alloc, script) else {
-        return Err("no script".into());
-    };
-    let Ok(Played { hub, .. }) = play(alloc, &read.readers, &read.script, hub, &OpenGate) else {
-        return Err("not played".into());
-    };
-    let [domain, ..] = hub.domains() else {
-        return Err("no domain".into());
-    };
-    Ok(frames_of(alloc, &read.schemas[0], domain))
-}
-
 #[test]
 fn a_text_is_too_long(rt: HostRuntime) -> Result<(), Fail> {
     let script = script(rt.alloc(), LETTERS)?;
-    match exported(rt.alloc(), script.as_bytes())? {
-        Err(ExportFault::TooLong { commit: 1 }) => Ok(()),
+    match export_text(rt.alloc(), script.as_bytes()) {
+        Err(Status::BadExport { commit: 1 }) => Ok(()),
         _ => Err("it is exported, or something else is wrong".into()),
     }
 }

@@ -1,7 +1,6 @@
-//! Tests of the broker's calls: each is made, and its answer compared. And a settle that finds no memory, as a contract.
+//! Tests of the broker's calls: each is made, and its answer compared.
 #![tactic(auto)]
 
-pub mod again;
 #[cfg(test)]
 mod calls;
 #[cfg(test)]

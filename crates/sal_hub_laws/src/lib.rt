@@ -1,0 +1,19 @@
+//! What follows from the contracts of a hub's calls.
+//!
+//! | item | what it is |
+//! |---|---|
+//! | `settle_again` | a settle, and one more if memory was wanting: its clause is that of one settle |
+//!
+//! So a settle that finds no memory leaves all receipts pending that were, and the next one with memory gives what the first would have
+//! given. No crate calls it: its contract is the law.
+//!
+//! ```
+//! let outcome = settle_again(alloc, &mut hub, client, receipt)?;
+//! ```
+//!
+//! Cost: that of one settle, or of two.
+#![tactic(auto)]
+
+mod again;
+
+pub use again::settle_again;

@@ -1,5 +1,6 @@
 //! A session on the heap behind a pointer that C holds, or nothing.
 ghost use Rattle.std.specs.Prelude.{◌≡◌, true};
+ghost use Rattle.std.specs.Coded.{coded_option};
 ghost use Rattle.std.specs.Option.{is_some};
 ghost use Rattle.std.specs.declared.option.Option.{Option};
 ghost use Rattle.std.specs.declared.option.Option.TheVariants.{None, Some};
@@ -20,7 +21,7 @@ use std::ptr::null_mut;
 pub struct Held {
     at: *mut u8,
     alloc: Global,
-    pub ghost value: { Option SessionValue },
+    pub ghost value: { Option SessionValue } by { coded_option session_row.coded },
 }
 
 impl Model for Held {

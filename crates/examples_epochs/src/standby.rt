@@ -44,7 +44,7 @@ pub(crate) fn follow<R: Wait>(
         };
         standing = take(alloc, standing, &piece)?;
     }
-    seen(&standing)
+    seen_by(&standing)
 }
 
 // A follower of an epoch of which nothing came yet.
@@ -108,7 +108,8 @@ fn feed_behind(follower: &mut Follower, before: u64, piece: &[u8]) -> Result<(),
     }
 }
 
-fn seen(standing: &Standing) -> anyhow::Result<Seen> {
+// What a follower saw.
+fn seen_by(standing: &Standing) -> anyhow::Result<Seen> {
     let Some(commit) = standing.follower.version() else {
         bail!("no frame came");
     };

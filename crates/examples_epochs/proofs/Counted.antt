@@ -2,7 +2,6 @@
 use Rattle.std.proofs.Common.{◌≡◌, inl, inr, ℕ, ◌+◌, ◌≤◌, ◌<◌, ◌^◌, List, [], ◌++◌, length, Option, Result, ap, sym, ◌∙◌, subst, arith}
 use Rattle.std.proofs.lemmas.List.{length-append}
 use Rattle.std.proofs.lemmas.List.Sums.{fold-append}
-use Rattle.sal_schema.specs.declared.table.SchemaTable.{SchemaTable}
 use Rattle.sal_follow.specs.declared.fault.FollowFault.{FollowFault}
 use Rattle.sal_follow.specs.Laws.{PlacesCountBytes}
 use Rattle.sal_follow.specs.States.{Feeds, Following}
@@ -13,9 +12,9 @@ pub new_fed : (f : Following) → f.held ≡ fresh → IsFedBy 0 f
 unfolding followed
 new_fed f is = record { bytes = []; few = omega (arith); held = is }
 
-joined : (table : SchemaTable) (h : Held) (a b : List ℕ) → followed table (followed table h a) b ≡ followed table h (a ++ b)
+joined : (f : Following) (h : Held) (a b : List ℕ) → followed f.schema (followed f.schema h a) b ≡ followed f.schema h (a ++ b)
 unfolding followed
-joined table h a b = sym (fold-append (after_byte table) h a b)
+joined f h a b = sym (fold-append (after_byte f.schema) h a b)
 
 pub has_room : PlacesCountBytes → (n : ℕ) (f : Following) (piece : ℕ) → IsFedBy n f → n + piece < 2 ^ 64 → f.held.at + length f.held.rest + piece < 2 ^ 64
 has_room places n f piece is small =
@@ -27,7 +26,7 @@ more_fed n f g piece result is (inl (taken, told)) = record {
   bytes = is.bytes ++ piece;
   few = omega (arith, is.few, length-append is.bytes piece);
   held =
-      ap (λ (x : Following). x.held) taken ∙ ap (λ (h : Held). followed f.schema h piece) is.held ∙ joined f.schema fresh is.bytes piece
+      ap (λ (x : Following). x.held) taken ∙ ap (λ (h : Held). followed f.schema h piece) is.held ∙ joined f fresh is.bytes piece
       ∙ ap (λ (x : Following). followed x.schema fresh (is.bytes ++ piece)) (sym taken);
 }
 more_fed n f g piece result is (inr (none, same)) = record {

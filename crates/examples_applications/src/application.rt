@@ -4,8 +4,8 @@ ghost use Rattle.sal.specs.Seats.{known};
 ghost use Rattle.sal.specs.Tokens.{IsBegun, IsGiven};
 ghost use Rattle.sal.specs.Turns.{Keeps};
 
-use crate::counter::Counter;
 use anyhow::bail;
+use examples_counter::Counter;
 use sal::{Mode, Outcome, Receipt, Sal, Seat, Tx, WriteTx};
 use std::alloc::Global;
 use std::sync::Wait;

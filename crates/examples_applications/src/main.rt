@@ -5,18 +5,16 @@
 //! the application begins again. Before they start, the program itself listens to the whole configuration; when both are done, it
 //! takes what every commit changed into its mirror. What it prints is the same however the two threads were scheduled.
 //!
+//! The domain and its counter are those of `examples_counter`.
+//!
 //! | file | what it shows |
 //! |---|---|
-//! | `device` | from YANG text to a domain of the broker |
-//! | `counter` | a leaf that is read and put in a transaction |
 //! | `application` | begin, read, put, submit, settle, and again after a conflict |
 //! | `listener` | a listener, and a mirror of what was committed |
 //! | `threads` | a seat for each application; close |
 #![tactic(auto)]
 
 mod application;
-mod counter;
-mod device;
 mod listener;
 mod threads;
 

@@ -4,12 +4,11 @@ ghost use Rattle.sal.specs.Opening.{IsOpening};
 ghost use Rattle.sal.specs.Turns.{Keeps};
 
 use crate::application::take_numbers;
-use crate::counter::{Counter, number_in};
-use crate::device::{device, schema};
 use crate::listener::Listener;
+use examples_counter::{Counter, LAST_NUMBER, device, number_in, schema};
 use sal::{Hub, Path, Rules, Sal, Seat};
 use std::alloc::Global;
-use std::sync::Wait;
+use std::sync::{Arc, Wait};
 use std::thread::{Threads, join};
 
 /// What was left when both applications were done.
@@ -27,9 +26,9 @@ pub(crate) struct End {
 
 /// Opens a broker for the applications, lets them take their numbers, and returns what was left.
 pub(crate) fn share<R: Threads + Wait + Sync>(rt: &R, alloc: Global) -> anyhow::Result<End> {
-    let schema = schema(alloc)?;
-    let counter = Counter::at(alloc, &schema, "/tunnels:tunnels/last-number")?;
-    let devices = vec![in alloc; device(alloc, schema)?]?;
+    let schema = Arc::new(alloc, schema(alloc)?)?;
+    let counter = Counter::at(alloc, &schema, LAST_NUMBER)?;
+    let devices = vec![in alloc; device(alloc, &schema)?]?;
     let (sal, opening) = Sal::open(alloc, devices, Rules::One)?;
     run(rt, alloc, sal, opening, &counter)
 }

@@ -1,11 +1,9 @@
 //! The controller: it counts, sends what it committed, and goes on with the next hub.
 ghost use Rattle.std.specs.Prelude.{◌≡◌, ◌≤◌, true, length};
 
-use crate::counter::{Counter, number_in};
-use crate::counting::count;
-use crate::domain::{device, schema};
 use anyhow::bail;
 use crossbeam_channel::Sender;
+use examples_counter::{Counter, LAST_NUMBER, count, device, number_in, schema};
 use sal::{Bytes, Hub, Rules};
 use sal_epoch::next_hub;
 use sal_resume::frames_since;
@@ -31,7 +29,7 @@ pub(crate) fn lead<R: Wait>(
     to: Sender<Piece, Global>,
 ) -> anyhow::Result<u64> {
     let schema = Arc::new(alloc, schema(alloc)?)?;
-    let counter = Counter::at(alloc, &schema, "/tunnels:tunnels/last-number")?;
+    let counter = Counter::at(alloc, &schema, LAST_NUMBER)?;
     let devices = vec![in alloc; device(alloc, &schema)?]?;
     let hub = Hub::open(alloc, devices, Rules::Two)?;
     let hub = all_epochs(rt, alloc, &to, hub, &counter)?;

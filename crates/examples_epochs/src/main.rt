@@ -4,20 +4,16 @@
 //! newest trees. It counts in a leaf of its configuration, and sends the frames of its commits as bytes through a channel. The stand-by, on a thread of
 //! its own, feeds them to a follower. Each hub's frames begin with frame 0, which has all rows: by that number the stand-by knows a new epoch.
 //!
+//! The domain and the client that counts in it are those of `examples_counter`.
+//!
 //! | file | what it shows |
 //! |---|---|
-//! | `domain` | from YANG text to a domain |
-//! | `counter` | a leaf that is read and put in a transaction |
-//! | `counting` | begin, read, put, submit, settle |
 //! | `controller` | epochs: a hub, the frames of its commits, and the next hub |
 //! | `standby` | a follower that begins anew where an epoch does |
 //! | `threads` | both, joined by a channel |
 #![tactic(auto)]
 
 mod controller;
-mod counter;
-mod counting;
-mod domain;
 mod standby;
 mod threads;
 

@@ -3,10 +3,9 @@ ghost use Rattle.std.specs.Prelude.{◌≡◌, ◌+◌, ◌<◌, ◌^◌, IfOk, 
 ghost use Rattle.examples_epochs.specs.Fed.{IsFedBy};
 
 use crate::controller::Piece;
-use crate::counter::number_in;
-use crate::domain::schema;
 use anyhow::bail;
 use crossbeam_channel::Receiver;
+use examples_counter::{number_in, schema};
 use sal::{Patterns, Store};
 use sal_follow::{FollowFault, Follower, laws};
 use std::alloc::Global;

@@ -4,17 +4,13 @@
 //! application would keep them in a file, or send them. A follower takes them. The second controller begins with the follower's
 //! trees, and counts on to 6.
 //!
+//! The domain and the client that counts in it are those of `examples_counter`.
+//!
 //! | file | what it shows |
 //! |---|---|
-//! | `domain` | from YANG text to a domain |
-//! | `counter` | a leaf that is read and put in a transaction |
-//! | `counting` | begin, read, put, submit, settle |
 //! | `restart` | the frames of a domain, a follower of them, and a hub that begins with its trees |
 #![tactic(auto)]
 
-mod counter;
-mod counting;
-mod domain;
 mod restart;
 
 fn main(rt: HostRuntime) -> anyhow::Result<()> {

@@ -1,8 +1,6 @@
 //! Two controllers, one after the other.
-use crate::counter::{Counter, number_in};
-use crate::counting::count;
-use crate::domain::{device, schema};
 use anyhow::bail;
+use examples_counter::{Counter, LAST_NUMBER, count, device, number_in, schema};
 use sal::{Bytes, Hub, Patterns, Rules, Schema, Store};
 use sal_follow::Follower;
 use sal_resume::{follower_of, frames_of, resume};
@@ -28,7 +26,7 @@ pub(crate) struct End {
 /// Counts with one controller, and on with the next one.
 pub(crate) fn run(alloc: Global) -> anyhow::Result<End> {
     let schema = Arc::new(alloc, schema(alloc)?)?;
-    let counter = Counter::at(alloc, &schema, "/tunnels:tunnels/last-number")?;
+    let counter = Counter::at(alloc, &schema, LAST_NUMBER)?;
     let stream = first_half(alloc, &schema, &counter)?;
     let follower = follow(alloc, schema, stream.items())?;
     second_half(alloc, stream.items().len(), follower, &counter)
@@ -36,8 +34,8 @@ pub(crate) fn run(alloc: Global) -> anyhow::Result<End> {
 
 // The frames that the first controller leaves.
 fn first_half(alloc: Global, schema: &Arc<Schema>, counter: &Counter) -> anyhow::Result<Bytes> {
-    let hub = open(alloc, schema)?;
-    let hub = count(alloc, hub, counter, HALF)?;
+    let mut hub = open(alloc, schema)?;
+    count(alloc, &mut hub, counter, HALF)?;
     frames(alloc, &hub)
 }
 
@@ -71,8 +69,8 @@ fn second_half(
     let Some(held) = follower.version() else {
         bail!("no frame came");
     };
-    let hub = resume(alloc, follower, Rules::Two)?;
-    let hub = count(alloc, hub, counter, HALF)?;
+    let mut hub = resume(alloc, follower, Rules::Two)?;
+    count(alloc, &mut hub, counter, HALF)?;
     let rows = hub.trees().config.rows(alloc, counter.path())?;
     Ok(End {
         bytes,

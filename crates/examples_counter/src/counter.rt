@@ -10,26 +10,27 @@ use std::alloc::Global;
 
 /// The leaf of the configuration with the last number given. It is absent if none was given.
 #[derive(Drop)]
-pub(crate) struct Counter {
+pub struct Counter {
     path: Path,
 }
 
 impl Counter {
     /// The counter at the path of the text.
-    pub(crate) fn at(alloc: Global, schema: &Schema, text: &str) -> anyhow::Result<Counter> {
+    pub fn at(alloc: Global, schema: &Schema, text: &str) -> anyhow::Result<Counter> {
         let patterns = Patterns::of(alloc, schema)?;
         let path = read_path(alloc, schema, &patterns, text)?;
         Ok(Counter { path })
     }
 
     /// The path of the leaf.
-    pub(crate) fn path(&self) -> &Path {
+    pub fn path(&self) -> &Path {
         &self.path
     }
 
     /// Puts the number after the last one given, as the transaction sees it.
-    pub(crate) fn count_up(&self, alloc: Global, tx: &mut WriteTx) -> anyhow::Result<()>
+    pub fn count_up(&self, alloc: Global, tx: &mut WriteTx) -> anyhow::Result<()>
         ensures begun { tx.new.begun ≡ tx.old.begun }
+        ensures mode { tx.new.mode ≡ tx.old.mode }
         ensures base { tx.new.base ≡ tx.old.base }
     {
         let last = self.last(alloc, tx)?;
@@ -38,7 +39,9 @@ impl Counter {
 
     // The last number given.
     fn last(&self, alloc: Global, tx: &mut WriteTx) -> anyhow::Result<u64>
-        ensures { tx.new ≡ tx.old }
+        ensures begun { tx.new.begun ≡ tx.old.begun }
+        ensures mode { tx.new.mode ≡ tx.old.mode }
+        ensures base { tx.new.base ≡ tx.old.base }
     {
         let rows = tx.read(alloc, Store::Config, &self.path)?;
         Ok(number_in(&rows))
@@ -47,6 +50,7 @@ impl Counter {
     // Puts the last number given.
     fn put(&self, alloc: Global, tx: &mut WriteTx, number: u64) -> anyhow::Result<()>
         ensures begun { tx.new.begun ≡ tx.old.begun }
+        ensures mode { tx.new.mode ≡ tx.old.mode }
         ensures base { tx.new.base ≡ tx.old.base }
     {
         let rows = self.rows(alloc, number)?;
@@ -72,7 +76,7 @@ impl Counter {
 }
 
 /// The number in the rows of the leaf.
-pub(crate) fn number_in(rows: &Rows) -> u64 {
+pub fn number_in(rows: &Rows) -> u64 {
     match rows.items() {
         [row, ..] => match &row.cell {
             Cell::Leaf(value) => number_of(value),

@@ -14,13 +14,16 @@ const TUNNELS: &str = "module tunnels {
   }
 }";
 
+/// The path of the leaf with the last number.
+pub const LAST_NUMBER: &str = "/tunnels:tunnels/last-number";
+
 /// The schema of the module.
-pub(crate) fn schema(alloc: Global) -> anyhow::Result<Schema> {
+pub fn schema(alloc: Global) -> anyhow::Result<Schema> {
     Ok(schema_of(alloc, &[TUNNELS])?)
 }
 
 /// The domain over the schema, without data before the first commit.
-pub(crate) fn device(alloc: Global, schema: &Arc<Schema>) -> anyhow::Result<Device>
+pub fn device(alloc: Global, schema: &Arc<Schema>) -> anyhow::Result<Device>
     ensures closed { IfOk result IsClosedDevice }
     ensures versions { IfOk result (λ d. d.upgrades.items ≡ []) }
 {

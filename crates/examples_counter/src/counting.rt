@@ -1,6 +1,6 @@
 //! A client of a hub that counts.
 ghost use Rattle.std.specs.Prelude.{IfOk};
-ghost use Rattle.sal_hub.specs.Tokens.{IsBegun, IsGiven};
+ghost use Rattle.sal.specs.Tokens.{IsBegun, IsGiven};
 
 use crate::counter::Counter;
 use anyhow::bail;
@@ -11,16 +11,11 @@ use std::alloc::Global;
 const CLIENT: u32 = 0;
 
 /// Counts up so many times, in a transaction each time.
-pub(crate) fn count(
-    alloc: Global,
-    mut hub: Hub,
-    counter: &Counter,
-    times: u64,
-) -> anyhow::Result<Hub> {
+pub fn count(alloc: Global, hub: &mut Hub, counter: &Counter, times: u64) -> anyhow::Result<()> {
     for _ in 0..times {
-        count_up(alloc, &mut hub, counter)?;
+        count_up(alloc, hub, counter)?;
     }
-    Ok(hub)
+    Ok(())
 }
 
 // Puts the number after the last one.

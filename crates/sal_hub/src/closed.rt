@@ -1,5 +1,5 @@
 //! Committed trees are closed by the present versions of their schemas, and the newest break no rule of them.
-ghost use Rattle.sal_history_laws.specs.Logs.{IsClosedLog};
+ghost use Rattle.sal_history_laws.specs.Logs.{AreSentLawful, AreSound, IsClosedLog};
 ghost use Rattle.std.specs.Prelude.{◌≡◌, ◌<◌, ℕ, None, length};
 ghost use Rattle.sal_types.specs.declared.value.Store.{Store};
 ghost use Rattle.sal_rules.specs.Breaches.{breach};
@@ -27,5 +27,15 @@ impl Hub {
         // (a part of the hub is borrowed, so that the proof has what the hub's type keeps)
         let _log = self.journal.entries();
         sal_history_laws::laws::committed_trees_are_closed();
+    }
+
+    /// Does nothing; its contract is a law of each hub. Each version of a schema extends the one before, the opening trees are closed by
+    /// version 0, and each submission is lawful over what its transaction stands on, by the present version.
+    pub fn stays_lawful(&self)
+        ensures sound { AreSound self.now.world }
+        ensures lawful { AreSentLawful self.now.world (history self.now.world self.now.log) }
+    {
+        // (a part of the hub is borrowed, so that the proof has what the hub's type keeps)
+        let _log = self.journal.entries();
     }
 }

@@ -60,7 +60,7 @@
 //! | call | cost |
 //! |---|---|
 //! | `open` | for each device the nodes of its trees, and the check of both |
-//! | `log`, `domains`, `newest`, `trees`, `newest_of`, `trees_of` | constant |
+//! | `log`, `domains`, `outcomes`, `newest`, `trees`, `newest_of`, `trees_of` | constant |
 //! | `begin`, `cancel`, `open_chain`, `chain_begin`, `close_chain` | one search among the clients; a begin shares the nodes of its base |
 //! | `mark`, `after`; `has_mark` | the same, and one search among the marks; that search alone |
 //! | `listen` | one search among the clients, and a copy of the rows at the path and below it |
@@ -83,6 +83,7 @@ mod chain;
 mod chain_calls;
 mod chains;
 mod closed;
+mod decided;
 mod devices;
 mod failures;
 mod hub;

@@ -1,0 +1,15 @@
+//! What became of the submissions.
+ghost use Rattle.std.specs.Prelude.{◌≡◌};
+ghost use Rattle.sal_history.specs.History.{history, outcomes};
+
+use crate::hub::Hub;
+use sal_rows::Outcome;
+
+impl Hub {
+    /// The outcomes of the receipts that are decided, from receipt 1 on. It takes no memory.
+    pub fn outcomes(&self) -> &[Outcome]
+        ensures { result.now ≡ outcomes (history self.now.world self.now.log) }
+    {
+        &self.pipeline.outcomes
+    }
+}

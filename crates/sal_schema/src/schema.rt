@@ -1,5 +1,5 @@
 //! Schemas: a table with the look-ups that are asked of it.
-ghost use Rattle.std.specs.Prelude.{◌≡◌, ◌<◌, List, Some, IfOk, IfSome, IsTrue, length, min};
+ghost use Rattle.std.specs.Prelude.{◌≡◌, ◌<◌, List, Some, IfOk, IfSome, IsTrue, length};
 ghost use Rattle.std.specs.List.Sorted.{IsPermutation};
 ghost use Rattle.std.specs.List.{slice_get, All};
 ghost use Rattle.sal_schema.specs.Table as spec;
@@ -173,23 +173,6 @@ impl Schema {
         ensures { result.now ≡ spec.uniques_of self.now node }
     {
         self.node(node).unique.items()
-    }
-
-    /// How many `unique` statements a list has; 4,294,967,295 where it has more.
-    pub fn unique_count(&self, node: u32) -> u32
-        requires { node < length self.now.nodes }
-        ensures { result ≡ min (length (spec.uniques_of self.now node)) 4294967295 }
-    {
-        self.uniques(node).len().min(u32::MAX as usize) as u32
-    }
-
-    /// The leafs of one `unique` statement of a list.
-    pub fn unique(&self, node: u32, index: u32) -> &[u32]
-        requires number { node < length self.now.nodes }
-        requires index { index < length (spec.uniques_of self.now node) }
-        ensures { slice_get (spec.uniques_of self.now node) index ≡ Some result.now }
-    {
-        self.uniques(node)[index as usize].items()
     }
 
     /// The children of a node, or of the top, in the schema tree, by number. Choices and cases are among them.

@@ -1,4 +1,4 @@
--- The node that data stand under.
+-- The data parent of a node.
 use Rattle.std.proofs.Common.{◌≡◌, ℕ, suc, ◌+◌, ◌-◌, ◌<◌, ◌≤◌, Bool, true, false, cond, not, List, [], ◌∷◌, ◌++◌, length, get_or, map, take, Option, Some, None, sym, refl, ap, ◌∙◌, arith}
 use Rattle.std.proofs.lemmas.List.{get_or-map, get_or-take, map_more, length-take-le}
 use Rattle.std.specs.Prelude.{IfSome, option_map}
@@ -34,7 +34,7 @@ module _ (table : SchemaTable) (good : IsTable table) (p m : ℕ) (node : NodeIn
       let low = parent_before table table.nodes p node good refl inside here in
       closest-enough stays table m (length table.nodes) node.parent good (lower node.parent p m low room) (lower node.parent p (length table.nodes) low (omega arith))
 
--- what is passed over is the node that data stand under, where those before are known
+-- the data parent, if those of the nodes before are known
 pub passed_over-data : (table : SchemaTable) (nodes : List NodeInfo) (done : List (Option ℕ)) (i : ℕ) (here : Option ℕ) → IsTable table → nodes ≡ table.nodes
     → i ≤ length nodes → done ≡ map (found_for table) (take i nodes) → IfSome here (λ p. p < i) → passed_over nodes done here ≡ data_node table here
 passed_over-data table nodes done i None good all few known low = sym (closest-None stays table (length table.nodes))

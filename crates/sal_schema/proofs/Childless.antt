@@ -25,7 +25,7 @@ closest-zero : (table : SchemaTable) (here : Option ℕ) → closest stays table
 unfolding closest
 closest-zero table here = refl
 
--- under a node that data stand under stands a child of it
+-- a node that is a data parent has a child
 climb : (table : SchemaTable) (p steps k : ℕ) → closest stays table steps (parent_of table k) ≡ Some p → (c : ℕ) × (parent_of table c ≡ Some p)
 climb table p zero k e = absurd (none-some p (sym (closest-zero table (parent_of table k)) ∙ e))
 climb table p (suc steps) k e = by (λ q more. climb table p steps q more) (parent_of table k) refl e
@@ -37,7 +37,7 @@ climb table p (suc steps) k e = by (λ q more. climb table p steps q more) (pare
       | false ↦ λ more. up q more
     ] (sym (closest-Some stays table steps q) ∙ e)
 
--- what stands below this node, by its parent
+-- the nodes below this one, by its parent
 child_stands : (table : SchemaTable) (c p : ℕ) → IsTable table → parent_of table c ≡ Some p → is_kind has_type table p ≡ false
 child_stands table c p good e = option_and_then_some (λ (node : NodeInfo). node.parent) (slice_get table.nodes c) p e (λ node there above. by node there above)
   where
@@ -50,7 +50,7 @@ child_stands table c p good e = option_and_then_some (λ (node : NodeInfo). node
         let no : is_under has_type table node ≡ false = not-true (is_under has_type table node) free in
         rw above at no
 
--- no node for data stands under a leaf or leaf-list
+-- no leaf and no leaf-list is a data parent
 pub no_child : (table : SchemaTable) (p n : ℕ) → IsTable table → is_kind has_type table p ≡ true → is_data_child table (Some p) n ≡ true → ⊥
 no_child table p n good leaf child =
     let above = same-some (data_parent table n) p (and_second (is_kind is_data table n) (is_same (data_parent table n) (Some p)) child) in

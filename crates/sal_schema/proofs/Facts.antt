@@ -18,7 +18,7 @@ use Rattle.sal_schema.specs.Valid.{IsTable, has_numbers, has_its_keys, is_good_i
 use Rattle.sal_schema.proofs.Conjuncts.{and_first, and_second}
 use Rattle.sal_schema.proofs.Numbered.{all_from-at, list_all-at}
 
--- what stands at a place of a list
+-- the item at a place of a list
 pub slice_get_at : {X : Type 0} (xs : List X) (k : ℕ) (d : X) → k < length xs → slice_get xs k ≡ Some (get_or xs k d)
 slice_get_at [] k d inside = absurd (omega arith)
 slice_get_at (x ∷ xs) zero d inside = refl
@@ -49,7 +49,7 @@ before : (n : ℕ) (parent : Option ℕ) → IsTrue (option_map_or (λ p. nat_lt
 before n None h = tt
 before n (Some p) h = grind (arith, nat_tests)
 
--- a parent stands before its child
+-- a parent is before its child
 pub parent_before : (table : SchemaTable) (nodes : List NodeInfo) (n : ℕ) (node : NodeInfo) → IsTable table → nodes ≡ table.nodes → n < length nodes
     → node ≡ get_or nodes n node → IfSome node.parent (λ p. p < n)
 parent_before table nodes n node good all inside here =

@@ -40,7 +40,7 @@ got-front [] rest k x e = cc
 got-front (y ∷ front) rest zero x e = e
 got-front (y ∷ front) rest (suc k) x e = got-front front rest k x e
 
--- what stands there
+-- the item there
 pub got-stays : {X : Type 0} (xs front : List X) (k : ℕ) (x : X) → BeginsWith xs front → slice_get front k ≡ Some x → slice_get xs k ≡ Some x
 got-stays xs front k x e got = ap (λ l. slice_get l k) (front-is xs front e) ∙ got-front front (drop (length front) xs) k x got
 

@@ -1,4 +1,4 @@
--- What a search by halves finds among names, and what a name stands for.
+-- What a binary search finds among names, and what a name means.
 use Rattle.std.proofs.Common.{◌≡◌, ℕ, zero, suc, ◌<◌, Bool, true, false, cond, not, List, [], ◌∷◌, length, get_or, inl, inr, IsTrue, Option, Some, None, sym, refl, ap, ◌∙◌, arith}
 use Rattle.std.proofs.lemmas.Bool.{cases_lt, true≢false}
 use Rattle.std.proofs.lemmas.List.Folds.{list_any_none, list_any_at}
@@ -14,12 +14,12 @@ use Rattle.sal_schema.specs.declared.names.Named.{Named}
 use Rattle.sal_schema.proofs.Conjuncts.{and_first, and_second, or_first, or_second}
 use Rattle.sal_schema.specs.Names.{name_cmp, named_cmp, name_cmp-IsTotalOrder, is_called, lookup, Finds, are_distinct}
 
--- names that ascend rise by how they stand to any name
+-- names that ascend rise by their order to any name
 pub names_rise : (names : List Named) (name : Name) → IsSorted named_cmp names
     → IsNonDecreasingBy (λ (y : Named). ordering_index (name_cmp y.name name)) names
 names_rise names name sorted = searchable_from_sorted name_cmp-IsTotalOrder (λ (y : Named). y.name) names name sorted
 
--- where some stand before a name and the others behind it, none is called so
+-- if some are before a name and the others after it, none is equal to it
 pub none_is_called : (names : List Named) (name : Name) (i : ℕ)
     → IsPartitionPoint (λ (y : Named). name_cmp y.name name ≡ Less) (λ (y : Named). name_cmp y.name name ≡ Greater) names i
     → list_any (is_called name) names ≡ false
@@ -73,7 +73,7 @@ module _ (name : Name) where
         | false ↦ λ isnt. found_first names entry (and_second (not (list_any (is_called x.name) names)) (are_distinct names) distinct) (later x names entry here called isnt) called
       ] refl
 
--- what a search among the same names in another order finds is what the name stands for
+-- what a search among the same names in another order finds is what the name means
 pub lookup-Finds : (names sorted : List Named) (name : Name) (answer : Option ℕ) → IsTrue (are_distinct names) → IsPermutation names sorted
     → Finds sorted name answer → answer ≡ lookup names name
 lookup-Finds names sorted name None distinct same none =

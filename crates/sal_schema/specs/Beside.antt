@@ -1,4 +1,4 @@
--- What stands beside a table is right for it.
+-- Indexes of a table, and when they are right for it.
 use Rattle.std.specs.Prelude.{◌≡◌, length, None}
 use Rattle.std.specs.List.Sorted.{IsPermutation}
 use Rattle.sal_schema.specs.declared.indexes.Messages.{Messages}
@@ -12,7 +12,7 @@ use Rattle.sal_schema.specs.Indexed.{AreChildren, data_parents}
 use Rattle.sal_schema.specs.Names.{module_names, identity_names, data_names, kind_names}
 use Rattle.sal_schema.specs.Table.{children_in}
 
--- the children of the top and of each node, and the node that the data of each node stand under
+-- the children of the top and of each node, and the data parent of each node
 pub record ArePlaces (table : SchemaTable) (it : Places) : Type 0 where
   pub top : it.children.top.items ≡ children_in 0 table.nodes None
   pub count : length it.children.below.items ≡ length table.nodes

@@ -20,13 +20,13 @@ use Rattle.sal_schema.specs.Paths.{fits_path, last_step, node_of}
 
 -- ---- one row
 
--- a row with a mark stands at presence containers, list entries and leaf-list entries
+-- presence containers, list entries and leaf-list entries have a row with a mark
 abbrev pub has_mark : SchemaTable → Option Step → Bool
 has_mark table None = false
 has_mark table (Some (Node n)) = is_kind is_presence table n
 has_mark table (Some step) = true
 
--- a row with a value stands at leafs
+-- leafs have a row with a value
 abbrev pub has_value : SchemaTable → Option Step → Value → Bool
 has_value table (Some (Node n)) value = is_kind is_leaf table n && is_of_node table n value
 has_value table step value = false
@@ -55,7 +55,7 @@ prefixes (step ∷ path) = [] ∷ map (λ q. step ∷ q) (prefixes path)
 abbrev pub has_cell : List Row → List Step → Cell → Bool
 has_cell rows path c = option_map_or (λ d. eq_by_cmp cell_cmp d c) (cell rows path) false
 
--- the key leafs of the entry at the path stand there, with these values
+-- the key leafs of the entry at the path are present, with these values
 abbrev pub has_key_leafs : List Row → List Step → List ℕ → List Value → Bool
 has_key_leafs rows path (leaf ∷ leafs) (value ∷ values) = has_cell rows (path ++ Node leaf ∷ []) (Leaf value) && has_key_leafs rows path leafs values
 has_key_leafs rows path leafs values = true

@@ -18,18 +18,18 @@ use Rattle.sal_schema.specs.Valid.{IsTable}
 abbrev pub AreChildren : List NodeInfo → List (Vec ℕ Global) → Type 0
 AreChildren nodes lists = (k : ℕ) (d : Vec ℕ Global) → k < length nodes → (slice_index_or lists k d).items ≡ children_in 0 nodes (Some k)
 
--- the node that the data of each node stand under
+-- the data parent of each node
 abbrev pub data_parents : SchemaTable → List (Option ℕ)
 data_parents table = map (λ (node : NodeInfo). data_node table node.parent) table.nodes
 
--- The node that data stand under where they stand under this one: a choice and a case have the one that was found for them.
+-- The data parent of the children of this node: for a choice and a case the one that was found for them.
 abbrev pub passed_over : List NodeInfo → List (Option ℕ) → Option ℕ → Option ℕ
 passed_over nodes done None = None
 passed_over nodes done (Some p) =
     if option_map_or (λ (node : NodeInfo). is_choice_or_case node.kind) (slice_get nodes p) false then slice_index_or done p None else Some p
 
--- What is kept beside a table is right for it: the children of the top and of each node, the node that the data of each
--- node stand under, and the names in their order.
+-- What a schema keeps in addition to its table is right for it: the children of the top and of each node, the data parent of each
+-- node, and the names in their order.
 pub record IsIndexed (table : SchemaTable) (first : List ℕ) (lists : List (Vec ℕ Global)) (above : List (Option ℕ))
     (of_modules of_data of_rpcs of_notifications of_identities : List Named) : Type 0 where
   pub is_table : IsTable table

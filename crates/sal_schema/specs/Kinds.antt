@@ -22,7 +22,7 @@ is_choice_or_case Choice = true
 is_choice_or_case Case = true
 is_choice_or_case kind = false
 
--- the data of an RPC's input or output or of a notification stand under it
+-- the input or output of an RPC, or a notification: the parent of the data of a message
 abbrev pub is_message : Kind → Bool
 is_message Input = true
 is_message Output = true

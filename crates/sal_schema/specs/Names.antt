@@ -32,7 +32,7 @@ is_called name entry = is_eq (name_cmp entry.name name)
 abbrev pub lookup : List Named → Name → Option ℕ
 lookup names name = option_map (λ (entry : Named). entry.number) (find (is_called name) names)
 
--- no name stands for two
+-- no name means two things
 abbrev pub are_distinct : List Named → Bool
 are_distinct [] = true
 are_distinct (entry ∷ names) = not (list_any (is_called entry.name) names) && are_distinct names
@@ -74,7 +74,7 @@ identity_at i identity = named None identity.module identity.name i ∷ []
 abbrev pub identity_names : SchemaTable → List Named
 identity_names table = each_from identity_at 0 table.identities
 
--- of the nodes for data, each below the node that its data stand under
+-- of the nodes for data, each below its data parent
 abbrev pub data_at : SchemaTable → ℕ → NodeInfo → List Named
 data_at table n node = if is_data node.kind then named (data_node table node.parent) node.module node.name n ∷ [] else []
 
@@ -98,7 +98,7 @@ module_called table text = lookup (module_names table) (name_of_parts None 0 tex
 abbrev pub found : SchemaTable → List Named → Option ℕ → List ℕ → List ℕ → Option ℕ
 found table names parent m text = option_and_then (λ k. lookup names (name_of_parts parent k text)) (module_called table m)
 
--- the node for data of this name that stands under the parent, looked for through choices and cases
+-- the node for data of this name below the parent; the search goes through choices and cases
 abbrev pub child_of : SchemaTable → Option ℕ → List ℕ → List ℕ → Option ℕ
 child_of table parent m text = found table (data_names table) parent m text
 

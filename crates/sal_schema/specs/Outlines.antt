@@ -1,4 +1,4 @@
--- What a node or an identity is known by: where it stands, its kind and its name.
+-- What identifies a node or an identity: its parent, its kind and its name.
 use Rattle.std.specs.Prelude.{ℕ, ◌≤◌, List, map, length, Option}
 use Rattle.sal_schema.specs.declared.kind.Kind.{Kind}
 use Rattle.sal_schema.specs.declared.table.NodeInfo.{NodeInfo}

@@ -1,4 +1,4 @@
--- Which paths fit a schema, and what stands at their ends.
+-- Which paths fit a schema, and what they name.
 use Rattle.std.specs.Prelude.{ℕ, ◌-◌, length, Bool, true, false, not, ◌&&◌, ◌||◌, List, [], ◌∷◌, Option, Some, None}
 use Rattle.std.specs.List.{slice_get}
 use Rattle.std.specs.Option.{option_map_or}
@@ -11,7 +11,7 @@ use Rattle.sal_schema.specs.Kinds.{is_message, has_entries, is_list, is_leaf_lis
 use Rattle.sal_schema.specs.Table.{is_kind, is_data_child, keys_of}
 use Rattle.sal_schema.specs.Values.{is_of_node}
 
--- A step to this node may follow one to that node, or be the first. Data of an RPC or a notification stand under the node
+-- A step to this node may follow one to that node, or be the first. The parent of the data of an RPC or a notification is the node
 -- of its input, output or notification, which is a top-level name here.
 abbrev pub may_follow : SchemaTable → Option ℕ → ℕ → Bool
 may_follow table None n = is_data_child table None n || is_kind is_message table n
@@ -33,13 +33,13 @@ may_pick table n (Item value) = is_kind is_leaf_list table n && is_of_node table
 abbrev pub top : Place
 top = record { node = None; wants_entry = false }
 
--- the step may stand here
+-- the step fits here
 abbrev pub step_fits : SchemaTable → Place → Step → Bool
 step_fits table place (Node n) = not place.wants_entry && may_follow table place.node n
 step_fits table place (Key values) = place.wants_entry && option_map_or (λ n. may_pick table n (Key values)) place.node false
 step_fits table place (Item value) = place.wants_entry && option_map_or (λ n. may_pick table n (Item value)) place.node false
 
--- where it comes to
+-- the place after the step
 abbrev pub after_step : SchemaTable → Place → Step → Place
 after_step table place (Node n) = record { node = Some n; wants_entry = is_kind has_entries table n }
 after_step table place step = record { node = place.node; wants_entry = false }
@@ -58,7 +58,7 @@ fits_path table path = fits_from table top path
 abbrev pub last_step : List Step → Option Step
 last_step path = slice_get path (length path - 1)
 
--- the node that the path comes to: that of a list for each of its entries; none at the root
+-- the node that the path names: the list for each of its entries; none at the root
 abbrev pub node_from : Option ℕ → List Step → Option ℕ
 node_from here [] = here
 node_from here (Node n ∷ steps) = node_from (Some n) steps

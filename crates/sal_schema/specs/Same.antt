@@ -1,4 +1,4 @@
--- Whether two nodes, types or identities are the same, as code tells it.
+-- Whether two nodes, types or identities are the same, as code decides it.
 use Rattle.std.specs.Prelude.{ℕ, Bool as Truth, true, false, ◌&&◌, ◌==◌, nat_eq, List, [], ◌∷◌, Option}
 use mathlib.Core.Bool.{beq}
 use Rattle.std.specs.Cmp.Lexicographic.{pointwise}

@@ -111,14 +111,14 @@ closest test table zero here = None
 closest test table (suc steps) None = None
 closest test table (suc steps) (Some n) = if is_kind test table n then Some n else closest test table steps (parent_of table n)
 
--- the node that data stand under where they stand under this one: choices and cases are passed over
+-- the data parent of the children of this node: the node itself, but not a choice or a case
 abbrev pub data_node : SchemaTable → Option ℕ → Option ℕ
 data_node table here = closest (λ kind. not (is_choice_or_case kind)) table (length table.nodes) here
 
 abbrev pub data_parent : SchemaTable → ℕ → Option ℕ
 data_parent table n = data_node table (parent_of table n)
 
--- a node for data that stands under this one, or at the top, looked for through choices and cases
+-- a node for data whose data parent is this one, or the top; the search goes through choices and cases
 abbrev pub is_data_child : SchemaTable → Option ℕ → ℕ → Bool
 is_data_child table parent n = is_kind is_data table n && is_same (data_parent table n) parent
 

@@ -9,7 +9,7 @@ use Rattle.sal_schema.specs.declared.table.SchemaTable.{SchemaTable}
 use Rattle.sal_schema.specs.Kinds.{word, is_list}
 use Rattle.sal_schema.specs.Table.{each_from, name_of, module_name}
 
--- a number, or a dash where there is none
+-- a number, or a dash if there is none
 abbrev pub number_word : Option ℕ → List ℕ
 number_word None = codes "-"
 number_word (Some n) = decimal n
@@ -19,7 +19,7 @@ config_word None = codes "-"
 config_word (Some true) = codes "config"
 config_word (Some false) = codes "state"
 
--- a word behind a space
+-- a space and a word
 abbrev pub next_word : List ℕ → List ℕ
 next_word text = 32 ∷ text
 

@@ -19,7 +19,7 @@ use Rattle.sal_schema.specs.Table.{all_from, is_among, is_same, kind_of, is_kind
 
 -- ---- words
 
--- it starts with a letter or `_` and goes on with letters, digits, `_`, `-` and `.` (RFC 7950 section 6.2)
+-- it starts with a letter or `_`, then come letters, digits, `_`, `-` and `.` (RFC 7950 section 6.2)
 abbrev pub starts_identifier : ℕ → Truth
 starts_identifier c = is_ascii_alphabetic c || c == 95
 
@@ -57,8 +57,8 @@ has_numbers table n node =
     (option_map_or (λ p. nat_lt p n) node.parent true && nat_lt node.module (length table.modules))
     && option_map_or (λ t. nat_lt t (length table.types)) node.ty true
 
--- Leafs and leaf-lists have no children. Just the children of choices are cases, and just those of RPCs are inputs and
--- outputs. RPCs and notifications stand at the top.
+-- Leafs and leaf-lists have no children. Only children of choices are cases, and only children of RPCs are inputs and
+-- outputs. RPCs and notifications are at the top.
 abbrev pub stands_right : SchemaTable → NodeInfo → Truth
 stands_right table node =
     ((not (is_under has_type table node) && agree (is_case node.kind) (is_under is_choice table node)) && agree (is_parameters node.kind) (is_under is_rpc table node))
@@ -136,8 +136,8 @@ pub record IsSmall (table : SchemaTable) : Type 0 where
   pub modules : length table.modules < 2 ^ 32
   pub identities : length table.identities < 2 ^ 32
 
--- each name stands for one thing: of a module, and of an RPC, a notification and an identity of a module; and below each
--- parent, looked for through choices and cases, one node for data
+-- each name means one thing: of a module, and of an RPC, a notification and an identity of a module; and below each
+-- data parent one node for data (the search goes through choices and cases)
 pub record HasDistinctNames (table : SchemaTable) : Type 0 where
   pub modules : IsTrue (are_distinct (module_names table))
   pub identities : IsTrue (are_distinct (identity_names table))

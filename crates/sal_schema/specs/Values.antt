@@ -53,7 +53,7 @@ is_of_plain table ty atom = is_of_layer table (out-YangType ty) atom
 abbrev pub is_of_member : SchemaTable → List YangType → Value → Truth
 is_of_member table members value = option_map_or (λ member. is_of_plain table member value.atom) (slice_get members value.member) false
 
--- a value of a union is of the type of its member; of another type it tells the member 0
+-- a value of a union is of the type of its member; a value of another type has the member 0
 abbrev pub is_of_type_layer : SchemaTable → YangType-F YangType → Value → Truth
 is_of_type_layer table (YangType-F.Union members) value = is_of_member table members value
 is_of_type_layer table layer value = value.member == 0 && is_of_layer table layer value.atom

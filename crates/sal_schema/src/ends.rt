@@ -1,4 +1,4 @@
-//! What stands at the end of a path, by its node's kind.
+//! What a path names, by the kind of its node.
 ghost use Rattle.std.specs.Prelude.{◌≡◌, Some};
 ghost use Rattle.sal_schema.specs.Fitting as spec;
 ghost use Rattle.sal_schema.specs.Paths.{node_of};
@@ -9,7 +9,7 @@ use crate::schema::{Schema, is_among};
 use sal_types::{Path, Step};
 
 impl Schema {
-    /// Whether a row with a mark stands where this is the last step: at presence containers and at entries of lists and
+    /// Whether the row at a path with this last step has a mark: at presence containers and at entries of lists and
     /// leaf-lists.
     pub fn has_mark(&self, step: &Step) -> bool
         ensures { result ≡ spec.has_mark self.now (Some step.now) }
@@ -23,7 +23,7 @@ impl Schema {
         }
     }
 
-    /// Whether a row stands at the path wherever its node does: at leafs, presence containers and entries.
+    /// Whether the path has a row wherever its node is present: at leafs, presence containers and entries.
     pub fn has_own_row(&self, path: &Path) -> bool
         ensures { result ≡ spec.has_own_row self.now path.now }
     {
@@ -113,7 +113,7 @@ impl Schema {
     }
 }
 
-// The node that the path comes to: that of a list for each of its entries.
+// The node that the path names: the list for each of its entries.
 fn node_at_end(path: &Path) -> Option<u32>
     ensures { result ≡ node_of path.now }
 {

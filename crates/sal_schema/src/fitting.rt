@@ -8,7 +8,7 @@ use crate::kind::Kind;
 use crate::schema::Schema;
 use sal_types::{Path, Step, Value};
 
-/// Where a path has come to: a node, or the root, and whether the keys or the value of an entry have to follow.
+/// The end of a path: a node, or the root, and whether the keys or the value of an entry must follow.
 #[derive(Clone, Copy)]
 pub(crate) struct Place {
     pub(crate) node: Option<u32>,
@@ -19,7 +19,7 @@ impl Schema {
     /// Whether the path fits: each step names a node for data below the one before, or has the keys of its list or the
     /// value of its leaf-list, of their types.
     ///
-    /// The input, output or notification under which the data of a message stand counts as a top-level name.
+    /// The input, output or notification that is the parent of a message's data counts as a top-level name.
     pub fn fits(&self, path: &Path) -> bool
         ensures { result ≡ spec.fits_path self.now path.now }
     {
@@ -52,7 +52,7 @@ impl Schema {
         }
     }
 
-    // The kind of a node, where there is one of this number.
+    // The kind of a node; none if no node has this number.
     pub(crate) fn kind_at(&self, node: u32) -> Option<Kind>
         ensures { result ≡ table.kind_of self.now node }
     {
@@ -105,7 +105,7 @@ impl Schema {
         parent.is_none() && kind.is_message()
     }
 
-    /// The node that the data of this one stand under: its parent, choices and cases passed over.
+    /// The data parent of this node: its parent, but not a choice or a case.
     pub fn data_parent(&self, node: u32) -> Option<u32>
         requires { node < length self.now.nodes }
         ensures { result ≡ table.data_parent self.now node }

@@ -1,4 +1,4 @@
-//! What a schema keeps beside its table.
+//! The indexes that a schema keeps in addition to its table.
 //!
 //! Each function owns one value over one early exit, which keeps the proofs short.
 ghost use Rattle.std.specs.Prelude.{◌≡◌, IfOk, None, length};
@@ -19,7 +19,7 @@ use crate::table::SchemaTable;
 use sal_types::NoMemory;
 use std::alloc::Global;
 
-/// What stands below each node, and what its data stand under.
+/// The children of each node, and its data parent.
 #[derive(Drop)]
 pub(crate) struct Places {
     pub(crate) children: Children,
@@ -53,7 +53,7 @@ pub(crate) struct Tops {
     pub(crate) messages: Messages,
 }
 
-/// All that a schema keeps beside its table.
+/// All that a schema keeps in addition to its table.
 pub(crate) struct Beside {
     pub(crate) placed: Placed,
     pub(crate) tops: Tops,
@@ -177,7 +177,7 @@ fn with_messages(alloc: Global, table: &SchemaTable, statics: Statics) -> Result
     Ok(Tops { statics, messages })
 }
 
-/// What is kept beside this table.
+/// The indexes of this table.
 pub(crate) fn beside_of(alloc: Global, table: &SchemaTable) -> Result<Beside, NoMemory>
     requires { IsTable table.now }
     ensures placed { IfOk result (λ it. IsPlaced table.now it.placed) }

@@ -2,7 +2,7 @@
 ghost use Rattle.std.specs.Prelude.{◌≡◌};
 ghost use Rattle.sal_schema.specs.Kinds as spec;
 
-/// What a schema node is. A presence container stands for data even where nothing is in it.
+/// What a schema node is. A presence container is data even if it is empty.
 #[derive(Clone, Copy, PartialEq, Eq)]
 pub enum Kind {
     Container { presence: bool },
@@ -38,7 +38,7 @@ impl Kind {
         }
     }
 
-    /// Whether it is an input, an output or a notification: the data of a message stand under it.
+    /// Whether it is an input, an output or a notification: the parent of the data of a message.
     pub fn is_message(&self) -> bool
         ensures { result ≡ spec.is_message self.now }
     {

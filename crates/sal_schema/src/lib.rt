@@ -13,7 +13,8 @@
 //!
 //! `specs/` has what a table says of a node (`Table`) and of a name (`Names`), which tables are tables of a schema
 //! (`Valid`), which values are of a type (`Values`), which paths and rows fit (`Paths`, `Fitting`), the table's text
-//! (`Text`), and which table is a later version of another (`Versions`). Each look-up answers what these definitions give; `Schema::len` tells that the table is one of a schema.
+//! (`Text`), and which table is a later version of another (`Versions`). Each look-up answers what these definitions give;
+//! `Schema::len` says that the table is one of a schema.
 //!
 //! ```
 //! let schema = Schema::from_table(alloc, table)?;

@@ -74,8 +74,8 @@ pub fn own_module(schema: &Schema, node: u32) -> &str
     }
 }
 
-/// Appends the name of a node behind that of its module and a colon; a colon alone where no node has the number. It fails only
-/// where memory runs out.
+/// Appends the name of a node's module, a colon and the node's name; a colon alone if no node has the number. It fails only
+/// if memory runs out.
 pub fn push_full_name(out: &mut String, schema: &Schema, node: u32) -> Result<(), AllocError>
     ensures { OnOk result (string_bytes out.new ≡ string_bytes out.old ++ spec.full_name schema.now node) }
 {

@@ -25,7 +25,7 @@ pub(crate) struct Named {
 }
 
 impl Name {
-    // How this name stands to the one of these parts.
+    // The order of this name and the one of these parts.
     fn compare(&self, parent: Option<u32>, module: u32, text: &str) -> Ordering
         ensures { result ≡ spec.name_cmp self.now (spec.name_of_parts parent «module» text.now) }
     {
@@ -102,7 +102,7 @@ impl Index {
         Ok(Index { list })
     }
 
-    /// What one of the names so called stands for, or none where there is no such name.
+    /// What one of the names that are equal to it means; none if there is no such name.
     pub(crate) fn find(&self, parent: Option<u32>, module: u32, text: &str) -> Option<u32>
         ensures { spec.Finds self.now (spec.name_of_parts parent «module» text.now) result }
     {

@@ -1,4 +1,4 @@
-//! What stands below and above each node of a table, and the names of its parts, as lists.
+//! The children and data parent of each node of a table, and the names of its parts, as lists.
 ghost use Rattle.std.specs.Prelude.{◌≡◌, ◌<◌, ◌≤◌, ◌^◌, None, IfOk, IfSome, length};
 ghost use Rattle.sal_schema.specs.Indexed as indexed;
 ghost use Rattle.sal_schema.specs.Names as spec;
@@ -38,7 +38,7 @@ pub(crate) fn children_of(alloc: Global, table: &SchemaTable) -> Result<Children
     Ok(Children { top, below })
 }
 
-// The node that data stand under where they stand under this one, by what is known of those before.
+// The data parent of the children of this node, by the data parents of the nodes before.
 fn passed_over(nodes: &[NodeInfo], done: &[Option<u32>], parent: Option<u32>) -> Option<u32>
     requires known { IfSome parent (λ p. p < length done.now) }
     requires count { length done.now ≤ length nodes.now }
@@ -54,7 +54,7 @@ fn passed_over(nodes: &[NodeInfo], done: &[Option<u32>], parent: Option<u32>) ->
     }
 }
 
-/// For each node the one that its data stand under.
+/// The data parent of each node.
 pub(crate) fn data_parents(alloc: Global, table: &SchemaTable) -> Result<Vec<Option<u32>>, NoMemory>
     requires { IsTable table.now }
     ensures { IfOk result (λ r. r.items ≡ indexed.data_parents table.now) }
@@ -127,7 +127,7 @@ pub(crate) fn kind_names(
     Ok(list)
 }
 
-/// The names of the nodes for data, each below the node that its data stand under.
+/// The names of the nodes for data, each below its data parent.
 pub(crate) fn data_names(
     alloc: Global,
     table: &SchemaTable,

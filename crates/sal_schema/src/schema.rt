@@ -257,7 +257,7 @@ impl Schema {
         is_among(base, self.identity_info(identity).derived_from.items())
     }
 
-    /// The node for data of this name that stands under the parent, or at the top, looked for through choices and cases.
+    /// The node for data of this name below the data parent, or at the top. The search goes through choices and cases.
     pub fn child(&self, parent: Option<u32>, module: &str, name: &str) -> Option<u32>
         ensures { result ≡ names.child_of self.now parent «module».now name.now }
     {
@@ -286,7 +286,7 @@ impl Schema {
     }
 }
 
-/// The schema of a table, and what stands beside it.
+/// The schema of a table and its indexes.
 fn joined(table: SchemaTable, beside: Beside) -> Schema
     requires table { IsTable table }
     requires placed { IsPlaced table beside.placed }

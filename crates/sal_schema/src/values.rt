@@ -13,7 +13,7 @@ const BITS: u8 = 64;
 impl Schema {
     /// Whether the value is of the type, by kind, range, length, and the names that the type takes. Patterns are not looked at.
     ///
-    /// A value of a union is of the type of its member. A value of another type tells the member 0.
+    /// A value of a union is of the type of its member. A value of another type has the member 0.
     pub fn is_of_type(&self, ty: &YangType, value: &Value) -> bool
         ensures { result ≡ spec.is_of_type self.now ty.now value.now }
     {

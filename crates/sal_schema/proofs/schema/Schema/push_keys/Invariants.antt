@@ -1,4 +1,4 @@
--- The names so far stand behind what stood there.
+-- The names so far are after the old text.
 use Rattle.std.proofs.Common.{◌≡◌, ℕ, ◌++◌, take, string_bytes}
 use Rattle.std.specs.List.{flat_map}
 use Rattle.sal_schema.specs.Table.{name_of}

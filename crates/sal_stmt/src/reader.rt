@@ -116,7 +116,7 @@ impl<'a> Source<'a> {
             (spec.statements self.now.text.now (spec.statement self.now.text.now levels) start (spec.turns s.now) s.now) }
         ensures within { IfOk result (λ p. length p.1.now ≤ length s.now) }
     {
-        let mut subs = Vec::new(self.alloc);
+        let mut subs = Vec::with_capacity(self.alloc, 1)?;
         let mut rest = s;
         'statements: loop {
             let here = self.skip(rest)?;

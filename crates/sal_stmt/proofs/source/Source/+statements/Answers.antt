@@ -18,7 +18,7 @@ block-returns-in_err-here-clause-value t c =
     let inner = statement whole c.args.levels in
     let (m, room, same) = l.invariant.2 in
     let step = statements_at whole inner start m l.rest.now (omega arith) in
-    gives_err NoMemory _ _ c.in_err-here.field-0.0 _ c.from_residual.ensures.1 (λ known.
+    gives_err NoMemory _ _ c.in_err-here.field-0.0 _ c.from_residual-in_err-here.ensures.1 (λ known.
     let failed = c.in_err-here.ensures.value known in
     let done : statements whole inner start m l.rest.now ≡ Err c.in_err-here.field-0.0 = grind (arith, nat_tests, common_steps) in
     same ∙ ap (with_front l.subs.items) done)

@@ -1,6 +1,6 @@
 -- From a scene to its shapes. Time goes down, a row of 19 pixels for each step; on the left a lane for each client, on the right one for
 -- each domain with a point for each commit.
-use Rattle.std.specs.Prelude.{ℕ, ◌+◌, ◌-◌, ◌*◌, ◌%◌, ◌^◌, ◌≤◌, not, Bool, true, false, List, [], ◌∷◌, ◌++◌, length, map, Option, None, Some, codes, decimal, if◌then◌else◌, max, min, nat_eq}
+use Rattle.std.specs.Prelude.{ℕ, ◌+◌, ◌-◌, ◌*◌, ◌/◌, ◌%◌, ◌^◌, ◌≤◌, not, ◌&&◌, ◌||◌, Bool, true, false, List, [], ◌∷◌, ◌++◌, length, map, Option, None, Some, codes, decimal, if◌then◌else◌, max, min, nat_eq, nat_lt}
 use Rattle.std.specs.BTreeMap.{insert_entry, is_at}
 use Rattle.std.specs.List.{flat_map, fold, position_or_len, enumerate_from}
 use Rattle.std.specs.Map.{lookup}
@@ -21,6 +21,7 @@ use Rattle.sal_shapes.specs.declared.scene.Shape.TheVariants.{Area, Line, Point,
 use Rattle.sal_shapes.specs.declared.scene.Size.{Size}
 use Rattle.sal_shapes.specs.declared.scene.Spot.{Spot}
 use Rattle.sal_shapes.specs.declared.scene.Style.{Style}
+use Rattle.sal_shapes.specs.Labels.{cut}
 use Rattle.sal_shapes.specs.declared.scene.Style.TheVariants.{Axis, Bar, Commit, Heading, Lane, Number, Opening, Place, Refusal, Refused}
 
 -- ---- where things stand
@@ -34,16 +35,21 @@ size width height = record { width = width; height = height }
 abbrev pub longer : ℕ → Row → ℕ
 longer n row = max n (length row.label)
 
--- a lane has room for the longest label
-abbrev pub width_of : List Row → ℕ
-width_of rows = 40 + 7 * min 44 (fold longer 8 rows)
+-- how many bytes of a label are shown if there are so many lanes
+abbrev pub room_for : ℕ → ℕ
+room_for lanes = if nat_lt lanes 5 then 42 else max 18 (168 / lanes)
+
+-- a lane has room for the longest label that is shown
+abbrev pub width_of : ℕ → List Row → ℕ
+width_of room rows = 40 + 7 * min (room + 2) (fold longer 8 rows)
 
 abbrev pub lane_x : ℕ → ℕ → ℕ
 lane_x width lane = 46 + lane * width
 
 -- of so many lanes, for these domains
 abbrev pub frame_of : ℕ → List Row → List ℕ → Frame
-frame_of lanes rows domains = record { width = width_of rows; side = lane_x (width_of rows) lanes; domains = domains }
+frame_of lanes rows domains =
+    record { room = room_for lanes; width = width_of (room_for lanes) rows; side = lane_x (width_of (room_for lanes) rows) lanes; domains = domains }
 
 abbrev pub column_x : Frame → ℕ → ℕ
 column_x frame domain = frame.side + 40 + 70 * position_or_len (λ d. nat_eq d domain) frame.domains
@@ -93,23 +99,41 @@ found p pins = lookup (is_at (pin_cmp p)) pins
 abbrev pub plain : Style → ℕ → ℕ → List ℕ → Shape
 plain style x y text = Words style (spot x y) text text
 
+abbrev pub same_spot : Spot → Spot → Bool
+same_spot a b = nat_eq a.x b.x && nat_eq a.y b.y
+
+-- the domain's commit of this number stands at the spot
+abbrev pub stands_at : List (Pin × Spot) → ℕ → ℕ → Spot → Bool
+stands_at pins domain number s = option_map_or (same_spot s) (found (pin.Commit domain number) pins) false
+
+-- An entry that decided several commits has their points at one spot, and their numbers side by side: where this number goes, 2 for two dots. From
+-- 1,000 on there is room for one number.
+abbrev pub beside : List (Pin × Spot) → ℕ → ℕ → Spot → ℕ
+beside pins domain number s =
+    if stands_at pins domain (number - 1) s then (if nat_lt 999 number || stands_at pins domain (number - 2) s then 2 else 1) else 0
+
+-- the number of a commit at its place beside the others, or two dots
+abbrev pub number_mark : ℕ → ℕ → Spot → Shape
+number_mark before number s = Words Number (spot (s.x + 8 + 21 * min before 2) (s.y + 4)) (if nat_lt before 2 then decimal number else codes "..") (decimal number)
+
 -- the point of a commit with its number, that of an opening, or of an end
-abbrev pub pin_marks : Pin → Spot → List Shape
-pin_marks (pin.Entry place) s = []
-pin_marks (pin.Commit domain number) s = if nat_eq number 0 then Point Opening s ∷ [] else Point Commit s ∷ plain Number (s.x + 8) (s.y + 4) (decimal number) ∷ []
-pin_marks (pin.Gone domain) s = Point Opening s ∷ []
-pin_marks (pin.Receipt number) s = []
-pin_marks (pin.Chain id) s = []
-pin_marks (pin.Request id) s = []
-pin_marks (pin.Output id) s = []
-pin_marks (pin.Mark mark) s = []
+abbrev pub pin_marks : List (Pin × Spot) → Pin → Spot → List Shape
+pin_marks pins (pin.Entry place) s = []
+pin_marks pins (pin.Commit domain number) s = if nat_eq number 0 then Point Opening s ∷ [] else Point Commit s ∷ number_mark (beside pins domain number s) number s ∷ []
+pin_marks pins (pin.Gone domain) s = Point Opening s ∷ []
+pin_marks pins (pin.Receipt number) s = []
+pin_marks pins (pin.Chain id) s = []
+pin_marks pins (pin.Request id) s = []
+pin_marks pins (pin.Output id) s = []
+pin_marks pins (pin.Mark mark) s = []
 
 abbrev pub if_shown : Bool → List Shape → List Shape
 if_shown shown shapes = if shown then shapes else []
 
 -- the pin stands there from now on
 abbrev pub set_pin : Bool → Pin → Spot → Drawn → Drawn
-set_pin shown p s d = record d { pins = insert_entry pin_cmp d.pins p s; marks = d.marks ++ if_shown shown (pin_marks p s) }
+set_pin shown p s d =
+    record d { pins = insert_entry pin_cmp d.pins p s; marks = d.marks ++ if_shown shown (pin_marks (insert_entry pin_cmp d.pins p s) p s) }
 
 -- a line from where the pin stands, if it does
 abbrev pub join_line : Style → Spot → Option Spot → List Shape
@@ -141,16 +165,17 @@ refusal_point here Refused = Point Refusal (spot (here.x + 19) here.y) ∷ []
 refusal_point here style = []
 
 -- the texts of a row
-abbrev pub row_words : Here → Row → List Shape
-row_words here row =
-    place_words here.y row.place ++ (refusal_point here row.style ++ Words row.style (spot (here.x + 27) (here.y + 4)) row.label row.title ∷ [])
+abbrev pub row_words : ℕ → Here → Row → List Shape
+row_words room here row =
+    place_words here.y row.place ++ (refusal_point here row.style ++ Words row.style (spot (here.x + 27) (here.y + 4)) (cut room row.label) row.title ∷ [])
 
 abbrev pub here_of : Row → Drawn → Here
 here_of row d = record { x = lane_x d.frame.width row.lane; y = if row.hidden then top else row_y d.rows; shown = not row.hidden }
 
 -- the texts of a row that is drawn
 abbrev pub with_words : Here → Row → Drawn → Drawn
-with_words here row d = record d { marks = d.marks ++ if_shown here.shown (row_words here row); rows = d.rows + (if here.shown then 1 else 0) }
+with_words here row d =
+    record d { marks = d.marks ++ if_shown here.shown (row_words d.frame.room here row); rows = d.rows + (if here.shown then 1 else 0) }
 
 -- one row more
 abbrev pub draw_row : Drawn → Row → Drawn
@@ -185,8 +210,12 @@ domain_shapes d domain = axis d domain ∷ plain Heading (column_x d.frame domai
 abbrev pub legend_height : ℕ
 legend_height = 226
 
+-- and how wide
+abbrev pub legend_width : ℕ
+legend_width = 520
+
 abbrev pub size_of : Drawn → Size
-size_of d = size (d.frame.side + 40 + 70 * length d.frame.domains) (row_y d.rows + legend_height)
+size_of d = size (max legend_width (d.frame.side + 40 + 70 * length d.frame.domains)) (row_y d.rows + legend_height)
 
 abbrev pub picture_with : List (List ℕ) → Drawn → Picture
 picture_with lanes d =

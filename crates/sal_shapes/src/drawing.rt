@@ -14,6 +14,9 @@ use std::marker::Model;
 /// How high the legend is, in pixels.
 const LEGEND_HEIGHT: u64 = 226;
 
+/// And how wide.
+const LEGEND_WIDTH: u64 = 520;
+
 /// What is drawn so far. A contract sees it as the definitions have it.
 #[derive(Drop)]
 pub(crate) struct Drawing {
@@ -80,15 +83,40 @@ impl Drawing {
     fn mark(&mut self, alloc: Global, pin: Pin, spot: Spot) -> Result<(), NoMemory>
         requires x { spot.x ≤ 2 ^ 43 }
         requires y { spot.y ≤ 2 ^ 42 }
-        ensures { OnOk result (self.new ≡ record self.old { marks = self.old.marks ++ spec.pin_marks pin spot }) }
+        ensures { OnOk result (self.new ≡ record self.old { marks = self.old.marks ++ spec.pin_marks self.old.pins pin spot }) }
     {
         match pin {
-            Pin::Commit { number, .. } if number > 0 => {
+            Pin::Commit { domain, number } if number > 0 => {
                 self.point(Style::Commit, spot)?;
-                append(&mut self.marks, number_words(alloc, spot, number)?)
+                let before = self.beside(domain, number, spot);
+                append(&mut self.marks, number_words(alloc, spot, before, number)?)
             }
             Pin::Commit { .. } | Pin::Gone { .. } => self.point(Style::Opening, spot),
             _ => Ok(()),
+        }
+    }
+
+    // Whether the domain's commit of this number stands at the spot.
+    fn stands_at(&self, domain: u32, number: u64, spot: Spot) -> bool
+        ensures { result ≡ spec.stands_at self.now.pins domain number spot }
+    {
+        match self.found(Pin::Commit { domain, number }) {
+            Some(other) => spot.x == other.x && spot.y == other.y,
+            None => false,
+        }
+    }
+
+    // Where the number of a commit goes beside those of the commits at its spot, 2 for two dots.
+    fn beside(&self, domain: u32, number: u64, spot: Spot) -> u64
+        ensures { result ≡ spec.beside self.now.pins domain number spot }
+    {
+        if !self.stands_at(domain, number.saturating_sub(1), spot) {
+            return 0;
+        }
+        if number > 999 || self.stands_at(domain, number.saturating_sub(2), spot) {
+            2
+        } else {
+            1
         }
     }
 
@@ -183,7 +211,10 @@ impl Drawing {
             };
             self.point(Style::Refusal, at)?;
         }
-        append(&mut self.marks, row_label(alloc, here, row)?)?;
+        append(
+            &mut self.marks,
+            row_label(alloc, here, self.frame.room, row)?,
+        )?;
         self.rows += 1;
         Ok(())
     }
@@ -309,8 +340,9 @@ impl Drawing {
         requires { self.now.rows < 2 ^ 32 }
         ensures { result ≡ spec.size_of self.now }
     {
+        let width = self.frame.side + 40 + 70 * (self.frame.domains.items().len() as u64);
         Size {
-            width: self.frame.side + 40 + 70 * (self.frame.domains.items().len() as u64),
+            width: u64::max(LEGEND_WIDTH, width),
             height: row_y(self.rows) + LEGEND_HEIGHT,
         }
     }

@@ -12,9 +12,10 @@ pub const MAX_PARTS: usize = 4294967295;
 /// At which height the openings stand, and what stands above the first row.
 pub(crate) const TOP: u64 = 40;
 
-/// The width of a client's lane, where the domains begin, and these in the order of their columns.
+/// How many bytes of a label are shown, the width of a client's lane, where the domains begin, and these in the order of their columns.
 #[derive(Drop)]
 pub struct Frame {
+    pub room: usize,
     pub width: u64,
     pub side: u64,
     pub domains: Seq<u32>,
@@ -39,11 +40,23 @@ fn longest(rows: &[Row]) -> usize
     most
 }
 
-fn width_of(rows: &[Row]) -> u64
-    ensures width { result ≡ spec.width_of rows.now }
+// How many bytes of a label are shown.
+fn room_for(lanes: u32) -> usize
+    ensures room { result ≡ spec.room_for lanes }
+    ensures few { result ≤ 42 }
+{
+    if lanes < 5 {
+        return 42;
+    }
+    usize::max(18, 168 / lanes as usize)
+}
+
+fn width_of(room: usize, rows: &[Row]) -> u64
+    requires { room ≤ 42 }
+    ensures width { result ≡ spec.width_of room rows.now }
     ensures narrow { result ≤ 400 }
 {
-    40 + 7 * (usize::min(44, longest(rows)) as u64)
+    40 + 7 * (usize::min(room + 2, longest(rows)) as u64)
 }
 
 pub(crate) fn lane_x(width: u64, lane: u32) -> u64
@@ -60,9 +73,11 @@ pub(crate) fn frame_of(lanes: u32, rows: &[Row], domains: Seq<u32>) -> Frame
     ensures frame { result ≡ spec.frame_of lanes rows.now «domains» }
     ensures fits { spec.Fits result }
 {
-    let width = width_of(rows);
+    let room = room_for(lanes);
+    let width = width_of(room, rows);
     let side = lane_x(width, lanes);
     Frame {
+        room,
         width,
         side,
         domains,

@@ -16,13 +16,13 @@ fn goes_on(b: u8) -> bool
     128 <= b && b < 192
 }
 
-// Adds the first characters of a text.
-fn push_cut(out: &mut Vec<u8>, text: &[u8]) -> Result<(), NoMemory>
-    ensures { OnOk result (out.new.items ≡ out.old.items ++ spec.cut spec.room text.now) }
+/// Adds the first characters of a text, so many bytes.
+pub(crate) fn push_cut(out: &mut Vec<u8>, room: usize, text: &[u8]) -> Result<(), NoMemory>
+    ensures { OnOk result (out.new.items ≡ out.old.items ++ spec.cut room text.now) }
 {
     for i in 0..text.len() {
         let b = text[i];
-        if i >= ROOM && !goes_on(b) {
+        if i >= room && !goes_on(b) {
             return push(out, "..");
         }
         append(out, b)?;
@@ -48,13 +48,13 @@ pub fn label_of(alloc: Global, ok: bool, step: &[u8], replied: &[u8]) -> Result<
 {
     let mut out = Vec::new(alloc);
     if ok {
-        push_cut(&mut out, step)?;
+        push_cut(&mut out, ROOM, step)?;
         return Ok(Seq::from_items(out));
     }
     let mut whole = Vec::new(alloc);
     whole.extend_from_slice(first_word(step))?;
     push(&mut whole, ": ")?;
     whole.extend_from_slice(replied)?;
-    push_cut(&mut out, &whole)?;
+    push_cut(&mut out, ROOM, &whole)?;
     Ok(Seq::from_items(out))
 }

@@ -1,8 +1,10 @@
 //! The texts of the picture, at their places.
-ghost use Rattle.std.specs.Prelude.{◌≡◌, ◌≤◌, ◌+◌, ◌-◌, ◌^◌, IfOk, decimal};
+ghost use Rattle.std.specs.Prelude.{◌≡◌, ◌≤◌, ◌+◌, ◌-◌, ◌^◌, IfOk, codes, decimal, if◌then◌else◌, nat_lt};
+ghost use Rattle.sal_shapes.specs.Labels.{cut};
 ghost use Rattle.sal_shapes.specs.Shapes as spec;
 
 use crate::frame::Here;
+use crate::labels::push_cut;
 use crate::pieces::{push, push_number};
 use crate::scene::{Row, Shape, Spot, Style};
 use sal_types::{NoMemory, Seq, Str};
@@ -39,17 +41,50 @@ fn number(alloc: Global, style: Style, at: Spot, n: u64) -> Result<Shape, NoMemo
     plain(alloc, style, at, &text)
 }
 
-/// The number of a commit, beside its point.
-pub(crate) fn number_words(alloc: Global, spot: Spot, n: u64) -> Result<Shape, NoMemory>
+// The number of a commit, or two dots.
+fn number_text(alloc: Global, before: u64, n: u64) -> Result<Seq<u8>, NoMemory>
+    ensures { IfOk result (λ it. it ≡ (if nat_lt before 2 then decimal n else codes "..")) }
+{
+    let mut text = Vec::new(alloc);
+    if before < 2 {
+        push_number(alloc, &mut text, n)?;
+    } else {
+        push(&mut text, "..")?;
+    }
+    Ok(Seq::from_items(text))
+}
+
+fn number_title(alloc: Global, n: u64) -> Result<Seq<u8>, NoMemory>
+    ensures { IfOk result (λ it. it ≡ decimal n) }
+{
+    let mut title = Vec::new(alloc);
+    push_number(alloc, &mut title, n)?;
+    Ok(Seq::from_items(title))
+}
+
+/// The number of a commit, at this place beside those of the commits at its spot, or two dots.
+pub(crate) fn number_words(
+    alloc: Global,
+    spot: Spot,
+    before: u64,
+    n: u64,
+) -> Result<Shape, NoMemory>
     requires x { spot.x ≤ 2 ^ 43 }
     requires y { spot.y ≤ 2 ^ 42 }
-    ensures { IfOk result (λ it. it ≡ spec.plain Style.Number (spot.x + 8) (spot.y + 4) (decimal n)) }
+    ensures { IfOk result (λ it. it ≡ spec.number_mark before n spot) }
 {
     let at = Spot {
-        x: spot.x + 8,
+        x: spot.x + 8 + 21 * u64::min(before, 2),
         y: spot.y + 4,
     };
-    number(alloc, Style::Number, at, n)
+    let title = number_title(alloc, n)?;
+    let text = number_text(alloc, before, n)?;
+    Ok(Shape::Words {
+        style: Style::Number,
+        at,
+        text,
+        title,
+    })
 }
 
 /// The place of an entry, left of the lanes.
@@ -60,12 +95,26 @@ pub(crate) fn place_words(alloc: Global, y: u64, place: u64) -> Result<Shape, No
     number(alloc, Style::Place, Spot { x: 40, y: y + 4 }, place)
 }
 
-/// The label of a row, with its title.
-pub(crate) fn row_label(alloc: Global, here: Here, row: &Row) -> Result<Shape, NoMemory>
-    requires { spec.IsNear here }
-    ensures { IfOk result (λ it. it ≡ Shape.Words row.now.style (spec.spot (here.x + 27) (here.y + 4)) row.now.label row.now.title) }
+// The first characters of a text, so many bytes.
+fn cut(alloc: Global, room: usize, text: &[u8]) -> Result<Seq<u8>, NoMemory>
+    ensures { IfOk result (λ it. it ≡ cut room text.now) }
 {
-    let text = bytes(alloc, row.label.items())?;
+    let mut list = Vec::new(alloc);
+    push_cut(&mut list, room, text)?;
+    Ok(Seq::from_items(list))
+}
+
+/// The label of a row, cut to so many bytes, with its title.
+pub(crate) fn row_label(
+    alloc: Global,
+    here: Here,
+    room: usize,
+    row: &Row,
+) -> Result<Shape, NoMemory>
+    requires { spec.IsNear here }
+    ensures { IfOk result (λ it. it ≡ Shape.Words row.now.style (spec.spot (here.x + 27) (here.y + 4)) (cut room row.now.label) row.now.title) }
+{
+    let text = cut(alloc, room, row.label.items())?;
     let title = bytes(alloc, row.title.items())?;
     let at = Spot {
         x: here.x + 27,

@@ -32,7 +32,7 @@ keep (Some least) other = if is_lt (breach_cmp other least) then Some other else
 abbrev pub least : List Breach → Option Breach
 least breaches = fold keep None breaches
 
--- ---- which rules are looked at
+-- ---- which rules are judged
 
 -- In the configuration those of configuration nodes, in the operational store those of all data nodes and choices. Nodes of
 -- RPCs and notifications have none.
@@ -52,8 +52,8 @@ rules_of n = Mandatory n ∷ MinElements n ∷ MaxElements n ∷ Unique n ∷ Tw
 
 -- ---- the breaches
 
--- The breach of a rule as seen from a place that stands at m, if it is broken there. A path has at most 32 steps, so below
--- that nothing can stand, and nothing is demanded.
+-- The breach of a rule as seen from a place of the node m, if it is broken there. A path has at most 32 steps, so below
+-- that there is no data, and nothing is demanded.
 abbrev pub breach_of : SchemaTable → Store → List Step → Seen → Option ℕ → Rule → List Breach
 breach_of table store place see m rule =
     if (is_looked_at table store (node_of_rule rule) && broken table see m rule) && nat_le (length (place ++ steps_to table rule)) 32

@@ -34,7 +34,7 @@ nodes =
 abbrev pub types : Row YangType
 types = roll-YangType YangType-F.Empty ∷ []
 
--- a depot with items and a name, and state data beside it
+-- a depot with items and a name, and state data next to it
 abbrev pub depot_table : SchemaTable
 depot_table = record { nodes = nodes; types = types; modules = codes "shop" ∷ []; identities = [] }
 

@@ -81,7 +81,7 @@ tops = table (
     ∷ mandatory None Leaf
     ∷ [])
 
--- ---- items, unique in a leaf (2) together with one (4) that stands in a container
+-- ---- items, unique in a leaf (2) together with one (4) in a container
 
 abbrev pub items : SchemaTable
 items = table (

@@ -1,4 +1,4 @@
--- The places of a tree, and what each stands at.
+-- The places of a tree, and the schema node of each.
 use Rattle.std.specs.Prelude.{false, List, [], ◌∷◌, Some, None}
 use Rattle.std.specs.List.{fold, flat_map}
 use Rattle.sal_types.specs.declared.value.Step.{Step}
@@ -10,18 +10,18 @@ use Rattle.sal_schema.specs.Fitting.{prefixes}
 use Rattle.sal_schema.specs.Table.{is_kind}
 use Rattle.sal_rules.specs.declared.spot.Spot.{Spot}
 
--- The root, and each path at which a row stands or below which one does. One may be listed more than once.
+-- The root, and each path that has a row at it or below it. One may be listed more than once.
 abbrev pub places : List Row → List (List Step)
 places rows = [] ∷ flat_map (λ (row : Row). prefixes row.path) rows
 
 abbrev pub root_spot : Spot
 root_spot = record { node = None; wants_entry = false }
 
--- a step to a list or leaf-list wants an entry, and an entry stands at the node of its list
+-- after a step to a list or leaf-list an entry must follow; the node of an entry is that of its list
 abbrev pub after_step : SchemaTable → Spot → Step → Spot
 after_step table spot (Node n) = record { node = Some n; wants_entry = is_kind has_entries table n }
 after_step table spot step = record { node = spot.node; wants_entry = false }
 
--- what the place stands at
+-- the node of the place
 abbrev pub spot_of : SchemaTable → List Step → Spot
 spot_of table place = fold (after_step table) root_spot place

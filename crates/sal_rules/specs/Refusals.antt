@@ -22,7 +22,7 @@ above [] = []
 above (step ∷ []) = []
 above (step ∷ next ∷ path) = (step ∷ []) ∷ map (λ q. step ∷ q) (above (next ∷ path))
 
--- the outermost list entry or presence container above the path at which nothing stands
+-- the outermost list entry or presence container above the path that the tree does not have
 abbrev pub missing_parent : SchemaTable → List Row → List Step → Option (List Step)
 missing_parent table tree path = find (λ q. has_mark table (last_step q) && not (has tree q)) (above path)
 

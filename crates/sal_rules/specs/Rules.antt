@@ -17,10 +17,10 @@ use Rattle.sal_rows.specs.declared.outcome.Rule.TheVariants.{Mandatory, MinEleme
 use Rattle.sal_rules.specs.Contexts.{context, stand, way, way_in_entry}
 use Rattle.sal_rules.specs.Seen.{Seen, further}
 
--- ---- what stands at a place
+-- ---- what a place has
 
--- A node of which this place is the data parent is there; a choice or a case is where a node in it is. Choices and cases
--- lie at most so deep in one another.
+-- A data child of this place is present; a choice or a case is present if a node in it is. Choices and cases
+-- are nested to this depth at most.
 unfoldable pub is_there : SchemaTable → Seen → ℕ → ℕ → Bool
 is_there table see zero n = false
 is_there table see (suc deep) n = if is_kind is_choice_or_case table n then list_any (is_there table see deep) (children_of table (Some n)) else see.has (Node n ∷ [])
@@ -28,20 +28,20 @@ is_there table see (suc deep) n = if is_kind is_choice_or_case table n then list
 abbrev pub stands : SchemaTable → Seen → ℕ → Bool
 stands table see n = is_there table see (length table.nodes) n
 
--- a list or leaf-list at this place has so many entries
+-- how many entries the list or leaf-list at this place has
 abbrev pub count : Seen → ℕ → ℕ
 count see n = length (see.entries (Node n ∷ []))
 
 -- ---- what is demanded
 
--- Without a context a node is demanded where the tree has the top-level container above it. A list or presence container
--- demands what it is the context of wherever it is present, and a case wherever a node of it is.
+-- A node without a context is demanded if the tree has the top-level container above it. A node whose context is a list or a
+-- presence container is demanded wherever that is present, and one whose context is a case, wherever a node of the case is.
 abbrev pub is_demanded_by : SchemaTable → Seen → List Step → Option ℕ → Bool
 is_demanded_by table see [] None = false
 is_demanded_by table see (container ∷ way) None = see.has (container ∷ [])
 is_demanded_by table see way (Some c) = not (is_kind is_case table c) || stands table see c
 
--- the node is demanded where its context stands
+-- the node is demanded, as seen from the place of its context
 abbrev pub is_demanded : SchemaTable → Seen → ℕ → Bool
 is_demanded table see n = is_demanded_by table see (way table n) (context table n)
 
@@ -60,7 +60,7 @@ is_past (Some most) entries = nat_lt most entries
 
 -- ---- the rules of a node at its data parent's place
 
--- the cells at these paths, if one stands at each
+-- the cells at these paths, if each has one
 abbrev pub cells_at : Seen → List (List Step) → Option (List Cell)
 cells_at see [] = Some []
 cells_at see (p ∷ ps) = option_and_then (λ c. option_map (λ cs. c ∷ cs) (cells_at see ps)) (see.cell p)
@@ -86,8 +86,8 @@ has_two_cases table see n = nat_le 2 (length (filter (stands table see) (childre
 
 -- ---- one rule
 
--- The rule is broken as seen from a place that stands at the node m, or at the root. `Mandatory` and `MinElements` are
--- judged where the node's context stands, and the others at its data parent.
+-- The rule is broken as seen from a place of the node m, or from the root. `Mandatory` and `MinElements` are
+-- judged at the node's context, and the others at its data parent.
 abbrev pub broken : SchemaTable → Seen → Option ℕ → Rule → Bool
 broken table see m (Mandatory n) = is_required table n && (is_same (stand table n) m && (is_demanded table see n && not (stands table (further see (way table n)) n)))
 broken table see m (MinElements n) = has_minimum table n && (is_same (stand table n) m && (is_demanded table see n && nat_lt (count (further see (way table n)) n) (min_elements table n)))

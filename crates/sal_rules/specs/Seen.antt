@@ -1,4 +1,4 @@
--- What is seen of a tree from one of its places. Paths go on from there.
+-- What is seen of a tree from one of its places. Paths begin at that place.
 use Rattle.std.specs.Prelude.{Bool, List, [], ◌∷◌, ◌++◌, Option, if◌then◌else◌}
 use Rattle.std.specs.List.{flat_map}
 use Rattle.std.specs.Ordering.{eq_by_cmp}
@@ -18,7 +18,7 @@ step_past p path = []
 abbrev pub entries : List Row → List Step → List Step
 entries rows p = flat_map (λ (row : Row). step_past p row.path) rows
 
--- whether something stands at a path, the cell there, and the entries there
+-- whether the tree has data at a path, the cell there, and the entries there
 pub record Seen : Type 0 where
   pub has : List Step → Bool
   pub cell : List Step → Option Cell

@@ -7,8 +7,8 @@ ghost use Rattle.sal_rules.specs.Breaches.{breach};
 ghost use Rattle.sal_rules.specs.Contexts.{context, way, stand};
 ghost use Rattle.sal_rules.specs.Examples as example;
 
-/// Contexts: the list for its leafs, the case for what stands in it, and for what stands in containers without presence
-/// what lies above these.
+/// Contexts: the list for its leafs, the case for the nodes in it, and for nodes in containers without presence the context of
+/// these.
 pub fn contexts()
     ensures of_a_list { context example.hosts 2 ≡ Some 0 }
     ensures of_a_case { context example.hosts 7 ≡ Some 5 }
@@ -19,7 +19,7 @@ pub fn contexts()
     ensures way_from_the_top { way example.tops 3 ≡ Node 0 ∷ Node 2 ∷ [] }
 {}
 
-/// A mandatory leaf in an entry, one in a case of which something stands or nothing does, and a mandatory choice.
+/// A mandatory leaf in an entry, one in a case that has data or has none, and a mandatory choice.
 pub fn mandatory_in_entries()
     ensures leaf { breach example.hosts Config (example.host_with (example.item_of_host 1 ∷ example.leaf_of_host 9 ∷ [])) ≡ example.broken_at example.host (Mandatory 2) }
     ensures leaf_in_a_case { breach example.hosts Config (example.host_with (example.leaf_of_host 2 ∷ example.item_of_host 1 ∷ example.leaf_of_host 6 ∷ [])) ≡ example.broken_at example.host (Mandatory 7) }

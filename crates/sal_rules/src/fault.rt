@@ -14,7 +14,7 @@ pub enum TxFault {
     /// A write at a key leaf.
     #[error("a write at a key leaf")]
     KeyLeaf { path: Path },
-    /// The outermost list entry or presence container above the path that does not stand there.
+    /// The outermost list entry or presence container above the path that the tree does not have.
     #[error("a parent is missing")]
     ParentMissing { path: Path },
     /// A write at the root.
@@ -35,7 +35,7 @@ impl From<NoMemory> for TxFault {
     }
 }
 
-/// A transaction that only writes was asked whether something stands there.
+/// A transaction that only writes was asked for data.
 #[derive(Clone, Copy, Debug, PartialEq, Eq, Error)]
 #[error("the transaction only writes")]
 pub struct WriteOnly;

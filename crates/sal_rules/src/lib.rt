@@ -3,20 +3,20 @@
 //!
 //! | item | what it is |
 //! |---|---|
-//! | `Spot` | what a place of a tree stands at |
+//! | `Spot` | the schema node of a place of a tree |
 //! | `TxFault`, `WriteOnly` | why a write or a read is refused |
 //! | `examples`, `refused` | functions that do nothing, each with worked examples as its contract |
 //! | `laws` | operations under a version of a schema and under each later one, as laws |
 //!
-//! `specs/` has the places of a tree and what each stands at (`Places`), what is seen from a place (`Seen`), the context of a
+//! `specs/` has the places of a tree and the node of each (`Places`), what is seen from a place (`Seen`), the context of a
 //! node and the way from it (`Contexts`), the five structural rules (`Rules`), all breaches with the one that is reported
 //! (`Breaches`), why a write is refused (`Refusals`), which operations are for a schema (`Writes`), and what stays of them under a
 //! later version of it (`Versions`).
 //!
-//! Rules are judged at the entries, the presence containers and the containers that are there, and at the root. What a list
-//! or presence container is the context of is demanded at each of them; what a case is the context of, where a node of the
-//! case is there; and what has no context, where the tree has the top-level container above it. No XPath, no leafref and no
-//! default is looked at.
+//! Rules are judged at each entry, presence container and container that is present, and at the root. A node whose context is a
+//! list or presence container is demanded at each of them; one whose context is a case, if a node of the case is present; and one
+//! without a context, if the tree has the top-level container above it. XPath, leafrefs and defaults are not
+//! evaluated.
 //!
 //! Costs: none, since nothing here runs.
 #![tactic(auto)]

@@ -1,6 +1,6 @@
-//! What a place of a tree stands at.
+//! The schema node of a place of a tree.
 
-/// The node that a place stands at, none at the root, and whether the keys or the value of an entry have to follow.
+/// The node of a place, none at the root, and whether the keys or the value of an entry must follow.
 #[derive(Clone, Copy, Debug, PartialEq, Eq)]
 pub struct Spot {
     pub node: Option<u32>,

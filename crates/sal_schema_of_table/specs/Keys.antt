@@ -35,6 +35,6 @@ identity_key identity = key None identity.module identity.name ∷ []
 abbrev pub kind_key : Kind → NodeInfo → List Key
 kind_key kind node = if kind_eq node.kind kind then key None node.module node.name ∷ [] else []
 
--- of a node for data, below the node that its data stand under
+-- of a node for data, below its data parent
 abbrev pub data_key : SchemaTable → NodeInfo → List Key
 data_key table node = if is_data node.kind then key (data_node table node.parent) node.module node.name ∷ [] else []

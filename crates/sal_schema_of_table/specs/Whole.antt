@@ -19,7 +19,7 @@ is_key_leaf table list leaf = is_kind is_leaf table leaf && is_same (parent_of t
 abbrev pub is_unique_leaf : SchemaTable → ℕ → ℕ → Bool
 is_unique_leaf table list leaf = is_kind is_leaf table leaf && is_same (list_above table leaf) (Some list)
 
--- all that is asked of a node, but that its name stands for it alone
+-- all that is required of a node, except that its name means it alone
 abbrev pub is_good_node : SchemaTable → ℕ → NodeInfo → Bool
 is_good_node table n node =
     ((((has_numbers table n node && stands_right table node) && is_identifier node.name) && has_its_type node) && has_its_keys table n node)
@@ -27,7 +27,7 @@ is_good_node table n node =
 
 -- ---- a type
 
--- the least and the greatest whole number of so many bits
+-- the least and the greatest whole number of this many bits
 abbrev pub bounds : ℕ → Bool → Part
 bounds bits true = record { low = negsuc (2 ^ (bits - 1) - 1); high = pos (2 ^ (bits - 1) - 1) }
 bounds bits false = record { low = pos 0; high = pos (2 ^ bits - 1) }

@@ -1,4 +1,4 @@
-//! What stands above a node.
+//! The data parent of a node, and the list above it.
 ghost use Rattle.std.specs.Prelude.{◌≡◌, not};
 ghost use Rattle.sal_schema.specs.Kinds as kinds;
 ghost use Rattle.sal_schema.specs.Table as spec;
@@ -45,7 +45,7 @@ fn is_list_at(table: &SchemaTable, number: u32) -> bool
     }
 }
 
-// Whether data stand under the node itself, and not under one above it.
+// Whether the node itself is the data parent of its children.
 fn holds_data(table: &SchemaTable, number: u32) -> bool
     ensures { result ≡ spec.is_kind (λ kind. not (kinds.is_choice_or_case kind)) table.now number }
 {
@@ -55,7 +55,7 @@ fn holds_data(table: &SchemaTable, number: u32) -> bool
     }
 }
 
-/// The node that data stand under where they stand under this one: choices and cases are passed over.
+/// The data parent of the children of this node: the node itself, but not a choice or a case.
 pub(crate) fn data_node(table: &SchemaTable, from: Option<u32>) -> Option<u32>
     ensures { result ≡ spec.data_node table.now from }
 {

@@ -31,7 +31,7 @@ fn is_good_identity(table: &SchemaTable, number: u32, identity: &IdentityInfo) -
         && !is_among(number, above)
 }
 
-/// Whether each identity is one of a schema, but for the names beside it.
+/// Whether each identity is one of a schema, apart from duplicate names.
 pub(crate) fn are_good_identities(table: &SchemaTable) -> bool
     requires { length table.now.identities < 2 ^ 32 }
     ensures { result ≡ spec.all_from (is_good_identity table.now) 0 table.now.identities }

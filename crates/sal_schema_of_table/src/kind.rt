@@ -68,7 +68,7 @@ pub(crate) fn is_parameters(kind: Kind) -> bool
     }
 }
 
-/// Whether it is an RPC or a notification, which stand at the top alone.
+/// Whether it is an RPC or a notification, which are at the top only.
 pub(crate) fn is_of_top(kind: Kind) -> bool
     ensures { result ≡ (spec.is_rpc kind || spec.is_notification kind) }
 {

@@ -7,11 +7,11 @@
 //! | `schema_of` | the schema of a table, or that it is not the table of one |
 //! | `TableFault` | why a table gives no schema: it is not the table of one, or memory ran out |
 //!
-//! `sal_schema` says in `specs/Valid` what is asked of a table: numbers that stand for something, nodes below nodes that
-//! take them, types where they belong, keys and unique leafs of their lists, identities that are not derived from
-//! themselves, types that hold no union in a union, and names that stand for one thing each. `specs/` here has the test as
-//! one value for a table (`Whole`) and the names by which doubles are found (`Keys`). Which of the rules a table breaks is
-//! not told.
+//! `sal_schema` defines in `specs/Valid` when a table is one of a schema: its numbers refer to something, each node is below a
+//! node that can have it, types are where they belong, keys and unique leafs are those of their lists, no identity is derived
+//! from itself, no union has a union in it, and each name means one thing. `specs/` here has the test as one value for a table
+//! (`Whole`) and the names by which duplicates are found (`Keys`). The result does not say which rule a table breaks.
+//!
 //!
 //! ```
 //! match schema_of(alloc, table) {

@@ -31,7 +31,7 @@ fn is_below(number: Option<u32>, count: usize) -> bool
     }
 }
 
-// Whether its parent stands before it, and its module and its type are there.
+// Whether its parent is before it, and its module and its type exist.
 fn has_numbers(table: &SchemaTable, number: u32, node: &NodeInfo) -> bool
     ensures { result ≡ spec.has_numbers table.now number node.now }
 {
@@ -76,7 +76,7 @@ fn is_under_rpc(table: &SchemaTable, node: &NodeInfo) -> bool
     }
 }
 
-// Whether its kind may stand under that of its parent.
+// Whether a node of its kind may be below its parent.
 fn stands_right(table: &SchemaTable, node: &NodeInfo) -> bool
     ensures { result ≡ spec.stands_right table.now node.now }
 {
@@ -93,7 +93,7 @@ fn has_its_type(node: &NodeInfo) -> bool
     agree(has_type(node.kind), node.ty.is_some())
 }
 
-// Whether the node of this number is one of a schema, but for the names beside it.
+// Whether the node of this number is one of a schema, apart from duplicate names.
 fn is_good_node(
     alloc: Global,
     table: &SchemaTable,
@@ -111,7 +111,7 @@ fn is_good_node(
     Ok(has_its_keys(alloc, table, number, node)? && has_its_uniques(table, number, node))
 }
 
-/// Whether each node is one of a schema, but for the names beside it.
+/// Whether each node is one of a schema, apart from duplicate names.
 pub(crate) fn are_good_nodes(alloc: Global, table: &SchemaTable) -> Result<bool, NoMemory>
     requires { length table.now.nodes < 2 ^ 32 }
     ensures { IfOk result (λ b. b ≡ all_from (is_good_node table.now) 0 table.now.nodes) }

@@ -25,7 +25,7 @@ fn part(low: i128, high: i128) -> Part
     Part { low, high }
 }
 
-// The least and the greatest whole number of so many bits.
+// The least and the greatest whole number of this many bits.
 fn bounds(bits: u8, signed: bool) -> Part
     requires { IsTrue (spec.is_width bits) }
     ensures { result ≡ bounds bits signed }
@@ -51,7 +51,7 @@ fn lie_within(low: i128, high: i128, range: &Ranges) -> bool
         .all(|part| low <= part.low && part.high <= high)
 }
 
-// Whether a range is one of whole numbers of so many bits.
+// Whether a range is one of whole numbers of this many bits.
 fn lie_in_bits(bits: u8, signed: bool, range: &Ranges) -> bool
     requires { IsTrue (spec.is_width bits) }
     ensures { result ≡ spec.lie_in_bits bits signed range.now }

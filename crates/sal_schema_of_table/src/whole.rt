@@ -45,8 +45,8 @@ fn passes(alloc: Global, table: &SchemaTable) -> Result<bool, NoMemory>
 
 /// Whether the table is the table of a schema.
 ///
-/// It takes memory for a copy of each name, of one kind of names at a time, and fails where there is none. For n nodes it
-/// compares names n log n times; a node for data costs the choices and cases right above it besides.
+/// It takes memory for a copy of each name, of one kind of names at a time, and fails if memory runs out. For n nodes it
+/// compares names n log n times; in addition it climbs, from each node for data, the choices and cases directly above it.
 pub fn is_table(alloc: Global, table: &SchemaTable) -> Result<bool, NoMemory>
     ensures { IfOk result (λ b. IsTrue b ↔ IsTable table.now) }
 {

@@ -23,7 +23,7 @@ fn all_go_on(rest: &[u8]) -> bool
     rest.iter().all(|c| goes_on(*c))
 }
 
-/// Whether a text starts with a letter or `_` and goes on with letters, digits, `_`, `-` and `.`.
+/// Whether a text starts with a letter or `_`, and has only letters, digits, `_`, `-` and `.` after it.
 pub(crate) fn is_identifier(text: &Str) -> bool
     ensures { result ≡ spec.is_identifier text.now }
 {

@@ -15,7 +15,7 @@ use Rattle.sal_types.specs.Tree.{cell, has}
 use Rattle.sal_types.proofs.Prefixes.{is_prefix-append}
 use Rattle.sal_rows.specs.declared.op.Op.{Op}
 use Rattle.sal_rows.specs.declared.outcome.ClashKind.TheVariants.{Deleted}
-use Rattle.sal_rows.specs.Apply.{checks_path, last_setting, rows_of_act}
+use Rattle.sal_rows.specs.Apply.{checks_path, is_read, last_setting, rows_of_act}
 use Rattle.sal_rows.specs.Changes.{same_cell}
 use Rattle.sal_rows.specs.Commits.{kind_by, numbers_in, tree_at, touches_at, is_unchanged, last_touch, kind_over}
 use Rattle.sal_rows.specs.declared.clash.Span.{Span}
@@ -25,7 +25,7 @@ use Rattle.sal_rows.proofs.SpanTouches.{find_holds, find_none, numbers_lie, at_n
 use Rattle.sal_rows.proofs.Untouched.{no_cell}
 use Rattle.sal_rows.specs.declared.clash.Clash.{Clash}
 use Rattle.sal_rows.specs.declared.clash.Rules.{Rules}
-use Rattle.sal_rows.specs.Clash.{at_row, checks_leafs, clash, clash_from, is_leaf, is_stale, leaf_clash, op_clash, parent_clash, path_by, path_clash, needs_parents, is_lost, lost_parent, tip, numbers_over, depths_above, last_touch_over}
+use Rattle.sal_rows.specs.Clash.{at_row, checks_leafs, clash, clash_from, is_leaf, is_stale, leaf_clash, op_clash, parent_clash, path_by, path_clash, read_clash, reads_from, needs_parents, is_lost, lost_parent, tip, numbers_over, depths_above, last_touch_over}
 use Rattle.sal_rows.specs.Quiet.{AreSpans, with_own}
 use Rattle.sal_rows.specs.Named.{place_of, IsPlaced, NamesALaterCommit}
 use Rattle.sal_rows.proofs.Quiet.{over_untouched, both_true}
@@ -140,11 +140,13 @@ module _ (opening : Store → List Row) (commits : List (List Op)) (base : Store
         ] refl
       ]
 
-  path_named : (rules : Rules) (earlier : List Op) (op : Op) (c : Clash) → path_clash opening commits (span ∷ spans) earlier op ≡ Some c → IsOf rules earlier op c
-  path_named rules earlier op c =
-      elim (checks_path op.act) as (λ b. checks_path op.act ≡ b → (if b && not (is_covered earlier op.store op.path) then option_map (path_found earlier op) (difference opening commits op.store (span ∷ spans) op.path) else None) ≡ Some c → IsOf rules earlier op c) [
-        | false ↦ λ checks e. cc
-        | true ↦ λ checks. elim (not (is_covered earlier op.store op.path)) as (λ b. (if b then option_map (path_found earlier op) (difference opening commits op.store (span ∷ spans) op.path) else None) ≡ Some c → IsOf rules earlier op c) [
+  -- the conflict of an operation whose path is looked at
+  looked_named : (rules : Rules) (looks : Bool) (earlier : List Op) (op : Op) (c : Clash)
+      → (if looks && not (is_covered earlier op.store op.path) then option_map (path_found earlier op) (difference opening commits op.store (span ∷ spans) op.path) else None) ≡ Some c → IsOf rules earlier op c
+  looked_named rules looks earlier op c =
+      elim looks as (λ b. (if b && not (is_covered earlier op.store op.path) then option_map (path_found earlier op) (difference opening commits op.store (span ∷ spans) op.path) else None) ≡ Some c → IsOf rules earlier op c) [
+        | false ↦ λ e. cc
+        | true ↦ elim (not (is_covered earlier op.store op.path)) as (λ b. (if b then option_map (path_found earlier op) (difference opening commits op.store (span ∷ spans) op.path) else None) ≡ Some c → IsOf rules earlier op c) [
           | false ↦ λ e. cc
           | true ↦ elim (find (differs opening commits op) (span ∷ spans)) as (λ (o : Option Span). find (differs opening commits op) (span ∷ spans) ≡ o → option_map (path_found earlier op) (option_map (conflict_over opening commits op) o) ≡ Some c → IsOf rules earlier op c) [
             | None ↦ λ e h. cc
@@ -158,7 +160,13 @@ module _ (opening : Store → List Row) (commits : List (List Op)) (base : Store
                 subst (IsOf rules earlier op) (same_Some (path_found earlier op (conflict_over opening commits op other)) c h) (refl, short, named_here)
           ] refl
         ]
-      ] refl
+      ]
+
+  path_named : (rules : Rules) (earlier : List Op) (op : Op) (c : Clash) → path_clash opening commits (span ∷ spans) earlier op ≡ Some c → IsOf rules earlier op c
+  path_named rules earlier op c = looked_named rules (checks_path op.act) earlier op c
+
+  read_named : (rules : Rules) (earlier : List Op) (op : Op) (c : Clash) → read_clash opening commits (span ∷ spans) earlier op ≡ Some c → IsOf rules earlier op c
+  read_named rules earlier op c = looked_named rules (is_read op.act) earlier op c
 
   -- the conflict at a leaf that is stale
   stale : (rules : Rules) (earlier : List Op) (op : Op) (i : ℕ) (row : Row) → checks_leafs rules op.act ≡ true → slice_get (rows_of_act op.act) i ≡ Some row → is_stale opening commits base (span ∷ spans) op.store row ≡ true
@@ -225,11 +233,30 @@ module _ (opening : Store → List Row) (commits : List (List Op)) (base : Store
             (op, ap (slice_get (earlier ++ op ∷ ops)) here.0 ∙ slice_get_end earlier ops op, here.1, here.2)
       ] refl
 
+  reads_named : (rules : Rules) (earlier ops : List Op) (c : Clash) → reads_from opening commits (span ∷ spans) earlier ops ≡ Some c → IsFrom rules (earlier ++ ops) c
+  reads_named rules earlier [] c = λ e. cc
+  reads_named rules earlier (op ∷ ops) c =
+      elim (read_clash opening commits (span ∷ spans) earlier op) as (λ (o : Option Clash). read_clash opening commits (span ∷ spans) earlier op ≡ o → option_or o (reads_from opening commits (span ∷ spans) (earlier ++ op ∷ []) ops) ≡ Some c
+      → IsFrom rules (earlier ++ op ∷ ops) c) [
+        | None ↦ λ e h. subst (λ (l : List Op). IsFrom rules l c) (append_assoc earlier (op ∷ []) ops) (reads_named rules (earlier ++ op ∷ []) ops c h)
+        | Some d ↦ λ e h.
+            let here = read_named rules earlier op c (e ∙ h) in
+            (op, ap (slice_get (earlier ++ op ∷ ops)) here.0 ∙ slice_get_end earlier ops op, here.1, here.2)
+      ] refl
+
+  all_named : (rules : Rules) (ops : List Op) (c : Clash) → clash opening commits rules base (span ∷ spans) ops ≡ Some c → IsFrom rules ops c
+  all_named rules ops c =
+      let writes = clash_from opening commits rules base (span ∷ spans) [] ops in
+      elim writes as (λ (o : Option Clash). writes ≡ o → option_or o (reads_from opening commits (span ∷ spans) [] ops) ≡ Some c → IsFrom rules ops c) [
+        | None ↦ λ e h. reads_named rules [] ops c h
+        | Some d ↦ λ e h. from_named rules [] ops c (e ∙ h)
+      ] refl
+
 -- where the base has the rows of the own commits' tree, or some of them
 pub names_within : (opening : Store → List Row) (commits : List (List Op)) (rules : Rules) (base : Store → List Row) (span : Span) (spans : List Span) (ops : List Op) (c : Clash)
     → AreSpans (length commits) span spans → IsWithin base (λ s. with_own commits s (tree_at opening commits s span.from) spans) → clash opening commits rules base (span ∷ spans) ops ≡ Some c
     → (op : Op) × (slice_get ops c.op ≡ Some op) × IsPlaced rules op c.depth c.row × Any (IsNamedIn opening commits (place_of op c)) (span ∷ spans)
-names_within opening commits rules base span spans ops c are agrees e = from_named opening commits base span spans are agrees rules [] ops c e
+names_within opening commits rules base span spans ops c are agrees e = all_named opening commits base span spans are agrees rules ops c e
 
 pub names_a_later_commit : NamesALaterCommit
 names_a_later_commit opening commits rules base span spans ops c are is_base e =

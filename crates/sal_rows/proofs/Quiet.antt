@@ -14,7 +14,7 @@ use Rattle.sal_types.specs.declared.row.Row.{Row}
 use Rattle.sal_types.specs.Prefix.{is_prefix}
 use Rattle.sal_types.specs.Tree.{cell, has}
 use Rattle.sal_rows.specs.declared.op.Op.{Op}
-use Rattle.sal_rows.specs.Apply.{same_store, checks_path, apply_ops, cell_by, last_setting, rows_of_act}
+use Rattle.sal_rows.specs.Apply.{same_store, checks_path, is_read, apply_ops, cell_by, last_setting, rows_of_act}
 use Rattle.sal_rows.specs.Changes.{same_cell}
 use Rattle.sal_rows.specs.Commits.{tree_after, tree_at, commit_touches, touches_at, is_unchanged, unchanged_by, numbers_after, numbers_in}
 use Rattle.sal_rows.specs.declared.clash.Span.{Span}
@@ -26,8 +26,8 @@ use Rattle.sal_rows.proofs.Untouched.{or_first, or_second, no_cell, cell-untouch
 use Rattle.sal_types.proofs.Prefixes.{IsPrefix-from_test, is_prefix-append}
 use Rattle.sal_rows.specs.declared.clash.Clash.{Clash}
 use Rattle.sal_rows.specs.declared.clash.Rules.{Rules}
-use Rattle.sal_rows.specs.Clash.{at_row, checks_leafs, clash_from, is_leaf, is_stale, last_touch_over, leaf_clash, numbers_over, op_clash, parent_clash, path_clash, tip}
-use Rattle.sal_rows.specs.Quiet.{SameBelow, AreFresh, AreSpans, with_own, AreQuiet, NoClashIsQuiet, SameOrTouched}
+use Rattle.sal_rows.specs.Clash.{at_row, checks_leafs, clash_from, is_leaf, is_stale, last_touch_over, leaf_clash, numbers_over, op_clash, parent_clash, path_clash, read_clash, reads_from, tip}
+use Rattle.sal_rows.specs.Quiet.{SameBelow, AreFresh, AreSpans, with_own, AreQuiet, AreReadsQuiet, NoClashIsQuiet, SameOrTouched}
 
 -- ---- what is below a path
 
@@ -304,8 +304,32 @@ module _ (opening : Store → List Row) (commits : List (List Op)) (base : Store
       let rest = from rules (earlier ++ op ∷ []) ops (quiet-push earlier op quiet here) (or_none_second (op_clash opening commits rules base (span ∷ spans) earlier op) _ e) in
       ((here, rest.0), (at_leafs rules earlier op quiet none, rest.1))
 
+  -- ---- reads
+
+  -- a read that is not covered, and has no conflict
+  at_read : (earlier : List Op) (op : Op) → read_clash opening commits (span ∷ spans) earlier op ≡ None → is_read op.act ≡ true → is_covered earlier op.store op.path ≡ false
+      → SameBelow op.path (base op.store) (tip opening commits op.store)
+  at_read earlier op none reads bare =
+      let found = option_map (found_at earlier op) (difference opening commits op.store (span ∷ spans) op.path) in
+      at_path op.store op.path
+      (no_map (found_at earlier op) _ (ap (λ c. if c && true then found else None) (sym reads) ∙ ap (λ c. if is_read op.act && not c then found else None) (sym bare) ∙ none))
+
+  reads_quiet : (earlier ops : List Op) → reads_from opening commits (span ∷ spans) earlier ops ≡ None → (i : ℕ) (op : Op) → slice_get ops i ≡ Some op → is_read op.act ≡ true
+      → is_covered (earlier ++ take i ops) op.store op.path ≡ false → SameBelow op.path (base op.store) (tip opening commits op.store)
+  reads_quiet earlier [] none i op at reads bare = cc
+  reads_quiet earlier (o ∷ ops) none zero op at reads bare =
+      let same : o ≡ op = same_Some o op at in
+      let here : read_clash opening commits (span ∷ spans) earlier op ≡ None = ap (read_clash opening commits (span ∷ spans) earlier) (sym same) ∙ or_none_first (read_clash opening commits (span ∷ spans) earlier o) _ none in
+      at_read earlier op here reads (ap (λ (l : List Op). is_covered l op.store op.path) (sym (append-nil earlier)) ∙ bare)
+  reads_quiet earlier (o ∷ ops) none (suc i) op at reads bare =
+      reads_quiet (earlier ++ o ∷ []) ops (or_none_second (read_clash opening commits (span ∷ spans) earlier o) _ none) i op at reads
+      (ap (λ (l : List Op). is_covered l op.store op.path) (append_assoc earlier (o ∷ []) (take i ops)) ∙ bare)
+
 pub no_clash-quiet : NoClashIsQuiet
-no_clash-quiet opening commits rules base span spans ops are is_base none = from opening commits base span spans are is_base rules [] ops tt none
+no_clash-quiet opening commits rules base span spans ops are is_base none =
+    let writes = clash_from opening commits rules base (span ∷ spans) [] ops in
+    let quiet = from opening commits base span spans are is_base rules [] ops tt (or_none_first writes _ none) in
+    (quiet.0, quiet.1, reads_quiet opening commits base span spans are is_base [] ops (or_none_second writes _ none))
 
 pub same_or_touched : SameOrTouched
 same_or_touched opening commits base span spans s p are is_base none = same_untouched opening commits base span spans are is_base s p none

@@ -11,7 +11,7 @@ use Rattle.sal_types.specs.Order.{path_eq}
 use Rattle.sal_types.specs.Prefix.{is_prefix}
 use Rattle.sal_types.specs.Tree.{cell, has}
 use Rattle.sal_rows.specs.declared.op.Act.{Act}
-use Rattle.sal_rows.specs.declared.op.Act.TheVariants.{Put, Merge, Delete}
+use Rattle.sal_rows.specs.declared.op.Act.TheVariants.{Put, Merge, Delete, Read}
 use Rattle.sal_rows.specs.declared.op.Op.{Op}
 use Rattle.sal_rows.specs.Apply.{same_store, act_setting, setting, last_setting, cell_by, cell_after, rows_of_act, apply_ops}
 use Rattle.sal_rows.specs.Touch.{op_touches, touches}
@@ -56,6 +56,7 @@ act_untouched before q Delete p r no_row none under =
           sym (no_cell (λ x. is_prefix p x && is_some (act_setting q Delete x)) before r none (and_both _ _ under sets))
       | false ↦ λ e. refl
     ] refl
+act_untouched before q Read p r no_row none under = refl
 
 op_untouched : (before : List Row) (s : Store) (op : Op) (p r : List Step) → (same_store op.store s && op_touches before op p) ≡ false → is_prefix p r ≡ true → cell_by (setting s op r) (cell before r) ≡ cell before r
 op_untouched before s op p r h under =

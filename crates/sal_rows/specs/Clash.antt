@@ -1,6 +1,6 @@
 -- Conflicts of a transaction with the commits that came after its base, by two tests of each operation, and under version rules 2 by
--- three. They follow the optimistic commit of the MD-SAL developer guide and its tables of conflicts; the exact rules are this
--- project's own.
+-- three; then by a test of each of its checked reads. The tests of writes follow the optimistic commit of the MD-SAL developer guide
+-- and its tables of conflicts; the exact rules are this project's own.
 use Rattle.std.specs.Prelude.{ℕ, ◌-◌, Bool, true, false, not, ◌&&◌, List, [], ◌∷◌, ◌++◌, length, take, find, reverse, Option, None, Some, is_some, slice_get, if◌then◌else◌, unwrap_or}
 use Rattle.std.specs.List.{position_from}
 use Rattle.std.specs.Option.{option_or, option_map, option_map_or}
@@ -11,10 +11,10 @@ use Rattle.sal_types.specs.declared.value.Cell.TheVariants.{Mark, Leaf}
 use Rattle.sal_types.specs.declared.row.Row.{Row}
 use Rattle.sal_types.specs.Tree.{cell, has}
 use Rattle.sal_rows.specs.declared.op.Act.{Act}
-use Rattle.sal_rows.specs.declared.op.Act.TheVariants.{Put, Merge, Delete}
+use Rattle.sal_rows.specs.declared.op.Act.TheVariants.{Put, Merge, Delete, Read}
 use Rattle.sal_rows.specs.declared.op.Op.{Op}
 use Rattle.sal_rows.specs.declared.outcome.ClashKind.TheVariants.{Deleted}
-use Rattle.sal_rows.specs.Apply.{checks_path, last_setting, rows_of_act}
+use Rattle.sal_rows.specs.Apply.{checks_path, is_read, last_setting, rows_of_act}
 use Rattle.sal_rows.specs.Changes.{same_cell}
 use Rattle.sal_rows.specs.Commits.{kind_by, numbers_after, numbers_in, tree_after, touches_at}
 use Rattle.sal_rows.specs.declared.clash.Rules.{Rules}
@@ -28,6 +28,7 @@ abbrev pub needs_parents : Act → Bool
 needs_parents (Put rows) = true
 needs_parents (Merge rows) = true
 needs_parents Delete = false
+needs_parents Read = false
 
 -- under version rules 2 a merge looks at the leafs that it names
 abbrev pub checks_leafs : Rules → Act → Bool
@@ -35,6 +36,7 @@ checks_leafs One act = false
 checks_leafs Two (Put rows) = false
 checks_leafs Two (Merge rows) = true
 checks_leafs Two Delete = false
+checks_leafs Two Read = false
 
 abbrev pub is_leaf : Cell → Bool
 is_leaf Mark = false
@@ -123,6 +125,18 @@ module _ (opening : Store → List Row) (commits : List (List Op)) where
   clash_from rules base spans earlier [] = None
   clash_from rules base spans earlier (op ∷ ops) = option_or (op_clash rules base spans earlier op) (clash_from rules base spans (earlier ++ op ∷ []) ops)
 
-  -- the conflict of a transaction's operations, where foreign commits lie in these spans
+  -- The test of a read that no earlier put or delete covers: the first span over which its path is not unchanged.
+  abbrev pub read_clash : List Span → List Op → Op → Option Clash
+  read_clash spans earlier op =
+      if is_read op.act && not (is_covered earlier op.store op.path)
+      then option_map (λ c. record { op = length earlier; row = None; depth = length op.path; kind = c.kind; commit = c.commit }) (difference opening commits op.store spans op.path)
+      else None
+
+  -- the first conflict of the reads among the operations, after the earlier ones
+  abbrev pub reads_from : List Span → List Op → List Op → Option Clash
+  reads_from spans earlier [] = None
+  reads_from spans earlier (op ∷ ops) = option_or (read_clash spans earlier op) (reads_from spans (earlier ++ op ∷ []) ops)
+
+  -- The conflict of a transaction's operations, where foreign commits lie in these spans. Its reads are tested after all of its writes.
   abbrev pub clash : Rules → (Store → List Row) → List Span → List Op → Option Clash
-  clash rules base spans ops = clash_from rules base spans [] ops
+  clash rules base spans ops = option_or (clash_from rules base spans [] ops) (reads_from spans [] ops)

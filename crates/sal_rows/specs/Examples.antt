@@ -7,7 +7,7 @@ use Rattle.sal_types.specs.declared.value.Step.{Step}
 use Rattle.sal_types.specs.declared.value.Step.TheVariants.{Node, Key}
 use Rattle.sal_types.specs.declared.value.Cell.TheVariants.{Mark, Leaf}
 use Rattle.sal_types.specs.declared.row.Row.{Row}
-use Rattle.sal_rows.specs.declared.op.Act.TheVariants.{Put, Merge, Delete}
+use Rattle.sal_rows.specs.declared.op.Act.TheVariants.{Put, Merge, Delete, Read}
 use Rattle.sal_rows.specs.declared.op.Op.{Op}
 use Rattle.sal_rows.specs.declared.outcome.ClashKind.{ClashKind}
 use Rattle.sal_rows.specs.declared.clash.Clash.{Clash}
@@ -55,6 +55,9 @@ merge s path rows = record { store = s; path = path; act = Merge rows }
 
 abbrev pub delete : Store → List Step → Op
 delete s path = record { store = s; path = path; act = Delete }
+
+abbrev pub read : Store → List Step → Op
+read s path = record { store = s; path = path; act = Read }
 
 -- ---- decisions
 

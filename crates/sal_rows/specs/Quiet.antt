@@ -1,17 +1,18 @@
--- What no conflict says: base and tip have the same rows at and below each path that is put or deleted, and under version rules 2 the
--- same cell at each leaf that is merged.
-use Rattle.std.specs.Prelude.{◌≡◌, ℕ, ◌+◌, ◌-◌, ◌≤◌, true, List, [], ◌∷◌, length, None, Some, slice_get, unwrap_or}
+-- What no conflict says: base and tip have the same rows at and below each path that is put or deleted, and at and below each path that
+-- is read and not covered; and under version rules 2 the same cell at each leaf that is merged.
+use Rattle.std.specs.Prelude.{◌≡◌, ℕ, ◌+◌, ◌-◌, ◌≤◌, true, false, List, [], ◌∷◌, length, take, None, Some, slice_get, unwrap_or}
 use Rattle.sal_types.specs.declared.value.Store.{Store}
 use Rattle.sal_types.specs.declared.value.Step.{Step}
 use Rattle.sal_types.specs.declared.row.Row.{Row}
 use Rattle.sal_types.specs.Prefix.{is_prefix}
 use Rattle.sal_types.specs.Tree.{cell}
 use Rattle.sal_rows.specs.declared.op.Op.{Op}
-use Rattle.sal_rows.specs.Apply.{checks_path, apply_ops, rows_of_act}
+use Rattle.sal_rows.specs.Apply.{checks_path, is_read, apply_ops, rows_of_act}
 use Rattle.sal_rows.specs.Commits.{tree_at}
 use Rattle.sal_rows.specs.declared.clash.Rules.{Rules}
 use Rattle.sal_rows.specs.declared.clash.Span.{Span}
 use Rattle.sal_rows.specs.Clash.{checks_leafs, clash, is_leaf, last_touch_over, tip}
+use Rattle.sal_rows.specs.PathClash.{is_covered}
 
 -- two trees have the same cells at p and below it
 abbrev pub SameBelow : List Step → List Row → List Row → Type 0
@@ -33,6 +34,11 @@ abbrev pub AreQuiet : (Store → List Row) → (Store → List Row) → List Op 
 AreQuiet base tip [] = Unit {0}
 AreQuiet base tip (op ∷ ops) = (checks_path op.act ≡ true → SameBelow op.path (base op.store) (tip op.store)) × AreQuiet base tip ops
 
+-- below each path that is read, and that no earlier put or delete covers, two pairs of trees have the same cells
+abbrev pub AreReadsQuiet : (Store → List Row) → (Store → List Row) → List Op → Type 0
+AreReadsQuiet base tip ops =
+    (i : ℕ) (op : Op) → slice_get ops i ≡ Some op → is_read op.act ≡ true → is_covered (take i ops) op.store op.path ≡ false → SameBelow op.path (base op.store) (tip op.store)
+
 -- At the path of each leaf that a merge names, at or below its own path, two pairs of trees have the same cell; of version rules 1 nothing
 -- is said.
 abbrev pub AreFresh : Rules → (Store → List Row) → (Store → List Row) → List Op → Type 0
@@ -50,7 +56,7 @@ NoClashIsQuiet =
     → AreSpans (length commits) span spans
     → ((s : Store) → base s ≡ with_own commits s (tree_at opening commits s span.from) spans)
     → clash opening commits rules base (span ∷ spans) ops ≡ None
-    → AreQuiet base (tip opening commits) ops × AreFresh rules base (tip opening commits) ops
+    → AreQuiet base (tip opening commits) ops × AreFresh rules base (tip opening commits) ops × AreReadsQuiet base (tip opening commits) ops
 
 -- And at each path at which base and tip have different cells a commit in the spans touched it: so the third test finds the first leaf of a
 -- merge whose cells differ.

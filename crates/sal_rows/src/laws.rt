@@ -3,7 +3,8 @@ ghost use Rattle.sal_rows.specs.Named.{NamesALaterCommit};
 ghost use Rattle.sal_rows.specs.Quiet.{NoClashIsQuiet, SameOrTouched};
 
 /// Where a transaction has no conflict, its base and the newest trees have the same rows at and below each path that it
-/// puts or deletes, and under version rules 2 the same cell at each leaf that it merges.
+/// puts or deletes, and at and below each path that it reads where no earlier put or delete covers it; and under version rules 2 the
+/// same cell at each leaf that it merges.
 pub fn no_conflict_leaves_the_paths_alone()
     ensures { NoClashIsQuiet }
 {}

@@ -2,7 +2,7 @@
 use sal_types::{Duplicate, NoMemory, Path, Store};
 use thiserror::Error;
 
-/// What a transaction may do: read, write, or both.
+/// What a transaction may do: read, write, or both; and whether its reads are checked.
 #[derive(Clone, Copy, Debug, PartialEq, Eq)]
 pub enum Mode {
     /// Read only.
@@ -11,6 +11,8 @@ pub enum Mode {
     Wo,
     /// Read and write.
     Rw,
+    /// Read and write; what it read is checked when it is submitted.
+    Checked,
 }
 
 /// How a path differs at the ends of a span over which it did not stay as it was.

@@ -49,7 +49,7 @@ closest-zero test table here = refl
 pub closest-end : (test : Kind → Bool) (table : SchemaTable) (here : Option ℕ) (n i : ℕ) → n ≤ i → closest test table (n - i) here ≡ None
 closest-end test table here n i h = ap (λ k. closest test table k here) (let e : n - i ≡ zero = omega arith in e) ∙ closest-zero test table here
 
--- the node that data stand under is the node itself, or its data parent where it is a choice or a case
+-- the data parent of the children of a node is the node itself, or its data parent if it is a choice or a case
 pub data_node-Some : (table : SchemaTable) (n : ℕ) → IsTable table → n < length table.nodes → data_node table (Some n) ≡ cond (is_kind (λ kind. not (is_choice_or_case kind)) table n) (Some n) (data_parent table n)
 data_node-Some table n good inside =
     let test : Kind → Bool = λ kind. not (is_choice_or_case kind) in

@@ -45,7 +45,7 @@ module _ (stamps : List ℕ) (table : SchemaTable) (store : Store) (place : List
       ∙ sym (fold-append keep start (near_in stamps table store place spot o (take i (seen cs))) (near_kid e))
       ∙ ap (fold keep start) (ap (λ (l : List Breach). near_in stamps table store place spot o (take i (seen cs)) ++ l) (sym (append_none (near_kid e))) ∙ sym (near_in-append (take i (seen cs)) (e ∷ [])) ∙ ap (near_in stamps table store place spot o) (sym (seen-at cs i c l at)))
 
-  -- a child that stood there before has none
+  -- a child that was there before has none
   near-kept : (e : Step × Tree) → list_any (nat_eq e.1.stamp) stamps ≡ false → near_kid e ≡ []
   near-kept e h = ap (λ b. if b then near_at stamps table store (place ++ e.0 ∷ []) (after_step table spot e.0) (kid o e.0) e.1 ++ near_below stamps table store (place ++ e.0 ∷ []) (after_step table spot e.0) (kid o e.0) e.1.kids else []) (new-any stamps e.1.stamp ∙ h)
 

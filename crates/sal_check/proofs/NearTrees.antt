@@ -116,7 +116,7 @@ untold true true false f b = refl
 untold true false s f b = refl
 untold false h s f b = refl
 
--- what was demanded is told where it was not
+-- without a breach where it was demanded there is none where it may not be
 as_told : (l h s d e c f : Bool) (b : Breach) → d ≡ true → (if (l && (h && (s && (d && c)))) && f then b ∷ [] else []) ≡ [] → (if (l && (h && (s && (e && c)))) && f then b ∷ [] else []) ≡ []
 as_told l h s d true c f b is none = subst (λ d. (if (l && (h && (s && (d && c)))) && f then b ∷ [] else []) ≡ []) is none
 as_told l h s d false c f b is none = untold l h s f b
@@ -129,7 +129,7 @@ and_right : (a b : Bool) → (a && b) ≡ true → b ≡ true
 and_right true b e = e
 and_right false b e = cc
 
--- where nothing is told of a rule, two tests that are then the same tell the same
+-- if a rule gives no breach, two tests that are then the same give the same
 told_same : (l f v x y : Bool) (b : Breach) → (v ≡ false → x ≡ y) → (if (l && v) && f then b ∷ [] else []) ≡ [] → (if (l && x) && f then b ∷ [] else []) ≡ (if (l && y) && f then b ∷ [] else [])
 told_same false f v x y b same none = refl
 told_same true f false x y b same none = ap (λ z. if (true && z) && f then b ∷ [] else []) (same refl)

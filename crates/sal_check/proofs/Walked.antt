@@ -186,7 +186,7 @@ module _ (table : SchemaTable) (store : Store) (root : Tree) (whole : IsGrove ro
   spot_on : (place : List Step) (x : Step) → after_step table (spot_of table place) x ≡ spot_of table (place ++ x ∷ [])
   spot_on place x = sym (fold_push (after_step table) root_spot place x)
 
-  -- what stands below a place is reached from it
+  -- what is below a place is reached from it
   abbrev AreBelow : List Step → Forest → Type 0
   AreBelow place f = (y : Step) (k : Tree) → In (y, k) (pairs f) → at (Some root) (place ++ y ∷ []) ≡ Some k
 

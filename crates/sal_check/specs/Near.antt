@@ -48,7 +48,7 @@ RepeatsNearAChange =
 
 -- ---- the walk over both trees
 
--- the children of what stood at a place, if anything did, and of what stands there, and of all below, are in order
+-- the children of the node before, if there was one, and of the node now, and of all below, are in order
 abbrev pub AreGroves : Option Tree → Tree → Type 0
 AreGroves before t = IsSound before × IsGrove t.kids
 
@@ -57,7 +57,7 @@ abbrev pub is_new : List ℕ → ℕ → Bool
 is_new [] s = false
 is_new (k ∷ stamps) s = (s == k) || is_new stamps s
 
--- A node with none of these stamps is the one that stood at its path before, with all that is below it.
+-- A node with none of these stamps is the one that was at its path before, with all that is below it.
 abbrev pub KeepsAt : List ℕ → Option Tree → Option Tree → Type 0
 KeepsAt stamps before after = (p : List Step) (n : Tree) → at after p ≡ Some n → is_new stamps n.stamp ≡ false → at before p ≡ Some n
 
@@ -107,8 +107,8 @@ abbrev pub is_kept : List ℕ → Option Tree → Bool
 is_kept stamps None = false
 is_kept stamps (Some t) = not (is_new stamps t.stamp)
 
--- The stamps say that the rule is kept at a place where it was kept before: its list is the one that stood there, and for
--- the fewest entries so many were demanded before. Where nothing stood before, they say nothing.
+-- The stamps say that the rule is kept at a place where it was kept before: its list is the one that was there, and for
+-- the fewest entries this many were demanded before. If there was nothing before, they say nothing.
 abbrev pub is_settled : List ℕ → SchemaTable → Option Tree → Option Tree → Rule → Bool
 is_settled stamps table None after rule = false
 is_settled stamps table (Some b) after (Mandatory n) = false

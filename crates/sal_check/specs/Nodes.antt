@@ -1,4 +1,4 @@
--- The same, seen in a tree of nodes: how the walk over a tree comes to its breaches.
+-- The same, seen in a tree of nodes: how the walk over a tree finds its breaches.
 use Rattle.std.specs.Prelude.{◌≡◌, ◌<◌, ℕ, ◌+◌, slice_index_or, Bool, ◌||◌, ◌&&◌, nat_eq, nat_lt, List, [], ◌∷◌, ◌++◌, length, Option, Some, None, is_some, if◌then◌else◌}
 use Rattle.std.specs.List.{filter, list_any}
 use Rattle.std.specs.declared.alloc.Global.{Global}
@@ -49,7 +49,7 @@ judged_in table k = filter (is_judged_in table k) (first (length table.nodes))
 abbrev pub judged : SchemaTable → Option ℕ → List ℕ
 judged table m = judged_in table (slot m)
 
--- the lists are those of the root and of each node, and it is told whether there is anything to judge
+-- the lists are those of the root and of each node, with a flag whether there is anything to judge
 pub record AreJudged (table : SchemaTable) (lists : List (Vec ℕ Global)) (any : Bool) : Type 0 where
   pub count : length lists ≡ length table.nodes + 1
   pub each : (k : ℕ) (d : Vec ℕ Global) → k < length lists → (slice_index_or lists k d).items ≡ judged_in table k
@@ -71,7 +71,7 @@ found_below table store place spot (grown x s c ks rest) =
 abbrev pub found : SchemaTable → Store → List Step → Spot → Tree → List Breach
 found table store place spot t = found_at table store place spot t ++ found_below table store place spot t.kids
 
--- the steps behind references
+-- the steps as values, without references
 abbrev pub steps_in : List (Bor Step) → List Step
 steps_in [] = []
 steps_in (x ∷ xs) = x.now ∷ steps_in xs

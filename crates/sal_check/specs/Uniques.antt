@@ -15,7 +15,7 @@ use Rattle.sal_check.specs.Nodes.{seen_in}
 use Rattle.sal_types.specs.Order.{cell_cmp}
 use Rattle.sal_rules.specs.Rules.{cells_at, same_cells}
 
--- the cells behind references
+-- the cells as values, without references
 abbrev pub cells_in : List (Bor Cell) → List Cell
 cells_in [] = []
 cells_in (c ∷ cs) = c.now ∷ cells_in cs

@@ -37,7 +37,7 @@ pub(crate) fn is_new(stamps: &[u64], node: &Arc<Node>) -> bool
     }
 }
 
-// Whether a node stands there that has none of these stamps.
+// Whether a node is present that has none of these stamps.
 fn is_kept(stamps: &[u64], node: Option<&Arc<Node>>) -> bool
     ensures { result ≡ spec.is_kept stamps.now (tree_at node.entry) }
 {
@@ -48,7 +48,7 @@ fn is_kept(stamps: &[u64], node: Option<&Arc<Node>>) -> bool
 }
 
 impl<'w> Near<'w> {
-    // Whether the list at a place is the one that stood there before.
+    // Whether the list at a place is the one before.
     fn has_same_list(&self, before: &Arc<Node>, after: &Arc<Node>, number: u32) -> bool
         requires after { IsGrove after.now.value.kids }
         requires number { number < length self.now.walk.schema.now.nodes }
@@ -60,7 +60,7 @@ impl<'w> Near<'w> {
         is_kept(self.stamps, child_of(Some(after), &Step::Node(number)))
     }
 
-    // Whether the list below a place is the one that stood there before, and so many entries were demanded then.
+    // Whether the list below a place is the one before, and this many entries were demanded then.
     fn has_same_minimum(
         &self,
         before: &Arc<Node>,
@@ -210,7 +210,7 @@ impl<'w> Near<'w> {
         Ok(least)
     }
 
-    /// The least breach with those at a place and below it that are not settled by what stood there before.
+    /// The least breach with those at a place and below it, without those that the tree before settles.
     pub(crate) fn over(
         &self,
         before: Option<&Arc<Node>>,

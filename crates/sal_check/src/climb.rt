@@ -1,4 +1,4 @@
-//! What stands above a node in the schema tree.
+//! The context and data parent of a node in the schema tree.
 ghost use Rattle.std.specs.Prelude.{◌≡◌, ◌<◌, ◌∷◌, length, IfSome, IfOk, OnOk, Some, if◌then◌else◌};
 ghost use Rattle.sal_types.specs.declared.value.Step.TheVariants.{Node};
 ghost use Rattle.sal_schema.specs.Kinds as kinds;
@@ -9,7 +9,7 @@ use sal_schema::{Kind, Schema};
 use sal_types::{NoMemory, Step};
 use std::alloc::Global;
 
-// A container that is there just where something stands in it.
+// A container that is present exactly if it has data.
 fn is_plain(kind: Kind) -> bool
     ensures { result ≡ spec.is_plain kind }
 {
@@ -40,7 +40,7 @@ pub(crate) fn context(schema: &Schema, node: u32) -> Option<u32>
     None
 }
 
-// The node that data stand under where they stand under this one.
+// The data parent of the children of this node.
 fn data_node(schema: &Schema, node: u32) -> Option<u32>
     requires { node < length schema.now.nodes }
     ensures { result ≡ data_node schema.now (Some node) }
@@ -54,7 +54,7 @@ fn data_node(schema: &Schema, node: u32) -> Option<u32>
     }
 }
 
-/// Where the context of a node stands: none at the root.
+/// The data node that the context of a node is, or the data parent of the nodes of a case: none at the root.
 pub(crate) fn stand(schema: &Schema, node: u32) -> Option<u32>
     requires { node < length schema.now.nodes }
     ensures { result ≡ spec.stand schema.now node }
@@ -65,7 +65,7 @@ pub(crate) fn stand(schema: &Schema, node: u32) -> Option<u32>
     }
 }
 
-/// The steps from where the context of a node stands down to its data parent.
+/// The steps from the context of a node down to its data parent.
 pub(crate) fn way(alloc: Global, schema: &Schema, node: u32) -> Result<Vec<Step>, NoMemory>
     requires { node < length schema.now.nodes }
     ensures { IfOk result (λ steps. steps.items ≡ spec.way schema.now node) }
@@ -93,7 +93,7 @@ fn is_list(kind: Kind) -> bool
     kind == Kind::List
 }
 
-// A step to the node before the others, where data stand under it.
+// A step to the node before the others, unless it is a choice or a case.
 fn add_data(steps: &mut Vec<Step>, kind: Kind, node: u32) -> Result<(), NoMemory>
     ensures { OnOk result (steps.new.items ≡ (if kinds.is_data kind then Node node ∷ steps.old.items else steps.old.items)) }
 {

@@ -8,7 +8,7 @@
 //! | `Plan` | a schema, with the nodes that state a rule and are judged at each place |
 //! | `Breach`, `Rule` | a rule that is broken, with its node, and where |
 //!
-//! The definitions are those of `sal_rules` over plain rows. `specs/` says how the walk over a tree of nodes comes to the same
+//! The definitions are those of `sal_rules` over plain rows. `specs/` says how the walk over a tree of nodes finds the same
 //! breaches (`Nodes`, `Uniques`, `Paths`), and what a change can break (`Near`). `laws` has that a rule breaks only where a row
 //! below its place changed.
 //!

@@ -11,7 +11,7 @@ use sal_schema::{Schema, add_to_list, empty_lists};
 use sal_types::NoMemory;
 use std::alloc::Global;
 
-/// For the root, and then for each node, the nodes that are judged where it stands: those that state a rule.
+/// For the root, and then for each node, the nodes that are judged at its place: those that state a rule.
 #[derive(Drop)]
 pub(crate) struct Lists {
     pub(crate) lists: Vec<Vec<u32>>,
@@ -66,7 +66,7 @@ impl Lists {
         Ok(Lists { lists, any })
     }
 
-    /// The nodes that are judged where this one stands.
+    /// The nodes that are judged at the place of this one.
     pub(crate) fn judged(&self, schema: &Schema, at: Option<u32>) -> &[u32]
         requires { AreJudged schema.now self.now.lists.items self.now.any }
         ensures numbers { result.now ≡ judged schema.now at }

@@ -18,7 +18,7 @@ use sal_tree::{child_of, is_present, reached};
 use sal_types::{NoMemory, Step};
 use std::sync::Arc;
 
-// ---- what stands at a place
+// ---- what a place has
 
 // A choice or a case is there where a node in it is. Choices and cases lie at most so deep in one another.
 fn is_there(schema: &Schema, node: Option<&Arc<Node>>, number: u32, deep: u32) -> bool

@@ -1,4 +1,4 @@
-//! What a place of a tree stands at.
+//! The schema node of a place of a tree.
 ghost use Rattle.std.specs.Prelude.{◌≡◌, ◌<◌, Some};
 ghost use Rattle.sal_schema.specs.Table.{is_kind};
 ghost use Rattle.sal_schema.specs.Kinds as kinds;

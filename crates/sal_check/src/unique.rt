@@ -35,7 +35,7 @@ fn cell_of<'a>(node: Option<&'a Arc<Node>>) -> Option<&'a Cell>
     }
 }
 
-/// The cells at these paths below an entry, if one stands at each.
+/// The cells at these paths below an entry, if each path has one.
 pub(crate) fn cells_at<'a>(
     alloc: Global,
     entry: &'a Arc<Node>,

@@ -31,7 +31,7 @@ pub(crate) struct Walk<'a> {
     ghost judged: { AreJudged schema.now lists.now.lists.items lists.now.any },
 }
 
-/// A place of a tree: the steps from the root to it, what it stands at, and its node.
+/// A place of a tree: the steps from the root to it, its schema node, and its node in the tree.
 #[derive(Drop)]
 pub(crate) struct Place<'t, 'a> {
     pub(crate) trail: &'t [&'a Step],

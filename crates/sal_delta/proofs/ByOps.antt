@@ -131,7 +131,7 @@ says_longer b a p q r k = elim (is_prefix q r) as (λ z. is_prefix q r ≡ z →
   | false ↦ λ i. says_nothing (wanted b a p r)
 ] refl
 
--- nothing is told where neither path is a prefix of the other
+-- no kind is given if neither path is a prefix of the other
 says_apart : (b a : List Row) (p q r : List Step) → is_prefix q p ≡ false → is_prefix p q ≡ false → Says (is_prefix q r) (wanted b a p r) None
 says_apart b a p q r e k = record {
   right = inl refl;

@@ -17,7 +17,7 @@ use Rattle.sal_rows.specs.declared.change.Change.{Change}
 use Rattle.sal_rows.specs.Changes.{same_cell}
 use Rattle.sal_delta.specs.Merge.{gone, come, met, merge_row, merge, rows_below, from_step}
 
--- the first of the rows, if there is one, stands after the row
+-- the first of the rows, if there is one, is after the row
 abbrev pub HeadAfter : Row → List Row → Type 0
 HeadAfter a [] = Unit {0}
 HeadAfter a (y ∷ ys) = path_cmp a.path y.path ≡ Less

@@ -74,7 +74,7 @@ pair_changes o u e f es fs c same =
         (precede-below e.0 (rows_of f.1) es (behind e es c.sorted_left)))
         ∙ ap (λ z. merge (rows_below (e ∷ es)) (below z (rows_of f.1) ++ rows_below fs)) same
 
--- what the first children tell, and the rest
+-- what the first children give, and the rest
 pub next-changes : (o u : Option Tree) (es fs : Entries) → Comparing o u es fs →
     noted (next_of es fs).0 ++ merge (rows_below (drop (next_of es fs).1.0 es)) (rows_below (drop (next_of es fs).1.1 fs)) ≡ merge (rows_below es) (rows_below fs)
 next-changes o u [] [] c = refl

@@ -36,7 +36,7 @@ pub moved-step : (p : List Step) (x : Step) (xs : List Change) → moved p (from
 moved-step p x [] = refl
 moved-step p x (c ∷ xs) = λ i. record { path = sym (append_assoc p (x ∷ []) c.path) i; before = c.before; after = c.after } ∷ moved-step p x xs i
 
--- one more place noted
+-- one more place added
 noted-more : (ps : List Place) (i : ℕ) (place : Place) → i < length ps → place ≡ get_or ps i place →
     noted (spots (take (i + 1) ps)) ≡ noted (spots (take i ps)) ++ from_step place.step.now (merge (rows_at (tree_at place.before)) (rows_at (tree_at place.after)))
 noted-more [] i place l e = absurd (omega arith)
@@ -79,7 +79,7 @@ walked-all o u ps n p start first last l same a b =
     ∙ sym (moved-append p (merge (here (cell_in o)) (here (cell_in u))) (merge (rows_below (kids_in o)) (rows_below (kids_in u))))
     ∙ ap (moved p) (sym (merge-at o u)))
 
--- the parts of a node are smaller, and stand one step lower
+-- the parts of a node are smaller, and one step lower
 abbrev pub size_at : Option Tree → ℕ
 size_at None = 0
 size_at (Some t) = 1 + size_of t

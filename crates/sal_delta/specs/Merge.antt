@@ -19,7 +19,7 @@ come row = record { path = row.path; before = None; after = Some row.cell }
 abbrev pub met : Row → Row → List Change
 met x y = if same_cell (Some x.cell) (Some y.cell) then [] else record { path = x.path; before = Some x.cell; after = Some y.cell } ∷ []
 
--- a row and those behind it, which `on` merges with a list
+-- a row and those after it, which `on` merges with a list
 abbrev pub merge_row : Row → (List Row → List Change) → List Row → List Change
 merge_row x on [] = gone x ∷ on []
 merge_row x on (y ∷ ys) = match_ordering (path_cmp x.path y.path) (gone x ∷ on (y ∷ ys)) (met x y ++ on ys) (come y ∷ merge_row x on ys)

@@ -18,7 +18,7 @@ abbrev pub spots : List Place → List Spot
 spots [] = []
 spots (p ∷ ps) = (p.step.now, (tree_at p.before, tree_at p.after)) ∷ spots ps
 
--- what the first of the children tell: the places where they differ, and how many of each were looked at
+-- what the first of the children give: the places where they differ, and how many of each were compared
 abbrev pub pair_of : Step × Tree → Step × Tree → List Spot × (ℕ × ℕ)
 pair_of e f = ((if e.1.stamp == f.1.stamp then [] else ((e.0, (Some e.1, Some f.1)) ∷ [])), (1, 1))
 
@@ -39,7 +39,7 @@ abbrev pub noted : List Spot → List Change
 noted [] = []
 noted (s ∷ ss) = from_step s.0 (merge (rows_at s.1.0) (rows_at s.1.1)) ++ noted ss
 
--- one that stands there is the child
+-- if there is one, it is the child
 abbrev pub IsKid : Option Tree → Step → Option Tree → Type 0
 IsKid o x None = Unit {0}
 IsKid o x (Some t) = kid o x ≡ Some t
@@ -53,7 +53,7 @@ abbrev pub depth_of : Option Tree → ℕ
 depth_of None = 0
 depth_of (Some t) = height t.kids
 
--- a node that may stand n steps below the root
+-- a node that may be n steps below the root
 pub record Stands (o : Option Tree) (n : ℕ) : Type 0 where
   pub sound : IsSound o
   pub low : depth_of o + n ≤ 32

@@ -60,7 +60,7 @@ fn by_nodes(before: Option<&Arc<Node>>, after: Option<&Arc<Node>>) -> CandidateK
     }
 }
 
-// `came` where there is a cell.
+// `came` if there is a cell.
 fn by_one(cell: &Option<Cell>, came: CandidateKind) -> CandidateKind
     ensures { result ≡ elim cell.now [ Some c ↦ came | None ↦ CandidateKind.SubtreeModified ] }
 {

@@ -84,7 +84,7 @@ fn note(
     Ok(())
 }
 
-// Whether one cell stands in both, or none in either.
+// Whether both have the same cell, or neither has one.
 pub(crate) fn is_same(before: &Option<Cell>, after: &Option<Cell>) -> bool
     ensures { result ≡ same_cell before.now after.now }
 {

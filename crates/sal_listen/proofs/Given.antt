@@ -67,7 +67,7 @@ untouched t u p w agree e =
     let same : t ≡ u = agree [] t u refl refl e in
     quiet t p w (subst (λ v. Agree t v) (sym same) agree) ∙ ap (λ v. changes_under (rows_of t) (rows_of v) p) same
 
--- no part is put behind the others
+-- no part is added after the others
 pub untouched-part : (own : Bool) (t u : Tree) (p : List Step) (k : ℕ) (before : List Part) → IsWhole t → Agree t u → t.stamp ≡ u.stamp → before ≡ before ++ part own (rows_of t) (rows_of u) p k
 untouched-part own t u p k before w agree e = sym (append-nil before) ∙ ap (λ cs. before ++ part_with own (rows_of t) (rows_of u) p k cs) (untouched t u p w agree e)
 

@@ -17,6 +17,6 @@ BatchesCarryTheOpening =
 abbrev pub BatchesLeaveNothingOut : Type 0
 BatchesLeaveNothingOut = (own : Bool) (trees : ℕ → List Row) (p : List Step) (k : ℕ) (bs : List Batch) → AreBatches own trees p k bs → parts_in bs ≡ (batch own trees p k (end_of k bs)).lists
 
--- A batch stays the same when later commits come: it looks at no tree behind its end.
+-- A batch stays the same when later commits are added: it uses no tree after its end.
 abbrev pub BatchesStay : Type 0
 BatchesStay = (own : Bool) (trees more : ℕ → List Row) (p : List Step) (from to : ℕ) → ((k : ℕ) → k ≤ to → trees k ≡ more k) → batch own trees p from to ≡ batch own more p from to

@@ -66,7 +66,7 @@ fn parts(
     Ok(list)
 }
 
-// Puts the part of the commit behind this one at the end, if it changed anything.
+// Appends the part of the commit after this one, if that commit changed anything.
 fn add_next(
     into: &mut Vec<Part>,
     listened: &Listened,

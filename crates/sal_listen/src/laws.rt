@@ -7,7 +7,7 @@ pub fn batches_carry_the_opening()
     ensures { BatchesCarryTheOpening }
 {}
 
-/// The batches of a listener, one behind the other, have the parts of the one batch over all their commits: they neither
+/// The consecutive batches of a listener have the parts of the one batch over all their commits: they neither
 /// overlap nor leave a commit out.
 pub fn batches_leave_nothing_out()
     ensures { BatchesLeaveNothingOut }

@@ -37,7 +37,7 @@ impl Mirror {
         })
     }
 
-    /// Goes on to the end of the batch. A refused batch leaves the mirror as it was.
+    /// Advances to the end of the batch. A refused batch leaves the mirror as it was.
     pub fn take(&mut self, alloc: Global, batch: &Batch) -> Result<(), MirrorFault>
         ensures version { OnOk result (self.new.version ≡ batch.now.to) }
         ensures rows { OnOk result (self.new.rows ≡ with_parts self.old.rows batch.now.lists) }

@@ -1,4 +1,4 @@
--- In the order of paths, a row below a path comes directly behind it.
+-- In the order of paths, a row below a path comes directly after it.
 use Rattle.std.proofs.Common.{◌≡◌, ℕ, zero, suc, ◌<◌, Bool, true, false, ◌&&◌, ◌≤◌, List, [], ◌∷◌, length, get_or, refl, ap, sym, ◌∙◌, arith}
 use Rattle.std.specs.Prelude.{◌||◌}
 use Rattle.std.specs.Ordering.{is_eq, is_lt, ordering_then, ordering_reverse, eq_by_cmp}
@@ -19,7 +19,7 @@ none-so : (b c : Bool) → c ≡ false → (b && c) ≡ false
 none-so true c e = e
 none-so false c e = refl
 
--- what stands before a path is not below it
+-- what is before a path is not below it
 not_before : (q x : List Step) → path_cmp x q ≡ Less → is_prefix q x ≡ false
 not_before [] [] e = cc
 not_before [] (t ∷ x) e = cc
@@ -33,7 +33,7 @@ not_before (s ∷ q) (t ∷ x) e =
       | Greater ↦ λ is f. cc
     ] refl e
 
--- what stands behind a path that is behind q and not below it is not below q
+-- what is after a path that is after q and not below it is not below q
 not_behind : (q x y : List Step) → path_cmp x q ≡ Greater → is_prefix q x ≡ false → path_cmp x y ≡ Less → is_prefix q y ≡ false
 not_behind [] x y e out up = cc
 not_behind (s ∷ q) [] y e out up = cc
@@ -61,7 +61,7 @@ none_behind q x (y ∷ rows) e out up =
     let rest = none_behind q x rows e out (second_so (is_lt (path_cmp x.path y.path)) _ up) in
     ap (λ b. b || has rows q) here ∙ rest
 
--- The rows before place i stand before the path, the others behind it: if one is below it, that at i is.
+-- The rows before place i are before the path, the others after it: if one is below it, that at i is.
 pub first_below : (rows : List Row) (q : List Step) (i : ℕ) (d : Row) → is_sorted path_cmp (entries rows) ≡ true → Parted rows q i → i < length rows → has rows q ≡ is_prefix q (get_or rows i d).path
 first_below [] q i d rising at inside = absurd (omega arith)
 first_below (x ∷ rows) q zero d rising (before, behind) inside =
@@ -73,7 +73,7 @@ first_below (x ∷ rows) q (suc i) d rising (before, behind) inside =
     ap (λ b. b || has rows q) (not_before q x.path (before 0 x (omega arith) (omega arith)))
     ∙ first_below rows q i d (second_so (below_all path_cmp x.path (entries rows)) _ rising) (λ k e low more. before (suc k) e (omega arith) (omega arith), λ k e high low. behind (suc k) e (omega arith) (omega arith)) (omega arith)
 
--- none is, if all rows stand before it
+-- none is, if all rows are before it
 pub none_below : (rows : List Row) (q : List Step) (i : ℕ) → Parted rows q i → length rows ≤ i → has rows q ≡ false
 none_below [] q i at past = refl
 none_below (x ∷ rows) q zero at past = absurd (omega arith)

@@ -35,7 +35,7 @@ pub ascending-patched : (ps : List Patch) (rows : List Row) → IsAscending rows
 ascending-patched [] rows rising = rising
 ascending-patched (p ∷ ps) rows rising = ascending-patched ps (with_cell rows p.path p.cell) (ascending-with_cell rows p.path p.cell rising)
 
--- where there is no patch stands what stood there
+-- without a patch the cell is the one before
 pub not-patched : (ps : List Patch) (rows : List Row) (r : List Step) → at_one r ps ≡ false → cell (patched rows ps) r ≡ cell rows r
 not-patched [] rows r none = refl
 not-patched (p ∷ ps) rows r none =
@@ -53,7 +53,7 @@ record Found (t : Patch → Bool) (r : List Step) (o : Option Cell) : Type 0 whe
   path : patch.path ≡ r
   here : patch.cell ≡ o
 
--- a cell comes from a patch, or stood there before
+-- a cell comes from a patch, or was there before
 from_patch : (t : Patch → Bool) (ps : List Patch) (rows : List Row) (r : List Step) (c : Cell) → list_all t ps ≡ true → cell (patched rows ps) r ≡ Some c → Found t r (Some c) ⊎ (cell rows r ≡ Some c)
 from_patch t [] rows r c all e = inr e
 from_patch t (p ∷ ps) rows r c all e =

@@ -48,7 +48,7 @@ left-some table rows (p ∷ ps) r c at state e =
       | false ↦ λ is f. or-true (leaves_state table rows p) (leave_state table rows ps) (left-some table rows ps r c f state e)
     ] refl at
 
--- what a patch left stands there
+-- what a patch left is there
 some-left : (table : SchemaTable) (rows : List Row) (ps : List Patch) → has_state table rows ≡ false → leave_state table rows ps ≡ false
 some-left table rows [] none = refl
 some-left table rows (p ∷ ps) none =

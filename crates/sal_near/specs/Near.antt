@@ -24,7 +24,7 @@ patches_fit table ps = list_all (patch_fits table) ps
 
 -- ---- closed trees
 
--- an entry or presence container at the path is whole, if something stands there or below it
+-- an entry or presence container at the path is whole, if there is a row at it or below it
 abbrev pub is_whole_if_there : SchemaTable → List Row → List Step → Bool
 is_whole_if_there table rows path = not (has rows path) || is_whole_at table rows path
 
@@ -32,7 +32,7 @@ is_whole_if_there table rows path = not (has rows path) || is_whole_at table row
 abbrev pub is_whole_to : SchemaTable → List Row → List Step → Bool
 is_whole_to table rows path = list_all (is_whole_if_there table rows) (prefixes path)
 
--- the same for a patch, and nothing stands there in an RPC or a notification
+-- the same for a patch, and there is no row at it in an RPC or a notification
 abbrev pub is_near : SchemaTable → List Row → Patch → Bool
 is_near table rows p = not (is_in_message table p.path && has rows p.path) && is_whole_to table rows p.path
 
@@ -51,7 +51,7 @@ NearIsClosed =
 abbrev pub has_state : SchemaTable → List Row → Bool
 has_state table rows = list_any (λ row. is_of_state table row.path) rows
 
--- a row of a state node stands where the patch set a cell
+-- there is a row of a state node where the patch set a cell
 abbrev pub leaves_state : SchemaTable → List Row → Patch → Bool
 leaves_state table rows p = is_of_state table p.path && is_some (cell rows p.path)
 

@@ -1,4 +1,4 @@
-//! The cell at a path, and whether a row stands there or below it, searched by halves.
+//! The cell at a path, and whether there is a row at it or below it, by binary search.
 ghost use Rattle.std.specs.Prelude.{◌≡◌, ◌++◌, ◌∷◌, [], option_map};
 ghost use Rattle.sal_types.specs.declared.value.Step.TheVariants.{Node};
 ghost use Rattle.sal_types.specs.Order.{path_cmp};
@@ -8,7 +8,7 @@ ghost use Rattle.sal_types.specs.Tree.{IsAscending, cell, has};
 use sal_types::{Cell, Row, Step};
 use std::cmp::Ordering;
 
-/// How the path stands to that of the leaf below `front`.
+/// The order of the path and that of the leaf below `front`.
 fn order(path: &[Step], front: &[Step], leaf: u32) -> Ordering
     ensures { result ≡ path_cmp path.now (front.now ++ Node leaf ∷ []) }
 {
@@ -56,7 +56,7 @@ fn begins(row: &Row, steps: &[Step]) -> bool
     row.path.steps().starts_with(steps)
 }
 
-/// Whether a row stands at these steps or below them.
+/// Whether there is a row at these steps or below them.
 pub(crate) fn has_at(rows: &[Row], steps: &[Step]) -> bool
     requires { IsAscending rows.now }
     ensures { result ≡ has rows.now steps.now }

@@ -47,7 +47,7 @@ fn is_whole_to(schema: &Schema, rows: &[Row], before: &[Step], steps: &[Step]) -
     true
 }
 
-// Whether something stands at a path in an RPC or a notification.
+// Whether the tree has data at a path in an RPC or a notification.
 fn is_message(schema: &Schema, rows: &[Row], path: &Path) -> bool
     requires { IsAscending rows.now }
     ensures { result ≡ (is_in_message schema.now path.now && has rows.now path.now) }

@@ -15,7 +15,7 @@ fn leaves_state(schema: &Schema, rows: &[Row], patch: &Patch) -> bool
     schema.is_of_state(&patch.path) && cell_at(rows, patch.path.steps()).is_some()
 }
 
-/// Whether a row of a state node stands at the path of a patch, in rows that were patched.
+/// Whether there is a row of a state node at the path of a patch, in rows that were patched.
 ///
 /// If the rows had no state data before, they have some now exactly if it does (`laws::state_is_near`). It takes no memory.
 pub fn leave_state(schema: &Schema, rows: &Rows, patches: &[Patch]) -> bool

@@ -12,7 +12,7 @@ use sal_schema::Schema;
 use sal_schema::lookups::keys_at;
 use sal_types::{Cell, Row, Step, Value};
 
-// The node that these steps of a path come to: that of a list for each of its entries.
+// The node that these steps of a path name: the list for each of its entries.
 fn node_at_end(steps: &[Step]) -> Option<u32>
     ensures { result ≡ node_of steps.now }
 {
@@ -25,7 +25,7 @@ fn node_at_end(steps: &[Step]) -> Option<u32>
     here
 }
 
-// Whether the leaf below these steps stands there with the value.
+// Whether the leaf below these steps is present with the value.
 fn has_leaf(rows: &[Row], steps: &[Step], leaf: u32, value: &Value) -> bool
     requires { IsAscending rows.now }
     ensures { result ≡ spec.has_cell rows.now (steps.now ++ Node leaf ∷ []) (Leaf value.now) }
@@ -37,7 +37,7 @@ fn has_leaf(rows: &[Row], steps: &[Step], leaf: u32, value: &Value) -> bool
     }
 }
 
-// Whether the key leafs of the entry at these steps stand there, with these values.
+// Whether the key leafs of the entry at these steps are present, with these values.
 fn has_key_leafs(rows: &[Row], steps: &[Step], leafs: &[u32], values: &[Value]) -> bool
     requires { IsAscending rows.now }
     ensures { result ≡ spec.has_key_leafs rows.now steps.now leafs.now values.now }
@@ -80,7 +80,7 @@ fn is_whole_at(schema: &Schema, rows: &[Row], steps: &[Step]) -> bool
     }
 }
 
-/// The same, or nothing stands there or below it.
+/// The same, or there is no row at it or below it.
 pub(crate) fn is_whole_if_there(schema: &Schema, rows: &[Row], steps: &[Step]) -> bool
     requires { IsAscending rows.now }
     ensures { result ≡ is_whole_if_there schema.now rows.now steps.now }

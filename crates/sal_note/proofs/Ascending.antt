@@ -70,7 +70,7 @@ among-with q c (d ∷ ds) e =
     rest true b w z f h = refl
     rest false b w z f h = f h
 
--- ---- where one stands
+-- ---- the place of a client
 
 by-prefix : (c : ℕ) (ds : List ℕ) → position_or_len (λ other. nat_le c other) ds ≡ first_from c ds
 by-prefix c [] = refl

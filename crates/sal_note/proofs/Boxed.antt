@@ -1,4 +1,4 @@
--- What stands in a client's box when notifications are given and taken back.
+-- What a client's box has when notifications are offered and withdrawn.
 use Rattle.std.proofs.Common.{◌≡◌, ℕ, zero, suc, ◌-◌, ◌<◌, ◌≤◌, Bool, true, false, ◌||◌, List, [], ◌∷◌, ◌++◌, Option, Some, None, length, drop, take, get_or, refl, ap, sym, ◌∙◌, cond, arith, append-nil, length-append, drop-cons, if◌then◌else◌, nat_eq}
 use Rattle.std.specs.Prelude.{is_some, slice_get}
 use Rattle.std.specs.BTreeMap.{insert_entry, is_at}

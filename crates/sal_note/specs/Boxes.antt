@@ -29,7 +29,7 @@ pub record IsKept (made : List Made) (b : Boxes) : Type 0 where
   pub queued : (client : ℕ) → queue_in b.queues client ≡ queue made client
   pub each : (note client : ℕ) → list_any (nat_eq client) (clients_in b.subscribed note) ≡ true → is_some (box_in b.queues client) ≡ true
 
--- one subscriber more of any notification can still be told by a number of 32 bits
+-- the count of subscribers of each notification still fits 32 bits after one more
 abbrev pub HasRoom : List (ℕ × List ℕ) → Type 0
 HasRoom subscribed = (note : ℕ) → length (clients_in subscribed note) + 1 < 2 ^ 32
 
@@ -47,7 +47,7 @@ abbrev pub Ascend : List ℕ → Type 0
 Ascend [] = Unit {0}
 Ascend (c ∷ cs) = AreAbove c cs
 
--- as many as a number of 32 bits tells
+-- as many as 32 bits can count
 pub record AreClients (cs : List ℕ) : Type 0 where
   pub ascend : Ascend cs
   pub few : length cs < 2 ^ 32
@@ -62,7 +62,7 @@ abbrev pub put_back : List (ℕ × List Note) → ℕ → Option (List Note) →
 put_back queues client None f = queues
 put_back queues client (Some q) f = set_value (is_at (nat_cmp client)) queues (f q)
 
--- the notification stands last in the client's queue
+-- the notification is the last one in the client's queue
 abbrev pub give_one : Note → List (ℕ × List Note) → ℕ → List (ℕ × List Note)
 give_one note queues client = put_back queues client (box_in queues client) (λ q. q ++ note ∷ [])
 

@@ -11,7 +11,7 @@ use Rattle.sal_note.specs.Queues.{Asked, made_of}
 abbrev pub by : ℕ → NoteCall → Asked
 by client call = record { client = client; call = call }
 
--- rows that tell by their node which they are
+-- rows that differ in their node
 abbrev pub rows : ℕ → List Row
 rows n = record { path = Node n ∷ []; cell = Mark } ∷ []
 

@@ -47,7 +47,7 @@ pub enum NoteFault {
 /// The answer to a call.
 #[derive(Drop)]
 pub enum NoteReply {
-    /// The call was done, and has nothing to tell.
+    /// The call was done. There is nothing to answer.
     Accepted,
     /// So many subscribers have got it.
     Offered { count: u32 },

@@ -9,7 +9,7 @@ use sal_types::NoMemory;
 use std::alloc::Global;
 use std::marker::Model;
 
-/// Clients in ascending order, each once, as many as a number of 32 bits tells.
+/// Clients in ascending order, each once, at most 4,294,967,295.
 #[derive(Drop)]
 pub(crate) struct Clients {
     list: Vec<u32>,

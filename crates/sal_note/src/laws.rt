@@ -1,7 +1,7 @@
 //! Laws of notifications. Each function does nothing; its contract is the law.
 ghost use Rattle.sal_note.specs.Laws.{OfferedToEach, RefusedToAll, SubscribersAreCallers};
 
-/// A good offer stands once, and last, in the queue of each client that is subscribed then, and in no other; a refused one in none.
+/// A good offer is added once, as the last one, to the queue of each client that is subscribed then, and to no other; a refused one to none.
 pub fn offers_reach_each_subscriber_once()
     ensures each { OfferedToEach }
     ensures none { RefusedToAll }

@@ -16,7 +16,7 @@ passes n test (r ∷ rs) w e =
       | false ↦ λ _ h. passes (n + 1) test rs w h
     ] refl e
 
--- it stands at its number
+-- it is at its number
 stands : (n : ℕ) (test : ℕ → Requested → Bool) (rs : List Requested) (w : ℕ × Requested) → slice_get (waiting_from n test rs) 0 ≡ Some w → (k : ℕ) × (w.0 ≡ n + k) × (slice_get rs k ≡ Some w.1)
 stands n test [] w e = cc
 stands n test (r ∷ rs) w e =

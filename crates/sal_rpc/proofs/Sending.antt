@@ -97,7 +97,7 @@ pub sent-get : (f : Sent → Sent) (xs : List Sent) (id i : ℕ) → 0 < id → 
 sent-get f xs zero i low = absurd (omega arith)
 sent-get f xs (suc k) i low = let same : nat_eq k i ≡ nat_eq (suc k) (suc i) = grind (arith, nat_tests) in written-get f xs k i ∙ ap (λ b. if b then option_map f (slice_get xs i) else slice_get xs i) same
 
--- what stood there before it was written
+-- what was there before it was written
 pub written-from : (f : Sent → Sent) (b : Bool) (o : Option Sent) (s : Sent) → (if b then option_map f o else o) ≡ Some s → (x : Sent) × (o ≡ Some x) × ((if b then f x else x) ≡ s)
 written-from f true None s e = cc
 written-from f true (Some x) s e = (x, refl, let same : f x ≡ s = cc in same)

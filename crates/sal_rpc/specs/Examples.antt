@@ -15,7 +15,7 @@ by client call = record { client = client; call = call }
 abbrev pub there : ℕ → List Step
 there n = Node n ∷ []
 
--- rows that tell by their node which they are
+-- rows that differ in their node
 abbrev pub rows : ℕ → List Row
 rows n = record { path = there n; cell = Mark } ∷ []
 

@@ -63,7 +63,7 @@ pub enum RpcFault {
 /// The answer to a call on the router.
 #[derive(Drop)]
 pub enum RpcReply {
-    /// The call was done, and has nothing to tell.
+    /// The call was done. There is nothing to answer.
     Accepted,
     /// The request has this id.
     CallMade { id: u64 },

@@ -16,7 +16,7 @@ pub fn the_exact_context_goes_first()
         ∷ Handed (record { id = 1; rpc = 5; context = Some (there 1); input = rows 8 }) ∷ Handed (record { id = 2; rpc = 5; context = Some (there 2); input = rows 9 }) ∷ Nothing ∷ [] }
 {}
 
-/// A request stays with the client to which it went, also behind that one's withdrawal; the next one finds no provider.
+/// A request stays with the client that received it, also after that client withdraws; the next one finds no provider.
 pub fn a_withdrawal_after_a_request()
     ensures { replies (by 1 (Provide 5 None) ∷ by 0 (Invoke 5 None (rows 8)) ∷ by 1 (Withdraw 5 None) ∷ by 0 (Invoke 5 None (rows 9)) ∷ by 1 NextCall ∷ [])
         ≡ Accepted ∷ CallMade 1 ∷ Accepted ∷ Refused (NoProvider 5) ∷ Handed (record { id = 1; rpc = 5; context = None; input = rows 8 }) ∷ [] }
@@ -28,7 +28,7 @@ pub fn an_answer_of_another_client()
         ≡ Accepted ∷ CallMade 1 ∷ Refused (NoCall 1) ∷ Handed (record { id = 1; rpc = 5; context = None; input = rows 8 }) ∷ Refused (NoCall 1) ∷ Accepted ∷ Refused (NoCall 1) ∷ Output (rows 7) ∷ [] }
 {}
 
-/// A request is collected by the client that made it: nothing before it is answered, and the same rows at each time behind.
+/// A request is collected by the client that made it: before the answer it has no result, and after it the same rows each time.
 pub fn collected_before_and_behind()
     ensures { replies (by 1 (Provide 5 None) ∷ by 0 (Invoke 5 None (rows 8)) ∷ by 0 (Collect 1) ∷ by 1 NextCall ∷ by 1 (Answer 1 (rows 7)) ∷ by 0 (Collect 1) ∷ by 0 (Collect 1) ∷ by 2 (Collect 1) ∷ by 0 (Collect 2) ∷ [])
         ≡ Accepted ∷ CallMade 1 ∷ Nothing ∷ Handed (record { id = 1; rpc = 5; context = None; input = rows 8 }) ∷ Accepted ∷ Output (rows 7) ∷ Output (rows 7) ∷ Refused (NoCall 1) ∷ Refused (NoCall 2) ∷ [] }

@@ -12,7 +12,6 @@
 //! from itself, no union has a union in it, and each name means one thing. `specs/` here has the test as one value for a table
 //! (`Whole`) and the names by which duplicates are found (`Keys`). The result does not say which rule a table breaks.
 //!
-//!
 //! ```
 //! match schema_of(alloc, table) {
 //!     Ok(schema) => serve(&schema),

@@ -23,7 +23,7 @@ fold-snoc : (n : ℕ) (a : List ℕ) (c : ℕ) → fold step n (a ++ c ∷ []) �
 fold-snoc n [] c = refl
 fold-snoc n (x ∷ a) c = fold-snoc (step n x) a c
 
--- the last so many digits of a number, and what stands before them
+-- the last digits of a number, and what is before them
 abbrev last : ℕ → ℕ → List ℕ
 last zero n = []
 last (suc k) n = last k (n / 10) ++ (48 + n % 10) ∷ []

@@ -13,7 +13,7 @@ map_take-more f [] k x e = cc
 map_take-more f (y ∷ xs) zero x e = let same : y ≡ x = cc in ap (λ z. f z ∷ []) same
 map_take-more f (y ∷ xs) (suc k) x e = let more : suc k + 1 ≡ suc (k + 1) = omega arith in rw more (ap (λ t. f y ∷ t) (map_take-more f xs k x e))
 
--- what stands at a place of the list under f
+-- the item at a place of the list under f
 pub slice_get-map : {X Y : Type 0} (f : X → Y) (xs : List X) (k : ℕ) (x : X) (y : Y) → slice_get xs k ≡ Some x → slice_get (map f xs) k ≡ Some y → y ≡ f x
 slice_get-map f [] k x y e h = cc
 slice_get-map f (z ∷ xs) zero x y e h = let a : z ≡ x = cc in let b : f z ≡ y = cc in sym b ∙ ap f a

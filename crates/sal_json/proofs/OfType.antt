@@ -126,7 +126,7 @@ module _ (table : SchemaTable) where
     | inr other ↦ let no : None ≡ Some atom = rw other at e in cc
   ]
 
-  -- the first member that takes something stands at its place
+  -- the first member that takes something is at its place
   pub first-place : (take : YangType → Option Atom) (members : List YangType) (i : ℕ) (value : Value) → first_own take i members ≡ Ok value
       → (k : ℕ) × (member : YangType) × (value.member ≡ i + k) × (slice_get members k ≡ Some member) × (take member ≡ Some value.atom)
   first-place take [] i value e = cc

@@ -72,7 +72,7 @@ bits_text names positions set = join_by (name_with names positions) (32 ∷ []) 
 abbrev pub is_colon : ℕ → Bool
 is_colon c = c == 58
 
--- the identity of a name: of the module `m`, or of the one that stands before the first colon
+-- the identity of a name: of the module `m`, or of the one before the first colon
 abbrev pub identity_called : SchemaTable → ℕ → List ℕ → Option ℕ
 identity_called table m t =
     if list_any is_colon t then identity_of table (before_first is_colon t) (after_first is_colon t) else identity_of table (module_name table m) t

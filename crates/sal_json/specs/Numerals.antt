@@ -47,7 +47,7 @@ number_of t = signed (has_minus t) (decimal (without_sign t))
 abbrev pub begins_with_zero : List ℕ → Bool
 begins_with_zero t = slice_index t 0 == 48
 
--- `0`, or digits that begin with another, behind a minus or none
+-- `0`, or digits that begin with another one; a minus may precede them
 abbrev pub is_strict : List ℕ → Bool
 is_strict t = (length t == 1 && begins_with_zero t) || (is_digits (without_minus t) && not (begins_with_zero (without_minus t)))
 
@@ -67,14 +67,14 @@ is_point c = c == 46
 abbrev pub has_point : List ℕ → Bool
 has_point t = list_any is_point t
 
--- the digits before the point, and those behind it: none where there is no point
+-- the digits before the point, and those after it: none without a point
 abbrev pub whole_digits : List ℕ → List ℕ
 whole_digits t = before_first is_point t
 
 abbrev pub further_digits : List ℕ → List ℕ
 further_digits t = after_first is_point t
 
--- digits, and behind a point further ones
+-- digits, and a point with further ones
 abbrev pub is_decimal : List ℕ → Bool
 is_decimal t = is_digits (whole_digits t) && (not (has_point t) || is_digits (further_digits t))
 
@@ -85,7 +85,7 @@ first_of digits t = take digits t
 abbrev pub rest_of : ℕ → List ℕ → List ℕ
 rest_of digits t = drop digits t
 
--- the digits behind the point that a type with so many has no place for are zeros
+-- the digits after the point beyond the first `digits` are zeros
 abbrev pub is_exact : ℕ → List ℕ → Bool
 is_exact digits t = list_all (λ c. c == 48) (rest_of digits (further_digits t))
 
@@ -110,7 +110,7 @@ abbrev pub with_point : ℕ → ℕ → List ℕ
 with_point zero n = digits_of n ++ 46 ∷ []
 with_point (suc digits) n = with_point digits (n / 10) ++ (48 + n % 10) ∷ []
 
--- a number of units: a zero at the end is left out, unless it is the only digit behind the point
+-- a number of units: a zero at the end is left out, unless it is the only digit after the point
 abbrev pub point_text : ℕ → ℕ → List ℕ
 point_text zero n = with_point 0 n
 point_text (suc zero) n = with_point 1 n

@@ -1,4 +1,4 @@
--- Which value a JSON value or a key text stands for, or why it stands for none (RFC 7951 section 6, RFC 7950 section 9).
+-- Which value a JSON value or a key text denotes, or why it denotes none (RFC 7951 section 6, RFC 7950 section 9).
 use Rattle.std.specs.Prelude.{ℕ, ◌+◌, ◌==◌, ℤ, pos, Bool, true, false, not, List, [], ◌∷◌, length, Option, Some, None, option_and_then, is_some, Result, Ok, Err, codes, if◌then◌else◌}
 use Rattle.std.specs.List.{list_all, slice_get}
 use Rattle.std.specs.Option.{option_map_or}
@@ -47,7 +47,7 @@ binary_atom lengths t = option_map_or (bytes_atom lengths) (bytes_of t) (Err Wro
 abbrev pub empty_atom : List ℕ → Result Atom ScalarFault
 empty_atom t = if length t == 0 then Ok Empty else Err WrongKind
 
--- the atom that a text stands for in a type that is no union, where `m` is the module of the leaf
+-- the atom that a text denotes in a type that is no union, where `m` is the module of the leaf
 abbrev pub text_atom : SchemaTable → ℕ → YangType-F YangType → List ℕ → Result Atom ScalarFault
 text_atom table m (YangType-F.Int bits sign range) t = int_atom bits sign range t
 text_atom table m (YangType-F.Dec digits range) t = dec_atom digits range t
@@ -86,7 +86,7 @@ is_nulls json = option_map_or is_one_null (as_array json) false
 abbrev pub of_nulls : Data → Result Atom ScalarFault
 of_nulls json = if is_nulls json then Ok Empty else Err WrongKind
 
--- the atom that a JSON value stands for in a type that is no union
+-- the atom that a JSON value denotes in a type that is no union
 abbrev pub json_atom : SchemaTable → ℕ → YangType-F YangType → Data → Result Atom ScalarFault
 json_atom table m (YangType-F.Int bits sign range) json = if bits == 64 then of_string (int_atom bits sign range) json else of_number (whole_atom sign range) json
 json_atom table m YangType-F.Bool json = of_boolean json
@@ -143,10 +143,10 @@ type_text_scalar table ty m t = layer_text_scalar table m (out-YangType ty) t
 abbrev pub type_scalar : SchemaTable → YangType → ℕ → Data → Result Value ScalarFault
 type_scalar table ty m json = layer_scalar table m (out-YangType ty) json
 
--- the value of the type `ty` that a key text stands for, where `m` is the module of the leaf
+-- the value of the type `ty` that a key text denotes, where `m` is the module of the leaf
 abbrev pub text_scalar_of : SchemaTable → ℕ → ℕ → List ℕ → Result Value ScalarFault
 text_scalar_of table ty m t = option_map_or (λ type. type_text_scalar table type m t) (slice_get table.types ty) (Err WrongKind)
 
--- the value that a JSON value stands for
+-- the value that a JSON value denotes
 abbrev pub scalar_of : SchemaTable → ℕ → ℕ → Data → Result Value ScalarFault
 scalar_of table ty m json = option_map_or (λ type. type_scalar table type m json) (slice_get table.types ty) (Err WrongKind)

@@ -1,16 +1,16 @@
-//! Why a JSON value or a text stands for no value.
+//! Why a JSON value or a text denotes no value.
 ghost use Rattle.std.specs.Prelude.{◌≡◌};
 
 use std::alloc::{AllocError, AllocFailed};
 use thiserror::Error;
 
-/// Why a JSON value or a text stands for no value of a type.
+/// Why a JSON value or a text denotes no value of a type.
 #[derive(Clone, Copy, Debug, Error)]
 pub enum ScalarFault {
     /// The type takes another kind of JSON values, or texts of another form. Or no member of a union takes it.
     #[error("this is not in the form of the type")]
     WrongKind,
-    /// The number is not in the range, or has more digits behind its point than the type.
+    /// The number is not in the range, or has more digits after its point than the type.
     #[error("the number is out of range")]
     OutOfRange,
     /// The text has too few or too many characters, or there are too few or too many bytes.

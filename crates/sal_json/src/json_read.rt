@@ -75,7 +75,7 @@ fn nulls_atom(json: &Json) -> Result<Atom, ScalarFault>
     }
 }
 
-/// The atom that a JSON text stands for.
+/// The atom that a JSON text denotes.
 fn string_atom(
     alloc: Global,
     schema: &Schema,
@@ -95,7 +95,7 @@ fn string_atom(
     }
 }
 
-/// The atom that a JSON value stands for in a type that is no union, where the module is the one of the leaf.
+/// The atom that a JSON value denotes in a type that is no union, where the module is the one of the leaf.
 pub(crate) fn json_atom(
     alloc: Global,
     schema: &Schema,

@@ -2,13 +2,13 @@
 //!
 //! | item | what it is |
 //! |---|---|
-//! | `read_scalar`, `write_scalar` | the value that a JSON value stands for in a type; the JSON value of a value |
+//! | `read_scalar`, `write_scalar` | the value that a JSON value denotes in a type; the JSON value of a value |
 //! | `read_text`, `write_text` | the same for the text of a key |
 //! | `Patterns` | the patterns of a schema, compiled |
 //! | `ScalarFault`, `PatternsFault` | why there is no value, or there are no patterns |
 //! | `laws` | functions that do nothing, each with laws of the definitions as its contract |
 //!
-//! `specs/Read` says which value a JSON value or a text stands for, with `Numerals`, `Named` and `Patterns` for numbers, names
+//! `specs/Read` says which value a JSON value or a text denotes, with `Numerals`, `Named` and `Patterns` for numbers, names
 //! and patterns. `specs/Written` has the one spelling in which each value is written. The readers and writers give what these
 //! definitions give, unless memory runs out. What is read is of its type, and what is written for it reads as it again
 //! (`laws`).

@@ -73,7 +73,7 @@ fn with_name(names: &[Str], positions: &[u8], set: u64, name: &[u8]) -> Result<u
     }
 }
 
-/// The set of the bits with these names, which stand with one space between any two.
+/// The set of the bits with these names, with one space between any two.
 #[tactic(auto, unfolding(crate::specs::Named::bits_of))]
 fn bits_of(names: &[Str], positions: &[u8], text: &[u8]) -> Result<u64, ScalarFault>
     requires { IsTrue (list_all (λ p. nat_lt p 64) positions.now) }

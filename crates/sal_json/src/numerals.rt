@@ -99,7 +99,7 @@ pub(crate) fn int_atom(
     sized_atom(has_sign, range, has_minus(text), size)
 }
 
-/// Digits, and behind a point further ones.
+/// Digits, and after a point further ones.
 fn is_decimal(text: &[u8]) -> bool
     ensures { result ≡ spec.is_decimal text.now }
 {
@@ -127,7 +127,7 @@ fn is_exact(digits: u8, text: &[u8]) -> bool
     all_zeros(rest_of(after_first(b'.', text), digits))
 }
 
-/// What these digits write behind a point.
+/// What these digits write after a point.
 fn fraction_of(further: &[u8], digits: u8) -> u128
     requires few { digits ≤ 18 }
     requires short { length further.now ≤ digits }

@@ -68,7 +68,7 @@ fn of_list(alloc: Global, patterns: &[Pattern]) -> Result<Option<Wholes>, NoMemo
     }
 }
 
-/// Appends the patterns up to the first malformed one, and tells whether there is none.
+/// Appends the patterns up to the first malformed one. It returns whether there is none.
 fn add_patterns(
     alloc: Global,
     patterns: &[Pattern],
@@ -121,7 +121,7 @@ fn of_members(alloc: Global, members: &[YangType]) -> Result<Option<Seq<Wholes>>
     }
 }
 
-/// Appends the patterns of the members up to the first with a malformed one, and tells whether there is none.
+/// Appends the patterns of the members up to the first with a malformed one. It returns whether there is none.
 fn add_members(
     alloc: Global,
     members: &[YangType],

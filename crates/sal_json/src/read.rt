@@ -72,7 +72,7 @@ fn own_json(
     }
 }
 
-/// The value of the member of a union that stands at this place.
+/// The value of the member of a union at this place.
 fn member_value(place: usize, atom: Atom) -> Value
     ensures { result ≡ spec.value_of place atom }
 {
@@ -197,7 +197,7 @@ fn wholes_of<'p>(schema: &Schema, patterns: &'p Patterns, ty: u32) -> &'p [Whole
     patterns.of_type(ty)
 }
 
-/// The value that a JSON value stands for in the type, where `module` is the one of its leaf.
+/// The value that a JSON value denotes in the type, where `module` is the one of its leaf.
 ///
 /// It takes time and memory linear in the text, and for a string those of `regex` for each pattern; for a union those of each
 /// member up to the one that takes it.
@@ -218,7 +218,7 @@ pub fn read_scalar(
     type_json(alloc, schema, module, type_of(schema, ty), wholes, json)
 }
 
-/// The value that a key text stands for in the type, where `module` is the one of its leaf.
+/// The value that a key text denotes in the type, where `module` is the one of its leaf.
 ///
 /// The integers of up to 32 bits have one spelling for each number here. It costs what `read_scalar` does.
 pub fn read_text(

@@ -50,7 +50,7 @@ pub(crate) fn all_zeros(text: &[u8]) -> bool
     text.iter().all(|c| *c == b'0')
 }
 
-/// How many bytes stand before the first byte like this one, or all of them.
+/// How many bytes are before the first byte like this one, or all of them.
 pub(crate) fn place_of(byte: u8, text: &[u8]) -> usize
     ensures value { result ≡ position_or_len (λ c. c == byte) text.now }
     ensures within { result ≤ length text.now }
@@ -65,7 +65,7 @@ pub(crate) fn before_first(byte: u8, text: &[u8]) -> &[u8]
     front(text, place_of(byte, text))
 }
 
-/// The text behind the first byte like this one, or none of it.
+/// The text after the first byte like this one, or none of it.
 pub(crate) fn after_first(byte: u8, text: &[u8]) -> &[u8]
     ensures { result.now ≡ after_first (λ c. c == byte) text.now }
 {

@@ -92,7 +92,7 @@ fn empty_atom(text: &str) -> Result<Atom, ScalarFault>
     }
 }
 
-/// The atom that a text stands for in a type that is no union, where the module is the one of the leaf.
+/// The atom that a text denotes in a type that is no union, where the module is the one of the leaf.
 pub(crate) fn text_atom(
     alloc: Global,
     schema: &Schema,

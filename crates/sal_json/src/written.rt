@@ -47,7 +47,7 @@ fn with_point(alloc: Global, digits: u8, units: u64) -> Result<String, NoMemory>
     Ok(text)
 }
 
-/// The text of so many units, without zeros at its end but one digit behind the point at least.
+/// The text of this many units, without zeros at its end, except one digit after the point.
 fn point_text(alloc: Global, digits: u8, units: u64) -> Result<String, NoMemory>
     ensures { IfOk result (λ t. string_bytes t ≡ numerals.point_text digits units) }
 {
@@ -116,7 +116,7 @@ fn bit_name<'n>(names: &'n [Str], positions: &[u8], position: u8) -> &'n str
     name_there(names, place_of_bit(positions, position))
 }
 
-/// One name more, behind a space if others stand before it.
+/// Appends one name, with a space before it unless it is the first.
 fn add_name(text: &mut String, has_others: bool, name: &str) -> Result<(), NoMemory>
     ensures { OnOk result (string_bytes text.new ≡ string_bytes text.old ++ (if has_others then 32 ∷ name.now else name.now)) }
 {
@@ -127,7 +127,7 @@ fn add_name(text: &mut String, has_others: bool, name: &str) -> Result<(), NoMem
     Ok(())
 }
 
-/// The name of this bit more, if it is set. It answers whether names stand before the next one.
+/// Appends the name of this bit, if it is set. It returns whether there are names before the next one.
 fn add_bit(
     text: &mut String,
     has_others: bool,

@@ -113,12 +113,12 @@ module _ (table : SchemaTable) where
   not_given-is given None leaf e = cc
   not_given-is given (Some other) leaf e = elim (list_any (is_for other) given) as (λ b. (if b then None else Some other) ≡ Some leaf → Some other ≡ Some leaf) [ true ↦ λ no. cc | false ↦ λ same. same ] e
 
-  -- a place where an entry may follow is behind the name of a list or leaf-list
+  -- a place where an entry may follow is after the name of a list or leaf-list
   abbrev pub IsSound : Here → Type 0
   IsSound here = here.wants_entry ≡ true → option_map_or (is_kind has_entries table) here.node false ≡ true
 
   module _ (whole : Text) where
-    -- a predicate, from behind each of its parts
+    -- a predicate, after each of its parts
     abbrev pub from_value : Text → ℕ → Value → Result (Given × Text) PathTextFault
     from_value rest leaf value = closed whole rest >>= λ end. Ok (record { leaf = leaf; value = value }, end)
 

@@ -12,7 +12,7 @@ use Rattle.sal_pathtext.specs.Words.{Text, Read, first, is_double_quote, bad_tex
 abbrev pub is_other : ℕ → ℕ → Bool
 is_other q c = not (c == q)
 
--- how many bytes stand before the next such byte
+-- how many bytes are before the next such byte
 abbrev pub before : ℕ → Text → ℕ
 before q t = prefix_len (is_other q) t
 
@@ -24,7 +24,7 @@ pub with_front-nil : {A : Type 0} (r : Read (List A)) → with_front [] r ≡ r
 with_front-nil (Ok x) = refl
 with_front-nil (Err e) = refl
 
--- what stands at the next such byte
+-- what is at the next such byte
 pub stands_at : (q : ℕ) (t : Text) → before q t < length t → get_or t (before q t) 0 ≡ q
 stands_at q t low = let stop = prefix_len_stops (is_other q) t 0 low in grind (arith, nat_tests)
 
@@ -83,7 +83,7 @@ single-at whole t low =
       | false ↦ ap (λ x. Ok (x, after)) (append-nil (take (before 39 t) t))
     ]
 
--- whether a double quote stands in the text
+-- whether the text has a double quote
 pub double-none : (t : Text) → length t ≤ before 34 t → list_any is_double_quote t ≡ false
 double-none [] past = refl
 double-none (c ∷ t) past =

@@ -65,7 +65,7 @@ module _ (whole : Text) where
         | false ↦ λ e2. subst (λ (q : Name × Text). Bytes q.1) (same_ok ((None, one.0), one.1) p e2) after
       ] e1)
 
-  -- ---- what stands in quotes, and what follows
+  -- ---- what is in quotes, and what follows
 
   single-bytes : (t : Text) (p : Text × Text) → Bytes t → single whole t ≡ Ok p → AreBytes p
   unfolding single

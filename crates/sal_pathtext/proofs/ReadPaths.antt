@@ -229,7 +229,7 @@ module _ (table : SchemaTable) (good : IsTable table) where
         by None n child = data_is_no_message (kind_of table n) (and_first (is_kind is_data table n) (is_same (data_parent table n) None) child)
         by (Some m) n child = refl
 
-    -- what the first step at the top tells
+    -- what follows from the first step at the top
     abbrev Begins : Here → List Step → Type 0
     Begins here path = starts table here.node path ≡ true
 

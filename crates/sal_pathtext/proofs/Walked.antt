@@ -1,4 +1,4 @@
--- Each step that is read fits where the text has come to.
+-- Each step that is read fits the place that the reader has reached.
 use Rattle.std.proofs.Common.{◌≡◌, ℕ, zero, suc, Bool, true, false, not, ◌&&◌, ◌||◌, ◌==◌, List, [], ◌∷◌, length, drop, Option, Some, None, Result, Ok, Err, if◌then◌else◌, refl, sym, ap, subst, ◌∙◌}
 use Rattle.std.specs.Option.{option_map_or}
 use Rattle.std.proofs.lemmas.Bool.{true≢false, and_from}
@@ -55,7 +55,7 @@ module _ (table : SchemaTable) (good : IsTable table) where
       by LeafList is isnt = refl
       by k is isnt = cc
 
-  -- a child stands neither below a list that lacks its keys nor below a leaf-list
+  -- a child is neither below a list that lacks its keys nor below a leaf-list
   not_waiting : (w : Bool) (o : Option ℕ) (n : ℕ) → (w ≡ true → option_map_or (is_kind has_entries table) o false ≡ true)
       → (w && option_map_or (is_kind is_list table) o false) ≡ false → is_data_child table o n ≡ true → w ≡ false
   not_waiting false o n sound lacks child = refl

@@ -121,7 +121,7 @@ module _ (table : SchemaTable) where
       by k e = cc
 
   module _ (n : ℕ) (is : is_kind is_list table n ≡ true) where
-    -- data stand under a list itself
+    -- a list itself is a data parent
     under_list : data_node table (Some n) ≡ Some n
     under_list =
         let inside = is_there is_list table n is in
@@ -180,14 +180,14 @@ module _ (table : SchemaTable) where
         ∙ ap (λ r. r >>= from_said table whole at leaf) (said-again whole (value_text table leaf value) rest)
         ∙ ap (λ r. taken at r >>= from_value table whole (93 ∷ rest) leaf) reads
 
-    -- behind the last one
+    -- after the last one
     predicates-end : (most n : ℕ) (given : List Given) (rest : Text) → (first rest == 91) ≡ false → predicates table whole most n given rest ≡ Ok (given, rest)
     unfolding predicates
     predicates-end zero n given rest end = refl
     predicates-end (suc most) n given rest end =
         ap (λ b. if b then (predicate table whole n given rest >>= λ p. predicates table whole most n (given ++ p.0 ∷ []) p.1) else Ok (given, rest)) end
 
-    -- one predicate and those behind it
+    -- one predicate and those after it
     predicates-one : (most n : ℕ) (given : List Given) (one : Given) (t after : Text) → predicate table whole n given (91 ∷ t) ≡ Ok (one, after)
         → predicates table whole (suc most) n given (91 ∷ t) ≡ predicates table whole most n (given ++ one ∷ []) after
     unfolding predicates

@@ -39,7 +39,7 @@ identifier-starts : (word rest : Text) → IsTrue (is_identifier word) → start
 identifier-starts [] rest well = cc
 identifier-starts (c ∷ word) rest well = and_first (starts_identifier c) (list_all goes_on word) well
 
--- what stands behind a name: no byte of a name and no colon
+-- what follows a name: no byte of a name and no colon
 pub record IsEnd (rest : Text) : Type 0 where
   pub no_word : goes_on (first rest) ≡ false
   pub no_colon : (first rest == 58) ≡ false
@@ -54,7 +54,7 @@ module _ (whole : Text) where
       ap (λ b. if b then Ok (take (word_len all) all, drop (word_len all) all) else bad_text whole all) (identifier-starts word rest well)
       ∙ (λ i. Ok (front i, behind i))
 
-  -- a name from behind its first word
+  -- a name, after its first word
   abbrev pub from_word : Text × Text → Read Name
   from_word one = if first one.1 == 58 then (identifier whole (drop 1 one.1) >>= λ two. Ok ((Some one.0, two.0), two.1)) else Ok ((None, one.0), one.1)
 
@@ -93,11 +93,11 @@ module _ (table : SchemaTable) (good : IsTable table) where
 
   -- ---- names as they are written
 
-  -- what the written name of a node tells, where both are of one module or not
+  -- what the written name of a node says, if both are of one module or not
   abbrev told : ℕ → Bool → Name
   told n same = if same then (None, name_of table n) else (Some (own_module table n), name_of table n)
 
-  -- what the written name of a node below another, or at the top, tells
+  -- what the written name of a node below another, or at the top, says
   abbrev pub spelled : Option ℕ → ℕ → Name
   spelled None n = (Some (own_module table n), name_of table n)
   spelled (Some p) n = told n (text_eq (own_module table n) (own_module table p))

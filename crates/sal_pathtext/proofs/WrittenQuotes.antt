@@ -12,7 +12,7 @@ use Rattle.sal_pathtext.proofs.Quotes.{single-cons}
 
 -- ---- blanks
 
--- where none stands, none is passed over
+-- without such a byte all are taken
 pub no_blanks : (t : Text) → is_blank (first t) ≡ false → after_blanks t ≡ t
 no_blanks [] none = refl
 no_blanks (c ∷ t) none = rw none refl
@@ -28,7 +28,7 @@ single-other whole c t other = single-cons whole c t ∙ rw other refl
 single-end : (whole rest : Text) → (first rest == 39) ≡ false → single whole (39 ∷ rest) ≡ Ok ([], rest)
 single-end whole rest end = single-cons whole 39 rest ∙ rw end refl
 
--- each single quote of the text stands twice
+-- each single quote of the text is written twice
 pub single-doubled : (whole t rest : Text) → (first rest == 39) ≡ false → single whole (doubled t ++ (39 ∷ rest)) ≡ Ok (t, rest)
 single-doubled whole [] rest end = single-end whole rest end
 single-doubled whole (c ∷ t) rest end =

@@ -33,14 +33,14 @@ use Rattle.sal_pathtext.proofs.WrittenEntries.{givens, list_has_keys, free-nil, 
 use Rattle.sal_json.proofs.Chosen.{same_ok}
 
 module _ (table : SchemaTable) where
-  -- ---- where a text goes on
+  -- ---- where a text continues
 
   -- the path does not begin with a message at the top
   abbrev pub starts : Option ℕ → List Step → Bool
   starts None path = begins_with_data table path
   starts (Some p) path = true
 
-  -- what stands here: it ends a name, and it is no predicate behind an entry
+  -- what is here: it ends a name, and it is no predicate after an entry
   pub record GoesOn (wants : Bool) (t : Text) : Type 0 where
     pub end : IsEnd t
     pub no_predicate : wants ≡ false → (first t == 91) ≡ false
@@ -67,7 +67,7 @@ module _ (table : SchemaTable) where
   }
 
   module _ (good : IsTable table) where
-    -- the place behind which a step stands
+    -- the place before a step
     goes-on : (o : Option ℕ) (wants : Bool) (path : List Step) → fits_from table (record { node = o; wants_entry = wants }) path ≡ true → GoesOn wants (steps_text table o path)
     goes-on o wants [] fits = record { end = record { no_word = refl; no_colon = refl }; no_predicate = λ isnt. refl }
     goes-on o wants (Node n ∷ path) fits = record { end = record { no_word = refl; no_colon = refl }; no_predicate = λ isnt. refl }
@@ -95,7 +95,7 @@ module _ (table : SchemaTable) where
     module _ (whole : Text) where
       -- ---- one step
 
-      -- a step that was read at its place, with something left behind
+      -- a step that was read at its place, with the rest of the text
       pub record IsRead (here : Here) (one : Step) (rest : Text) : Type 0 where
         pub next : Here
         pub read : step table whole here (step_text table here.node one ++ rest) ≡ Ok (one, next, rest)
@@ -190,7 +190,7 @@ module _ (table : SchemaTable) where
           let read = item-again table whole (length (drop 1 (item_text table n value ++ rest))) n value rest is reads end in
           entry-again here n (Item value) (one ∷ []) (item_text table n value ++ rest) rest wants owner read made
 
-      -- the text of an entry, behind its node, as a step
+      -- the text of an entry, after its node, as a step
       entered-again : (here : Here) (n : ℕ) (one : Step) (t rest : Text) → here.wants_entry ≡ true → here.node ≡ Some n → first (t ++ rest) ≡ 91 → step_text table (Some n) one ≡ t
           → behind here.node one ≡ here.node → after_step table (record { node = here.node; wants_entry = here.wants_entry }) one ≡ record { node = here.node; wants_entry = false }
           → entered table whole here (t ++ rest) ≡ Ok (one, behind_entry here, rest) → IsRead here one rest
@@ -210,7 +210,7 @@ module _ (table : SchemaTable) where
           some-there [] e = absurd (omega (arith, e))
           some-there (c ∷ t) e = omega arith
 
-      -- the place behind a step is that of its node
+      -- the place after a step is that of its node
       after-node : (o : Option ℕ) (wants : Bool) (one : Step)
           → after_step table (record { node = o; wants_entry = wants }) one ≡ record { node = behind o one; wants_entry = (after_step table (record { node = o; wants_entry = wants }) one).wants_entry }
       after-node o wants (Node n) = refl

@@ -49,7 +49,7 @@ link peer port = node "a" ++ Node 3 ∷ Key (text peer ∷ number port ∷ []) �
 
 -- ---- containers in one another
 
--- so many of them, of which the first has this number and stands below this node
+-- n containers, of which the first has the number k and is below this node
 abbrev pub chain : ℕ → Option ℕ → ℕ → Row NodeInfo
 chain k parent zero = []
 chain k parent (suc n) = info parent (Container false) 0 (codes "c") (Some true) None [] ∷ chain (k + 1) (Some k) n

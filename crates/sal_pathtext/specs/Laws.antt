@@ -53,7 +53,7 @@ pub record IsDataPath (table : SchemaTable) (path : List Step) : Type 0 where
 
 -- ---- the laws
 
--- The text that is written for a path of data with readable values stands for this path.
+-- The text that is written for a path of data with readable values denotes this path.
 abbrev pub WrittenReads : Type 0
 WrittenReads =
     (table : SchemaTable) → IsTable table → (path : List Step) → IsDataPath table path → IsReadablePath table path

@@ -1,4 +1,4 @@
--- Which node a name means, and by which values the entries of lists and leaf-lists are told.
+-- Which node a name means, and which values identify the entries of lists and leaf-lists.
 use Rattle.std.specs.Prelude.{ℕ, Bool, ◌==◌, List, [], ◌∷◌, Option, Some, None, option_map, option_and_then, find, Result, Err, if◌then◌else◌}
 use Rattle.std.specs.List.{list_any}
 use Rattle.std.specs.Option.{option_map_or}
@@ -40,8 +40,8 @@ not_given given None = None
 not_given given (Some leaf) = if list_any (is_for leaf) given then None else Some leaf
 
 module _ (table : SchemaTable) where
-  -- The node for data that a name means, below a node or at the top. A name at the top tells its module, and one below a node
-  -- does exactly where its module is another than that node's.
+  -- The node for data that a name means, below a node or at the top. A name at the top has its module, and one below a node
+  -- exactly if its module differs from that node's.
   abbrev pub meant : Option ℕ → Name → Option ℕ
   meant None (None, name) = None
   meant None (Some m, name) = child_of table None m name
@@ -68,7 +68,7 @@ module _ (table : SchemaTable) where
 
   -- ---- values
 
-  -- the value of a leaf or leaf-list that a text stands for
+  -- the value of a leaf or leaf-list that a text denotes
   abbrev pub value_of : ℕ → List ℕ → Result Value ScalarFault
   value_of leaf t = option_map_or (λ m. option_map_or (λ ty. text_scalar_of table ty m t) (type_of table leaf) (Err WrongKind)) (module_of table leaf) (Err WrongKind)
 

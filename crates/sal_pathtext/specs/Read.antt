@@ -1,4 +1,4 @@
--- From a text to the path that it stands for, or to the first fault from the left with its place. A fault counts as soon as
+-- From a text to the path that it denotes, or to the first fault from the left with its place. A fault counts as soon as
 -- the text up to there shows it.
 use Rattle.std.specs.Prelude.{ℕ, zero, suc, Bool, false, ◌&&◌, ◌==◌, List, [], ◌∷◌, ◌++◌, length, drop, Option, Some, None, Result, Ok, Err, if◌then◌else◌}
 use Rattle.std.specs.Option.{option_map_or}
@@ -21,11 +21,11 @@ use Rattle.sal_pathtext.specs.Nodes.{meant, dot_meant, key_meant, not_given, ent
 abbrev pub top : Here
 top = record { node = None; wants_entry = false; name_at = 0 }
 
--- behind the predicates of an entry
+-- after the predicates of an entry
 abbrev pub behind_entry : Here → Here
 behind_entry here = record { node = here.node; wants_entry = false; name_at = here.name_at }
 
--- what a value is taken for, where its predicate stands at this place
+-- a value as the value of its predicate, which is at this place
 abbrev pub taken : ℕ → Result Value ScalarFault → Result Value PathTextFault
 taken at (Ok value) = Ok value
 taken at (Err fault) = Err (BadPredicate at)
@@ -36,7 +36,7 @@ found fault (Some x) = Ok x
 found fault None = Err fault
 
 module _ (table : SchemaTable) where
-  -- behind the name of a node, which stands at this place
+  -- after the name of a node, which is at this place
   abbrev pub behind_name : ℕ → ℕ → Here
   behind_name n at = record { node = Some n; wants_entry = is_kind has_entries table n; name_at = at }
 
@@ -54,7 +54,7 @@ module _ (table : SchemaTable) (whole : Text) where
         (key, after) ← name whole t
         Ok (key_meant table n key, after))
 
-  -- a predicate, at its `[`, behind those that gave these values
+  -- a predicate, at its `[`, after those that gave these values
   unfoldable pub predicate : ℕ → List Given → Text → Read Given
   predicate n given t = do
     (named, after) ← subject n (after_blanks (drop 1 t))
@@ -75,7 +75,7 @@ module _ (table : SchemaTable) (whole : Text) where
 
   -- ---- steps
 
-  -- a name, behind its slash
+  -- a name, after its slash
   unfoldable pub named : Here → Text → Result (Step × Here × Text) PathTextFault
   named here t = do
     (called, after) ← name whole t
@@ -120,7 +120,7 @@ module _ (table : SchemaTable) (whole : Text) where
   abbrev pub path : Result (List Step) PathTextFault
   path = if first whole == 47 then (if length whole == 1 then Ok [] else steps 32 top whole) else Err (BadText 0)
 
--- the path that a text stands for
+-- the path that a text denotes
 unfoldable pub read_path : SchemaTable → Text → Result (List Step) PathTextFault
 read_path table whole = path table whole
 

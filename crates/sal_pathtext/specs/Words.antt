@@ -1,5 +1,5 @@
 -- The words of a path text: names, blanks and texts in quotes. A definition takes what is still to read, and gives what it read
--- and the text after it. The place of a fault is how many bytes of the whole text stand before what is left.
+-- and the text after it. The place of a fault is how many bytes of the whole text are before what is left.
 use Rattle.std.specs.Prelude.{ℕ, ◌-◌, Bool, not, ◌||◌, ◌==◌, if◌then◌else◌, List, [], ◌∷◌, length, take, drop, slice_index, Option, Some, None, Result, Ok, Err}
 use Rattle.std.specs.List.{list_any, prefix_len, before_first, after_first}
 use Rattle.sal_types.specs.Reading.{◌>>=◌, with_front}
@@ -12,7 +12,7 @@ pub use Rattle.sal_json.specs.Patterns.{Text}
 abbrev pub Read : Type 0 → Type 0
 Read A = Result (A × Text) PathTextFault
 
--- a name: the module that it tells, if it tells one, and what follows
+-- a name: its module, if the text has it, and what follows
 abbrev pub Name : Type 0
 Name = Option (List ℕ) × List ℕ
 
@@ -27,7 +27,7 @@ is_empty t = length t == 0
 abbrev pub is_blank : ℕ → Bool
 is_blank c = c == 32 || c == 9
 
--- behind the blanks at the front
+-- after the blanks at the front
 abbrev pub after_blanks : Text → Text
 after_blanks t = drop (prefix_len is_blank t) t
 
@@ -39,7 +39,7 @@ abbrev pub is_double_quote : ℕ → Bool
 is_double_quote c = c == 34
 
 module _ (whole : Text) where
-  -- how many bytes stand before what is still to read
+  -- how many bytes are before what is still to read
   abbrev pub place : Text → ℕ
   place t = length whole - length t
 
@@ -62,7 +62,7 @@ module _ (whole : Text) where
       Ok ((Some word, own), rest))
         else Ok ((None, word), after)
 
-  -- what stands before the closing single quote, where two such quotes stand for one
+  -- the text before the closing single quote, where two such quotes denote one
   unfoldable pub single : Text → Read (List ℕ)
   single [] = bad_text []
   single (c ∷ []) = if c == 39 then Ok ([], []) else bad_text []
@@ -71,7 +71,7 @@ module _ (whole : Text) where
       else if d == 39 then with_front (39 ∷ []) (single t)
       else Ok ([], d ∷ t)
 
-  -- what stands before the closing double quote
+  -- the text before the closing double quote
   abbrev pub double : Text → Read (List ℕ)
   double t = if list_any is_double_quote t then Ok (before_first is_double_quote t, after_first is_double_quote t) else bad_text []
 

@@ -27,7 +27,7 @@ in_quotes t =
     else if not (list_any is_double_quote t) then 34 ∷ t ++ 34 ∷ []
     else 39 ∷ doubled t ++ 39 ∷ []
 
--- the node below which the next step stands
+-- the node below which the next step is
 abbrev pub behind : Option ℕ → Step → Option ℕ
 behind here (Node n) = Some n
 behind here step = here

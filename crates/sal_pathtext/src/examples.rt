@@ -6,7 +6,7 @@ ghost use Rattle.sal_pathtext.specs.Read.{read_path};
 
 use crate::fault::PathTextFault;
 
-/// Texts that stand for paths. A call does nothing: its clauses are the laws.
+/// Texts that denote paths. A call does nothing: its clauses are the laws.
 pub fn paths()
     ensures root { example.reads "/" ≡ Ok [] }
     ensures of_another_module { example.reads "/topo:network/node[id='a']/geo:site" ≡ Ok (example.node "a" ++ Node 8 ∷ []) }
@@ -19,7 +19,7 @@ pub fn paths()
     ensures doubled_quote { example.reads "/topo:network/node[id='it''s']" ≡ Ok (example.node "it's") }
 {}
 
-/// Texts that stand for no path. A call does nothing: its clauses are the laws.
+/// Texts that denote no path. A call does nothing: its clauses are the laws.
 pub fn faults()
     ensures empty_key { example.reads "/topo:network/node[id='']" ≡ Err (PathTextFault.BadPredicate 18) }
     ensures below_a_list { example.reads "/topo:network/node/id" ≡ Err (PathTextFault.BadPredicate 14) }

@@ -5,7 +5,7 @@ ghost use Rattle.sal_pathtext.specs.declared.fault.PathTextFault.TheVariants.{No
 use std::alloc::{AllocError, AllocFailed};
 use thiserror::Error;
 
-/// The first fault of a path text, from the left. `at` is how many bytes stand before it.
+/// The first fault of a path text, from the left. `at` is how many bytes are before it.
 #[derive(Clone, Copy, Debug, Error)]
 pub enum PathTextFault {
     /// The first byte that the form does not allow, or the end of the text where it ends too early.
@@ -14,7 +14,7 @@ pub enum PathTextFault {
     /// The first byte of a name that means no node for data there, or is not in the right form.
     #[error("unknown node at byte {at}")]
     UnknownNode { at: usize },
-    /// The `[` of a predicate that stands behind another node than a list or leaf-list, names no key of it or one that an
+    /// The `[` of a predicate that follows a node other than a list or leaf-list, names no key of it or one that an
     /// earlier predicate has named, or has a value that does not read. Where keys are missing: the first byte of the list's
     /// name.
     #[error("bad predicate at byte {at}")]

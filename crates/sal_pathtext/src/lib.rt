@@ -2,20 +2,20 @@
 //!
 //! | item | what it is |
 //! |---|---|
-//! | `read_path` | the path that a text stands for in a schema, or the first fault with its place |
+//! | `read_path` | the path that a text denotes in a schema, or the first fault with its place |
 //! | `write_path` | the one spelling of a path |
 //! | `PathTextFault` | why a text is no path |
 //! | `laws` | functions that do nothing, each with laws of the two as its contract |
 //!
-//! `/` is the root. Another path is a slash and a name for each node, outermost first. The first name tells its module, as
-//! `topo:network`; a later one does exactly where its module is another than that of the node above it, as `geo:site`. An
-//! entry of a list has its keys behind the list's name, as `link[peer='b'][port='7']`, and one of a leaf-list its value, as
+//! `/` is the root. Another path is a slash and a name for each node, outermost first. The first name has its module, as
+//! `topo:network`; a later one exactly if its module differs from that of the node above it, as `geo:site`. An
+//! entry of a list has its keys after the list's name, as `link[peer='b'][port='7']`, and one of a leaf-list its value, as
 //! `seen[.='12']`. Keys are read in any order and written in theirs. Without keys a list's name is the last one, and means the
-//! whole list. Values are in single or double quotes, and in single quotes `''` stands for one; what stands there is a key text
-//! of `sal_json`. Spaces and tabs may stand inside the brackets beside the key, the `=` and the value.
+//! whole list. Values are in single or double quotes, and in single quotes `''` denotes one; the text inside is a key text
+//! of `sal_json`. Spaces and tabs are allowed inside the brackets around the key, the `=` and the value.
 //!
-//! `specs/` has the words of a text (`Words`), what names mean and by which values entries are told (`Nodes`), the path that a
-//! text stands for (`Read`) and the text of a path (`Written`). The reader and the writer give what these definitions give,
+//! `specs/` has the words of a text (`Words`), what names mean and which values identify entries (`Nodes`), the path that a
+//! text denotes (`Read`) and the text of a path (`Written`). The reader and the writer give what these definitions give,
 //! unless memory runs out, and what is read fits the schema. A path that was written reads as this path
 //! (`laws::written_paths_read`), and what was read, written and read again is the same path (`laws::read_paths_read_again`).
 //!

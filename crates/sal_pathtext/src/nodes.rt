@@ -1,4 +1,4 @@
-//! Which node a name means, and by which values the entries of lists and leaf-lists are told.
+//! Which node a name means, and which values identify the entries of lists and leaf-lists.
 ghost use Rattle.std.specs.Prelude.{◌≡◌, option_map, find, IfOk};
 ghost use Rattle.std.specs.List.{list_any};
 ghost use Rattle.sal_types.specs.Reading.{GivesUnless};
@@ -129,7 +129,7 @@ pub(crate) fn entry_given(
     }
 }
 
-/// The value of a leaf or leaf-list that a text stands for.
+/// The value of a leaf or leaf-list that a text denotes.
 pub(crate) fn value_of(
     alloc: Global,
     schema: &Schema,

@@ -67,8 +67,8 @@ fn read(reader: &Reader) -> Result<Path, PathTextFault>
     steps(reader)
 }
 
-/// The path that a text stands for in a schema: `/` for the root, and otherwise a slash and a name for each node, with the
-/// keys or the value of an entry in brackets behind the name of its list or leaf-list.
+/// The path that a text denotes in a schema: `/` for the root, and otherwise a slash and a name for each node, with the
+/// keys or the value of an entry in brackets after the name of its list or leaf-list.
 ///
 /// The fault is the first from the left. It takes time linear in the text, and for each value that of `read_text`.
 pub fn read_path(

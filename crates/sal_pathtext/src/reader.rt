@@ -68,7 +68,7 @@ impl<'a> Reader<'a> {
         Ok((key_meant(self.schema, node, module, key), after))
     }
 
-    /// The value that a text stands for, where its predicate stands at this place.
+    /// The value that a text denotes. Its predicate is at this place.
     fn taken(&self, at: usize, leaf: u32, text: String) -> Result<Value, PathTextFault>
         ensures { Gives (λ value. value) result (spec.taken at (value_there self.now.schema.now leaf (string_bytes text))) }
     {
@@ -79,7 +79,7 @@ impl<'a> Reader<'a> {
         }
     }
 
-    /// A predicate, at its `[`, behind those that gave these values.
+    /// A predicate, at its `[`, after those that gave these values.
     #[tactic(auto, unfolding(crate::specs::Read::predicate))]
     fn predicate<'s>(
         &self,
@@ -116,7 +116,7 @@ impl<'a> Reader<'a> {
         Ok((given, rest))
     }
 
-    /// All predicates from here on, behind those that gave these values.
+    /// All predicates from here on, after those that gave these values.
     fn add_predicates<'s>(
         &self,
         node: u32,
@@ -149,7 +149,7 @@ impl<'a> Reader<'a> {
         }
     }
 
-    /// A name, behind its slash: its node, and where the text has come to.
+    /// A name, after its slash: its node, and the place that the reader has reached.
     #[tactic(auto, unfolding(crate::specs::Read::named))]
     fn named<'s>(&self, here: Here, s: &'s str) -> Result<(u32, Here, &'s str), PathTextFault>
         ensures value { Gives (λ p. (Node p.0, p.1, p.2.now)) result (spec.named self.now.schema.now self.now.text.now here s.now) }
@@ -230,7 +230,7 @@ impl<'a> Reader<'a> {
         }
     }
 
-    /// The fault of a text that goes on behind the last step that has room.
+    /// The fault of a text that has more after the last step that has room.
     #[tactic(auto, unfolding(crate::specs::Read::one_more))]
     pub(crate) fn one_more(&self, here: Here, s: &str) -> PathTextFault
         ensures { (result ≡ PathTextFault.NoMemory → ⊥) → spec.one_more self.now.schema.now self.now.text.now here s.now ≡ Err result }

@@ -18,7 +18,7 @@ pub(crate) fn first(s: &str) -> u8
     if bytes.is_empty() { 0 } else { bytes[0] }
 }
 
-/// How many bytes of the whole text stand before what is still to read.
+/// How many bytes of the whole text are before what is still to read.
 pub(crate) fn place(whole: &str, s: &str) -> usize
     ensures { result ≡ spec.place whole.now s.now }
 {
@@ -46,7 +46,7 @@ fn blank_len(bytes: &[u8]) -> usize
     bytes.iter().take_while(|c| is_blank(**c)).count()
 }
 
-/// Behind the spaces and tabs at the front.
+/// After the spaces and tabs at the front.
 pub(crate) fn after_blanks(s: &str) -> &str
     ensures rest { result.now ≡ spec.after_blanks s.now }
     ensures within { length result.now ≤ length s.now }
@@ -54,7 +54,7 @@ pub(crate) fn after_blanks(s: &str) -> &str
     s.split_at(blank_len(s.as_bytes())).1
 }
 
-/// Behind this byte.
+/// After this byte.
 pub(crate) fn expected<'s>(whole: &str, c: u8, s: &'s str) -> Result<&'s str, PathTextFault>
     requires ascii { c < 128 }
     requires some { 0 < c }
@@ -86,7 +86,7 @@ fn word_len(bytes: &[u8]) -> usize
     bytes.iter().take_while(|c| goes_on(**c)).count()
 }
 
-/// The longest run of bytes with which an identifier goes on, and what follows it.
+/// The longest run of bytes that an identifier can have after its first, and what follows it.
 fn split_word(s: &str) -> (&str, &str)
     ensures word { result.0.now ≡ take (spec.word_len s.now) s.now }
     ensures rest { result.1.now ≡ drop (spec.word_len s.now) s.now }
@@ -105,7 +105,7 @@ fn identifier<'s>(whole: &str, s: &'s str) -> Result<(&'s str, &'s str), PathTex
     Ok(split_word(s))
 }
 
-/// A name: the module that it tells, if it tells one, the identifier, and what follows.
+/// A name: its module, if the text has it, the identifier, and what follows.
 #[tactic(auto, unfolding(crate::specs::Words::name))]
 pub(crate) fn name<'s>(
     whole: &str,
@@ -122,7 +122,7 @@ pub(crate) fn name<'s>(
     Ok((Some(word), own, rest))
 }
 
-/// How many bytes stand before the first one like this, or all of them.
+/// How many bytes are before the first one like this, or all of them.
 pub(crate) fn place_of(byte: u8, bytes: &[u8]) -> usize
     ensures value { result ≡ prefix_len (λ c. not (c == byte)) bytes.now }
     ensures within { result ≤ length bytes.now }
@@ -130,7 +130,7 @@ pub(crate) fn place_of(byte: u8, bytes: &[u8]) -> usize
     bytes.iter().take_while(|c| **c != byte).count()
 }
 
-/// What stands before the closing single quote, where two such quotes stand for one.
+/// The text before the closing single quote, where two such quotes denote one.
 fn single<'s>(alloc: Global, whole: &str, s: &'s str) -> Result<(String, &'s str), PathTextFault>
     ensures value { Gives (λ p. (string_bytes p.0, p.1.now)) result (spec.single whole.now s.now) }
     ensures within { IfOk result (λ p. length p.1.now ≤ length s.now) }
@@ -152,7 +152,7 @@ fn single<'s>(alloc: Global, whole: &str, s: &'s str) -> Result<(String, &'s str
     }
 }
 
-/// What stands before the closing double quote.
+/// The text before the closing double quote.
 fn double<'s>(alloc: Global, whole: &str, s: &'s str) -> Result<(String, &'s str), PathTextFault>
     ensures value { Gives (λ p. (string_bytes p.0, p.1.now)) result (spec.double whole.now s.now) }
     ensures within { IfOk result (λ p. length p.1.now ≤ length s.now) }

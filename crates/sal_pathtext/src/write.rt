@@ -153,7 +153,7 @@ fn push_step(
     }
 }
 
-/// The node below which the next step stands.
+/// The node below which the next step is.
 fn behind(here: Option<u32>, step: &Step) -> Option<u32>
     ensures { result ≡ spec.behind here step.now }
 {

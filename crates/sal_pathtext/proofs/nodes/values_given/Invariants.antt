@@ -1,4 +1,4 @@
--- The values so far stand before those of the keys that are left.
+-- The values so far are before those of the keys that are left.
 use Rattle.std.proofs.Common.{◌≡◌, drop}
 use Rattle.sal_pathtext.specs.Nodes.{values_given}
 use Rattle.sal_pathtext.proofs.Entries.{in_front}

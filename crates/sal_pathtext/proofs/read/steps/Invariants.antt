@@ -1,4 +1,4 @@
--- The steps so far stand before those that are left.
+-- The steps so far are before those that are left.
 use Rattle.std.proofs.Common.{◌≡◌, ◌-◌, ◌≤◌, length}
 use denote.Text.{Utf8}
 use denote.Shadow.{shadow}

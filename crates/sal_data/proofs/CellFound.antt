@@ -20,7 +20,7 @@ apart_cell (x ∷ rows) q apart =
     let here : path_eq q x.path ≡ false = apart 0 x (omega arith) in
     ap (λ b. if b then Some x.cell else cell rows q) here ∙ apart_cell rows q (λ k d inside. apart (suc k) d (omega arith))
 
--- where some stand before a path and the others behind it, none has it
+-- if some are before a path and the others after it, none has it
 pub none_found : (rows : List Row) (q : List Step) (i : ℕ)
     → IsPartitionPoint (λ (y : Row). path_cmp y.path q ≡ Less) (λ (y : Row). path_cmp y.path q ≡ Greater) rows i
     → cell rows q ≡ None

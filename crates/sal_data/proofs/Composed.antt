@@ -195,7 +195,7 @@ module _ (rows : List Row) where
 
   -- ---- entries
 
-  -- no step stands twice
+  -- no step occurs twice
   abbrev pub Apart : List Step → Type 0
   Apart [] = Unit {0}
   Apart (s ∷ steps) = (In s steps → ⊥) × Apart steps

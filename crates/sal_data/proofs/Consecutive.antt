@@ -1,4 +1,4 @@
--- In the order of paths, the rows at a path and below it stand together.
+-- In the order of paths, the rows at a path and below it are adjacent.
 use Rattle.std.proofs.Common.{◌≡◌, suc, ◌+◌, Bool, true, false, List, [], ◌∷◌, take, drop, cond, refl, ap, sym, ◌∙◌, arith}
 use Rattle.std.specs.Prelude.{not, ◌&&◌}
 use Rattle.std.specs.List.{prefix_len, position_or_len}
@@ -14,7 +14,7 @@ use Rattle.sal_types.specs.Prefix.{is_prefix}
 use Rattle.sal_types.specs.Tree.{entries, IsAscending, under}
 use Rattle.sal_data.proofs.Fronts.{less}
 
--- what stands between two paths below p is below p
+-- what is between two paths below p is below p
 between : (p x y z : List Step) → is_prefix p x ≡ true → path_cmp x y ≡ Less → path_cmp y z ≡ Less → is_prefix p z ≡ true → is_prefix p y ≡ true
 between [] x y z below up on above = refl
 between (s ∷ p) [] y z below up on above = cc
@@ -40,7 +40,7 @@ between (s ∷ p) (a ∷ x) (b ∷ y) (c ∷ z) below up on above =
 abbrev is_under : List Step → Row → Bool
 is_under p row = is_prefix p row.path
 
--- behind a row that is not below p, none is, where one before it is
+-- after a row that is not below p, none is, where one before it is
 none_behind : (p : List Step) (x y : Row) (rows : List Row) → is_under p x ≡ true → path_cmp x.path y.path ≡ Less → is_under p y ≡ false → below_all path_cmp y.path (entries rows) ≡ true → under rows p ≡ []
 none_behind p x y [] here up not_here rising = refl
 none_behind p x y (z ∷ rows) here up not_here rising =
@@ -50,7 +50,7 @@ none_behind p x y (z ∷ rows) here up not_here rising =
       | false ↦ λ e. none_behind p x y rows here up not_here (second_so (is_lt (path_cmp y.path z.path)) _ rising)
     ] refl
 
--- behind a row below p, those below p come first
+-- after a row below p, those below p come first
 front_behind : (p : List Step) (x : Row) (rows : List Row) → is_under p x ≡ true → is_sorted path_cmp (entries (x ∷ rows)) ≡ true → under rows p ≡ take (prefix_len (is_under p) rows) rows
 front_behind p x [] here rising = refl
 front_behind p x (y ∷ rows) here rising =

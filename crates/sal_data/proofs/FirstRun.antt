@@ -27,7 +27,7 @@ same_next-is (Some s) (Some t) e = ap Some (step_cmp-IsAntisymmetric s t ((Equal
 same_next-is None (Some t) e = cc
 same_next-is (Some s) None e = cc
 
--- a row and those behind it begin with the run of those that have its next step
+-- a row and those after it begin with the run of those that have its next step
 with_row-is : (k : ℕ) (row : Row) (rows : List Row) → with_row k row (runs_of k rows) ≡ (row ∷ take (run_len k (next_step k row) rows) rows) ∷ runs_of k (drop (run_len k (next_step k row) rows) rows)
 unfolding runs_of
 with_row-is k row [] = refl
@@ -44,7 +44,7 @@ with_row-is k row (r ∷ rows) =
       | false ↦ λ e. ap (λ (runs : List (List Row)). (row ∷ []) ∷ runs) (sym rest)
     ] refl
 
--- the first run and those behind it, where n rows have the next step of the first
+-- the first run and those after it, where n rows have the next step of the first
 pub first_run_is : (k : ℕ) (rows : List Row) (n : ℕ) → 0 < length rows → n ≡ run_len k (step_of k rows) rows → (0 < n) × (runs_of k rows ≡ take n rows ∷ runs_of k (drop n rows))
 unfolding runs_of
 first_run_is k [] n some is = absurd (omega arith)

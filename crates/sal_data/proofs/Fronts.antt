@@ -19,7 +19,7 @@ use Rattle.sal_rows.proofs.Cells.{same_path, path_eq-itself}
 pub use Rattle.sal_rows.proofs.Found.{less}
 use Rattle.sal_data.proofs.Listed.{In}
 
--- ---- behind a prefix
+-- ---- after a prefix
 
 pub slice_get-behind : {X : Type 0} (p q : List X) → slice_get (p ++ q) (length p) ≡ slice_get q 0
 slice_get-behind [] q = refl
@@ -32,7 +32,7 @@ pub length-more : {X : Type 0} (xs : List X) (x : X) → length (xs ++ x ∷ [])
 length-more [] x = refl
 length-more (y ∷ xs) x = one_more (length (xs ++ x ∷ [])) (length xs) 0 (length-more xs x)
 
--- what two paths behind one front are to each other
+-- what two paths after one front are to each other
 abbrev tied_first : Ordering → List Step → List Step → Ordering
 tied_first o p q = ordering_then o (path_cmp p q)
 
@@ -48,7 +48,7 @@ longer_prefix a b s h =
 
 -- ---- rows that rise
 
--- each row stands before all that follow
+-- each row is before all that follow
 abbrev pub Rises : List Row → Type 0
 Rises [] = Unit {0}
 Rises (x ∷ rows) = ((r : Row) → In r rows → path_cmp x.path r.path ≡ Less) × Rises rows

@@ -93,7 +93,7 @@ module _ (table : SchemaTable) (good : IsTable table) (at : List Step) (rows : L
       some-there (cell rows p) (or-other (has_mark table (last_step p)) (is_some (cell rows p)) marked
       (and_parts (not (has_mark table (last_step p)) || is_some (cell rows p)) (has_keys table rows p (last_step p)) (whole_at p q c below e)).0)
 
-  -- the step behind the front of a row's path
+  -- the step after the front of a row's path
   pub step_is_right : (p : List Step) (s : Step) (q : List Step) (c : Cell) → cell rows (p ++ s ∷ q) ≡ Some c → step_here table (after table (root table) p) s ≡ true
   step_is_right p s q c e = step-behind table p s q (path_fits (p ++ s ∷ q) c e)
 
@@ -164,7 +164,7 @@ module _ (table : SchemaTable) (good : IsTable table) (at : List Step) (rows : L
   pub own_at_top : HasOwn at
   own_at_top has = some-there (cell rows at) (or-other (has_own_row table at) (is_some (cell rows at)) has whole.own)
 
-  -- of a node that a row stands at or below
+  -- of a node that has a row at it or below it
   pub own_at_node : (p : List Step) (n : ℕ) (q : List Step) (c : Cell) → is_prefix at (p ++ Node n ∷ []) ≡ true → cell rows ((p ++ Node n ∷ []) ++ q) ≡ Some c → HasOwn (p ++ Node n ∷ [])
   own_at_node p n q c below e has =
       elim (or_cases (has_mark table (last_step (p ++ Node n ∷ []))) (is_at_leaf table (last_step (p ++ Node n ∷ []))) has) [
@@ -187,7 +187,7 @@ module _ (table : SchemaTable) (good : IsTable table) (at : List Step) (rows : L
       let none : (not true || not (is_kind is_message table n)) ≡ true = sym (ap (λ r. not (is_root r) || not (is_kind is_message table n)) empty) ∙ no_message (Node n ∷ q) c e in
       true≢false (sym message ∙ not-true (is_kind is_message table n) none)
 
-  -- in an object each row's path goes on with a child
+  -- in an object the next step of each row's path is a child
   pub child_step : (p : List Step) (parent : Option ℕ) (s : Step) (q : List Step) (c : Cell) → after table (root table) p ≡ at_object table parent → is_prefix at p ≡ true → (parent ≡ None → p ≡ [])
       → cell rows (p ++ s ∷ q) ≡ Some c → (n : ℕ) × (s ≡ Node n) × (is_data_child table parent n ≡ true)
   child_step p parent s q c place below empty e =

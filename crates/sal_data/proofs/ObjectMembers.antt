@@ -17,12 +17,12 @@ use Rattle.sal_data.specs.Members.{member_name}
 use Rattle.sal_data.specs.Written.{Writer, step_of, with_member, with_run}
 use Rattle.sal_data.proofs.Listed.{In}
 
--- the member stands among these
+-- the member is among these
 abbrev pub Has : List ℕ → Data → Members → Type 0
 Has k d no_members = ⊥
 Has k d (member l e ms) = ((k ≡ l) × (d ≡ e)) ⊎ Has k d ms
 
--- a member of this name stands among these
+-- a member of this name is among these
 abbrev pub IsNamed : List ℕ → Members → Type 0
 IsNamed k ms = (d : Data) × Has k d ms
 

@@ -1,4 +1,4 @@
--- Where a path that fits comes to, and what may follow it.
+-- What a path that fits names, and what may follow it.
 use Rattle.std.proofs.Common.{◌≡◌, ◌⊎◌, inl, inr, ℕ, ◌+◌, ◌-◌, Bool, true, false, not, ◌&&◌, List, [], ◌∷◌, ◌++◌, length, Option, Some, None, refl, sym, ap, ◌∙◌, arith}
 use Rattle.std.specs.List.{slice_get}
 use Rattle.std.proofs.lemmas.Bool.{and_parts, and_from, not-true, true≢false}
@@ -48,13 +48,13 @@ ends (s ∷ p) = inr (behind s p)
 
 -- ---- kinds
 
--- where a path comes to: to a node, whose entry has to be named next or not
+-- what a path names: a node, and whether its entry must be named next
 pub record Spot : Type 0 where
   pub node : Option ℕ
   pub wants_entry : Bool
 
 module _ (table : SchemaTable) where
-  -- ---- where a path comes to
+  -- ---- what a path names
 
   abbrev pub step_here : Spot → Step → Bool
   step_here spot s = step_fits table (record { node = spot.node; wants_entry = spot.wants_entry }) s
@@ -105,7 +105,7 @@ module _ (table : SchemaTable) where
   pub after-node_of : (p : List Step) → (after root p).node ≡ node_of p
   after-node_of p = after-node_from root p
 
-  -- the step behind the front of a path that fits
+  -- the step after the front of a path that fits
   pub step-behind : (p : List Step) (s : Step) (q : List Step) → fits_path table (p ++ s ∷ q) ≡ true → step_here (after root p) s ≡ true
   step-behind p s q h = (step_parts (after root p) s q (fits-behind root p (s ∷ q) h)).0
 
@@ -126,7 +126,7 @@ module _ (table : SchemaTable) where
   follows_object parent (Key values) h = cc
   follows_object parent (Item value) h = cc
 
-  -- behind a list keys
+  -- after a list keys
   pub follows_list : (n : ℕ) (s : Step) → is_kind is_list table n ≡ true → step_here (at_node n) s ≡ true
       → (values : List Value) × (s ≡ Key values) × (are_of_nodes table (keys_of table n) values ≡ true)
   follows_list n (Node m) list h =
@@ -138,7 +138,7 @@ module _ (table : SchemaTable) where
       let other : is_kind is_leaf_list table n ≡ false = list-leaf_list table n list in
       absurd (true≢false (sym (and_parts (is_kind is_leaf_list table n) (is_of_node table n value) (and_parts (is_kind has_entries table n) (may_pick table n (Item value)) h).1).0 ∙ other))
 
-  -- behind a leaf-list a value
+  -- after a leaf-list a value
   pub follows_leaf_list : (n : ℕ) (s : Step) → is_kind is_leaf_list table n ≡ true → step_here (at_node n) s ≡ true → (value : Value) × (s ≡ Item value)
   follows_leaf_list n (Node m) list h =
       let entries : is_kind has_entries table n ≡ true = leaf_list-entries table n list in

@@ -23,7 +23,7 @@ ascends-onto (row ∷ read) tree h = ascends-onto read (set_row tree row) (IsAsc
 pub IsAscending-in_order : (read : List Row) → IsAscending (in_order read)
 IsAscending-in_order read = ascends-onto read [] refl
 
--- a cell is that of a row that was put in, or stood there before
+-- a cell is that of a row that was put in, or was there before
 from_read : (read tree : List Row) (p : List Step) (c : Cell) → cell (onto tree read) p ≡ Some c → In (record { path = p; cell = c }) read ⊎ (cell tree p ≡ Some c)
 from_read [] tree p c e = inr e
 from_read (x ∷ read) tree p c e = elim (from_read read (set_row tree x) p c e) [
@@ -56,7 +56,7 @@ module _ (rows : List Row) where
   agrees-onto [] tree h known = h
   agrees-onto (row ∷ read) tree h known = agrees-onto read (set_row tree row) (agrees-set tree row h (known row (inl refl))) (λ r there. known r (inr there))
 
-  -- a cell stands at the path
+  -- the path has a cell
   abbrev Stands : List Row → List Step → Type 0
   Stands tree p = (c : Cell) × (cell tree p ≡ Some c)
 
@@ -95,7 +95,7 @@ module _ (rows : List Row) where
           let never : ◌≡◌ {A = Option Cell} None (Some d) = sym is ∙ there in
           cc
 
--- where rows of one path are alike, each stands in the tree
+-- if rows of one path are alike, each is in the tree
 pub in_order-at : (read : List Row) (row : Row) → ((a b : Row) → In a read → In b read → a.path ≡ b.path → a.cell ≡ b.cell) → In row read → cell (in_order read) row.path ≡ Some row.cell
 in_order-at read row alike there =
     let (d, at) = stands-read [] read [] row there in

@@ -77,7 +77,7 @@ some_number n (suc m) h = (m, refl)
 module _ (table : SchemaTable) (good : IsTable table) where
   -- ---- the keys of a list are its children
 
-  -- a node that is no choice or case is the one that data stand under
+  -- a node that is no choice or case is the data parent of its children
   own_data_node : (n : ℕ) (node : NodeInfo) → slice_get table.nodes n ≡ Some node → stays node.kind ≡ true → data_node table (Some n) ≡ Some n
   own_data_node n node at is =
       let (inside, here) = slice_get_some table.nodes n node at in

@@ -1,4 +1,4 @@
--- Steps that rise, and one more behind them.
+-- Steps that rise, and one more after them.
 use Rattle.std.proofs.Common.{◌≡◌, suc, ◌-◌, Bool, true, false, List, [], ◌∷◌, ◌++◌, length, refl, sym, ap, ◌∙◌, arith}
 use Rattle.std.specs.Prelude.{◌||◌, not}
 use Rattle.std.specs.List.{list_any, slice_get}
@@ -22,7 +22,7 @@ past-behind [] step = refl
 past-behind (x ∷ []) step = refl
 past-behind (x ∷ y ∷ steps) step = ap (λ o. option_map_or (λ last. is_lt (step_cmp last step)) o true) (last_of_rest x y steps) ∙ past-behind (y ∷ steps) step
 
--- ---- a step behind all
+-- ---- a step after all
 
 first_before : (x : Step) (steps : List Step) (step : Step) → is_rising (x ∷ steps) ≡ true → is_behind (x ∷ steps) step ≡ true → step_cmp x step ≡ Less
 first_before x [] step rises behind = less (step_cmp x step) behind
@@ -68,7 +68,7 @@ no_steps : (steps : List Step) → length steps ≡ 0 → steps ≡ []
 no_steps [] e = refl
 no_steps (x ∷ steps) e = absurd (omega arith)
 
--- a step past those that rise, where there are no others, is new
+-- a step past those that rise is new, if there are no others
 pub is_new-past : (steps others : List Step) (step : Step) → is_rising steps ≡ true → is_past steps step ≡ true → length others ≡ 0 → true ≡ not (list_any (same_step step) (steps ++ others))
 is_new-past steps others step rises past none =
     let p = same_step step in

@@ -16,7 +16,7 @@ use Rattle.sal_data.proofs.Listed.{In, In-left, In-right, In-either}
 abbrev pub a_row : List Step → Cell → Row
 a_row path c = record { path = path; cell = c }
 
--- one cell stands at each path
+-- each path has one cell
 abbrev pub Alike : List Row → Type 0
 Alike read = (a b : Row) → In a read → In b read → a.path ≡ b.path → a.cell ≡ b.cell
 

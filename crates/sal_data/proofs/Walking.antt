@@ -1,4 +1,4 @@
--- The walk: what is read of members and of entries, the first and those behind it.
+-- The walk: what is read of members and of entries, the first and those after it.
 use Rattle.std.proofs.Common.{◌≡◌, ℕ, true, List, [], ◌∷◌, ◌++◌, Option, Some, Result, Ok, Err, ap, ◌∙◌}
 use Rattle.serde_json.specs.Data.{Data, Items, item, Members, member}
 use Rattle.sal_types.specs.declared.value.Step.{Step}
@@ -16,7 +16,7 @@ use Rattle.sal_data.proofs.Following.{followed-followed, followed-then, after_th
 abbrev pub mark_at : List Step → Row
 mark_at path = record { path = path; cell = Mark }
 
--- these rows, and those that are read behind them
+-- these rows, and those that are read after them
 abbrev pub go_on : Reading → Reading → Reading
 go_on now rest = now >>= λ rows. followed rows rest
 

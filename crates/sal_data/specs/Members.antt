@@ -11,7 +11,7 @@ use Rattle.sal_json.specs.Named.{is_colon}
 use Rattle.sal_data.specs.declared.fault.DataFault.{DataFault}
 use Rattle.sal_data.specs.declared.fault.DataFault.TheVariants.{UnknownMember, NeedsModule}
 
--- A name stands with its module at the top, and where the module is another than that of the node above.
+-- A name is written with its module at the top, and if its module differs from that of the node above.
 abbrev pub is_qualified : SchemaTable → Option ℕ → ℕ → Bool
 is_qualified table None n = true
 is_qualified table (Some p) n = not (is_same (module_of table n) (module_of table p))
@@ -25,11 +25,11 @@ member_name table parent n = if is_qualified table parent n then full_name table
 abbrev pub has_module : List ℕ → Bool
 has_module name = list_any is_colon name
 
--- the node, where its name has to stand with the module
+-- the node, if its name must be written with the module
 abbrev pub if_qualified : SchemaTable → Option ℕ → ℕ → Option ℕ
 if_qualified table parent n = if is_qualified table parent n then Some n else None
 
--- the child of the name behind the first colon, in the module of the name before it
+-- the child of the name after the first colon, in the module of the name before it
 abbrev pub qualified_child : SchemaTable → Option ℕ → List ℕ → Option ℕ
 qualified_child table parent name = option_and_then (if_qualified table parent) (child_of table parent (before_first is_colon name) (after_first is_colon name))
 
@@ -53,6 +53,6 @@ is_of_some_module table (Some p) name = list_any (λ m. is_some (child_of table 
 abbrev pub name_fault : SchemaTable → Option ℕ → List Step → List ℕ → DataFault
 name_fault table parent path name = if not (has_module name) && is_of_some_module table parent name then NeedsModule path name else UnknownMember path name
 
--- the node that a member of the object at the path stands for
+-- the node that a member of the object at the path denotes
 abbrev pub member_node : SchemaTable → Option ℕ → List Step → List ℕ → Result ℕ DataFault
 member_node table parent path name = option_map_or (λ n. Ok n) (child_called table parent name) (Err (name_fault table parent path name))

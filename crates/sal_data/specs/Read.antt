@@ -1,4 +1,4 @@
--- Which rows a JSON value stands for, or the first fault in it (RFC 7951 sections 4 and 5).
+-- Which rows a JSON value denotes, or the first fault in it (RFC 7951 sections 4 and 5).
 use Rattle.std.specs.Prelude.{ℕ, ◌-◌, Bool, true, false, List, [], ◌∷◌, ◌++◌, length, take, Option, Some, None, Result, Ok, Err, fold, nat_lt, if◌then◌else◌}
 use Rattle.std.specs.List.{list_any}
 use Rattle.std.specs.Option.{option_map_or}
@@ -28,11 +28,11 @@ use Rattle.sal_data.specs.Members.{member_name, member_node}
 abbrev pub Reading : Type 0
 Reading = Result (List Row) DataFault
 
--- rows, and those that are read behind them
+-- rows, and those that are read after them
 abbrev pub followed : List Row → Reading → Reading
 followed rows rest = rest >>= λ more. Ok (rows ++ more)
 
--- a mark at the path, where there is one, and what is read below it
+-- a mark at the path, if it has one, and what is read below it
 abbrev pub marked : Bool → List Step → Reading → Reading
 marked true path rest = followed (record { path = path; cell = Mark } ∷ []) rest
 marked false path rest = rest
@@ -94,7 +94,7 @@ items_rows table n path seen (item json items) =
 
 -- ---- trees
 
--- an array stands at lists and leaf-lists, and an object at the other nodes that are no leafs
+-- an array at lists and leaf-lists, and an object at the other nodes that are no leafs
 abbrev pub of_array : SchemaTable → ℕ → List Step → Data → Reading → Reading → Reading
 of_array table n path json entries items =
     if is_kind is_leaf table n then leaf_rows table n path json
@@ -175,8 +175,8 @@ rows_at table path (Some (Item value)) json = option_map_or (item_rows table pat
 abbrev pub in_order : List Row → List Row
 in_order rows = fold set_row [] rows
 
--- The rows that the JSON value at the path stands for. Of its faults the first counts, depth first: at each value its shape, the
--- keys or the value of an entry, another entry than the one of the path, an entry that stands there before, and then the
+-- The rows that the JSON value at the path denotes. Of its faults the first counts, depth first: at each value its shape, the
+-- keys or the value of an entry, another entry than the one of the path, an entry that was there before, and then the
 -- members.
 abbrev pub read_data : SchemaTable → List Step → Data → Reading
 read_data table path json = rows_at table path (last_step path) json >>= λ rows. Ok (in_order rows)

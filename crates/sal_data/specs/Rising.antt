@@ -6,7 +6,7 @@ use Rattle.std.specs.Ordering.{is_lt}
 use Rattle.sal_types.specs.declared.value.Step.{Step}
 use Rattle.sal_types.specs.Order.{step_cmp}
 
--- the step is greater than the last of these, where there is one
+-- the step is greater than the last of these, if there is one
 abbrev pub is_past : List Step → Step → Bool
 is_past steps step = option_map_or (λ last. is_lt (step_cmp last step)) (slice_get steps (length steps - 1)) true
 

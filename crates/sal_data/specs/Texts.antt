@@ -1,5 +1,5 @@
--- What a text says: of a JSON value that was read from a text nothing is owed. Of one that a program made itself the laws of `Laws`
--- ask that each name stands once in its object, and that its strings are bytes (`IsJson`).
+-- What a text denotes. A JSON value that was read from a text needs no condition. For one that a program made itself, the laws of
+-- `Laws` require that each name occurs once in its object, and that its strings are bytes (`IsJson`).
 use Rattle.std.specs.Prelude.{◌≡◌, ℕ, ◌≤◌, List, length, Some, Ok, IsTrue, IsUtf8}
 use Rattle.serde_json.specs.Data.{Data}
 use Rattle.serde_json.specs.Read.{read}

@@ -20,11 +20,11 @@ use Rattle.sal_data.specs.Members.{member_name}
 use Rattle.sal_data.specs.Read.{same_step}
 
 -- Below, k is how many steps lead to a place, and rows are those of a tree at the place and below it, in the order of their
--- paths. So rows with the same next step stand together.
+-- paths. So rows with the same next step are adjacent.
 
 -- ---- runs of rows
 
--- the step behind the place; none of a row at the place itself
+-- the step after the place; none of a row at the place itself
 abbrev pub next_step : ℕ → Row → Option Step
 next_step k row = slice_get row.path k
 
@@ -74,7 +74,7 @@ with_member table parent f k ms step run = ms
 abbrev pub with_run : SchemaTable → Option ℕ → Writer → ℕ → Members → List Row → Members
 with_run table parent f k ms run = with_member table parent f k ms (step_of k run) run
 
--- an object with a member for each child that a row stands at or below: neither lists nor containers without presence are there empty
+-- an object with a member for each child that has a row at it or below it: neither lists nor containers without presence are empty there
 abbrev pub members_json : SchemaTable → Option ℕ → Writer → ℕ → List Row → Data
 members_json table parent f k rows = object (fold (with_run table parent f k) no_members (runs_of k rows))
 

@@ -7,7 +7,7 @@ ghost use Rattle.sal_types.specs.Tree.{IsAscending, cell};
 use sal_types::{Cell, Row, Step};
 use std::cmp::Ordering;
 
-/// How the path stands to that of the leaf below `front`.
+/// The order of the path and that of the leaf below `front`.
 fn order(path: &[Step], front: &[Step], leaf: u32) -> Ordering
     ensures { result ≡ path_cmp path.now (front.now ++ Node leaf ∷ []) }
 {

@@ -1,4 +1,4 @@
-//! Why a JSON value stands for no rows.
+//! Why a JSON value denotes no rows.
 ghost use Rattle.std.specs.Prelude.{◌≡◌};
 
 use sal_json::ScalarFault;
@@ -6,7 +6,7 @@ use sal_types::{Path, Str};
 use std::alloc::{AllocError, AllocFailed};
 use thiserror::Error;
 
-/// Why a JSON value stands for no rows of a schema.
+/// Why a JSON value denotes no rows of a schema.
 ///
 /// `path` is the place: of the object for the faults of a member's name, of the list for those of keys, and of the entry or
 /// node itself for the others. It has numbers of nodes; `path_text` of `sal_pathtext` writes it with their names.
@@ -15,10 +15,10 @@ pub enum DataFault {
     /// No child of the node at the path has this name in the right form.
     #[error("unknown member `{}`", .name.as_str())]
     UnknownMember { path: Path, name: Str },
-    /// The name is written without its module, and stands at the top or is that of a child of another module.
+    /// The name is written without its module, and is at the top or that of a child of another module.
     #[error("the member `{}` needs the name of its module", .name.as_str())]
     NeedsModule { path: Path, name: Str },
-    /// Another JSON value than an object or an array stands where one is wanted.
+    /// A JSON value other than an object or an array where one of these is required.
     #[error("an object or an array is wanted")]
     WrongShape { path: Path },
     /// An entry of the list at the path lacks a key.

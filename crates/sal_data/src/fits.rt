@@ -28,7 +28,7 @@ fn cell_fits(schema: &Schema, path: &Path, cell: &Cell) -> bool
     }
 }
 
-/// Whether the leaf below these steps stands there with the value.
+/// Whether the leaf below these steps is present with the value.
 fn has_leaf(rows: &[Row], steps: &[Step], leaf: u32, value: &Value) -> bool
     requires { IsAscending rows.now }
     ensures { result ≡ spec.has_cell rows.now (steps.now ++ Node leaf ∷ []) (Leaf value.now) }
@@ -40,7 +40,7 @@ fn has_leaf(rows: &[Row], steps: &[Step], leaf: u32, value: &Value) -> bool
     }
 }
 
-/// Whether the key leafs of the entry at these steps stand there, with these values.
+/// Whether the key leafs of the entry at these steps are present, with these values.
 fn has_key_leafs(rows: &[Row], steps: &[Step], leafs: &[u32], values: &[Value]) -> bool
     requires { IsAscending rows.now }
     ensures { result ≡ spec.has_key_leafs rows.now steps.now leafs.now values.now }
@@ -89,7 +89,7 @@ fn begins_with(steps: &[Step], from: &Path) -> bool
     steps.starts_with(from.steps())
 }
 
-/// The same, where these steps go on from the path `from`.
+/// The same, if these steps begin with the path `from`.
 fn is_whole_from(schema: &Schema, rows: &[Row], from: &Path, steps: &[Step]) -> bool
     requires { IsAscending rows.now }
     ensures { result ≡ (not (is_prefix from.now steps.now) || spec.is_whole_at schema.now rows.now steps.now) }
@@ -152,11 +152,11 @@ fn row_fits(schema: &Schema, path: &Path, rows: &[Row], before: &[Step], row: &R
         && !(path.steps().is_empty() && schema.is_in_message(&row.path))
 }
 
-/// Whether the rows are data of the schema at the path: each lies at the path or below it, its own path fits, and its cell is
-/// of the kind and type of its node; and list entries and presence containers above it, from the path down, stand there, an
+/// Whether the rows are data of the schema at the path: each is at the path or below it, its own path fits, and its cell is
+/// of the kind and type of its node; and list entries and presence containers above it, from the path down, are present, an
 /// entry with its keys.
 ///
-/// It takes no memory, and looks by halves for the rows that each entry and presence container needs, once for each.
+/// It takes no memory. For each entry and presence container it makes one binary search for each row that this needs.
 pub fn fits_rows(schema: &Schema, path: &Path, rows: &Rows) -> bool
     ensures { result ≡ spec.fits schema.now path.now rows.now }
 {

@@ -9,8 +9,8 @@ pub fn rows_read_as_written()
 {}
 
 /// Rows that were read are such rows: in order, as the schema wants them, and with values that read again. So what was read
-/// and is written reads as the same rows. It is owed of the JSON value that each name stands once in its object, and that its
-/// strings are bytes.
+/// and is written reads as the same rows. The JSON value must have each name once in its object, and its
+/// strings must be bytes.
 pub fn rows_that_were_read_are_whole()
     ensures whole { ReadsWhole }
     ensures again { ReadsAgain }

@@ -2,11 +2,11 @@
 //!
 //! | item | what it is |
 //! |---|---|
-//! | `read_data` | the rows that a JSON value at a path stands for, in the order of their paths, or its first fault |
+//! | `read_data` | the rows that a JSON value at a path denotes, in the order of their paths, or its first fault |
 //! | `write_data` | the JSON value of the rows at a path and below it |
 //! | `write_leaf` | the JSON value of a value of a leaf, or of an entry of a leaf-list |
 //! | `fits_rows` | whether rows are data of the schema at a path |
-//! | `DataFault` | why a JSON value stands for no rows, and where |
+//! | `DataFault` | why a JSON value denotes no rows, and where |
 //! | `specs/Members` | the name of a member for each node, and the node that a name means |
 //! | `specs/Read`, `specs/Walked` | which rows and which first fault `read_data` gives; the parts of a reading that the code goes through |
 //! | `specs/Written` | which JSON value `write_data` gives |
@@ -15,7 +15,7 @@
 //! | `examples` | laws, computed: what one tree reads and is written as, and faults of each kind |
 //!
 //! A container or an entry of a list is an object, a list or a leaf-list an array, and a leaf or an entry of a leaf-list a
-//! scalar of `sal_json`. In the top object each name stands with its module, and below it where the module is another than that
+//! scalar of `sal_json`. In the top object each name has its module, and below it a name has one if it differs from that
 //! of the node above.
 //!
 //! The reader gives exactly what its definition gives, for any path and any JSON value, and the writer for any path and any
@@ -28,19 +28,19 @@
 //! ```
 //!
 //! Costs: `members` finds nodes by their names, `entries` the steps to entries, `walk` goes once through the value
-//! and appends rows in the order of the text, and `order` puts them into the order of their paths. Rows that came
-//! in the order of their paths are a tree as they are, after two comparisons for each; n others take n log n. Beside them reading
-//! takes a search by halves for each name, and for each value what `read_scalar` takes. Entries that come in their order are told
-//! apart by one comparison for each, others by a search in a set (`seen`). Each node's path is a copy of that of the node above with a step more, and each
-//! entry's step is copied once more while its list is read. A call nests no deeper than the value, and no deeper than a path
-//! has steps. That a name is one of another module is asked only where it is a fault.
+//! and appends rows in the order of the text, and `order` sorts them by their paths. Rows that came
+//! in the order of their paths take two comparisons each; n others take n log n. In addition reading takes a binary search for
+//! each name, and for each value what `read_scalar` takes. Entries that come in their order are compared with the one before
+//! only, others by a search in a set (`seen`). Each node's path is a copy of that of the node above with one more step, and
+//! each entry's step is copied once more while its list is read. A call nests no deeper than the value, and no deeper than a
+//! path has steps. Only a fault looks for the name in other modules.
 //!
 //! Writing goes once through the rows for each step of their paths: `runs` parts them where the next step changes, and `write`
-//! makes a member or an item of each run, without a copy of rows or paths. Beside that it takes what `write_scalar` takes for
-//! each value, and for each member a search by halves among those of its object. Rows of the tree before and behind those at
-//! the path are passed over one by one. Calls nest as deep as a path has steps. `fits_rows` takes no memory: it goes once
-//! through the rows, and looks by halves for the row of each entry and presence container above them and, of an entry, for its
-//! key leafs.
+//! makes a member or an item of each run, without a copy of rows or paths. In addition it takes what `write_scalar` takes for
+//! each value, and for each member a binary search among those of its object. Rows of the tree before and after those at
+//! the path are skipped one by one. Calls nest as deep as a path has steps. `fits_rows` takes no memory: it goes once
+//! through the rows, with a binary search for the row of each entry and presence container above them and for the
+//! key leafs of an entry.
 #![tactic(auto)]
 
 mod cells;

@@ -15,7 +15,7 @@ use sal_types::{Duplicate, NoMemory, Path, Str};
 use serde_json::{Map, Value as Json};
 use std::alloc::Global;
 
-/// Whether the node's name stands with its module below this parent, or in the top object.
+/// Whether the node's name is written with its module below this parent, or in the top object.
 pub(crate) fn is_qualified(schema: &Schema, parent: Option<u32>, node: u32) -> bool
     ensures { result ≡ spec.is_qualified schema.now parent node }
 {
@@ -25,14 +25,14 @@ pub(crate) fn is_qualified(schema: &Schema, parent: Option<u32>, node: u32) -> b
     }
 }
 
-/// Whether the name stands with a module.
+/// Whether the name is written with a module.
 fn has_module(name: &str) -> bool
     ensures { result ≡ spec.has_module name.now }
 {
     name.as_bytes().iter().any(|c| *c == b':')
 }
 
-/// The child of this name in a module, where the name has to stand with its module.
+/// The child of this name in a module, if the name must be written with its module.
 fn qualified_child(schema: &Schema, parent: Option<u32>, module: &str, name: &str) -> Option<u32>
     ensures { result ≡ option_and_then (spec.if_qualified schema.now parent) (child_of schema.now parent «module».now name.now) }
 {
@@ -113,7 +113,7 @@ fn name_fault(
     }
 }
 
-/// The node that a member of the object at the path stands for.
+/// The node that a member of the object at the path denotes.
 pub(crate) fn member_node(
     alloc: Global,
     schema: &Schema,

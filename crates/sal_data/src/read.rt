@@ -33,7 +33,7 @@ fn is_asked(asked: &Step, step: Step) -> bool
 }
 
 impl<'a> Reader<'a> {
-    /// The step to the list entry at the path that the JSON value tells by its keys.
+    /// The step to the list entry at the path, by the keys in the JSON value.
     fn entry_step(&self, node: u32, path: &Path, json: &Json) -> Result<Step, DataFault>
         ensures { GivesUnless DataFault.NoMemory (λ step. step) result (spec.key_step self.now.schema.now node (spec.before_last path.now) (view json.now)) }
     {
@@ -41,7 +41,7 @@ impl<'a> Reader<'a> {
         self.key_step(node, &list, json)
     }
 
-    /// The step to the leaf-list entry at the path that the JSON value tells.
+    /// The step to the leaf-list entry at the path, by the JSON value.
     fn value_step(&self, node: u32, path: &Path, json: &Json) -> Result<Step, DataFault>
         ensures { GivesUnless DataFault.NoMemory (λ step. step) result (spec.item_step self.now.schema.now node (spec.before_last path.now) (view json.now)) }
     {
@@ -87,7 +87,7 @@ impl<'a> Reader<'a> {
         Ok(())
     }
 
-    /// Appends the rows of what stands at the path.
+    /// Appends the rows of the data at the path.
     fn rows_at(&self, path: &Path, json: &Json, out: &mut Vec<Row>) -> Result<(), DataFault>
         ensures { GivesUnless DataFault.NoMemory (λ _. out.new.items) result (spec.followed out.old.items (spec.rows_at self.now.schema.now path.now (last_step path.now) (view json.now))) }
     {
@@ -105,7 +105,7 @@ impl<'a> Reader<'a> {
     }
 }
 
-/// The rows that a JSON value at a path stands for, in the order of their paths, or its first fault.
+/// The rows that a JSON value at a path denotes, in the order of their paths, or its first fault.
 ///
 /// It takes time linear in the JSON value and n log n comparisons of paths for n rows, beside a search by halves for each name
 /// and each entry, and what `read_scalar` takes for each value.

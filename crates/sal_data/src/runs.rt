@@ -13,7 +13,7 @@ fn next_step(row: &Row, k: usize) -> Option<&Step>
     row.path.steps().get(k)
 }
 
-/// The step behind the first `k` of a run's rows.
+/// The step after the first `k` of a run's rows.
 pub(crate) fn step_of(rows: &[Row], k: usize) -> Option<&Step>
     ensures { option_map (λ s. s.now) result ≡ spec.step_of k rows.now }
 {
@@ -45,7 +45,7 @@ fn run_len(rows: &[Row], k: usize, first: Option<&Step>) -> usize
     rows.len()
 }
 
-/// The first run of rows, and those behind it.
+/// The first run of rows, and those after it.
 pub(crate) fn first_run(rows: &[Row], k: usize) -> (&[Row], &[Row])
     requires { 0 < length rows.now }
     ensures runs { spec.runs_of k rows.now ≡ result.0.now ∷ spec.runs_of k result.1.now }
@@ -68,7 +68,7 @@ fn first_under(rows: &[Row], path: &Path) -> usize
     rows.len()
 }
 
-/// How many rows from the first on stand at the path or below it.
+/// How many rows from the first on are at the path or below it.
 fn count_under(rows: &[Row], path: &Path) -> usize
     ensures count { result ≡ prefix_len (λ row. is_prefix path.now row.path) rows.now }
     ensures within { result ≤ length rows.now }
@@ -81,7 +81,7 @@ fn count_under(rows: &[Row], path: &Path) -> usize
     rows.len()
 }
 
-/// The rows at the path and below it, which stand together.
+/// The rows at the path and below it, which are adjacent.
 pub(crate) fn under<'r>(rows: &'r [Row], path: &Path) -> &'r [Row]
     requires { IsAscending rows.now }
     ensures { result.now ≡ under rows.now path.now }

@@ -10,7 +10,7 @@ use std::alloc::Global;
 use std::collections::BTreeSet;
 use std::marker::Model;
 
-/// The steps to entries that were seen. As long as each is greater than the one before it they stand in a list, and else in a set.
+/// The steps to entries that were seen. As long as each is greater than the one before it they are in a list, else in a set.
 #[derive(Drop)]
 pub(crate) struct Seen {
     rising: Vec<Step>,

@@ -120,7 +120,7 @@ impl<'a> Reader<'a> {
         }
     }
 
-    /// Appends the children that these members stand for, in byte order of their names.
+    /// Appends the children that these members denote, in byte order of their names.
     #[cycle(walk)]
     fn members_rows(
         &self,
@@ -137,7 +137,7 @@ impl<'a> Reader<'a> {
         Ok(())
     }
 
-    /// Appends the child that a member stands for.
+    /// Appends the child that a member denotes.
     #[cycle(walk)]
     fn member_rows(
         &self,

@@ -114,7 +114,7 @@ impl<'a> Writer<'a> {
         }
     }
 
-    /// An object with a member for each child that a row stands at or below.
+    /// An object with a member for each child that has a row at it or below it.
     #[cycle(tree)]
     fn members_json(
         &self,
@@ -207,7 +207,7 @@ impl<'a> Writer<'a> {
         }
     }
 
-    /// The value of these rows, which stand at the path and below it.
+    /// The value of these rows, which are at the path and below it.
     fn json_at(&self, path: &Path, rows: &[Row]) -> Result<Json, NoMemory>
         ensures { IfOk result (λ json. view json ≡ spec.json_at self.now.schema.now path.now (last_step path.now) rows.now) }
     {

@@ -1,4 +1,4 @@
--- The path comes to where what is left of it comes to from here.
+-- The path names what the rest of it names from here.
 use Rattle.std.proofs.Common.{◌≡◌, drop, None}
 use Rattle.sal_schema.specs.Paths.{node_from}
 use Rattle.sal_data.proofs.ends.node_at_end.Given as goal

@@ -1,4 +1,4 @@
--- All stand there where those that are left do.
+-- All are present if those that are left are.
 use Rattle.std.proofs.Common.{◌≡◌, drop}
 use Rattle.sal_schema.specs.Fitting.{has_key_leafs}
 use Rattle.sal_data.proofs.fits.has_key_leafs.Given as goal

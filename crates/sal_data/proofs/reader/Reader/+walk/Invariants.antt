@@ -1,4 +1,4 @@
--- The rows so far stand before those of what is left of the members, or of the entries where the same were seen.
+-- The rows so far are before those of the rest of the members, or of the entries if the same were seen.
 use Rattle.std.proofs.Common.{◌≡◌, List, drop}
 use Rattle.serde_json.specs.View.{items_view, members_view}
 use Rattle.sal_types.specs.declared.value.Step.{Step}

@@ -1,4 +1,4 @@
--- The rows so far stand before those of the items that are left, where the same entries were seen.
+-- The rows so far are before those of the items that are left, if the same entries were seen.
 use Rattle.std.proofs.Common.{◌≡◌, List, drop}
 use Rattle.serde_json.specs.View.{items_view}
 use Rattle.sal_types.specs.declared.value.Step.{Step}

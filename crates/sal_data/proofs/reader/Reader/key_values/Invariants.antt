@@ -1,4 +1,4 @@
--- The values so far stand before those of the keys that are left.
+-- The values so far are before those of the keys that are left.
 use Rattle.std.proofs.Common.{◌≡◌, drop}
 use Rattle.serde_json.specs.View.{members_view}
 use Rattle.sal_data.specs.Read.{key_values}

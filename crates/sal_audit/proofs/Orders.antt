@@ -1,4 +1,4 @@
--- The verdict by the order that a text tells.
+-- The verdict by the order that a text states.
 use Rattle.std.proofs.Common.{◌≡◌, ℕ, Bool, true, false, List, ap, sym, ◌∙◌}
 use Rattle.std.proofs.lemmas.Bool.{true≢false}
 use Rattle.sal_history.specs.World.{Domain}

@@ -15,8 +15,8 @@
 //! // no 8
 //! ```
 //!
-//! Cost: what `sim` takes for the script and its report, and one look at each byte of the text. What was played is not let go, since a process ends
-//! behind it: a caller that goes on keeps that memory taken.
+//! Cost: what `sim` takes for the script and its report, and one look at each byte of the text. What was played is not freed, since the process ends
+//! then: a caller that runs further keeps that memory taken.
 #![tactic(auto)]
 
 mod audited;

@@ -1,4 +1,4 @@
-//! A report compared with what its script comes to in the order that it tells.
+//! A report compared with the one of its script in the order that it states.
 ghost use Rattle.std.specs.Prelude.{◌≡◌, ◌≤◌, [], IfOk, length};
 ghost use Rattle.sal_script.specs.Moves.{clients_of};
 ghost use Rattle.sal_script.specs.Play.{play as play_spec};
@@ -43,7 +43,7 @@ pub fn audit(
     }
 }
 
-// The script's order is that on the text's first line; false where it tells none.
+// The script's order is that on the text's first line; false if it states none.
 fn reorder(alloc: Global, script: &mut Script, text: &[u8]) -> Result<bool, NoMemory>
     ensures { IfOk result (IsReordered text.now script.old script.new) }
 {

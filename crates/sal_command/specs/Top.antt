@@ -30,7 +30,7 @@ use Rattle.sal_command.specs.declared.words.Form.TheVariants.{Run, Text, Load, F
 use Rattle.sal_command.specs.declared.words.TextForm.{TextForm}
 use Rattle.sal_command.specs.declared.words.TextForm.TheVariants.{Sim, Schema, Owner, Export, Follow, Draw, Audit}
 
--- ---- what a script comes to
+-- ---- the result of a script
 
 -- the report of what was played, or the index at which the order fails
 abbrev pub text_of_play : List Domain → Result Played ℕ → Result (List ℕ) Status
@@ -40,7 +40,7 @@ text_of_play world (Err index) = Err (BadOrder index)
 abbrev pub play_over : Parts → List Domain → Result (List ℕ) Status
 play_over parts world = text_of_play world (play world parts.clients parts.order)
 
--- The report of the script that the bytes stand for, played in its order. What is wrong ahead of that counts first.
+-- The report of the script that the bytes denote, played in its order. What is wrong ahead of that counts first.
 abbrev pub sim_text : List ℕ → Result (List ℕ) Status
 sim_text bytes = prepared bytes >>= (λ script. play_over script.parts script.world)
 
@@ -54,12 +54,12 @@ RunsTo bytes (Err (BadStream text)) = ⊥
 RunsTo bytes (Err (BadExport commit)) = ⊥
 RunsTo bytes (Err status) = prepared bytes ≡ Err status
 
--- A load: the one summary that its clients come to, whatever the order of their shared calls is. Its own script is always a script,
--- so it comes to nothing else.
+-- A load: the one summary of its clients, whatever the order of their shared calls is. Its own script is always a script,
+-- so there is no other result.
 abbrev pub LoadsTo : ℕ → ℕ → List ℕ → Type 0
 LoadsTo rounds start text = text ≡ load_text rounds start
 
--- A feed: the one text that its notes come to, whatever the threads do.
+-- A feed: the one text of its notes, whatever the threads do.
 abbrev pub FeedsTo : ℕ → ℕ → List ℕ → Type 0
 FeedsTo notes capacity text = text ≡ feed_text notes capacity
 
@@ -76,7 +76,7 @@ abbrev pub or_bad_script : Result (List ℕ) (List ℕ) → Result (List ℕ) St
 or_bad_script (Ok text) = Ok text
 or_bad_script (Err place) = Err (BadScript place)
 
--- the replies to the steps of owners that the bytes stand for, made in their order
+-- the replies to the steps of owners that the bytes denote, made in their order
 abbrev pub owner_text : List ℕ → Result (List ℕ) Status
 owner_text bytes = or_bad_script (replies.owner_text bytes)
 
@@ -102,14 +102,14 @@ Written text given given' Done = Appends given given' text
 Written text given given' WriteFault = (rest : List ℕ) × TakesFront given given' text rest
 Written text given given' status = ⊥
 
--- all bytes of the input, of which there are not too many, and what they come to
+-- all bytes of the input, at most 16,777,216, and their result
 pub record ReadsInput (comes : List ℕ → Result (List ℕ) Status → Type 0) (before after : Option (List ℕ)) (answer : Result (List ℕ) Status) : Type 0 where
   pub bytes : List ℕ
   pub taken : TakesAll before after bytes
   pub within : length bytes ≤ 16777216
   pub come : comes bytes answer
 
--- What a form did whose input comes to a text or to a status: of its input, as it was before and after, and of its output,
+-- What a form did whose input gives a text or a status: of its input, as it was before and after, and of its output,
 -- likewise. Where memory ran out, or a read failed, nothing was written.
 abbrev pub TextAnswers : (List ℕ → Result (List ℕ) Status → Type 0) → Option (List ℕ) → Option (List ℕ) → Option (List ℕ) → Option (List ℕ) → Status → Type 0
 TextAnswers comes before after given given' Done = (text : List ℕ) × ReadsInput comes before after (Ok text) × Written text given given' Done
@@ -126,7 +126,7 @@ TextAnswers comes before after given given' ReadFault = given' ≡ given
 TextAnswers comes before after given given' NoMemory = given' ≡ given
 TextAnswers comes before after given given' BadWords = ⊥
 
--- What a form did that reads no input, and comes to a text whatever its words say. Where memory ran out nothing was written.
+-- What a form did that reads no input, and gives a text whatever its words say. If memory ran out nothing was written.
 abbrev pub OwnAnswers : (List ℕ → Type 0) → Option (List ℕ) → Option (List ℕ) → Status → Type 0
 OwnAnswers comes given given' Done = (text : List ℕ) × comes text × Written text given given' Done
 OwnAnswers comes given given' WriteFault = (text : List ℕ) × comes text × Written text given given' WriteFault
@@ -145,7 +145,7 @@ Answers (Some Version) before after given given' status = (after ≡ before) × 
 
 -- ---- when it is done
 
--- told bytes of which something is made: there are not too many of them
+-- known bytes of which something is made: at most 16,777,216
 abbrev pub IsMade : {A : Type 0} → (List ℕ → Result A Status) → Option (List ℕ) → Type 0
 IsMade {A} make (Some bytes) = (length bytes ≤ 16777216) × ((made : A) × (make bytes ≡ Ok made))
 IsMade {A} make None = ⊥
@@ -184,14 +184,14 @@ abbrev pub bytes_of : Made → List ℕ
 bytes_of (made_as.Words text) = text
 bytes_of (made_as.Plain bytes) = bytes
 
--- what is made, or the status that the making comes to; nothing is said of want of memory
+-- what is made, or its status; nothing is said of want of memory
 abbrev pub IsMadeOr : Result (List ℕ) Status → Result Made Status → Type 0
 IsMadeOr made result = MatchResult result (λ it. made ≡ Ok (bytes_of it)) (IsTextStatus made)
 
--- a text that running may come to; nothing is said of want of memory
+-- a text that a run may give; nothing is said of want of memory
 abbrev pub IsRunOr : List ℕ → Result (List ℕ) Status → Type 0
 IsRunOr bytes result = MatchResult result (λ text. RunsTo bytes (Ok text)) (IsStatusOf (prepared bytes))
 
--- the summary that a load comes to, unless memory ran out
+-- the summary of a load, unless memory ran out
 abbrev pub IsLoadOr : ℕ → ℕ → Result (List ℕ) Status → Type 0
 IsLoadOr rounds start result = MatchResult result (LoadsTo rounds start) (λ status. status ≡ NoMemory)

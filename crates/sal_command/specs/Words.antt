@@ -21,7 +21,7 @@ starts_well (c ∷ d ∷ word) = not (nat_eq c 48)
 abbrev pub is_plain : List ℕ → Bool
 is_plain word = starts_well word && list_all is_ascii_digit word
 
--- what digits say, behind those before
+-- the number of digits after those before
 abbrev pub read_on : ℕ → List ℕ → ℕ
 read_on n [] = n
 read_on n (c ∷ word) = read_on (10 * n + (c - 48)) word
@@ -65,7 +65,7 @@ form_named word =
     else (if text_eq word (codes "--help") then Some Help
     else (if text_eq word (codes "--version") then Some Version else option_map Text (text_form_named word)))
 
--- a load of 1 to 10,000 rounds, behind a number of at most 65,536
+-- a load of 1 to 10,000 rounds, whose values begin after a number of at most 65,536
 abbrev pub load_of : List ℕ → List ℕ → Option Form
 load_of rounds start = option_and_then (λ n. option_map (Load n) (number_of 0 65536 start)) (number_of 1 10000 rounds)
 

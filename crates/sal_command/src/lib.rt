@@ -9,8 +9,8 @@
 //! | `summed` | the summary of a load, as text |
 //! | `loaded` | a load: from its two numbers to its summary |
 //!
-//! The script is prepared by `sal_prepare`, run by `sal_run` over the broker or played by `sal_client` over a hub, and told by `sal_report`. The steps of
-//! `owner` are read, played and told by `sal_owner_script`. Frames are exported and followed by `sal_follow_script`, notifications handed over by
+//! The script is prepared by `sal_prepare`, run by `sal_run` over the broker or played by `sal_client` over a hub, and reported by `sal_report`. The
+//! steps of `owner` are read, played and reported by `sal_owner_script`. Frames are exported and followed by `sal_follow_script`, notifications handed over by
 //! `sal_feed_script`, pictures drawn by `sal_picture`, and reports audited by `sal_audit`.
 #![tactic(auto)]
 

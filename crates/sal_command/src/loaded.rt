@@ -21,7 +21,7 @@ use std::mem;
 use std::sync::Wait;
 use std::thread::Threads;
 
-/// The summary of a load of so many rounds behind this number, its clients run at the same time.
+/// The summary of a load of this many rounds, whose values begin after this number; its clients run at the same time.
 pub(crate) fn load_text<R: Threads + Wait + Sync, G: Gate>(
     rt: &R,
     alloc: Global,

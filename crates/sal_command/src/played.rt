@@ -27,7 +27,7 @@ use std::mem;
 use std::sync::{Arc, Wait};
 use std::thread::Threads;
 
-/// The report of the script that the bytes stand for, its clients run at the same time.
+/// The report of the script that the bytes denote, its clients run at the same time.
 pub(crate) fn run_text<R: Threads + Wait + Sync, G: Gate>(
     rt: &R,
     alloc: Global,
@@ -87,7 +87,7 @@ fn left_over<R: Threads + Wait + Sync, G: Gate>(
     Ok((left, schemas))
 }
 
-/// The report of the script that the bytes stand for, played in its order.
+/// The report of the script that the bytes denote, played in its order.
 pub(crate) fn sim_text<G: Gate>(alloc: Global, bytes: &[u8], gate: &G) -> Result<Str, Status>
     ensures { IsTextOr (spec.sim_text bytes.now) result }
 {

@@ -9,7 +9,7 @@ use sal_report::{DomainEnd, summary};
 use sal_types::{NoMemory, Str};
 use std::alloc::Global;
 
-/// The summary of a load of so many rounds behind this number.
+/// The summary of a load of this many rounds, whose values begin after this number.
 pub(crate) fn summary_of(
     alloc: Global,
     rounds: u32,

@@ -90,7 +90,7 @@ fn modules_text(alloc: Global, script: &Script) -> Result<Str, Status>
     }
 }
 
-// The same of the script that the bytes stand for.
+// The same of the script that the bytes denote.
 fn schema_text(alloc: Global, bytes: &[u8]) -> Result<Str, Status>
     ensures { IsTextOr (spec.schema_text bytes.now) result }
 {
@@ -98,7 +98,7 @@ fn schema_text(alloc: Global, bytes: &[u8]) -> Result<Str, Status>
     modules_text(alloc, &script)
 }
 
-// The replies to the steps of owners that the bytes stand for.
+// The replies to the steps of owners that the bytes denote.
 fn owner_text(alloc: Global, bytes: &[u8]) -> Result<Str, Status>
     ensures { IsTextOr (spec.owner_text bytes.now) result }
 {

@@ -83,8 +83,8 @@ pub const VERSION: &str = "mdsal 0.1.0\n";
 
 /// Runs the command: the words of its command line, its input, its output, and the gate that a client passes before
 /// each of its steps. With `run`, `load` and `feed` it starts threads and waits for them. What a report of a played
-/// script says of its order is the law `plays_follow_their_order` of `sal_script`; that its first line tells one order and no
-/// other is `first_lines_tell_one_order`. It does not free what it played, since a process ends behind it: a caller that goes on keeps
+/// script says of its order is the law `plays_follow_their_order` of `sal_script`; that its first line states one order and no
+/// other is `first_lines_tell_one_order`. It does not free what it played, since the process ends then: a caller that runs further keeps
 /// that memory taken.
 pub fn mdsal<R: Threads + Wait + Sync, S: Source, K: Sink, G: Gate>(
     rt: &R,

@@ -46,7 +46,7 @@ pub enum TextForm {
     Audit,
 }
 
-/// The greatest place of an entry that words tell; no script has as many steps.
+/// The greatest place of an entry that words can give; no script has as many steps.
 const MAX_PLACE: u32 = 1000000;
 
 /// The form that the words are, if any.

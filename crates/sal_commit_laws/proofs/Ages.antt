@@ -41,7 +41,7 @@ module _ (commits : List Commit) (following : AreFollowing commits) where
       rising (k - j) j c d at_c (subst (λ i. StandsAt commits i d) far at_d)
 
   module _ (s : Store) (p : List Step) where
-    -- what stands at a path in a commit stood there in an earlier one too, or has a greater stamp than all that stood in that
+    -- what is at a path in a commit was there in an earlier one too, or has a greater stamp than all that was in that
     since : (n a : ℕ) (c d : Commit) (m : Tree) → StandsAt commits a c → StandsAt commits (a + n) d → at (Some (tree_in d.trees s)) p ≡ Some m
         → (at (Some (tree_in c.trees s)) p ≡ Some m) ⊎ (stamp_of c.receipt < m.stamp)
     since zero a c d m at_c at_d stands = inl (ap (λ (x : Commit). at (Some (tree_in x.trees s)) p) (same_at commits a (a + zero) c d (omega arith) at_c at_d) ∙ stands)
@@ -64,7 +64,7 @@ module _ (commits : List Commit) (following : AreFollowing commits) where
         let far : k ≡ j + (k - j) = omega (arith, le) in
         since (k - j) j c d m at_c (subst (λ i. StandsAt commits i d) far at_d) stands
 
-    -- no stamp that a transaction has, behind an opening of receipt 0
+    -- no stamp that a transaction has, after an opening of receipt 0
     pub no_view : (place n : ℕ) (d : Commit) (m : Tree) → ((c : Commit) → StandsAt commits 0 c → c.receipt ≡ 0) → StandsAt commits n d → at (Some (tree_in d.trees s)) p ≡ Some m → m.stamp ≢ 2 * place + 2
     no_view place zero d m first at_d stands = λ e.
         let most : m.stamp ≤ stamp_of d.receipt = stamped-at commits 0 d s following at_d.0 at_d.1 p m stands in

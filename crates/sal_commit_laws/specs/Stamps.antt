@@ -1,4 +1,4 @@
--- What the stamps of nodes tell, over any commits of a domain.
+-- What the stamps of nodes say, over any commits of a domain.
 use Rattle.std.specs.Prelude.{◌≡◌, ◌↔◌, ℕ, ◌<◌, ◌≤◌, false, List, length, Option, Some, None, slice_index_or}
 use Rattle.sal_types.specs.declared.value.Store.{Store}
 use Rattle.sal_types.specs.declared.value.Step.{Step}
@@ -64,7 +64,7 @@ LaterStampsAreNew =
 
 -- ---- views of transactions
 
--- behind an opening of receipt 0, no commit has the stamp of a transaction, wherever that was begun
+-- after an opening of receipt 0, no commit has the stamp of a transaction, wherever that was begun
 abbrev pub ViewStampsAreNoCommits : Type 0
 ViewStampsAreNoCommits =
     (commits : List Commit) (k place : ℕ) (d : Commit) (s : Store) → AreFollowing commits → ((c : Commit) → StandsAt commits 0 c → c.receipt ≡ 0) → StandsAt commits k d

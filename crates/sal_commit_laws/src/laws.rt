@@ -22,7 +22,7 @@ pub fn stamps_tell_the_last_touch()
     ensures last { StampsTellTheLastTouch }
 {}
 
-/// A node that stands at a path in two commits stands there in each commit between. No tree has the stamp of a later commit.
+/// A node that is at a path in two commits is there in each commit between. No tree has the stamp of a later commit.
 pub fn stamps_never_come_again()
     ensures again { StampsNeverComeAgain }
     ensures new { LaterStampsAreNew }

@@ -1,4 +1,4 @@
-//! What the stamps of a domain's nodes tell.
+//! What the stamps of a domain's nodes say.
 //!
 //! | item | what it is |
 //! |---|---|

@@ -20,7 +20,7 @@ pub record Knows (offerer taker : ℕ) (offered taken : List Note) (seat : ℕ) 
   pub offers : v.offers ≡ true → (seat ≡ offerer) × (v.offered ≡ offered)
   pub takes : v.takes ≡ true → (seat ≡ taker) × (v.taken ≡ taken)
 
--- what the queue holds is what was offered behind what was taken
+-- what the queue holds is what was offered after what was taken
 pub record Carries (items : List Note) (views : List Log) : Type 0 where
   pub offerer : ℕ
   pub taker : ℕ

@@ -150,7 +150,7 @@ fn emptied<R: Wait>(
     requires room { (room.items ≡ []) × (ruled_capacity line.now ≤ vec_capacity room) }
     ensures { (view pass).offered ≡ (view pass).taken ++ result.items }
 {
-    // For the proof alone: it tells that the room is enough.
+    // For the proof alone: it says that the room is enough.
     let _ = line.len_as::<Empties, R>(rt, &mut pass);
     for _ in rt.forever() {
         match line.pop_as::<Empties, R>(rt, &mut pass) {

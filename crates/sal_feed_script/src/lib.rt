@@ -2,7 +2,7 @@
 //!
 //! | call | what it is |
 //! |---|---|
-//! | `feed_text` | hands so many notes over a feed of this capacity, and tells how many were taken and the sum of their numbers |
+//! | `feed_text` | hands this many notes over a feed of this capacity; the text says how many were taken, and the sum of their numbers |
 //!
 //! In rounds two halves of a join run: one offers the notes in their order until the feed is full or all are offered, the other takes until
 //! it finds none, and adds their numbers up. The rounds end when all were taken. The sum is proved from what `sal_feed` says of both seats

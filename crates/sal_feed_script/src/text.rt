@@ -14,7 +14,7 @@ pub const MAX_NOTES: u32 = 100000;
 /// How many notes wait at most.
 pub const MAX_CAPACITY: u32 = 4096;
 
-/// Hands notes with the numbers from 0 to `notes - 1` over a feed in which so many wait at most, and tells how many were taken, and the sum of
+/// Hands notes with the numbers from 0 to `notes - 1` over a feed in which at most `capacity` wait. The text says how many were taken, and the sum of
 /// their numbers.
 pub fn feed_text<R: Threads + Wait + Sync>(
     rt: &R,

@@ -1,4 +1,4 @@
--- What is told at the end of a stream.
+-- What is reported at the end of a stream.
 use Rattle.std.proofs.Common.{◌≡◌, ℕ, List, Option, Some, Result, Ok, Err, ap, ◌∙◌, subst}
 use Rattle.std.specs.Option.{option_map_or}
 use Rattle.sal_schema.specs.declared.table.SchemaTable.{SchemaTable}
@@ -30,7 +30,7 @@ fault_as made fault (BadExport commit) is told = absurd told
 faulty : (table : SchemaTable) (h : Held) (fault : FollowFault) → h.fault ≡ Some fault → told table h ≡ Err (fault_status fault)
 faulty table h fault is = ap (λ (o : Option FollowFault). option_map_or (λ f. Err (fault_status f)) o (told_end table h h.version h.rest)) is
 
--- want of memory is told as that
+-- want of memory is reported as that
 no_text : (text : List ℕ) → fault_status Wanting ≡ BadStream text → ⊥
 no_text text e = cc
 
@@ -62,7 +62,7 @@ pub told_fault_by : (table : SchemaTable) (stream : List ℕ) (old new : Followi
     → IsTextStatus (told table (followed table fresh stream)) status
 told_fault_by table stream old new fault status by taken is = subst (λ (t : SchemaTable). IsTextStatus (told t (followed t fresh stream)) status) by (told_fault stream old new fault status taken is)
 
--- what is told of what is held is told of the stream
+-- what is reported of the follower's state is the report of the stream
 pub told_taken : (table : SchemaTable) (stream : List ℕ) (old new : Following) (result : Result (List ℕ) Status) → old.schema ≡ table → IsTaken stream old new (Ok tt) → IsTextOr (told table new.held) result
     → IsTextOr (told table (followed table fresh stream)) result
 told_taken table stream old new result by taken is =

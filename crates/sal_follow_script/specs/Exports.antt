@@ -42,6 +42,6 @@ abbrev pub export_play : List Domain → Result Played ℕ → Result (List ℕ)
 export_play world (Ok played) = export_log world played.log
 export_play world (Err index) = Err (BadOrder index)
 
--- The frames of the script that the bytes stand for, played in its order. What is wrong ahead of that counts first.
+-- The frames of the script that the bytes denote, played in its order. What is wrong ahead of that counts first.
 abbrev pub export_text : List ℕ → Result (List ℕ) Status
 export_text bytes = prepared bytes >>= (λ script. export_play script.world (play script.world script.parts.clients script.parts.order))

@@ -16,7 +16,7 @@ IsTaken stream old new (Ok done) = (new ≡ record { schema = old.schema; held =
 IsTaken stream old new (Err NoMemory) = ⊤
 IsTaken stream old new (Err fault) = (followed old.schema fresh stream).fault ≡ Some fault
 
--- ---- what is told
+-- ---- the report
 
 -- the line of domain 0 with what is held
 abbrev pub line_held : SchemaTable → Held → ℕ → List ℕ

@@ -24,7 +24,7 @@ use std::alloc::Global;
 use std::mem;
 use std::sync::Arc;
 
-/// The frames of domain 0 of the script that the bytes stand for, played in its order; or the status of the first that is wrong.
+/// The frames of domain 0 of the script that the bytes denote, played in its order; or the status of the first that is wrong.
 pub fn export_text(alloc: Global, bytes: &[u8]) -> Result<Bytes, Status>
     ensures { IsTextOr (spec.export_text bytes.now) result }
 {

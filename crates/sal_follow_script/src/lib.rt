@@ -20,7 +20,7 @@
 //! ```
 //!
 //! Cost: `export_text` takes what `sim` takes to play the script, and then for each commit what it changed. It does not free what it played,
-//! since a process ends after it: a caller that goes on keeps that memory taken. `follow_text` feeds the stream in pieces of 4,096 bytes,
+//! since the process ends then: a caller that runs further keeps that memory taken. `follow_text` feeds the stream in pieces of 4,096 bytes,
 //! takes what `Follower::feed` takes for each, and copies both trees once at the end. Hostile streams are refused by their place.
 #![tactic(auto)]
 

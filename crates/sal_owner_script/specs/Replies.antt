@@ -67,6 +67,6 @@ replies_to steps = map (λ m. m.reply) (made_of (map entry_of steps))
 abbrev pub steps_text : List OwnerStep → List ℕ
 steps_text steps = lines_from 0 (replies_to steps)
 
--- the text of the replies to the steps that the bytes stand for, or the first bad place
+-- the text of the replies to the steps that the bytes denote, or the first bad place
 abbrev pub owner_text : List ℕ → Result (List ℕ) (List ℕ)
 owner_text bytes = steps_of bytes >>= (λ steps. Ok (steps_text steps))

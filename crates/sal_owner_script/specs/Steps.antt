@@ -1,4 +1,4 @@
--- Which calls on entities bytes stand for: a JSON array (RFC 8259) of steps, each an array of a client, a word, and its texts; or the first bad place.
+-- Which calls on entities bytes denote: a JSON array (RFC 8259) of steps, each an array of a client, a word, and its texts; or the first bad place.
 use Rattle.std.specs.Prelude.{ℕ, ◌+◌, List, [], ◌∷◌, Option, None, Some, option_and_then, option_map, Result, Ok, codes, decimal, if◌then◌else◌}
 use Rattle.sal_types.specs.Reading.{◌>>=◌}
 use Rattle.serde_json.specs.Data.{Data}
@@ -62,6 +62,6 @@ steps_from i (d ∷ ds) = or_bad (decimal i) (step_of d) >>= (λ step. steps_fro
 abbrev pub listed : Data → Result (List Data) (List ℕ)
 listed d = or_bad (codes "script") (option_and_then (at_most 60000) (list_of d))
 
--- the steps that the bytes stand for, or the first bad place
+-- the steps that the bytes denote, or the first bad place
 abbrev pub steps_of : List ℕ → Result (List OwnerStep) (List ℕ)
 steps_of bytes = or_bad (codes "json") (data_of bytes) >>= (λ d. listed d >>= steps_from 0)

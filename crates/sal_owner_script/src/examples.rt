@@ -1,11 +1,11 @@
-//! Worked examples: bytes, and the text that they come to. Each function does nothing; its contract says what the definitions give, and
+//! Worked examples: bytes, and the text for them. Each function does nothing; its contract says what the definitions give, and
 //! the proof computes it.
 #![tactic(auto)]
 
 ghost use Rattle.std.specs.Prelude.{◌≡◌, Ok, Err, codes};
 ghost use Rattle.sal_owner_script.specs.Replies.{owner_text};
 
-/// The owner gives the switch up, and the next candidate owns it. The watcher is told of each change once.
+/// The owner gives the switch up, and the next candidate owns it. The watcher gets each change once.
 pub fn handed_over()
     ensures { owner_text (codes "[[0,\"watch\",\"sw\"],[0,\"register\",\"sw\",\"s1\"],[1,\"register\",\"sw\",\"s1\"],[1,\"state\",\"sw\",\"s1\"],[0,\"unregister\",\"sw\",\"s1\"],[0,\"changes\"],[1,\"unregister\",\"sw\",\"s1\"],[0,\"changes\"],[0,\"changes\"],[1,\"unregister\",\"sw\",\"s1\"]]")
         ≡ Ok (codes "0 watching []\n1 ok\n2 ok\n3 owned-by-other\n4 ok\n5 changes [[\"sw\",\"s1\",false,true,true],[\"sw\",\"s1\",true,false,true]]\n6 ok\n7 changes [[\"sw\",\"s1\",false,false,false]]\n8 changes []\n9 refused not-candidate\n") }

@@ -3,7 +3,7 @@
 //! | type or call | what it is |
 //! |---|---|
 //! | `OwnerStep` | a call of a client: register, unregister, state, watch or changes |
-//! | `read_steps` | the steps that bytes stand for, or the first bad place |
+//! | `read_steps` | the steps that bytes denote, or the first bad place |
 //! | `steps_text` | the text of the replies to steps, made in their order over one `OwnerBook` of `sal_owner` |
 //! | `owner_text` | both: from bytes to the text, or the first bad place |
 //!
@@ -11,7 +11,7 @@
 //! `register`, `unregister` and `state` have a kind and an id, `watch` has a kind, `changes` has nothing more. The first bad place is
 //! `json`, `script`, or the number of the first step of no such form. The output has a line for each step, its number and its reply.
 //!
-//! `specs/Steps` says which steps bytes stand for, and `specs/Replies` what their text is: the replies that the definitions of
+//! `specs/Steps` says which steps bytes denote, and `specs/Replies` what their text is: the replies that the definitions of
 //! `sal_owner` give for these calls in this order. `examples` has worked examples from bytes to bytes, each proved by computing it.
 //! One thread makes all calls. No clause says how a program with several threads orders them; `Owners` of `sal_owner` does.
 //!
@@ -23,7 +23,7 @@
 //! ```
 //!
 //! Cost: time is linear in the bytes and in the text, beside the calls of `OwnerBook`. Each text of the input is copied into its step and
-//! from there into the book. Beside the growing text of the output stands one reply at a time. Hostile input is refused by its place,
+//! from there into the book. In addition to the growing output there is one reply at a time. Hostile input is refused by its place,
 //! and the JSON reader bounds its nesting.
 #![tactic(auto)]
 

@@ -14,7 +14,7 @@ use sal_script::ScriptFault;
 use sal_types::{NoMemory, Str};
 use std::alloc::Global;
 
-/// The text of the replies to the steps that the bytes stand for, or the first bad place.
+/// The text of the replies to the steps that the bytes denote, or the first bad place.
 pub fn owner_text(alloc: Global, bytes: &[u8]) -> Result<Str, ScriptFault>
     ensures { Reads (λ text. text) result (spec.owner_text bytes.now) }
 {

@@ -15,7 +15,7 @@ use std::alloc::Global;
 /// How many steps there may be.
 pub const MAX_STEPS: usize = 60000;
 
-/// The steps that bytes stand for, or the first bad place: `json`, `script`, or the number of a step.
+/// The steps that bytes denote, or the first bad place: `json`, `script`, or the number of a step.
 pub fn read_steps(alloc: Global, bytes: &[u8]) -> Result<Vec<OwnerStep>, ScriptFault>
     ensures steps { Reads (λ steps. steps.items) result (spec.steps_of bytes.now) }
     ensures few { IfOk result (λ steps. length steps.items ≤ 60000) }
@@ -25,7 +25,7 @@ pub fn read_steps(alloc: Global, bytes: &[u8]) -> Result<Vec<OwnerStep>, ScriptF
     steps_of(alloc, list)
 }
 
-// The JSON value that bytes stand for.
+// The JSON value that bytes denote.
 fn value_of(alloc: Global, bytes: &[u8]) -> Result<Value, ScriptFault>
     ensures { Reads view result (or_bad (codes "json") (data_of bytes.now)) }
 {

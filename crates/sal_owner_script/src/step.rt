@@ -19,7 +19,7 @@ pub struct OwnerStep {
     pub call: OwnerCall,
 }
 
-// The step that a JSON array stands for.
+// The step that a JSON array denotes.
 pub(crate) fn step_of(alloc: Global, value: &Value) -> Result<Option<OwnerStep>, NoMemory>
     ensures { IfOk result (λ found. found ≡ spec.step_of (view value.now)) }
 {

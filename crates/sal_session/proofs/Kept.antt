@@ -39,7 +39,7 @@ kept_by Lost it = refl
 kept_by NoMemory it = refl
 kept_by Untold it = refl
 
--- what stands nowhere
+-- what is nowhere
 pub none_is : {A : Type 0} (o : Option A) → ((x : A) → o ≡ Some x → ⊥) → o ≡ None
 none_is None none = refl
 none_is (Some x) none = absurd (none x refl)

@@ -3,7 +3,7 @@
 //! | item | what it is |
 //! |---|---|
 //! | `Session` | a broker, or none, with the text of the last call: `open`, `boxed`, `step`, `report`, `reply` |
-//! | `loose` | the same behind a pointer, for a host that holds it: what uses it proves nothing of what a broker holds |
+//! | `loose` | the same as a pointer, for a host that holds it: what uses it proves nothing of what a broker holds |
 //! | `DONE`, `NO_MEMORY`, .. | the numbers of the statuses |
 //!
 //! ```
@@ -43,7 +43,7 @@ pub const BAD_CLIENT: u32 = 24;
 pub const FULL: u32 = 25;
 /// The client is lost.
 pub const LOST: u32 = 26;
-/// The step was made, and its reply is not told.
+/// The step was made, and its reply is not shown.
 pub const UNTOLD: u32 = 27;
 /// The broker was let go of.
 pub const BROKEN: u32 = 28;

@@ -1,4 +1,4 @@
-//! A session behind its pointer, for a host that holds it. A `Loose` is not dropped by itself: only `close` lets go of a session.
+//! A session as a pointer, for a host that holds it. A `Loose` is not dropped by itself: only `close` frees a session.
 ghost use Rattle.std.specs.Prelude.{◌≡◌, ◌++◌, IfOk, drop, length, min, take};
 ghost use Rattle.std.specs.Option.{is_some};
 ghost use Rattle.sal_session.specs.Sessions as spec;

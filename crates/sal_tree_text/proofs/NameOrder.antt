@@ -1,4 +1,4 @@
--- Members whose names rise stand as they were put; and members in a map by name.
+-- Members whose names rise are in the order in which they were put; and members in a map by name.
 use Rattle.std.proofs.Common.{◌≡◌, ℕ, zero, suc, ◌+◌, ◌-◌, ◌<◌, ◌≤◌, Bool, true, false, ◌&&◌, List, [], ◌∷◌, ◌++◌, length, drop, take, get_or, Option, Some, None, refl, ap, sym, subst, ◌∙◌, arith, Bor, String, Global, string_bytes, string_cmp, nat_cmp, Ordering, Less, Equal, Greater}
 use Rattle.std.specs.Prelude.{fold, if◌then◌else◌, not}
 use Rattle.std.specs.Ordering.{is_eq, is_lt, match_ordering, ordering_then, ordering_reverse}

@@ -1,4 +1,4 @@
--- What is counted by children is what their rows come to.
+-- Counting by children is counting their rows.
 use Rattle.std.proofs.Common.{◌≡◌, ℕ, zero, suc, ◌+◌, ◌-◌, ◌<◌, ◌≤◌, List, [], ◌∷◌, ◌++◌, length, take, get_or, Option, Some, None, refl, ap, sym, ◌∙◌, arith, Bor, length-append}
 use Rattle.std.specs.Prelude.{sum_by, map}
 use Rattle.std.specs.List.{slice_get}

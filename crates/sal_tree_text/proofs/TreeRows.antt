@@ -39,7 +39,7 @@ from_path-below : (p : List Step) (x : Step) (rows : List Row) → from_path p (
 from_path-below p x [] = refl
 from_path-below p x (r ∷ rows) = λ i. record { path = sym (append_assoc p (x ∷ []) r.path) i; cell = r.cell } ∷ from_path-below p x rows i
 
--- a node that stands has rows
+-- a node that is present has rows
 pub has_rows : (c : Option Cell) (kids : Forest) → T (is_filled c kids) → IsGrove kids → (row : Row) × (rows : List Row) × (here c ++ rows_in kids ≡ row ∷ rows)
 has_rows (Some c) kids filled grove = (record { path = []; cell = c }, rows_in kids, refl)
 has_rows None bare filled grove = absurd filled
@@ -47,7 +47,7 @@ has_rows None (grown x s c kids rest) filled grove =
     let (row, rows, is) = has_rows c kids grove.0.1 grove.1.0 in
     (record { path = x ∷ row.path; cell = row.cell }, below x rows ++ rows_in rest, ap (λ (l : List Row). below x l ++ rows_in rest) is)
 
--- the step behind a path
+-- the step after a path
 step_behind : (p : List Step) (x : Step) (q : List Step) → slice_get ((p ++ x ∷ []) ++ q) (length p) ≡ Some x
 step_behind p x q = ap (λ (r : List Step). slice_get r (length p)) (append_assoc p (x ∷ []) q) ∙ slice_get-behind p (x ∷ q)
 

@@ -9,7 +9,7 @@ use Rattle.sal_tree_text.specs.Trees.{Children}
 
 -- ---- pieces of text
 
--- a member behind a text, before others
+-- a member after a text, before others
 pub member_text : (old comma name value rest one two three four : List ℕ) → one ≡ old ++ comma → two ≡ one ++ name → three ≡ two ++ 58 ∷ [] → four ≡ three ++ value
     → four ++ rest ≡ old ++ (comma ++ (name ++ 58 ∷ (value ++ rest)))
 member_text old comma name value rest one two three four a b c d =
@@ -17,7 +17,7 @@ member_text old comma name value rest one two three four a b c d =
     ∙ append_assoc (((old ++ comma) ++ name) ++ 58 ∷ []) value rest ∙ append_assoc ((old ++ comma) ++ name) (58 ∷ []) (value ++ rest)
     ∙ append_assoc (old ++ comma) name (58 ∷ (value ++ rest)) ∙ append_assoc old comma (name ++ 58 ∷ (value ++ rest))
 
--- an item behind a text, before others
+-- an item after a text, before others
 pub item_text : (old comma value rest one two : List ℕ) → one ≡ old ++ comma → two ≡ one ++ value → two ++ rest ≡ old ++ (comma ++ (value ++ rest))
 item_text old comma value rest one two a b =
     ap (λ t. t ++ rest) (b ∙ ap (λ t. t ++ value) a) ∙ append_assoc (old ++ comma) value rest ∙ append_assoc old comma (value ++ rest)

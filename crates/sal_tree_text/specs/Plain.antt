@@ -1,4 +1,4 @@
--- Bytes that stand for themselves in a JSON text.
+-- Bytes that denote themselves in a JSON text.
 use Rattle.std.specs.Prelude.{ℕ, Bool, not, ◌&&◌, ◌==◌, nat_le}
 
 -- no control character, no quote and no backslash

@@ -1,4 +1,4 @@
--- How many rows stand below a node, and the sum of its numbers there, by its children.
+-- How many rows are below a node, and the sum of its numbers there, by its children.
 use Rattle.std.specs.Prelude.{ℕ, ◌+◌, List, [], ◌∷◌, Option, Some, None}
 use Rattle.sal_types.specs.declared.value.Cell.{Cell}
 use Rattle.sal_types.specs.declared.value.Step.{Step}
@@ -9,7 +9,7 @@ abbrev pub own_row : Option Cell → ℕ
 own_row None = 0
 own_row (Some c) = 1
 
--- the number in a cell behind this step
+-- the number in a cell after this step
 abbrev pub own_number : Step → Option Cell → ℕ
 own_number x None = 0
 own_number x (Some c) = number_at c x

@@ -38,7 +38,7 @@ module _ (table : SchemaTable) where
   with_child parent f ms (Node n) tree = put (member_name table parent n) (f n tree) ms
   with_child parent f ms step tree = ms
 
-  -- an object with a member for each child that stands for a node
+  -- an object with a member for each child that denotes a node
   abbrev pub members_value : Option ℕ → Teller → Tree → Data
   members_value parent f tree = object (fold (λ ms (e : Step × Tree). with_child parent f ms e.0 e.1) no_members (pairs tree.kids))
 
@@ -66,7 +66,7 @@ module _ (table : SchemaTable) where
       else if is_kind is_list table n then array (items_of (entries_values n (node_value levels) (pairs tree.kids)))
       else members_value (Some n) (node_value levels) tree
 
-  -- ---- members as they stand
+  -- ---- members in their order
 
   -- the member of a child before others
   abbrev pub then_child : Option ℕ → Teller → Step → Tree → Members → Members
@@ -87,7 +87,7 @@ module _ (table : SchemaTable) where
   is_before (Node a) (Node b) = is_same (module_of table a) (module_of table b) && is_lt (slice_cmp nat_cmp (name_of table a) (name_of table b))
   is_before step other = false
 
-  -- whether each child stands before the next one so
+  -- whether each child is before the next one in this order
   abbrev pub do_names_rise : Children → Bool
   do_names_rise [] = true
   do_names_rise (e ∷ []) = true

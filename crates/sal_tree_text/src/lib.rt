@@ -1,4 +1,4 @@
-//! The JSON text of a tree (RFC 7951), from its nodes, and what a tree comes to, counted on its nodes: without its rows.
+//! The JSON text of a tree (RFC 7951), from its nodes, and counts over a tree, from its nodes too: without its rows.
 //!
 //! | item | what it is |
 //! |---|---|

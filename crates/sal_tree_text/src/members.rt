@@ -1,4 +1,4 @@
-//! Children of a node in the order of their names, as the members of an object stand.
+//! Children of a node in the order of their names, as the members of an object.
 ghost use Rattle.std.specs.Prelude.{◌≡◌, IfOk, OnOk, string_bytes};
 ghost use Rattle.std.specs.BTreeMap.{values};
 ghost use Rattle.sal_data.specs.Members as names;
@@ -14,7 +14,7 @@ use sal_types::{NoMemory, Step};
 use std::alloc::Global;
 use std::collections::BTreeMap;
 
-/// Whether the node's name stands with its module below this parent, or in the top object.
+/// Whether the node's name is written with its module below this parent, or in the top object.
 pub(crate) fn is_qualified(schema: &Schema, parent: Option<u32>, node: u32) -> bool
     ensures { result ≡ names.is_qualified schema.now parent node }
 {
@@ -24,7 +24,7 @@ pub(crate) fn is_qualified(schema: &Schema, parent: Option<u32>, node: u32) -> b
     }
 }
 
-/// The children that stand for nodes in the order of their names below this parent, each name once.
+/// The children that denote nodes in the order of their names below this parent, each name once.
 pub(crate) fn in_name_order<'a>(
     alloc: Global,
     schema: &Schema,
@@ -39,7 +39,7 @@ pub(crate) fn in_name_order<'a>(
     by_name(alloc, schema, parent, &children)
 }
 
-/// Whether the children stand for nodes of one module, in the order of their names.
+/// Whether the children denote nodes of one module, in the order of their names.
 fn do_names_rise(schema: &Schema, children: &[&Child]) -> bool
     ensures { result ≡ spec.do_names_rise schema.now (seen children.now) }
 {
@@ -64,7 +64,7 @@ fn is_before(schema: &Schema, first: &Step, second: &Step) -> bool
     }
 }
 
-/// The children by their names: a later one stands in place of an earlier one of the same name.
+/// The children by their names: a later one replaces an earlier one of the same name.
 fn by_name<'a>(
     alloc: Global,
     schema: &Schema,

@@ -1,4 +1,4 @@
-//! What the rows of a tree come to, counted on its nodes.
+//! How many rows a tree has and the sum of its numbers, counted on its nodes.
 ghost use Rattle.std.specs.Prelude.{◌≡◌, ◌+◌, length, sum_by, IfOk, OnOk};
 ghost use Rattle.sal_script.specs.Load.{number_of};
 ghost use Rattle.sal_script.specs.Load as load;
@@ -52,7 +52,7 @@ fn own_row(cell: &Option<Cell>) -> u128
     }
 }
 
-// Adds what stands below the node.
+// Adds what is below the node.
 fn add_below(alloc: Global, tally: &mut Tally, node: &Node) -> Result<(), NoMemory>
     ensures rows { OnOk result (tally.new.rows ≡ tally.old.rows + spec.rows_under node.now.kids) }
     ensures sum { OnOk result (tally.new.sum ≡ tally.old.sum + spec.sum_under node.now.kids) }
@@ -87,7 +87,7 @@ fn sum_of(a: u128, b: u128) -> Result<u128, NoMemory>
     }
 }
 
-// The number in the cell behind this step.
+// The number in the cell after this step.
 fn number_at(cell: &Cell, step: &Step) -> u64
     ensures { result ≡ load.number_at cell.now step.now }
 {

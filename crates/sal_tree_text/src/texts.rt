@@ -1,4 +1,4 @@
-//! JSON texts of words, written without a value between where nothing in them is escaped. Each function writes behind what stands in the text.
+//! JSON texts of words, written without a JSON value if nothing in them is escaped. Each function appends to the text.
 ghost use Rattle.std.specs.Prelude.{◌≡◌, ◌++◌, OnOk, string_bytes};
 ghost use Rattle.std.specs.List.{list_all};
 ghost use Rattle.json.specs.Print.{quoted};
@@ -35,7 +35,7 @@ fn are_plain(words: &str) -> bool
     words.as_bytes().iter().all(|c| is_plain(*c))
 }
 
-/// Whether a byte stands for itself in a JSON text.
+/// Whether a byte denotes itself in a JSON text.
 fn is_plain(c: u8) -> bool
     ensures { result ≡ is_plain c }
 {
@@ -58,7 +58,7 @@ pub(crate) fn push_member_name(
     push_full(alloc, text, schema, node)
 }
 
-/// The name of a node behind that of its module, as JSON text.
+/// The name of a node after that of its module, as JSON text.
 fn push_full(alloc: Global, text: &mut String, schema: &Schema, node: u32) -> Result<(), NoMemory>
     ensures { OnOk result (string_bytes text.new ≡ string_bytes text.old ++ quoted (full_name schema.now node)) }
 {

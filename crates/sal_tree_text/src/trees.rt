@@ -1,4 +1,4 @@
-//! The JSON text of a tree, from its nodes. Each function writes behind what stands in the text.
+//! The JSON text of a tree, from its nodes. Each function appends to the text.
 ghost use Rattle.std.specs.Prelude.{◌≡◌, ◌++◌, ◌∷◌, [], List, Some, false, IfOk, OnOk, option_map, string_bytes};
 ghost use Rattle.serde_json.specs.Data.{Data, Members, array};
 ghost use Rattle.serde_json.specs.View.{items_of};
@@ -26,7 +26,7 @@ const MAX_LEVELS: u32 = 32;
 
 /// What trees are written by: a schema.
 ///
-/// Below, `levels` is how many nodes deep a tree is at most, and `is_later` whether something stands before in the same brackets.
+/// Below, `levels` is how many nodes deep a tree is at most, and `is_later` whether something precedes in the same brackets.
 #[derive(Drop)]
 struct TreeWriter<'a> {
     alloc: Global,
@@ -78,7 +78,7 @@ impl<'a> TreeWriter<'a> {
         }
     }
 
-    /// An object with a member for each child that stands for a node.
+    /// An object with a member for each child that denotes a node.
     #[cycle(tree)]
     fn push_members(
         &self,
@@ -115,7 +115,7 @@ impl<'a> TreeWriter<'a> {
         Ok(())
     }
 
-    /// The member of a child, if that stands for a node. It says whether a member stands there now.
+    /// Appends the member of a child, if that denotes a node. It says whether there is a member now.
     #[cycle(tree)]
     fn push_member(
         &self,
@@ -242,7 +242,7 @@ fn first_cell<'a>(alloc: Global, node: &'a Node) -> Result<Option<&'a Cell>, NoM
     }
 }
 
-/// A space and the JSON text of a tree, behind what stands in the text. It fails only where memory runs out, and then a front of that may stand there.
+/// Appends a space and the JSON text of a tree. It fails only if memory runs out; the text may then have a front of it.
 pub fn push_tree(
     alloc: Global,
     text: &mut String,

@@ -17,7 +17,7 @@ use Rattle.sal_verdict.specs.declared.verdict.Verdict.TheVariants.{Yes, No}
 use Rattle.sal_verdict.specs.Laws.{VerdictsAreJudged}
 use Rattle.sal_verdict.specs.Verdicts.{Differs, IsOrder, Judged, TellsNone, by_difference, by_order, by_play, verdict}
 
--- numbers of clients are small, where there are few clients
+-- numbers of clients are small, if there are few clients
 all-known : (m : ℕ) (order : List ℕ) → m < 2 ^ 32 → ((i client : ℕ) → slice_get order i ≡ Some client → client < m) → All (λ n. n < 2 ^ 32) order
 all-known m [] small known = All-nil (λ n. n < 2 ^ 32)
 all-known m (x ∷ xs) small known =
@@ -73,7 +73,7 @@ module _ (told : OrdersAreTold) (ends : DifferencesEndLines) (follows : PlaysFol
   from-difference order played (Some line) is plays at =
       inr (record { order = order; is = is-order order played is plays; played = played; plays = plays; parts = ((ends text (report world played)).1 line).0 at })
 
-  -- an order that fails is the only one that is told
+  -- an order that fails is the only one that is stated
   fails-alone : (order : List ℕ) (index : ℕ) → told_order text ≡ Some order → play world clients order ≡ Err index → TellsNone world clients text
   fails-alone order index is fails = λ other it.
       let same : other ≡ order = ap (λ o. unwrap_or o []) (sym (order-is other it) ∙ is) in

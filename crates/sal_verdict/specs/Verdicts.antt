@@ -12,7 +12,7 @@ use Rattle.sal_verdict.specs.declared.verdict.Verdict.TheVariants.{Yes, No}
 
 -- ---- the verdict
 
--- by where the text differs from the report of the order that it tells
+-- by the first difference between the text and the report of the order that it states
 abbrev pub by_difference : Option ℕ → Verdict
 by_difference None = Yes
 by_difference (Some line) = No line
@@ -33,7 +33,7 @@ abbrev pub by_order : List Domain → List (List Move) → List ℕ → Option (
 by_order world clients text None = No 0
 by_order world clients text (Some order) = by_play world text (play world clients order)
 
--- The verdict on a text: by the order that its first line tells. The law `VerdictsAreJudged` says what it means.
+-- The verdict on a text: by the order that its first line states. The law `VerdictsAreJudged` says what it means.
 abbrev pub verdict : List Domain → List (List Move) → List ℕ → Verdict
 verdict world clients text = by_order world clients text (told_order text)
 
@@ -44,18 +44,18 @@ line_of (No line) = codes "no " ++ (decimal line ++ 10 ∷ [])
 
 -- ---- what it means
 
--- The text's first line tells this order, `order` and for each call a space and its client's number below 2^32 without leading zeros, and the order is
+-- The text's first line states this order, `order` and for each call a space and its client's number below 2^32 without leading zeros, and the order is
 -- one of the script's.
 pub record IsOrder (world : List Domain) (clients : List (List Move)) (text : List ℕ) (order : List ℕ) : Type 0 where
   pub below : All (λ n. n < 2 ^ 32) order
   pub told : Tells text order
   pub legal : IsLegal world clients order
 
--- It tells none: it has another form, or its order is not legal.
+-- It states none: it has another form, or its order is not legal.
 abbrev pub TellsNone : List Domain → List (List Move) → List ℕ → Type 0
 TellsNone world clients text = (order : List ℕ) → IsOrder world clients text order → ⊥
 
--- It tells one, and the longest front that the text and the report of that order have in common ends so many lines, but is not the whole of both.
+-- It states one, and the longest front that the text and the report of that order have in common ends this many lines, but is not the whole of both.
 pub record Differs (world : List Domain) (clients : List (List Move)) (text : List ℕ) (line : ℕ) : Type 0 where
   pub order : List ℕ
   pub is : IsOrder world clients text order

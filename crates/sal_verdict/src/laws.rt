@@ -5,7 +5,7 @@ use sal_order::laws as texts;
 use sal_script::laws as scripts;
 
 /// The verdict is what is said of a text in plain words. It is yes just where the text is the report of the script for a legal order that its first
-/// line tells. It is no with 0 where the first line tells no legal order, and else with the number of LF that the text and that report have in
+/// line states. It is no with 0 if the first line states no legal order, and else with the number of LF that the text and that report have in
 /// common at their front. There are fewer clients than 2^32: a script has at most 16.
 pub fn verdicts_are_judged()
     ensures { VerdictsAreJudged }

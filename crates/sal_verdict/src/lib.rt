@@ -4,7 +4,7 @@
 //! | item | what it is |
 //! |---|---|
 //! | `Verdict` | `Yes`, or `No` with the first line that differs |
-//! | `judged` | the verdict on a text by the report of the order that it tells |
+//! | `judged` | the verdict on a text by the report of the order that it states |
 //! | `line_of` | the line of a verdict |
 //! | `laws` | what the verdict means; that no text has two; that reports of `run` and `sim` are said yes to |
 //! | `examples` | worked examples |

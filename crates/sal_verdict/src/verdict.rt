@@ -9,14 +9,14 @@ use std::alloc::Global;
 /// What an audit says of a text.
 #[derive(Clone, Copy, Debug, PartialEq, Eq)]
 pub enum Verdict {
-    /// It is the report of the script, played in the order that its own first line tells, and that order is legal.
+    /// It is the report of the script, played in the order that its own first line states, and that order is legal.
     Yes,
-    /// It is not. The first line that differs from that report, counted from 0: so many LF the two have in common. It is 0 where the first line
-    /// tells no legal order.
+    /// It is not. The first line that differs from that report, counted from 0: the number of LF that the two have in common. It is 0 if the first line
+    /// states no legal order.
     No { line: u64 },
 }
 
-/// The verdict on a text where this is the report of the order that it tells.
+/// The verdict on a text, if this is the report of the order that it states.
 pub fn judged(text: &[u8], own: &[u8]) -> Verdict
     ensures { result ≡ spec.by_report text.now own.now }
 {

@@ -1,4 +1,4 @@
--- The verdict is that by the order that the text tells.
+-- The verdict is that by the order that the text states.
 use Rattle.std.proofs.Common.{◌≡◌, subst}
 use Rattle.std.specs.Prelude.{IfOk}
 use Rattle.sal_verdict.specs.declared.verdict.Verdict.{Verdict}

@@ -1,4 +1,4 @@
--- What the script comes to is what it comes to over its world.
+-- The result of the script is its result over its world.
 use Rattle.std.proofs.Common.{◌≡◌, ℕ, List, Result, ap, sym, subst}
 use Rattle.sal_types.specs.Reading.{◌>>=◌}
 use Rattle.sal_script.specs.Reading.{parts}

@@ -1,4 +1,4 @@
--- What the stream comes to is what it comes to by the table of the script.
+-- The result of the stream is its result by the table of the script.
 use Rattle.std.proofs.Common.{◌≡◌, ℕ, List, Result, ap, sym, ◌∙◌, subst}
 use Rattle.sal_types.specs.Reading.{◌>>=◌}
 use Rattle.sal_schema.specs.declared.table.SchemaTable.{SchemaTable}

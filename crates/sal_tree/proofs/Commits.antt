@@ -24,15 +24,15 @@ use Rattle.sal_node.specs.Tree.{Tree, IsGrove}
 use Rattle.sal_tree.specs.Grow.{at, cell_in}
 use Rattle.sal_tree.specs.Edit.{without}
 use Rattle.sal_tree.specs.Rows.{rows_of}
-use Rattle.sal_tree.specs.Follows.{Follows, exactly}
+use Rattle.sal_tree.specs.Follows.{Follows}
 use Rattle.sal_tree.specs.Edit.{edit_by, edit, edits}
 use Rattle.sal_tree.specs.Touched.{one_op}
 use Rattle.sal_tree.proofs.Laws.{at-append}
 use Rattle.sal_tree.proofs.Cells.{cell-rows_of, ascending-rows_of}
-use Rattle.sal_tree.proofs.Follows.{Follows-then, Follows-same, Follows-by}
+use Rattle.sal_tree.proofs.Follows.{Follows-then, Follows-by}
 use Rattle.sal_tree.proofs.Edited.{sound-with_rows, sound-without}
 use Rattle.sal_tree.proofs.Listed.{rows-with_rows, rows-without, rows-put_rows}
-use Rattle.sal_tree.proofs.Touches.{IsLawful, Follows-act}
+use Rattle.sal_tree.proofs.Touches.{IsLawful}
 
 pub sound-act : (s : ℕ) (t : Tree) (p : List Step) (act : Act) → IsGrove t.kids → IsGrove (edit_by s t p act).kids
 sound-act s t p (Put rows) h = sound-with_rows s (under rows p) (without s t p) (sound-without s t p h)
@@ -105,24 +105,6 @@ op_touches-same t u op q g h e = ap (λ b. has (rows_of_act op.act) q || b)
 pub touches-same : (t u : Tree) (store : Store) (ops : List Op) (q : List Step) → IsGrove t.kids → IsGrove u.kids → at (Some u) q ≡ at (Some t) q → touches (rows_of u) store ops q ≡ touches (rows_of t) store ops q
 touches-same t u store [] q g h e = refl
 touches-same t u store (op ∷ ops) q g h e = λ i. (same_store op.store store && op_touches-same t u op q g h e i) || touches-same t u store ops q g h e i
-
--- a commit stamps what it touches by the tree before it, and nothing else
-pub Follows-edits : (s : ℕ) (store : Store) (ops : List Op) (t : Tree) → IsGrove t.kids → AreLawful ops → Follows (exactly s) (touches (rows_of t) store ops) t (edits s store t ops)
-Follows-edits s store [] t h g = Follows-same (exactly s) t
-Follows-edits s store (op ∷ ops) t h g =
-    let u : Tree = edit s store t op in
-    let sound = sound-edit s store t op h in
-    let one = first_edit (same_store op.store store) in
-    Follows-by (exactly s) (λ q. (same_store op.store store && op_touches (rows_of t) op q) || touches (rows_of u) store ops q) (touches (rows_of t) store (op ∷ ops)) t _ (λ q.
-    elim (same_store op.store store && op_touches (rows_of t) op q) as (λ b. (same_store op.store store && op_touches (rows_of t) op q) ≡ b → (b || touches (rows_of u) store ops q) ≡ (b || touches (rows_of t) store ops q)) [
-      | true ↦ λ b. refl
-      | false ↦ λ b. touches-same t u store ops q h sound (one.kept q b)
-    ] refl)
-    (Follows-then (exactly s) (λ q. same_store op.store store && op_touches (rows_of t) op q) (touches (rows_of u) store ops) t u _ one (Follows-edits s store ops u sound g.1))
-  where
-    first_edit : (b : Bool) → Follows (exactly s) (λ q. b && op_touches (rows_of t) op q) t (if b then edit_by s t op.path op.act else t)
-    first_edit true = Follows-act s t op.path op.act h g.0.0
-    first_edit false = Follows-same (exactly s) t
 
 pub itself : (store : Store) → same_store store store ≡ true
 itself Config = refl

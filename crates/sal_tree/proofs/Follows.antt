@@ -1,8 +1,7 @@
 -- Trees made one after another, and what their stamps tell.
-use Rattle.std.proofs.Common.{◌≡◌, ◌≢◌, ℕ, Bool, true, false, List, ◌||◌, Some, refl, sym, ◌∙◌}
+use Rattle.std.proofs.Common.{◌≡◌, ℕ, Bool, true, false, List, ◌||◌, Some, refl, sym, ◌∙◌}
 use Rattle.sal_types.specs.declared.value.Step.{Step}
 use Rattle.sal_node.specs.Tree.{Tree}
-use Rattle.sal_tree.specs.Grow.{at}
 use Rattle.sal_tree.specs.Follows.{Follows, HasNo, Agree}
 
 pub or_left : (a b : Bool) → (a || b) ≡ false → a ≡ false
@@ -50,9 +49,3 @@ Agree-Follows P touched t u w agree f none p n m a b e =
 
 pub Agree-itself : (t : Tree) → Agree t t
 Agree-itself t p n m a b e = some_same n m (sym a ∙ b)
-
--- A node that the new tree has too has its old stamp exactly where nothing was touched.
-pub kept-stamp : (P : ℕ → Type 0) (touched : List Step → Bool) (t u : Tree) (p : List Step) (n m : Tree) → Follows P touched t u → ((s : ℕ) → P s → HasNo s t) → at (Some t) p ≡ Some n → at (Some u) p ≡ Some m →
-    (touched p ≡ false → n ≡ m) × (touched p ≡ true → m.stamp ≢ n.stamp)
-kept-stamp P touched t u p n m f none a b =
-    ((λ e. some_same n m (sym a ∙ sym (f.kept p e) ∙ b)), (λ e is. none m.stamp (f.stamped p m e b) p n a (sym is)))

@@ -102,10 +102,6 @@ whole-cleared s t p h l = record { ordered = sound-cleared s t p h.ordered; low 
 pub whole-as : (n m : Tree) → n ≡ m → IsWhole m → IsWhole n
 whole-as n m e h = subst IsWhole (sym e) h
 
--- a child with its step stands within the height of its parent
-pub low-children : (f : Forest) (n : ℕ) → height f ≤ n → AllLow n (pairs f)
-low-children f n h = low-pairs n f h
-
 -- how far nodes stand below the one at a path
 pub low-node : (t : Tree) (p : List Step) (k : Tree) → IsWhole t → length p ≤ 32 → at (Some t) p ≡ Some k → height k.kids + length p ≤ 32
 low-node t p k h l e =

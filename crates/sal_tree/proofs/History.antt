@@ -43,11 +43,3 @@ same_stamp-untouched s t ds p n m h a b fresh = (
   (λ e. ap (λ (k : Tree). k.stamp) (some_same n m (sym a ∙ sym (untouched-same s t ds p h e) ∙ b))),
   (λ e is. touched-last s n.stamp (n.stamp ∷ []) t ds p fresh e (subst (λ k. IsOneOf (last_stamps s (n.stamp ∷ []) t ds p) k) is (stamp-last s (n.stamp ∷ []) t ds p h (λ k stands. inl (ap (λ (j : Tree). j.stamp) (some_same k n (sym stands ∙ a)))) m b))),
 )
-
--- One stamp at one path before and after the commits is one node, with all that is below it.
-pub same_stamp-same : (s : Store) (t : Tree) (ds : List Done) (p : List Step) (n m : Tree) → IsHistory s t ds → at (Some t) p ≡ Some n → at (Some (newest t ds)) p ≡ Some m → IsFresh n.stamp ds → n.stamp ≡ m.stamp → n ≡ m
-same_stamp-same s t ds p n m h a b fresh e =
-    elim (is_touched s t ds p) as (λ c. is_touched s t ds p ≡ c → n ≡ m) [
-      | true ↦ λ c. absurd ((same_stamp-untouched s t ds p n m h a b fresh).1 c (sym e))
-      | false ↦ λ c. some_same n m (sym a ∙ sym (untouched-same s t ds p h c) ∙ b)
-    ] refl

@@ -15,7 +15,7 @@ use Rattle.sal_types.proofs.Prefixes.{is_prefix-append}
 use Rattle.sal_node.specs.Tree.{Tree, Forest, bare, grown, pairs, grove, cut, change, IsGrove, is_filled}
 use Rattle.sal_node.proofs.Entries.{pairs-grove, first, second, both, below_less, find_above, Entries}
 use Rattle.sal_tree.specs.Grow.{kids_in, cell_in, kid, at, standing, grow, IsSound}
-use Rattle.sal_tree.specs.Edit.{kids_at, celled}
+use Rattle.sal_tree.specs.Edit.{celled}
 
 abbrev pub eq : Step → Step → Bool
 eq = eq_by_cmp step_cmp
@@ -187,12 +187,6 @@ sound-at o (x ∷ p) h = sound-at (kid o x) p (sound-kid o x h)
 pub full-celled : (s : ℕ) (o : Option Tree) (c : Cell) → IsSound o → IsFull (celled s o c)
 full-celled s None c h = (tt, tt)
 full-celled s (Some t) c h = (tt, h)
-
-pub sound-row : (s : ℕ) (t u : Tree) (p : List Step) (c : Cell) (new : Tree) (o : Option Tree) → IsGrove u.kids → u ≡ t → new ≡ record { stamp = s; cell = Some c; kids = kids_at (at (Some t) p) } → o ≡ grow s (Some u) p (Some new) → IsSound o
-sound-row s t u p c new o h same is e = subst IsSound (sym e) (sound-full _ (full-grow s (Some u) p (Some new) h (subst IsFull (sym (ap Some is)) (full-celled s (at (Some t) p) c (sound-at (Some t) p (subst (λ (v : Tree). IsGrove v.kids) same h))))))
-
-pub sound-delete : (s : ℕ) (u : Tree) (p : List Step) (o : Option Tree) → IsGrove u.kids → o ≡ grow s (Some u) p None → IsSound o
-sound-delete s u p o h e = subst IsSound (sym e) (sound-full _ (full-grow s (Some u) p None h tt))
 
 pub append_nil : (p : List Step) → p ++ [] ≡ p
 append_nil [] = refl

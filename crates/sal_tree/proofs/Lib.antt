@@ -8,10 +8,7 @@ pub mod Heights
 pub mod Listed
 pub mod Touches
 pub mod Commits
-pub mod Graft
 pub mod ByChildren
-pub mod Quiet
-pub mod Grafts
 pub mod Spans
 pub mod Chains
 pub mod Wholes

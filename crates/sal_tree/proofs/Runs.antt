@@ -1,7 +1,6 @@
 -- Rows that begin with one step, and those behind them.
-use Rattle.std.proofs.Common.{◌≡◌, ℕ, suc, zero, ◌+◌, ◌<◌, ◌≤◌, Bool, true, false, List, [], ◌∷◌, ◌++◌, length, take, drop, get_or, Some, None, refl, ap, sym, ◌∙◌, subst, if◌then◌else◌, arith}
+use Rattle.std.proofs.Common.{◌≡◌, ℕ, suc, zero, ◌+◌, ◌<◌, ◌≤◌, Bool, true, false, List, [], ◌∷◌, ◌++◌, length, take, drop, Some, None, refl, ap, sym, ◌∙◌, subst, if◌then◌else◌, arith}
 use Rattle.std.specs.Prelude.{T}
-use Rattle.std.proofs.Math.Seq.{drop-cons}
 use Rattle.std.specs.Ordering.{is_lt, is_eq, ordering_then}
 use Rattle.std.specs.declared.cmp.Ordering.TheVariants.{Less, Equal, Greater}
 use Rattle.std.specs.Cmp.{tied_itself}
@@ -175,26 +174,3 @@ behind-unbelow x q (row ∷ rows) h = both _ _ (subst (λ o. T (is_lt (ordering_
 pub rising-unbelow : (x : Step) (rows : List Row) → Rising (below x rows) → Rising rows
 rising-unbelow x [] h = tt
 rising-unbelow x (row ∷ rows) h = both _ _ (behind-unbelow x row.path rows (behind-first (record { path = x ∷ row.path; cell = row.cell }) (below x rows) h)) (rising-unbelow x rows (rising-rest (record { path = x ∷ row.path; cell = row.cell }) (below x rows) h))
-
--- how far a run goes, from a row on
-pub leading-more : (x : Step) (rows : List Row) (i n : ℕ) (row : Row) → i < length rows → row ≡ get_or rows i row → begins x row.path ≡ true → n ≡ i + leading x (drop i rows) → n ≡ (i + 1) + leading x (drop (i + 1) rows)
-leading-more x rows i n row l at b is =
-    let e : leading x (drop i rows) ≡ 1 + leading x (drop (i + 1) rows) = ap (leading x) (split rows i row l at) ∙ ap (λ c. if c then 1 + leading x (drop (i + 1) rows) else 0) b in
-    omega arith
-  where
-    split : (rs : List Row) (i : ℕ) (r : Row) → i < length rs → r ≡ get_or rs i r → drop i rs ≡ r ∷ drop (i + 1) rs
-    split rs i r l at = drop-cons rs i r l ∙ ap (λ (s : Row). s ∷ drop (suc i) rs) (sym at) ∙ ap (λ m. r ∷ drop m rs) (let q : suc i ≡ i + 1 = omega arith in q)
-
-pub leading-stop : (x : Step) (rows : List Row) (i n : ℕ) (row : Row) → i < length rows → row ≡ get_or rows i row → begins x row.path ≡ false → n ≡ i + leading x (drop i rows) → i ≡ n
-leading-stop x rows i n row l at b is =
-    let e : leading x (drop i rows) ≡ 0 = ap (leading x) (drop-cons rows i row l ∙ ap (λ (s : Row). s ∷ drop (suc i) rows) (sym at)) ∙ ap (λ c. if c then 1 + leading x (drop (suc i) rows) else 0) b in
-    omega arith
-
-pub leading-end : (x : Step) (rows : List Row) (i n : ℕ) → length rows ≤ i → n ≡ i + leading x (drop i rows) → i ≡ n
-leading-end x rows i n l is = let e : leading x (drop i rows) ≡ 0 = ap (leading x) (past rows i l) in omega arith
-  where
-    past : (rs : List Row) (i : ℕ) → length rs ≤ i → drop i rs ≡ []
-    past [] zero l = refl
-    past [] (suc i) l = refl
-    past (r ∷ rs) zero l = absurd (omega arith)
-    past (r ∷ rs) (suc i) l = past rs i (omega arith)

@@ -1,5 +1,5 @@
 -- The rows below a path are those of the node there.
-use Rattle.std.proofs.Common.{◌≡◌, ℕ, true, false, List, [], ◌∷◌, ◌++◌, ◌&&◌, Option, Some, None, refl, ap, sym, ◌∙◌, subst, if◌then◌else◌}
+use Rattle.std.proofs.Common.{◌≡◌, true, false, List, [], ◌∷◌, ◌++◌, ◌&&◌, Option, Some, None, refl, ap, sym, ◌∙◌, subst, if◌then◌else◌}
 use Rattle.std.specs.Prelude.{T}
 use Rattle.std.proofs.Common.{cond}
 use Rattle.std.specs.FinMap.{is_sorted}
@@ -8,20 +8,17 @@ use Rattle.sal_types.specs.declared.value.Step.{Step}
 use Rattle.sal_types.specs.declared.row.Row.{Row}
 use Rattle.sal_types.specs.Order.{path_cmp}
 use Rattle.sal_types.specs.Prefix.{is_prefix}
-use Rattle.sal_types.specs.Tree.{cell, under, has, entries, IsAscending}
+use Rattle.sal_types.specs.Tree.{cell, under, entries, IsAscending}
 use Rattle.sal_types.proofs.Trees.{same_tree, IsTrue-from_T, T-from_IsTrue}
 use Rattle.sal_rows.specs.Edits.{set_row}
 use Rattle.sal_rows.proofs.Cells.{cell-set_rows, IsAscending-set_row, cell-filter, IsAscending-filter}
 use Rattle.sal_node.specs.Tree.{Tree, IsGrove}
-use Rattle.sal_tree.specs.Grow.{at, cell_in, blank, kid, IsSound, present}
+use Rattle.sal_tree.specs.Grow.{at, cell_in, kid, IsSound, present}
 use Rattle.sal_tree.specs.Rows.{rows_of, from_path, below}
-use Rattle.sal_tree.specs.Edit.{with_rows}
 use Rattle.sal_tree.proofs.Laws.{eq, same, sound-at, sound-kid}
 use Rattle.sal_tree.proofs.Cells.{cell-rows_of, ascending-rows_of, has-rows_of, cell-below, cell-below_root, sorted-below, or_none}
 use Rattle.sal_tree.proofs.Touches.{eq_back}
 use Rattle.sal_tree.proofs.Chains.{absent-cell}
-use Rattle.sal_tree.proofs.Edited.{Follows-rows}
-use Rattle.sal_tree.proofs.Listed.{rows-with_rows}
 
 ascending-fold : (rows tree : List Row) → IsAscending tree → IsAscending (fold set_row tree rows)
 ascending-fold [] tree h = h
@@ -29,29 +26,6 @@ ascending-fold (row ∷ rows) tree h = ascending-fold rows (set_row tree row) (I
 
 all_set : (rows : List Row) → IsAscending rows → fold set_row [] rows ≡ rows
 all_set rows h = same_tree (fold set_row [] rows) rows (ascending-fold rows [] refl) h (λ r. cell-set_rows rows [] r h ∙ or_none (cell rows r))
-
--- a tree of rows
-pub rows-made : (s : ℕ) (rows : List Row) → IsAscending rows → rows_of (with_rows s (blank s) rows) ≡ rows
-rows-made s rows h = rows-with_rows s rows (blank s) tt ∙ all_set rows h
-
-blank_stamp : (s : ℕ) (p : List Step) (n : Tree) → at (Some (blank s)) p ≡ Some n → n.stamp ≡ s
-blank_stamp s [] n e = sym (ap (λ (k : Tree). k.stamp) (some_same (blank s) n e))
-  where
-    some_same : (a b : Tree) → Some a ≡ Some b → a ≡ b
-    some_same a b e = cc
-blank_stamp s (x ∷ p) n e = let none = at_none p in cc
-  where
-    at_none : (p : List Step) → at None p ≡ None
-    at_none [] = refl
-    at_none (x ∷ p) = at_none p
-
-pub stamps-made : (s : ℕ) (rows : List Row) (p : List Step) (n : Tree) → at (Some (with_rows s (blank s) rows)) p ≡ Some n → n.stamp ≡ s
-stamps-made s rows p n e =
-    let f = Follows-rows s rows (blank s) tt in
-    elim (has rows p) as (λ b. has rows p ≡ b → n.stamp ≡ s) [
-      | true ↦ λ b. f.stamped p n b e
-      | false ↦ λ b. blank_stamp s p n (sym (f.kept p b) ∙ e)
-    ] refl
 
 -- the rows below a path
 pub from_path-root : (rows : List Row) → from_path [] rows ≡ rows

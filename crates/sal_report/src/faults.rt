@@ -13,33 +13,13 @@ use sal_schema::Schema;
 use sal_types::{NoMemory, Path, Str, push_word};
 use std::alloc::Global;
 
-/// Why a text is no path: a word, and where the place is known how many bytes stand before it. It fails only where memory runs
-/// out.
-pub fn path_fault_text(alloc: Global, fault: PathTextFault) -> Result<Str, NoMemory>
-    ensures { IfOk result (λ text. text ≡ spec.path_fault_text fault) }
-{
-    let mut text = String::new(alloc);
-    push_path_fault(&mut text, fault)?;
-    Ok(Str::from_string(text))
-}
-
-/// Why a value is no data of the schema: a word, the path of the place as a JSON text, and behind it the name or the fault of
-/// the value, if there is one. It fails only where memory runs out.
+/// Why a value is no data of the schema: a word, the path of the place as a JSON text, and then the name or the fault of
+/// the value, if there is one. It fails only if memory runs out.
 pub fn data_fault_text(alloc: Global, schema: &Schema, fault: &DataFault) -> Result<Str, NoMemory>
     ensures { IfOk result (λ text. text ≡ spec.data_fault_text schema.now fault.now) }
 {
     let mut text = String::new(alloc);
     push_data_fault(alloc, &mut text, schema, fault)?;
-    Ok(Str::from_string(text))
-}
-
-/// Why a transaction refused a write, or a read: a word, and behind it the path of the place as a JSON text, if there is one. It
-/// fails only where memory runs out.
-pub fn tx_fault_text(alloc: Global, schema: &Schema, fault: &TxFault) -> Result<Str, NoMemory>
-    ensures { IfOk result (λ text. text ≡ spec.tx_fault_text schema.now fault.now) }
-{
-    let mut text = String::new(alloc);
-    push_tx_fault(alloc, &mut text, schema, fault)?;
     Ok(Str::from_string(text))
 }
 

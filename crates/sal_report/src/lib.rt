@@ -8,8 +8,7 @@
 //! | `report_of_lines` | the text of a run, where the lines of the steps are texts already |
 //! | `tree_line` | the line of a domain with its trees, alone |
 //! | `told_domains` | the domains of which it tells the trees: the controller's own, and each device that was ever mounted |
-//! | `path_fault_text`, `data_fault_text` | why a text is no path, why a value is no data of the schema, in words |
-//! | `tx_fault_text` | why a transaction refused a write, or a read, in words |
+//! | `data_fault_text` | why a value is no data of the schema, in words |
 //! | `summary` | the summary of a load: how many calls, commits and rows, and the sum of the numbers |
 //! | `breach_text`, `path_words` | where a structural rule is broken and which; a path |
 //!
@@ -53,7 +52,7 @@ mod words;
 
 pub use answered::{reply_text, report_of_lines};
 pub use breaches::{breach_text, path_words};
-pub use faults::{data_fault_text, path_fault_text, tx_fault_text};
+pub use faults::data_fault_text;
 pub use lines::{report, tree_line};
 pub use load::summary;
 pub use mounted::told_domains;

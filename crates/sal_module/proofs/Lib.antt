@@ -7,3 +7,4 @@ pub mod NamedPrefixes
 pub mod Order
 pub mod Named
 pub mod Firsts
+pub mod Initials

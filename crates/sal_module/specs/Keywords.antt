@@ -1,7 +1,8 @@
 -- The keywords of the profile and their words.
-use Rattle.std.specs.Prelude.{ℕ, Bool, nat_eq, List, [], map, find, Option, option_map, unwrap_or}
+use Rattle.std.specs.Prelude.{ℕ, Bool, nat_eq, List, [], map, find, filter, Option, option_map, unwrap_or}
 use Rattle.std.specs.Borrow.{Bor}
 use lib.Pointwise.{pointwise}
+use Rattle.sal_stmt.specs.Words.{first}
 use Rattle.sal_module.specs.declared.keyword.Keyword.{Keyword}
 use Rattle.sal_module.specs.declared.keyword.TheConstants.{WORDS}
 use Rattle.sal_module.specs.contracts.keyword.KeywordPartialEq.TheImpl as keyword_partial_eq
@@ -28,6 +29,13 @@ word_among words keyword = unwrap_or (option_map (λ (w : Word). w.0) (find (λ 
 
 unfoldable pub words : List Word
 words = map (λ w. (w.0.now, w.1)) WORDS
+
+-- those that begin with this byte
+abbrev pub with_first : ℕ → List Word → List Word
+with_first c some = filter (λ (w : Word). nat_eq (first w.0) c) some
+
+abbrev pub words_with : ℕ → List Word
+words_with c = with_first c words
 
 -- the keyword of a word: none for a word with a prefix, and for one that the profile does not have
 unfoldable pub keyword_of : List ℕ → Option Keyword

@@ -3,6 +3,7 @@
 //! | item | what it is |
 //! |---|---|
 //! | `check` | the modules, where they are within the profile and their imports name modules, or the first fault |
+//! | `check_owned` | the same of statements that are handed over |
 //! | `Modules` | modules that passed, seen as the list of their statements, with look-ups by place and by prefix |
 //! | `BuildFault` | every fault of a schema that is built from modules, each with its module and place |
 //! | `Cause`, `Found`, `better` | what is wrong, where, and which of two faults counts: for the later passes |
@@ -24,8 +25,8 @@
 //! let own = modules.imported(0, "p");  // Some(0)
 //! ```
 //!
-//! Cost: `check` takes time linear in the statements, times the words of the table, and the logarithm of the imports for
-//! each import; it copies the statements. 64 modules are compared with one another 64 times. `Modules::stmt` takes the
+//! Cost: both checks take time linear in the statements, times the words of the table, and the logarithm of the imports for
+//! each import; `check` copies the statements. 64 modules are compared with one another 64 times. `Modules::stmt` takes the
 //! logarithm of the statements for each level, and `Modules::imported` that of the imports. At most 65 calls stand in one
 //! another.
 #![tactic(auto)]
@@ -47,7 +48,7 @@ mod vectors;
 pub use argument::{Form, has_form, is_whole};
 pub use fault::{BuildFault, Cause, Found, What, better};
 pub use keyword::{Keyword, WORDS, keyword_of};
-pub use modules::{Modules, check};
+pub use modules::{Modules, check, check_owned};
 pub use reach::{is_marked, reaching};
 pub use statement::{argument_of, first_named, has_named, is_named, value_of};
 pub use table::{Entry, LEFT_OUT, Often, Row, Rule, TABLE};

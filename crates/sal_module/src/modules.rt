@@ -109,12 +109,12 @@ fn graph(alloc: Global, stmts: &[Stmt]) -> Result<(Vec<Prefixes>, Option<Found>)
     Ok((all, best))
 }
 
-/// The modules, where they are within the profile and their imports name modules and go in no circle.
-///
-/// The first fault is that of the profile, or else that of names and imports; within either, that with the smallest
-/// module, then the smallest place, then the smallest number. More than 64 modules are `TooMany` before anything else.
-pub fn check(alloc: Global, stmts: &[Stmt]) -> Result<Modules, BuildFault>
-    ensures { GivesUnless BuildFault.NoMemory (λ modules. modules) result (spec.check stmts.now) }
+/// The prefixes of each module, or the first fault: that of the profile, or else that of names and imports.
+fn passed(alloc: Global, stmts: &[Stmt]) -> Result<Vec<Prefixes>, BuildFault>
+    ensures given { GivesUnless BuildFault.NoMemory (λ _. stmts.now) result (spec.check stmts.now) }
+    ensures few { IfOk result (λ _. length stmts.now < 65) }
+    ensures count { IfOk result (λ prefixes. length prefixes.items ≡ length stmts.now) }
+    ensures names { IfOk result (λ prefixes. spec.AreNamed stmts.now prefixes.items) }
 {
     if stmts.len() > MAX_MODULES {
         return Err(BuildFault::TooMany {
@@ -128,13 +128,43 @@ pub fn check(alloc: Global, stmts: &[Stmt]) -> Result<Modules, BuildFault>
     if let Some(found) = found {
         return Err(found.fault(alloc)?);
     }
-    let list = copies(alloc, stmts)?;
+    Ok(prefixes)
+}
+
+/// These statements with the prefixes of each module.
+fn indexed(list: Vec<Stmt>, prefixes: Vec<Prefixes>) -> Modules
+    requires few { length list.items < 65 }
+    requires count { length prefixes.items ≡ length list.items }
+    requires names { spec.AreNamed list.items prefixes.items }
+    ensures { result ≡ list.items }
+{
     let in_order = all_in_order(list.as_slice());
-    Ok(Modules {
+    Modules {
         list,
         prefixes,
         in_order,
-    })
+    }
+}
+
+/// The modules, where they are within the profile and their imports name modules and go in no circle.
+///
+/// The first fault is that of the profile, or else that of names and imports; within either, that with the smallest
+/// module, then the smallest place, then the smallest number. More than 64 modules are `TooMany` before anything else.
+/// The statements are copied.
+pub fn check(alloc: Global, stmts: &[Stmt]) -> Result<Modules, BuildFault>
+    ensures { GivesUnless BuildFault.NoMemory (λ modules. modules) result (spec.check stmts.now) }
+{
+    let prefixes = passed(alloc, stmts)?;
+    let list = copies(alloc, stmts)?;
+    Ok(indexed(list, prefixes))
+}
+
+/// The same of statements that the modules keep: none is copied.
+pub fn check_owned(alloc: Global, stmts: Vec<Stmt>) -> Result<Modules, BuildFault>
+    ensures { GivesUnless BuildFault.NoMemory (λ modules. modules) result (spec.check stmts.items) }
+{
+    let prefixes = passed(alloc, &stmts)?;
+    Ok(indexed(stmts, prefixes))
 }
 
 fn stmt_of<'s>(list: &'s [Stmt], in_order: bool, number: u32, at: u32) -> Option<&'s Stmt>

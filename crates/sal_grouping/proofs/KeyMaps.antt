@@ -1,5 +1,5 @@
 -- The first nodes with their keys, from one node to the next.
-use Rattle.std.proofs.Common.{◌≡◌, ℕ, zero, suc, ◌+◌, ◌<◌, List, [], ◌∷◌, ◌++◌, length, take, drop, get_or, Bool, true, false, not, ◌&&◌, Option, Some, None, is_some, is_none, if◌then◌else◌, refl, sym, ap, ◌∙◌, inl, inr, arith}
+use Rattle.std.proofs.Common.{◌≡◌, ℕ, zero, suc, ◌+◌, ◌<◌, List, [], ◌∷◌, ◌++◌, length, take, drop, get_or, Bool, true, false, not, ◌&&◌, ◌||◌, Option, Some, None, is_some, is_none, if◌then◌else◌, refl, sym, ap, ◌∙◌, inl, inr, arith}
 use Rattle.std.specs.List.{position_from, slice_get}
 use Rattle.std.specs.BTreeMap.{BTreeMap, UpdatesBy, get}
 use Rattle.std.specs.Cmp.{IsEquivalence, eq_by_cmp_equiv}
@@ -57,31 +57,27 @@ first-new p xs k x h is unknown passes =
 
 -- ---- the map
 
-congr-first : (rows : List Row) (forest : List Node) (a b : Key) → same_key a b ≡ true → (n : ℕ) (some : List Node) → position_from (has_key rows forest a) n some ≡ position_from (has_key rows forest b) n some
-congr-first rows forest a b e n [] = refl
-congr-first rows forest a b e n (x ∷ some) =
-    let here : has_key rows forest a x ≡ has_key rows forest b x = ap (λ t. not (is_choice rows x) && t) (same_key-IsEquivalence.congr a b (key_of rows forest x) e) in
-    rw (here, congr-first rows forest a b e (n + 1) some) refl
+or-true : (b : Bool) → (b || true) ≡ true
+or-true true = refl
+or-true false = refl
 
--- a key that had none
-pub put-new : (old new : BTreeMap Key ℕ) (k : ℕ) (key : Key) → UpdatesBy key_cmp (key_cmp key) old new (Some k) → is_some (get key_cmp old key) ≡ false
-    → ((a b : Key) → same_key a b ≡ true → get key_cmp old a ≡ get key_cmp old b) → (q : Key) → get key_cmp new q ≡ with_first (get key_cmp old q) (same_key key q) k
-put-new old new k key updates unknown alike q = elim (cases_Bool (same_key key q)) [
-  | inl e ↦ let none : is_some (get key_cmp old q) ≡ false = ap is_some (sym (alike key q e)) ∙ unknown in updates.0 q ∙ rw (e, none) refl
-  | inr e ↦ updates.0 q ∙ rw e (sym (with_first-miss (get key_cmp old q) k))
+or-false : (b : Bool) → (b || false) ≡ b
+or-false true = refl
+or-false false = refl
+
+with_first-some : (found : Option ℕ) (b : Bool) (k : ℕ) → is_some (with_first found b k) ≡ (is_some found || b)
+with_first-some None true k = refl
+with_first-some None false k = refl
+with_first-some (Some j) true k = refl
+with_first-some (Some j) false k = refl
+
+-- a key that has a number now
+pub put-any : (old new : BTreeMap Key ℕ) (k : ℕ) (key : Key) → UpdatesBy key_cmp (key_cmp key) old new (Some k)
+    → (q : Key) → is_some (get key_cmp new q) ≡ (is_some (get key_cmp old q) || same_key key q)
+put-any old new k key updates q = elim (cases_Bool (same_key key q)) [
+  | inl e ↦ ap is_some (updates.0 q) ∙ rw e (sym (or-true (is_some (get key_cmp old q))))
+  | inr e ↦ ap is_some (updates.0 q) ∙ rw e (sym (or-false (is_some (get key_cmp old q))))
 ]
-
--- and one that had one
-pub put-known : (old : BTreeMap Key ℕ) (k : ℕ) (key : Key) → is_some (get key_cmp old key) ≡ true
-    → ((a b : Key) → same_key a b ≡ true → get key_cmp old a ≡ get key_cmp old b) → (q : Key) → get key_cmp old q ≡ with_first (get key_cmp old q) (same_key key q) k
-put-known old k key known alike q = elim (cases_Bool (same_key key q)) [
-  | inl e ↦ let some : is_some (get key_cmp old q) ≡ true = ap is_some (sym (alike key q e)) ∙ known in rw (e, some) refl
-  | inr e ↦ rw e (sym (with_first-miss (get key_cmp old q) k))
-]
-
-pub alike-known : (rows : List Row) (forest some : List Node) (map : BTreeMap Key ℕ) → ((q : Key) → get key_cmp map q ≡ first_with rows forest q some)
-    → (a b : Key) → same_key a b ≡ true → get key_cmp map a ≡ get key_cmp map b
-alike-known rows forest some map known a b e = known a ∙ congr-first rows forest a b e 0 some ∙ sym (known b)
 
 -- ---- one node
 
@@ -114,3 +110,6 @@ module _ (rows : List Row) (forest : List Node) (k : ℕ) (node : Node) (at : sl
         | inl e ↦ ap not e ∙ sym (first-known p forest k (got-within forest k node at) e)
         | inr e ↦ ap not e ∙ sym (first-new p forest k node (got-within forest k node at) (got-at forest k node at) e own)
       ])
+
+  pub known-keys : is_choice rows node ≡ false → (q : Key) → (is_some (first_with rows forest q (take k forest)) || same_key (key_of rows forest node) q) ≡ is_some (first_with rows forest q (take (k + 1) forest))
+  known-keys choice q = sym (with_first-some (first_with rows forest q (take k forest)) (same_key (key_of rows forest node) q) k) ∙ ap is_some (known-key choice q)

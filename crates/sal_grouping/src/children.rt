@@ -1,10 +1,9 @@
 //! Nodes of one name where names differ.
-ghost use Rattle.std.specs.Prelude.{◌≡◌, ◌+◌, [], None, Some, true, IfOk, is_none, take, if◌then◌else◌};
+ghost use Rattle.std.specs.Prelude.{◌≡◌, ◌+◌, ◌||◌, [], None, Some, IfOk, is_none, is_some, take, if◌then◌else◌};
 ghost use Rattle.std.specs.List.{slice_get};
 ghost use Rattle.std.specs.BTreeMap.{get};
 ghost use Rattle.sal_module.specs.Faults.{least};
 ghost use Rattle.sal_grouping.specs.declared.children.Key.{Key as Knot};
-ghost use Rattle.sal_grouping.specs.Indexes.{with_first};
 ghost use Rattle.sal_grouping.specs.Children as spec;
 
 use crate::augments::{kind_of, name_of};
@@ -102,20 +101,16 @@ fn key_of(alloc: Global, rows: &[Row], nodes: &[Node], node: &Node) -> Result<Ke
     })
 }
 
-/// The key has this number, where it has none. The answer is whether it had none.
-fn put_first(map: &mut BTreeMap<Key, usize>, key: Key, k: usize) -> Result<bool, NoMemory>
-    requires { (a b : Knot) → spec.same_key a b ≡ true → get spec.key_cmp map.old a ≡ get spec.key_cmp map.old b }
+/// The key has this number, whatever it had. The answer is whether it had none.
+fn put_key(map: &mut BTreeMap<Key, usize>, key: Key, k: usize) -> Result<bool, NoMemory>
     ensures first { IfOk result (λ first. first ≡ is_none (get spec.key_cmp map.old key)) }
-    ensures known { IfOk result (λ _. (q : Knot) → get spec.key_cmp map.new q ≡ with_first (get spec.key_cmp map.old q) (spec.same_key key q) k) }
+    ensures known { IfOk result (λ _. (q : Knot) → is_some (get spec.key_cmp map.new q) ≡ (is_some (get spec.key_cmp map.old q) || spec.same_key key q)) }
 {
-    if map.contains_key(&key) {
-        return Ok(false);
-    }
-    map.insert(key, k)?;
-    Ok(true)
+    let old = map.insert(key, k)?;
+    Ok(old.is_none())
 }
 
-/// The map with the first nodes with their keys before a node gets that node. The answer is whether it is a choice or the first.
+/// The map with the keys of the nodes before a node gets that of the node. The answer is whether it is a choice or the first with its key.
 fn put_node(
     alloc: Global,
     rows: &[Row],
@@ -124,16 +119,16 @@ fn put_node(
     k: usize,
     node: &Node,
 ) -> Result<bool, NoMemory>
-    requires known { (q : Knot) → get spec.key_cmp map.old q ≡ spec.first_with rows.now nodes.now q (take k nodes.now) }
+    requires known { (q : Knot) → is_some (get spec.key_cmp map.old q) ≡ is_some (spec.first_with rows.now nodes.now q (take k nodes.now)) }
     requires place { slice_get nodes.now k ≡ Some node.now }
-    ensures known { IfOk result (λ _. (q : Knot) → get spec.key_cmp map.new q ≡ spec.first_with rows.now nodes.now q (take (k + 1) nodes.now)) }
+    ensures known { IfOk result (λ _. (q : Knot) → is_some (get spec.key_cmp map.new q) ≡ is_some (spec.first_with rows.now nodes.now q (take (k + 1) nodes.now))) }
     ensures first { IfOk result (λ first. first ≡ spec.is_first rows.now nodes.now k node.now) }
 {
     if is_choice(rows, node) {
         return Ok(true);
     }
     let key = key_of(alloc, rows, nodes, node)?;
-    let first = put_first(map, key, k)?;
+    let first = put_key(map, key, k)?;
     Ok(first)
 }
 

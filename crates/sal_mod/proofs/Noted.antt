@@ -1,27 +1,39 @@
--- The places of first covers, with one more operation.
-use Rattle.std.proofs.Common.{◌≡◌, ℕ, suc, ◌+◌, Bool, true, false, List, [], ◌∷◌, ◌++◌, length, Option, Some, None, refl, ap, sym, ◌∙◌, cond, if◌then◌else◌, arith}
+-- The places of first operations, with one operation more.
+use Rattle.std.proofs.Common.{◌≡◌, ℕ, suc, ◌+◌, Bool, true, false, List, [], ◌∷◌, ◌++◌, ◌&&◌, length, Option, Some, None, refl, ap, sym, ◌∙◌, cond, if◌then◌else◌, arith}
 use Rattle.std.specs.Option.{option_map, option_or}
 use Rattle.std.specs.FinMap.{find, put}
 use Rattle.std.specs.FinMap.Entries.{find-put}
 use Rattle.sal_types.specs.declared.value.Step.{Step}
 use Rattle.sal_types.specs.declared.value.Store.{Store}
-use Rattle.sal_types.specs.declared.value.Store.TheVariants.{Config, Oper}
 use Rattle.sal_types.specs.Order.{path_cmp, path_eq, path_cmp-IsTotalOrder}
+use Rattle.sal_rows.specs.declared.op.Act.{Act}
+use Rattle.sal_rows.specs.declared.op.Act.TheVariants.{Put, Merge, Delete, Read}
 use Rattle.sal_rows.specs.declared.op.Op.{Op}
+use Rattle.sal_rows.specs.Apply.{checks_path, is_read, same_store}
 use Rattle.sal_rows.proofs.Cells.{same_path}
-use Rattle.sal_mod.specs.declared.covers.Covers.{Covers}
-use Rattle.sal_mod.specs.Covers.{covers_at, first_cover, IsFirst, noted, noted_at}
-use Rattle.sal_mod.specs.Firsts.{AreFirst}
+use Rattle.sal_mod.specs.declared.firsts.Firsts.{Firsts}
+use Rattle.sal_mod.specs.Covers.{stands_at, first_at, noted, noted_at}
+use Rattle.sal_mod.specs.Firsts.{AreFirstBy, places_in}
 
 or_none : (o : Option ℕ) → option_or o None ≡ o
 or_none None = refl
 or_none (Some n) = refl
 
-first-more : (s : Store) (ops : List Op) (op : Op) (p : List Step) → first_cover s (ops ++ op ∷ []) p ≡ noted s op (length ops) p (first_cover s ops p)
-first-more s [] op p = refl
-first-more s (o ∷ ops) op p = elim (covers_at s p o) as (λ b. (if b then Some 0 else option_map (λ n. 1 + n) (first_cover s (ops ++ op ∷ []) p)) ≡ option_or (if b then Some 0 else option_map (λ n. 1 + n) (first_cover s ops p)) (if covers_at s p op then Some (suc (length ops)) else None)) [
+and_true : (a b c : Bool) → b ≡ true → (a && (b && c)) ≡ (a && c)
+and_true a true c h = refl
+and_true a false c h = cc
+
+pub and_false : (a b c : Bool) → b ≡ false → (a && (b && c)) ≡ false
+and_false true false c h = refl
+and_false false false c h = refl
+and_false a true c h = cc
+
+-- with one operation more
+first-more : (t : Act → Bool) (s : Store) (ops : List Op) (op : Op) (p : List Step) → first_at t s (ops ++ op ∷ []) p ≡ option_or (first_at t s ops p) (if stands_at t s p op then Some (length ops) else None)
+first-more t s [] op p = refl
+first-more t s (o ∷ ops) op p = elim (stands_at t s p o) as (λ b. (if b then Some 0 else option_map (λ n. 1 + n) (first_at t s (ops ++ op ∷ []) p)) ≡ option_or (if b then Some 0 else option_map (λ n. 1 + n) (first_at t s ops p)) (if stands_at t s p op then Some (suc (length ops)) else None)) [
   | true ↦ refl
-  | false ↦ ap (option_map (λ n. 1 + n)) (first-more s ops op p) ∙ shifted (first_cover s ops p) (covers_at s p op)
+  | false ↦ ap (option_map (λ n. 1 + n)) (first-more t s ops op p) ∙ shifted (first_at t s ops p) (stands_at t s p op)
 ]
   where
     shifted : (o : Option ℕ) (b : Bool) → option_map (λ n. 1 + n) (option_or o (if b then Some (length ops) else None)) ≡ option_or (option_map (λ n. 1 + n) o) (if b then Some (suc (length ops)) else None)
@@ -29,15 +41,27 @@ first-more s (o ∷ ops) op p = elim (covers_at s p o) as (λ b. (if b then Some
     shifted None false = refl
     shifted (Some n) b = refl
 
-pub IsFirst-more : (s : Store) (ops after : List Op) (op : Op) (n : ℕ) (old new : List (List Step × ℕ)) → after ≡ ops ++ op ∷ [] → n ≡ length ops → IsFirst s ops old → ((p : List Step) → find path_cmp p new ≡ noted s op n p (find path_cmp p old)) → IsFirst s after new
-IsFirst-more s ops after op n old new e l h g p = g p ∙ (λ i. noted s op (l i) p (h p i)) ∙ sym (first-more s ops op p) ∙ ap (λ os. first_cover s os p) (sym e)
+-- an operation that passes the test is noted
+pub noted-more : (t : Act → Bool) (ops : List Op) (op : Op) (n : ℕ) (old new : Firsts) → t op.act ≡ true → n ≡ length ops → AreFirstBy t ops old
+    → ((s : Store) (p : List Step) → find path_cmp p (places_in new s) ≡ noted s op n p (find path_cmp p (places_in old s))) → AreFirstBy t (ops ++ op ∷ []) new
+noted-more t ops op n old new passes l h g s p =
+    g s p ∙ (λ i. noted s op (l i) p (h s p i))
+    ∙ ap (λ b. option_or (first_at t s ops p) (if b then Some (length ops) else None)) (sym (and_true (same_store op.store s) (t op.act) (path_eq p op.path) passes))
+    ∙ sym (first-more t s ops op p)
 
--- for both stores
-pub AreFirst-more : (ops : List Op) (op : Op) (n : ℕ) (old new : Covers) → n ≡ length ops → AreFirst ops old
-    → ((p : List Step) → find path_cmp p new.config ≡ noted Config op n p (find path_cmp p old.config)) → ((p : List Step) → find path_cmp p new.oper ≡ noted Oper op n p (find path_cmp p old.oper))
-    → AreFirst (ops ++ op ∷ []) new
-AreFirst-more ops op n old new l h config oper =
-    (IsFirst-more Config ops (ops ++ op ∷ []) op n old.config new.config refl l h.0 config, IsFirst-more Oper ops (ops ++ op ∷ []) op n old.oper new.oper refl l h.1 oper)
+-- and for another one nothing is noted
+pub skipped-more : (t : Act → Bool) (ops : List Op) (op : Op) (places : Firsts) → t op.act ≡ false → AreFirstBy t ops places → AreFirstBy t (ops ++ op ∷ []) places
+skipped-more t ops op places fails h s p =
+    h s p ∙ sym (or_none (first_at t s ops p))
+    ∙ ap (λ b. option_or (first_at t s ops p) (if b then Some (length ops) else None)) (sym (and_false (same_store op.store s) (t op.act) (path_eq p op.path) fails))
+    ∙ sym (first-more t s ops op p)
+
+-- what checks its path is no read, and the other way round
+pub no_read : (act : Act) → checks_path act ≡ true → is_read act ≡ false
+no_read (Put rows) h = refl
+no_read (Merge rows) h = refl
+no_read Delete h = refl
+no_read Read h = cc
 
 find_same : (p w : List Step) (es : List (List Step × ℕ)) → path_eq p w ≡ true → find path_cmp p es ≡ find path_cmp w es
 find_same p w es e = ap (λ q. find path_cmp q es) (same_path p w e)

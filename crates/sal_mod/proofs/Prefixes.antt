@@ -1,7 +1,8 @@
--- Tests on the paths that a path begins with, and the operations that cover it.
+-- Tests on the paths that a path begins with, and the operations that stand over it.
 use Rattle.std.proofs.Common.{◌≡◌, ℕ, suc, zero, ◌+◌, ◌<◌, ◌≤◌, Bool, true, false, List, [], ◌∷◌, ◌++◌, ◌&&◌, ◌||◌, length, take, drop, Option, Some, None, refl, ap, ◌∙◌, if◌then◌else◌, arith}
 use Rattle.std.proofs.lemmas.Bool.Decides.{nat_tests}
 use lib.Dec.{ltb}
+use Rattle.std.specs.List.{list_any}
 use Rattle.std.specs.Option.{option_map}
 use Rattle.std.specs.Ordering.{is_eq, ordering_reverse}
 use Rattle.std.specs.declared.cmp.Ordering.{Ordering}
@@ -11,9 +12,15 @@ use Rattle.sal_types.specs.declared.value.Step.{Step}
 use Rattle.sal_types.specs.declared.value.Store.{Store}
 use Rattle.sal_types.specs.Order.{step_cmp, path_cmp, path_eq, step_cmp-IsTotalOrder}
 use Rattle.sal_types.specs.Prefix.{is_prefix}
+use Rattle.sal_rows.specs.declared.op.Act.{Act}
 use Rattle.sal_rows.specs.declared.op.Op.{Op}
-use Rattle.sal_rows.specs.Apply.{same_store, checks_path}
-use Rattle.sal_mod.specs.Covers.{covers, is_covered, covers_at, first_cover, IsFirst}
+use Rattle.sal_rows.specs.Apply.{same_store}
+use Rattle.sal_rows.proofs.Rising.{and_assoc}
+use Rattle.sal_rows.proofs.Untouched.{or_first, or_second}
+use Rattle.sal_mod.specs.declared.firsts.Firsts.{Firsts}
+use Rattle.sal_mod.specs.Covers.{stands_over, stands_at, first_at}
+use Rattle.sal_mod.specs.Firsts.{AreFirstBy, places_in}
+use Rattle.sal_mod.proofs.Noted.{and_false}
 use Rattle.sal_mod.specs.Early.{any_prefix, is_early}
 use Rattle.sal_types.proofs.Shared.{then_eq}
 
@@ -60,10 +67,10 @@ any-equal (y ∷ w) (x ∷ p) =
     ∙ any_prefix-and (is_eq (step_cmp x y)) (λ q. path_eq q w) p
     ∙ (λ i. eq_swap x y i && any-equal w p i)
 
-pub any-covers : (s : Store) (op : Op) (p : List Step) → any_prefix (λ q. covers_at s q op) p ≡ covers s p op
-any-covers s op p =
-    any_prefix-and (same_store op.store s) (λ q. checks_path op.act && path_eq q op.path) p
-    ∙ ap (λ b. same_store op.store s && b) (any_prefix-and (checks_path op.act) (λ q. path_eq q op.path) p ∙ ap (λ b. checks_path op.act && b) (any-equal op.path p))
+pub any-over : (t : Act → Bool) (s : Store) (op : Op) (p : List Step) → any_prefix (λ q. stands_at t s q op) p ≡ stands_over t s p op
+any-over t s op p =
+    any_prefix-and (same_store op.store s) (λ q. t op.act && path_eq q op.path) p
+    ∙ ap (λ b. same_store op.store s && b) (any_prefix-and (t op.act) (λ q. path_eq q op.path) p ∙ ap (λ b. t op.act && b) (any-equal op.path p))
 
 early_zero : (o : Option ℕ) → is_early 0 o ≡ false
 early_zero None = refl
@@ -80,18 +87,31 @@ early_suc b false (Some n) = shift n b
     shift : (n b : ℕ) → ltb (1 + n) (suc b) ≡ ltb n b
     shift n b = elim (ltb n b) as (λ c. ltb n b ≡ c → ltb (1 + n) (suc b) ≡ c) [ true ↦ λ e. grind (arith, nat_tests) | false ↦ λ e. grind (arith, nat_tests) ] refl
 
-early-covered : (s : Store) (ops : List Op) (p : List Step) (before : ℕ) → any_prefix (λ q. is_early before (first_cover s ops q)) p ≡ is_covered s ops p before
-early-covered s [] p zero = any_prefix-none p
-early-covered s [] p (suc b) = any_prefix-none p
-early-covered s (op ∷ ops) p zero = any_prefix-alike (λ q. is_early 0 (first_cover s (op ∷ ops) q)) (λ q. false) p (λ q. early_zero (first_cover s (op ∷ ops) q)) ∙ any_prefix-none p
-early-covered s (op ∷ ops) p (suc b) =
-    any_prefix-alike (λ q. is_early (suc b) (first_cover s (op ∷ ops) q)) (λ q. covers_at s q op || is_early b (first_cover s ops q)) p (λ q. early_suc b (covers_at s q op) (first_cover s ops q))
-    ∙ any_prefix-or (λ q. covers_at s q op) (λ q. is_early b (first_cover s ops q)) p
-    ∙ (λ i. any-covers s op p i || early-covered s ops p b i)
+early-over : (t : Act → Bool) (s : Store) (ops : List Op) (p : List Step) (before : ℕ) → any_prefix (λ q. is_early before (first_at t s ops q)) p ≡ list_any (stands_over t s p) (take before ops)
+early-over t s [] p zero = any_prefix-none p
+early-over t s [] p (suc b) = any_prefix-none p
+early-over t s (op ∷ ops) p zero = any_prefix-alike (λ q. is_early 0 (first_at t s (op ∷ ops) q)) (λ q. false) p (λ q. early_zero (first_at t s (op ∷ ops) q)) ∙ any_prefix-none p
+early-over t s (op ∷ ops) p (suc b) =
+    any_prefix-alike (λ q. is_early (suc b) (first_at t s (op ∷ ops) q)) (λ q. stands_at t s q op || is_early b (first_at t s ops q)) p (λ q. early_suc b (stands_at t s q op) (first_at t s ops q))
+    ∙ any_prefix-or (λ q. stands_at t s q op) (λ q. is_early b (first_at t s ops q)) p
+    ∙ (λ i. any-over t s op p i || early-over t s ops p b i)
 
 -- the test by places along the path is the test of the operations
-pub early-is_covered : (s : Store) (ops : List Op) (places : List (List Step × ℕ)) (p : List Step) (before : ℕ) → IsFirst s ops places → any_prefix (λ q. is_early before (find path_cmp q places)) p ≡ is_covered s ops p before
-early-is_covered s ops places p before h = any_prefix-alike (λ q. is_early before (find path_cmp q places)) (λ q. is_early before (first_cover s ops q)) p (λ q. ap (is_early before) (h q)) ∙ early-covered s ops p before
+pub early-first : (t : Act → Bool) (s : Store) (ops : List Op) (places : Firsts) (p : List Step) (before : ℕ) → AreFirstBy t ops places
+    → any_prefix (λ q. is_early before (find path_cmp q (places_in places s))) p ≡ list_any (stands_over t s p) (take before ops)
+early-first t s ops places p before h =
+    any_prefix-alike (λ q. is_early before (find path_cmp q (places_in places s))) (λ q. is_early before (first_at t s ops q)) p (λ q. ap (is_early before) (h s q)) ∙ early-over t s ops p before
+
+-- the test of one operation, with store and act first
+pub over-paired : (t : Act → Bool) (s : Store) (ops : List Op) (p : List Step) → list_any (stands_over t s p) ops ≡ list_any (λ op. (same_store op.store s && t op.act) && is_prefix op.path p) ops
+over-paired t s [] p = refl
+over-paired t s (op ∷ ops) p = λ i. and_assoc (same_store op.store s) (t op.act) (is_prefix op.path p) i || over-paired t s ops p i
+
+-- without an operation that passes the test there is none
+pub none-over : (t : Act → Bool) (s : Store) (ops : List Op) (p : List Step) → list_any (λ op. t op.act) ops ≡ false → list_any (stands_over t s p) ops ≡ false
+none-over t s [] p h = refl
+none-over t s (op ∷ ops) p h = λ i.
+    and_false (same_store op.store s) (t op.act) (is_prefix op.path p) (or_first (t op.act) (list_any (λ op. t op.act) ops) h) i || none-over t s ops p (or_second (t op.act) (list_any (λ op. t op.act) ops) h) i
 
 -- from one depth to the next
 pub any_prefix-next : (f : List Step → Bool) (p : List Step) (d : ℕ) → d < length p → f (take d p) ≡ false → any_prefix (λ q. f (take d p ++ q)) (drop d p) ≡ any_prefix (λ q. f (take (d + 1) p ++ q)) (drop (d + 1) p)

@@ -1,10 +1,14 @@
 //! The operations of a transaction.
 ghost use Rattle.std.specs.Prelude.{◌≡◌, ◌+◌, ◌≤◌, [], ◌∷◌, ◌++◌, OnOk, OnErr, IfErr, IfOk, take};
 ghost use Rattle.std.specs.Vec.{vec_capacity, vec_len};
-ghost use Rattle.sal_mod.specs.Covers.{is_covered};
+ghost use Rattle.std.specs.List.{list_any};
+ghost use Rattle.sal_rows.specs.Apply.{is_read};
+ghost use Rattle.sal_rows.specs.Reads.{is_known};
+ghost use Rattle.sal_mod.specs.Covers.{is_covered, stands_over};
 ghost use Rattle.sal_mod.specs.Firsts.{AreFirstIn};
+ghost use Rattle.sal_mod.specs.Held.{has_reads};
 
-use crate::covers::{Covers, any_covers, note_next};
+use crate::covers::{Covers, any_covers, any_reads, note_next};
 use crate::held::Held;
 use sal_rows::{Op, Ops};
 use sal_types::{NoMemory, Path, Store};
@@ -18,19 +22,22 @@ pub struct Mod {
     list: Held,
     /// Nothing while the operations are few.
     covers: Option<Covers>,
+    /// Whether one of them is a read.
+    has_reads: bool,
 }
 
 impl Model for Mod {
     ghost use Rattle.std.specs.Prelude.{List};
     ghost use Rattle.sal_rows.specs.declared.op.Op.{Op};
     ghost use Rattle.sal_mod.specs.Firsts.{AreFirstIn};
-    ghost use Rattle.sal_mod.specs.Held.{held};
+    ghost use Rattle.std.specs.Prelude.{◌≡◌};
+    ghost use Rattle.sal_mod.specs.Held.{has_reads as any_read, held};
 
     ghost Value = { List Op };
 
     ghost view = { λ a. held a.list };
 
-    ghost invariant = { λ a. AreFirstIn (held a.list) a.covers };
+    ghost invariant = { λ a. AreFirstIn (held a.list) a.covers × (a.has_reads ≡ any_read (held a.list)) };
 }
 
 impl Mod {
@@ -41,6 +48,7 @@ impl Mod {
         Mod {
             list: Held::Own(Vec::new(alloc)),
             covers: None,
+            has_reads: false,
         }
     }
 
@@ -54,8 +62,12 @@ impl Mod {
             Ok(list) => list,
             Err(refused) => return Err((op, refused)),
         };
+        let has_reads = self.has_reads || op.act.is_read();
         let added = add_to(alloc, &mut list, &mut self.covers, op);
         self.list = Held::Own(list);
+        if added.is_ok() {
+            self.has_reads = has_reads;
+        }
         added
     }
 
@@ -89,6 +101,33 @@ impl Mod {
         match &self.covers {
             Some(covers) => covers.is_covered(self.list.ops(), store, path, before),
             None => any_covers(first_of(self.list.ops(), before), store, path),
+        }
+    }
+
+    /// Whether one of the operations is a read. It takes no memory.
+    pub fn has_reads(&self) -> bool
+        ensures { result ≡ has_reads self.now }
+    {
+        self.has_reads
+    }
+
+    /// Whether one more read of the path in the store adds nothing: one of the operations puts, deletes or reads a path that this one
+    /// begins with. It takes no memory.
+    pub fn knows(&self, store: Store, path: &Path) -> bool
+        ensures { result ≡ is_known self.now store path.now }
+    {
+        self.covered(store, path, self.ops().len()) || self.was_read(store, path)
+    }
+
+    fn was_read(&self, store: Store, path: &Path) -> bool
+        ensures { result ≡ list_any (stands_over is_read store path.now) self.now }
+    {
+        if !self.has_reads {
+            return false;
+        }
+        match &self.covers {
+            Some(covers) => covers.was_read(self.list.ops(), store, path),
+            None => any_reads(self.list.ops(), store, path),
         }
     }
 }

@@ -1,38 +1,32 @@
-//! The places of the first puts and deletes at a path, by which a covered path is found.
-ghost use Rattle.std.specs.Prelude.{◌≡◌, ◌++◌, ◌∷◌, [], List, IfOk, OnOk, OnErr};
+//! The places of the first puts, deletes and reads at a path, by which a path that they stand over is found.
+ghost use Rattle.std.specs.Prelude.{◌≡◌, ◌++◌, ◌∷◌, [], IfOk, OnOk, OnErr};
 ghost use Rattle.std.specs.List.{list_any};
-ghost use Rattle.std.specs.FinMap.{find};
-ghost use Rattle.sal_types.specs.Order.{path_cmp};
-ghost use Rattle.sal_types.specs.declared.value.Step.{Step};
-ghost use Rattle.sal_types.specs.declared.value.Store.TheVariants.{Config, Oper};
+ghost use Rattle.sal_rows.specs.Apply.{is_read};
 ghost use Rattle.sal_mod.specs.Covers as spec;
-ghost use Rattle.sal_mod.specs.Covers.{noted, noted_at, placed, replaces};
-ghost use Rattle.sal_mod.specs.Early.{any_prefix, is_early};
 ghost use Rattle.sal_mod.specs.Firsts.{AreFirst, AreFirstIn};
 
-use crate::places::Places;
+use crate::firsts::Firsts;
 use sal_rows::{Op, same_store};
-use sal_types::{NoMemory, Path, Step, Store};
+use sal_types::{NoMemory, Path, Store};
 use std::alloc::Global;
 
 /// No more operations than these are looked at one by one.
 const FEW: usize = 8;
 
-/// The place of the first put or delete at each path, by store.
+/// The place of the first put or delete at each path, and that of the first read.
 #[derive(Drop)]
 pub(crate) struct Covers {
-    pub(crate) config: Places,
-    pub(crate) oper: Places,
+    pub(crate) writes: Firsts,
+    pub(crate) reads: Firsts,
 }
 
 impl Covers {
     fn new(alloc: Global) -> Covers
-        ensures config { result.config ≡ [] }
-        ensures oper { result.oper ≡ [] }
+        ensures { AreFirst [] result }
     {
         Covers {
-            config: Places::new(alloc),
-            oper: Places::new(alloc),
+            writes: Firsts::new(alloc),
+            reads: Firsts::new(alloc),
         }
     }
 
@@ -42,22 +36,15 @@ impl Covers {
         requires { AreFirst ops.now self.now }
         ensures { result ≡ spec.is_covered store ops.now path.now before }
     {
-        match store {
-            Store::Config => is_early_on(&self.config, path.steps(), before),
-            Store::Oper => is_early_on(&self.oper, path.steps(), before),
-        }
+        self.writes.is_early(store, path, before)
     }
 
-    /// Notes an operation, which gets the place. For want of memory nothing changes.
-    fn note(&mut self, alloc: Global, op: &Op, place: usize) -> Result<(), NoMemory>
-        ensures config { OnOk result ((p : List Step) → find path_cmp p self.new.config ≡ noted Config op.now place p (find path_cmp p self.old.config)) }
-        ensures oper { OnOk result ((p : List Step) → find path_cmp p self.new.oper ≡ noted Oper op.now place p (find path_cmp p self.old.oper)) }
-        ensures err { OnErr result (self.new ≡ self.old) }
+    /// Whether an operation of the store reads a path that this one begins with. It takes no memory.
+    pub(crate) fn was_read(&self, ops: &[Op], store: Store, path: &Path) -> bool
+        requires { AreFirst ops.now self.now }
+        ensures { result ≡ list_any (spec.stands_over is_read store path.now) ops.now }
     {
-        match op.store {
-            Store::Config => note_in(alloc, op, place, &mut self.config),
-            Store::Oper => note_in(alloc, op, place, &mut self.oper),
-        }
+        self.reads.is_early(store, path, ops.len())
     }
 
     /// Notes the operation that comes behind these. For want of memory nothing changes.
@@ -66,19 +53,14 @@ impl Covers {
         ensures ok { OnOk result (AreFirst (ops.now ++ op.now ∷ []) self.new) }
         ensures err { OnErr result (self.new ≡ self.old) }
     {
-        self.note(alloc, op, ops.len())?;
+        if op.act.checks_path() {
+            return self.writes.note(alloc, op, ops.len());
+        }
+        if op.act.is_read() {
+            return self.reads.note(alloc, op, ops.len());
+        }
         Ok(())
     }
-}
-
-fn note_in(alloc: Global, op: &Op, place: usize, places: &mut Places) -> Result<(), NoMemory>
-    ensures ok { OnOk result ((p : List Step) → find path_cmp p places.new ≡ placed (replaces p op.now) place (find path_cmp p places.old)) }
-    ensures err { OnErr result (places.new ≡ places.old) }
-{
-    if op.act.checks_path() {
-        return note_at(alloc, places, op.path.steps(), place);
-    }
-    Ok(())
 }
 
 /// Notes the operation that comes behind these, if it is not among the few. For want of memory nothing changes.
@@ -123,39 +105,6 @@ fn of_all(alloc: Global, ops: &[Op]) -> Result<Covers, NoMemory>
     Ok(covers)
 }
 
-// Notes the place at the path, if none is noted there.
-fn note_at(alloc: Global, places: &mut Places, steps: &[Step], place: usize) -> Result<(), NoMemory>
-    ensures ok { OnOk result ((p : List Step) → find path_cmp p places.new ≡ noted_at steps.now place p (find path_cmp p places.old)) }
-    ensures err { OnErr result (places.new ≡ places.old) }
-{
-    if places.at(steps).is_some() {
-        return Ok(());
-    }
-    places.set(alloc, steps, place)?;
-    Ok(())
-}
-
-// Whether the number at the steps, or at the first of them, is less than `before`.
-fn is_early_on(places: &Places, steps: &[Step], before: usize) -> bool
-    ensures { result ≡ any_prefix (λ q. is_early before (find path_cmp q places.now)) steps.now }
-{
-    for depth in 0..steps.len() {
-        if is_early_at(places, &steps[..depth], before) {
-            return true;
-        }
-    }
-    is_early_at(places, steps, before)
-}
-
-fn is_early_at(places: &Places, steps: &[Step], before: usize) -> bool
-    ensures { result ≡ is_early before (find path_cmp steps.now places.now) }
-{
-    match places.at(steps) {
-        None => false,
-        Some(place) => place < before,
-    }
-}
-
 /// Whether one of the operations covers the path. It takes no memory.
 pub(crate) fn any_covers(ops: &[Op], store: Store, path: &Path) -> bool
     ensures { result ≡ list_any (spec.covers store path.now) ops.now }
@@ -167,4 +116,17 @@ fn covers_path(op: &Op, store: Store, path: &Path) -> bool
     ensures { result ≡ spec.covers store path.now op.now }
 {
     same_store(op.store, store) && (op.act.checks_path() && op.path.is_prefix_of(path))
+}
+
+/// Whether one of the operations reads a path that this one begins with. It takes no memory.
+pub(crate) fn any_reads(ops: &[Op], store: Store, path: &Path) -> bool
+    ensures { result ≡ list_any (spec.stands_over is_read store path.now) ops.now }
+{
+    ops.iter().any(|op| reads_path(op, store, path))
+}
+
+fn reads_path(op: &Op, store: Store, path: &Path) -> bool
+    ensures { result ≡ spec.stands_over is_read store path.now op.now }
+{
+    same_store(op.store, store) && (op.act.is_read() && op.path.is_prefix_of(path))
 }

@@ -5,7 +5,7 @@ use Rattle.sal_types.specs.Order.{path_cmp}
 use Rattle.sal_types.specs.declared.value.Step.{Step}
 use Rattle.sal_mod.specs.Covers.{noted_at}
 use Rattle.sal_mod.proofs.Noted.{noted-there, noted-new}
-use Rattle.sal_mod.proofs.covers.note_at.Goals as goal
+use Rattle.sal_mod.proofs.firsts.note_at.Goals as goal
 
 none_is : (o : Option ℕ) → is_some o ≡ false → o ≡ None
 none_is None e = refl

@@ -1,12 +1,12 @@
-mod Bases
+pub mod Bases
 pub mod Decisions
-mod Logs
+pub mod Logs
 mod Noted
-mod Numbers
-mod Placed
-mod Receipts
+pub mod Numbers
+pub mod Placed
+pub mod Receipts
 mod Routed
-mod Spans
+pub mod Spans
 pub mod Unbroken
 pub mod Versions
 pub mod Waiting

@@ -18,12 +18,12 @@ use Rattle.sal_history.proofs.Receipts.{Known}
 use Rattle.sal_history.proofs.Spans.{own_is}
 use Rattle.sal_history.proofs.Waiting.{added, done-next}
 
-get_seam : {X : Type 0} (xs : List X) (x : X) (ys : List X) → slice_get (xs ++ x ∷ ys) (length xs) ≡ Some x
+pub get_seam : {X : Type 0} (xs : List X) (x : X) (ys : List X) → slice_get (xs ++ x ∷ ys) (length xs) ≡ Some x
 get_seam [] x ys = refl
 get_seam (z ∷ xs) x ys = get_seam xs x ys
 
 -- more outcomes take no commit back
-done-grows : (domain : ℕ) (ss : List Sent) (os ps : List Outcome) → (more : List Sent) × (done domain ss (os ++ ps) ≡ done domain ss os ++ more)
+pub done-grows : (domain : ℕ) (ss : List Sent) (os ps : List Outcome) → (more : List Sent) × (done domain ss (os ++ ps) ≡ done domain ss os ++ more)
 done-grows domain [] os ps = ([], refl)
 done-grows domain (s ∷ ss) [] ps = (done domain (s ∷ ss) ps, refl)
 done-grows domain (s ∷ ss) (o ∷ os) ps =
@@ -31,7 +31,7 @@ done-grows domain (s ∷ ss) (o ∷ os) ps =
     (rest.0, ap (λ (ds : List Sent). added domain s o ++ ds) rest.1 ∙ sym (append_assoc (added domain s o) (done domain ss os) rest.0))
 
 -- the commits after some outcomes are a front of those after more
-front_of : (domain : ℕ) (ss : List Sent) (os : List Outcome) (i j : ℕ) → i ≤ j → (more : List Sent) × (done domain ss (take j os) ≡ done domain ss (take i os) ++ more)
+pub front_of : (domain : ℕ) (ss : List Sent) (os : List Outcome) (i j : ℕ) → i ≤ j → (more : List Sent) × (done domain ss (take j os) ≡ done domain ss (take i os) ++ more)
 front_of domain ss os i j le =
     let parts : take j os ≡ take i os ++ drop i (take j os) =
     sym (take-append-drop i (take j os)) ∙ ap (λ (ps : List Outcome). ps ++ drop i (take j os)) (take-take i j os le) in
@@ -40,7 +40,7 @@ front_of domain ss os i j le =
 
 module _ (world : List Domain) (IsOpen : Base → Type 0) (ss : List Sent) (os : List Outcome) (known : Known world IsOpen ss os) where
   -- a commit is the submission that was done with its number
-  made : (i j : ℕ) (s : Sent) (commit : ℕ) → i < j → slice_get ss i ≡ Some s → slice_get os i ≡ Some (Done commit) → (0 < commit) × (slice_get (done s.base.domain ss (take j os)) (commit - 1) ≡ Some s)
+  pub made : (i j : ℕ) (s : Sent) (commit : ℕ) → i < j → slice_get ss i ≡ Some s → slice_get os i ≡ Some (Done commit) → (0 < commit) × (slice_get (done s.base.domain ss (take j os)) (commit - 1) ≡ Some s)
   made i j s commit lt at is =
       let domain = s.base.domain in
       let ds = done domain ss (take i os) in

@@ -1,5 +1,5 @@
 -- Worked examples: clients and their calls; the leafs a and b of a container box, and the operations on them.
-use Rattle.std.specs.Prelude.{ℕ, false, List, [], ◌∷◌, map, Some, None}
+use Rattle.std.specs.Prelude.{ℕ, false, List, [], ◌∷◌, ◌++◌, map, Some, None}
 use Prim.Native.String.{String}
 use Rattle.sal_types.specs.declared.value.Store.TheVariants.{Config, Oper}
 use Rattle.sal_types.specs.declared.value.Step.{Step}
@@ -8,8 +8,10 @@ use Rattle.sal_types.specs.declared.row.Row.{Row}
 use Rattle.sal_rows.specs.declared.clash.Rules.TheVariants.{One, Two}
 use Rattle.sal_rows.specs.declared.op.Op.{Op}
 use Rattle.sal_rows.specs.declared.op.Act.TheVariants.{Put, Merge, Delete}
+use Rattle.sal_rows.specs.declared.outcome.Mode.{Mode}
 use Rattle.sal_rows.specs.declared.outcome.Mode.TheVariants.{Ro, Rw}
 use Rattle.sal_rows.specs.declared.outcome.Outcome.{Outcome}
+use Rattle.sal_rows.specs.Reads.{read_of, recorded}
 use Rattle.sal_schema.specs.declared.kind.Kind.TheVariants.{Container, Leaf as Scalar}
 use Rattle.sal_schema.specs.declared.table.SchemaTable.{SchemaTable}
 use Rattle.sal_rules.specs.Examples.{node, table}
@@ -65,6 +67,14 @@ merge path text = merge_rows path (leaf path text ∷ [])
 abbrev pub delete : List Step → Op
 delete path = record { store = Config; path = path; act = Delete }
 
+-- a read that is checked
+abbrev pub read : List Step → Op
+read path = read_of Config path
+
+-- the operations of a transaction of the mode that reads one path and then puts a leaf
+abbrev pub read_and_put : Mode → List Step → List Step → String → List Op
+read_and_put mode from to text = recorded mode Config from [] ++ put to text ∷ []
+
 -- the same operation on the operational store
 abbrev pub oper : Op → Op
 oper op = record { store = Oper; path = op.path; act = op.act }
@@ -95,6 +105,11 @@ met first second =
 
 abbrev pub crossed : Op → Op → List Entry
 crossed first second = met (first ∷ []) (second ∷ [])
+
+-- Write skew: two transactions of the mode begin, one reads leaf b and puts leaf a, the other reads a and puts b, and both submit.
+abbrev pub skewed : Mode → List Entry
+skewed mode =
+    by 0 (Begin 0 mode) ∷ by 1 (Begin 0 mode) ∷ by 0 (Submit 0 (read_and_put mode b a "0")) ∷ by 0 (Settle 1) ∷ by 1 (Submit 1 (read_and_put mode a b "0")) ∷ by 1 (Settle 2) ∷ []
 
 -- Client 0 begins; client 1 makes commits of the two operations; then client 0 submits and settles.
 abbrev pub overtaken : Op → Op → Op → List Entry

@@ -6,7 +6,7 @@
 //! | `SharedOps` | the operations of a submission, which the log and the commit have together |
 //! | `Reply` | what a shared call is answered |
 //! | `Device`, `Opening` | the versions of a domain's schema with its opening trees; its trees before the first commit |
-//! | `examples`, `chain_examples`, `listener_examples`, `rule_examples`, `service_examples`, `version_examples` | functions that do nothing, each with worked examples of a log's meaning as its contract |
+//! | `examples`, `chain_examples`, `listener_examples`, `read_examples`, `rule_examples`, `service_examples`, `version_examples` | functions that do nothing, each with worked examples of a log's meaning as its contract |
 //! | `laws` | functions that do nothing, each with a law of the log's meaning as its contract |
 //!
 //! `specs/History` answers a log entry by entry: receipts, outcomes, commits, trees, base and view of a transaction. It
@@ -35,6 +35,9 @@
 //!   of the submission's own chain are cut out: it is checked against the spans between them. A breach of a structural rule
 //!   in the configuration after the operations, and else in the operational tree, names the store, the path and the rule
 //!   (`sal_rules`). Or it is done: both stores change together, as the next commit.
+//! - A transaction of mode `Checked` has each of its reads among its operations. A read sets nothing, and is a conflict where a
+//!   foreign commit after the base changed what it read. So runs of such transactions are serialisable: `sal_history_laws` has
+//!   the law. A submission of reads alone that is done is a commit that changes nothing.
 //! - RPCs, notifications and mounts are services of their own (`sal_rpc`, `sal_note`, `sal_mount`), each over its own calls in
 //!   the order of the log: `specs/Services` says which of the shared calls are whose, and what their answers are as replies. No
 //!   call on one service, and no transaction, changes what another one answers, but for mounts, which make domains live.
@@ -68,6 +71,7 @@ pub mod examples;
 pub mod laws;
 pub mod listener_examples;
 pub mod opening;
+pub mod read_examples;
 pub mod reply;
 pub mod rule_examples;
 pub mod service_examples;

@@ -52,7 +52,7 @@ pub fn merges_of_a_chain()
     ensures foreign { decisions (ruled []) (chained (put b "y") (merge b "z")) ≡ Done 1 ∷ Done 2 ∷ Conflict Config b Created 2 ∷ [] }
 {}
 
-/// Two transactions that put different leafs are done by these rules too: reads are not checked.
+/// Two transactions that put different leafs are done by these rules too: in mode `Rw` reads are not checked.
 pub fn write_skew_accepted()
     ensures { decisions (ruled (leaf a "1" ∷ leaf b "1" ∷ [])) (crossed (put a "0") (put b "0")) ≡ Done 1 ∷ Done 2 ∷ [] }
 {}

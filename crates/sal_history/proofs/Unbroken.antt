@@ -38,12 +38,12 @@ done_is (Invalid store path rule) e = cc
 done_is (FailedBy receipt) e = cc
 done_is (Unmounted domain) e = cc
 
-sents-push : (answered : List Answered) (now : Answered) → sents (answered ++ now ∷ []) ≡ sents answered ++ option_to_list now.sent
+pub sents-push : (answered : List Answered) (now : Answered) → sents (answered ++ now ∷ []) ≡ sents answered ++ option_to_list now.sent
 sents-push answered now =
     filter_map-append (λ (a : Answered). a.sent) answered (now ∷ [])
     ∙ elim now.sent as (λ (o : Option Sent). sents answered ++ cons_option o [] ≡ sents answered ++ option_to_list o) [ None ↦ refl | Some s ↦ refl ]
 
-outcomes-push : (answered : List Answered) (now : Answered) → outcomes (answered ++ now ∷ []) ≡ outcomes answered ++ now.decided
+pub outcomes-push : (answered : List Answered) (now : Answered) → outcomes (answered ++ now ∷ []) ≡ outcomes answered ++ now.decided
 outcomes-push answered now = flat_map-append (λ (a : Answered). a.decided) answered (now ∷ []) ∙ ap (λ (ps : List Outcome). outcomes answered ++ ps) (append-nil now.decided)
 
 module _ (world : List Domain) where

@@ -12,7 +12,7 @@ use Rattle.sal_types.specs.Prefix.{is_prefix}
 use Rattle.sal_types.specs.Tree.{cell, has}
 use Rattle.sal_types.proofs.Prefixes.{is_prefix-append}
 use Rattle.sal_rows.specs.declared.op.Act.{Act}
-use Rattle.sal_rows.specs.declared.op.Act.TheVariants.{Put, Merge, Delete}
+use Rattle.sal_rows.specs.declared.op.Act.TheVariants.{Put, Merge, Delete, Read}
 use Rattle.sal_rows.specs.Apply.{act_setting, cell_by, rows_of_act}
 use Rattle.sal_rows.proofs.Untouched.{no_cell}
 use Rattle.sal_schema.specs.declared.table.SchemaTable.{SchemaTable}
@@ -23,7 +23,7 @@ use Rattle.sal_schema.specs.Valid.{IsTable}
 use Rattle.sal_rows.specs.Clash.{needs_parents}
 use Rattle.sal_history_laws.proofs.Fronts.{same_step, front_itself, front_through, either_front, front_of_more, last_step-end}
 use Rattle.sal_history_laws.proofs.Standing.{nothing, stands_below}
-use Rattle.sal_history_laws.proofs.Wholes.{Fits, AllFit, leafs_at, unmarked-whole, same_whole, more_whole, among-key}
+use Rattle.sal_history_laws.proofs.Wholes.{Fits, AllFit, AllFit-same, leafs_at, unmarked-whole, same_whole, more_whole, among-key}
 
 -- at each entry and presence container above a path something stands
 abbrev pub HasParents : SchemaTable → List Row → List Step → Type 0
@@ -55,6 +55,7 @@ setting_beside : (p : List Step) (act : Act) (r : List Step) (c : Option Cell) �
     → cell_by (act_setting p act r) c ≡ c
 setting_beside p (Put rows) r c lie beside = ap (λ b. cell_by (if b then Some (cell rows r) else None) c) beside
 setting_beside p Delete r c lie beside = ap (λ b. cell_by (if b then Some None else None) c) beside
+setting_beside p Read r c lie beside = refl
 setting_beside p (Merge rows) r c lie beside =
     elim (cell rows r) as (λ o. cell rows r ≡ o → cell_by (option_map Some o) c ≡ c) [
       | None ↦ λ e. refl
@@ -195,3 +196,4 @@ pub act_fits : (table : SchemaTable) (p : List Step) (act : Act) (before after :
 act_fits table p (Put rows) before after good allowed closed cells parents = put_fits table good p before after closed rows allowed cells (parents refl)
 act_fits table p (Merge rows) before after good allowed closed cells parents = merge_fits table good p before after closed rows allowed cells (parents refl)
 act_fits table p Delete before after good allowed closed cells parents = delete_fits table good p before after closed allowed cells
+act_fits table p Read before after good allowed closed cells parents = AllFit-same table [] before after cells closed

@@ -11,11 +11,11 @@ use Rattle.sal_rows.specs.declared.clash.Clash.{Clash}
 use Rattle.sal_rows.specs.declared.clash.Rules.{Rules}
 use Rattle.sal_rows.specs.declared.clash.Span.{Span}
 use Rattle.sal_rows.specs.declared.op.Act.{Act}
-use Rattle.sal_rows.specs.declared.op.Act.TheVariants.{Put, Merge, Delete}
+use Rattle.sal_rows.specs.declared.op.Act.TheVariants.{Put, Merge, Delete, Read}
 use Rattle.sal_rows.specs.declared.op.Op.{Op}
 use Rattle.sal_rows.specs.declared.outcome.ClashKind.TheVariants.{Deleted}
-use Rattle.sal_rows.specs.Apply.{same_store, last_setting, cell_by, apply_ops, rows_of_act}
-use Rattle.sal_rows.specs.Clash.{clash_from, leaf_clash, op_clash, parent_clash, path_clash, lost_parent, is_lost, tip, last_touch_over}
+use Rattle.sal_rows.specs.Apply.{same_store, is_read, last_setting, cell_by, apply_ops, rows_of_act}
+use Rattle.sal_rows.specs.Clash.{clash_from, leaf_clash, op_clash, parent_clash, path_clash, lost_parent, is_lost, reads_from, tip, last_touch_over}
 use Rattle.sal_rows.specs.Clash.{needs_parents}
 use Rattle.sal_rows.proofs.Applied.{cell-apply_ops, IsAscending-apply_ops}
 use Rattle.sal_schema.specs.declared.table.SchemaTable.{SchemaTable}
@@ -30,7 +30,7 @@ use Rattle.sal_history_laws.specs.Laws.{LawfulKeepsClosed, WithoutConflictStaysC
 use Rattle.sal_history_laws.specs.Lawful.{AreLawful}
 use Rattle.sal_history_laws.proofs.Acts.{HasParents, IsAllowed, act_fits}
 use Rattle.sal_history_laws.proofs.Fronts.{none_above, none_by_depth, front_itself}
-use Rattle.sal_history_laws.proofs.Standing.{some_there, stands_below, has_where, same_stores, cell-mine, apply-other}
+use Rattle.sal_history_laws.proofs.Standing.{some_there, stands_below, has_where, same_stores, cell-mine, apply-other, apply-read}
 use Rattle.sal_history_laws.proofs.Wholes.{AllFit, fits-AllFit, AllFit-fits, AllFit-same, whole-row}
 use Rattle.sal_rows.proofs.Quiet.{no_map}
 
@@ -88,6 +88,19 @@ module _ (table : SchemaTable) (tree : List Row) (op : Op) (allowed : refusal ta
     rows = fits-AllFit table op.path (rows_of_act op.act) right.rows;
   }
 
+-- what holds of an operation that is no read
+abbrev IsAllowedOver : SchemaTable → List Row → Op → Type 0
+IsAllowedOver table tree op = IsForSchema table op × (refusal table tree op ≡ None)
+
+-- after a read a tree is as it was, and what holds after each other operation holds after each
+module _ (table : SchemaTable) (tree : List Row) (s : Store) (earlier : List Op) (op : Op) (closed : AllFit table [] (apply_ops tree s earlier)) where
+  read-or : (is_read op.act ≡ false → AllFit table [] (apply_ops tree s (earlier ++ op ∷ []))) → AllFit table [] (apply_ops tree s (earlier ++ op ∷ []))
+  read-or written =
+      elim (is_read op.act) as (λ b. is_read op.act ≡ b → AllFit table [] (apply_ops tree s (earlier ++ op ∷ []))) [
+        | true ↦ λ reads. subst (AllFit table []) (sym (apply-read tree s earlier op reads)) closed
+        | false ↦ λ writes. written writes
+      ] refl
+
 -- ---- over the base
 
 module _ (table : SchemaTable) (good : IsTable table) (base : Store → List Row) (s : Store) where
@@ -103,11 +116,15 @@ module _ (table : SchemaTable) (good : IsTable table) (base : Store → List Row
         | false ↦ λ other. subst (AllFit table []) (sym (apply-other (base s) s earlier op other)) closed
       ] refl
 
+  base-next : (earlier : List Op) (op : Op) → (is_read op.act ≡ false → IsAllowedOver table (apply_ops (base op.store) op.store earlier) op) → AllFit table [] (apply_ops (base s) s earlier)
+      → AllFit table [] (apply_ops (base s) s (earlier ++ op ∷ []))
+  base-next earlier op lawful closed = read-or table (base s) s earlier op closed (λ writes. let (right, allowed) = lawful writes in base-more earlier op right allowed closed)
+
   base-all : (earlier ops : List Op) → AreLawful table base earlier ops → AllFit table [] (apply_ops (base s) s earlier) → AllFit table [] (apply_ops (base s) s (earlier ++ ops))
   base-all earlier [] lawful closed = subst (λ os. AllFit table [] (apply_ops (base s) s os)) (sym (append-nil earlier)) closed
   base-all earlier (op ∷ ops) lawful closed =
       subst (λ os. AllFit table [] (apply_ops (base s) s os)) (append_assoc earlier (op ∷ []) ops)
-      (base-all (earlier ++ op ∷ []) ops lawful.1 (base-more earlier op lawful.0.0 lawful.0.1 closed))
+      (base-all (earlier ++ op ∷ []) ops lawful.1 (base-next earlier op lawful.0 closed))
 
 -- no operation changes no cell
 none_applied : (table : SchemaTable) (tree : List Row) (s : Store) → fits table [] tree ≡ true → AllFit table [] (apply_ops tree s [])
@@ -164,6 +181,7 @@ module _ (table : SchemaTable) (good : IsTable table) (opening : Store → List 
       by (Put rows) needs e = e
       by (Merge rows) needs e = e
       by Delete needs e = cc
+      by Read needs e = cc
 
   -- one operation more
   newer-more : (rules : Rules) (spans : List Span) (earlier : List Op) (op : Op) → IsForSchema table op → refusal table (apply_ops (base op.store) op.store earlier) op ≡ None
@@ -187,9 +205,11 @@ module _ (table : SchemaTable) (good : IsTable table) (opening : Store → List 
       let here = none_first (op_clash opening commits rules base spans earlier op) (clash_from opening commits rules base spans (earlier ++ op ∷ []) ops) none in
       let rest = none_second (op_clash opening commits rules base spans earlier op) (clash_from opening commits rules base spans (earlier ++ op ∷ []) ops) none in
       subst (λ os. AllFit table [] (apply_ops (tip opening commits s) s os)) (append_assoc earlier (op ∷ []) ops)
-      (newer-all rules spans (earlier ++ op ∷ []) ops lawful.1 rest (base-more table good base s earlier op lawful.0.0 lawful.0.1 seen) (newer-more rules spans earlier op lawful.0.0 lawful.0.1 here seen closed))
+      (newer-all rules spans (earlier ++ op ∷ []) ops lawful.1 rest (base-next table good base s earlier op lawful.0 seen)
+      (read-or table (tip opening commits s) s earlier op closed (λ writes. let (right, allowed) = lawful.0 writes in newer-more rules spans earlier op right allowed here seen closed)))
 
 pub without_conflict_stays_closed : WithoutConflictStaysClosed
 without_conflict_stays_closed table opening commits rules base spans ops good closed newest lawful none s =
+    let writes = none_first (clash_from opening commits rules base spans [] ops) (reads_from opening commits spans [] ops) none in
     AllFit-fits table [] (apply_ops (tip opening commits s) s ops) (IsAscending-apply_ops (tip opening commits s) s ops)
-    (newer-all table good opening commits base s (fits-AllFit table [] (tip opening commits s) (newest s)) rules spans [] ops lawful none (none_applied table (base s) s (closed s)) (none_applied table (tip opening commits s) s (newest s)))
+    (newer-all table good opening commits base s (fits-AllFit table [] (tip opening commits s) (newest s)) rules spans [] ops lawful writes (none_applied table (base s) s (closed s)) (none_applied table (tip opening commits s) s (newest s)))

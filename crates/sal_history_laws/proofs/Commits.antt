@@ -1,8 +1,8 @@
 -- The trees of a log are closed, entry by entry.
-use Rattle.std.proofs.Common.{◌≡◌, ◌⊎◌, inl, inr, ℕ, zero, suc, ◌+◌, ◌-◌, ◌≤◌, Bool, true, false, List, [], ◌∷◌, ◌++◌, length, map, take, Option, None, Some, refl, ap, sym, ◌∙◌, subst, arith, append-nil, append_assoc, length-append, if◌then◌else◌}
-use Rattle.std.specs.Prelude.{not, ◌&&◌, slice_get, unwrap_or, option_and_then, nat_eq, IsTrue}
-use Rattle.std.specs.List.{cons_option, fold, position_from}
-use Rattle.std.specs.Option.{option_or, option_map, option_to_list}
+use Rattle.std.proofs.Common.{◌≡◌, ◌⊎◌, inl, inr, ℕ, zero, suc, ◌+◌, ◌-◌, ◌≤◌, Bool, List, [], ◌∷◌, ◌++◌, length, map, take, Option, None, Some, refl, ap, sym, ◌∙◌, subst, arith, append-nil, append_assoc, length-append, if◌then◌else◌}
+use Rattle.std.specs.Prelude.{slice_get, unwrap_or, option_and_then, nat_eq, IsTrue}
+use Rattle.std.specs.List.{cons_option, fold}
+use Rattle.std.specs.Option.{option_to_list}
 use Rattle.std.proofs.lemmas.Bool.{cases_lt, cond_both, eqb-true}
 use Rattle.std.proofs.lemmas.Grind.{flat_map-append}
 use Rattle.std.proofs.lemmas.List.{map-append, take_all, take-append-le}
@@ -10,20 +10,15 @@ use Rattle.std.proofs.lemmas.List.Elements.{filter_map-append}
 use Rattle.std.proofs.lemmas.List.Sums.{fold-append}
 use Rattle.std.proofs.lemmas.Option.{none-some, same_Some, option_and_then_some, slice_get_within}
 use Rattle.sal_types.specs.declared.value.Store.{Store}
-use Rattle.sal_types.specs.declared.value.Store.TheVariants.{Config, Oper}
 use Rattle.sal_types.specs.declared.row.Row.{Row}
 use Rattle.sal_types.proofs.Lists.{last_or_before}
-use Rattle.sal_rows.specs.declared.clash.Clash.{Clash}
-use Rattle.sal_rows.specs.declared.clash.Rules.{Rules}
-use Rattle.sal_rows.specs.declared.clash.Span.{Span}
 use Rattle.sal_rows.specs.declared.op.Op.{Op}
 use Rattle.sal_rows.specs.declared.outcome.CallFault.{CallFault}
 use Rattle.sal_rows.specs.declared.outcome.CallFault.TheVariants.{NoDomain}
 use Rattle.sal_rows.specs.declared.outcome.Outcome.{Outcome}
-use Rattle.sal_rows.specs.declared.outcome.Outcome.TheVariants.{ChainFailed as FailedBy, Done}
-use Rattle.sal_rows.specs.Apply.{apply_ops, checks_path, rows_of_act}
-use Rattle.sal_rows.specs.Clash.{at_row, checks_leafs, clash, clash_from, is_stale, leaf_clash, op_clash, parent_clash, path_clash, lost_parent, tip, needs_parents}
-use Rattle.sal_rows.specs.PathClash.{difference, is_covered}
+use Rattle.sal_rows.specs.declared.outcome.Outcome.TheVariants.{Done}
+use Rattle.sal_rows.specs.Apply.{apply_ops}
+use Rattle.sal_rows.specs.Clash.{tip}
 use Rattle.sal_rows.specs.Commits.{next_tree, tree_after}
 use Rattle.sal_rows.specs.Spans.{spans}
 use Rattle.sal_schema.specs.Fitting.{is_closed}
@@ -35,20 +30,18 @@ use Rattle.sal_history.specs.declared.call.Entry.{Entry}
 use Rattle.sal_history.specs.declared.reply.Reply.{Reply}
 use Rattle.sal_history.specs.declared.reply.Reply.TheVariants.{Begun, Receipt, Refused}
 use Rattle.sal_history.specs.Answered.{Answered}
-use Rattle.sal_history.specs.History.{answer, answered_as, base_on, began_at, began_by, chain_refusal, chained_base, commits, decide_front, decide_next, decided_by, domain_of, is_live, newest_base, nowhere, outcome, outcomes, refused_or, history, reply_to, sent_by, sents, stands_on, trees_of, unmounted_of}
-use Rattle.sal_history.specs.Outcome.{conflict_of, decide, invalid}
-use Rattle.sal_history.specs.Submissions.{Base, Sent, done, done_chains, done_ops, failing, if_done, is_done}
+use Rattle.sal_history.specs.History.{answer, answered_as, base_on, began_at, began_by, chain_refusal, chained_base, commits, decide_front, decide_next, decided_by, domain_of, is_live, newest_base, nowhere, outcome, outcomes, refused_or, history, reply_to, sent_by, sents, stands_on, trees_of}
+use Rattle.sal_history.specs.Submissions.{Base, Sent, done, done_chains, done_ops, if_done, is_done}
 use Rattle.sal_history.specs.Versions.{schema_version, tables_now}
 use Rattle.sal_history.specs.World.{Domain, opening_of, rules_of, table_of}
 use Rattle.sal_history_laws.specs.Laws.{LogsStayClosed}
 use Rattle.sal_history_laws.specs.Lawful.{AreClosed, AreLawful}
 use Rattle.sal_history_laws.specs.Logs.{IsSentLawful}
 use Rattle.sal_history_laws.proofs.Versions.{opening_by, table_is}
-use Rattle.sal_history_laws.proofs.Closing.{lawful_keeps_closed, lost_clash, without_conflict_stays_closed}
-use Rattle.sal_history.proofs.Decisions.{clashing}
+use Rattle.sal_history_laws.proofs.Conflicts.{done-quiet}
+use Rattle.sal_history_laws.proofs.Closing.{lawful_keeps_closed, without_conflict_stays_closed}
 use Rattle.sal_history.proofs.Unbroken.{done_is}
 use Rattle.sal_history.proofs.Waiting.{added, done_none}
-use Rattle.sal_rows.proofs.Named.{path_found}
 
 -- ---- lists
 
@@ -77,64 +70,6 @@ done-next domain (t ∷ ss) s [] o at =
     ap (λ (ds : List Sent). added domain t o ++ ds) (done_none domain ss) ∙ append-nil (added domain t o) ∙ ap (λ (x : Sent). added domain x o) (same_Some t s at)
 done-next domain (t ∷ ss) s (p ∷ os) o at =
     ap (λ (ds : List Sent). added domain t p ++ ds) (done-next domain ss s os o at) ∙ sym (append_assoc (added domain t p) (done domain ss os) (added domain s o))
-
--- ---- a decision that is done has no conflict
-
--- a conflict is of one of the operations
-abbrev IsAt : ℕ → Option Clash → Type 0
-IsAt n o = (c : Clash) → o ≡ Some c → c.op ≡ n
-
-at_map : {X : Type 0} (n : ℕ) (f : X → Clash) (o : Option X) → ((x : X) → (f x).op ≡ n) → IsAt n (option_map f o)
-at_map n f None at c e = absurd (none-some c e)
-at_map n f (Some x) at c e = ap (λ (d : Clash). d.op) (sym (same_Some (f x) c e)) ∙ at x
-
-at_if : (n : ℕ) (b : Bool) (o : Option Clash) → IsAt n o → IsAt n (if b then o else None)
-at_if n true o at = at
-at_if n false o at = λ c e. absurd (none-some c e)
-
-at_or : (n : ℕ) (a b : Option Clash) → IsAt n a → IsAt n b → IsAt n (option_or a b)
-at_or n None b first second = second
-at_or n (Some x) b first second = first
-
-slice_get-seam : {X : Type 0} (xs ys : List X) (y : X) → slice_get (xs ++ y ∷ ys) (length xs) ≡ Some y
-slice_get-seam [] ys y = refl
-slice_get-seam (x ∷ xs) ys y = slice_get-seam xs ys y
-
-module _ (opening : Store → List Row) (cs : List (List Op)) (rules : Rules) (base : Store → List Row) (pieces : List Span) where
-  at_op : (earlier : List Op) (op : Op) → IsAt (length earlier) (op_clash opening cs rules base pieces earlier op)
-  at_op earlier op =
-      at_or (length earlier) (parent_clash opening cs base pieces earlier op) (option_or (path_clash opening cs pieces earlier op) (leaf_clash opening cs rules base pieces earlier op))
-      (at_if (length earlier) (needs_parents op.act) (option_map (lost_clash opening cs pieces earlier op) (lost_parent opening cs base earlier op.store op.path))
-      (at_map (length earlier) (lost_clash opening cs pieces earlier op) (lost_parent opening cs base earlier op.store op.path) (λ d. refl)))
-      (at_or (length earlier) (path_clash opening cs pieces earlier op) (leaf_clash opening cs rules base pieces earlier op)
-      (at_if (length earlier) (checks_path op.act && not (is_covered earlier op.store op.path)) (option_map (path_found earlier op) (difference opening cs op.store pieces op.path))
-      (at_map (length earlier) (path_found earlier op) (difference opening cs op.store pieces op.path) (λ x. refl)))
-      (at_if (length earlier) (checks_leafs rules op.act && not (is_covered earlier op.store op.path)) (option_map (at_row opening cs base pieces earlier op) (position_from (is_stale opening cs base pieces op.store) 0 (rows_of_act op.act)))
-      (at_map (length earlier) (at_row opening cs base pieces earlier op) (position_from (is_stale opening cs base pieces op.store) 0 (rows_of_act op.act)) (λ x. refl))))
-
-  op_there : (earlier ops : List Op) (c : Clash) → clash_from opening cs rules base pieces earlier ops ≡ Some c → (op : Op) × (slice_get (earlier ++ ops) c.op ≡ Some op)
-  op_there earlier [] c e = absurd (none-some c e)
-  op_there earlier (op ∷ ops) c e =
-      elim (op_clash opening cs rules base pieces earlier op) as (λ (o : Option Clash). op_clash opening cs rules base pieces earlier op ≡ o → option_or o (clash_from opening cs rules base pieces (earlier ++ op ∷ []) ops) ≡ Some c → (x : Op) × (slice_get (earlier ++ op ∷ ops) c.op ≡ Some x)) [
-        | None ↦ λ none h.
-            let (x, there) = op_there (earlier ++ op ∷ []) ops c h in
-            (x, ap (λ (l : List Op). slice_get l c.op) (sym (append_assoc earlier (op ∷ []) ops)) ∙ there)
-        | Some d ↦ λ some h. (op, ap (slice_get (earlier ++ op ∷ ops)) (at_op earlier op c (some ∙ h)) ∙ slice_get-seam earlier ops op)
-      ] refl e
-
-no_clash : (ops : List Op) (o : Option Clash) (rest : Option Outcome) (n commit : ℕ) → ((c : Clash) → o ≡ Some c → (op : Op) × (slice_get ops c.op ≡ Some op))
-    → unwrap_or (option_or (clashing ops o) rest) (Done n) ≡ Done commit → o ≡ None
-no_clash ops None rest n commit there e = refl
-no_clash ops (Some c) rest n commit there e =
-    let (op, at) = there c refl in
-    let no : conflict_of c op ≡ Done commit = ap (λ (x : Option Op). unwrap_or (option_or (option_map (conflict_of c) x) rest) (Done n)) (sym at) ∙ e in
-    cc
-
--- what is done was decided in itself
-in_itself : (o : Option ℕ) (live : Bool) (domain : ℕ) (d : Outcome) (commit : ℕ) → unwrap_or (option_or (option_map FailedBy o) (unmounted_of live domain)) d ≡ Done commit → d ≡ Done commit
-in_itself None true domain d commit e = e
-in_itself None false domain d commit e = cc
-in_itself (Some n) live domain d commit e = cc
 
 -- ---- decisions
 
@@ -182,11 +117,7 @@ module _ (world : List Domain) (tables : ℕ → SchemaTable) (are_tables : (dom
         let cs = done_ops domain ss os in
         let pieces = spans s.base.commit s.base.chain (done_chains domain ss os) in
         let rules = rules_of world domain in
-        let here : decide (by domain) opening cs rules s.base.trees pieces s.ops ≡ Done commit =
-        in_itself (failing s.base.chain ss os) (live domain) domain (decide (by domain) opening cs rules s.base.trees pieces s.ops) commit e in
-        let none : clash opening cs rules s.base.trees pieces s.ops ≡ None =
-        no_clash s.ops (clash opening cs rules s.base.trees pieces s.ops) (option_or (invalid (by domain) opening cs Config s.ops) (invalid (by domain) opening cs Oper s.ops)) (length cs + 1) commit (op_there opening cs rules s.base.trees pieces [] s.ops) here in
-        without_conflict_stays_closed (tables domain) opening cs rules s.base.trees pieces s.ops (are_tables domain) lawful.0 (newest domain cs all) lawful.1 none
+        without_conflict_stays_closed (tables domain) opening cs rules s.base.trees pieces s.ops (are_tables domain) lawful.0 (newest domain cs all) lawful.1 (done-quiet world by live ss os s commit e)
 
     more-closed : IsLawful s → slice_get ss (length os) ≡ Some s → AreClosedAll ss os → AreClosedAll ss (os ++ outcome world by live ss os s ∷ [])
     more-closed lawful next all domain =

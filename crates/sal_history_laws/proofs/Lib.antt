@@ -1,9 +1,14 @@
 pub mod Acts
 pub mod Closing
 pub mod Commits
+pub mod Conflicts
+pub mod Decided
 pub mod Fronts
 pub mod Leafs
 pub mod Owning
+pub mod Plays
+pub mod Readings
+pub mod Snapshots
 pub mod Standing
 pub mod Versions
 pub mod Wholes

@@ -14,8 +14,10 @@ use Rattle.sal_types.specs.Order.{path_cmp, path_eq}
 use Rattle.sal_types.specs.Prefix.{is_prefix}
 use Rattle.sal_types.specs.Tree.{entries, cell, has, IsAscending}
 use Rattle.sal_types.proofs.Trees.{same_tree}
+use Rattle.sal_rows.specs.declared.op.Act.{Act}
+use Rattle.sal_rows.specs.declared.op.Act.TheVariants.{Put, Merge, Delete, Read}
 use Rattle.sal_rows.specs.declared.op.Op.{Op}
-use Rattle.sal_rows.specs.Apply.{same_store, act_setting, cell_by, setting, apply_ops}
+use Rattle.sal_rows.specs.Apply.{same_store, act_setting, cell_by, is_read, setting, apply_ops}
 use Rattle.sal_rows.proofs.Applied.{cell_after_push, cell-apply_ops, IsAscending-apply_ops, setting-same, setting-other}
 use Rattle.sal_rows.proofs.Cells.{same_path, path_eq-itself, cell_before}
 use Rattle.sal_rows.proofs.Untouched.{no_cell}
@@ -86,6 +88,21 @@ cell-next tree s ops op r = cell-apply_ops tree s (ops ++ op ∷ []) r ∙ cell_
 
 pub cell-mine : (tree : List Row) (s : Store) (ops : List Op) (op : Op) → same_store op.store s ≡ true → (r : List Step) → cell (apply_ops tree s (ops ++ op ∷ [])) r ≡ cell_by (act_setting op.path op.act r) (cell (apply_ops tree s ops) r)
 cell-mine tree s ops op mine r = cell-next tree s ops op r ∙ ap (λ x. cell_by x (cell (apply_ops tree s ops) r)) (setting-same s op r mine)
+
+-- a read sets nothing
+pub setting-read : (s : Store) (op : Op) (r : List Step) → is_read op.act ≡ true → setting s op r ≡ None
+setting-read s op r reads = elim (same_store op.store s) as (λ b. (if b then act_setting op.path op.act r else None) ≡ None) [ true ↦ by op.act reads | false ↦ refl ]
+  where
+    by : (act : Act) → is_read act ≡ true → act_setting op.path act r ≡ None
+    by (Put rows) e = cc
+    by (Merge rows) e = cc
+    by Delete e = cc
+    by Read e = refl
+
+pub apply-read : (tree : List Row) (s : Store) (ops : List Op) (op : Op) → is_read op.act ≡ true → apply_ops tree s (ops ++ op ∷ []) ≡ apply_ops tree s ops
+apply-read tree s ops op reads =
+    same_tree (apply_ops tree s (ops ++ op ∷ [])) (apply_ops tree s ops) (IsAscending-apply_ops tree s (ops ++ op ∷ [])) (IsAscending-apply_ops tree s ops)
+    (λ r. cell-next tree s ops op r ∙ ap (λ x. cell_by x (cell (apply_ops tree s ops) r)) (setting-read s op r reads))
 
 pub apply-other : (tree : List Row) (s : Store) (ops : List Op) (op : Op) → same_store op.store s ≡ false → apply_ops tree s (ops ++ op ∷ []) ≡ apply_ops tree s ops
 apply-other tree s ops op other =

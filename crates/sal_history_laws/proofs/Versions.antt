@@ -43,10 +43,9 @@ opening_is (d ∷ world) (suc n) sound s = opening_is world n (λ k e at. sound 
 pub lawful_stays : LawfulStays
 lawful_stays newer older base earlier [] good extends lawful = tt
 lawful_stays newer older base earlier (op ∷ ops) good extends lawful = (
-  (
-    operations_stay newer older op good extends lawful.0.0,
-    refusals_stay newer older (apply_ops (base op.store) op.store earlier) op good extends lawful.0.0 ∙ lawful.0.1,
-  ),
+  λ writes.
+      let (right, allowed) = lawful.0 writes in
+      (operations_stay newer older op good extends right, refusals_stay newer older (apply_ops (base op.store) op.store earlier) op good extends right ∙ allowed),
   lawful_stays newer older base (earlier ++ op ∷ []) ops good extends lawful.1,
 )
 

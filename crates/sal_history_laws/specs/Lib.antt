@@ -1,3 +1,5 @@
 pub mod Laws
 pub mod Lawful
 pub mod Logs
+pub mod Serial
+pub mod SerialLaws

@@ -1,8 +1,10 @@
-//! Trees stay closed by their schema: what transactions that were not refused make of closed trees is closed.
+//! Laws of whole logs. Trees stay closed by their schema: what transactions that were not refused make of closed trees is closed. And
+//! runs with checked reads are serialisable.
 //!
 //! | item | what it is |
 //! |---|---|
-//! | `laws` | functions that do nothing, each with a law of the definitions as its contract |
+//! | `laws` | functions that do nothing, each with a law of closed trees as its contract |
+//! | `serial` | the same, with the laws of checked reads |
 //!
 //! A tree is closed by a table (`is_closed` in `crates/sal_schema/specs/Fitting.antt`) where the path and the cell of each row
 //! fit, no row is part of an RPC or a notification, each list entry and presence container above a row has its own row, and
@@ -16,7 +18,12 @@
 //! A transaction is checked over its base, and done to the newest trees, in which a parent of one of its paths may be gone. So
 //! the second law rests on the first test of a conflict, which looks for parents that are lost.
 //!
+//! A log is serialisable (`specs/Serial`) where its transactions that were done, played one after another in the order of their
+//! commits, read what they read in the log and leave the same trees. Each log is, as far as reads were recorded among the operations,
+//! and in mode `Checked` each read is. A transaction that only reads and began on no pending submission reads the trees at one commit.
+//!
 //! Costs: none, since nothing here runs.
 #![tactic(auto)]
 
 pub mod laws;
+pub mod serial;

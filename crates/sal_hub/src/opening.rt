@@ -7,13 +7,13 @@ use thiserror::Error;
 #[derive(Debug, Drop, Error)]
 pub enum OpenFault {
     /// The configuration has state data; the path is that of the first row of a state node.
-    #[error("state data in a configuration")]
+    #[error("state data in the configuration of device {device}")]
     NotConfig {
         device: u32,
         path: Path,
     },
     /// A tree breaks a structural rule.
-    #[error("a structural rule is broken")]
+    #[error("a tree of device {device} breaks a structural rule")]
     Broken {
         device: u32,
         store: Store,

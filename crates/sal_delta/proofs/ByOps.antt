@@ -13,7 +13,7 @@ use Rattle.sal_types.specs.contracts.value.CellOrd.TheImpl.Laws as cell_ord_laws
 use Rattle.sal_types.specs.Prefix.{is_prefix}
 use Rattle.sal_types.specs.Tree.{cell, under, IsAscending}
 use Rattle.sal_rows.specs.declared.op.Act.{Act}
-use Rattle.sal_rows.specs.declared.op.Act.TheVariants.{Put, Merge, Delete}
+use Rattle.sal_rows.specs.declared.op.Act.TheVariants.{Put, Merge, Delete, Read}
 use Rattle.sal_rows.specs.declared.op.Op.{Op}
 use Rattle.sal_rows.specs.declared.change.Change.{Change}
 use Rattle.sal_rows.specs.Apply.{same_store, act_setting, setting, last_setting, cell_by, apply_ops}
@@ -182,6 +182,7 @@ says_act : (b a : List Row) (p q r : List Step) (act : Act) â†’ IsAscending b â†
 says_act b a p q r (Put rows) g h = says-weaker (is_prefix q r) _ (wanted b a p r) _ (says_below b a p q r g h) (set_by (is_prefix q r) (cell rows r))
 says_act b a p q r (Merge rows) g h = says-weaker (is_some (cell rows r)) _ (wanted b a p r) _ (says_rows b a p r rows) (set_by_row (cell rows r))
 says_act b a p q r Delete g h = says-weaker (is_prefix q r) _ (wanted b a p r) _ (says_below b a p q r g h) (set_by (is_prefix q r) None)
+says_act b a p q r Read g h = says_nothing (wanted b a p r)
 
 -- ---- all of them
 

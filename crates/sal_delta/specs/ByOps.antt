@@ -7,7 +7,7 @@ use Rattle.sal_types.specs.declared.row.Row.{Row}
 use Rattle.sal_types.specs.Prefix.{is_prefix}
 use Rattle.sal_types.specs.Tree.{cell}
 use Rattle.sal_rows.specs.declared.op.Act.{Act}
-use Rattle.sal_rows.specs.declared.op.Act.TheVariants.{Put, Merge, Delete}
+use Rattle.sal_rows.specs.declared.op.Act.TheVariants.{Put, Merge, Delete, Read}
 use Rattle.sal_rows.specs.declared.op.Op.{Op}
 use Rattle.sal_rows.specs.declared.change.Change.{Change}
 use Rattle.sal_rows.specs.Apply.{same_store}
@@ -37,6 +37,7 @@ abbrev pub found_by : List Row → List Row → List Step → List Step → Act 
 found_by before after p q (Put rows) = found_below before after p q
 found_by before after p q (Merge rows) = found_at_rows before after p rows
 found_by before after p q Delete = found_below before after p q
+found_by before after p q Read = []
 
 -- by an operation, if it is of the store
 abbrev pub found_of_op : List Row → List Row → Store → List Step → Op → List Change

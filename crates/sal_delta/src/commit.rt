@@ -84,6 +84,7 @@ fn add_by(
         Act::Put(_) => add_below(into, commit, &op.path, path),
         Act::Merge(rows) => add_at_rows(into, commit, rows.items(), path),
         Act::Delete => add_below(into, commit, &op.path, path),
+        Act::Read => Ok(()),
     }
 }
 

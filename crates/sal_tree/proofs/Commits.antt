@@ -13,7 +13,7 @@ use Rattle.sal_types.proofs.Prefixes.{IsPrefix-from_test}
 use Rattle.sal_types.specs.Tree.{cell, has, under, IsAscending}
 use Rattle.sal_types.proofs.Trees.{same_tree}
 use Rattle.sal_rows.specs.declared.op.Act.{Act}
-use Rattle.sal_rows.specs.declared.op.Act.TheVariants.{Put, Merge, Delete}
+use Rattle.sal_rows.specs.declared.op.Act.TheVariants.{Put, Merge, Delete, Read}
 use Rattle.sal_rows.specs.declared.op.Op.{Op}
 use Rattle.sal_rows.specs.Apply.{act_setting, cell_by, cell_after, apply_ops, rows_of_act, same_store, setting, last_setting}
 use Rattle.sal_rows.specs.Touch.{op_touches, touches}
@@ -38,6 +38,7 @@ pub sound-act : (s : ℕ) (t : Tree) (p : List Step) (act : Act) → IsGrove t.k
 sound-act s t p (Put rows) h = sound-with_rows s (under rows p) (without s t p) (sound-without s t p h)
 sound-act s t p (Merge rows) h = sound-with_rows s rows t h
 sound-act s t p Delete h = sound-without s t p h
+sound-act s t p Read h = h
 
 pub sound-edit : (s : ℕ) (store : Store) (t : Tree) (op : Op) → IsGrove t.kids → IsGrove (edit s store t op).kids
 sound-edit s store t op h = elim (same_store op.store store) as (λ b. IsGrove (if b then edit_by s t op.path op.act else t).kids) [ true ↦ sound-act s t op.path op.act h | false ↦ h ]
@@ -59,6 +60,7 @@ pub cell-act : (s : ℕ) (t : Tree) (p : List Step) (act : Act) (r : List Step) 
 cell-act s t p (Put rows) r h g = ap (λ l. cell l r) (rows-put_rows s t p rows h) ∙ cell-put p rows (rows_of t) r g
 cell-act s t p (Merge rows) r h g = ap (λ l. cell l r) (rows-with_rows s rows t h) ∙ cell-merge p rows (rows_of t) r g
 cell-act s t p Delete r h g = ap (λ l. cell l r) (rows-without s t p h) ∙ cell-delete p (rows_of t) r
+cell-act s t p Read r h g = refl
 
 cell-edit : (s : ℕ) (store : Store) (t : Tree) (op : Op) (r : List Step) → IsGrove t.kids → AreRows op.act → cell (rows_of (edit s store t op)) r ≡ cell_by (setting store op r) (cell (rows_of t) r)
 cell-edit s store t op r h g = elim (same_store op.store store) as (λ b. cell (rows_of (if b then edit_by s t op.path op.act else t)) r ≡ cell_by (if b then act_setting op.path op.act r else None) (cell (rows_of t) r)) [ true ↦ cell-act s t op.path op.act r h g | false ↦ refl ]

@@ -10,7 +10,7 @@ use Rattle.sal_types.specs.Order.{path_eq}
 use Rattle.sal_types.specs.Prefix.{is_prefix}
 use Rattle.sal_types.specs.Tree.{cell, has, under}
 use Rattle.sal_rows.specs.declared.op.Act.{Act}
-use Rattle.sal_rows.specs.declared.op.Act.TheVariants.{Put, Merge, Delete}
+use Rattle.sal_rows.specs.declared.op.Act.TheVariants.{Put, Merge, Delete, Read}
 use Rattle.sal_rows.specs.Apply.{act_setting}
 use Rattle.sal_rows.proofs.Cells.{same_path}
 use Rattle.sal_node.specs.Tree.{Tree, IsGrove}
@@ -20,7 +20,7 @@ use Rattle.sal_tree.specs.Edit.{edit_by}
 use Rattle.sal_tree.specs.Touched.{act_touches}
 use Rattle.sal_tree.proofs.Laws.{eq, same, self_tie}
 use Rattle.sal_tree.proofs.Cells.{has-rows_of}
-use Rattle.sal_tree.proofs.Follows.{Follows-by}
+use Rattle.sal_tree.proofs.Follows.{Follows-by, Follows-same}
 use Rattle.sal_tree.proofs.Edited.{clears, Follows-without, Follows-rows, Follows-put}
 use Rattle.sal_rows.proofs.Numbers.{or_swap}
 
@@ -130,6 +130,12 @@ abbrev pub IsLawful : List Step → Act → Type 0
 IsLawful p (Put rows) = under rows p ≡ rows
 IsLawful p (Merge rows) = Unit {0}
 IsLawful p Delete = Unit {0}
+IsLawful p Read = Unit {0}
+
+-- a read touches nothing
+pub read-touches : (before : List Row) (p q : List Step) → act_touches before p Read q ≡ false
+read-touches [] p q = refl
+read-touches (row ∷ before) p q = elim (is_prefix q row.path) as (λ b. ((b && false) || act_touches before p Read q) ≡ false) [ true ↦ read-touches before p q | false ↦ read-touches before p q ]
 
 -- an edit stamps what its operation touches, and nothing else
 pub Follows-act : (s : ℕ) (t : Tree) (p : List Step) (act : Act) → IsGrove t.kids → IsLawful p act → Follows (exactly s) (act_touches (rows_of t) p act) t (edit_by s t p act)
@@ -138,3 +144,4 @@ Follows-act s t p (Put rows) h lawful = Follows-by (exactly s) (λ q. clears p t
     ∙ or_swap (list_any (λ row. is_prefix q row.path && is_some (act_setting p (Put rows) row.path)) (rows_of t)) (has rows q)) (Follows-put s t p rows h)
 Follows-act s t p (Merge rows) h lawful = Follows-by (exactly s) (has rows) (act_touches (rows_of t) p (Merge rows)) t _ (λ q. sym (absorbed rows (rows_of t) q)) (Follows-rows s rows t h)
 Follows-act s t p Delete h lawful = Follows-by (exactly s) (clears p t) (act_touches (rows_of t) p Delete) t _ (λ q. clears-any t p q (λ r. act_setting p Delete r) (λ r. set_by_delete (is_prefix p r)) h) (Follows-without s t p h)
+Follows-act s t p Read h lawful = Follows-by (exactly s) (λ q. false) (act_touches (rows_of t) p Read) t t (λ q. sym (read-touches (rows_of t) p q)) (Follows-same (exactly s) t)

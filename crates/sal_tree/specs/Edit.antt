@@ -7,7 +7,7 @@ use Rattle.sal_types.specs.declared.row.Row.{Row}
 use Rattle.sal_types.specs.Tree.{under}
 use Rattle.sal_types.specs.declared.value.Store.{Store}
 use Rattle.sal_rows.specs.declared.op.Act.{Act}
-use Rattle.sal_rows.specs.declared.op.Act.TheVariants.{Put, Merge, Delete}
+use Rattle.sal_rows.specs.declared.op.Act.TheVariants.{Put, Merge, Delete, Read}
 use Rattle.sal_rows.specs.declared.op.Op.{Op}
 use Rattle.sal_rows.specs.Apply.{same_store}
 use Rattle.sal_node.specs.Tree.{Tree, Forest, bare}
@@ -40,6 +40,7 @@ abbrev pub edit_by : ℕ → Tree → List Step → Act → Tree
 edit_by s t p (Put rows) = put_rows s t p rows
 edit_by s t p (Merge rows) = with_rows s t rows
 edit_by s t p Delete = without s t p
+edit_by s t p Read = t
 
 abbrev pub edit : ℕ → Store → Tree → Op → Tree
 edit s store t op = if same_store op.store store then edit_by s t op.path op.act else t

@@ -35,7 +35,8 @@ impl Duplicate for Pair {
 /// A commit of a domain: its number, the receipt that it was made for, the chain of its transaction, the operations of
 /// that, and the trees after it.
 ///
-/// Commit 0 is the opening: it has the receipt 0, no chain and no operations.
+/// Commit 0 is the opening: it has no chain and no operations. Its receipt is 0, and in a later epoch that of the commit with which
+/// the one before ended.
 #[derive(Drop)]
 pub struct Commit {
     pub number: u64,

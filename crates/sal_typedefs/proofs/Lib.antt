@@ -11,6 +11,7 @@ pub mod SpotLists
 pub mod IdentityNumbers
 pub mod PathLists
 pub mod PlainTypes
+pub mod WholeTypes
 pub mod PositionLists
 pub mod Pigeonhole
 pub mod EnumLists

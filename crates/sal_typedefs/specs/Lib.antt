@@ -10,6 +10,7 @@ pub mod Entries
 pub mod Patterns
 pub mod Restrictions
 pub mod Types
+pub mod Whole
 pub mod Judgements
 pub mod Runs
 pub mod Examples

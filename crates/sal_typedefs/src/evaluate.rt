@@ -14,6 +14,7 @@ use crate::site_judge::judge_one;
 use crate::spot::Spot;
 use crate::typedefs::Typedefs;
 use crate::walk::{Gone, Way, next, start};
+use crate::whole::whole_builtin;
 use sal_module::Found;
 use sal_restrict::YangType;
 use sal_stmt::Stmt;
@@ -101,11 +102,8 @@ fn gone<'x, 'a>(
     all_left(&mut ways, alloc, typedefs)
 }
 
-/// The least fault in a `type` statement and in those that it rests on, names apart, and its type where there is none.
-///
-/// The statement stands in these blocks, from the module inwards. It takes time linear in the statements that it rests on,
-/// with the logarithm of a block's typedefs for each, and where it lists names their number squared.
-pub fn judge_at<'x, 'a>(
+/// What `judge_at` answers, by way of all statements that this one rests on.
+fn judge_by_way<'x, 'a>(
     alloc: Global,
     typedefs: &'x Typedefs<'a>,
     number: u32,
@@ -121,5 +119,48 @@ pub fn judge_at<'x, 'a>(
     match done.pop() {
         None => unreachable!(),
         Some(judgement) => Ok((judgement.fault, judgement.ty)),
+    }
+}
+
+/// The least fault in a `type` statement and in those that it rests on, names apart, and its type where there is none.
+///
+/// The statement stands in these blocks, from the module inwards. It takes time linear in the statements that it rests on,
+/// with the logarithm of a block's typedefs for each, and where it lists names their number squared. A statement that names
+/// a built-in type and says nothing more takes no more than that name.
+pub fn judge_at<'x, 'a>(
+    alloc: Global,
+    typedefs: &'x Typedefs<'a>,
+    number: u32,
+    around: &'x [Block<'a>],
+    stmt: &'a Stmt,
+) -> Result<(Option<Found>, YangType), NoMemory>
+    ensures fault { IfOk result (λ j. j.0 ≡ least None (judgement typedefs.now (site_in number around.now stmt.now)).faults) }
+    ensures meant { IfOk result (λ j. j.0 ≡ None → j.1 ≡ (judgement typedefs.now (site_in number around.now stmt.now)).type) }
+{
+    match whole_builtin(stmt) {
+        None => judge_by_way(alloc, typedefs, number, around, stmt),
+        Some(builtin) => {
+            let ty = builtin.bare(alloc)?;
+            Ok((None, ty))
+        }
+    }
+}
+
+/// The fault of `judge_at` alone: its type is not made where the name says all.
+pub fn other_fault_at<'x, 'a>(
+    alloc: Global,
+    typedefs: &'x Typedefs<'a>,
+    number: u32,
+    around: &'x [Block<'a>],
+    stmt: &'a Stmt,
+) -> Result<Option<Found>, NoMemory>
+    ensures { IfOk result (λ found. found ≡ least None (judgement typedefs.now (site_in number around.now stmt.now)).faults) }
+{
+    match whole_builtin(stmt) {
+        None => {
+            let (found, _ty) = judge_by_way(alloc, typedefs, number, around, stmt)?;
+            Ok(found)
+        }
+        Some(_builtin) => Ok(None),
     }
 }

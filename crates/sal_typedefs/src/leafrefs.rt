@@ -8,6 +8,7 @@ use crate::block::Block;
 use crate::spot::Spot;
 use crate::typedefs::Typedefs;
 use crate::walk::{next, start};
+use crate::whole::whole_builtin;
 use sal_module::argument_of;
 use sal_stmt::Stmt;
 use sal_types::{NoMemory, append};
@@ -38,12 +39,8 @@ fn push_leafref<'x, 'a>(all: &mut Vec<Leafref<'a>>, spot: &Spot<'x, 'a>) -> Resu
     Ok(())
 }
 
-/// The leafrefs among a `type` statement and those that it rests on, in the order in which these are gone to: each statement
-/// before those that it rests on.
-///
-/// The statement stands in these blocks, from the module inwards. It takes time linear in the statements that it rests on,
-/// with the logarithm of a block's typedefs for each.
-pub fn leafrefs_at<'x, 'a>(
+/// What `leafrefs_at` answers, by way of all statements that this one rests on.
+fn leafrefs_by_way<'x, 'a>(
     alloc: Global,
     typedefs: &'x Typedefs<'a>,
     number: u32,
@@ -59,4 +56,25 @@ pub fn leafrefs_at<'x, 'a>(
         push_leafref(&mut all, &gone.spot)?;
     }
     Ok(all)
+}
+
+/// The leafrefs among a `type` statement and those that it rests on, in the order in which these are gone to: each statement
+/// before those that it rests on.
+///
+/// The statement stands in these blocks, from the module inwards. It takes time linear in the statements that it rests on,
+/// with the logarithm of a block's typedefs for each. A statement that names a built-in type
+/// and says nothing more takes no more than that name.
+pub fn leafrefs_at<'x, 'a>(
+    alloc: Global,
+    typedefs: &'x Typedefs<'a>,
+    number: u32,
+    around: &'x [Block<'a>],
+    stmt: &'a Stmt,
+) -> Result<Vec<Leafref<'a>>, NoMemory>
+    ensures { IfOk result (λ all. map spec.leafref_seen all.items ≡ map spec.stmt_in (names.leafrefs_of typedefs.now (site_in number around.now stmt.now))) }
+{
+    match whole_builtin(stmt) {
+        None => leafrefs_by_way(alloc, typedefs, number, around, stmt),
+        Some(_builtin) => Ok(Vec::new(alloc)),
+    }
 }

@@ -6,6 +6,7 @@
 //! | `Block` | a statement whose block is open, with its typedefs by name |
 //! | `name_fault_at` | the first fault of the names in one `type` statement that stands in some blocks |
 //! | `judge_at` | what such a statement means, or the first fault of restrictions and patterns in it and in those that it rests on |
+//! | `other_fault_at` | that fault alone |
 //! | `leafrefs_at`, `Leafref` | the leafrefs among such a statement and those that it rests on |
 //! | `path_names`, `count_up` | the names in a leafref's path, and how many steps it goes up before them |
 //! | `between_slashes` | what stands between the slashes of a text |
@@ -64,9 +65,10 @@ mod tally;
 mod typedefs;
 mod vectors;
 mod walk;
+mod whole;
 
 pub use block::Block;
-pub use evaluate::judge_at;
+pub use evaluate::{judge_at, other_fault_at};
 pub use leafrefs::{Leafref, leafrefs_at};
 pub use names::name_fault_at;
 pub use path::{between_slashes, count_up, path_names};

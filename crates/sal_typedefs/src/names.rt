@@ -15,6 +15,7 @@ use crate::entries::with_fault;
 use crate::path::path_names;
 use crate::spot::Spot;
 use crate::typedefs::Typedefs;
+use crate::whole::lone_builtin;
 use sal_module::{Cause, Found, Keyword, argument_of, is_named, value_of};
 use sal_stmt::Stmt;
 use sal_types::{NoMemory, Str};
@@ -137,7 +138,8 @@ pub(crate) fn with_names<'x, 'a>(
 ///
 /// The statement stands in these blocks, from the module inwards. It takes time linear in the statements that the type rests
 /// on, each as often as it is rested on, with the logarithm of a block's typedefs for each. Where that leads into a circle of
-/// other typedefs, it goes around in it for as many steps as there are statements.
+/// other typedefs, it goes around in it for as many steps as there are statements. A statement that names a built-in type and
+/// says nothing more takes no more than that name.
 pub fn name_fault_at<'x, 'a>(
     alloc: Global,
     typedefs: &'x Typedefs<'a>,
@@ -147,6 +149,11 @@ pub fn name_fault_at<'x, 'a>(
 ) -> Result<Option<Found>, NoMemory>
     ensures { IfOk result (λ found. found ≡ least None (spec.name_faults (spec.steps_of typedefs.now) typedefs.now (site_in number around.now stmt.now))) }
 {
-    let spot = Spot::new(alloc, number, around, stmt);
-    with_names(None, alloc, typedefs, &spot)
+    match lone_builtin(stmt) {
+        None => {
+            let spot = Spot::new(alloc, number, around, stmt);
+            with_names(None, alloc, typedefs, &spot)
+        }
+        Some(_builtin) => Ok(None),
+    }
 }

@@ -1,43 +1,18 @@
-use Rattle.std.proofs.Common.{◌≡◌, ◌∙◌, List, [], reverse, rules, ap, subst}
-use Rattle.sal_typedefs.specs.Scopes.{Site}
+use Rattle.std.proofs.Common.{None, ◌∙◌, sym, ap}
+use Rattle.sal_module.specs.Faults.{least}
 use Rattle.sal_typedefs.specs.Names.{steps_of}
 use Rattle.sal_typedefs.specs.Spots.{site_in}
-use Rattle.sal_typedefs.specs.Walks.{Node, nodes}
-use Rattle.sal_typedefs.specs.Judgements.{AreJudged}
-use Rattle.sal_typedefs.specs.Runs.{run}
-use Rattle.sal_typedefs.proofs.RunLists.{top-judged, top-there}
+use Rattle.sal_typedefs.proofs.WholeTypes.{whole-faults, whole-type}
 use Rattle.sal_typedefs.proofs.evaluate.judge_at.Goals as goal
 
-pub returns-clause-fault : goal.returns-clause-fault
-returns-clause-fault c =
+pub returns-in-Some-clause-fault : goal.returns-in-Some-clause-fault
+returns-in-Some-clause-fault c =
     let a = c.args in
-    let modules = a.typedefs.now in
-    let steps = steps_of modules in
-    let site : Site = site_in a.number a.around.now a.stmt.now in
-    let way = rw c.as_slice.ensures.value at c.in_ok-done.ensures in
-    let ns = c.in_ok-nodes.ensures ∙ ap (nodes steps modules) c.new-spot.ensures in
-    let P : List Node → Type 0 = λ n. AreJudged (reverse c.in_ok-done.done.items) (run modules n) in
-    (top-judged steps modules site c.pop.new.self.items c.in-Some.judgement c.in_ok-done.done.items c.in-Some.ensures.items (subst P ns way)).fault
+    let site = site_in a.number a.around.now a.stmt.now in
+    sym (ap (least None) (whole-faults a.typedefs.now site c.in-Some.builtin c.in-Some.ensures.names (steps_of a.typedefs.now) c.in-Some.ensures.is))
 
-pub returns-clause-meant : goal.returns-clause-meant
-returns-clause-meant c =
+pub returns-in-Some-clause-meant : goal.returns-in-Some-clause-meant
+returns-in-Some-clause-meant c none =
     let a = c.args in
-    let modules = a.typedefs.now in
-    let steps = steps_of modules in
-    let site : Site = site_in a.number a.around.now a.stmt.now in
-    let way = rw c.as_slice.ensures.value at c.in_ok-done.ensures in
-    let ns = c.in_ok-nodes.ensures ∙ ap (nodes steps modules) c.new-spot.ensures in
-    let P : List Node → Type 0 = λ n. AreJudged (reverse c.in_ok-done.done.items) (run modules n) in
-    (top-judged steps modules site c.pop.new.self.items c.in-Some.judgement c.in_ok-done.done.items c.in-Some.ensures.items (subst P ns way)).type
-
-pub unreachable-requires : goal.unreachable-requires
-unreachable-requires c =
-    let a = c.args in
-    let modules = a.typedefs.now in
-    let steps = steps_of modules in
-    let site : Site = site_in a.number a.around.now a.stmt.now in
-    let way = rw c.as_slice.ensures.value at c.in_ok-done.ensures in
-    let ns = c.in_ok-nodes.ensures ∙ ap (nodes steps modules) c.new-spot.ensures in
-    let P : List Node → Type 0 = λ n. AreJudged (reverse c.in_ok-done.done.items) (run modules n) in
-    let none : c.in_ok-done.done.items ≡ [] = search rules in
-    top-there steps modules site c.in_ok-done.done.items none (subst P ns way)
+    let site = site_in a.number a.around.now a.stmt.now in
+    c.in_ok-ty.ensures.value ∙ sym (whole-type a.typedefs.now site c.in-Some.builtin c.in-Some.ensures.names (steps_of a.typedefs.now) c.in-Some.ensures.is)

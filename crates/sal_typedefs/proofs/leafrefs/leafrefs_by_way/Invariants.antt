@@ -4,7 +4,7 @@ use Rattle.sal_typedefs.specs.Names.{is_leafref, leafrefs_of}
 use Rattle.sal_typedefs.specs.Spots.{site_in}
 use Rattle.sal_typedefs.specs.Walks.{Node, left}
 use Rattle.sal_typedefs.specs.Leafrefs.{leafref_seen, stmt_in}
-use Rattle.sal_typedefs.proofs.leafrefs.leafrefs_at.Given as goal
+use Rattle.sal_typedefs.proofs.leafrefs.leafrefs_by_way.Given as goal
 
 abbrev pub invariant-ways : goal.invariant-ways
 invariant-ways l =

@@ -1,0 +1,11 @@
+use Rattle.std.proofs.Common.{None, sym, ap}
+use Rattle.sal_module.specs.Faults.{least}
+use Rattle.sal_typedefs.specs.Names.{steps_of}
+use Rattle.sal_typedefs.specs.Spots.{site_in}
+use Rattle.sal_typedefs.proofs.WholeTypes.{lone-names}
+use Rattle.sal_typedefs.proofs.names.name_fault_at.Goals as goal
+
+pub returns-in-Some : goal.returns-in-Some
+returns-in-Some c =
+    let a = c.args in
+    sym (ap (least None) (lone-names a.typedefs.now (site_in a.number a.around.now a.stmt.now) c.in-Some._builtin c.in-Some.ensures (steps_of a.typedefs.now)))

@@ -10,6 +10,7 @@ ghost use Rattle.sal_typedefs.specs.Runs as spec;
 
 use crate::block::Block;
 use crate::judgement::Judgement;
+use crate::pattern::Look;
 use crate::site_judge::judge_one;
 use crate::spot::Spot;
 use crate::typedefs::Typedefs;
@@ -41,7 +42,12 @@ fn take_last(
 }
 
 /// All these statements, from the last one to the first. The answer has the first one last.
-fn judge_all(alloc: Global, typedefs: &Typedefs, nodes: &[Gone]) -> Result<Vec<Judgement>, NoMemory>
+fn judge_all(
+    alloc: Global,
+    look: Look,
+    typedefs: &Typedefs,
+    nodes: &[Gone],
+) -> Result<Vec<Judgement>, NoMemory>
     ensures { IfOk result (λ done. AreJudged (reverse done.items) (spec.run typedefs.now (map walks.node_of nodes.now))) }
 {
     let mut done = Vec::new(alloc);
@@ -49,7 +55,7 @@ fn judge_all(alloc: Global, typedefs: &Typedefs, nodes: &[Gone]) -> Result<Vec<J
     'nodes: while n > 0 {
         let node = &nodes[n - 1];
         let below = take_last(alloc, &mut done, node.below)?;
-        let judgement = judge_one(alloc, typedefs, &node.spot, below.as_slice())?;
+        let judgement = judge_one(alloc, look, typedefs, &node.spot, below.as_slice())?;
         append(&mut done, judgement)?;
         n -= 1;
     }
@@ -105,6 +111,7 @@ fn gone<'x, 'a>(
 /// What `judge_at` answers, by way of all statements that this one rests on.
 fn judge_by_way<'x, 'a>(
     alloc: Global,
+    look: Look,
     typedefs: &'x Typedefs<'a>,
     number: u32,
     around: &'x [Block<'a>],
@@ -115,7 +122,7 @@ fn judge_by_way<'x, 'a>(
 {
     let spot = Spot::new(alloc, number, around, stmt);
     let nodes = gone(alloc, typedefs, spot)?;
-    let mut done = judge_all(alloc, typedefs, nodes.as_slice())?;
+    let mut done = judge_all(alloc, look, typedefs, nodes.as_slice())?;
     match done.pop() {
         None => unreachable!(),
         Some(judgement) => Ok((judgement.fault, judgement.ty)),
@@ -138,7 +145,7 @@ pub fn judge_at<'x, 'a>(
     ensures meant { IfOk result (λ j. j.0 ≡ None → j.1 ≡ (judgement typedefs.now (site_in number around.now stmt.now)).type) }
 {
     match whole_builtin(stmt) {
-        None => judge_by_way(alloc, typedefs, number, around, stmt),
+        None => judge_by_way(alloc, Look::Read, typedefs, number, around, stmt),
         Some(builtin) => {
             let ty = builtin.bare(alloc)?;
             Ok((None, ty))
@@ -146,7 +153,7 @@ pub fn judge_at<'x, 'a>(
     }
 }
 
-/// The fault of `judge_at` alone: its type is not made where the name says all.
+/// The fault of `judge_at` alone. Patterns are built here, so one that is too large for `regex` counts as want of memory; `judge_at` reads them.
 pub fn other_fault_at<'x, 'a>(
     alloc: Global,
     typedefs: &'x Typedefs<'a>,
@@ -158,7 +165,7 @@ pub fn other_fault_at<'x, 'a>(
 {
     match whole_builtin(stmt) {
         None => {
-            let (found, _ty) = judge_by_way(alloc, typedefs, number, around, stmt)?;
+            let (found, _ty) = judge_by_way(alloc, Look::Build, typedefs, number, around, stmt)?;
             Ok(found)
         }
         Some(_builtin) => Ok(None),

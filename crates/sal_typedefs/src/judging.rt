@@ -9,7 +9,7 @@ ghost use Rattle.sal_module.specs.Statements.{subs_of};
 ghost use Rattle.sal_typedefs.specs.Restrictions as spec;
 ghost use Rattle.sal_typedefs.specs.Restrictions.{HasNumbers, unlisted};
 
-use crate::pattern::is_malformed;
+use crate::pattern::{Look, is_refused};
 use crate::restriction::{is_bad, needed};
 use sal_module::{Cause, Found, Keyword, argument_of, better, has_named, is_named, is_whole};
 use sal_restrict::YangType;
@@ -70,12 +70,13 @@ pub(crate) fn with_all_digits(best: Option<Found>, number: u32, stmt: &Stmt) -> 
 fn with_pattern(
     best: Option<Found>,
     alloc: Global,
+    look: Look,
     number: u32,
     sub: &Stmt,
 ) -> Result<Option<Found>, NoMemory>
     ensures { IfOk result (λ it. it ≡ least best (spec.pattern_fault number sub.now)) }
 {
-    if !is_named(Keyword::Pattern, sub) || !is_malformed(alloc, argument_of(sub))? {
+    if !is_named(Keyword::Pattern, sub) || !is_refused(alloc, look, argument_of(sub))? {
         return Ok(best);
     }
     Ok(better(best, at(Cause::BadPattern, number, sub)))
@@ -85,6 +86,7 @@ fn with_pattern(
 pub(crate) fn with_patterns(
     best: Option<Found>,
     alloc: Global,
+    look: Look,
     number: u32,
     stmt: &Stmt,
 ) -> Result<Option<Found>, NoMemory>
@@ -92,7 +94,7 @@ pub(crate) fn with_patterns(
 {
     let mut best = best;
     for sub in stmt.subs.items() {
-        best = with_pattern(best, alloc, number, sub)?;
+        best = with_pattern(best, alloc, look, number, sub)?;
     }
     Ok(best)
 }

@@ -3,6 +3,7 @@ ghost use Rattle.std.specs.Prelude.{◌≡◌, IfOk};
 ghost use Rattle.sal_typedefs.specs.Patterns as spec;
 
 use regex::{Error, Regex};
+use regex_syntax::{Config, ErrorKind, parse};
 use sal_restrict::whole_text;
 use sal_types::NoMemory;
 use std::alloc::Global;
@@ -17,5 +18,38 @@ pub fn is_malformed(alloc: Global, text: &str) -> Result<bool, NoMemory>
         Ok(_) => Ok(false),
         Err(Error::Syntax(_)) => Ok(true),
         Err(_) => Err(NoMemory),
+    }
+}
+
+/// The same by the grammar alone: the pattern is not built, so none is too large.
+fn is_unread(alloc: Global, text: &str) -> Result<bool, NoMemory>
+    ensures { IfOk result (λ bad. bad ≡ spec.is_malformed text.now) }
+{
+    let whole = whole_text(alloc, text)?;
+    match parse(alloc, whole.as_str(), &Config::default()) {
+        Ok(_) => Ok(false),
+        Err(error) => match error.kind {
+            ErrorKind::OutOfMemory => Err(NoMemory),
+            _ => Ok(true),
+        },
+    }
+}
+
+/// How a pattern is looked at.
+#[derive(Clone, Copy)]
+pub(crate) enum Look {
+    /// It is built as `regex` does.
+    Build,
+    /// It is read alone: it is built elsewhere.
+    Read,
+}
+
+/// The same, as it is to be looked at.
+pub(crate) fn is_refused(alloc: Global, look: Look, text: &str) -> Result<bool, NoMemory>
+    ensures { IfOk result (λ bad. bad ≡ spec.is_malformed text.now) }
+{
+    match look {
+        Look::Build => is_malformed(alloc, text),
+        Look::Read => is_unread(alloc, text),
     }
 }

@@ -17,6 +17,7 @@ use crate::judgement::{Basis, Judgement};
 use crate::judging::with_patterns;
 use crate::layer::Restriction;
 use crate::merging::fault_below;
+use crate::pattern::Look;
 use crate::spot::Spot;
 use crate::typedefs::Typedefs;
 use sal_module::{Found, argument_of};
@@ -54,6 +55,7 @@ fn judge_over(
 /// What a statement is, where those below are these.
 pub(crate) fn judge_one(
     alloc: Global,
+    look: Look,
     typedefs: &Typedefs,
     spot: &Spot,
     below: &[Judgement],
@@ -65,7 +67,7 @@ pub(crate) fn judge_one(
 {
     let best = fault_below(below);
     let is_faulty = best.is_some();
-    let best = with_patterns(best, alloc, spot.module, spot.stmt)?;
+    let best = with_patterns(best, alloc, look, spot.module, spot.stmt)?;
     if is_faulty {
         return Ok(faulty(alloc, best));
     }

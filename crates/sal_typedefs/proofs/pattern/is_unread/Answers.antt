@@ -1,0 +1,23 @@
+-- The parser's verdict is that of the grammar.
+use Rattle.std.proofs.Common.{List, map, option_map, sym, subst, ◌∙◌}
+use Rattle.std.specs.String.{string_bytes}
+use Rattle.regex_syntax.specs.Verdict.{Reads, Refuses}
+use Rattle.sal_typedefs.proofs.Grammars.{read-good, refused-bad}
+use Rattle.sal_typedefs.proofs.pattern.is_unread.Goals as goal
+
+pub returns-in-Ok : goal.returns-in-Ok
+returns-in-Ok c =
+    let p = c.in-Ok.field-0 in
+    let source = c.as_str.result.now in
+    let given = c.as_str.ensures.value ∙ c.in_ok-whole.ensures in
+    let names = map (option_map string_bytes) p.names.items in
+    let reads = subst (λ config. Reads config source p.hir names) c.default.ensures c.in-Ok.ensures.ok in
+    sym (read-good c.args.text.now source p.hir names given reads)
+
+pub returns : goal.returns
+returns c =
+    let source = c.as_str.result.now in
+    let kind = c.in-Err.error.kind in
+    let given = c.as_str.ensures.value ∙ c.in_ok-whole.ensures in
+    let refuses = subst (λ config. Refuses config source kind) c.default.ensures c.in-Err.ensures.err in
+    sym (refused-bad c.args.text.now source kind given c.in_default.not-OutOfMemory refuses)

@@ -35,34 +35,15 @@ pub(crate) enum Builtin {
     Leafref,
 }
 
-/// Each built-in type behind its name.
+/// Each built-in type behind its name, those that are met most first.
 const NAMES: [(&str, Builtin); 18] = [
+    ("string", Builtin::Text),
+    ("boolean", Builtin::Bool),
     (
-        "int8",
-        Builtin::Int {
-            width: Width::Bits8,
-            signed: true,
-        },
-    ),
-    (
-        "int16",
-        Builtin::Int {
-            width: Width::Bits16,
-            signed: true,
-        },
-    ),
-    (
-        "int32",
+        "uint32",
         Builtin::Int {
             width: Width::Bits32,
-            signed: true,
-        },
-    ),
-    (
-        "int64",
-        Builtin::Int {
-            width: Width::Bits64,
-            signed: true,
+            signed: false,
         },
     ),
     (
@@ -80,29 +61,48 @@ const NAMES: [(&str, Builtin); 18] = [
         },
     ),
     (
-        "uint32",
-        Builtin::Int {
-            width: Width::Bits32,
-            signed: false,
-        },
-    ),
-    (
         "uint64",
         Builtin::Int {
             width: Width::Bits64,
             signed: false,
         },
     ),
-    ("decimal64", Builtin::Dec),
-    ("string", Builtin::Text),
-    ("boolean", Builtin::Bool),
+    (
+        "int32",
+        Builtin::Int {
+            width: Width::Bits32,
+            signed: true,
+        },
+    ),
+    (
+        "int8",
+        Builtin::Int {
+            width: Width::Bits8,
+            signed: true,
+        },
+    ),
+    (
+        "int16",
+        Builtin::Int {
+            width: Width::Bits16,
+            signed: true,
+        },
+    ),
+    (
+        "int64",
+        Builtin::Int {
+            width: Width::Bits64,
+            signed: true,
+        },
+    ),
     ("enumeration", Builtin::Enum),
-    ("bits", Builtin::Bits),
-    ("binary", Builtin::Bin),
-    ("identityref", Builtin::Ident),
-    ("empty", Builtin::Empty),
     ("union", Builtin::Union),
     ("leafref", Builtin::Leafref),
+    ("identityref", Builtin::Ident),
+    ("decimal64", Builtin::Dec),
+    ("bits", Builtin::Bits),
+    ("binary", Builtin::Bin),
+    ("empty", Builtin::Empty),
 ];
 
 fn find_builtin(names: &[(&'static str, Builtin)], name: &str) -> Option<Builtin>

@@ -108,19 +108,17 @@ fn gone<'x, 'a>(
     all_left(&mut ways, alloc, typedefs)
 }
 
-/// What `judge_at` answers, by way of all statements that this one rests on.
+/// The least fault in a statement and in those that it rests on, names apart, and its type where there is none. All of them are
+/// judged, from the last one to the first.
 fn judge_by_way<'x, 'a>(
     alloc: Global,
     look: Look,
     typedefs: &'x Typedefs<'a>,
-    number: u32,
-    around: &'x [Block<'a>],
-    stmt: &'a Stmt,
+    spot: Spot<'x, 'a>,
 ) -> Result<(Option<Found>, YangType), NoMemory>
-    ensures fault { IfOk result (λ j. j.0 ≡ least None (judgement typedefs.now (site_in number around.now stmt.now)).faults) }
-    ensures meant { IfOk result (λ j. j.0 ≡ None → j.1 ≡ (judgement typedefs.now (site_in number around.now stmt.now)).type) }
+    ensures fault { IfOk result (λ j. j.0 ≡ least None (judgement typedefs.now (site_of spot.entry)).faults) }
+    ensures meant { IfOk result (λ j. j.0 ≡ None → j.1 ≡ (judgement typedefs.now (site_of spot.entry)).type) }
 {
-    let spot = Spot::new(alloc, number, around, stmt);
     let nodes = gone(alloc, typedefs, spot)?;
     let mut done = judge_all(alloc, look, typedefs, nodes.as_slice())?;
     match done.pop() {
@@ -132,8 +130,8 @@ fn judge_by_way<'x, 'a>(
 /// The least fault in a `type` statement and in those that it rests on, names apart, and its type where there is none.
 ///
 /// The statement stands in these blocks, from the module inwards. It takes time linear in the statements that it rests on,
-/// with the logarithm of a block's typedefs for each, and where it lists names their number squared. A statement that names
-/// a built-in type and says nothing more takes no more than that name.
+/// with the logarithm of a block's typedefs for each, and where it lists names their number squared. For a statement that names
+/// a built-in type and says nothing more it takes that name alone. Patterns are read, and not built.
 pub fn judge_at<'x, 'a>(
     alloc: Global,
     typedefs: &'x Typedefs<'a>,
@@ -145,7 +143,10 @@ pub fn judge_at<'x, 'a>(
     ensures meant { IfOk result (λ j. j.0 ≡ None → j.1 ≡ (judgement typedefs.now (site_in number around.now stmt.now)).type) }
 {
     match whole_builtin(stmt) {
-        None => judge_by_way(alloc, Look::Read, typedefs, number, around, stmt),
+        None => {
+            let spot = Spot::new(alloc, number, around, stmt);
+            judge_by_way(alloc, Look::Read, typedefs, spot)
+        }
         Some(builtin) => {
             let ty = builtin.bare(alloc)?;
             Ok((None, ty))
@@ -153,7 +154,7 @@ pub fn judge_at<'x, 'a>(
     }
 }
 
-/// The fault of `judge_at` alone. Patterns are built here, so one that is too large for `regex` counts as want of memory; `judge_at` reads them.
+/// The fault of `judge_at` alone. Patterns are built: one that is too large for `regex` counts as want of memory.
 pub fn other_fault_at<'x, 'a>(
     alloc: Global,
     typedefs: &'x Typedefs<'a>,
@@ -165,7 +166,8 @@ pub fn other_fault_at<'x, 'a>(
 {
     match whole_builtin(stmt) {
         None => {
-            let (found, _ty) = judge_by_way(alloc, Look::Build, typedefs, number, around, stmt)?;
+            let spot = Spot::new(alloc, number, around, stmt);
+            let (found, _ty) = judge_by_way(alloc, Look::Build, typedefs, spot)?;
             Ok(found)
         }
         Some(_builtin) => Ok(None),

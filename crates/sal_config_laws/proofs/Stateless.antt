@@ -1,5 +1,5 @@
 -- Configurations without state data, operation by operation and commit by commit.
-use Rattle.std.proofs.Common.{◌≡◌, ℕ, zero, suc, Bool, true, false, not, ◌&&◌, IsTrue, List, [], ◌∷◌, ◌++◌, map, take, Option, None, Some, refl, ap, sym, ◌∙◌, subst, arith, if◌then◌else◌}
+use Rattle.std.proofs.Common.{◌≡◌, ℕ, zero, suc, Bool, true, false, not, ◌&&◌, List, [], ◌∷◌, ◌++◌, map, take, Option, None, Some, refl, ap, sym, ◌∙◌, subst, arith, if◌then◌else◌}
 use Rattle.std.specs.Prelude.{find, nat_eq, option_map, slice_get}
 use Rattle.std.specs.List.{list_all}
 use Rattle.std.specs.Option.{option_or}
@@ -13,15 +13,15 @@ use Rattle.sal_types.specs.declared.row.Row.{Row}
 use Rattle.sal_types.specs.Prefix.{is_prefix}
 use Rattle.sal_types.specs.Tree.{cell}
 use Rattle.sal_rows.specs.declared.op.Act.{Act}
-use Rattle.sal_rows.specs.declared.op.Act.TheVariants.{Put, Merge, Delete}
+use Rattle.sal_rows.specs.declared.op.Act.TheVariants.{Put, Merge, Delete, Read}
 use Rattle.sal_rows.specs.declared.op.Op.{Op}
 use Rattle.sal_rows.specs.declared.outcome.Outcome.{Outcome}
-use Rattle.sal_rows.specs.Apply.{act_setting, apply_ops, cell_by, last_setting, rows_of_act, same_store, setting}
+use Rattle.sal_rows.specs.Apply.{act_setting, apply_ops, cell_by, is_read, last_setting, rows_of_act, same_store, setting}
 use Rattle.sal_rows.specs.Commits.{tree_after}
 use Rattle.sal_rows.proofs.Applied.{cell-apply_ops, IsAscending-apply_ops}
 use Rattle.sal_rows.proofs.Quiet.{no_map, same_stores}
 use Rattle.sal_schema.specs.declared.table.SchemaTable.{SchemaTable}
-use Rattle.sal_schema.specs.Fitting.{fits, is_key_leaf, is_of_state, is_root, row_fits, cell_fits, is_whole_above, is_in_message}
+use Rattle.sal_schema.specs.Fitting.{is_key_leaf, is_of_state, is_root, row_fits, cell_fits, is_whole_above, is_in_message}
 use Rattle.sal_schema.specs.Paths.{fits_path}
 use Rattle.sal_schema.specs.Valid.{IsTable}
 use Rattle.sal_schema.specs.Versions.{Extends}
@@ -29,11 +29,10 @@ use Rattle.sal_schema.proofs.Stays.{fit-inside, of-state-same}
 use Rattle.sal_rules.specs.declared.fault.TxFault.{TxFault}
 use Rattle.sal_rules.specs.declared.fault.TxFault.TheVariants.{KeyLeaf, NotConfig, ParentMissing, RootPath}
 use Rattle.sal_rules.specs.Refusals.{first_state, missing_of, not_config, or_else, refusal, when}
-use Rattle.sal_history.specs.declared.call.Entry.{Entry}
 use Rattle.sal_history.specs.History.{commits, history, outcomes, sents}
 use Rattle.sal_history.specs.Submissions.{Sent, done, done_ops, if_done, is_done}
 use Rattle.sal_history.specs.Versions.{schema_version, tables_now}
-use Rattle.sal_history.specs.World.{Domain, opening_of, table_of, version_in}
+use Rattle.sal_history.specs.World.{Domain, opening_of, table_of}
 use Rattle.sal_history.proofs.Versions.{first-version}
 use Rattle.sal_history_laws.specs.Lawful.{AreLawful}
 use Rattle.sal_history_laws.specs.Logs.{AreSound, IsSentLawful}
@@ -79,6 +78,20 @@ module _ (table : SchemaTable) where
       let none : not_config table op.store op.path (rows_of_act op.act) ≡ None = no_map NotConfig (not_config table op.store op.path (rows_of_act op.act)) (no_first state parent behind_key) in
       rows_free op.path (rows_of_act op.act) (subst (λ s. not_config table s op.path (rows_of_act op.act) ≡ None) mine none)
 
+  -- a read has no rows
+  read_free : (act : Act) → is_read act ≡ true → is_config table (rows_of_act act) ≡ true
+  read_free (Put rows) e = cc
+  read_free (Merge rows) e = cc
+  read_free Delete e = cc
+  read_free Read e = refl
+
+  each_free : (tree : List Row) (op : Op) → (is_read op.act ≡ false → refusal table tree op ≡ None) → op.store ≡ Config → is_config table (rows_of_act op.act) ≡ true
+  each_free tree op allowed mine =
+      elim (is_read op.act) as (λ b. is_read op.act ≡ b → is_config table (rows_of_act op.act) ≡ true) [
+        | true ↦ λ reads. read_free op.act reads
+        | false ↦ λ writes. op_free tree op (allowed writes) mine
+      ] refl
+
   -- those of a list on the configuration have none
   abbrev pub AreFree : List Op → Type 0
   AreFree [] = Unit {0}
@@ -86,7 +99,7 @@ module _ (table : SchemaTable) where
 
   lawful_free : (base : Store → List Row) (earlier ops : List Op) → AreLawful table base earlier ops → AreFree ops
   lawful_free base earlier [] lawful = tt
-  lawful_free base earlier (op ∷ ops) lawful = (op_free (apply_ops (base op.store) op.store earlier) op lawful.0.1, lawful_free base (earlier ++ op ∷ []) ops lawful.1)
+  lawful_free base earlier (op ∷ ops) lawful = (λ mine. each_free (apply_ops (base op.store) op.store earlier) op (λ writes. (lawful.0 writes).1) mine, lawful_free base (earlier ++ op ∷ []) ops lawful.1)
 
   -- ---- what is set
 
@@ -106,6 +119,7 @@ module _ (table : SchemaTable) where
         | true ↦ λ h. absurd (none-some c (same_Some None (Some c) h))
         | false ↦ λ h. absurd (none-some (Some c) h)
       ] e
+  act_free p Read r c all e = absurd (none-some (Some c) e)
 
   set_free : (ops : List Op) (r : List Step) (c : Cell) → AreFree ops → last_setting Config ops r ≡ Some (Some c) → not (is_of_state table r) ≡ true
   set_free [] r c all e = absurd (none-some (Some c) e)

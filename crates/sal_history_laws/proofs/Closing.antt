@@ -26,10 +26,10 @@ use Rattle.sal_rules.specs.declared.fault.TxFault.{TxFault}
 use Rattle.sal_rules.specs.declared.fault.TxFault.TheVariants.{RootPath, KeyLeaf, NotConfig, ParentMissing}
 use Rattle.sal_rules.specs.Refusals.{missing_parent, missing_of, not_config, or_else, when, refusal}
 use Rattle.sal_rules.specs.Writes.{IsForSchema}
-use Rattle.sal_history_laws.specs.Laws.{LawfulKeepsClosed, WithoutConflictStaysClosed}
+use Rattle.sal_history_laws.specs.Laws.{LawfulKeepsClosed, WithoutConflictStaysClosed, WithoutConflictStaysLawful}
 use Rattle.sal_history_laws.specs.Lawful.{AreLawful}
 use Rattle.sal_history_laws.proofs.Acts.{HasParents, IsAllowed, act_fits}
-use Rattle.sal_history_laws.proofs.Fronts.{none_above, none_by_depth, front_itself}
+use Rattle.sal_history_laws.proofs.Fronts.{above_none, none_above, none_by_depth, front_itself}
 use Rattle.sal_history_laws.proofs.Standing.{some_there, stands_below, has_where, same_stores, cell-mine, apply-other, apply-read}
 use Rattle.sal_history_laws.proofs.Wholes.{AllFit, fits-AllFit, AllFit-fits, AllFit-same, whole-row}
 use Rattle.sal_rows.proofs.Quiet.{no_map}
@@ -213,3 +213,46 @@ without_conflict_stays_closed table opening commits rules base spans ops good cl
     let writes = none_first (clash_from opening commits rules base spans [] ops) (reads_from opening commits spans [] ops) none in
     AllFit-fits table [] (apply_ops (tip opening commits s) s ops) (IsAscending-apply_ops (tip opening commits s) s ops)
     (newer-all table good opening commits base s (fits-AllFit table [] (tip opening commits s) (newest s)) rules spans [] ops lawful writes (none_applied table (base s) s (closed s)) (none_applied table (tip opening commits s) s (newest s)))
+
+-- ---- what was not refused is not over the newer trees
+
+-- where all parents are there, none is missing
+none_missing_by : (table : SchemaTable) (tree : List Row) (op : Op) → (needs_parents op.act ≡ true → HasParents table tree op.path) → missing_of table tree op ≡ None
+none_missing_by table tree op parents =
+    elim (needs_parents op.act) as (λ b. needs_parents op.act ≡ b → (if b then missing_parent table tree op.path else None) ≡ None) [
+      | true ↦ λ needs. above_none (λ q. has_mark table (last_step q) && not (has tree q)) op.path (λ q inside over out. by q (has_mark table (last_step q)) (parents needs q inside over out))
+      | false ↦ λ free. refl
+    ] refl
+  where
+    by : (q : List Step) (b : Bool) → (b ≡ true → has tree q ≡ true) → (b && not (has tree q)) ≡ false
+    by q true there = ap not (there refl)
+    by q false there = refl
+
+module _ (table : SchemaTable) (good : IsTable table) (opening : Store → List Row) (commits : List (List Op)) (base : Store → List Row) (newest : (s : Store) → AllFit table [] (tip opening commits s)) where
+  -- only the parents depend on a tree
+  still-allowed : (rules : Rules) (spans : List Span) (earlier : List Op) (op : Op) → op_clash opening commits rules base spans earlier op ≡ None → AllFit table [] (apply_ops (base op.store) op.store earlier)
+      → refusal table (apply_ops (base op.store) op.store earlier) op ≡ None → refusal table (apply_ops (tip opening commits op.store) op.store earlier) op ≡ None
+  still-allowed rules spans earlier op none seen allowed =
+      let view = apply_ops (base op.store) op.store earlier in
+      let newer = apply_ops (tip opening commits op.store) op.store earlier in
+      let there : missing_of table newer op ≡ None =
+      none_missing_by table newer op (λ needs.
+      newer-parents table good opening commits base op.store (newest op.store) earlier op.path seen (none_lost table good opening commits base op.store (newest op.store) rules spans earlier op none needs) (allowed-parents table view op allowed needs)) in
+      ap (λ (m : Option (List Step)). or_else (when (is_root op.path) RootPath) (or_else (when (is_key_leaf table op.path) (KeyLeaf op.path)) (or_else (option_map NotConfig (not_config table op.store op.path (rows_of_act op.act))) (option_map ParentMissing m))))
+      (there ∙ sym (none_missing table view op allowed))
+      ∙ allowed
+
+  newer-lawful : (rules : Rules) (spans : List Span) (earlier ops : List Op) → AreLawful table base earlier ops → clash_from opening commits rules base spans earlier ops ≡ None
+      → ((s : Store) → AllFit table [] (apply_ops (base s) s earlier)) → AreLawful table (tip opening commits) earlier ops
+  newer-lawful rules spans earlier [] lawful none seen = tt
+  newer-lawful rules spans earlier (op ∷ ops) lawful none seen =
+      let here = none_first (op_clash opening commits rules base spans earlier op) (clash_from opening commits rules base spans (earlier ++ op ∷ []) ops) none in
+      let rest = none_second (op_clash opening commits rules base spans earlier op) (clash_from opening commits rules base spans (earlier ++ op ∷ []) ops) none in (
+        λ writes. let (right, allowed) = lawful.0 writes in (right, still-allowed rules spans earlier op here (seen op.store) allowed),
+        newer-lawful rules spans (earlier ++ op ∷ []) ops lawful.1 rest (λ s. base-next table good base s earlier op lawful.0 (seen s)),
+      )
+
+pub without_conflict_stays_lawful : WithoutConflictStaysLawful
+without_conflict_stays_lawful table opening commits rules base spans ops good closed newest lawful none =
+    let writes = none_first (clash_from opening commits rules base spans [] ops) (reads_from opening commits spans [] ops) none in
+    newer-lawful table good opening commits base (λ s. fits-AllFit table [] (tip opening commits s) (newest s)) rules spans [] ops lawful writes (λ s. none_applied table (base s) s (closed s))

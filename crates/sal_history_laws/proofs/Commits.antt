@@ -158,7 +158,7 @@ module _ (world : List Domain) (tables : ℕ → SchemaTable) (are_tables : (dom
 
   -- ---- one entry more
 
-  record IsKept (answered : List Answered) : Type 0 where
+  pub record IsKept (answered : List Answered) : Type 0 where
     pub decided : IsDecided (sents answered) (outcomes answered)
     pub bases : (place : ℕ) (b : Base) → began_at answered place ≡ Some b → AreClosed (tables b.domain) b.trees
     pub sent : (i : ℕ) (s : Sent) → slice_get (sents answered) i ≡ Some s → AreClosed (tables s.base.domain) s.base.trees
@@ -270,12 +270,12 @@ module _ (world : List Domain) (tables : ℕ → SchemaTable) (are_tables : (dom
       let now = answered_as world answered e (reply_to world answered e.client e.call) in
       kept-later (answer world answered e) log i s (ap (λ (ss : List Sent). slice_get ss i) (sents-now answered now) ∙ front_stays (sents answered) (option_to_list now.sent) i s at)
 
-  kept-fold : (answered : List Answered) (log : List Entry) → AreLawfulIn (fold (answer world) answered log) → IsKept answered → IsKept (fold (answer world) answered log)
+  pub kept-fold : (answered : List Answered) (log : List Entry) → AreLawfulIn (fold (answer world) answered log) → IsKept answered → IsKept (fold (answer world) answered log)
   kept-fold answered [] lawful was = was
   kept-fold answered (e ∷ log) lawful was =
       kept-fold (answer world answered e) log lawful (kept-answer answered was (λ i s at. lawful i s (kept-later answered (e ∷ log) i s at)) e)
 
-  kept-nothing : IsKept []
+  pub kept-nothing : IsKept []
   kept-nothing = record {
     decided = (omega arith, λ domain k t. subst (λ (cs : List (List Op)). IsTrue (is_closed (tables domain) (tree_after t (opening_of world domain t) cs))) (sym (take_all k [] (omega arith))) (opened domain t));
     bases = λ place b at. absurd (none-some b at);

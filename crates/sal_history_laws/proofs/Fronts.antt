@@ -96,6 +96,21 @@ none_above t (u ∷ v ∷ p) (s ∷ w ∷ q) none inside below strict =
     ap (λ x. t (x ∷ w ∷ q)) alike
     ∙ none_above (λ r. t (u ∷ r)) (v ∷ p) (w ∷ q) (find-map t (λ r. u ∷ r) (above (v ∷ p)) (find-rest t (u ∷ []) (map (λ r. u ∷ r) (above (v ∷ p))) none)) refl rest other
 
+map-find : {X Y : Type 0} (t : Y → Bool) (f : X → Y) (xs : List X) → find (λ x. t (f x)) xs ≡ None → find t (map f xs) ≡ None
+map-find t f [] e = refl
+map-find t f (x ∷ xs) e = elim (t (f x)) as (λ b. cond b (Some x) (find (λ x. t (f x)) xs) ≡ None → cond b (Some (f x)) (find t (map f xs)) ≡ None) [ true ↦ λ h. cc | false ↦ λ h. map-find t f xs h ] e
+
+-- what holds of no front of a path is not found above it
+pub above_none : (t : List Step → Bool) (p : List Step) → ((q : List Step) → is_root q ≡ false → is_prefix q p ≡ true → is_prefix p q ≡ false → t q ≡ false) → find t (above p) ≡ None
+above_none t [] each = refl
+above_none t (u ∷ []) each = refl
+above_none t (u ∷ v ∷ p) each =
+    let same = step_itself u in
+    let first : t (u ∷ []) ≡ false = each (u ∷ []) refl (ap (λ b. b && true) same) (ap (λ b. b && false) same) in
+    let later : find (λ q. t (u ∷ q)) (above (v ∷ p)) ≡ None =
+    above_none (λ q. t (u ∷ q)) (v ∷ p) (λ q inside below strict. each (u ∷ q) refl (ap (λ b. b && is_prefix q (v ∷ p)) same ∙ below) (ap (λ b. b && is_prefix (v ∷ p) q) same ∙ strict)) in
+    ap (λ b. cond b (Some (u ∷ [])) (find t (map (λ q. u ∷ q) (above (v ∷ p))))) first ∙ map-find t (λ q. u ∷ q) (above (v ∷ p)) later
+
 none_numbered : (t : ℕ → Bool) (a n d : ℕ) → find t (numbers_after a n) ≡ None → a < d → d ≤ a + n → t d ≡ false
 none_numbered t a zero d none low high = absurd (omega arith)
 none_numbered t a (suc n) d none low high =

@@ -1,3 +1,4 @@
+pub mod Accepted
 pub mod Acts
 pub mod Closing
 pub mod Commits

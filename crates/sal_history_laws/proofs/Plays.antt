@@ -217,7 +217,7 @@ module _ (world : List Domain) (log : List Entry) where
   -- ---- by receipts
 
   -- the trees just before a commit are those after the commits that were decided before it
-  trees_before : (i : ℕ) (t : Sent) (commit : ℕ) → slice_get ss i ≡ Some t → slice_get os i ≡ Some (Done commit) → (s : Store)
+  pub trees_before : (i : ℕ) (t : Sent) (commit : ℕ) → slice_get ss i ≡ Some t → slice_get os i ≡ Some (Done commit) → (s : Store)
       → tree_after s (opening_of world t.base.domain s) (done_ops t.base.domain ss (take i os)) ≡ trees_at world h t.base.domain s (commit - 1)
   trees_before i t commit at is s =
       let domain = t.base.domain in

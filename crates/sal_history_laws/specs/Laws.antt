@@ -37,6 +37,14 @@ WithoutConflictStaysClosed =
     → clash opening commits rules base spans ops ≡ None
     → AreClosed table (λ s. apply_ops (tip opening commits s) s ops)
 
+-- And the same operations are lawful over the newest trees too: each write that was accepted over the base would be accepted there.
+abbrev pub WithoutConflictStaysLawful : Type 0
+WithoutConflictStaysLawful =
+    (table : SchemaTable) (opening : Store → List Row) (commits : List (List Op)) (rules : Rules) (base : Store → List Row) (spans : List Span) (ops : List Op)
+    → IsTable table → AreClosed table base → AreClosed table (tip opening commits) → AreLawful table base [] ops
+    → clash opening commits rules base spans ops ≡ None
+    → AreLawful table (tip opening commits) [] ops
+
 -- So each log whose submissions are lawful by the present version has closed trees alone, by that version, where its opening trees are
 -- closed by version 0: whatever the versions were by which it was decided.
 abbrev pub LogsStayClosed : Type 0

@@ -1,5 +1,5 @@
 -- Laws of checked reads.
-use Rattle.std.specs.Prelude.{◌≡◌, ℕ, true, ◌-◌, List, ◌++◌, Some, slice_get}
+use Rattle.std.specs.Prelude.{◌≡◌, ℕ, true, ◌-◌, List, [], ◌++◌, Some, slice_get}
 use Rattle.sal_types.specs.declared.value.Store.{Store}
 use Rattle.sal_types.specs.declared.value.Step.{Step}
 use Rattle.sal_types.specs.declared.row.Row.{Row}
@@ -12,7 +12,10 @@ use Rattle.sal_rows.specs.Reads.{is_known, recorded}
 use Rattle.sal_history.specs.declared.call.Entry.{Entry}
 use Rattle.sal_history.specs.History.{history, outcomes, sents, trees_at}
 use Rattle.sal_history.specs.Submissions.{Sent}
+use Rattle.sal_history.specs.Versions.{tables_now}
 use Rattle.sal_history.specs.World.{Domain}
+use Rattle.sal_history_laws.specs.Lawful.{AreLawful}
+use Rattle.sal_history_laws.specs.Logs.{AreSentLawful, AreSound}
 use Rattle.sal_history_laws.specs.Serial.{IsOfBegun, IsSerialisable, ReadsAlike}
 
 -- Each log is serialisable, whatever the modes of its transactions: as far as they recorded their reads.
@@ -39,3 +42,11 @@ abbrev pub RecordedReadsAreKnown : Type 0
 RecordedReadsAreKnown =
     (tree : List Row) (t s : Store) (path : List Step) (ops : List Op)
     → (is_known (recorded Checked s path ops) s path ≡ true) × (apply_ops tree t (recorded Checked s path ops) ≡ apply_ops tree t ops)
+
+-- The writes stand too. Where the openings are closed and the submissions of the log lawful, as in each hub's log: each write that a
+-- transaction made, and that was accepted over what it stood on, would be accepted over the trees just before its commit.
+abbrev pub AcceptedWritesStand : Type 0
+AcceptedWritesStand =
+    (world : List Domain) (log : List Entry) (i : ℕ) (t : Sent) (commit : ℕ) → AreSound world → AreSentLawful world (history world log)
+    → slice_get (sents (history world log)) i ≡ Some t → slice_get (outcomes (history world log)) i ≡ Some (Done commit)
+    → AreLawful (tables_now world (history world log) t.base.domain) (λ s. trees_at world (history world log) t.base.domain s (commit - 1)) [] t.ops

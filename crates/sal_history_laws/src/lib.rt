@@ -21,8 +21,8 @@
 //! A log is serialisable (`specs/Serial`) where its transactions that were done, played one after another in the order of their
 //! commits, read what they read in the log and leave the same trees. Each log is, as far as reads were recorded among the operations,
 //! and in mode `Checked` each read is. A transaction that only reads and began on no pending submission reads the trees at one commit.
-//! Each write that was accepted would be accepted in that order too. A write that was refused for a missing parent would be refused for a
-//! missing parent, which may be one further out.
+//! Each write that was accepted would be accepted in that order too. A write that was refused for a missing parent recorded a read of
+//! that parent, so it is missing there too; but the refusal may name one further out there, if that was deleted meanwhile.
 //!
 //! Costs: none, since nothing here runs.
 #![tactic(auto)]

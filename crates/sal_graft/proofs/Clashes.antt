@@ -1,27 +1,32 @@
 -- The search for conflicts, step by step.
-use Rattle.std.proofs.Common.{◌≡◌, ℕ, zero, suc, ◌+◌, ◌-◌, ◌<◌, ◌≤◌, Bool, List, [], ◌∷◌, ◌++◌, ◌&&◌, ◌||◌, length, take, drop, get_or, None, Some, refl, ap, sym, ◌∙◌, cond, arith, reverse}
+use Rattle.std.proofs.Common.{◌≡◌, ℕ, zero, suc, ◌+◌, ◌-◌, ◌<◌, ◌≤◌, Bool, true, false, List, [], ◌∷◌, ◌++◌, ◌&&◌, ◌||◌, length, take, drop, get_or, None, Some, refl, ap, sym, ◌∙◌, cond, if◌then◌else◌, arith, reverse}
 use Rattle.std.specs.Prelude.{is_some, not, find}
-use Rattle.std.specs.Option.{option_or}
+use Rattle.std.specs.Option.{option_or, option_map}
 use Rattle.std.proofs.lemmas.List.{take_more, drop_more, get_or_default}
 use Rattle.sal_types.specs.declared.value.Store.{Store}
 use Rattle.sal_types.specs.declared.value.Step.{Step}
 use Rattle.sal_types.specs.declared.row.Row.{Row}
 use Rattle.sal_types.specs.Tree.{cell, has}
 use Rattle.sal_types.specs.Prefix.{is_prefix}
+use Rattle.sal_rows.specs.declared.op.Act.{Act}
+use Rattle.sal_rows.specs.declared.op.Act.TheVariants.{Put, Merge, Delete, Read}
 use Rattle.sal_rows.specs.declared.op.Op.{Op}
-use Rattle.sal_rows.specs.Apply.{same_store, checks_path}
+use Rattle.sal_rows.specs.Apply.{same_store, checks_path, is_read}
 use Rattle.sal_rows.specs.Commits.{numbers_after, numbers_in}
 use Rattle.sal_rows.specs.declared.clash.Rules.{Rules}
+use Rattle.sal_rows.specs.declared.clash.Rules.TheVariants.{One, Two}
 use Rattle.sal_rows.specs.declared.clash.Span.{Span}
-use Rattle.sal_rows.specs.PathClash.{is_covered}
+use Rattle.sal_rows.specs.PathClash.{difference, is_covered}
 use Rattle.sal_mod.specs.Covers.{covers}
 use Rattle.sal_mod.specs.Covers as by_mod
+use Rattle.sal_mod.specs.Held.{has_reads}
 use Rattle.std.specs.List.{list_any}
-use Rattle.sal_rows.specs.Clash.{op_clash, clash_from, lost_parent, tip, depths_above, numbers_over}
-use Rattle.sal_graft.specs.Rows.{lost_depth}
+use Rattle.sal_rows.specs.Clash.{op_clash, clash_from, read_clash, reads_from, lost_parent, tip, depths_above, numbers_over}
+use Rattle.sal_graft.specs.Rows.{conflict_at, lost_depth}
 use Rattle.sal_graft.proofs.Setting.{is_set-last}
 use Rattle.sal_rows.proofs.Numbers.{numbers_over-push, find_part}
 use Rattle.sal_rows.proofs.Rising.{and_assoc}
+use Rattle.sal_rows.proofs.Untouched.{or_first, or_second}
 
 -- ---- operation by operation
 
@@ -32,6 +37,39 @@ clash_from-at opening commits rules base spans ops i op h at =
     let front : take (i + 1) ops ≡ take i ops ++ op ∷ [] = take_more ops i op h ∙ ap (λ (o : Op). take i ops ++ o ∷ []) (sym at) in
     let rest : drop i ops ≡ op ∷ drop (i + 1) ops = drop_more ops i op h ∙ ap (λ (o : Op). o ∷ drop (i + 1) ops) (sym at) in
     ap (clash_from opening commits rules base spans (take i ops)) rest ∙ ap (λ (done : List Op). option_or (op_clash opening commits rules base spans (take i ops) op) (clash_from opening commits rules base spans done (drop (i + 1) ops))) (sym front)
+
+-- the same for the reads
+pub reads_from-at : (opening : Store → List Row) (commits : List (List Op)) (spans : List Span) (ops : List Op) (i : ℕ) (op : Op) → i < length ops → op ≡ get_or ops i op
+    → reads_from opening commits spans (take i ops) (drop i ops) ≡ option_or (read_clash opening commits spans (take i ops) op) (reads_from opening commits spans (take (i + 1) ops) (drop (i + 1) ops))
+reads_from-at opening commits spans ops i op h at =
+    let front : take (i + 1) ops ≡ take i ops ++ op ∷ [] = take_more ops i op h ∙ ap (λ (o : Op). take i ops ++ o ∷ []) (sym at) in
+    let rest : drop i ops ≡ op ∷ drop (i + 1) ops = drop_more ops i op h ∙ ap (λ (o : Op). o ∷ drop (i + 1) ops) (sym at) in
+    ap (reads_from opening commits spans (take i ops)) rest ∙ ap (λ (done : List Op). option_or (read_clash opening commits spans (take i ops) op) (reads_from opening commits spans done (drop (i + 1) ops))) (sym front)
+
+-- without a read there is no conflict of one
+pub no-reads : (opening : Store → List Row) (commits : List (List Op)) (spans : List Span) (earlier ops : List Op) → has_reads ops ≡ false → reads_from opening commits spans earlier ops ≡ None
+no-reads opening commits spans earlier [] h = refl
+no-reads opening commits spans earlier (op ∷ ops) h =
+    ap (λ b. option_or (if b && not (is_covered earlier op.store op.path) then option_map (conflict_at (length earlier) op) (difference opening commits op.store spans op.path) else None) (reads_from opening commits spans (earlier ++ op ∷ []) ops)) (or_first (is_read op.act) (has_reads ops) h)
+    ∙ no-reads opening commits spans (earlier ++ op ∷ []) ops (or_second (is_read op.act) (has_reads ops) h)
+
+-- a read is no write, so that the walk over the writes leaves it out
+pub read-no_write : (opening : Store → List Row) (commits : List (List Op)) (rules : Rules) (base : Store → List Row) (spans : List Span) (earlier : List Op) (op : Op) → is_read op.act ≡ true
+    → op_clash opening commits rules base spans earlier op ≡ None
+read-no_write opening commits rules base spans earlier op = of op.act
+  where
+    of : (act : Act) → is_read act ≡ true → op_clash opening commits rules base spans earlier (record { store = op.store; path = op.path; act = act }) ≡ None
+    of (Put rows) e = cc
+    of (Merge rows) e = cc
+    of Delete e = cc
+    of Read e = elim rules as (λ r. op_clash opening commits r base spans earlier (record { store = op.store; path = op.path; act = Read }) ≡ None) [ One ↦ refl | Two ↦ refl ]
+
+-- what is left after a read
+pub clash_from-past : (opening : Store → List Row) (commits : List (List Op)) (rules : Rules) (base : Store → List Row) (spans : List Span) (ops : List Op) (i : ℕ) (op : Op) → i < length ops → op ≡ get_or ops i op
+    → is_read op.act ≡ true → clash_from opening commits rules base spans (take i ops) (drop i ops) ≡ clash_from opening commits rules base spans (take (i + 1) ops) (drop (i + 1) ops)
+clash_from-past opening commits rules base spans ops i op h at reads =
+    clash_from-at opening commits rules base spans ops i op h at
+    ∙ ap (λ o. option_or o (clash_from opening commits rules base spans (take (i + 1) ops) (drop (i + 1) ops))) (read-no_write opening commits rules base spans (take i ops) op reads)
 
 -- the two tests for a cover are one
 any_covers : (ops : List Op) (s : Store) (p : List Step) → list_any (covers s p) ops ≡ is_covered ops s p

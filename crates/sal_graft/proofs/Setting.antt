@@ -9,14 +9,14 @@ use Rattle.sal_types.specs.declared.row.Row.{Row}
 use Rattle.sal_types.specs.Prefix.{is_prefix}
 use Rattle.sal_types.specs.Tree.{cell, has}
 use Rattle.sal_rows.specs.declared.op.Op.{Op}
-use Rattle.sal_rows.specs.declared.op.Act.TheVariants.{Put, Merge, Delete}
+use Rattle.sal_rows.specs.declared.op.Act.TheVariants.{Put, Merge, Delete, Read}
 use Rattle.sal_rows.specs.Apply.{same_store, setting, last_setting, act_setting}
 use Rattle.sal_rows.specs.Touch.{op_touches}
 use Rattle.sal_node.specs.Tree.{Tree, IsGrove}
 use Rattle.sal_tree.specs.Rows.{rows_of}
 use Rattle.sal_tree.proofs.Cells.{has-rows_of}
 use Rattle.sal_tree.proofs.Edited.{clears}
-use Rattle.sal_tree.proofs.Touches.{clears-any, set_by_put, set_by_delete, absorbed}
+use Rattle.sal_tree.proofs.Touches.{clears-any, set_by_put, set_by_delete, absorbed, read-touches}
 use Rattle.sal_graft.specs.Rows.{is_cleared, is_set}
 
 cleared : (t : Tree) (p q : List Step) → IsGrove t.kids → is_cleared (rows_of t) p q ≡ clears p t q
@@ -30,6 +30,9 @@ merge-touches t s p q rows = sym (absorbed rows (rows_of t) q)
 
 pub delete-touches : (t : Tree) (s : Store) (p q : List Step) → IsGrove t.kids → is_cleared (rows_of t) p q ≡ op_touches (rows_of t) (record { store = s; path = p; act = Delete }) q
 delete-touches t s p q g = cleared t p q g ∙ clears-any t p q (act_setting p Delete) (λ r. set_by_delete (is_prefix p r)) g
+
+pub untouched-by_read : (t : Tree) (s : Store) (p q : List Step) → false ≡ op_touches (rows_of t) (record { store = s; path = p; act = Read }) q
+untouched-by_read t s p q = sym (read-touches (rows_of t) p q)
 
 -- ---- what is set
 

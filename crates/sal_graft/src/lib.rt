@@ -18,6 +18,7 @@
 //! |---|---|
 //! | `conflict`, for each put or delete that nothing covers | two searches for its path at the ends of each span that has a commit, whatever commits lie between; no memory |
 //! | `conflict`, for each put and merge | one search in the base for each step above its path, and two in the newest tree where that finds a row |
+//! | `conflict`, for each checked read that nothing covers | that of a put; without a read no second walk over the operations |
 //! | `conflict` under version rules 2, for each leaf of a merge that nothing covers | one search in the base and one in the newest tree; no memory |
 //! | the commit that a conflict names, where something stands at its path at the end of the span | one search for the path, and one by halves for the receipt |
 //! | the same, where nothing stands there | a look back through the commits of the span, at the operations of each and their rows |
@@ -28,6 +29,7 @@ mod foreign;
 mod ground;
 mod leafs;
 mod naming;
+mod reads;
 mod search;
 mod span;
 mod standing;

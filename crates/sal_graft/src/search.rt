@@ -1,16 +1,17 @@
 //! Conflicts of a submission with the commits after its base, found by the stamps at the ends of their spans.
-ghost use Rattle.std.specs.Prelude.{◌≡◌, ◌≤◌, ◌&&◌, IfSome, length, not, All};
-ghost use Rattle.sal_rows.specs.PathClash.{is_covered};
+ghost use Rattle.std.specs.Prelude.{◌≡◌, ◌≤◌, ◌&&◌, [], IfSome, length, not, option_map, All};
+ghost use Rattle.sal_rows.specs.PathClash.{difference, is_covered};
 ghost use Rattle.sal_tree.specs.Rows.{rows_of};
-ghost use Rattle.sal_rows.specs.Clash.{checks_leafs, clash};
+ghost use Rattle.sal_rows.specs.Clash.{checks_leafs, clash, clash_from};
 ghost use Rattle.sal_rows.specs.Clash as spec;
 ghost use Rattle.sal_graft.specs.Following.{AreFollowing};
-ghost use Rattle.sal_graft.specs.Rows.{is_lost_of, lost_depth};
+ghost use Rattle.sal_graft.specs.Rows.{conflict_at, is_lost_of, lost_depth};
 ghost use Rattle.sal_graft.specs.Kept.{AreKept, IsSpanOf, opening_in, ops_of, rows_in};
 
 use crate::ground::Ground;
 use crate::leafs::leaf_clash;
 use crate::naming::{last_touch, last_touch_over};
+use crate::reads::reads_clash;
 use crate::span::{changed_span, kind_over};
 use crate::standing::{has_cell, stands};
 use crate::touched::is_set;
@@ -19,8 +20,8 @@ use sal_rows::{Clash, ClashKind, Op, Rules, Span};
 use sal_tree::{Commit, Pair, Root, tree_of};
 use sal_types::{Step, Store};
 
-/// The conflict of the operations of a transaction with the commits in the spans, by the version rules: of the first operation that has
-/// one.
+/// The conflict of the operations of a transaction with the commits in the spans, by the version rules: of the first write that has
+/// one, and else of the first read.
 ///
 /// `base` are the trees that the transaction stands on, and `commits` those of its domain from the opening to the newest.
 /// The spans are the commits after its base without those of its own chain. It takes no memory.
@@ -36,16 +37,32 @@ pub fn conflict(
     requires spans { All (IsSpanOf commits.now) spans.now }
     ensures { result ≡ clash (opening_in commits.now) (ops_of commits.now) rules (rows_in base.now) spans.now changes.now }
 {
-    let ops = changes.ops();
     let ground = Ground {
         base,
         spans,
         commits,
         rules,
     };
+    match writes_clash(changes, &ground) {
+        Some(found) => Some(found),
+        None => reads_clash(changes, &ground),
+    }
+}
+
+// The conflict of the first write that has one. Reads are looked at after all writes.
+fn writes_clash(changes: &Mod, ground: &Ground) -> Option<Clash>
+    requires kept { AreKept ground.now.commits.now }
+    requires following { AreFollowing ground.now.commits.now }
+    requires spans { All (IsSpanOf ground.now.commits.now) ground.now.spans.now }
+    ensures { result ≡ clash_from (opening_in ground.now.commits.now) (ops_of ground.now.commits.now) ground.now.rules (rows_in ground.now.base.now) ground.now.spans.now [] changes.now }
+{
+    let ops = changes.ops();
     for at in 0..ops.len() {
+        if ops[at].act.is_read() {
+            continue;
+        }
         let covered = changes.covered(ops[at].store, &ops[at].path, at);
-        if let Some(found) = op_clash(&ops[..at], &ops[at], covered, &ground) {
+        if let Some(found) = op_clash(&ops[..at], &ops[at], covered, ground) {
             return Some(found);
         }
     }
@@ -151,11 +168,21 @@ fn path_clash(earlier: &[Op], op: &Op, covered: bool, ground: &Ground) -> Option
     if !op.act.checks_path() || covered {
         return None;
     }
+    path_conflict(earlier.len(), op, ground)
+}
+
+/// The first span over which the path of the operation at the place is not unchanged, as a conflict.
+pub(crate) fn path_conflict(place: usize, op: &Op, ground: &Ground) -> Option<Clash>
+    requires kept { AreKept ground.now.commits.now }
+    requires following { AreFollowing ground.now.commits.now }
+    requires spans { All (IsSpanOf ground.now.commits.now) ground.now.spans.now }
+    ensures { result ≡ option_map (conflict_at place op.now) (difference (opening_in ground.now.commits.now) (ops_of ground.now.commits.now) op.now.store ground.now.spans.now op.now.path) }
+{
     let steps = op.path.steps();
     match changed_span(ground.commits, ground.spans, op.store, steps) {
         None => None,
         Some(span) => Some(Clash {
-            op: earlier.len(),
+            op: place,
             row: None,
             depth: steps.len(),
             kind: kind_over(ground.commits, span, op.store, steps),

@@ -32,6 +32,7 @@ fn op_touches(before: &Root, op: &Op, steps: &[Step]) -> bool
         }
         Act::Merge(rows) => lies_under(rows.items(), steps),
         Act::Delete => is_cleared(before, op.path.steps(), steps),
+        Act::Read => false,
     }
 }
 
@@ -57,6 +58,7 @@ fn sets(op: &Op, steps: &[Step]) -> bool
         Act::Put(_) => begins(op.path.steps(), steps),
         Act::Merge(rows) => stands_at(rows.items(), steps),
         Act::Delete => begins(op.path.steps(), steps),
+        Act::Read => false,
     }
 }
 

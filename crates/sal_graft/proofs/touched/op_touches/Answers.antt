@@ -1,4 +1,4 @@
--- What a put, a merge and a delete touch.
+-- What a put, a merge, a delete and a read touch.
 use Rattle.std.proofs.Common.{◌≡◌, false, ◌||◌, List, ap, sym, ◌∙◌}
 use Rattle.sal_types.specs.declared.value.Step.{Step}
 use Rattle.sal_types.specs.declared.row.Row.{Row}
@@ -7,7 +7,7 @@ use Rattle.sal_rows.specs.declared.op.Act.{Act}
 use Rattle.sal_rows.specs.Touch.{op_touches}
 use Rattle.sal_tree.specs.Rows.{rows_of}
 use Rattle.sal_graft.specs.Rows.{is_cleared}
-use Rattle.sal_graft.proofs.Setting.{put-touches, merge-touches, delete-touches}
+use Rattle.sal_graft.proofs.Setting.{put-touches, merge-touches, delete-touches, untouched-by_read}
 use Rattle.sal_graft.proofs.touched.op_touches.Goals as goal
 
 pub returns-else-lies_under : goal.returns-else-lies_under
@@ -32,3 +32,9 @@ returns-in-Delete c =
     c.is_cleared-in-Delete.ensures ∙ ap (λ (p : List Step). is_cleared (rows_of c.args.before.now) p q) c.steps-in-Delete.ensures.all
     ∙ delete-touches c.args.before.now c.args.op.now.store c.args.op.now.path q c.node.ensures.whole.ordered
     ∙ sym (ap (λ (a : Act). op_touches (rows_of c.args.before.now) (record { store = c.args.op.now.store; path = c.args.op.now.path; act = a }) q) c.in-Delete.is)
+
+pub returns-in-Read : goal.returns-in-Read
+returns-in-Read c =
+    let q = c.args.steps.now in
+    untouched-by_read c.args.before.now c.args.op.now.store c.args.op.now.path q
+    ∙ sym (ap (λ (a : Act). op_touches (rows_of c.args.before.now) (record { store = c.args.op.now.store; path = c.args.op.now.path; act = a }) q) c.in-Read.is)

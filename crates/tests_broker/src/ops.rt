@@ -78,5 +78,6 @@ pub(crate) fn lies_below(op: &Op) -> bool
         Act::Put(rows) => lie_under(rows, &op.path),
         Act::Merge(rows) => lie_under(rows, &op.path),
         Act::Delete => true,
+        Act::Read => true,
     }
 }

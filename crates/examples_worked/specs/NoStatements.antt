@@ -72,7 +72,7 @@ bad_escapes =
     ∷ (codes "a \"b\" + \"\\r\";", BadEscape 9)
     ∷ []
 
--- a text behind the statement
+-- a text after the statement
 abbrev pub texts_after : List (Text × StmtFault)
 texts_after =
     (codes "a; b;", TextAfter 3)

@@ -1,4 +1,4 @@
--- Paths of a list, of an entry in it, and of a node behind it.
+-- Paths of a list, of an entry in it, and of a node after it.
 use Rattle.std.specs.Prelude.{List, [], ◌∷◌, codes}
 use Rattle.sal_types.specs.declared.value.Atom.TheVariants.{Bin, Text}
 use Rattle.sal_types.specs.declared.value.Step.{Step}

@@ -14,7 +14,7 @@ part low high = record { low = low; high = high }
 abbrev pub within : List Part
 within = part (minus 1000) (pos 1000) ∷ part (pos 2000) (pos 3000) ∷ []
 
--- what a text gives, of numbers with so many digits behind the point
+-- what a text gives, of numbers with so many digits after the point
 abbrev pub given : ℕ → String → Result (List Part) RangeFault
 given digits text = read_ranges (codes text) within digits
 
@@ -78,7 +78,7 @@ no_ranges =
     ∷ "99999999999999999999999999999999999999999999..99999999999999999999999999999999999999999998"
     ∷ []
 
--- with one digit, with two and with eighteen behind the point
+-- with one digit, with two and with eighteen after the point
 abbrev pub tenths : List (String × List Part)
 tenths =
     ("1..2", part (pos 10) (pos 20) ∷ [])

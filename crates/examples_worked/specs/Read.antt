@@ -5,7 +5,7 @@ use Rattle.sal_stmt.specs.declared.stmt.Stmt.{Stmt}
 use Rattle.sal_stmt.specs.Words.{Text}
 use Rattle.sal_stmt.specs.Text.{read}
 
--- each text stands for the statement beside it
+-- each text denotes the statement beside it
 abbrev pub AreStatements : List (Text × Stmt) → Type 0
 AreStatements cases = map (λ (c : Text × Stmt). read c.0) cases ≡ map (λ (c : Text × Stmt). Ok c.1) cases
 

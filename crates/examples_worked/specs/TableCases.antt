@@ -93,7 +93,7 @@ tables =
 
 abbrev pub wrong_parents : Row SchemaTable
 wrong_parents =
-    -- it stands behind its node
+    -- it is after its node
     of_nodes (leaf (Some 1) "n" ∷ node None (Container false) "c" ∷ [])
     -- it is a leaf
     ∷ of_nodes (leaf None "n" ∷ node (Some 0) (Container false) "c" ∷ [])

@@ -60,7 +60,7 @@ strings =
     ∷ (codes "x \"\u{7f}{;}'//\";", plain "x" 0 "\u{7f}{;}'//" [])
     ∷ []
 
--- the lines of a string in double quotes: what stands behind them is cut, and ahead of them up to the quote's column
+-- the lines of a string in double quotes: blanks after them are cut, and before them up to the quote's column
 abbrev pub lines : List (Text × Stmt)
 lines =
     (codes "  x \"a  \n     b\";", plain "x" 2 "a\nb" [])

@@ -5,7 +5,7 @@ ghost use Rattle.sal_stmt.specs.Text.{read};
 ghost use Rattle.sal_module.specs.Modules.{imported, stmt_at};
 ghost use Rattle.examples_worked.specs.ModuleCases as case;
 
-/// Of the first 100 places those of the statements have them, in whatever order the statements stand; there is no second module.
+/// Of the first 100 places those of the statements have them, in whatever order the statements are; there is no second module.
 pub fn statements_by_place()
     ensures text { read (codes "module m { namespace u; prefix p; container c { leaf a { type string; } } }") ≡ Ok case.written }
     ensures written { case.places (stmt_at (case.written ∷ []) 0) 0 100 ≡ case.standing case.written }

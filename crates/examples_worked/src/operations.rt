@@ -27,7 +27,7 @@ pub fn the_last_setting_counts()
     ensures elsewhere { last_setting Config operations (at 3 5) ≡ None }
 {}
 
-/// Rows are in order where each path is behind the one before it; two puts of a leaf leave one row, in their store.
+/// Rows are in order where each path is after the one before it; two puts of a leaf leave one row, in their store.
 pub fn rows_are_in_order_put_and_parted()
     ensures twice { IsFirstOutOfOrder (text (at 0 1) "x" ∷ text (at 0 1) "y" ∷ []) 1 }
     ensures in_order { IsAscending (text (at 0 1) "x" ∷ text (at 0 2) "y" ∷ []) }

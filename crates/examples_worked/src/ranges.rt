@@ -5,7 +5,7 @@ ghost use Rattle.sal_restrict.specs.declared.fault.RangeFault.TheVariants.{BadTe
 ghost use Rattle.sal_restrict.specs.Ranges.{holds};
 ghost use Rattle.examples_worked.specs.RangeCases as range;
 
-/// Ranges of whole numbers, and of numbers with digits behind a point.
+/// Ranges of whole numbers, and of numbers with digits after a point.
 pub fn texts_give_ranges()
     ensures whole { range.AreRanges 0 range.whole }
     ensures tenths { range.AreRanges 1 range.tenths }

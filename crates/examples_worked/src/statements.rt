@@ -1,4 +1,4 @@
-//! Texts of YANG and the statements that they stand for, or their first fault. Each function does nothing: its contract is computed from the
+//! Texts of YANG and the statements that they denote, or their first fault. Each function does nothing: its contract is computed from the
 //! definitions that `read_module` keeps to.
 #![tactic(auto, unfolding(sal_stmt::specs::Words::word_len, sal_stmt::specs::Words::is_keyword, sal_stmt::specs::Quoted::last_columns, sal_stmt::specs::Quoted::unescape, sal_stmt::specs::Quoted::without_indent, sal_stmt::specs::Quoted::join_lines, sal_stmt::specs::Quoted::content, sal_stmt::specs::Text::line_comment, sal_stmt::specs::Text::block_comment, sal_stmt::specs::Text::separators, sal_stmt::specs::Text::within, sal_stmt::specs::Text::single, sal_stmt::specs::Text::double, sal_stmt::specs::Text::quoted, sal_stmt::specs::Text::joined, sal_stmt::specs::Text::argument, sal_stmt::specs::Text::header, sal_stmt::specs::Text::statements, sal_stmt::specs::Text::statement, sal_stmt::specs::Text::read))]
 

@@ -6,7 +6,7 @@ ghost use Rattle.std.specs.Prelude.{◌≡◌, ◌∷◌, [], map, true, false};
 ghost use Rattle.sal_schema_of_table.specs.Whole.{is_table};
 ghost use Rattle.examples_worked.specs.TableCases as case;
 
-/// A name may stand for a node, an RPC and a notification, a case may be named as its leaf, and a table may be empty.
+/// A name may denote a node, an RPC and a notification, a case may be named as its leaf, and a table may be empty.
 pub fn tables_of_schemas()
     ensures { map is_table case.tables ≡ true ∷ true ∷ true ∷ true ∷ [] }
 {}

@@ -17,7 +17,7 @@ use std::process::ExitCode;
 use std::sync::Wait;
 use std::thread::Threads;
 
-// The words behind the program's name. Arguments that are not text are one empty word, which is no form.
+// The words after the program's name. Arguments that are not text are one empty word, which is no form.
 fn words_of(rt: &HostRuntime) -> Result<Vec<Str>, NoMemory> {
     let mut words = Vec::new(rt.alloc());
     match env::args(rt) {

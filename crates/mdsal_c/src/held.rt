@@ -1,4 +1,4 @@
-//! A session on the heap behind a pointer that C holds, or nothing.
+//! A session on the heap, by a pointer that C holds, or nothing.
 ghost use Rattle.std.specs.Prelude.{◌≡◌, true};
 ghost use Rattle.std.specs.Coded.{coded_option};
 ghost use Rattle.std.specs.Option.{is_some};

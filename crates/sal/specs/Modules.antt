@@ -11,7 +11,7 @@ use Rattle.sal_module_table.specs.Build.{build}
 use Rattle.sal.specs.declared.modules.SchemaFault.{SchemaFault}
 use Rattle.sal.specs.declared.modules.SchemaFault.TheVariants as fault
 
--- the texts behind references
+-- the texts after references
 abbrev pub texts_in : List (Bor Text) → List Text
 texts_in texts = map (λ text. text.now) texts
 

@@ -80,7 +80,7 @@ fn newest_receipt(commits: &[Commit]) -> u64
     newest(commits).receipt
 }
 
-// The receipt behind that of the newest commit.
+// The receipt after that of the newest commit.
 fn next_receipt(domain: &Domain) -> Result<u64, Fail>
     requires { AreKept domain.now.commits.items }
     ensures small { IfOk result (λ receipt. receipt ≤ 1000000) }
@@ -116,7 +116,7 @@ pub(crate) fn submission(alloc: Global, domain: &Domain, wish: Wish) -> Result<S
     })
 }
 
-// The number of the commit; 0 where there is none.
+// The number of the commit; 0 if there is none.
 fn number_of(outcome: &Outcome) -> u64 {
     match outcome {
         Outcome::Done { commit } => *commit,

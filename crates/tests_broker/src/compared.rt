@@ -125,7 +125,7 @@ fn commit_at(commits: &[Commit], number: usize) -> &Commit
     &commits[number]
 }
 
-// What the commit behind the one of this number changed at the path, by both trees.
+// What the commit after the one of this number changed at the path, by both trees.
 fn by_trees(
     alloc: Global,
     commits: &[Commit],

@@ -31,7 +31,7 @@ fn add_children<'a>(
     Ok(())
 }
 
-// Adds all nodes below those that are listed, one level behind another.
+// Adds all nodes below those that are listed, one level after another.
 fn add_below(nodes: &mut Vec<&Child>, alloc: Global) -> Result<(), NoMemory> {
     for place in 0..1_000_000usize {
         let Some(&child) = nodes.get(place) else {

@@ -31,7 +31,7 @@ fn listened<R: Wait>(at: &Desk<'_, R>, seat: &mut Seat) -> Option<(ListenerId, u
     }
 }
 
-// The commits between which the batch tells.
+// The commits of the batch, first and last.
 fn ends_of(answer: &Result<Batch, CallFault>) -> [u64; 2] {
     match answer {
         Ok(batch) => [batch.from, batch.to],

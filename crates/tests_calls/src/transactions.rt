@@ -11,7 +11,7 @@ use sal_rows::{CallFault, Mode, Outcome};
 use sal_tx::{Tx, WriteTx};
 use std::sync::Wait;
 
-// The number of the commit; 0 where there is none.
+// The number of the commit; 0 if there is none.
 fn commit_in(outcome: &Outcome) -> u64 {
     match outcome {
         Outcome::Done { commit } => *commit,

@@ -58,7 +58,7 @@ impl Case<'_> {
         text_at(self.rt, self.shared_path(file)?)
     }
 
-    /// The text of the case's file of this kind, or another one where there is none.
+    /// The text of the case's file of this kind, or another one if there is none.
     pub fn text_or(&self, kind: &str, other: &str) -> io::Result<String> {
         if self.has(kind)? {
             self.text(kind)

@@ -5,7 +5,7 @@ use std::sync::atomic::{AtomicU64, Ordering};
 // How many rounds a load has at most.
 const MAX_ROUNDS: u32 = 10000;
 
-/// How many steps, and the sum of their places, by which one step is told from another.
+/// How many steps, and the sum of their places, which distinguishes one step from another.
 #[derive(Clone, Copy, PartialEq, Eq)]
 pub struct Steps {
     pub count: u64,
@@ -33,7 +33,7 @@ fn place(client: u32, step: u32) -> u64 {
     (u64::from(client) << 32) | u64::from(step)
 }
 
-/// A gate that lets everybody go on at once, and counts.
+/// A gate that lets everybody pass at once, and counts.
 #[derive(Drop)]
 pub struct CountingGate {
     count: AtomicU64,
@@ -65,7 +65,7 @@ impl Gate for CountingGate {
     }
 }
 
-/// The steps that a report answers, or those of a load that its summary tells; none where the text is neither.
+/// The steps that a report answers, or those of a load that its summary has; none if the text is neither.
 pub fn answered(text: &str) -> Steps {
     if text.starts_with("order") {
         reported(text)
@@ -95,7 +95,7 @@ fn loaded(rounds: u32) -> Steps {
     steps
 }
 
-// The rounds that the first line of a summary tells.
+// The rounds on the first line of a summary.
 fn rounds_of(text: &str) -> Option<u32> {
     let rest = text.strip_prefix("load ")?;
     let (rounds, _) = rest.split_once(' ')?;

@@ -16,7 +16,7 @@ pub fn of_case(case: Case<'_>) -> io::Result<String> {
     }
 }
 
-// The script, with the modules of the folder as its first member where there are some.
+// The script, with the modules of the folder as its first member if there are some.
 fn script(case: Case<'_>) -> io::Result<String> {
     if case.shares("modules.yang")? {
         let modules = case.shared_text("modules.yang")?;
@@ -71,7 +71,7 @@ fn push_modules(all: &mut String, modules: &str) -> io::Result<()> {
     Ok(())
 }
 
-// What stands between a line and the one before, if one was begun.
+// What is between a line and the one before, if one was begun.
 fn ahead_of(line: &str, begun: bool) -> &'static str {
     if !begun {
         "\""
@@ -94,7 +94,7 @@ fn push_escaped(all: &mut String, line: &str) -> io::Result<()> {
     Ok(())
 }
 
-// The text that lines `COUNT |TEXT|` stand for.
+// The text that lines `COUNT |TEXT|` denote.
 fn repeated(alloc: Global, parts: &str) -> io::Result<String> {
     let mut all = String::new(alloc);
     push_parts(&mut all, parts)?;

@@ -1,4 +1,4 @@
-//! Plays the cases that lie in the folders of `data/`, and tells which differ from what is wanted.
+//! Plays the cases in the folders of `data/`, and prints which differ from what is expected.
 //!
 //! `folders.txt` lists the folders. The file `README.md` of a folder has a line for each of its cases, a dash and the name between
 //! backquotes, and what the case shows. A case is some files with its name:
@@ -13,7 +13,7 @@
 //! | `NAME.words` | the words of the command line, one a line; else those of the folder's file `words`, else `sim` |
 //! | `NAME.faults` | lines `read N` and `write N` for calls of the source and the sink that fail, counted from 0, and `room N` for a sink that is full after so many bytes |
 //!
-//! A file that belongs to no case is told, and so is a case that lacks its files. Where a report or a summary is written, the gate is to
+//! A file that belongs to no case is listed, and so is a case that lacks its files. If a report or a summary is written, the gate must
 //! have been passed once before each step.
 //!
 //! `each_fault.txt` lists cases that are played once more for each read of their input, which fails, and for each number of bytes, for

@@ -153,7 +153,7 @@ fn room_of(case: Case<'_>) -> io::Result<usize> {
     Ok(rooms.first().copied().unwrap_or(ROOM) as usize)
 }
 
-// The numbers that stand behind this word in the file of the case's faults.
+// The numbers after this word in the file of the case's faults.
 fn numbers_of(case: Case<'_>, word: &str) -> io::Result<Vec<u64>> {
     let text = case.text_or("faults", "")?;
     numbers_in(case.alloc(), text.as_str(), word)

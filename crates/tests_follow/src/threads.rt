@@ -25,7 +25,7 @@ fn copied(alloc: Global, bytes: &[u8]) -> Option<Piece> {
     }
 }
 
-// Sends the bytes in pieces of one byte, two bytes and on, up to seven, and then of one again. It tells whether all were sent.
+// Sends the bytes in pieces of one byte, two bytes and so on, up to seven, and then of one again. It returns whether all were sent.
 fn send_all<R: Wait>(rt: &R, alloc: Global, to: &Sender<Piece, Global>, bytes: &[u8]) -> bool {
     let mut rest = bytes;
     for number in 0..bytes.len() {
@@ -53,7 +53,7 @@ fn lead<R: Wait>(rt: &R, alloc: Global, to: Sender<Piece, Global>) -> bool {
     }
 }
 
-// The follower: it takes what comes, to the end. It tells whether it holds the leader's last commit.
+// The follower: it takes what comes, to the end. It returns whether it holds the leader's last commit.
 fn follow<R: Wait>(rt: &R, mut follower: Follower, from: Receiver<Piece, Global>) -> bool
     requires { IsFedBy 0 follower }
 {

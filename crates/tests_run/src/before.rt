@@ -1,11 +1,11 @@
-//! A client passes the gate before its step, and not behind it.
+//! A client passes the gate before its step, and not after it.
 use crate::command::{Missed, Texts, ended};
 use sal_io::Gate;
 use sal_prepare::status::Status;
 use std::sync::atomic::{AtomicU64, Ordering};
 use std::test::Fail;
 
-// A gate passed behind the steps would let client 0 begin on commit 1: it would wait until client 1 has settled.
+// A gate passed after the steps would let client 0 begin on commit 1: it would wait until client 1 has settled.
 const SCRIPT: Texts = Texts {
     words: &["run"],
     input: r#"{ "clients": [
@@ -14,8 +14,8 @@ const SCRIPT: Texts = Texts {
     output: "order 1 1 0 1\n0 0 refused empty-slot\n0 1 begun 0\n0 2 false\n1 0 begun 0\n1 1 ok\n1 2 receipt 1\n1 3 done 1\ntree 0 1 {\"plain:box\":{\"a\":\"x\"}} {}\n",
 };
 
-// A gate that holds client 0 before its first step until client 1 has come to its settle, and client 1 there until client 0 has
-// come to the step behind its begin.
+// A gate that holds client 0 before its first step until client 1 has reached its settle, and client 1 there until client 0 has
+// reached the step after its begin.
 #[derive(Drop)]
 struct Holding {
     settles: AtomicU64,

@@ -64,7 +64,7 @@ impl Missed {
         self.count.load(Ordering::SeqCst)
     }
 
-    /// Waits until so many have come, and counts the client where they do not.
+    /// Waits until this many have come, and counts the client if they do not.
     pub(crate) fn wait_for(&self, come: &AtomicU64, clients: u64) {
         if !comes(come, clients) {
             self.count.fetch_add(1, Ordering::SeqCst);

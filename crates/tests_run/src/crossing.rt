@@ -20,7 +20,7 @@ const LOAD: Texts = Texts {
     output: "load 2 1\ncalls 24\ncommits 8\nrows 24\nsum 44\n",
 };
 
-// A gate at which clients meet: each waits before its second step until all others have come to theirs.
+// A gate at which clients meet: each waits before its second step until all others have reached theirs.
 #[derive(Drop)]
 struct Meeting {
     clients: u64,

@@ -97,7 +97,7 @@ fn client(alloc: Global, hall: &Hall<'_, OpenGate>, programs: &[Program], seat: 
     }
 }
 
-// Whether the one client was told that the history is full, at its first step.
+// Whether the one client got the answer that the history is full, at its first step.
 fn is_refused(runs: &[SeatedRun]) -> bool {
     match runs {
         [one] => match one.end {

@@ -34,7 +34,7 @@ pub(crate) fn empty_tape(alloc: Global, limit: u64) -> Tape
     }
 }
 
-// Adds a line of the seat's number, or none where there is no memory.
+// Adds a line of the seat's number, or none if memory runs out.
 pub(crate) fn one_turn<R: Wait>(rt: &R, turn: &Turn<Tape>, seat: Seat<Tape>, n: u64) -> Seat<Tape>
     requires { seat.lock ≡ turn.now }
     ensures { (result.lock ≡ turn.now) × SameRights seat.view result.view }

@@ -1,4 +1,4 @@
--- What stands at a place, for any place; the first hundred are computed.
+-- The statement at a place, for any place; the first hundred are computed.
 use Rattle.std.proofs.Common.{◌≡◌, ℕ, ◌==◌, [], ◌∷◌, Option, Some, None, if◌then◌else◌, refl, ◌∙◌}
 use Rattle.std.specs.Prelude.{is_some}
 use Rattle.sal_stmt.specs.declared.stmt.Stmt.{Stmt}

@@ -1,11 +1,14 @@
 -- What a transaction sees, and what holds of its operations.
-use Rattle.std.specs.Prelude.{◌≡◌, ◌≢◌, ◌⊎◌, ℕ, ◌+◌, ◌*◌, ◌-◌, ◌<◌, ◌^◌, List, [], ◌∷◌, ◌++◌, Option, None, Some, Result, MatchResult}
+use Rattle.std.specs.Prelude.{◌≡◌, ◌≢◌, ◌⊎◌, ℕ, ◌+◌, ◌*◌, ◌-◌, ◌<◌, ◌^◌, Bool, true, false, List, [], ◌∷◌, ◌++◌, Option, None, Some, Result, MatchResult}
 use Rattle.sal_types.specs.declared.value.Store.{Store}
 use Rattle.sal_types.specs.declared.value.Store.TheVariants.{Config, Oper}
+use Rattle.sal_types.specs.declared.value.Step.{Step}
 use Rattle.sal_rows.specs.declared.op.Op.{Op}
-use Rattle.sal_rows.specs.declared.outcome.Mode.TheVariants.{Ro}
+use Rattle.sal_rows.specs.declared.outcome.Mode.{Mode}
+use Rattle.sal_rows.specs.declared.outcome.Mode.TheVariants.{Ro, Wo, Rw, Checked}
 use Rattle.sal_types.specs.Tree.{under}
-use Rattle.sal_rows.specs.Apply.{apply_ops, rows_of_act}
+use Rattle.sal_rows.specs.Apply.{apply_ops, is_read, rows_of_act}
+use Rattle.sal_rows.specs.Reads.{recorded}
 use Rattle.sal_rows.specs.Touch.{touches}
 use Rattle.sal_node.specs.Tree.{Tree}
 use Rattle.sal_tree.specs.Follows.{Follows, exactly}
@@ -16,7 +19,7 @@ use Rattle.sal_schema.specs.declared.table.SchemaTable.{SchemaTable}
 use Rattle.sal_rules.specs.Writes.{IsForSchema}
 use Rattle.sal_tx.specs.declared.writing.Writing.{Writing}
 use Rattle.sal_rules.specs.declared.fault.TxFault.{TxFault}
-use Rattle.sal_rules.specs.declared.fault.TxFault.TheVariants.{NoMemory}
+use Rattle.sal_rules.specs.declared.fault.TxFault.TheVariants.{WriteOnly, NotConfig, KeyLeaf, ParentMissing, RootPath, NoMemory}
 use Rattle.sal_rules.specs.Refusals.{refusal}
 
 -- the stamp of a transaction that was begun at a place
@@ -28,11 +31,12 @@ pub record IsAfter (stamp : ℕ) (store : Store) (ops : List Op) (base view : Tr
   pub rows : rows_of view ≡ apply_ops (rows_of base) store ops
   pub stamps : Follows (exactly stamp) (touches (rows_of base) store ops) base view
 
--- Each operation is one for the schema and is not refused over the trees after those before it.
+-- Each operation but a read is one for the schema and is not refused over the trees after those before it. A read may be of any path.
 abbrev pub AreLawful : SchemaTable → Pair → List Op → List Op → Type 0
 AreLawful table base earlier [] = Unit {0}
 AreLawful table base earlier (op ∷ ops) =
-    (IsForSchema table op × (refusal table (apply_ops (rows_in base op.store) op.store earlier) op ≡ None)) × AreLawful table base (earlier ++ op ∷ []) ops
+    (is_read op.act ≡ false → IsForSchema table op × (refusal table (apply_ops (rows_in base op.store) op.store earlier) op ≡ None))
+    × AreLawful table base (earlier ++ op ∷ []) ops
 
 -- The rows of each operation lie at and below its path.
 abbrev pub LieBelow : List Op → Type 0
@@ -64,6 +68,28 @@ Shows base ops view = (s : Store) → rows_in view s ≡ apply_ops (rows_in base
 abbrev pub with_tree : Pair → Store → Tree → Pair
 with_tree pair Config tree = record { config = tree; oper = pair.oper }
 with_tree pair Oper tree = record { config = pair.config; oper = tree }
+
+-- ---- reads
+
+-- whether a transaction of the mode records what it reads
+abbrev pub records_reads : Mode → Bool
+records_reads Ro = false
+records_reads Wo = false
+records_reads Rw = false
+records_reads Checked = true
+
+-- the transaction after a read of the path
+abbrev pub after_read : Store → List Step → Writing → Writing
+after_read s p w = record w { changes = recorded w.mode s p w.changes }
+
+-- The transaction after a write to the store was refused: a missing parent is read.
+abbrev pub after_refusal : TxFault → Store → Writing → Writing
+after_refusal (ParentMissing path) s w = after_read s path w
+after_refusal WriteOnly s w = w
+after_refusal (NotConfig path) s w = w
+after_refusal (KeyLeaf path) s w = w
+after_refusal RootPath s w = w
+after_refusal NoMemory s w = w
 
 -- ---- one write
 

@@ -27,11 +27,13 @@
 //! | call | cost |
 //! |---|---|
 //! | `ReadTx::open`, `WriteTx::open`, `into_submission` | constant, whatever the trees |
-//! | `exists`; `read` | one search for each step; and the rows that are read; the first one behind a first write makes the view |
+//! | `exists`; `read` | one search for each step; and the rows that are read; the first one after a first write makes the view; in mode `Checked` a search among the recorded reads |
 //! | `put`, `merge`, `delete` | a look at each row for state data, and one walk along the path; from the second one on the edit of the view |
 //! | the view, `Submission::trees` without one | the edit of the tree by each operation |
 //!
-//! After a refusal, want of memory included, a transaction is as it was.
+//! After a refusal, want of memory included, a transaction is as it was, but for mode `Checked`: there each read is an operation of
+//! the transaction, and so is the look at a parent whose absence refused a write. Its submission is a conflict if a commit after the
+//! base changed what it read. A path is recorded once, and not below a path that the transaction read, put or deleted before.
 #![tactic(auto)]
 
 mod begun;

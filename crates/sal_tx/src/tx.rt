@@ -1,5 +1,5 @@
 //! Transactions.
-ghost use Rattle.std.specs.Prelude.{◌≡◌, ◌≢◌, ◌⊎◌, ◌↔◌, ◌-◌, ◌<◌, ◌^◌, [], IfSome, IsTrue, IfOk, OnErr, MatchResult};
+ghost use Rattle.std.specs.Prelude.{◌≡◌, ◌≢◌, ◌⊎◌, ◌↔◌, ◌-◌, ◌<◌, ◌^◌, [], IfSome, IsTrue, IfOk, IfErr, OnOk, OnErr, MatchResult};
 ghost use Rattle.sal_types.specs.Tree.{has, under};
 ghost use Rattle.sal_rows.specs.Apply.{apply_ops};
 ghost use Rattle.sal_rows.specs.declared.op.Act.TheVariants.{Put as SetAll, Merge as SetSome, Delete as ClearAll};
@@ -8,7 +8,7 @@ ghost use Rattle.sal_rules.specs.Writes.{IsForSchema};
 
 use crate::begun::Begun;
 use crate::views::viewed;
-use crate::writing::{Writing, push, push_first, stamp_of};
+use crate::writing::{Writing, push, push_first, record_read, refuse, stamp_of};
 use sal_mod::Mod;
 use sal_rows::{Act, Mode, Op, Ops, Rows};
 use sal_rules::TxFault;
@@ -257,13 +257,13 @@ impl WriteTx {
         }
     }
 
-    /// The rows at the path and below it, under its own writes. A transaction that only writes refuses. Its view may be made for
-    /// the look, which no contract sees: for its caller, and each contract, the transaction stays the same, also where memory runs
-    /// out.
+    /// The rows at the path and below it, under its own writes. A transaction that only writes refuses. In mode `Checked` the read is
+    /// recorded. Its view may be made for the read, which no contract sees. If memory runs out, the transaction stays the same.
     pub fn read(&mut self, alloc: Global, store: Store, path: &Path) -> Result<Rows, TxFault>
         ensures rows { IfOk result (λ rows. rows ≡ under (apply_ops (spec.rows_in self.old.base store) store self.old.changes) path.now) }
         ensures cause { MatchResult result (λ _. self.old.mode ≢ Mode.Wo) (λ e. (e ≡ TxFault.NoMemory) ⊎ ((e ≡ TxFault.WriteOnly) × (self.old.mode ≡ Mode.Wo))) }
-        ensures same { self.new ≡ self.old }
+        ensures ok { OnOk result (self.new ≡ spec.after_read store path.now self.old) }
+        ensures err { OnErr result (self.new ≡ self.old) }
     {
         if self.only_writes() {
             return Err(TxFault::WriteOnly);
@@ -272,17 +272,18 @@ impl WriteTx {
         let rows = tree_of(&view, store).rows(alloc, path);
         self.view = Some(view);
         match rows {
-            Ok(rows) => Ok(rows),
+            Ok(rows) => self.recorded(alloc, store, path, rows),
             Err(NoMemory) => Err(TxFault::NoMemory),
         }
     }
 
-    /// Whether a row stands at the path or below it, under its own writes. A transaction that only writes refuses. As with `read`,
-    /// its view may be made for the look, and the transaction stays the same for each contract.
+    /// Whether a row stands at the path or below it, under its own writes. A transaction that only writes refuses. As with `read`, in
+    /// mode `Checked` this is recorded, and the view may be made.
     pub fn exists(&mut self, alloc: Global, store: Store, path: &Path) -> Result<bool, TxFault>
         ensures found { IfOk result (λ b. b ≡ has (apply_ops (spec.rows_in self.old.base store) store self.old.changes) path.now) }
         ensures cause { MatchResult result (λ _. self.old.mode ≢ Mode.Wo) (λ e. (e ≡ TxFault.NoMemory) ⊎ ((e ≡ TxFault.WriteOnly) × (self.old.mode ≡ Mode.Wo))) }
-        ensures same { self.new ≡ self.old }
+        ensures ok { OnOk result (self.new ≡ spec.after_read store path.now self.old) }
+        ensures err { OnErr result (self.new ≡ self.old) }
     {
         if self.only_writes() {
             return Err(TxFault::WriteOnly);
@@ -290,7 +291,25 @@ impl WriteTx {
         let view = self.take_view(alloc)?;
         let found = tree_of(&view, store).exists(path);
         self.view = Some(view);
-        Ok(found)
+        self.recorded(alloc, store, path, found)
+    }
+
+    // The answer of a read, which is recorded.
+    fn recorded<A: Drop>(
+        &mut self,
+        alloc: Global,
+        store: Store,
+        path: &Path,
+        answer: A,
+    ) -> Result<A, TxFault>
+        ensures answer { MatchResult result (λ it. it ≡ answer) (λ e. e ≡ TxFault.NoMemory) }
+        ensures ok { OnOk result (self.new ≡ spec.after_read store path.now self.old) }
+        ensures err { OnErr result (self.new ≡ self.old) }
+    {
+        match record_read(alloc, &mut self.parts, store, path) {
+            Ok(()) => Ok(answer),
+            Err(NoMemory) => Err(TxFault::NoMemory),
+        }
     }
 
     /// Sets all at and below the path to what the rows say, and to absent where they are silent.
@@ -303,7 +322,7 @@ impl WriteTx {
     ) -> Result<(), TxFault>
         requires { IsForSchema self.old.begun.schema.value (record { store = store; path = path; act = SetAll rows }) }
         ensures outcome { spec.IsOutcome self.old (record { store = store; path = path; act = SetAll rows }) self.new result }
-        ensures err { OnErr result (self.new ≡ self.old) }
+        ensures err { IfErr result (λ e. self.new ≡ spec.after_refusal e store self.old) }
     {
         self.write(
             alloc,
@@ -325,7 +344,7 @@ impl WriteTx {
     ) -> Result<(), TxFault>
         requires { IsForSchema self.old.begun.schema.value (record { store = store; path = path; act = SetSome rows }) }
         ensures outcome { spec.IsOutcome self.old (record { store = store; path = path; act = SetSome rows }) self.new result }
-        ensures err { OnErr result (self.new ≡ self.old) }
+        ensures err { IfErr result (λ e. self.new ≡ spec.after_refusal e store self.old) }
     {
         self.write(
             alloc,
@@ -341,7 +360,7 @@ impl WriteTx {
     pub fn delete(&mut self, alloc: Global, store: Store, path: Path) -> Result<(), TxFault>
         requires { IsForSchema self.old.begun.schema.value (record { store = store; path = path; act = ClearAll }) }
         ensures outcome { spec.IsOutcome self.old (record { store = store; path = path; act = ClearAll }) self.new result }
-        ensures err { OnErr result (self.new ≡ self.old) }
+        ensures err { IfErr result (λ e. self.new ≡ spec.after_refusal e store self.old) }
     {
         self.write(
             alloc,
@@ -353,8 +372,22 @@ impl WriteTx {
         )
     }
 
-    /// One operation: a put, a merge or a delete. A write that is refused leaves the transaction as it was.
+    /// One operation: a put, a merge or a delete. A write that is refused leaves the transaction as it was, but that in mode
+    /// `Checked` a missing parent is recorded as read.
     pub fn write(&mut self, alloc: Global, op: Op) -> Result<(), TxFault>
+        requires { IsForSchema self.old.begun.schema.value op }
+        ensures outcome { spec.IsOutcome self.old op self.new result }
+        ensures err { IfErr result (λ e. self.new ≡ spec.after_refusal e op.store self.old) }
+    {
+        let store = op.store;
+        match self.pushed(alloc, op) {
+            Ok(()) => Ok(()),
+            Err(fault) => Err(refuse(alloc, &mut self.parts, store, fault)),
+        }
+    }
+
+    // One operation. If it is refused, nothing changes.
+    fn pushed(&mut self, alloc: Global, op: Op) -> Result<(), TxFault>
         requires { IsForSchema self.old.begun.schema.value op }
         ensures outcome { spec.IsOutcome self.old op self.new result }
         ensures err { OnErr result (self.new ≡ self.old) }

@@ -24,6 +24,7 @@ pub fn edited(alloc: Global, tree: &Root, op: &Op, stamp: u64) -> Result<Root, N
         Act::Put(rows) => tree.put(alloc, &op.path, rows, stamp),
         Act::Merge(rows) => tree.merge(alloc, &op.path, rows, stamp),
         Act::Delete => tree.delete(alloc, &op.path, stamp),
+        Act::Read => tree.copy(),
     }
 }
 

@@ -1,6 +1,7 @@
 //! What a transaction that writes has, and one operation more.
-ghost use Rattle.std.specs.Prelude.{◌≡◌, ◌⊎◌, ◌+◌, ◌*◌, ◌-◌, ◌<◌, ◌^◌, [], None, Some, MatchResult, OnErr};
+ghost use Rattle.std.specs.Prelude.{◌≡◌, ◌⊎◌, ◌+◌, ◌*◌, ◌-◌, ◌<◌, ◌^◌, [], None, Some, IfOk, MatchResult, OnOk, OnErr};
 ghost use Rattle.sal_rows.specs.Apply.{apply_ops};
+ghost use Rattle.sal_rows.specs.Reads.{read_of};
 ghost use Rattle.sal_tree.specs.Rows.{rows_of};
 ghost use Rattle.sal_tx.specs.Views as spec;
 ghost use Rattle.sal_tx.specs.Views.{IsRight, IsSeen, stamp_of};
@@ -10,10 +11,11 @@ use crate::begun::Begun;
 use crate::refusal::check;
 use crate::views::{next_tree, set_tree};
 use sal_mod::Mod;
-use sal_rows::{Mode, Op};
+use sal_rows::{Act, Mode, Op};
 use sal_rules::TxFault;
 use sal_schema::Schema;
 use sal_tree::{Pair, Root, tree_of};
+use sal_types::{Duplicate, NoMemory, Path, Store};
 use std::alloc::Global;
 
 /// The parts of a transaction that writes: its base, and its operations.
@@ -23,6 +25,63 @@ pub struct Writing {
     pub mode: Mode,
     pub base: Pair,
     pub changes: Mod,
+}
+
+// Whether a transaction of the mode records what it reads.
+fn records_reads(mode: Mode) -> bool
+    ensures { result ≡ spec.records_reads mode }
+{
+    match mode {
+        Mode::Checked => true,
+        _ => false,
+    }
+}
+
+/// Records a read of the path, in mode `Checked`, if it is not known. If memory runs out, nothing changes.
+pub(crate) fn record_read(
+    alloc: Global,
+    parts: &mut Writing,
+    store: Store,
+    path: &Path,
+) -> Result<(), NoMemory>
+    ensures ok { OnOk result (parts.new ≡ spec.after_read store path.now parts.old) }
+    ensures err { OnErr result (parts.new ≡ parts.old) }
+{
+    if !(records_reads(parts.mode) && !parts.changes.knows(store, path)) {
+        return Ok(());
+    }
+    let op = read_of(store, path)?;
+    match parts.changes.add(alloc, op) {
+        Ok(()) => Ok(()),
+        Err(_) => Err(NoMemory),
+    }
+}
+
+// The read of the path.
+fn read_of(store: Store, path: &Path) -> Result<Op, NoMemory>
+    ensures { IfOk result (λ op. op ≡ read_of store path.now) }
+{
+    Ok(Op {
+        store,
+        path: path.copy()?,
+        act: Act::Read,
+    })
+}
+
+/// The refusal of a write to the store. In mode `Checked` a missing parent is recorded as read; if there is no memory for that, the
+/// refusal is the want of memory.
+pub(crate) fn refuse(alloc: Global, parts: &mut Writing, store: Store, fault: TxFault) -> TxFault
+    ensures parts { parts.new ≡ spec.after_refusal result store parts.old }
+    ensures fault { (result ≡ TxFault.NoMemory) ⊎ (result ≡ fault) }
+{
+    let recorded = match &fault {
+        TxFault::ParentMissing { path } => record_read(alloc, parts, store, path),
+        _ => Ok(()),
+    };
+    match recorded {
+        Ok(()) => fault,
+        Err(NoMemory) => TxFault::NoMemory,
+    }
 }
 
 /// The stamp of the nodes that a transaction that began so makes.

@@ -63,7 +63,7 @@ module _ (tables : List Versions) (world : List Domain) (c : ℕ) where
         deaf : (l : Listener) → (let none : Option Listener = None in none) ≡ Some l → ⊥
         deaf l at = cc
 
-    -- behind an entry of another client
+    -- after an entry of another client
     pub at_other : (log : List Entry) (now : Run) (e : Entry) → (e.client ≡ c → ⊥) → IsAt tables world c steps log now → IsAt tables world c steps (log ++ e ∷ []) now
     at_other log now e other was = record {
       called = was.called;
@@ -73,7 +73,7 @@ module _ (tables : List Versions) (world : List Domain) (c : ℕ) where
       listens = listens_longer world c log (e ∷ []) now.client was.listens;
     }
 
-    -- behind some entries of others
+    -- after some entries of others
     pub at_others : (more log : List Entry) (now : Run) → entries_of more c ≡ 0 → IsAt tables world c steps log now → IsAt tables world c steps (log ++ more) now
     at_others [] log now none was = subst (λ (l : List Entry). IsAt tables world c steps l now) (sym (append-nil log)) was
     at_others (e ∷ more) log now none was =
@@ -92,14 +92,14 @@ module _ (tables : List Versions) (world : List Domain) (c : ℕ) where
         let count : entries_of found c ≡ entries_of log c + entries_of more c = ap (λ (l : List Entry). entries_of l c) (sym begins.1) ∙ sum_by-append (λ (x : Entry). if nat_eq x.client c then 1 else 0) log more in
         subst (λ (l : List Entry). IsAt tables world c steps l now) begins.1 (at_others more log now (omega (arith, count, same)) was)
 
-    -- the same, where the client's own entries are told
+    -- the same, if the client's own entries are known
     pub at_found_own : (log found own : List Entry) (now : Run) → IsPrefix log found → filter (λ (e : Entry). nat_eq e.client c) log ≡ own → filter (λ (e : Entry). nat_eq e.client c) found ≡ own
         → IsAt tables world c steps log now → IsAt tables world c steps found now
     at_found_own log found own now begins before after was =
         at_found log found now begins
         (sym (length-filter (λ (e : Entry). nat_eq e.client c) found) ∙ ap length (after ∙ sym before) ∙ length-filter (λ (e : Entry). nat_eq e.client c) log) was
 
-    -- behind a step that the client answered by itself
+    -- after a step that the client answered by itself
     pub at_local : (log : List Entry) (client next : Client) (step : Move) (rest : List Move) (r : StepReply) → meet tables world log client step ≡ local r next
         → IsAt tables world c steps log (record { client = client; steps = step ∷ rest }) → IsAt tables world c steps log (record { client = replied r next; steps = rest })
     at_local log client next step rest r met was = record {
@@ -113,7 +113,7 @@ module _ (tables : List Versions) (world : List Domain) (c : ℕ) where
         begun : BegunIf log client (local r next)
         begun = subst (BegunIf log client) met (meet_begun tables world log log client was.began step)
 
-    -- behind a shared call that it made
+    -- after a shared call that it made
     pub at_call : (log : List Entry) (client : Client) (step : Move) (rest : List Move) (call : Call) → meet tables world log client step ≡ shared call
         → IsAt tables world c steps log (record { client = client; steps = step ∷ rest })
         → IsAt tables world c steps (log ++ entry_at log call ∷ []) (record { client = after_call log client step call; steps = rest })

@@ -11,7 +11,7 @@ use Rattle.sal_types.specs.Reading.{◌>>=◌}
 use Rattle.serde_json.specs.Data.{Data}
 use Rattle.sal_rows.specs.declared.op.Act.{Act}
 use Rattle.sal_rows.specs.declared.outcome.Mode.{Mode}
-use Rattle.sal_rows.specs.declared.outcome.Mode.TheVariants.{Ro, Wo, Rw}
+use Rattle.sal_rows.specs.declared.outcome.Mode.TheVariants.{Ro, Wo, Rw, Checked}
 use Rattle.sal_history.specs.declared.call.Call.{Call}
 use Rattle.sal_history.specs.declared.call.Call.TheVariants as called
 use Rattle.sal_history.specs.declared.call.Entry.{Entry}
@@ -29,7 +29,7 @@ use Rattle.sal_script.specs.declared.reply.StepReply.{StepReply}
 use Rattle.sal_script.specs.declared.reply.StepReply.TheVariants.{Called}
 use Rattle.sal_script.specs.declared.reply.StepRefusal.TheVariants.{NoDevice, NoUpgrade}
 use Rattle.sal_script.specs.Moves.{Move, Begin, Put, Merge, Delete, Read, Exists, Submit, Cancel, Settle, OpenChain, ChainBegin, CloseChain, Pump, Listen, Take, Unlisten, Mirror, Provide, Withdraw, Invoke, NextCall, Answer, Collect, Subscribe, Offer, TakeNotes, Mount, Unmount, MountAt, Mark, After, Upgrade}
-use Rattle.sal_script.specs.Play.{Arrival, Spot, spot_after, upgrade, Client, DataAct, Listener, Made, Meeting, Open, Opened, Run, accept_unless, act_of, arrive, ask, arrive_by, calls, chain_begin, close_chain, deleting, ended, found, keep, listen, listen_at, local, look, look_at, look_in, make, meet, merging, mirror, op_of, putting, refused, replied, rows_read, seen_by, settle, shared, submit, submit_in, table_for, take_batch, cancel, unlisten, write, write_act, write_at, write_in, write_with}
+use Rattle.sal_script.specs.Play.{Arrival, Spot, spot_after, upgrade, Client, DataAct, Listener, Made, Meeting, Open, Opened, Run, accept_unless, act_of, arrive, ask, arrive_by, calls, chain_begin, close_chain, deleting, ended, found, keep, listen, listen_at, local, look, look_at, look_reply, make, meet, merging, mirror, op_of, putting, refused, replied, rows_read, seen_by, settle, shared, submit, submit_in, table_for, take_batch, cancel, unlisten, write, write_act, write_at, write_in, write_with}
 use Rattle.sal_script.specs.Tables.{Versions, has_domain, has_upgrade, last_in}
 use Rattle.sal_script.specs.Messages.{input_of, note_called, output_of, rpc_called}
 use Rattle.sal_script.specs.Services.{Invocation, OrRefusal, answer, collect, context_of, if_known, in_slot, invoke, mount, mount_at, offer, path_of, provide, rows_of, subscribe, withdraw}
@@ -59,28 +59,31 @@ module _ (table : SchemaTable) (world : List Domain) (log : List Entry) (step : 
   in_met Ro slot store text data_act tx = (refl, refl)
   in_met Wo slot store text data_act tx = at_met (read_path table text) slot store data_act tx
   in_met Rw slot store text data_act tx = at_met (read_path table text) slot store data_act tx
+  in_met Checked slot store text data_act tx = at_met (read_path table text) slot store data_act tx
 
   write_met : (slot : ℕ) (store : Store) (text : List ℕ) (data_act : DataAct) (tx : Option Open) → Met step client (write table world log slot store text data_act client tx)
   write_met slot store text data_act None = (refl, refl)
   write_met slot store text data_act (Some tx) = in_met tx.mode slot store text data_act tx
 
-  shown_met : (domain : ℕ) (mode : Mode) (r : StepReply) → exchange_at step r ≡ [] → Met step client (look_in domain mode r client)
-  shown_met domain Ro r silent = (refl, silent)
-  shown_met domain Wo r silent = (refl, refl)
-  shown_met domain Rw r silent = (refl, silent)
+  shown_met : (mode : Mode) (domain : ℕ) (r : StepReply) → exchange_at step r ≡ [] → exchange_at step (look_reply mode domain r) ≡ []
+  shown_met Ro domain r silent = silent
+  shown_met Wo domain r silent = refl
+  shown_met Rw domain r silent = silent
+  shown_met Checked domain r silent = silent
 
-  look_at_met : (f : List Step → StepReply) (domain : ℕ) (mode : Mode) (path : Result (List Step) PathTextFault) → ((p : List Step) → exchange_at step (f p) ≡ []) → Met step client (look_at f domain mode path client)
-  look_at_met f domain mode (Err fault) silent = (refl, refl)
-  look_at_met f domain mode (Ok path) silent = shown_met domain mode (f path) (silent path)
+  look_at_met : (f : List Step → StepReply) (slot : ℕ) (store : Store) (path : Result (List Step) PathTextFault) (tx : Open) → ((p : List Step) → exchange_at step (f p) ≡ []) → Met step client (look_at f slot store path tx client)
+  look_at_met f slot store (Err fault) tx silent = (refl, refl)
+  look_at_met f slot store (Ok path) tx silent = (refl, shown_met tx.mode tx.domain (f path) (silent path))
 
-  look_met : (f : Open → List Step → List Row → StepReply) (store : Store) (text : List ℕ) (tx : Option Open) → ((o : Open) (p : List Step) (rows : List Row) → exchange_at step (f o p rows) ≡ []) → Met step client (look table world log f store text client tx)
-  look_met f store text None silent = (refl, refl)
-  look_met f store text (Some tx) silent = look_at_met (λ path. f tx path (seen_by world log tx store)) tx.domain tx.mode (read_path table text) (λ path. silent tx path (seen_by world log tx store))
+  look_met : (f : Open → List Step → List Row → StepReply) (slot : ℕ) (store : Store) (text : List ℕ) (tx : Option Open) → ((o : Open) (p : List Step) (rows : List Row) → exchange_at step (f o p rows) ≡ []) → Met step client (look table world log f slot store text client tx)
+  look_met f slot store text None silent = (refl, refl)
+  look_met f slot store text (Some tx) silent = look_at_met (λ path. f tx path (seen_by world log tx store)) slot store (read_path table text) tx (λ path. silent tx path (seen_by world log tx store))
 
 submit_in_met : (slot : ℕ) (client : Client) (tx : Open) (mode : Mode) → Met (Submit slot) client (submit_in tx mode client)
 submit_in_met slot client tx Ro = (refl, refl)
 submit_in_met slot client tx Wo = refl
 submit_in_met slot client tx Rw = refl
+submit_in_met slot client tx Checked = refl
 
 submit_met : (slot : ℕ) (client : Client) (tx : Option Open) → Met (Submit slot) client (submit client tx)
 submit_met slot client None = (refl, refl)
@@ -192,8 +195,8 @@ module _ (tables : List Versions) (world : List Domain) (log : List Entry) where
   met client (Put slot store path value) = write_in_met client (Put slot store path value) slot store path (putting value)
   met client (Merge slot store path value) = write_in_met client (Merge slot store path value) slot store path (merging value)
   met client (Delete slot store path) = write_in_met client (Delete slot store path) slot store path deleting
-  met client (Read slot store path) = look_met (table_for tables (client.transactions slot)) world log (Read slot store path) client rows_read store path (client.transactions slot) (λ o p rows. refl)
-  met client (Exists slot store path) = look_met (table_for tables (client.transactions slot)) world log (Exists slot store path) client found store path (client.transactions slot) (λ o p rows. refl)
+  met client (Read slot store path) = look_met (table_for tables (client.transactions slot)) world log (Read slot store path) client rows_read slot store path (client.transactions slot) (λ o p rows. refl)
+  met client (Exists slot store path) = look_met (table_for tables (client.transactions slot)) world log (Exists slot store path) client found slot store path (client.transactions slot) (λ o p rows. refl)
   met client (Submit slot) = submit_met slot client (client.transactions slot)
   met client (Cancel slot) = cancel_met slot client (client.transactions slot)
   met client (Settle slot) = settle_met slot client (client.receipts slot)
@@ -231,7 +234,7 @@ exchanges-push (s ∷ done) [] step r h = absurd (omega (arith, h))
 exchanges-push (s ∷ done) (x ∷ rs) step r h =
     ap (λ (es : List Exchange). exchange_at s x ++ es) (exchanges-push done rs step r (omega (arith, h))) ∙ sym (append_assoc (exchange_at s x) (exchanges_of done rs) (exchange_at step r))
 
--- the client came to its end, or stands before a call of its next step; with these exchanges so far
+-- the client reached its end, or is before a call of its next step; with these exchanges so far
 abbrev pub Reaches : List Move → List Exchange → Arrival → Type 0
 Reaches steps es (ended client) = (length client.replies ≡ length steps) × (exchanges_of steps client.replies ≡ es)
 Reaches steps es (calls call step run) =

@@ -21,7 +21,7 @@ use Rattle.sal_script.proofs.Listed.{get_some}
 
 -- ---- one client
 
--- behind a shared call there are fewer steps than these
+-- after a shared call there are fewer steps than these
 abbrev Shorter : ℕ → Arrival → Type 0
 Shorter n (ended client) = ⊤
 Shorter n (calls call step run) = length run.steps < n

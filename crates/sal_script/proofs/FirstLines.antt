@@ -1,4 +1,4 @@
--- The first line of a report tells one order.
+-- The first line of a report states one order.
 use Rattle.std.proofs.Common.{◌≡◌, ℕ, ◌^◌, ◌<◌, List, [], ◌∷◌, ◌++◌, codes, decimal, nat_lt, refl, ap, sym, ◌∙◌, subst, arith, append_assoc, flat_map, ltb-true}
 use Rattle.std.specs.List.{list_all}
 use Rattle.std.specs.Char.{digit_value}
@@ -22,7 +22,7 @@ abbrev rest_of : List ℕ → List ℕ
 rest_of [] = []
 rest_of (x ∷ xs) = xs
 
--- two numerals, each with something behind it that is no digit
+-- two numerals, each with something after it that is no digit
 same_digits : (ds es xs ys : List ℕ) → AllDigits 10 ds → AllDigits 10 es → Stops xs → Stops ys → ds ++ xs ≡ es ++ ys → (ds ≡ es) × (xs ≡ ys)
 same_digits [] [] xs ys h k s t is = (refl, is)
 same_digits [] (e ∷ es) xs ys h k s t is = absurd ((subst Stops is s) k.0)
@@ -35,7 +35,7 @@ stops : (order rest : List ℕ) → Stops (flat_map number order ++ (10 ∷ rest
 stops [] rest = λ digit. omega (arith, digit)
 stops (n ∷ order) rest = λ digit. omega (arith, digit)
 
--- what stands behind the word of a first line
+-- what is after the word of a first line
 abbrev behind : List ℕ → List ℕ → List ℕ
 behind order rest = flat_map number order ++ (10 ∷ rest)
 
@@ -54,7 +54,7 @@ same_order (m ∷ first) (n ∷ second) h k xs ys is =
     let rest = same_order first second small.1 small'.1 xs ys digits.1 in
     λ i. decimal_injective m n m_fits n_fits digits.0 i ∷ rest i
 
--- a first line is its word and the numbers behind it
+-- a first line is its word and the numbers after it
 line_parts : (order rest : List ℕ) → line_of order ++ rest ≡ codes "order" ++ behind order rest
 line_parts order rest =
     append_assoc (codes "order") (flat_map number order ++ (10 ∷ [])) rest

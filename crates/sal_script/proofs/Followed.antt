@@ -53,7 +53,7 @@ ascending_after s tree (o ∷ ops) h = ascending_after s (apply_ops tree s o) op
 
 -- ---- parts
 
--- parts look at no tree behind their last commit
+-- parts look at no tree after their last commit
 parts_same : (own : Bool) (trees more : ℕ → List Row) (p : List Step) (n k last : ℕ) → k + n ≤ last → ((j : ℕ) → j ≤ last → trees j ≡ more j) → parts_after own trees p k n ≡ parts_after own more p k n
 parts_same own trees more p zero k last within same = refl
 parts_same own trees more p (suc n) k last within same =
@@ -62,7 +62,7 @@ parts_same own trees more p (suc n) k last within same =
     let rest : parts_after own trees p (k + 1) n ≡ parts_after own more p (k + 1) n = parts_same own trees more p n (k + 1) last (omega (arith, within)) same in
     λ i. part own (here i) (next i) p (k + 1) ++ rest i
 
--- the parts of two batches, one behind the other
+-- the parts of two batches, one after the other
 parts_joined : (own : Bool) (trees : ℕ → List Row) (p : List Step) (k v to : ℕ) → k ≤ v → v ≤ to → parts_after own trees p k (v - k) ++ parts_after own trees p v (to - v) ≡ parts_after own trees p k (to - k)
 parts_joined own trees p k v to first second =
     let at : v ≡ k + (v - k) = omega (arith, first) in
@@ -110,7 +110,7 @@ module _ (world : List Domain) (answered : List Answered) (trees : AreTrees worl
     abbrev newest : ℕ
     newest = length (commits answered domain)
 
-    -- what the listener is told, where it is this one or another
+    -- what the listener is given, if it is this one or another
     abbrev opening_of_it : Bool → Telling
     opening_of_it b = record {
       opening = if b then Some newest else None;
@@ -142,11 +142,11 @@ module _ (world : List Domain) (answered : List Answered) (trees : AreTrees worl
   -- ---- a take
 
   module _ (l : Listening) (made : listener_at answered id ≡ Some l) (was : IsFollowed world answered id l) (n : ℕ) where
-    -- the parts behind the version of a listener
+    -- the parts after the version of a listener
     abbrev parts_behind : ℕ → Listening → List Part
     parts_behind m x = parts_of world answered x (version answered m) (length (commits answered x.domain) - version answered m)
 
-    -- what the listener is told, where the batch is its own or another's
+    -- what the listener is given, if the batch is its own or another's
     abbrev batch_of_it : Bool → ℕ → Listening → Telling
     batch_of_it b m x = record {
       opening = None;

@@ -1,4 +1,4 @@
--- JSON values and the data that they stand for.
+-- JSON values and the data that they denote.
 use Rattle.std.proofs.Common.{◌≡◌, ℕ, Bool, true, ◌||◌, ◌&&◌, ◌==◌, List, [], ◌∷◌, length, map, Option, Some, Bor, eq-eqb, refl, ap, sym, ◌∙◌}
 use Rattle.std.proofs.lemmas.Str.{utf8_valid_len-IsUtf8}
 use Rattle.std.specs.List.{list_any}
@@ -18,7 +18,7 @@ list_of_items-items_of (d ∷ ds) = ap (λ rest. d ∷ rest) (list_of_items-item
 pub list_of-items_of : (d : Data) (ds : List Data) → Some (items_of ds) ≡ as_array d → Some ds ≡ list_of d
 list_of-items_of d ds is = rw (← is) (ap Some (sym (list_of_items-items_of ds)))
 
--- bytes that are text stand for what the text reads as
+-- bytes that are text denote what the text reads as
 pub data_of-text : (bytes text : List ℕ) (found : Option Data) → text ≡ bytes → IsUtf8 bytes → read text ≡ found → data_of bytes ≡ found
 data_of-text bytes text found same utf8 is =
     let valid : (utf8_valid_len bytes == length bytes) ≡ true = eq-eqb _ _ (utf8_valid_len-IsUtf8 bytes utf8) in

@@ -9,13 +9,14 @@ use Rattle.serde_json.specs.View.{view}
 use Rattle.serde_json.specs.declared.value.Value.{Value}
 use Rattle.sal_json_laws.specs.Json.{IsJson, HasJson, is_json}
 use Rattle.sal_json_laws.proofs.Tested.{tests_json}
+use Rattle.sal_script.proofs.CheckedReads.{values_with}
 use Rattle.sal_script.proofs.Given.{Given, given_then}
 use Rattle.sal_script.specs.Json.{list_of, data_of}
 use Rattle.sal_script.specs.JsonMoves.{IsJsonMove, AreJsonMoves, HaveJsonMoves, is_json_move, have_json_moves}
 use Rattle.sal_script.specs.JsonScripts.{AreJsonDevices, IsJsonDevice, IsJsonScript}
 use Rattle.sal_script.specs.Laws.{ScriptsAreJson}
 use Rattle.sal_script.specs.Moves.{Move, Begin, Put, Merge, Delete, Read, Exists, Submit, Cancel, Settle, OpenChain, ChainBegin, CloseChain, Pump, Listen, Take, Unlisten, Mirror, Provide, Withdraw, Invoke, NextCall, Answer, Collect, Subscribe, Offer, TakeNotes, Mount, Unmount, MountAt, Mark, After, Upgrade}
-use Rattle.sal_script.specs.Script.{DeviceParts, OwnParts, ending_of, rules_member, or_bad, device_place, client_place, step_place, at_most, members_of, list_member, program_of, programs_from, steps_from, clients_from, numbers_of, texts_of, modules_member, opening_member, with_openings, device_in, device_names, device_of, placed, devices_from, devices_member, names, clients_member, upgrades_member, own_with, own_of, parts_with, parts_of, script_of}
+use Rattle.sal_script.specs.Script.{DeviceParts, OwnParts, ending_of, reads_member, rules_member, or_bad, device_place, client_place, step_place, at_most, members_of, list_member, program_of, programs_from, steps_from, clients_from, numbers_of, texts_of, modules_member, opening_member, with_openings, device_in, device_names, device_of, placed, devices_from, devices_member, names, clients_member, upgrades_member, own_with, own_of, parts_with, parts_of, script_of}
 use Rattle.sal_script.specs.Steps.{step_of}
 use Rattle.sal_script.proofs.JsonSteps.{step_json}
 use Rattle.sal_script.proofs.JsonValues.{AllJson, AllPrograms, Any, If, at_most_json, data_json, get_json, if_any, if_then, list_by_json, list_json, members_json, opening_by_json, or_else_bad}
@@ -110,14 +111,15 @@ own_json ms is =
 ending_any : (ms : Members) → Given Any (ending_of ms)
 ending_any ms =
     given_then Any Any (or_bad (codes "order") (option_and_then numbers_of (list_member (codes "order") ms))) _ (or_else_bad Any (codes "order") _ (if_any (option_and_then numbers_of (list_member (codes "order") ms)))) (λ order x.
-    given_then Any Any (or_bad (codes "rules") (rules_member ms)) _ (or_else_bad Any (codes "rules") _ (if_any (rules_member ms))) (λ rules y. tt))
+    given_then Any Any (or_bad (codes "rules") (rules_member ms)) _ (or_else_bad Any (codes "rules") _ (if_any (rules_member ms))) (λ rules y.
+    given_then Any Any (or_bad (codes "reads") (reads_member ms)) _ (or_else_bad Any (codes "reads") _ (if_any (reads_member ms))) (λ checked z. tt)))
 
 parts_with_json : (ms : Members) → HasJson ms → (own : OwnParts) → IsJsonOwn own → Given IsJsonScript (parts_with ms own)
 parts_with_json ms is own is_own =
     given_then AreJsonDevices IsJsonScript (devices_member ms) _ (devices_member_json ms is) (λ devices are.
     given_then HaveJsonMoves IsJsonScript (clients_member ms) _ (clients_member_json ms is) (λ clients moves.
     given_then Any IsJsonScript (ending_of ms) _ (ending_any ms) (λ ending y.
-    record { config = is_own.config; operational = is_own.operational; devices = are; clients = moves })))
+    record { config = is_own.config; operational = is_own.operational; devices = are; clients = values_with ending.checked clients moves })))
 
 parts_json : (ms : Members) → HasJson ms → Given IsJsonScript (parts_of ms)
 parts_json ms is = given_then IsJsonOwn IsJsonScript (own_of ms) (parts_with ms) (own_json ms is) (parts_with_json ms is)

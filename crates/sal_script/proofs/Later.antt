@@ -1,4 +1,4 @@
--- A client that stands in a log meets each step in the same way over each longer one.
+-- A client at some place of a log meets each step in the same way over each longer one.
 use Rattle.std.proofs.Common.{◌≡◌, ℕ, ◌+◌, ◌<◌, ◌≤◌, Bool, true, false, List, [], ◌∷◌, ◌++◌, length, Option, None, Some, Result, Ok, Err, if◌then◌else◌, refl, ap, ◌∙◌, subst, arith, length-append}
 use Rattle.std.specs.Prelude.{⊤, nat_eq, unwrap_or, option_and_then}
 use Rattle.std.specs.List.{fold}
@@ -11,8 +11,9 @@ use Rattle.sal_types.specs.Tree.{under}
 use Rattle.sal_rows.specs.declared.op.Op.{Op}
 use Rattle.sal_rows.specs.declared.op.Act.{Act}
 use Rattle.sal_rows.specs.declared.outcome.Mode.{Mode}
-use Rattle.sal_rows.specs.declared.outcome.Mode.TheVariants.{Ro, Wo, Rw}
+use Rattle.sal_rows.specs.declared.outcome.Mode.TheVariants.{Ro, Wo, Rw, Checked}
 use Rattle.sal_rows.specs.Apply.{apply_ops}
+use Rattle.sal_rows.specs.Reads.{recorded}
 use Rattle.sal_history.specs.declared.call.Call.{Call}
 use Rattle.sal_history.specs.declared.call.Call.TheVariants as called
 use Rattle.sal_history.specs.declared.call.Entry.{Entry}
@@ -31,7 +32,7 @@ use Rattle.sal_script.specs.declared.reply.StepReply.{StepReply}
 use Rattle.sal_script.specs.declared.reply.StepReply.TheVariants.{Mirror as MirrorReply}
 use Rattle.sal_script.specs.declared.reply.StepRefusal.TheVariants.{NoDevice, NoUpgrade}
 use Rattle.sal_script.specs.Moves.{Move, Begin, Put, Merge, Delete, Read, Exists, Submit, Cancel, Settle, OpenChain, ChainBegin, CloseChain, Pump, Listen, Take, Unlisten, Mirror, Provide, Withdraw, Invoke, NextCall, Answer, Collect, Subscribe, Offer, TakeNotes, Mount, Unmount, MountAt, Mark, After, Upgrade}
-use Rattle.sal_script.specs.Play.{upgrade, version_for, Client, DataAct, Listener, Meeting, Open, Opened, accept_unless, act_of, ask, cancel, chain_begin, close_chain, deleting, domain_in, found, keep, listen, listen_at, local, look, look_at, look_in, look_with, meet, merging, mirror, op_of, putting, refused, rows_read, seen_by, set_slot, settle, shared, submit, submit_in, table_for, take_batch, unlisten, write, write_act, write_at, write_in, write_with}
+use Rattle.sal_script.specs.Play.{upgrade, version_for, Client, DataAct, Listener, Meeting, Open, Opened, accept_unless, act_of, after_refusal, ask, cancel, chain_begin, close_chain, deleting, domain_in, found, keep, listen, listen_at, local, look, look_at, look_with, meet, merging, mirror, op_of, putting, refused, rows_read, seen_by, set_slot, settle, shared, submit, submit_in, table_for, take_batch, unlisten, write, write_act, write_at, write_in, write_with}
 use Rattle.sal_script.specs.Tables.{Versions, has_domain, has_upgrade, last_in}
 use Rattle.sal_script.specs.Services.{OrRefusal, answer, collect, invoke, mount, mount_at, offer, provide, subscribe, withdraw}
 use Rattle.sal_script.specs.Along.{BeganIn}
@@ -56,7 +57,7 @@ module _ (world : List Domain) where
       began_stays more (answer_more world done e) place (omega (arith, length-append done now, h))
       ∙ ap (option_and_then (λ (a : Answered). a.began)) (get_left done now place h)
 
-  began_later : (log more : List Entry) (place : ℕ) → place < length log → began_at (history world (log ++ more)) place ≡ began_at (history world log) place
+  pub began_later : (log more : List Entry) (place : ℕ) → place < length log → began_at (history world (log ++ more)) place ≡ began_at (history world log) place
   began_later log more place h =
       ap (λ (a : List Answered). began_at a place) (fold-append (answer_more world) [] log more)
       ∙ began_stays more (history world log) place (omega (arith, length_answers [] log, h))
@@ -73,13 +74,13 @@ module _ (world : List Domain) (log more : List Entry) where
   mirror_later client None reached = refl
   mirror_later client (Some l) reached = ap (λ (tree : List Row). local (MirrorReply l.domain l.path l.version (under tree l.path)) client) (trees_later world log more l.domain l.store l.version (reached l refl))
 
--- ---- and so a step comes to the same
+-- ---- and so a step has the same result
 
 module _ (table : SchemaTable) (world : List Domain) (log more : List Entry) where
-  look_later : (f : Open → List Step → List Row → StepReply) (store : Store) (text : List ℕ) (client : Client) (tx : Option Open) → ((o : Open) → tx ≡ Some o → o.place < length log)
-      → look table world (log ++ more) f store text client tx ≡ look table world log f store text client tx
-  look_later f store text client None h = refl
-  look_later f store text client (Some tx) h = ap (λ (rows : List Row). look_at (λ path. f tx path rows) tx.domain tx.mode (read_path table text) client) (seen_later world log more tx store (h tx refl))
+  look_later : (f : Open → List Step → List Row → StepReply) (slot : ℕ) (store : Store) (text : List ℕ) (client : Client) (tx : Option Open) → ((o : Open) → tx ≡ Some o → o.place < length log)
+      → look table world (log ++ more) f slot store text client tx ≡ look table world log f slot store text client tx
+  look_later f slot store text client None h = refl
+  look_later f slot store text client (Some tx) h = ap (λ (rows : List Row). look_at (λ path. f tx path rows) slot store (read_path table text) tx client) (seen_later world log more tx store (h tx refl))
 
   act_later : (slot : ℕ) (store : Store) (path : List Step) (act : Result Act DataFault) (tx : Open) (client : Client) → tx.place < length log
       → write_act table world (log ++ more) slot store path act tx client ≡ write_act table world log slot store path act tx client
@@ -97,6 +98,7 @@ module _ (table : SchemaTable) (world : List Domain) (log more : List Entry) whe
   in_later Ro slot store text data_act tx client h = refl
   in_later Wo slot store text data_act tx client h = at_later slot store (read_path table text) data_act tx client h
   in_later Rw slot store text data_act tx client h = at_later slot store (read_path table text) data_act tx client h
+  in_later Checked slot store text data_act tx client h = at_later slot store (read_path table text) data_act tx client h
 
   write_later : (slot : ℕ) (store : Store) (text : List ℕ) (data_act : DataAct) (client : Client) (tx : Option Open) → ((o : Open) → tx ≡ Some o → o.place < length log)
       → write table world (log ++ more) slot store text data_act client tx ≡ write table world log slot store text data_act client tx
@@ -110,8 +112,8 @@ module _ (tables : List Versions) (world : List Domain) (log more : List Entry) 
   write_in_later client slot store path data_act was = write_later (table_for tables (client.transactions slot)) world log more slot store path data_act client (client.transactions slot) (was slot)
 
   look_in_later : (f : Open → List Step → List Row → StepReply) (client : Client) (slot : ℕ) (store : Store) (path : List ℕ) → BeganIn log client
-      → look_with tables world (log ++ more) f store path client (client.transactions slot) ≡ look_with tables world log f store path client (client.transactions slot)
-  look_in_later f client slot store path was = look_later (table_for tables (client.transactions slot)) world log more f store path client (client.transactions slot) (was slot)
+      → look_with tables world (log ++ more) f slot store path client (client.transactions slot) ≡ look_with tables world log f slot store path client (client.transactions slot)
+  look_in_later f client slot store path was = look_later (table_for tables (client.transactions slot)) world log more f slot store path client (client.transactions slot) (was slot)
 
   -- its transactions began in the log, and its listeners were given nothing that is not committed there
   pub meet_later : (client : Client) (step : Move) → BeganIn log client → Reached world log client → meet tables world (log ++ more) client step ≡ meet tables world log client step
@@ -175,7 +177,7 @@ BegunIf log client (shared call) = ⊤
 module _ (table : SchemaTable) (world : List Domain) (over log : List Entry) (client : Client) (was : BeganIn log client) where
   unless_begun : (fault : Option TxFault) (slot : ℕ) (op : Op) (tx : Open) → tx.place < length log → BegunIf log client (accept_unless fault slot op tx client)
   unless_begun None slot op tx h = (began_filled log client slot (record tx { ops = tx.ops ++ op ∷ [] }) was h, refl)
-  unless_begun (Some fault) slot op tx h = (was, refl)
+  unless_begun (Some fault) slot op tx h = (began_filled log client slot (record tx { ops = after_refusal fault tx.mode op.store tx.ops }) was h, refl)
 
   act_begun : (slot : ℕ) (store : Store) (path : List Step) (act : Result Act DataFault) (tx : Open) → tx.place < length log → BegunIf log client (write_act table world over slot store path act tx client)
   act_begun slot store path (Err fault) tx h = (was, refl)
@@ -189,29 +191,26 @@ module _ (table : SchemaTable) (world : List Domain) (over log : List Entry) (cl
   in_begun Ro slot store text data_act tx h = (was, refl)
   in_begun Wo slot store text data_act tx h = at_begun slot store (read_path table text) data_act tx h
   in_begun Rw slot store text data_act tx h = at_begun slot store (read_path table text) data_act tx h
+  in_begun Checked slot store text data_act tx h = at_begun slot store (read_path table text) data_act tx h
 
   write_begun : (slot : ℕ) (store : Store) (text : List ℕ) (data_act : DataAct) (tx : Option Open) → ((o : Open) → tx ≡ Some o → o.place < length log) → BegunIf log client (write table world over slot store text data_act client tx)
   write_begun slot store text data_act None h = (was, refl)
   write_begun slot store text data_act (Some tx) h = in_begun tx.mode slot store text data_act tx (h tx refl)
 
-  shown_begun : (domain : ℕ) (mode : Mode) (r : StepReply) → BegunIf log client (look_in domain mode r client)
-  shown_begun domain Ro r = (was, refl)
-  shown_begun domain Wo r = (was, refl)
-  shown_begun domain Rw r = (was, refl)
+  look_at_begun : (f : List Step → StepReply) (slot : ℕ) (store : Store) (path : Result (List Step) PathTextFault) (tx : Open) → tx.place < length log → BegunIf log client (look_at f slot store path tx client)
+  look_at_begun f slot store (Err fault) tx h = (was, refl)
+  look_at_begun f slot store (Ok path) tx h = (began_filled log client slot (record tx { ops = recorded tx.mode store path tx.ops }) was h, refl)
 
-  look_at_begun : (f : List Step → StepReply) (domain : ℕ) (mode : Mode) (path : Result (List Step) PathTextFault) → BegunIf log client (look_at f domain mode path client)
-  look_at_begun f domain mode (Err fault) = (was, refl)
-  look_at_begun f domain mode (Ok path) = shown_begun domain mode (f path)
-
-  look_begun : (f : Open → List Step → List Row → StepReply) (store : Store) (text : List ℕ) (tx : Option Open) → BegunIf log client (look table world over f store text client tx)
-  look_begun f store text None = (was, refl)
-  look_begun f store text (Some tx) = look_at_begun (λ path. f tx path (seen_by world over tx store)) tx.domain tx.mode (read_path table text)
+  look_begun : (f : Open → List Step → List Row → StepReply) (slot : ℕ) (store : Store) (text : List ℕ) (tx : Option Open) → ((o : Open) → tx ≡ Some o → o.place < length log) → BegunIf log client (look table world over f slot store text client tx)
+  look_begun f slot store text None h = (was, refl)
+  look_begun f slot store text (Some tx) h = look_at_begun (λ path. f tx path (seen_by world over tx store)) slot store (read_path table text) tx (h tx refl)
 
 module _ (tables : List Versions) (world : List Domain) (over log : List Entry) (client : Client) (was : BeganIn log client) where
   submit_in_begun : (tx : Open) (mode : Mode) → BegunIf log client (submit_in tx mode client)
   submit_in_begun tx Ro = (was, refl)
   submit_in_begun tx Wo = tt
   submit_in_begun tx Rw = tt
+  submit_in_begun tx Checked = tt
 
   submit_begun : (tx : Option Open) → BegunIf log client (submit client tx)
   submit_begun None = (was, refl)
@@ -267,8 +266,8 @@ module _ (tables : List Versions) (world : List Domain) (over log : List Entry) 
   write_in_begun : (slot : ℕ) (store : Store) (path : List ℕ) (data_act : DataAct) → BegunIf log client (write_with tables world over slot store path data_act client (client.transactions slot))
   write_in_begun slot store path data_act = write_begun (table_for tables (client.transactions slot)) world over log client was slot store path data_act (client.transactions slot) (was slot)
 
-  look_in_begun : (f : Open → List Step → List Row → StepReply) (slot : ℕ) (store : Store) (path : List ℕ) → BegunIf log client (look_with tables world over f store path client (client.transactions slot))
-  look_in_begun f slot store path = look_begun (table_for tables (client.transactions slot)) world over log client was f store path (client.transactions slot)
+  look_in_begun : (f : Open → List Step → List Row → StepReply) (slot : ℕ) (store : Store) (path : List ℕ) → BegunIf log client (look_with tables world over f slot store path client (client.transactions slot))
+  look_in_begun f slot store path = look_begun (table_for tables (client.transactions slot)) world over log client was f slot store path (client.transactions slot) (was slot)
 
   pub meet_begun : (step : Move) → BegunIf log client (meet tables world over client step)
   meet_begun (Begin slot domain mode) = tt

@@ -1,4 +1,4 @@
--- What clients left is what they come to in the order of its log.
+-- What clients left is the result of playing them in the order of its log.
 use Rattle.std.proofs.Common.{◌≡◌, ℕ, zero, suc, ◌+◌, ◌<◌, Bool, true, false, List, [], ◌∷◌, ◌++◌, length, set, Option, None, Some, Result, Ok, is_ok, if◌then◌else◌, refl, ap, sym, ◌∙◌, subst, arith, append_assoc, append-nil, inl, inr}
 use Rattle.std.specs.Prelude.{nat_eq, option_and_then, slice_get}
 use Rattle.std.specs.Option.{option_map}
@@ -64,7 +64,7 @@ module _ (tables : List Versions) (world : List Domain) (c : ℕ) where
 
   -- ---- the end of a client
 
-  -- from some place on, the client comes to its end with this log and these replies
+  -- from some place on, the client reaches its end with this log and these replies
   abbrev pub Ends : Option Made → List Entry → List Entry → List StepReply → Type 0
   Ends so_far rest log rs = option_and_then (finish tables world c) (along_from tables world c so_far rest) ≡ Some (let left : Left = record { log = log; replies = rs } in left)
 
@@ -126,7 +126,7 @@ module _ (tables : List Versions) (world : List Domain) where
       λ i. cons_replies (first i) (others i)
 
   module _ (replies : List (List StepReply)) where
-    -- each client comes to its end with its replies
+    -- each client reaches its end with its replies
     abbrev AllEnd : List Entry → List Run → List Entry → List Entry → Type 0
     AllEnd before runs rest log = (c : ℕ) (run : Run) (rs : List StepReply) → slice_get runs c ≡ Some run → slice_get replies c ≡ Some rs → Ends tables world c (Some (made_of before run)) rest log rs
 

@@ -1,5 +1,7 @@
 pub mod Along
 pub mod Arriving
+pub mod CheckedLaws
+pub mod CheckedReads
 pub mod Each
 pub mod Few
 pub mod FirstLines

@@ -42,7 +42,7 @@ limited limit o f ys h =
     let inner = both (f outer.0) (at_most limit) ys outer.2 in
     kept limit inner.0 ys _ refl inner.2
 
-abbrev short : {Step : Type 0} → List (List Step) → Bool
+abbrev pub short : {Step : Type 0} → List (List Step) → Bool
 short programs = list_all (λ steps. nat_le (length steps) 60000) programs
 
 short_program : (d : Data) (steps : List Data) → program_of d ≡ Some steps → nat_le (length steps) 60000 ≡ true

@@ -3,13 +3,13 @@ use Rattle.std.proofs.Common.{◌≡◌, ℕ, zero, suc, ◌<◌, List, [], ◌�
 use Rattle.std.specs.Prelude.{slice_get}
 use Rattle.std.proofs.lemmas.Option.{same_Some}
 
--- something stands at an index
+-- there is an item at an index
 pub get_some : {X : Type 0} (xs : List X) (i : ℕ) → i < length xs → (x : X) × (slice_get xs i ≡ Some x)
 get_some [] i h = absurd (omega arith)
 get_some (y ∷ xs) zero h = (y, refl)
 get_some (y ∷ xs) (suc i) h = get_some xs i (omega arith)
 
--- what stands in a list where one element was replaced
+-- the items of a list in which one element was replaced
 pub get-set : {X : Type 0} (xs : List X) (i : ℕ) (y : X) (n : ℕ) (z : X) → slice_get (set xs i y) n ≡ Some z → ((n ≡ i) × (y ≡ z)) ⊎ ((n ≡ i → ⊥) × (slice_get xs n ≡ Some z))
 get-set [] i y n z e = cc
 get-set (x ∷ xs) zero y zero z e = inl (refl, same_Some y z e)
@@ -38,7 +38,7 @@ take_left [] ys i h = absurd (omega arith)
 take_left (x ∷ xs) ys zero h = refl
 take_left (x ∷ xs) ys (suc i) h = ap (λ zs. x ∷ zs) (take_left xs ys i (omega arith))
 
--- what stands in the front of a longer list
+-- the items in the front of a longer list
 pub get_left : {X : Type 0} (xs ys : List X) (i : ℕ) → i < length xs → slice_get (xs ++ ys) i ≡ slice_get xs i
 get_left [] ys i h = absurd (omega arith)
 get_left (x ∷ xs) ys zero h = refl

@@ -168,7 +168,7 @@ module _ (world : List Domain) (c : ℕ) (log : List Entry) (number : ℕ) (clie
     take_keeps true =
         subst (λ (o : Option Listening). KeepsBy (made.Take l.id) (Take slot) (option_map_or (batch_of world so_far l.id) o (Refused (NoListener l.id)))) (sym (was slot l there).made) moved
 
-  -- ---- any shared call that the client's step comes to
+  -- ---- any shared call of the client's step
 
   quiet : (step : Move) (call : Call) → is_listening step ≡ false → KeepsBy call step (reply_to world so_far c call)
   quiet step call is = listens_same world c (grown call) client (keep (spot_after world log) step (reply_to world so_far c call) client) (same_listeners (spot_after world log) step (reply_to world so_far c call) client is) (unchanged call)

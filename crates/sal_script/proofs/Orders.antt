@@ -31,7 +31,7 @@ same_Err i j e = ap (err_or_this i) e
 
 -- ---- one number of the order
 
--- where the clients stand after this part of an order
+-- the places of the clients after this part of an order
 record Stands (world : List Domain) (clients : List (List Move)) (order : List ℕ) (state : PlayState) : Type 0 where
   pub ordered : map (λ (e : Entry). e.client) state.log ≡ order
   pub known : (i c : ℕ) → slice_get order i ≡ Some c → c < length clients
@@ -84,7 +84,7 @@ module _ (world : List Domain) (clients : List (List Move)) (order : List ℕ) (
       }
 
 module _ (tables : List Versions) (world : List Domain) (clients : List (List Move)) where
-  -- how a client goes on
+  -- how a client continues
   going : (log : List Entry) (c : ℕ) (steps : List Move) (run : Run) → IsOnWay world log c steps run → Reaches steps (exchanges_in world log c) (arrive tables world log run.client run.steps)
   going log c steps run way =
       subst (λ (ms : List Move). Reaches ms (exchanges_in world log c) (arrive tables world log run.client run.steps)) (sym way.parts)

@@ -38,7 +38,7 @@ module _ (tables : List Versions) (world : List Domain) where
       own : (r : Run) × (made_of (log ++ entry_at tables world c log call ∷ []) r ≡ made)
       own = (made.run, λ i. made_of (ap log_of is i) made.run)
 
-  -- each client has come along the log
+  -- each client has gone along the log
   abbrev AllAlong : List (List Move) → PlayState → Type 0
   AllAlong clients state = (c : ℕ) (steps : List Move) (run : Run) → slice_get clients c ≡ Some steps → slice_get state.runs c ≡ Some run → along tables world c state.log (new_run steps) ≡ Some (made_of state.log run)
 
@@ -68,7 +68,7 @@ module _ (tables : List Versions) (world : List Domain) where
     turned_by state next c None at was is = cc
     turned_by state next c (Some run) at was is = with_made state next c run (go tables world state.log c run) at refl was is
 
-    -- each client comes to its end along the log
+    -- each client reaches its end along the log
     abbrev AllFinish : Played → Type 0
     AllFinish played = (c : ℕ) (steps : List Move) (rs : List StepReply) → slice_get clients c ≡ Some steps → slice_get played.replies c ≡ Some rs → PerformsAlong tables world c played.log steps rs
 

@@ -1,4 +1,4 @@
--- The report of what clients left tells the order of its log on its first line.
+-- The report of what clients left states the order of its log on its first line.
 use Rattle.std.proofs.Common.{◌≡◌, ℕ, List, [], ◌∷◌, ◌++◌, codes, refl, ap, flat_map}
 use Rattle.std.specs.Prelude.{map}
 use Rattle.sal_history.specs.declared.call.Entry.{Entry}

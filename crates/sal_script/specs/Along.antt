@@ -1,6 +1,6 @@
--- One client along a log that several clients left. An entry of another is taken as it stands; at an entry of its own the
--- client goes on to its next shared call, over the entries before. So the client has a log of its own making, and where this
--- is the very log that was left, each of its calls stands there at its place, and no other does.
+-- One client along a log that several clients left. An entry of another is taken as it is; at an entry of its own the
+-- client proceeds to its next shared call, over the entries before. So the client has a log of its own making. If this
+-- is the very log that was left, each of its calls is there at its place, and no other is.
 use Rattle.std.specs.Prelude.{◌≡◌, ℕ, ◌<◌, ◌≤◌, List, [], ◌∷◌, ◌++◌, length, map, Option, Some, option_and_then, if◌then◌else◌, nat_eq, slice_get}
 use Rattle.std.specs.List.{fold}
 use Rattle.std.specs.Option.{option_map}
@@ -23,11 +23,11 @@ pub record Left : Type 0 where
   pub replies : List StepReply
 
 module _ (tables : List Versions) (world : List Domain) (c : ℕ) where
-  -- one entry more: where it is the client's own, the call that the client comes to next; none where it comes to its end first
+  -- one entry more: if it is the client's own, the client's next call; none if it reaches its end first
   abbrev pub pass : Made → Entry → Option Made
   pass made e = if nat_eq e.client c then go tables world made.log c made.run else Some (record made { log = made.log ++ e ∷ [] })
 
-  -- the log that the client made along this one, and its run right behind its last call
+  -- the log that the client made along this one, and its run right after its last call
   abbrev pub along : List Entry → Run → Option Made
   along log run = fold (λ so_far e. option_and_then (λ made. pass made e) so_far) (Some (record { log = []; run = run })) log
 
@@ -57,7 +57,7 @@ pub record IsListening (world : List Domain) (c : ℕ) (log : List Entry) (liste
 abbrev pub ListensIn : List Domain → ℕ → List Entry → Client → Type 0
 ListensIn world c log client = (slot : ℕ) (listener : Listener) → client.listeners slot ≡ Some listener → IsListening world c log listener
 
--- Where client c with these steps stands while the log grows: it made its calls there, and answered local steps behind the
+-- The place of client c with these steps while the log grows: it made its calls there, and answered local steps after the
 -- last of them, which are answered the same over each longer log.
 pub record IsAt (tables : List Versions) (world : List Domain) (c : ℕ) (steps : List Move) (log : List Entry) (now : Run) : Type 0 where
   pub called : Run
@@ -66,7 +66,7 @@ pub record IsAt (tables : List Versions) (world : List Domain) (c : ℕ) (steps 
   pub began : BeganIn log now.client
   pub listens : ListensIn world c log now.client
 
--- What clients left: each entry of the log is a call of one of them, and each came to its end along it, with its replies.
+-- What clients left: each entry of the log is a call of one of them, and each reached its end along it, with its replies.
 pub record AreLogOf (world : List Domain) (clients : List (List Move)) (log : List Entry) (replies : List (List StepReply)) : Type 0 where
   pub known : (i : ℕ) (e : Entry) → slice_get log i ≡ Some e → e.client < length clients
   pub all : length replies ≡ length clients

@@ -32,12 +32,12 @@ abbrev pub list_data : List Data → Data
 list_data ds = array (items_of ds)
 
 module _ (table : SchemaTable) where
-  -- the value of a leaf at the end of a path; values stand at leafs alone
+  -- the value of a leaf at the end of a path; only leafs have values
   abbrev pub leaf_data : Option Step → Value → Data
   leaf_data (Some (Node n)) value = scalar_json table n value
   leaf_data step value = null
 
-  -- a cell at a path: an empty object for a mark, and null where there is none
+  -- a cell at a path: an empty object for a mark, and null if there is none
   abbrev pub cell_data : List Step → Option Cell → Data
   cell_data path None = null
   cell_data path (Some Mark) = object no_members

@@ -43,7 +43,7 @@ world_of rows = record { table = table; upgrades = []; opening = record { config
 
 -- a script over `plain` without openings
 abbrev pub plain_script : List (List Move) → List ℕ → Parts
-plain_script clients order = record { modules = PLAIN.now ∷ []; upgrades = []; config = object no_members; operational = object no_members; devices = []; clients = clients; order = order; rules = One }
+plain_script clients order = record { modules = PLAIN.now ∷ []; upgrades = []; config = object no_members; operational = object no_members; devices = []; clients = clients; order = order; rules = One; checked = false }
 
 -- ---- steps
 

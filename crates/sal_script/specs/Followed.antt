@@ -27,13 +27,13 @@ follows call reply id rows = rows
 abbrev pub followed : List Answered → ℕ → List Row
 followed answered id = fold (λ rows a. follows a.entry.call a.reply id rows) [] answered
 
--- the parts told of the listener after a call with this answer: none yet at its opening, and those of a batch behind those before
+-- the parts that the listener was given after a call with this answer: none yet at its opening, and those of a batch after those before
 abbrev pub tells : Call → Reply → ℕ → List Part → List Part
 tells (Listen domain store path) (Listener n at p opened) id parts = if nat_eq n id then [] else parts
 tells (Take n) (Told domain batch) id parts = if nat_eq n id then parts ++ batch.lists else parts
 tells call reply id parts = parts
 
--- the parts that its answers told, in order
+-- the parts that its answers gave, in order
 abbrev pub told : List Answered → ℕ → List Part
 told answered id = fold (λ parts a. tells a.entry.call a.reply id parts) [] answered
 
@@ -55,7 +55,7 @@ abbrev pub AreTrees : List Domain → Type 0
 AreTrees world = (domain : ℕ) (store : Store) → IsAscending (opening_of world domain store)
 
 -- The version of the listener is a commit that there is, not before its opening. The rows that its answers gave are those under
--- its path there, and the parts that they told are those of all commits since the opening, each once and in order.
+-- its path there, and the parts that they gave are those of all commits since the opening, each once and in order.
 pub record IsFollowed (world : List Domain) (answered : List Answered) (id : ℕ) (l : Listening) : Type 0 where
   pub reached : version answered id ≤ length (commits answered l.domain)
   pub begun : opened_at answered id ≤ version answered id

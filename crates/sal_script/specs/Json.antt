@@ -28,6 +28,6 @@ below limit n = if nat_lt n limit then Some n else None
 abbrev pub whole_below : ℕ → Data → Option ℕ
 whole_below limit d = option_and_then (below limit) (option_and_then as_u64 (as_number d))
 
--- the data that bytes stand for: they are text, and the text is JSON
+-- the data that bytes denote: they are text, and the text is JSON
 abbrev pub data_of : List ℕ → Option Data
 data_of bytes = if utf8_valid_len bytes == length bytes then read bytes else None

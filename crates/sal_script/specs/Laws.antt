@@ -18,7 +18,7 @@ use Rattle.sal_script.specs.Play.{DataAct, act_of, op_of}
 abbrev pub ScriptsAreJson : Type 0
 ScriptsAreJson = (bytes : List ℕ) (parts : Parts) → script_of bytes ≡ Ok parts → IsJsonScript parts
 
--- the rows that the openings of a domain stand for are whole: they fit the schema, and what is written for them reads as the same
+-- the rows that the openings of a domain denote are whole: they fit the schema, and what is written for them reads as the same
 -- rows
 abbrev pub HasWholeOpenings : SchemaTable → DeviceParts → Type 0
 HasWholeOpenings table device = (rows : List Row) → (read_data table [] device.config ≡ Ok rows → IsWhole table [] rows) × (read_data table [] device.operational ≡ Ok rows → IsWhole table [] rows)

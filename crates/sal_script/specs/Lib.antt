@@ -2,6 +2,9 @@ pub mod Along
 pub mod AlongExamples
 pub mod BatchData
 pub mod ChainExamples
+pub mod CheckedExamples
+pub mod CheckedLaws
+pub mod CheckedReads
 pub mod Examples
 pub mod Followed
 pub mod Json

@@ -1,5 +1,5 @@
 -- The script of a load, and its summary. Four clients put entries into one list in rounds, each its own entries.
-use Rattle.std.specs.Prelude.{ℕ, zero, suc, ◌+◌, ◌*◌, List, [], ◌∷◌, ◌++◌, length, sum_by, codes, decimal, if◌then◌else◌, nat_eq}
+use Rattle.std.specs.Prelude.{ℕ, zero, suc, ◌+◌, ◌*◌, false, List, [], ◌∷◌, ◌++◌, length, sum_by, codes, decimal, if◌then◌else◌, nat_eq}
 use Prim.Native.String.{String}
 use Rattle.std.specs.Option.{option_map_or}
 use Rattle.sal_types.specs.declared.value.Atom.{Atom}
@@ -60,6 +60,7 @@ parts_of rounds start = record {
   clients = clients_of rounds start;
   order = [];
   rules = One;
+  checked = false;
 }
 
 -- ---- the summary
@@ -75,7 +76,7 @@ abbrev pub unsigned_of : Atom → ℕ
 unsigned_of (Unsigned n) = n
 unsigned_of atom = 0
 
--- the number in a cell behind this step; the leaf `v` is node 2
+-- the number in a cell after this step; the leaf `v` is node 2
 abbrev pub number_at : Cell → Step → ℕ
 number_at (Leaf value) (Node n) = if nat_eq n 2 then unsigned_of value.atom else 0
 number_at cell step = 0

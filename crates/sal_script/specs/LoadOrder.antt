@@ -8,7 +8,7 @@ use Rattle.sal_script.specs.Load.{clients_of, summary_of, totals_of}
 use Rattle.sal_script.specs.Play.{IsLegal, Played, play}
 use Rattle.sal_script.specs.Report.{trees_in}
 
--- the summary of what a load came to over its domain
+-- the summary of a load over its domain
 abbrev pub summary : ℕ → ℕ → List Domain → Played → List ℕ
 summary rounds start world played = summary_of rounds start (totals_of played.log (trees_in world played.log 0))
 

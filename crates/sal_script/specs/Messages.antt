@@ -1,4 +1,4 @@
--- RPCs and notifications by the names that a script gives them, and where their data stand (RFC 7950 sections 7.14 and 7.16).
+-- RPCs and notifications by the names that a script gives them, and the place of their data (RFC 7950 sections 7.14 and 7.16).
 use Rattle.std.specs.Prelude.{ℕ, List, [], ◌∷◌, Option, Some, None, if◌then◌else◌, slice_get, unwrap_or}
 use Rattle.std.specs.List.{before_first, after_first}
 use Rattle.sal_types.specs.declared.value.Step.{Step}
@@ -9,7 +9,7 @@ use Rattle.sal_schema.specs.Table.{children_of}
 use Rattle.sal_json.specs.Named.{is_colon}
 use Rattle.sal_data.specs.Members.{has_module}
 
--- the RPC of the name behind the first colon, in the module of the name before it
+-- the RPC of the name after the first colon, in the module of the name before it
 abbrev pub rpc_called : SchemaTable → List ℕ → Option ℕ
 rpc_called table name = if has_module name then rpc_of table (before_first is_colon name) (after_first is_colon name) else None
 
@@ -24,6 +24,6 @@ input_of table rpc = unwrap_or (slice_get (children_of table (Some rpc)) 0) rpc
 abbrev pub output_of : SchemaTable → ℕ → ℕ
 output_of table rpc = unwrap_or (slice_get (children_of table (Some rpc)) 1) rpc
 
--- the path under which the data of this input, output or notification stand
+-- the path above the data of this input, output or notification
 abbrev pub message_at : ℕ → List Step
 message_at n = Node n ∷ []

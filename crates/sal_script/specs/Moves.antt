@@ -1,4 +1,4 @@
--- The steps of a client as the definitions have them: a value is the JSON data that it stands for.
+-- The steps of a client as the definitions have them: a value is the JSON data that it denotes.
 use Rattle.std.specs.Prelude.{ℕ, List, Option, map}
 use Rattle.sal_types.specs.declared.value.Store.{Store}
 use Rattle.sal_rows.specs.declared.outcome.Mode.{Mode}

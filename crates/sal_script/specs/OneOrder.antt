@@ -10,7 +10,7 @@ use Rattle.sal_script.specs.Orders.{Follows}
 use Rattle.sal_script.specs.Along.{AreLogOf, order_of}
 
 -- The order of the log is legal: it has each client's shared calls, each once and in the client's own order. Played in it,
--- the script comes to this log and to these replies.
+-- the script gives this log and these replies.
 pub record IsOneOrder (world : List Domain) (clients : List (List Move)) (log : List Entry) (replies : List (List StepReply)) : Type 0 where
   pub plays : play world clients (order_of log) ≡ Ok (record { log = log; replies = replies })
   pub legal : IsLegal world clients (order_of log)

@@ -15,7 +15,7 @@ use Rattle.sal_script.specs.Moves as asked
 use Rattle.sal_script.specs.Moves.{Move}
 use Rattle.sal_script.specs.Play.{IsLegal, Played, play}
 
--- what a shared call does, as far as a step tells it
+-- what a shared call does, as far as its step says
 pub data Kind : Type 0 where
   begins : ℕ → Mode → Kind
   submits : Kind

@@ -1,4 +1,4 @@
--- What a script does in an order: each number of the order lets that client go on to its next shared call, which is
+-- What a script does in an order: each number of the order lets that client proceed to its next shared call, which is
 -- then made and answered by the log; at the end each client answers the local steps that are left.
 use Rattle.std.specs.Prelude.{ℕ, ◌+◌, Bool, List, [], ◌∷◌, ◌++◌, length, map, Option, None, Some, Result, Ok, Err, IsOk, if◌then◌else◌, nat_eq, slice_get}
 use Rattle.std.specs.List.{slice_set}
@@ -13,6 +13,7 @@ use Rattle.sal_rows.specs.declared.op.Act.{Act}
 use Rattle.sal_rows.specs.declared.op.Act.TheVariants.{Put as PutAct, Merge as MergeAct, Delete as DeleteAct}
 use Rattle.sal_rows.specs.declared.outcome.Mode.{Mode}
 use Rattle.sal_rows.specs.declared.outcome.Mode.TheVariants.{Ro, Wo}
+use Rattle.sal_rows.specs.Reads.{recorded}
 use Rattle.sal_history.specs.declared.call.Call.{Call}
 use Rattle.sal_history.specs.declared.call.Call.TheVariants as made
 use Rattle.sal_history.specs.declared.call.Entry.{Entry}
@@ -28,7 +29,7 @@ use Rattle.sal_pathtext.specs.Read.{read_path}
 use Rattle.sal_data.specs.declared.fault.DataFault.{DataFault}
 use Rattle.sal_data.specs.Read.{read_data}
 use Rattle.sal_rules.specs.declared.fault.TxFault.{TxFault}
-use Rattle.sal_rules.specs.declared.fault.TxFault.TheVariants.{WriteOnly}
+use Rattle.sal_rules.specs.declared.fault.TxFault.TheVariants.{ParentMissing, WriteOnly}
 use Rattle.sal_rules.specs.Refusals.{refusal}
 use Rattle.sal_script.specs.declared.reply.StepReply.{StepReply}
 use Rattle.sal_script.specs.declared.reply.StepReply.TheVariants.{Called, Accepted, Read as ReadReply, Exists as ExistsReply, Mirror as MirrorReply, Refused}
@@ -86,7 +87,7 @@ new_client = record { transactions = λ k. None; receipts = λ k. None; chains =
 abbrev pub replied : StepReply → Client → Client
 replied r client = record client { replies = client.replies ++ r ∷ [] }
 
--- what a step comes to: an answer at once, or a shared call
+-- the result of a step: an answer at once, or a shared call
 pub data Meeting : Type 0 where
   local : StepReply → Client → Meeting
   shared : Call → Meeting
@@ -109,7 +110,7 @@ pub data DataAct : Type 0 where
   merging : Data → DataAct
   deleting : DataAct
 
--- the act, with the rows that the value stands for at the path
+-- the act, with the rows that the value denotes at the path
 abbrev pub act_of : SchemaTable → List Step → DataAct → Result Act DataFault
 act_of table path (putting value) = read_data table path value >>= (λ rows. Ok (PutAct rows))
 act_of table path (merging value) = read_data table path value >>= (λ rows. Ok (MergeAct rows))
@@ -118,13 +119,22 @@ act_of table path deleting = Ok DeleteAct
 abbrev pub op_of : Store → List Step → Act → Op
 op_of store path act = record { store = store; path = path; act = act }
 
+-- the transaction has these operations, in its slot
+abbrev pub with_ops : ℕ → List Op → Open → Client → Client
+with_ops slot ops tx client = record client { transactions = set_slot slot (Some (record tx { ops = ops })) client.transactions }
+
 -- a write that the transaction takes is one more of its operations
 abbrev pub accept : ℕ → Op → Open → Client → Meeting
-accept slot op tx client = local Accepted (record client { transactions = set_slot slot (Some (record tx { ops = tx.ops ++ op ∷ [] })) client.transactions })
+accept slot op tx client = local Accepted (with_ops slot (tx.ops ++ op ∷ []) tx client)
+
+-- the operations after a write to the store that is refused so: it has read the parent that is missing
+abbrev pub after_refusal : TxFault → Mode → Store → List Op → List Op
+after_refusal (ParentMissing path) mode store ops = recorded mode store path ops
+after_refusal fault mode store ops = ops
 
 abbrev pub accept_unless : Option TxFault → ℕ → Op → Open → Client → Meeting
 accept_unless None slot op tx client = accept slot op tx client
-accept_unless (Some fault) slot op tx client = refused (Write tx.domain fault) client
+accept_unless (Some fault) slot op tx client = refused (Write tx.domain fault) (with_ops slot (after_refusal fault tx.mode op.store tx.ops) tx client)
 
 abbrev pub submit_in : Open → Mode → Client → Meeting
 submit_in tx Ro client = refused ReadOnly client
@@ -170,15 +180,19 @@ abbrev pub unlisten : Client → Option Listener → Meeting
 unlisten client None = refused EmptySlot client
 unlisten client (Some listener) = shared (made.Unlisten listener.id)
 
--- a look by a transaction that only writes is refused
-abbrev pub look_in : ℕ → Mode → StepReply → Client → Meeting
-look_in domain Wo r client = refused (Write domain WriteOnly) client
-look_in domain mode r client = local r client
+-- what a transaction of this mode answers to a look: one that only writes refuses
+abbrev pub look_reply : Mode → ℕ → StepReply → StepReply
+look_reply Wo domain r = Refused (Write domain WriteOnly)
+look_reply mode domain r = r
 
--- a look at the path that a text stands for; f answers what is there
-abbrev pub look_at : (List Step → StepReply) → ℕ → Mode → Result (List Step) PathTextFault → Client → Meeting
-look_at f domain mode (Err fault) client = refused (BadPath fault) client
-look_at f domain mode (Ok path) client = look_in domain mode (f path) client
+-- a look at a path; if the reads of the transaction are checked, it has read the path
+abbrev pub look_in : ℕ → Store → List Step → Open → StepReply → Client → Meeting
+look_in slot store path tx r client = local (look_reply tx.mode tx.domain r) (with_ops slot (recorded tx.mode store path tx.ops) tx client)
+
+-- a look at the path that a text denotes; f answers what is there
+abbrev pub look_at : (List Step → StepReply) → ℕ → Store → Result (List Step) PathTextFault → Open → Client → Meeting
+look_at f slot store (Err fault) tx client = refused (BadPath fault) client
+look_at f slot store (Ok path) tx client = look_in slot store path tx (f path) client
 
 -- a read answers the rows at the path and below it
 abbrev pub rows_read : Open → List Step → List Row → StepReply
@@ -204,9 +218,9 @@ module _ (table : SchemaTable) (world : List Domain) (log : List Entry) where
   -- ---- looks
 
   -- a look into the view of a transaction; f answers from its rows
-  abbrev pub look : (Open → List Step → List Row → StepReply) → Store → List ℕ → Client → Option Open → Meeting
-  look f store text client None = refused EmptySlot client
-  look f store text client (Some tx) = look_at (λ path. f tx path (seen_by world log tx store)) tx.domain tx.mode (read_path table text) client
+  abbrev pub look : (Open → List Step → List Row → StepReply) → ℕ → Store → List ℕ → Client → Option Open → Meeting
+  look f slot store text client None = refused EmptySlot client
+  look f slot store text client (Some tx) = look_at (λ path. f tx path (seen_by world log tx store)) slot store (read_path table text) tx client
 
   -- ---- writes
 
@@ -237,17 +251,17 @@ module _ (tables : List Versions) (world : List Domain) (log : List Entry) where
   abbrev pub write_with : ℕ → Store → List ℕ → DataAct → Client → Option Open → Meeting
   write_with slot store text data_act client tx = write (table_for tables tx) world log slot store text data_act client tx
 
-  abbrev pub look_with : (Open → List Step → List Row → StepReply) → Store → List ℕ → Client → Option Open → Meeting
-  look_with f store text client tx = look (table_for tables tx) world log f store text client tx
+  abbrev pub look_with : (Open → List Step → List Row → StepReply) → ℕ → Store → List ℕ → Client → Option Open → Meeting
+  look_with f slot store text client tx = look (table_for tables tx) world log f slot store text client tx
 
-  -- What a client's step comes to after the log. What a listener, an RPC, a notification or a mount names is read by the last version.
+  -- The result of a client's step after the log. What a listener, an RPC, a notification or a mount names is read by the last version.
   abbrev pub meet : Client → Move → Meeting
   meet client (Begin slot domain mode) = shared (made.Begin domain mode)
   meet client (Put slot store path value) = write_with slot store path (putting value) client (client.transactions slot)
   meet client (Merge slot store path value) = write_with slot store path (merging value) client (client.transactions slot)
   meet client (Delete slot store path) = write_with slot store path deleting client (client.transactions slot)
-  meet client (Read slot store path) = look_with rows_read store path client (client.transactions slot)
-  meet client (Exists slot store path) = look_with found store path client (client.transactions slot)
+  meet client (Read slot store path) = look_with rows_read slot store path client (client.transactions slot)
+  meet client (Exists slot store path) = look_with found slot store path client (client.transactions slot)
   meet client (Submit slot) = submit client (client.transactions slot)
   meet client (Cancel slot) = cancel client (client.transactions slot)
   meet client (Settle slot) = settle client (client.receipts slot)
@@ -275,7 +289,7 @@ module _ (tables : List Versions) (world : List Domain) (log : List Entry) where
   meet client (After mark) = shared (made.After mark)
   meet client (Upgrade version) = upgrade tables version client
 
--- a place of the log: how many entries stand before it, and the version of domain 0's schema there
+-- a place of the log: how many entries are before it, and the version of domain 0's schema there
 pub record Spot : Type 0 where
   pub place : ℕ
   pub version : ℕ
@@ -288,7 +302,7 @@ spot_after world log = record { place = length log; version = schema_version (hi
 abbrev pub version_for : ℕ → ℕ → ℕ
 version_for domain version = if nat_eq domain 0 then version else 0
 
--- a transaction that began there stands in the slot
+-- a transaction that began there is in the slot
 abbrev pub keep_begun : ℕ → Spot → ℕ → Mode → Client → Client
 keep_begun slot spot domain mode client =
     record client { transactions = set_slot slot (Some (record { place = spot.place; domain = domain; version = version_for domain spot.version; mode = mode; ops = [] })) client.transactions }
@@ -328,7 +342,7 @@ pub record Run : Type 0 where
   pub client : Client
   pub steps : List Move
 
--- where a client comes to by its local steps: its end, or a shared call with the steps behind it
+-- what a client reaches by its local steps: its end, or a shared call with the steps after it
 pub data Arrival : Type 0 where
   ended : Client → Arrival
   calls : Call → Move → Run → Arrival
@@ -338,7 +352,7 @@ pub record Made : Type 0 where
   pub log : List Entry
   pub run : Run
 
--- where a script stands: the log, and each client
+-- the state of a script: the log, and each client
 pub record PlayState : Type 0 where
   pub log : List Entry
   pub runs : List Run
@@ -364,12 +378,12 @@ cons_replies (Some rs) None = None
 cons_replies (Some rs) (Some rest) = Some (rs ∷ rest)
 
 module _ (tables : List Versions) (world : List Domain) where
-  -- the client goes on to its next shared call
+  -- the client proceeds to its next shared call
   abbrev pub arrive : List Entry → Client → List Move → Arrival
   arrive log client [] = ended client
   arrive log client (step ∷ steps) = arrive_by (λ next. arrive log next steps) (λ call. calls call step (record { client = client; steps = steps })) (meet tables world log client step)
 
-  -- the call is made and answered; `none` where the client has come to its end
+  -- the call is made and answered; `none` where the client has reached its end
   abbrev pub make : List Entry → ℕ → Arrival → Option Made
   make log c (ended client) = None
   make log c (calls call step run) =
@@ -377,11 +391,11 @@ module _ (tables : List Versions) (world : List Domain) where
       let r = reply world log e in
       Some (record { log = log ++ e ∷ []; run = record run { client = replied (Called r) (keep (spot_after world log) step r run.client) } })
 
-  -- client c goes on to its next shared call and makes it
+  -- client c proceeds to its next shared call and makes it
   abbrev pub go : List Entry → ℕ → Run → Option Made
   go log c run = make log c (arrive log run.client run.steps)
 
-  -- one number of the order: none where no client has it, or where that client comes to its end first
+  -- one number of the order: none where no client has it, or where that client reaches its end first
   abbrev pub advance_of : PlayState → ℕ → Option Run → Option PlayState
   advance_of state c None = None
   advance_of state c (Some run) = state_with state c (go state.log c run)
@@ -393,7 +407,7 @@ module _ (tables : List Versions) (world : List Domain) where
   replies_of log [] = Some []
   replies_of log (run ∷ runs) = cons_replies (replies_at (arrive log run.client run.steps)) (replies_of log runs)
 
--- what a script came to: the log, and the replies of each client to each of its steps
+-- the result of a script: the log, and the replies of each client to each of its steps
 pub record Played : Type 0 where
   pub log : List Entry
   pub replies : List (List StepReply)

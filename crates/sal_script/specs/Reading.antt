@@ -35,13 +35,13 @@ devices ds = map device ds
 abbrev pub own : OwnDomain → OwnParts
 own o = record { device = device o.device; upgrades = o.upgrades }
 
--- what comes behind its clients
+-- what comes after its clients
 abbrev pub ending : ReadEnding → Ending
-ending e = record { order = e.order.items; rules = e.rules }
+ending e = record { order = e.order.items; rules = e.rules; checked = e.checked_reads }
 
 -- what a script has
 abbrev pub parts : Script → Parts
-parts script = record { modules = script.modules; upgrades = script.upgrades; config = view script.config; operational = view script.operational; devices = devices script.devices; clients = clients_of script.clients; order = script.order; rules = script.rules }
+parts script = record { modules = script.modules; upgrades = script.upgrades; config = view script.config; operational = view script.operational; devices = devices script.devices; clients = clients_of script.clients; order = script.order; rules = script.rules; checked = script.checked_reads }
 
 -- the script that is read, or the first bad place, unless memory ran out
 abbrev pub ReadsScript : Result Script ScriptFault → Result Parts (List ℕ) → Type 0

@@ -109,6 +109,6 @@ abbrev pub trees_in : List Domain → List Entry → ℕ → DomainTrees
 trees_in world log domain =
     record { domain = domain; commits = length (commits (history world log) domain); config = newest_tree world log domain Config; oper = newest_tree world log domain Oper }
 
--- the report of what a script came to over its domains
+-- the report of the result of a script over its domains
 abbrev pub report : List Domain → Played → List ℕ
 report world played = report_of (tables_of world) played.log played.replies (map (trees_in world played.log) (told_domains world played.log))

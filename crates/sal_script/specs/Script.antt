@@ -1,5 +1,5 @@
--- Which script bytes stand for, or the first bad place, looked for in the order of the lines below.
-use Rattle.std.specs.Prelude.{ℕ, ◌+◌, List, [], ◌∷◌, ◌++◌, length, Option, None, Some, option_and_then, Result, Ok, Err, codes, decimal, if◌then◌else◌, nat_eq, nat_le}
+-- Which script bytes denote, or the first bad place, looked for in the order of the lines below.
+use Rattle.std.specs.Prelude.{ℕ, ◌+◌, Bool, true, false, List, [], ◌∷◌, ◌++◌, length, Option, None, Some, option_and_then, Result, Ok, Err, codes, decimal, if◌then◌else◌, nat_eq, nat_le}
 use Rattle.std.specs.Option.{option_map}
 use Rattle.sal_types.specs.Reading.{◌>>=◌}
 use Rattle.serde_json.specs.Data.{Data, object, Members, no_members}
@@ -10,7 +10,8 @@ use Rattle.sal_script.specs.Moves.{Move}
 use Rattle.sal_script.specs.Steps.{number_of, step_of}
 use Rattle.sal_script.specs.declared.script.TheConstants.{PLAIN}
 use Rattle.sal_script.specs.Limits.{all_texts, are_short}
-use Rattle.sal_script.specs.Json.{list_of, all_named, data_of}
+use Rattle.sal_script.specs.Json.{list_of, all_named, data_of, text_eq}
+use Rattle.sal_script.specs.CheckedReads.{step_with, with_reads}
 
 -- what a device has, and the controller's own domain
 pub record DeviceParts : Type 0 where
@@ -23,7 +24,7 @@ pub record OwnParts : Type 0 where
   pub device : DeviceParts
   pub upgrades : List (List (List ℕ))
 
--- what a script has; its own modules, upgrades and openings are those of domain 0
+-- what a script has; its own modules, upgrades and openings are those of domain 0; and whether reads are checked
 pub record Parts : Type 0 where
   pub modules : List (List ℕ)
   pub upgrades : List (List (List ℕ))
@@ -33,6 +34,7 @@ pub record Parts : Type 0 where
   pub clients : List (List Move)
   pub order : List ℕ
   pub rules : Rules
+  pub checked : Bool
 
 -- a place is a text, such as `devices/1` or `clients/0/2`
 abbrev pub device_place : ℕ → List ℕ
@@ -94,7 +96,7 @@ clients_member ms =
     >>= (λ ds. programs_from 0 ds
     >>= (λ programs. clients_from 0 programs))
 
--- what each of these stands for, where each stands for something
+-- what each of these denotes, where each denotes something
 abbrev pub all_of : {A : Type 0} → (Data → Option A) → List Data → Option (List A)
 all_of f [] = Some []
 all_of f (d ∷ ds) = option_and_then (λ x. option_map (λ xs. x ∷ xs) (all_of f ds)) (f d)
@@ -115,7 +117,7 @@ if_short texts = if are_short texts then Some texts else None
 abbrev pub texts_of : Data → Option (List (List ℕ))
 texts_of d = option_and_then if_short (texts_in d)
 
--- the texts of the modules; where there is no such member, that of the module `plain`
+-- the texts of the modules; if there is no such member, that of the module `plain`
 abbrev pub modules_member : Members → Option (List (List ℕ))
 modules_member ms = given (get_member (codes "modules") ms)
   where
@@ -150,7 +152,7 @@ opening_member name ms = opening_by (get_member name ms)
 
 -- ---- devices
 
--- the openings behind the texts of the modules
+-- the openings after the texts of the modules
 abbrev pub with_openings : Members → List (List ℕ) → Result DeviceParts (List ℕ)
 with_openings ms texts =
     or_bad (codes "config") (opening_member (codes "config") ms)
@@ -186,13 +188,13 @@ devices_member ms = or_bad (codes "devices") (option_and_then (at_most 63) (list
 
 -- the members that a script may have
 abbrev pub names : List (List ℕ)
-names = codes "modules" ∷ codes "upgrades" ∷ codes "config" ∷ codes "operational" ∷ codes "devices" ∷ codes "clients" ∷ codes "order" ∷ codes "rules" ∷ []
+names = codes "modules" ∷ codes "upgrades" ∷ codes "config" ∷ codes "operational" ∷ codes "devices" ∷ codes "clients" ∷ codes "order" ∷ codes "rules" ∷ codes "reads" ∷ []
 
 -- the version rules of a number, which is 1 or 2
 abbrev pub rules_by : ℕ → Option Rules
 rules_by n = if nat_eq n 1 then Some One else (if nat_eq n 2 then Some Two else None)
 
--- the version rules; where there is no such member they are 1
+-- the version rules; if there is no such member they are 1
 abbrev pub rules_member : Members → Option Rules
 rules_member ms = given (get_member (codes "rules") ms)
   where
@@ -200,18 +202,32 @@ rules_member ms = given (get_member (codes "rules") ms)
     given None = Some One
     given (Some d) = option_and_then rules_by (number_of d)
 
--- what comes behind the clients: the order, and the version rules
+-- reads are checked by the text `checked`
+abbrev pub checked_by : List ℕ → Option Bool
+checked_by text = if text_eq text (codes "checked") then Some true else None
+
+-- whether reads are checked; they are not if there is no such member
+abbrev pub reads_member : Members → Option Bool
+reads_member ms = given (get_member (codes "reads") ms)
+  where
+    given : Option Data → Option Bool
+    given None = Some false
+    given (Some d) = option_and_then checked_by (as_str d)
+
+-- what comes after the clients: the order, the version rules, and whether reads are checked
 pub record Ending : Type 0 where
   pub order : List ℕ
   pub rules : Rules
+  pub checked : Bool
 
 abbrev pub ending_of : Members → Result Ending (List ℕ)
 ending_of ms =
     or_bad (codes "order") (option_and_then numbers_of (list_member (codes "order") ms))
     >>= (λ order. or_bad (codes "rules") (rules_member ms)
-    >>= (λ rules. Ok (record { order = order; rules = rules })))
+    >>= (λ rules. or_bad (codes "reads") (reads_member ms)
+    >>= (λ checked. Ok (record { order = order; rules = rules; checked = checked }))))
 
--- after its own modules, upgrades and openings
+-- after its own modules, upgrades and openings; if reads are checked, the steps begin transactions so
 abbrev pub parts_with : Members → OwnParts → Result Parts (List ℕ)
 parts_with ms own =
     devices_member ms
@@ -223,9 +239,10 @@ parts_with ms own =
       config = own.device.config;
       operational = own.device.operational;
       devices = devices;
-      clients = clients;
+      clients = with_reads ending.checked clients;
       order = ending.order;
       rules = ending.rules;
+      checked = ending.checked;
     }))))
 
 -- the texts of the modules with the upgrades and the openings
@@ -242,12 +259,16 @@ own_of ms = or_bad (codes "modules") (modules_member ms) >>= own_with ms
 abbrev pub parts_of : Members → Result Parts (List ℕ)
 parts_of ms = own_of ms >>= parts_with ms
 
--- the script that bytes stand for, or the first bad place
+-- the script that bytes denote, or the first bad place
 abbrev pub script_of : List ℕ → Result Parts (List ℕ)
 script_of bytes =
     or_bad (codes "json") (data_of bytes)
     >>= (λ d. or_bad (codes "script") (members_of names d) >>= parts_of)
 
--- the one step that bytes stand for
-abbrev pub one_step : List ℕ → Result Move (List ℕ)
-one_step bytes = or_bad (codes "json") (data_of bytes) >>= (λ d. or_bad (codes "step") (step_of d))
+-- the one step that bytes denote
+abbrev pub bare_step : List ℕ → Result Move (List ℕ)
+bare_step bytes = or_bad (codes "json") (data_of bytes) >>= (λ d. or_bad (codes "step") (step_of d))
+
+-- the same in a script whose reads are checked, or not
+abbrev pub one_step : Bool → List ℕ → Result Move (List ℕ)
+one_step checked bytes = bare_step bytes >>= (λ step. Ok (step_with checked step))

@@ -67,7 +67,7 @@ answers world clients order = replies_of (play world clients order)
 abbrev pub with_number : String → ℕ → Data
 with_number name n = object (member (codes name) (number (unsigned n)) no_members)
 
--- the one row that it stands for, at a leaf below a message
+-- the one row that it denotes, at a leaf below a message
 abbrev pub held : ℕ → ℕ → ℕ → List Row
 held message leaf n = record { path = Node message ∷ Node leaf ∷ []; cell = Held (record { member = 0; atom = Unsigned n }) } ∷ []
 

@@ -45,7 +45,7 @@ rows_or (Err fault) = Err (BadData 0 fault)
 rows_or (Ok rows) = Ok rows
 
 module _ (table : SchemaTable) where
-  -- the path that a text stands for
+  -- the path that a text denotes
   abbrev pub path_of : List ℕ → OrRefusal (List Step)
   path_of text = path_or (read_path table text)
 
@@ -54,7 +54,7 @@ module _ (table : SchemaTable) where
   context_of None = Ok None
   context_of (Some text) = path_of text >>= (λ path. Ok (Some path))
 
-  -- the rows that a value stands for under an input, output or notification
+  -- the rows that a value denotes under an input, output or notification
   abbrev pub rows_of : ℕ → Data → OrRefusal (List Row)
   rows_of n value = rows_or (read_data table (message_at n) value)
 

@@ -1,4 +1,4 @@
--- The report of clients that ran in some order, which the report's first line tells.
+-- The report of clients that ran in some order, which the report's first line states.
 use Rattle.std.specs.Prelude.{◌≡◌, ℕ, ◌^◌, List, [], ◌∷◌, ◌++◌, Ok, IsTrue, codes, flat_map, nat_lt}
 use Rattle.std.specs.List.{list_all}
 use Rattle.sal_history.specs.declared.call.Entry.{Entry}
@@ -36,6 +36,6 @@ LeftIsReported =
 abbrev pub AreNumbers : List ℕ → Type 0
 AreNumbers order = IsTrue (list_all (λ n. nat_lt n (2 ^ 64)) order)
 
--- a first line tells no other order
+-- a first line states no other order
 abbrev pub FirstLinesTellOneOrder : Type 0
 FirstLinesTellOneOrder = (text first second : List ℕ) → AreNumbers first → AreNumbers second → Tells text first → Tells text second → first ≡ second

@@ -1,4 +1,4 @@
--- Which step a JSON array stands for.
+-- Which step a JSON array denotes.
 use Rattle.std.specs.Prelude.{ℕ, ◌^◌, List, [], ◌∷◌, Option, None, Some, option_and_then, codes, if◌then◌else◌, nat_eq}
 use Rattle.std.specs.Option.{option_map}
 use Rattle.sal_types.specs.declared.value.Store.{Store}
@@ -182,7 +182,7 @@ service_step_named word parts =
 
 -- ---- steps by their words
 
--- the step with this word and these parts behind it
+-- the step with this word and these parts after it
 abbrev pub step_named : List ℕ → List Data → Option Move
 step_named word parts =
     if text_eq word (codes "begin") then begin_of parts
@@ -199,6 +199,6 @@ abbrev pub step_from : List Data → Option Move
 step_from [] = None
 step_from (word ∷ parts) = option_and_then (λ name. step_named name parts) (as_str word)
 
--- the step that an array stands for
+-- the step that an array denotes
 abbrev pub step_of : Data → Option Move
 step_of d = option_and_then step_from (list_of d)

@@ -27,7 +27,7 @@ versions_of world = map (λ (d : Domain). d.table ∷ d.upgrades) world
 abbrev pub versions_in : List Versions → ℕ → Versions
 versions_in tables domain = unwrap_or (slice_get tables domain) []
 
--- the table of a version, of the last one where there are fewer
+-- the table of a version, of the last one if there are fewer
 abbrev pub version_among : Versions → ℕ → SchemaTable
 version_among [] version = no_table
 version_among (table ∷ upgrades) version = version_from table upgrades version

@@ -132,7 +132,7 @@ module _ (table : SchemaTable) where
   fault_text (WrongVersion have) = codes "wrong-version" ++ number have
   fault_text (UpgradeBreach store path rule) = codes "upgrade-breach " ++ (store_text store ++ breach_text path rule)
 
-  -- a space, and the path of a context, or a dash where there is none
+  -- a space, and the path of a context, or a dash if there is none
   abbrev pub context_text : Option (List Step) → List ℕ
   context_text None = codes " -"
   context_text (Some path) = path_text path

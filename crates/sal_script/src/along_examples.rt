@@ -8,7 +8,7 @@ ghost use Rattle.sal_script.specs.ChainExamples.{leaves, looks};
 ghost use Rattle.sal_script.specs.Examples.{a, commits, entry, put, world_of};
 ghost use Rattle.sal_script.specs.Play.{play};
 
-/// Two clients put the same leaf, and both begin before the first one submits: each comes to its end along the log, and the
+/// Two clients put the same leaf, and both begin before the first one submits: each reaches its end along the log, and the
 /// second one's conflict names the first one's commit.
 pub fn two_clients_cross()
     ensures first { Comes 0 crossed_log (commits (put a "x")) first_replies }
@@ -20,7 +20,7 @@ pub fn refused_by_itself()
     ensures { Comes 0 refusing_log refuses refusing_replies }
 {}
 
-/// A client looks for a mark too early, and behind it. The script played in the order of this log comes to the same.
+/// A client looks for a mark too early, and once after it was left. The script played in the order of this log gives the same.
 pub fn late_and_found()
     ensures looks { Comes 0 marks_log looks looking_replies }
     ensures leaves { Comes 1 marks_log leaves marking_replies }

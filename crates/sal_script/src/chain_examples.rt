@@ -44,7 +44,7 @@ pub fn a_closed_chain()
     ensures { run (closes ∷ []) (0 ∷ 0 ∷ 0 ∷ 0 ∷ 0 ∷ 0 ∷ 0 ∷ 0 ∷ []) ≡ codes closes_report }
 {}
 
-/// A mark that another client leaves is found behind it, and where nothing is pending a pump decides nothing.
+/// A mark that another client leaves is found after it, and where nothing is pending a pump decides nothing.
 pub fn marks_between_clients()
     ensures { run (looks ∷ leaves ∷ []) (0 ∷ 1 ∷ 1 ∷ 0 ∷ []) ≡ codes marks_report }
 {}

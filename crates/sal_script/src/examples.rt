@@ -26,7 +26,7 @@ pub fn bad_places()
     ensures step { script_of (codes "{\"clients\":[{\"steps\":[[\"fly\"]]}]}") ≡ Err (codes "clients/0/0") }
 {}
 
-/// The version rules are 1 or 2, and 1 where they are not said; another number, or what is no number, is a bad place behind the order.
+/// The version rules are 1 or 2, and 1 where they are not said; another number, or what is no number, is a bad place after the order.
 pub fn rules_read()
     ensures one { script_of (codes "{\"rules\":1}") ≡ Ok (plain_script [] []) }
     ensures two { script_of (codes "{\"rules\":2}") ≡ Ok (record (plain_script [] []) { rules = Two }) }

@@ -1,4 +1,5 @@
 //! Laws of the definitions. A call does nothing: its clauses are the laws.
+ghost use Rattle.sal_script.specs.CheckedLaws.{KnownStays, LooksAreKnown, MissedParentsAreKnown, TransactionsGrow};
 ghost use Rattle.sal_script.specs.Followed.{ListenersFollowTheCommits};
 ghost use Rattle.sal_script.specs.Laws.{OpeningsAreWhole, ScriptsAreJson, WritesAreForSchema};
 ghost use Rattle.sal_script.specs.LoadOrder.{LeftIsSummed};
@@ -28,7 +29,7 @@ pub fn plays_follow_their_order()
     ensures { PlaysFollow }
 {}
 
-/// An order is legal and played to its end, or is not, and fails at one of its numbers or right behind the last.
+/// An order is legal and played to its end, or is not, and fails at one of its numbers or right after the last.
 pub fn orders_end_or_fail()
     ensures { OrdersEndOrFail }
 {}
@@ -39,7 +40,7 @@ pub fn what_is_left_is_one_order()
     ensures { LeftIsOneOrder }
 {}
 
-/// And what a script comes to in an order is what its clients can leave.
+/// And what a script does in an order is what its clients can leave.
 pub fn what_is_played_can_be_left()
     ensures { PlayedCanBeLeft }
 {}
@@ -54,7 +55,7 @@ pub fn what_a_load_left_is_summed()
     ensures { LeftIsSummed }
 {}
 
-/// The first line of a text tells one order, and no other.
+/// The first line of a text states one order, and no other.
 pub fn first_lines_tell_one_order()
     ensures { FirstLinesTellOneOrder }
 {}
@@ -70,4 +71,13 @@ pub fn what_is_left_is_short()
 /// is with each listener of each log over opening trees.
 pub fn listeners_follow_the_commits()
     ensures { ListenersFollowTheCommits }
+{}
+
+/// What a transaction with checked reads looked at is known to its operations, and so is each parent that a refused write missed. It
+/// stays known until the transaction is submitted: its operations only grow.
+pub fn reads_are_known()
+    ensures looks { LooksAreKnown }
+    ensures parents { MissedParentsAreKnown }
+    ensures stays { KnownStays }
+    ensures grow { TransactionsGrow }
 {}

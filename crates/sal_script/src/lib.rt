@@ -6,8 +6,8 @@
 //! | `Program`, `ScriptStep` | a client's steps; one step |
 //! | `StepReply`, `StepRefusal` | what a step is answered; why it made no call |
 //! | `DomainTrees` | the trees of a domain at the end of a run |
-//! | `read_script` | the script that bytes stand for, or the first bad place |
-//! | `read_step` | the one step that bytes stand for |
+//! | `read_script` | the script that bytes denote, or the first bad place |
+//! | `read_step` | the one step that bytes denote |
 //! | `ScriptFault` | why bytes are no script |
 //! | `load_script` | the script of a load: four clients that put entries into one list, each its own |
 //!
@@ -23,14 +23,14 @@
 //! refused then, and is no fault of the script. A transaction goes by the version of its domain's schema that was present where it
 //! began, a listener by the last version; RPCs, notifications and mounts are domain 0's, and go by the last version of its schema.
 //!
-//! `specs/Script` says which script bytes stand for, with the steps of `specs/Moves` by their forms in `specs/Steps`; `specs/Play`
+//! `specs/Script` says which script bytes denote, with the steps of `specs/Moves` by their forms in `specs/Steps`; `specs/Play`
 //! what a script does in an order, with the calls on services in `specs/Services`; and `specs/Report` the text of that, with its
-//! words in `specs/Words`, and batches, inputs, outputs and notifications as JSON in `specs/BatchData` and `specs/MessageData`. `examples`, `chain_examples`, `listener_examples`, `service_examples`,
+//! words in `specs/Words`, and batches, inputs, outputs and notifications as JSON in `specs/BatchData` and `specs/MessageData`. `examples`, `checked_examples`, `chain_examples`, `listener_examples`, `service_examples`,
 //! `upgrade_examples`, `along_examples` and `load_examples` have worked examples, each proved by computing it. `specs/Load` has a load's script and its summary.
-//! `laws` says of the values of a script that was read that each name stands once in its object, and that what they say at a
+//! `laws` says of the values of a script that was read that each name occurs once in its object, and that their rows at a
 //! path that was read fits the schema; and of what is played, that its log is in the order that was given and has the shared
 //! calls of each client, each once and in the client's own order (`specs/Orders`); and of what clients leave that run at the same
-//! time (`specs/Along`), that it is what the script does in one order, which its report tells (`specs/OneOrder`, `specs/SomeOrder`).
+//! time (`specs/Along`), that it is what the script does in one order, which its report states (`specs/OneOrder`, `specs/SomeOrder`).
 //!
 //! ```
 //! let script = read_script(alloc, br#"{"clients":[{"steps":[["begin",0,0,"rw"]]}],"order":[0]}"#)?;
@@ -42,6 +42,8 @@
 pub mod along_examples;
 pub mod chain_examples;
 mod chain_step;
+mod checked;
+pub mod checked_examples;
 mod device;
 pub mod examples;
 pub mod fault;

@@ -51,7 +51,7 @@ pub fn a_mirror_follows()
     ensures { run_over opened (follows ∷ []) (0 ∷ 0 ∷ 0 ∷ 0 ∷ 0 ∷ 0 ∷ 0 ∷ []) ≡ codes follows_report }
 {}
 
-/// A commit that writes the value that stands there is in the batch's span, and has no part.
+/// A commit that writes the value that is already there is in the batch's span, and has no part.
 pub fn an_equal_value()
     ensures { run_over opened (watched (put a "o") ∷ []) (0 ∷ 0 ∷ 0 ∷ 0 ∷ 0 ∷ []) ≡ codes equal_report }
 {}

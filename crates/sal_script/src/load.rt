@@ -1,5 +1,5 @@
 //! The script of a load: four clients that put entries into one list in rounds, each its own entries.
-ghost use Rattle.std.specs.Prelude.{◌≡◌, ◌<◌, ◌≤◌, ◌++◌, [], ◌∷◌, IfOk, IsTrue};
+ghost use Rattle.std.specs.Prelude.{◌≡◌, ◌<◌, ◌≤◌, ◌++◌, false, [], ◌∷◌, IfOk, IsTrue};
 ghost use Rattle.serde_json.specs.Data.{no_members, object};
 ghost use Rattle.serde_json.specs.View.{view};
 ghost use Rattle.sal_rows.specs.declared.clash.Rules.TheVariants.{One};
@@ -24,14 +24,14 @@ pub const LOAD_MODULE: &str =
 /// How many rounds a load has at most.
 pub const MAX_ROUNDS: u32 = 10000;
 
-/// The largest number that a load starts behind.
+/// The largest number after which a load starts.
 pub const MAX_START: u32 = 65536;
 
 /// How many clients a load has.
 pub const LOAD_CLIENTS: u32 = 4;
 
-/// The script of a load of so many rounds, over the module `LOAD_MODULE` and empty trees. In each round each of its four clients puts
-/// one entry in a transaction of its own, and settles it. The entries have the numbers behind `start`, each once. There is no order.
+/// The script of a load of this many rounds, over the module `LOAD_MODULE` and empty trees. In each round each of its four clients puts
+/// one entry in a transaction of its own, and settles it. The entries have the numbers after `start`, each once. There is no order.
 pub fn load_script(alloc: Global, rounds: u32, start: u32) -> Result<Script, NoMemory>
     requires rounds { rounds ≤ 10000 }
     requires start { start ≤ 65536 }
@@ -45,7 +45,7 @@ pub fn load_script(alloc: Global, rounds: u32, start: u32) -> Result<Script, NoM
 fn over_nothing(alloc: Global, clients: Vec<Program>) -> Result<Script, NoMemory>
     requires limits { IsTrue (within_limits clients.items) }
     requires json { IsTrue (have_json_moves (clients_of clients.items)) }
-    ensures { IfOk result (λ script. parts script ≡ record { modules = LOAD_MODULE.now ∷ []; upgrades = []; config = object no_members; operational = object no_members; devices = []; clients = clients_of clients.items; order = []; rules = One }) }
+    ensures { IfOk result (λ script. parts script ≡ record { modules = LOAD_MODULE.now ∷ []; upgrades = []; config = object no_members; operational = object no_members; devices = []; clients = clients_of clients.items; order = []; rules = One; checked = false }) }
 {
     let modules = modules(alloc)?;
     Ok(Script {
@@ -57,6 +57,7 @@ fn over_nothing(alloc: Global, clients: Vec<Program>) -> Result<Script, NoMemory
         clients: Seq::from_items(clients),
         order: Seq::new(alloc),
         rules: Rules::One,
+        checked_reads: false,
     })
 }
 
@@ -123,7 +124,7 @@ fn push_round(
     push_steps(steps, put)
 }
 
-// A transaction of this one write, behind the others.
+// A transaction of this one write, after the others.
 fn push_steps(steps: &mut Vec<ScriptStep>, write: ScriptStep) -> Result<(), NoMemory>
     ensures { IfOk result (λ _. moves_of steps.new.items ≡ moves_of steps.old.items ++ move.Begin 0 0 Mode.Rw ∷ move_of write ∷ move.Submit 0 ∷ move.Settle 0 ∷ []) }
 {

@@ -1,5 +1,6 @@
 //! Scripts, read from JSON (RFC 8259).
 ghost use Rattle.std.specs.Prelude.{◌≡◌, codes, map, option_and_then, option_map, IfOk, IsTrue};
+ghost use Rattle.serde_json.specs.Find.{as_str};
 ghost use Rattle.serde_json.specs.View.{view, members_view};
 ghost use Rattle.sal_json_laws.specs.Json.{HasJson};
 ghost use Rattle.sal_script.specs.JsonMoves.{have_json_moves, is_json_move};
@@ -10,6 +11,7 @@ ghost use Rattle.sal_script.specs.Moves.{clients_of, move_of, moves_of};
 ghost use Rattle.sal_script.specs.Limits.{are_few, within_limits};
 ghost use Rattle.sal_script.specs.Script as spec;
 
+use crate::checked::{step_with, with_reads};
 use crate::device::devices_in;
 use crate::fault::{ScriptFault, bad, bad_client, bad_step};
 use crate::script::{
@@ -23,8 +25,8 @@ use sal_types::Seq;
 use serde_json::{Map, Value};
 use std::alloc::Global;
 
-/// The script that bytes stand for, or the first bad place: the bytes as JSON, the object's members, `modules`, `upgrades`, `config`,
-/// `operational`, `devices` and each device, `clients` and each client, the steps of each client, `order`, `rules`.
+/// The script that bytes denote, or the first bad place: the bytes as JSON, the object's members, `modules`, `upgrades`, `config`,
+/// `operational`, `devices` and each device, `clients` and each client, the steps of each client, `order`, `rules`, `reads`.
 pub fn read_script(alloc: Global, bytes: &[u8]) -> Result<Script, ScriptFault>
     ensures { ReadsScript result (spec.script_of bytes.now) }
 {
@@ -33,7 +35,7 @@ pub fn read_script(alloc: Global, bytes: &[u8]) -> Result<Script, ScriptFault>
     parts_of(alloc, members)
 }
 
-// The JSON value that bytes stand for.
+// The JSON value that bytes denote.
 fn value_of(alloc: Global, bytes: &[u8]) -> Result<Value, ScriptFault>
     ensures { Reads view result (spec.or_bad (codes "json") (data_of bytes.now)) }
 {
@@ -47,9 +49,19 @@ fn value_of(alloc: Global, bytes: &[u8]) -> Result<Value, ScriptFault>
     }
 }
 
-/// The step that bytes stand for, by itself: JSON in the form of a client's steps. The place of one that they are not is `step`.
-pub fn read_step(alloc: Global, bytes: &[u8]) -> Result<ScriptStep, ScriptFault>
-    ensures reads { Reads move_of result (spec.one_step bytes.now) }
+/// The step that bytes denote, by itself: JSON in the form of a client's steps, in a script whose reads are checked or not. The place of
+/// one that they are not is `step`.
+pub fn read_step(alloc: Global, checked: bool, bytes: &[u8]) -> Result<ScriptStep, ScriptFault>
+    ensures reads { Reads move_of result (spec.one_step checked bytes.now) }
+    ensures json { IfOk result (λ step. IsTrue (is_json_move (move_of step))) }
+{
+    let step = bare_step(alloc, bytes)?;
+    Ok(step_with(checked, step))
+}
+
+// The step as it is written.
+fn bare_step(alloc: Global, bytes: &[u8]) -> Result<ScriptStep, ScriptFault>
+    ensures reads { Reads move_of result (spec.bare_step bytes.now) }
     ensures json { IfOk result (λ step. IsTrue (is_json_move (move_of step))) }
 {
     let value = value_of(alloc, bytes)?;
@@ -72,6 +84,7 @@ fn script_members(alloc: Global, value: &Value) -> Result<&Map<String, Value>, S
         "clients",
         "order",
         "rules",
+        "reads",
     ];
     match members_of(value, names) {
         Some(members) => Ok(members),
@@ -79,7 +92,7 @@ fn script_members(alloc: Global, value: &Value) -> Result<&Map<String, Value>, S
     }
 }
 
-// What a script has but its order and its version rules.
+// What a script has before its order.
 #[derive(Drop)]
 struct Beginning {
     own: OwnDomain,
@@ -87,14 +100,15 @@ struct Beginning {
     clients: Vec<Program>,
 }
 
-// What comes behind it.
+// What comes after it.
 #[derive(Drop)]
 struct Ending {
     order: Vec<u32>,
     rules: Rules,
+    checked_reads: bool,
 }
 
-// Each part is read behind those before it, which are handed on by value: where it is bad there is one value to let go of.
+// Each part is read after those before it, which are handed on by value: if it is bad there is one value to let go of.
 fn parts_of(alloc: Global, members: &Map<String, Value>) -> Result<Script, ScriptFault>
     requires { HasJson (members_view members.now.entries) }
     ensures { Reads parts result (spec.parts_of (members_view members.now.entries)) }
@@ -103,6 +117,7 @@ fn parts_of(alloc: Global, members: &Map<String, Value>) -> Result<Script, Scrip
     let domains = with_devices(alloc, members, own)?;
     let beginning = with_clients(alloc, members, domains)?;
     let ending = ending_of(alloc, members)?;
+    let clients = with_reads(alloc, ending.checked_reads, beginning.clients);
     let own = beginning.own;
     let device = own.device;
     Ok(Script {
@@ -111,9 +126,10 @@ fn parts_of(alloc: Global, members: &Map<String, Value>) -> Result<Script, Scrip
         config: device.config,
         operational: device.operational,
         devices: Seq::from_items(beginning.devices),
-        clients: Seq::from_items(beginning.clients),
+        clients: Seq::from_items(clients),
         order: Seq::from_items(ending.order),
         rules: ending.rules,
+        checked_reads: ending.checked_reads,
     })
 }
 
@@ -227,13 +243,46 @@ fn steps_of(alloc: Global, client: usize, program: &[Value]) -> Result<Vec<Scrip
     Ok(steps)
 }
 
-// The order, and the version rules.
+// The order, the version rules, and whether reads are checked.
 fn ending_of(alloc: Global, members: &Map<String, Value>) -> Result<Ending, ScriptFault>
     ensures { Reads ending result (spec.ending_of (members_view members.now.entries)) }
 {
     let order = order_of(alloc, members)?;
     let rules = rules_of(alloc, members)?;
-    Ok(Ending { order, rules })
+    let checked_reads = reads_of(alloc, members)?;
+    Ok(Ending {
+        order,
+        rules,
+        checked_reads,
+    })
+}
+
+// Whether reads are checked; they are not if the script does not say so.
+fn reads_of(alloc: Global, members: &Map<String, Value>) -> Result<bool, ScriptFault>
+    ensures { Reads (λ checked. checked) result (spec.or_bad (codes "reads") (spec.reads_member (members_view members.now.entries))) }
+{
+    match reads_member(members) {
+        Some(checked) => Ok(checked),
+        None => Err(bad(alloc, "reads")),
+    }
+}
+
+fn reads_member(members: &Map<String, Value>) -> Option<bool>
+    ensures { result ≡ spec.reads_member (members_view members.now.entries) }
+{
+    match member(members, "reads") {
+        None => Some(false),
+        Some(value) => reads_in(value),
+    }
+}
+
+fn reads_in(value: &Value) -> Option<bool>
+    ensures { result ≡ option_and_then spec.checked_by (as_str (view value.now)) }
+{
+    match value.as_str() {
+        Some("checked") => Some(true),
+        _ => None,
+    }
 }
 
 // The version rules, which are 1 where the script does not say.

@@ -43,7 +43,7 @@ pub enum StepReply {
         path: Path,
         rows: Rows,
     },
-    /// Whether a row stands at the path or below it, in the view of a transaction.
+    /// Whether the view of a transaction has a row at the path or below it.
     Exists {
         found: bool,
     },

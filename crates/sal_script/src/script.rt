@@ -37,7 +37,7 @@ pub enum ScriptStep {
         domain: u32,
         mode: Mode,
     },
-    /// Puts the value at the path, in the slot's transaction: what stands there and below it is what the value says, and
+    /// Puts the value at the path, in the slot's transaction: the path and what is below it have the rows of the value, and
     /// nothing else.
     Put {
         slot: u8,
@@ -45,14 +45,14 @@ pub enum ScriptStep {
         path: Str,
         value: Value,
     },
-    /// Merges the value into what stands at the path, in the slot's transaction.
+    /// Merges the value at the path, in the slot's transaction.
     Merge {
         slot: u8,
         store: Store,
         path: Str,
         value: Value,
     },
-    /// Deletes what stands at the path and below it, in the slot's transaction.
+    /// Deletes what is at the path and below it, in the slot's transaction.
     Delete {
         slot: u8,
         store: Store,
@@ -209,8 +209,9 @@ pub(crate) struct OwnDomain {
 }
 
 /// A script: the texts of its modules and those that each upgrade of domain 0 adds, together shorter than 4 GiB, the data of its opening
-/// trees, at most 63 devices, at most 16 clients with at most 60,000 steps each, the order of their shared calls, and the version rules of
-/// all domains. The device at index `i` is domain `i + 1`; the upgrade at index `i` leads to version `i + 1` of the schema of domain 0.
+/// trees, at most 63 devices, at most 16 clients with at most 60,000 steps each, the order of their shared calls, the version rules of
+/// all domains, and whether reads are checked. The device at index `i` is domain `i + 1`; the upgrade at index `i` leads to version `i + 1`
+/// of the schema of domain 0. If reads are checked, each step that says `rw` begins its transaction in `Mode::Checked`.
 #[derive(Drop)]
 pub struct Script {
     pub modules: Seq<Str>,
@@ -221,6 +222,7 @@ pub struct Script {
     pub clients: Seq<Program>,
     pub order: Seq<u32>,
     pub rules: Rules,
+    pub checked_reads: bool,
     ghost short: { IsTrue (are_short (all_texts modules upgrades)) },
     ghost few: { IsTrue (are_few devices) },
     ghost limits: { IsTrue (within_limits clients) },

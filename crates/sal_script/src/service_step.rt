@@ -13,7 +13,7 @@ use sal_types::{NoMemory, Str};
 use serde_json::Value;
 use std::alloc::Global;
 
-// The step of an RPC with this word and these parts behind it, or else of another service, or of none.
+// The step of an RPC with this word and these parts after it, or else of another service, or of none.
 pub(crate) fn service_step_named(
     alloc: Global,
     word: &str,

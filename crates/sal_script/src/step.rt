@@ -14,7 +14,7 @@ use sal_types::{NoMemory, Store, Str};
 use serde_json::Value;
 use std::alloc::Global;
 
-/// The step that a JSON array stands for.
+/// The step that a JSON array denotes.
 pub(crate) fn step_of(alloc: Global, value: &Value) -> Result<Option<ScriptStep>, NoMemory>
     ensures { IfOk result (λ found. option_map move_of found ≡ spec.step_of (view value.now)) }
 {
@@ -36,7 +36,7 @@ fn step_from(alloc: Global, parts: &[Value]) -> Result<Option<ScriptStep>, NoMem
     }
 }
 
-// The step with this word and these parts behind it.
+// The step with this word and these parts after it.
 fn step_named(alloc: Global, word: &str, parts: &[Value]) -> Result<Option<ScriptStep>, NoMemory>
     ensures { IfOk result (λ found. option_map move_of found ≡ spec.step_named word.now (map view parts.now)) }
 {

@@ -1,3 +1,7 @@
+use Rattle.std.proofs.Common.{◌∙◌, ap, sym}
+use Rattle.sal_script.specs.JsonMoves.{have_json_moves}
+use Rattle.sal_script.proofs.CheckedReads.{json_with, limits_with}
+use Rattle.sal_script.specs.Moves.{clients_of}
 use Rattle.sal_script.proofs.read.parts_of.Goals as goal
 
 pub invariant_of-result : goal.invariant_of-result
@@ -7,7 +11,7 @@ invariant_of-result c =
     record {
       short = c.in_ok-beginning.beginning.own.short;
       few = rw (c.from_items.ensures, beginning.domains.1) domains.few;
-      limits = rw c.from_items-2.ensures beginning.limits;
+      limits = rw c.from_items-2.ensures (limits_with c.in_ok-ending.ending.checked_reads c.in_ok-beginning.beginning.clients.items c.with_reads.result.items c.with_reads.ensures beginning.limits);
       opening = c.in_ok-beginning.beginning.own.device.opening;
-      json = rw c.from_items-2.ensures beginning.json;
+      json = rw (c.from_items-2.ensures, c.with_reads.ensures, json_with) beginning.json;
     }

@@ -1,0 +1,23 @@
+-- The reports are computed.
+use Rattle.std.specs.Fmt.{digits}
+use Rattle.std.specs.Str.{chars}
+use Rattle.json.specs.Print.{escape_byte}
+use Rattle.sal_restrict.specs.declared.yang_type.YangType.TheViews.{out-roll-YangType}
+use Rattle.sal_schema.specs.Table.{closest}
+use Rattle.sal_json.specs.Read.{type_scalar, own_json}
+use Rattle.sal_json.specs.Written.{type_json_of, layer_for}
+use Rattle.sal_pathtext.specs.Words.{name, single, said}
+use Rattle.sal_pathtext.specs.Read.{read_path, steps, one_more, named, entered, predicates, predicate, subject}
+use Rattle.sal_rules.specs.Breaches.{first}
+use Rattle.sal_rules.specs.Contexts.{through_plain, from_list}
+use Rattle.sal_rules.specs.Rules.{is_there}
+use Rattle.sal_data.specs.Written.{scalar_json, node_json, runs_of}
+use Rattle.sal_script.proofs.checked_examples.write_skew.Goals as goal
+
+pub returns-clause-checked : goal.returns-clause-checked
+unfolding read_path steps one_more named entered predicates predicate subject name single said closest first through_plain from_list is_there digits chars escape_byte scalar_json node_json runs_of
+returns-clause-checked c = simp (type_scalar, own_json, type_json_of, layer_for, out-roll-YangType)
+
+pub returns-clause-unchecked : goal.returns-clause-unchecked
+unfolding read_path steps one_more named entered predicates predicate subject name single said closest first through_plain from_list is_there digits chars escape_byte scalar_json node_json runs_of
+returns-clause-unchecked c = simp (type_scalar, own_json, type_json_of, layer_for, out-roll-YangType)

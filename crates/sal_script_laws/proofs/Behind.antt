@@ -1,4 +1,4 @@
--- What stands behind rounds: the entries that they put, and nothing else.
+-- What the tree has after rounds: the entries that they put, and nothing else.
 use Rattle.std.proofs.Common.{◌≡◌, ℕ, suc, zero, Bool, false, List, [], ◌∷◌, ◌++◌, length, take, refl, ap, ◌∙◌}
 use Rattle.std.specs.Prelude.{nat_eq}
 use Rattle.std.specs.List.{list_any}
@@ -20,7 +20,7 @@ use Rattle.sal_script_laws.specs.Rounds.{HasNoList, IsAbsent, Round, commit_of, 
 use Rattle.sal_script_laws.proofs.Entries.{apart, not_list}
 use Rattle.sal_script_laws.proofs.Placing.{none-tree_of}
 
--- where a test passes no row of the tree and none of the put's, it passes none behind the put
+-- where a test passes no row of the tree and none of the put's, it passes none after the put
 one-none : (q : List Step → Bool) (tree : List Row) (key value : ℕ)
     → list_any (λ row. q row.path) tree ≡ false → list_any (λ row. q row.path) (rows key value) ≡ false
     → list_any (λ row. q row.path) (apply_ops tree Config (put_of key value ∷ [])) ≡ false
@@ -28,7 +28,7 @@ one-none q tree key value before put =
     none-tree_of q (cell_after tree Config (put_of key value ∷ [])) (tree ++ rows key value)
     (list_any-append (λ row. q row.path) tree (rows key value) ∙ or_from _ _ before put)
 
--- nor behind rounds whose puts it passes none of
+-- nor after rounds whose puts it passes none of
 none-behind : (q : List Step → Bool) (t : Round → Bool) → ((round : Round) → t round ≡ false → list_any (λ row. q row.path) (rows round.key round.value) ≡ false)
     → (tree : List Row) (rounds : List Round) → list_any (λ row. q row.path) tree ≡ false → list_any t rounds ≡ false
     → list_any (λ row. q row.path) (tree_after Config tree (commits_of rounds)) ≡ false

@@ -29,7 +29,7 @@ or_none : (c : Option Cell) → option_or c None ≡ c
 or_none None = refl
 or_none (Some x) = refl
 
--- where nothing stands at the entry or below it, a put sets the rows of the entry
+-- without a row at the entry or below it, a put sets the rows of the entry
 cell-put : (tree : List Row) (key value : ℕ) → has tree (entry key) ≡ false → (r : List Step) → cell (with_rows tree (rows key value)) r ≡ cell_after tree Config (put_of key value ∷ []) r
 cell-put tree key value new r =
     cell-with_rows tree (rows key value) r
@@ -55,9 +55,9 @@ are_new tree key value new = (first, (second, (none (entry key ++ Node 2 ∷ [])
     second : option_or (cell (drop 2 (rows key value)) (entry key ++ Node 1 ∷ [])) (cell tree (entry key ++ Node 1 ∷ [])) ≡ None
     second = rw (differ (entry key ++ Node 1 ∷ []) (entry key ++ Node 2 ∷ []) (λ h. omega arith)) (none (entry key ++ Node 1 ∷ []) (is_prefix-append (entry key) (Node 1 ∷ [])))
 
--- ---- rounds behind a tree
+-- ---- rounds after a tree
 
--- none of the rounds' entries stands there yet
+-- none of the rounds' entries is there yet
 abbrev AreFresh : List Row → List Round → Type 0
 AreFresh tree rounds = (key : ℕ) → has_key rounds key ≡ true → has tree (entry key) ≡ false
 

@@ -18,11 +18,11 @@ use Rattle.sal_script.specs.LoadExamples.{table}
 use Rattle.sal_script_laws.specs.Rounds.{IsDecided, Round, are_distinct, commit_of, commits_of, has_key, load_world, nothing, trees_behind}
 use Rattle.sal_rows.proofs.Named.{not_true}
 
--- a base behind these rounds
+-- a base after these rounds
 abbrev pub base_behind : List Round → Base
 base_behind front = record { domain = 0; commit = length (commits_of front); chain = None; trees = trees_behind front }
 
--- a submission: its round, and the rounds behind which its transaction began
+-- a submission: its round, and the rounds after which its transaction began
 pub record Sub : Type 0 where
   pub front : List Round
   pub round : Round

@@ -1,4 +1,4 @@
--- What a load comes to at its end.
+-- The end of a load.
 use Rattle.std.proofs.Common.{◌≡◌, ℕ, zero, suc, ◌+◌, ◌*◌, ◌<◌, ◌≤◌, List, [], ◌∷◌, ◌++◌, length, Option, None, Some, Ok, refl, ap, sym, ◌∙◌, subst, arith, append-nil, length-append}
 use Rattle.std.specs.Prelude.{slice_get, sum_by}
 use Rattle.std.proofs.lemmas.List.{length-map}
@@ -57,7 +57,7 @@ module _ (known : AreKnown) (counted : RoundsAreCounted) (all_numbers : SumsAreA
   -- ---- the end
 
   module _ (state : PlayState) (was : Keeps rounds start state) where
-    -- a client that is at its end has all its rounds behind it
+    -- a client that is at its end has done all its rounds
     ended_as : (c : ℕ) (run : Run) (rs : List StepReply) (phase : Phase) → c < 4 → IsAt rounds start (history load_world state.log) c phase run
         → replies_at (arrive ((table ∷ []) ∷ []) load_world state.log run.client run.steps) ≡ Some rs → phase ≡ ready rounds 0
     ended_as c run rs (ready round zero) within is end = let same : round ≡ rounds = omega (arith, is.0) in ap (λ k. ready k 0) same

@@ -12,6 +12,8 @@ pub mod Program
 pub mod ReadNumbers
 pub mod ReadPath
 pub mod ReadValue
+pub mod Stand
 pub mod Standing
+pub mod Submitted
 pub mod Summed
 pub mod Turning

@@ -118,7 +118,7 @@ commits_are start answered phases was = (λ i. done_ops 0 (was.given i) (was.tol
 pub receipts_are : (start : ℕ) (answered : List Answered) (phases : Phases) (was : IsLoaded start answered phases) → length (sents answered) ≡ length (was.dec ++ was.pend)
 receipts_are start answered phases was = ap length was.given ∙ length-map (was.dec ++ was.pend) sent_of
 
--- A transaction of the client that began at this place, behind some rounds, and is not spent.
+-- A transaction of the client that began at this place, after some rounds, and is not spent.
 pub record HasBegun (answered : List Answered) (c place : ℕ) : Type 0 where
   pub beginning : Answered
   pub stands : slice_get answered place ≡ Some beginning

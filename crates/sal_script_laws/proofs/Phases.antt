@@ -1,8 +1,8 @@
--- Where each of the four clients of a load stands between two turns, by numbers, and sums over the four.
+-- The state of each of the four clients of a load between two turns, by numbers, and sums over the four.
 use Rattle.std.proofs.Common.{◌≡◌, ℕ, zero, suc, ◌+◌, ◌-◌, ◌*◌, ◌<◌, ◌≤◌, Bool, true, false, Option, None, Some, if◌then◌else◌, nat_le, refl, ap, sym, ◌∙◌, subst, arith, eqb-true, eq-eqb, le-leb, leb-true}
 use Rattle.std.specs.Prelude.{nat_eq}
 
--- A client with so many rounds behind it and so many to come: ready for the next one; in a round whose transaction began at the
+-- A client with this many rounds done and this many to come: ready for the next one; in a round whose transaction began at the
 -- place; in one whose transaction was submitted with the receipt.
 pub data Phase : Type 0 where
   ready : ℕ → ℕ → Phase

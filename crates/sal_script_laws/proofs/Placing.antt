@@ -1,4 +1,4 @@
--- Rows that are set in a tree where nothing stands are more rows of it.
+-- Rows that are set in a tree where it has nothing are more rows of it.
 use Rattle.std.proofs.Common.{◌≡◌, ℕ, ◌+◌, Bool, true, false, ◌||◌, List, [], ◌∷◌, length, Option, Some, None, refl, ap, ◌∙◌, arith, if◌then◌else◌}
 use Rattle.std.specs.Prelude.{sum_by}
 use Rattle.std.specs.List.{list_any}
@@ -58,7 +58,7 @@ pub IsAscending-with_rows : (tree rows : List Row) → IsAscending tree → IsAs
 IsAscending-with_rows tree [] h = h
 IsAscending-with_rows tree (row ∷ rows) h = IsAscending-set_row (with_rows tree rows) row (IsAscending-with_rows tree rows h)
 
--- no two of the rows have one path, and in the tree nothing stands there
+-- no two of the rows have one path, and the tree has nothing there
 abbrev pub AreNew : List Row → List Row → Type 0
 AreNew tree [] = Unit {0}
 AreNew tree (row ∷ rows) = (option_or (cell rows row.path) (cell tree row.path) ≡ None) × AreNew tree rows

@@ -66,7 +66,7 @@ module _ (path : PathIsRead) (data_read : DataIsRead) (accepted : IsAccepted) wh
       ∙ ap (λ (r : Result (List Row) DataFault). write_act table load_world log 0 Config (entry key) (r >>= (λ rows. Ok (PutAct rows))) (opened place version) client) (data_read key value short small)
       ∙ ap (λ (fault : Option TxFault). accept_unless fault 0 (put_of key value) (opened place version) client) (accepted (seen_by load_world log (opened place version) Config) key value)
 
-  -- so the client comes to its submit
+  -- so the client reaches its submit
   pub put_arrives : (log : List Entry) (client : Client) (key value place version : ℕ) (rest : List Move) → key ≤ 4294967295 → value ≤ 4294967295 → client.transactions 0 ≡ Some (opened place version)
       → arrive ((table ∷ []) ∷ []) load_world log client (Put 0 Config (entry_path key) (entry_data key value) ∷ Submit 0 ∷ rest)
       ≡ calls (made.Submit place (put_of key value ∷ [])) (Submit 0) (record { client = after_put key value place version client; steps = rest })
@@ -74,7 +74,7 @@ module _ (path : PathIsRead) (data_read : DataIsRead) (accepted : IsAccepted) wh
       ap (arrive_by (λ next. arrive ((table ∷ []) ∷ []) load_world log next (Submit 0 ∷ rest)) (λ call. calls call (Put 0 Config (entry_path key) (entry_data key value)) (record { client = client; steps = Submit 0 ∷ rest })))
       (put_meets log client key value place version short small at)
 
--- a client with a receipt comes to its settle
+-- a client with a receipt reaches its settle
 pub settle_arrives : (log : List Entry) (client : Client) (n : ℕ) (rest : List Move) → client.receipts 0 ≡ Some n
     → arrive ((table ∷ []) ∷ []) load_world log client (Settle 0 ∷ rest) ≡ calls (made.Settle n) (Settle 0) (record { client = client; steps = rest })
 settle_arrives log client n rest at =

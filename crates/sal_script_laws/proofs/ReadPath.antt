@@ -50,7 +50,7 @@ quoted : (n : ℕ) → n ≤ 4294967295 → in_quotes (decimal n) ≡ 39 ∷ dec
 quoted n small =
     rw (no_quote (decimal n) (and_parts (not (length (decimal n) == 0)) (list_all is_ascii_digit (decimal n)) (digits_of-digits n (below_64 n small))).1) refl
 
--- the quotes and the bracket behind a key
+-- the quotes and the bracket after a key
 ended : (t : List ℕ) → (((39 ∷ t ++ 39 ∷ []) ++ 93 ∷ []) ++ []) ++ [] ≡ 39 ∷ (t ++ 39 ∷ 93 ∷ [])
 ended t = append-nil _ ∙ append-nil _ ∙ append_assoc (39 ∷ t) (39 ∷ []) (93 ∷ [])
 

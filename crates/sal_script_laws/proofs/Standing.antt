@@ -1,4 +1,4 @@
--- Where a load stands between two turns, and what one more call of a client does to it.
+-- The state of a load between two turns, and what one more call of a client does to it.
 use Rattle.std.proofs.Common.{◌≡◌, ℕ, suc, ◌+◌, ◌<◌, ◌≤◌, false, List, [], ◌∷◌, ◌++◌, length, set, Some, sym, ◌∙◌, subst, arith, inl, inr, length-append}
 use Rattle.std.specs.Prelude.{slice_get}
 use Rattle.std.proofs.lemmas.List.{length-set}
@@ -15,7 +15,7 @@ use Rattle.sal_script_laws.proofs.Loaded.{HasBegun, IsLoaded}
 use Rattle.sal_script_laws.proofs.Phases.{Phase, Phases, begun, calls_by, four, four_set, ready, set_other, set_own, set_phase, submitted}
 use Rattle.sal_script_laws.proofs.Program.{HasOpened, put_step, rounds_from}
 
--- what the steps and the slots of a client are that has come to the phase
+-- the steps and the slots of a client in the phase
 abbrev pub IsAt : ℕ → ℕ → List Answered → ℕ → Phase → Run → Type 0
 IsAt rounds start answered c (ready round left) run = (round + left ≡ rounds) × (run.steps ≡ rounds_from start c round left)
 IsAt rounds start answered c (begun round left place) run =
@@ -61,7 +61,7 @@ module _ (rounds start : ℕ) (state : PlayState) (was : Keeps rounds start stat
   abbrev before : List Answered
   before = history load_world state.log
 
-  -- one more call of a client, which has come to its next phase
+  -- one more call of a client, which reaches its next phase
   pub advance : slice_get state.runs c ≡ Some run → e.client ≡ c → calls_by phase ≡ calls_by (was.phases c) + 1
       → SpendsOwn before e → length (sents before) ≤ length (sents (more_of before e)) → IsAt rounds start (more_of before e) c phase next
       → IsLoaded start (more_of before e) (set_phase c phase was.phases) → Keeps rounds start (record { log = state.log ++ e ∷ []; runs = set state.runs c next })

@@ -1,4 +1,4 @@
--- Each turn of a load keeps where it stands.
+-- Each turn of a load keeps its state.
 use Rattle.std.proofs.Common.{◌≡◌, ℕ, zero, suc, ◌+◌, ◌<◌, ◌≤◌, List, [], ◌∷◌, ◌++◌, length, set, Option, Some, refl, ap, sym, ◌∙◌, subst, arith, length-append}
 use Rattle.std.specs.Prelude.{slice_get}
 use Rattle.std.proofs.lemmas.Option.{none-some, same_Some, slice_get_within}
@@ -51,7 +51,7 @@ module _ (known : AreKnown) (rounds start : ℕ) (few : rounds ≤ 10000) (low :
       let answer : Reply = reply load_world state.log (entry call) in
       record { client = replied (Called answer) (keep (spot_after load_world state.log) step answer r.client); steps = r.steps }
 
-  -- a stand that is reached by the call
+  -- a state that is reached by the call
   abbrev moved : Call → Move → Run → PlayState
   moved call step r = record { log = state.log ++ entry call ∷ []; runs = set state.runs c (after call step r) }
 

@@ -1,4 +1,4 @@
--- What a load comes to: in each order of its clients' calls the same numbers, and so the same text.
+-- The numbers of a load: the same in each order of its clients' calls, and so the same text.
 use Rattle.std.specs.Prelude.{◌≡◌, ℕ, ◌*◌, ◌≤◌, List, Ok}
 use Rattle.sal_script.specs.Load.{Totals, clients_of, summary_of, totals_of}
 use Rattle.sal_script.specs.LoadOrder.{IsSummaryInSomeOrder}
@@ -6,7 +6,7 @@ use Rattle.sal_script.specs.Play.{Played, play}
 use Rattle.sal_script.specs.Report.{trees_in}
 use Rattle.sal_script_laws.specs.Rounds.{load_world, sum_after}
 
--- Three calls, a commit and three rows for each round of each of the four clients; and the numbers behind the start, each once.
+-- Three calls, a commit and three rows for each round of each of the four clients; and the numbers after the start, each once.
 abbrev pub load_totals : ℕ → ℕ → Totals
 load_totals rounds start = record { calls = 12 * rounds; commits = 4 * rounds; rows = 12 * rounds; values = sum_after start (4 * rounds) }
 
@@ -14,7 +14,7 @@ load_totals rounds start = record { calls = 12 * rounds; commits = 4 * rounds; r
 abbrev pub load_text : ℕ → ℕ → List ℕ
 load_text rounds start = summary_of rounds start (load_totals rounds start)
 
--- Whatever the order is in which a load is played, it comes to these numbers.
+-- Whatever the order is in which a load is played, it gives these numbers.
 abbrev pub LoadsComeToOne : Type 0
 LoadsComeToOne =
     (rounds start : ℕ) (order : List ℕ) (played : Played) → rounds ≤ 10000 → start ≤ 65536

@@ -47,7 +47,7 @@ commit_of round = put_of round.key round.value ∷ []
 abbrev pub commits_of : List Round → List (List Op)
 commits_of rounds = map commit_of rounds
 
--- the trees of the domain behind these rounds
+-- the trees of the domain after these rounds
 abbrev pub trees_behind : List Round → Store → List Row
 trees_behind rounds store = tree_after store (nothing store) (commits_of rounds)
 
@@ -73,21 +73,21 @@ abbrev pub sum_to : ℕ → ℕ → ℕ → ℕ
 sum_to start client zero = 0
 sum_to start client (suc round) = sum_to start client round + value_in start client round
 
--- the sum of so many numbers behind this one
+-- the sum of as many numbers after this one
 abbrev pub sum_after : ℕ → ℕ → ℕ
 sum_after start count = sum_by (λ n. n) (numbers_after start count)
 
 -- ---- what holds of them
 
--- Nothing stands at or below an entry that no round put.
+-- There is no row at or below an entry that no round put.
 abbrev pub IsAbsent : Type 0
 IsAbsent = (rounds : List Round) (key : ℕ) → has_key rounds key ≡ false → has (trees_behind rounds Config) (entry key) ≡ false
 
--- No row stands at the list itself.
+-- There is no row at the list itself.
 abbrev pub HasNoList : Type 0
 HasNoList = (rounds : List Round) → cell (trees_behind rounds Config) (Node 0 ∷ []) ≡ None
 
--- Over rounds and a base behind rounds, a put of an entry that no round put is the next commit, whatever the spans are.
+-- Over rounds and a base after rounds, a put of an entry that no round put is the next commit, whatever the spans are.
 abbrev pub IsDecided : Type 0
 IsDecided =
     (rounds front : List Round) (spans : List Span) (key value : ℕ) → has_key rounds key ≡ false
@@ -130,6 +130,6 @@ StayDistinct = (rounds : List Round) (round : Round) → are_distinct rounds ≡
 abbrev pub SumGrows : Type 0
 SumGrows = (rounds : List Round) (round : Round) → sum_of (rounds ++ round ∷ []) ≡ sum_of rounds + round.value
 
--- What the four clients put in so many rounds are the next numbers behind the start, each once.
+-- What the four clients put in these rounds are the next numbers after the start, each once.
 abbrev pub SumsAreAll : Type 0
 SumsAreAll = (start rounds : ℕ) → sum_to start 0 rounds + sum_to start 1 rounds + sum_to start 2 rounds + sum_to start 3 rounds ≡ sum_after start (4 * rounds)

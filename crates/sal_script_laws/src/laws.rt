@@ -1,14 +1,18 @@
-//! Laws of the rounds of a load. A call does nothing: its clauses are the laws.
+//! Laws of the rounds of a load, and of checked reads. A call does nothing: its clauses are the laws.
 ghost use Rattle.sal_script_laws.specs.Numbers as numbers;
 ghost use Rattle.sal_script_laws.specs.Rounds as rounds;
+ghost use Rattle.sal_script_laws.specs.Submitted.{PlayedReadsStand, ReadsAreSubmitted};
 
-/// Nothing stands at or below an entry that no round put, nor at the list itself.
+use sal_history_laws::serial;
+use sal_script::laws;
+
+/// There is no row at or below an entry that no round put, nor at the list itself.
 pub fn entries_stand_alone()
     ensures entries { rounds.IsAbsent }
     ensures list { rounds.HasNoList }
 {}
 
-/// Behind other rounds, a round whose entry is new is the next commit, whatever it stands on.
+/// After other rounds, a round whose entry is new is the next commit, whatever its base is.
 pub fn rounds_are_done()
     ensures { rounds.IsDecided }
 {}
@@ -35,14 +39,14 @@ pub fn rounds_have_keys()
     ensures short { rounds.AreShort }
 {}
 
-/// Rounds with new entries stay different; each adds its number, and all together add the numbers behind the start.
+/// Rounds with new entries stay different; each adds its number, and all together add the numbers after the start.
 pub fn rounds_add_up()
     ensures distinct { rounds.StayDistinct }
     ensures grows { rounds.SumGrows }
     ensures all { rounds.SumsAreAll }
 {}
 
-/// In each order of its clients' calls a load comes to the same numbers, and so its summary is one text.
+/// In each order of its clients' calls a load gives the same numbers, and so its summary is one text.
 pub fn loads_come_to_one()
     ensures numbers { numbers.LoadsComeToOne }
     ensures text { numbers.SummariesAreOne }
@@ -53,4 +57,14 @@ pub fn loads_come_to_one()
     rounds_have_keys();
     rounds_add_up();
     rounds_are_counted();
+}
+
+/// What a transaction with checked reads looked at is in the operations that its client submits, at its place, whatever the client and
+/// others do in between. If that submission is done, the look answered what it would answer over the trees just before the commit.
+pub fn checked_reads_stand()
+    ensures submitted { ReadsAreSubmitted }
+    ensures stand { PlayedReadsStand }
+{
+    laws::reads_are_known();
+    serial::checked_runs_are_serialisable();
 }

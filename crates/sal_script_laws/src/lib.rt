@@ -1,4 +1,4 @@
-//! What a load comes to: in each order of its clients' calls the same numbers.
+//! The numbers of a load: the same in each order of its clients' calls.
 //!
 //! A load is four clients that put entries into one list, each its own, in so many rounds (`sal_script`, `specs/Load`). `specs/Rounds`
 //! says what a round is and what rounds leave that came one after another: each is decided as the next commit, and adds an entry

@@ -5,7 +5,7 @@ use Rattle.sal_types.specs.declared.value.Step.{Step}
 use Rattle.sal_rows.specs.declared.op.Op.{Op}
 use Rattle.sal_rows.specs.declared.op.Act.{Act}
 use Rattle.sal_rows.specs.declared.outcome.Mode.{Mode}
-use Rattle.sal_rows.specs.declared.outcome.Mode.TheVariants.{Ro, Wo, Rw}
+use Rattle.sal_rows.specs.declared.outcome.Mode.TheVariants.{Ro, Wo, Rw, Checked}
 use Rattle.sal_rows.specs.declared.outcome.CallFault.{CallFault}
 use Rattle.sal_rows.specs.declared.outcome.CallFault.TheVariants.{ChainClosed, ChainFailed, DeviceUsed, HistoryFull, MountTaken, NoCall, NoDomain, NoListener, NoMemory, NoProvider, NoteRejected, PipelineFull, PreviousOpen, ProviderTaken, TooManyListeners, TxSpent, UpgradeBreach, WrongVersion}
 use Rattle.sal_schema.specs.declared.table.SchemaTable.{SchemaTable}
@@ -80,7 +80,7 @@ stopped old new e fault stop.NoMemory fails is = inl (subst (Fails old new e) is
 
 -- ---- begin
 
--- a domain of the world is one behind a call, too
+-- a domain of the world is one after a call, too
 pub in_world : {known known' : HubHistory} {e : Entry} {answer : Reply} {asked domain : ℕ} → Made known known' e answer → asked ≡ domain → IsWithin (length known.world) asked → IsWithin (length known'.world) domain
 in_world {known} {known'} {e} {answer} {asked} {domain} made same within =
     subst (λ n. IsWithin n domain) (ap (λ (k : HubHistory). length k.world) (sym made.log)) (subst (IsWithin (length known.world)) same within)
@@ -106,7 +106,7 @@ begun_by {known} {known'} {e} {answer} domain begun trees made is place of =
     ∙ (λ i. version_for (of i) (version_at (history (made.log i).world (made.log i).log) (place i)))
     ∙ ap (version_for domain) now
 
--- the transaction that a begin answers stands in the slot
+-- the transaction that a begin answers is in the slot
 pub kept_begun : (known : HubHistory) (slot domain : ℕ) (member : Option ℕ) (mode : Mode) (tx : Tx) (old : Client) (f : Slots Open) → IsFresh known domain member mode tx → (begun_of tx).version ≡ version_for domain (schema_version (history known.world known.log)) → f ≡ set_slot slot (Some (open_of tx)) old.transactions → record old { transactions = f } ≡ keep_begun slot (spot_after known.world known.log) domain mode old
 kept_begun known slot domain member mode tx old f fresh by filled =
     let same : open_of tx ≡ record { place = length known.log; domain = domain; version = version_for domain (schema_version (history known.world known.log)); mode = mode; ops = [] } = λ i. record { place = fresh.place i; domain = fresh.domain i; version = by i; mode = fresh.mode i; ops = fresh.ops i } in
@@ -123,6 +123,7 @@ submit_mode : (tx : Open) (m : Mode) (client : Client) → standing_in m ≡ Wri
 submit_mode tx Ro client w = cc
 submit_mode tx Wo client w = refl
 submit_mode tx Rw client w = refl
+submit_mode tx Checked client w = refl
 
 pub submit-writable : (client : Client) (o : Option Open) (tx : Open) → o ≡ Some tx → standing_of o ≡ Writable → submit client o ≡ shared (SubmitCall tx.place tx.ops)
 submit-writable client o tx e w = ap (submit client) e ∙ submit_mode tx tx.mode client (sym (ap standing_of e) ∙ w)
@@ -155,3 +156,4 @@ module _ (table : SchemaTable) (world : List Domain) (log : List Entry) where
   write-writable Ro slot store text data_act tx client read made w is by = cc
   write-writable Wo slot store text data_act tx client read made w is by = ap (λ r. write_at table world log slot store r data_act tx client) (sym is) ∙ write_at-by slot store data_act tx client read ∙ ap (met_by slot tx client) (sym by)
   write-writable Rw slot store text data_act tx client read made w is by = ap (λ r. write_at table world log slot store r data_act tx client) (sym is) ∙ write_at-by slot store data_act tx client read ∙ ap (met_by slot tx client) (sym by)
+  write-writable Checked slot store text data_act tx client read made w is by = ap (λ r. write_at table world log slot store r data_act tx client) (sym is) ∙ write_at-by slot store data_act tx client read ∙ ap (met_by slot tx client) (sym by)

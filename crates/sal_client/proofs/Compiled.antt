@@ -172,7 +172,7 @@ malformed_within (t ∷ tables) (suc index) e = let less = malformed_within tabl
 
 -- ---- a reader that is asked for by its domain
 
--- a domain that is not the controller's own is one where there are so many devices
+-- a domain that is not the controller's own is one if there are that many devices
 pub has_device : (own devices : List SchemaTable) (domain : ℕ) → 0 < domain → nat_lt (domain - 1) (length devices) ≡ has_domain (versions_by own devices) domain
 has_device own devices domain some = by (nat_lt (domain - 1) (length devices)) refl
   where

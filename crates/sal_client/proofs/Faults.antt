@@ -16,7 +16,7 @@ pub refuses_on : {X Y : Type 0} (fault : StepFault) (read : Result X StepRefusal
 refuses_on (Refused refusal) read f is = ap (λ r. r >>= f) is
 refuses_on NoMemory read f is = tt
 
--- and of what is read behind it
+-- and of what is read after it
 pub refuses_behind : {X Y : Type 0} (fault : StepFault) (read : Result X StepRefusal) (x : X) (f : X → Result Y StepRefusal) → read ≡ Ok x → Refuses fault (f x) → Refuses fault (read >>= f)
 refuses_behind (Refused refusal) read x f here is = ap (λ r. r >>= f) here ∙ is
 refuses_behind NoMemory read x f here is = tt

@@ -160,7 +160,7 @@ module _ (known : HubHistory) (number : ℕ) (f : Follower) (is : IsOwnListener 
   told : b ≡ batch own trees f.path f.mirror.version last
   told = told_by (has_listener earlier number f.id.number) answered ∙ ap (λ v. batch own trees f.path v last) is.version
 
-  -- the batch begins where the rows stand
+  -- the batch begins at the version of the rows
   pub told_from : f.mirror.version ≡ b.from
   told_from = sym (ap (λ (x : Told). x.from) told)
 

@@ -41,7 +41,7 @@ module _ (tables : List Versions) (known : HubHistory) where
         ap (arrive tables known.world known.log old) (from steps i step h at)
         ∙ (λ k. arrive tables known.world known.log (sym same k) (asks k ∷ moves_from (i + 1) steps))
 
--- a client that made its call goes on behind it
+-- a client that made its call continues after it
 pub call_turn : (tables : List Versions) (c : ℕ) (known known' : HubHistory) (step : Move) (old between new : Client) (r : StepReply) (call : Call) → Calls tables r c known old step known' between call → new ≡ replied r between → (steps : List Move)
     → go tables known.world known.log c (record { client = old; steps = step ∷ steps }) ≡ Some (record { log = known'.log; run = record { client = new; steps = steps } })
 call_turn tables c known known' step old between new r call called is steps =
@@ -53,7 +53,7 @@ call_turn tables c known known' step old between new r call called is steps =
 pub goes_on : (tables : List Versions) (c : ℕ) (known known' : HubHistory) (wish : Wish) (old between new : Client) (r : StepReply) → Makes tables r c known old (move_by wish) known' between → new ≡ replied r between → MakesNext tables c known wish old known' new
 goes_on tables c known known' wish old between new r (call, called) is = (call_turn tables c known known' (move_by wish) old between new r call called is, (entry_of known c call, refl, called.entry))
 
--- what a client comes to by its local steps and its call
+-- the result of a client's local steps and its call
 pub goes : (tables : List Versions) (c : ℕ) (known known' : HubHistory) (wish : Wish) (steps : List ScriptStep) (old mid new : CodeRun) → Comes tables steps old (Some wish) mid → (ReadBy tables wish → MakesNext tables c known wish (client_of mid.client) known' (client_of new.client)) → new.at ≡ mid.at → IsSound known old.client → tables ≡ versions_of known.world → Goes tables true c known steps old known' new
 goes tables c known known' wish steps old mid new comes makes at sound of =
     let made = makes comes.2 in (

@@ -42,7 +42,7 @@ abbrev id_in : Call → ℕ
 id_in (TakeCall n) = n
 id_in call = 0
 
--- ---- what the steps come to
+-- ---- the results of the steps
 
 pub met_listen : (tables : List Versions) (known : HubHistory) (client : Client) (slot domain : ℕ) (store : Store) (text : List ℕ) (path : List Step) → read_path (last_in tables domain) text ≡ Ok path → has_domain tables domain ≡ true
     → meet tables known.world known.log client (Listen slot domain store text) ≡ shared (ListenCall domain store path)

@@ -65,7 +65,7 @@ held-set {X} (t ∷ rest) s below k =
     over false false e = refl
     over false true e = cc
 
--- a list with this behind it, where its slot had no place
+-- a list with this after it, where its slot had no place
 pub held-push : {X : Type 0} (list : List (Slot X)) (s : Slot X) → length list ≤ place_in list s.number → (k : ℕ) → held_in (list ++ s ∷ []) k ≡ (if nat_eq k s.number then s.value else held_in list k)
 held-push [] s past k = refl
 held-push {X} (t ∷ rest) s past k =

@@ -30,7 +30,7 @@ module _ (wish : Wish) (known known' : HubHistory) (old : ClientState) (call : C
   abbrev pub Asks : Type 0
   Asks = (tables : List Versions) → ReadBy tables wish → meet tables known.world known.log (client_of old) (move_by wish) ≡ shared call
 
-  -- the client stays sound behind a call that takes nothing
+  -- the client stays sound after a call that takes nothing
   pub sound_behind : TokensLast → is_take call ≡ false → (answer : Reply) → Made known known' e answer → IsSound known old → IsSound known' old
   sound_behind lasts quiet answer made sound = subst (λ (k : HubHistory). IsSound k old) (sym made.log) (IsSound-more lasts known e old quiet sound)
 
@@ -50,7 +50,7 @@ module _ (wish : Wish) (known known' : HubHistory) (old : ClientState) (call : C
         leaves_made asks (Refused fault) r made is.0 kept (sound made)
     leaves_refused asks fault (Err why) fails is kept sound = stopped known known' e fault why fails is
 
-  -- memory ran out behind a call that was made
+  -- memory ran out after a call that was made
   pub leaves_in_vain : (new : ClientState) (answer : Reply) → Made known known' e answer → Leaves wish known old known' new (Err NoMemory)
   leaves_in_vain new answer made = inr (e, refl, made.log)
 

@@ -30,7 +30,7 @@ under-under (row ∷ rows) p = by (is_prefix p row.path) refl (under-under rows 
     by true e rest = ap (λ here. if here then row ∷ under (under rows p) p else under (under rows p) p) e ∙ ap (λ (more : List Row). row ∷ more) rest
     by false e rest = rest
 
--- ---- the parts of a batch are by what stands under the path
+-- ---- the parts of a batch are by what is under the path
 
 lists-append : (ps qs : List Part) → lists_of (ps ++ qs) ≡ lists_of ps ++ lists_of qs
 lists-append [] qs = refl
@@ -58,7 +58,7 @@ after_one : (s : Store) (tree : List Row) (ops : List Op) (commits : List (List 
 after_one s tree ops [] = IsAscending-apply_ops tree s ops
 after_one s tree ops (next ∷ commits) = after_one s (apply_ops tree s ops) next commits
 
--- those behind one of which this is known
+-- those after one of which this is known
 ascends_behind : (opening : Store → List Row) (commits : List (List Op)) (s : Store) (p : List Step) (from k : ℕ) → from < k → IsAscending (under (tree_at opening commits s from) p) → IsAscending (under (tree_at opening commits s k) p)
 ascends_behind opening [] s p zero zero h was = was
 ascends_behind opening [] s p zero (suc k) h was = was
@@ -96,7 +96,7 @@ module _ (opening : Store → List Row) (commits : List (List Op)) (s : Store) (
           ap (λ (r : List Row). under r p) is ∙ under-under (at from) p ∙ ap (λ j. under (at j) p) here
       by false e = under-under (at k) p
 
-  -- the rows after a batch of the commits behind
+  -- the rows after a batch of the commits after
   pub goes_on : (own : Bool) (to : ℕ) (b : Batch) (after : List Row) → from ≤ to → b ≡ batch own at p from to → CarriesOn b rows after → after ≡ under (at to) p
   goes_on own to b after h made carries =
       let starts : b.from ≡ from = ap (λ (x : Batch). x.from) made in

@@ -48,7 +48,7 @@ changed h emptied after slot x out in_ = in_ ∙ (λ i. set_slot slot (Some x) (
     at : (k : ℕ) → set_slot slot (Some x) (set_slot slot None h) k ≡ set_slot slot (Some x) h k
     at k = elim (nat_eq k slot) as (λ b. (if b then Some x else (if b then None else h k)) ≡ (if b then Some x else h k)) [ true ↦ refl | false ↦ refl ]
 
--- what is put where it stands
+-- what is put at its place
 pub put_same : {X : Type 0} (h : ℕ → Option X) (slot : ℕ) (x : X) → h slot ≡ Some x → set_slot slot (Some x) h ≡ h
 put_same h slot x here = λ i k. at k i
   where
@@ -74,12 +74,12 @@ took_nothing {X} h emptied slot none out = out ∙ (λ i k. at k i)
           | false ↦ λ e. refl
         ] refl
 
--- what follows from what an Ok tells
+-- what follows from an Ok
 pub on_ok : {T E P Q : Type 0} (r : Result T E) → (P → Q) → OnOk r P → OnOk r Q
 on_ok (Ok x) f p = f p
 on_ok (Err e) f p = tt
 
--- the domain of a slot's transaction is one of those that are read, and an empty slot stands for the controller's own
+-- the domain of a slot's transaction is one of those that are read, and an empty slot denotes the controller's own
 pub opened_within : (tables : List Versions) (c : ClientState) (slot domain : ℕ) → domain ≡ domain_of (opened c slot) → HasSchema tables c → IsWithin (length tables) domain
 opened_within tables c slot domain is has = subst (IsWithin (length tables)) (sym is) (by (held c.transactions slot) refl)
   where

@@ -21,11 +21,11 @@ module _ (tables : List Versions) (known : HubHistory) (ps : List (List ScriptSt
   from_start : play_from tables s.hub.world 0 (stand_of ps s.hub.log s.runs.items) order ≡ play known.world (clients_of ps) order
   from_start = λ i. play_from (of i) (same i).world 0 (stands i) order
 
-  -- what the order comes to
+  -- the result of the order
   pub plays_from_start : (result : Result CodePlayed PlayFault) → PlaysAs s.hub.world result (play_from tables s.hub.world 0 (stand_of ps s.hub.log s.runs.items) order) → PlaysAs known.world result (play known.world (clients_of ps) order)
   plays_from_start result is = subst (λ (k : HubHistory). PlaysAs k.world result (play known.world (clients_of ps) order)) same (subst (PlaysAs s.hub.world result) from_start is)
 
-  -- which is what its end comes to
+  -- which is the result of its end
   pub plays_to_end : (known' : HubHistory) (rs : List ClientRun) (index : ℕ) (result : Result CodePlayed PlayFault) → index ≡ length order → known'.world ≡ s.hub.world
       → play_from tables s.hub.world (length order) (stand_of ps known'.log rs) [] ≡ play_from tables s.hub.world 0 (stand_of ps s.hub.log s.runs.items) order
       → PlaysAs known'.world result (play_from tables known'.world index (stand_of ps known'.log rs) []) → PlaysAs known.world result (play known.world (clients_of ps) order)

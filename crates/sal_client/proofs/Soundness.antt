@@ -112,7 +112,7 @@ HasSchema-sound tables known c is of k tx at =
       schema = own.token.schema ∙ sym (table_at-of known.world (begun_of tx).version (begun_of tx).domain) ∙ ap (λ (ts : List Versions). table_at ts (begun_of tx).version (begun_of tx).domain) (sym of);
     }
 
--- the trees that a transaction stands on
+-- the trees that are a transaction's base
 pub based : (known : HubHistory) (begun : Begun) (trees : Pair) → IsBegun known begun trees → (s : Store) → base_tree known.world known.log begun.place s ≡ rows_in trees s
 based known begun trees is s = ap (λ (b : Option Base). (unwrap_or b nowhere).trees s) is.began
 

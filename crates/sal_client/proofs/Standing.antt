@@ -1,4 +1,4 @@
--- Where all clients stand: looked at and changed by index.
+-- The places of all clients, read and changed by index.
 use Rattle.std.proofs.Common.{◌≡◌, ℕ, zero, suc, ◌+◌, ◌*◌, ◌<◌, ◌≤◌, Bool, true, false, List, [], ◌∷◌, ◌++◌, length, map, get_or, set, drop, take, Option, None, Some, refl, ap, sym, ◌∙◌, subst, arith, append_assoc, append-nil, length-append, IsTrue, inl, inr}
 use Rattle.std.specs.Prelude.{slice_get, nat_le}
 use Rattle.std.specs.List.{list_all}
@@ -78,7 +78,7 @@ has_room known ps rs are =
 IsRun-other : TokensLast → (known : HubHistory) (e : Entry) (p : List ScriptStep) (r : CodeRun) → (e.client ≡ r.client.number → ⊥) → IsRun known p r → IsRun (more known e) p r
 IsRun-other lasts known e p r other is = record { sound = IsSound-other lasts known e r.client other is.sound; program = is.program }
 
--- one client went on
+-- one client continued
 pub AreRuns-set : TokensLast → (known known' : HubHistory) (ps : List (List ScriptStep)) (rs : List CodeRun) (c : ℕ) (p : List ScriptStep) (old new : CodeRun) → AreRuns known ps rs → GrowsBy c known known' → old.at < new.at → c < length rs → p ≡ get_or ps c p → old ≡ get_or rs c old → IsRun known' p new → new.client.number ≡ c → AreRuns known' ps (set rs c new)
 AreRuns-set lasts known known' ps rs c p old new are (e, by, is) on h at_p at_old run number = record {
   long = length-set rs c new ∙ are.long;
@@ -128,7 +128,7 @@ pub with_replies-cons : (done : List (List StepReply)) (rs : List StepReply) (re
 with_replies-cons done rs None = refl
 with_replies-cons done rs (Some rest) = ap Some (sym (append_assoc done (rs ∷ []) rest))
 
--- a client that made a call has not come to its end
+-- a client that made a call has not reached its end
 not_ended : (tables : List Versions) (world : List Domain) (log : List Entry) (c : ℕ) (a : Arrival) (made : Made) → make tables world log c a ≡ Some made → replies_at a ≡ None
 not_ended tables world log c (ended client) made e = cc
 not_ended tables world log c (calls call step run) made e = refl
@@ -196,7 +196,7 @@ turned lasts tables true known known' ps rs c p old new are h at_p at_old goes r
     )
 turned lasts tables false known known' ps rs c p old new are h at_p at_old goes run number = advance-ended tables known.world known.log ps rs c p old (client_of new.client) are.long h at_p at_old goes.0
 
--- where lists are the same from an index on, so is what stands there
+-- lists that are the same from an index on have the same items there
 get_drop : {X : Type 0} (xs : List X) (i : ℕ) (d : X) → get_or (drop i xs) 0 d ≡ get_or xs i d
 get_drop xs zero d = refl
 get_drop [] (suc i) d = refl

@@ -40,7 +40,7 @@ use Rattle.sal_client.specs.Targets.{IsTarget, path_in}
 use Rattle.sal_client.specs.Wishes.{CanMake, IsRefused, ReadBy, Wants, move_by, wish_if, wished}
 use Rattle.sal_client.proofs.Faults.{refuses_behind, refuses_on}
 
--- ---- what was read of a service, and what is read behind it
+-- ---- what was read of a service, and what is read after it
 
 by_service : {C : Type 0} (rpc : OrRefusal ℕ) (context : OrRefusal (Option (List Step))) (f : ℕ → Option (List Step) → OrRefusal C)
     → (rpc >>= λ n. context >>= λ at. f n at) ≡ ((rpc >>= λ n. context >>= λ at. let r : OrRefusal (ℕ × Option (List Step)) = Ok (n, at) in r) >>= λ p. f p.0 p.1)

@@ -3,7 +3,7 @@ use Rattle.std.proofs.Common.{◌≡◌, ℕ, List, Option, None, Some, Result, 
 use Rattle.sal_types.specs.declared.value.Store.{Store}
 use Rattle.sal_rows.specs.declared.op.Op.{Op}
 use Rattle.sal_rows.specs.declared.outcome.Mode.{Mode}
-use Rattle.sal_rows.specs.declared.outcome.Mode.TheVariants.{Ro, Wo, Rw}
+use Rattle.sal_rows.specs.declared.outcome.Mode.TheVariants.{Ro, Wo, Rw, Checked}
 use Rattle.sal_schema.specs.declared.table.SchemaTable.{SchemaTable}
 use Rattle.sal_pathtext.specs.Read.{read_path}
 use Rattle.sal_script.specs.declared.reply.StepReply.{StepReply}
@@ -29,6 +29,7 @@ not_empty : (mode : Mode) → standing_in mode ≡ Empty → ⊥
 not_empty Ro is = cc
 not_empty Wo is = cc
 not_empty Rw is = cc
+not_empty Checked is = cc
 
 module _ (tables : List Versions) (known : HubHistory) (client : Client) (slot : ℕ) (store : Store) (text : List ℕ) (data_act : DataAct) where
   abbrev write_of : Option Open → Meeting
@@ -42,6 +43,7 @@ module _ (tables : List Versions) (known : HubHistory) (client : Client) (slot :
   in_mode tx Ro is = refl
   in_mode tx Wo is = cc
   in_mode tx Rw is = cc
+  in_mode tx Checked is = cc
 
   in_read_only : (tx : Option Open) → standing_of tx ≡ ReadOnly → write_of tx ≡ refused_step ReadOnlyTx client
   in_read_only None is = cc

@@ -31,7 +31,7 @@ abbrev pub IsAsk : SchemaTable → Service → Data → Result Ask StepFault →
 IsAsk table service value (Ok a) = (a.service ≡ service) × (view a.value.value ≡ value) × (rows_of table (input_of table service.rpc) value ≡ Ok a.input)
 IsAsk table service value (Err fault) = Refuses fault (rows_of table (input_of table service.rpc) value)
 
--- and of the service that its name and its context stand for
+-- and of the service that its name and its context denote
 abbrev pub IsAskBy : SchemaTable → List ℕ → Option (List ℕ) → Data → Result Ask StepFault → Type 0
 IsAskBy table name text value (Ok a) =
     (a.service.name.value ≡ name) × (a.service.text.value ≡ text) × (view a.value.value ≡ value) × (invoke table name text value ≡ Ok (Invoke a.service.rpc a.service.context a.input))

@@ -2,7 +2,7 @@
 use Rattle.std.specs.Prelude.{◌≡◌, ◌⊎◌, ◌<◌, ℕ, Bool, true, false, List, length, Option, None, Some}
 use Rattle.std.specs.Option.{option_map, option_map_or}
 use Rattle.sal_rows.specs.declared.outcome.Mode.{Mode}
-use Rattle.sal_rows.specs.declared.outcome.Mode.TheVariants.{Ro, Wo, Rw}
+use Rattle.sal_rows.specs.declared.outcome.Mode.TheVariants.{Ro, Wo, Rw, Checked}
 use Rattle.sal_tx.specs.declared.tx.Tx.{Tx}
 use Rattle.sal_history.specs.declared.call.Call.{Call}
 use Rattle.sal_history.specs.History.{reply}
@@ -72,6 +72,7 @@ abbrev pub standing_in : Mode → Standing
 standing_in Ro = ReadOnly
 standing_in Wo = Writable
 standing_in Rw = Writable
+standing_in Checked = Writable
 
 abbrev pub standing_of : Option Open → Standing
 standing_of None = Empty
@@ -94,14 +95,14 @@ pub record IsOwn (known : HubHistory) (tx : Tx) : Type 0 where
   pub token : IsToken known tx
   pub within : IsWithin (length known.world) (begun_of tx).domain
 
--- What the local steps stand on, and each longer log keeps: each transaction is one that the log began, and the rows of each
+-- What the local steps need, and each longer log keeps: each transaction is one that the log began, and the rows of each
 -- listener are those that were committed there.
 pub record IsSteady (known : HubHistory) (c : ClientState) : Type 0 where
   pub transactions : (k : ℕ) (tx : Tx) → held c.transactions k ≡ Some tx → IsOwn known tx
   pub followers : (k : ℕ) (f : Follower) → held c.listeners k ≡ Some f → Follows known f
 
--- And what the shared steps stand on: each receipt is one that the log gave, each chain one that it opened, each request one that
--- was made, and each listener one that it made for this client, at the version that was taken last; no listener stands in two slots.
+-- And what the shared steps need: each receipt is one that the log gave, each chain one that it opened, each request one that
+-- was made, and each listener one that it made for this client, at the version that was taken last; no listener is in two slots.
 pub record IsSound (known : HubHistory) (c : ClientState) : Type 0 where
   pub steady : IsSteady known c
   pub receipts : (k : ℕ) (r : Receipt) → held c.receipts k ≡ Some r → IsGiven known r

@@ -26,7 +26,7 @@ pub record IsOwnListener (known : HubHistory) (number : ℕ) (f : Follower) : Ty
   pub made : IsMade known f.id (record { client = number; domain = f.id.domain; store = f.store; path = f.path })
   pub version : version (history known.world known.log) f.id.number ≡ f.mirror.version
 
--- the rows went on to the end of a batch
+-- the rows are at the end of a batch
 pub record Advances (batch : Batch) (old new : Follower) : Type 0 where
   pub id : new.id ≡ old.id
   pub store : new.store ≡ old.store

@@ -38,24 +38,24 @@ pub record IsRun (known : HubHistory) (steps : List ScriptStep) (r : CodeRun) : 
   pub sound : IsSound known r.client
   pub program : IsProgram steps r
 
--- the client with a call that it is ready to make, and the moves behind that
+-- the client with a call that it is ready to make, and the moves after that
 abbrev pub asking : Wish → List ScriptStep → CodeRun → Run
 asking wish steps r = record { client = client_of r.client; steps = move_by wish ∷ moves_from r.at steps }
 
--- The client answered its local steps: over each log that it was sound for, it came to its end, or to this call.
+-- The client answered its local steps: over each log that it was sound for, it reached its end, or to this call.
 abbrev pub Comes : List Versions → List ScriptStep → CodeRun → Option Wish → CodeRun → Type 0
 Comes tables steps old None new = Everywhere tables old.client (λ known. arrive tables known.world known.log (client_of old.client) (moves_from old.at steps) ≡ ended (client_of new.client))
 Comes tables steps old (Some wish) new =
     Everywhere tables old.client (λ known. arrive tables known.world known.log (client_of old.client) (moves_from old.at steps) ≡ arrive tables known.world known.log (asking wish steps new).client (asking wish steps new).steps)
     × CanMake wish new.client × ReadBy tables wish × (old.at < new.at)
 
--- client c made the call that it was ready to make, whatever the steps behind it
+-- client c made the call that it was ready to make, whatever the steps after it
 abbrev pub MakesNext : List Versions → ℕ → HubHistory → Wish → Client → HubHistory → Client → Type 0
 MakesNext tables c known wish old known' new =
     ((steps : List Move) → go tables known.world known.log c (record { client = old; steps = move_by wish ∷ steps }) ≡ Some (record { log = known'.log; run = record { client = new; steps = steps } }))
     × GrowsBy c known known'
 
--- the client went on to its next shared call and made it, or came to its end
+-- the client proceeded to its next shared call and made it, or reached its end
 abbrev pub Goes : List Versions → Bool → ℕ → HubHistory → List ScriptStep → CodeRun → HubHistory → CodeRun → Type 0
 Goes tables true c known steps old known' new =
     (go tables known.world known.log c (run_of steps old) ≡ Some (record { log = known'.log; run = run_of steps new })) × GrowsBy c known known' × (old.at < new.at)
@@ -93,12 +93,12 @@ Advances tables false ps c known rs known' rs' = advance tables known.world (sta
 abbrev pub replies_in : CodeRun → List StepReply
 replies_in r = r.client.replies.items
 
--- all clients come to their ends, with these replies, or one does not
+-- all clients reach their ends, with these replies, or one does not
 abbrev pub Ends : List Versions → Bool → List (List ScriptStep) → HubHistory → List CodeRun → HubHistory → List CodeRun → Type 0
 Ends tables true ps known rs known' rs' = (replies_of tables known.world known.log (runs_of ps rs) ≡ Some (map replies_in rs')) × (known' ≡ known)
 Ends tables false ps known rs known' rs' = replies_of tables known.world known.log (runs_of ps rs) ≡ None
 
--- what a script came to over a world, or where its order fails; nothing is said of want of memory
+-- the result of a script over a world, or where its order fails; nothing is said of want of memory
 abbrev pub PlaysAs : List Domain → Result CodePlayed PlayFault → Result Played ℕ → Type 0
 PlaysAs world (Ok p) played = (played ≡ Ok (record { log = p.hub.log; replies = p.replies })) × (p.hub.world ≡ world)
 PlaysAs world (Err (BadOrder index)) played = played ≡ Err index
@@ -109,7 +109,7 @@ abbrev pub Begins : HubHistory → List (List ScriptStep) → Result Simulation 
 Begins known ps (Ok s) = (s.hub ≡ known) × AreRuns s.hub ps s.runs.items × (stand_of ps s.hub.log s.runs.items ≡ start (clients_of ps))
 Begins known ps (Err why) = why ≡ NoMemory
 
--- an order was played: what it comes to is what its end comes to from there; or why it was not
+-- an order was played: its result is that of its end from there; or why it was not
 abbrev pub Follows : List Versions → List (List ScriptStep) → List ℕ → HubHistory → List CodeRun → HubHistory → List CodeRun → Result ⊤ PlayFault → Type 0
 Follows tables ps order known rs known' rs' (Ok done) =
     (known'.world ≡ known.world) × AreRuns known' ps rs'

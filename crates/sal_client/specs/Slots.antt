@@ -3,12 +3,12 @@ use Rattle.std.specs.Prelude.{ℕ, zero, suc, List, [], ◌∷◌, Option, None,
 use Rattle.std.specs.declared.alloc.Global.{Global}
 use Rattle.sal_client.specs.declared.slots.Slot.{Slot}
 
--- what a slot holds by this list; one that does not stand there is empty
+-- what a slot holds by this list; one that is not in it is empty
 abbrev pub held_in : {X : Type 0} → List (Slot X) → ℕ → Option X
 held_in [] k = None
 held_in (slot ∷ rest) k = if nat_eq k slot.number then slot.value else held_in rest k
 
--- where it stands, or the length where it does not
+-- its place, or the length if it is not in the list
 abbrev pub place_in : {X : Type 0} → List (Slot X) → ℕ → ℕ
 place_in [] k = 0
 place_in (slot ∷ rest) k = if nat_eq k slot.number then 0 else suc (place_in rest k)

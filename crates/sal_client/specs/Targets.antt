@@ -11,7 +11,7 @@ use Rattle.sal_client.specs.declared.fault.StepFault.{StepFault}
 use Rattle.sal_client.specs.declared.wish.Target.{Target}
 use Rattle.sal_client.specs.Faults.{Refuses}
 
--- the path that the text stands for in the domain, or why it is none
+-- the path that the text denotes in the domain, or why it is none
 abbrev pub path_in : List Versions → ℕ → List ℕ → Result (List Step) StepRefusal
 path_in tables domain text = if has_domain tables domain then path_or (read_path (last_in tables domain) text) else Err NoDevice
 

@@ -20,7 +20,7 @@ pub(crate) fn answer_to(made: Result<Reply, CallFault>) -> Result<StepReply, Run
     }
 }
 
-/// The answer to a call that has nothing to tell.
+/// The answer to a call without a result.
 pub(crate) fn accepted(made: Result<(), CallFault>) -> Result<Reply, CallFault>
     ensures { result ≡ said (λ _. Reply.Accepted) made }
 {

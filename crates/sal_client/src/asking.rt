@@ -153,7 +153,7 @@ impl ClientState {
         }
     }
 
-    // To give up the slot's transaction, where there is one.
+    // To cancel the slot's transaction, if there is one.
     fn cancel_wish(&self, readers: &Readers, slot: u8) -> Result<Wish, StepFault>
         ensures { Wants readers.now self.now (Cancel slot) result }
     {

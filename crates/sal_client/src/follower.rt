@@ -38,7 +38,7 @@ impl Follower {
         })
     }
 
-    /// Goes on to the end of the batch, which begins where the copy stands.
+    /// Advances to the end of the batch, which begins at the version of the copy.
     pub(crate) fn advance(mut self, alloc: Global, batch: &Batch) -> Result<Self, NoMemory>
         requires { self.mirror.version ≡ batch.now.from }
         ensures { IfOk result (Advances batch.now self) }

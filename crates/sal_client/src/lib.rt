@@ -9,7 +9,7 @@
 //! | `Wish`, `RpcWish`, `NoteWish`, `MountWish` | a shared call as a value, which a client is ready to make |
 //! | `RunFault` | why a client stops at a shared call |
 //! | `play` | a script played in its order, on one thread |
-//! | `Played`, `PlayFault` | what that came to: the hub and the replies; where the order fails |
+//! | `Played`, `PlayFault` | the result: the hub and the replies; where the order fails |
 //!
 //! `play` gives what `sal_script` defines (`specs/Play.antt` there) over the domains of the hub. Only `ClientRun::make` wants the
 //! hub, for one call, so clients may as well run in threads of their own and take turns at it. What a call takes is read before:

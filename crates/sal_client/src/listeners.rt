@@ -54,7 +54,7 @@ fn put_new(
     fill_slot(listeners, slot, follower)
 }
 
-// Brings the listener in the slot to the end of the batch, which begins where it stands.
+// Brings the listener in the slot to the end of the batch, which begins at its version.
 fn advance_in(
     alloc: Global,
     listeners: &mut Slots<Follower>,

@@ -1,11 +1,8 @@
 //! Looks into what a transaction sees.
-ghost use Rattle.std.specs.Prelude.{◌≡◌, Some, IfOk};
+ghost use Rattle.std.specs.Prelude.{◌≡◌, IfOk, OnOk};
 ghost use Rattle.sal_hub.specs.Tokens.{begun_of};
-ghost use Rattle.sal_client.specs.declared.client.ClientState.{ClientState as Client};
 ghost use Rattle.sal_client.specs.Clients.{IsOfSchema};
-ghost use Rattle.sal_client.specs.Looks.{IsSeen, look_move};
-ghost use Rattle.sal_client.specs.Meeting.{Answers};
-ghost use Rattle.sal_client.specs.Slots.{held};
+ghost use Rattle.sal_client.specs.Looks.{IsLooked, IsSeen, after_look, look_move};
 
 use crate::client::{ClientState, refused};
 use crate::fault::refusal_reply;
@@ -56,10 +53,10 @@ fn only_writes(domain: u32) -> StepReply
     })
 }
 
-// What a transaction sees at the path and below it.
+// What a transaction sees at the path and below it. If its reads are checked, it has read the path then.
 fn rows_seen(alloc: Global, tx: &mut Tx, store: Store, path: Path) -> Result<StepReply, NoMemory>
     ensures seen { IfOk result (IsSeen tx.old store path Look.Read) }
-    ensures same { tx.new ≡ tx.old }
+    ensures after { OnOk result (tx.new ≡ after_look store path tx.old) }
 {
     let domain = domain_of(tx);
     match tx {
@@ -79,7 +76,7 @@ fn rows_seen(alloc: Global, tx: &mut Tx, store: Store, path: Path) -> Result<Ste
 // Whether a transaction sees something at the path or below it.
 fn found_seen(alloc: Global, tx: &mut Tx, store: Store, path: &Path) -> Result<StepReply, NoMemory>
     ensures seen { IfOk result (IsSeen tx.old store path.now Look.Exists) }
-    ensures same { tx.new ≡ tx.old }
+    ensures after { OnOk result (tx.new ≡ after_look store path.now tx.old) }
 {
     let own = domain_of(tx);
     match tx {
@@ -104,7 +101,7 @@ fn seen(
     look: Look,
 ) -> Result<StepReply, NoMemory>
     ensures seen { IfOk result (IsSeen tx.old store path look) }
-    ensures same { tx.new ≡ tx.old }
+    ensures after { OnOk result (tx.new ≡ after_look store path tx.old) }
 {
     match look {
         Look::Read => rows_seen(alloc, tx, store, path),
@@ -112,7 +109,7 @@ fn seen(
     }
 }
 
-// What a look at the path of the text shows of the transaction, which stands in the slot.
+// What a look at the path of the text shows of the transaction of the slot.
 fn looked(
     alloc: Global,
     readers: &Readers,
@@ -121,8 +118,7 @@ fn looked(
     look: Look,
 ) -> Result<StepReply, NoMemory>
     requires { IsOfSchema readers.now tx.old }
-    ensures shown { IfOk result (λ r. (c : Client) → held c.transactions place.entry.slot ≡ Some tx.old → Answers readers.now c (look_move place.entry.slot place.entry.store place.entry.text.now look) r c) }
-    ensures same { tx.new ≡ tx.old }
+    ensures { IfOk result (λ r. IsLooked readers.now place.entry.slot place.entry.store place.entry.text.now look tx.old r tx.new) }
 {
     let reader = readers.reader(domain_of(tx), version_of(tx));
     match path_of(alloc, reader, place.text) {

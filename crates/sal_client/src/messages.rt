@@ -27,7 +27,7 @@ pub struct Service {
     pub context: Option<Path>,
 }
 
-// The RPC of this name, which stands with its module.
+// The RPC of this name, which has its module.
 fn rpc_called(schema: &Schema, name: &str) -> Option<u32>
     ensures { result ≡ spec.rpc_called schema.now name.now }
 {
@@ -37,7 +37,7 @@ fn rpc_called(schema: &Schema, name: &str) -> Option<u32>
     }
 }
 
-// The notification of this name, which stands with its module.
+// The notification of this name, which has its module.
 fn note_called(schema: &Schema, name: &str) -> Option<u32>
     ensures { result ≡ spec.note_called schema.now name.now }
 {
@@ -98,7 +98,7 @@ pub(crate) fn output_of(schema: &Schema, rpc: u32) -> u32
     child_at(schema, rpc, 1)
 }
 
-// The path under which the data of this input, output or notification stand.
+// The path above the data of this input, output or notification.
 fn message_at(alloc: Global, node: u32) -> Result<Path, NoMemory>
     ensures { IfOk result (λ path. path ≡ spec.message_at node) }
 {
@@ -110,7 +110,7 @@ fn message_at(alloc: Global, node: u32) -> Result<Path, NoMemory>
     }
 }
 
-/// The rows that the value stands for under this input, output or notification, or why it stands for none.
+/// The rows that the value denotes under this input, output or notification, or why it denotes none.
 pub(crate) fn rows_under(
     alloc: Global,
     reader: &Reader,
@@ -123,7 +123,7 @@ pub(crate) fn rows_under(
     operations::rows_of(alloc, reader, 0, &path, value)
 }
 
-/// The path that the text stands for, or why it stands for none.
+/// The path that the text denotes, or why it denotes none.
 pub(crate) fn path_at(alloc: Global, reader: &Reader, text: &Str) -> Result<Path, StepFault>
     ensures { Reads result (path_of reader.now text.now) }
 {

@@ -41,7 +41,7 @@ impl ClientState {
     ghost use Rattle.sal_client.specs.Clients.{IsSound};
     ghost use Rattle.sal_client.specs.Wishes.{Wants};
 
-    /// To subscribe to the notification of this name, where there is one.
+    /// To subscribe to the notification of this name, if there is one.
     pub(crate) fn subscribe_wish(&self, readers: &Readers, name: &Str) -> Result<Wish, StepFault>
         ensures { Wants readers.now self.now (Subscribe name.now) result }
     {

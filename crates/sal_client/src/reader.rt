@@ -73,14 +73,14 @@ impl Reader {
         &self.schema
     }
 
-    /// The path that the text stands for.
+    /// The path that the text denotes.
     pub fn path(&self, alloc: Global, text: &str) -> Result<Path, PathTextFault>
         ensures { Gives (λ path. path) result (path_spec.read_path self.now text.now) }
     {
         read_path(alloc, &self.schema, &self.patterns, text)
     }
 
-    /// The rows that the value at the path stands for.
+    /// The rows that the value at the path denotes.
     pub fn data(&self, alloc: Global, path: &Path, value: &Value) -> Result<Rows, DataFault>
         ensures { GivesUnless DataFault.NoMemory (λ rows. rows) result (data_spec.read_data self.now path.now (view value.now)) }
     {

@@ -188,7 +188,7 @@ fn readers_of_versions(alloc: Global, versions: &[Arc<Schema>]) -> Result<Vec<Re
     }
 }
 
-// The reader by the version, by the last one where there are fewer.
+// The reader by the version, by the last one if there are fewer.
 fn by_version(versions: &[Reader], version: u32) -> &Reader
     requires { 0 < length versions.now }
     ensures { result.now ≡ version_among versions.now version }
@@ -253,7 +253,7 @@ impl Readers {
         }
     }
 
-    /// The reader of the domain by version 0 of its schema, where there is one.
+    /// The reader of the domain by version 0 of its schema, if there is one.
     pub fn first_of(&self, domain: u32) -> Option<&Reader>
         ensures reader { IfSome result (λ reader. reader.now ≡ first_in self.now domain) }
         ensures has { is_some result ≡ has_domain self.now domain }
@@ -265,7 +265,7 @@ impl Readers {
         }
     }
 
-    /// The reader of the domain by the last version of its schema, where there is one.
+    /// The reader of the domain by the last version of its schema, if there is one.
     pub fn last_of(&self, domain: u32) -> Option<&Reader>
         ensures reader { IfSome result (λ reader. reader.now ≡ last_in self.now domain) }
         ensures has { is_some result ≡ has_domain self.now domain }

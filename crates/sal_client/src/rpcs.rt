@@ -139,7 +139,7 @@ pub(crate) fn invoke_wish(slot: u8, read: Result<Ask, StepFault>) -> Result<Wish
 impl ClientState {
     ghost use Rattle.sal_client.specs.Wishes.{Wants};
 
-    /// To answer the request in the slot, where there is one and the value is an output of its RPC.
+    /// To answer the request in the slot, if there is one and the value is an output of its RPC.
     pub(crate) fn answer_wish(
         &self,
         alloc: Global,

@@ -47,7 +47,7 @@ impl ClientRun {
         &self.client.replies
     }
 
-    /// The same, once it has come to its end.
+    /// The same, once it has reached its end.
     pub fn into_replies(self) -> Seq<StepReply>
         ensures { result ≡ replies_in self }
     {
@@ -103,7 +103,7 @@ impl ClientRun {
         Ok(())
     }
 
-    /// Goes on to the next shared call and makes it. False where the program ended first.
+    /// Proceeds to the next shared call and makes it. False if the program ended first.
     pub(crate) fn go<G: Gate>(
         &mut self,
         alloc: Global,

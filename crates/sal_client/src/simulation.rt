@@ -28,7 +28,7 @@ pub enum PlayFault {
     NoMemory,
 }
 
-/// What a script came to: the hub, and each client's replies to its steps.
+/// The result of a script: the hub, and each client's replies to its steps.
 #[derive(Drop)]
 pub struct Played {
     pub hub: Hub,

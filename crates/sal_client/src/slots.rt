@@ -14,7 +14,7 @@ pub struct Slot<T> {
     value: Option<T>,
 }
 
-/// What the slots 0 to 255 hold; an empty one holds nothing. A slot stands in the list once it was filled, and stays there: a client
+/// What the slots 0 to 255 hold; an empty one holds nothing. A slot is in the list once it was filled, and stays there: a client
 /// has few, and those are looked through.
 pub type Slots<T> = Vec<Slot<T>>;
 
@@ -78,7 +78,7 @@ pub fn look_at<T>(slots: &Slots<T>, slot: u8) -> Option<&T>
     None
 }
 
-// Where the slot stands, or the length where it does not.
+// The place of the slot, or the length if it is not in the list.
 fn place_of<T>(slots: &[Slot<T>], slot: u8) -> usize
     ensures { result ≡ place_in slots.now slot }
 {

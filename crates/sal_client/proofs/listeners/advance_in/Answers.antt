@@ -1,4 +1,4 @@
--- The listener was taken out, and stands there with the batch.
+-- The listener was taken out, and is there with the batch.
 use Rattle.std.proofs.Common.{◌≡◌, sym, ◌∙◌, subst}
 use Rattle.std.proofs.lemmas.Option.{same_Some}
 use Rattle.sal_client.specs.declared.follower.Follower.{Follower}

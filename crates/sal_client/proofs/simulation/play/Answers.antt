@@ -1,4 +1,4 @@
--- The clients begin, follow the order, and come to their ends.
+-- The clients begin, follow the order, and reach their ends.
 use Rattle.std.proofs.Common.{◌≡◌, sym, ◌∙◌, ap}
 use Rattle.sal_script.specs.Moves.{clients_of}
 use Rattle.sal_script.specs.Play.{play}

@@ -1,4 +1,4 @@
--- The transaction that begins stands in its slot.
+-- The transaction that begins is in its slot.
 use Rattle.std.proofs.Common.{◌∙◌, None, ap, refl, sym}
 use Rattle.sal_history.specs.History.{history, is_live}
 use Rattle.sal_history.specs.declared.call.Call.TheVariants.{Begin as BeginCall}

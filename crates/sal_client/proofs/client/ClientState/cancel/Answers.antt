@@ -1,4 +1,4 @@
--- The transaction's slot is empty; or it was refused, and stands there as before.
+-- The transaction's slot is empty; or it was refused, and is there as before.
 use Rattle.std.proofs.Common.{◌≡◌, ◌∙◌, Some, ap, refl, sym}
 use Rattle.std.specs.Option.{option_map}
 use Rattle.sal_history.specs.declared.call.Call.TheVariants.{Cancel as CancelCall}

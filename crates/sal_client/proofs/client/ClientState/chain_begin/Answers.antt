@@ -1,4 +1,4 @@
--- The chain's transaction that begins stands in its slot.
+-- The chain's transaction that begins is in its slot.
 use Rattle.std.proofs.Common.{◌≡◌, ◌∙◌, Some, ap, refl, sym}
 use Rattle.std.specs.Option.{option_map}
 use Rattle.sal_history.specs.History.{domain_of, history}

@@ -1,4 +1,4 @@
--- The id of the request stands in its slot.
+-- The id of the request is in its slot.
 use Rattle.std.proofs.Common.{◌∙◌, ap, refl}
 use Rattle.sal_history.specs.declared.call.Call.TheVariants.{Invoke as InvokeCall}
 use Rattle.sal_history.specs.declared.reply.Reply.TheVariants.{CallMade}

@@ -1,4 +1,4 @@
--- The listener that was made stands in its slot, with what it was opened with.
+-- The listener that was made is in its slot, with its opening.
 use Rattle.std.proofs.Common.{◌∙◌, ap, refl}
 use Rattle.sal_history.specs.declared.call.Call.TheVariants.{Listen as ListenCall}
 use Rattle.sal_script.specs.declared.reply.StepReply.TheVariants.{Called}

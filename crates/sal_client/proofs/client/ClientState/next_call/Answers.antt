@@ -1,4 +1,4 @@
--- The request stands in its slot, if one waited.
+-- The request is in its slot, if one waited.
 use Rattle.std.proofs.Common.{◌∙◌, ap, refl}
 use Rattle.sal_script.specs.Play.{spot_after}
 use Rattle.sal_history.specs.declared.call.Call.TheVariants.{NextCall as NextCallCall}

@@ -1,4 +1,4 @@
--- The chain that was opened stands in its slot.
+-- The chain that was opened is in its slot.
 use Rattle.std.proofs.Common.{◌≡◌, ◌∙◌, Some, ap, refl}
 use Rattle.sal_history.specs.declared.call.Call.TheVariants.{OpenChain as OpenChainCall}
 use Rattle.sal_history.specs.declared.reply.Reply.TheVariants.{Chain as ChainReply}

@@ -1,4 +1,4 @@
--- The listener's rows come to where the batch ends.
+-- The listener's rows are those at the end of the batch.
 use Rattle.std.proofs.Common.{◌≡◌, ◌∙◌, Some, ap, refl}
 use Rattle.sal_history.specs.declared.call.Call.TheVariants.{Take as TakeCall}
 use Rattle.sal_history.specs.declared.reply.Reply.TheVariants.{Batch}

@@ -1,4 +1,4 @@
--- The transaction with the write, or as it was, stands in its slot.
+-- The transaction with the write, or as it was, is in its slot.
 use Rattle.std.proofs.Common.{◌≡◌, Some, refl, ap, sym, ◌∙◌, subst}
 use Rattle.std.specs.Prelude.{MatchResult}
 use Rattle.std.specs.Option.{option_map}

@@ -1,4 +1,4 @@
--- The batch begins where the rows stand, so nothing but memory can be wanting.
+-- The batch begins at the version of the rows, so nothing but memory can be wanting.
 use Rattle.std.proofs.Common.{◌≡◌, sym, ◌∙◌}
 use Rattle.sal_listen.specs.declared.mirror.MirrorFault.TheVariants.{Gap, NoMemory}
 use Rattle.sal_client.proofs.follower.Follower.advance.Goals as goal

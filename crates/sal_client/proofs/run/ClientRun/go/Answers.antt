@@ -1,4 +1,4 @@
--- The client answers its local steps, and makes the shared call that it comes to.
+-- The client answers its local steps, and makes the next shared call.
 use Rattle.std.proofs.Common.{ℕ, List, Option, subst}
 use Rattle.sal_script.specs.Tables.{Versions}
 use Rattle.sal_client.specs.Wishes.{ReadBy}

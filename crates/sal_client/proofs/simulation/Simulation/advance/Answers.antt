@@ -1,4 +1,4 @@
--- One client goes on.
+-- One client continues.
 use Rattle.std.proofs.Common.{◌≡◌, List, get_or, sym, ap, ◌∙◌, arith}
 use Rattle.sal_script.specs.declared.script.ScriptStep.{ScriptStep}
 use Rattle.sal_client.proofs.Standing.{has_room, advance-none, turned}

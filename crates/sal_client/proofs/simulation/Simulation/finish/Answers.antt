@@ -1,4 +1,4 @@
--- One client comes to its end.
+-- One client reaches its end.
 use Rattle.std.proofs.Common.{◌≡◌, ◌<◌, List, get_or, length, sym, ap, ◌∙◌, subst, arith}
 use Rattle.sal_hub.specs.Answers.{limit}
 use Rattle.sal_hub.specs.HubHistory.{HubHistory}

@@ -1,4 +1,4 @@
--- The clients before the index have come to their ends, and the others stand as they did.
+-- The clients before the index have reached their ends, and the others are as they were.
 use Rattle.std.proofs.Common.{◌≡◌, length, map, take, drop}
 use Rattle.sal_script.specs.Play.{replies_of}
 use Rattle.sal_client.specs.Runs.{replies_in, runs_of}

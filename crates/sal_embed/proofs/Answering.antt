@@ -7,7 +7,7 @@ use Rattle.sal_types.specs.declared.row.Row.{Row}
 use Rattle.sal_rows.specs.declared.op.Act.{Act}
 use Rattle.sal_rows.specs.declared.op.Op.{Op}
 use Rattle.sal_rows.specs.declared.outcome.Mode.{Mode}
-use Rattle.sal_rows.specs.declared.outcome.Mode.TheVariants.{Ro, Wo, Rw}
+use Rattle.sal_rows.specs.declared.outcome.Mode.TheVariants.{Ro, Wo, Rw, Checked}
 use Rattle.sal_history.specs.declared.call.Call.{Call}
 use Rattle.sal_history.specs.declared.call.Call.TheVariants as called
 use Rattle.sal_history.specs.declared.call.Entry.{Entry}
@@ -23,7 +23,7 @@ use Rattle.sal_rules.specs.Refusals.{refusal}
 use Rattle.sal_script.specs.declared.reply.StepReply.{StepReply}
 use Rattle.sal_script.specs.declared.reply.StepRefusal.TheVariants.{NoDevice, NoUpgrade}
 use Rattle.sal_script.specs.Moves.{Move, Begin, Put, Merge, Delete, Read, Exists, Submit, Cancel, Settle, OpenChain, ChainBegin, CloseChain, Pump, Listen, Take, Unlisten, Mirror, Provide, Withdraw, Invoke, NextCall, Answer, Collect, Subscribe, Offer, TakeNotes, Mount, Unmount, MountAt, Mark, After, Upgrade}
-use Rattle.sal_script.specs.Play.{Client, DataAct, Listener, Meeting, Open, Opened, Spot, accept_unless, act_of, ask, cancel, chain_begin, close_chain, deleting, found, keep, listen, listen_at, local, look, look_at, look_in, look_with, meet, merging, mirror, op_of, putting, refused, rows_read, seen_by, settle, shared, submit, submit_in, table_for, take_batch, unlisten, upgrade, write, write_act, write_at, write_in, write_with}
+use Rattle.sal_script.specs.Play.{Client, DataAct, Listener, Meeting, Open, Opened, Spot, accept_unless, act_of, ask, cancel, chain_begin, close_chain, deleting, found, keep, listen, listen_at, local, look, look_at, look_with, meet, merging, mirror, op_of, putting, refused, rows_read, seen_by, settle, shared, submit, submit_in, table_for, take_batch, unlisten, upgrade, write, write_act, write_at, write_in, write_with}
 use Rattle.sal_script.specs.Tables.{Versions, has_domain, has_upgrade, last_in}
 use Rattle.sal_script.specs.Services.{OrRefusal, answer, collect, invoke, mount, mount_at, offer, provide, subscribe, withdraw}
 use Rattle.sal_embed.specs.Broker.{answering}
@@ -55,29 +55,26 @@ module _ (rs : List StepReply) where
     in_same Ro slot store text data_act tx = refl
     in_same Wo slot store text data_act tx = at_same (read_path table text) slot store data_act tx
     in_same Rw slot store text data_act tx = at_same (read_path table text) slot store data_act tx
+    in_same Checked slot store text data_act tx = at_same (read_path table text) slot store data_act tx
 
     write_same : (slot : ℕ) (store : Store) (text : List ℕ) (data_act : DataAct) (tx : Option Open) → Same (λ c. write table world log slot store text data_act c tx) client
     write_same slot store text data_act None = refl
     write_same slot store text data_act (Some tx) = in_same tx.mode slot store text data_act tx
 
-    shown_same : (domain : ℕ) (mode : Mode) (r : StepReply) → Same (look_in domain mode r) client
-    shown_same domain Ro r = refl
-    shown_same domain Wo r = refl
-    shown_same domain Rw r = refl
+    look_at_same : (f : List Step → StepReply) (slot : ℕ) (store : Store) (path : Result (List Step) PathTextFault) (tx : Open) → Same (look_at f slot store path tx) client
+    look_at_same f slot store (Err fault) tx = refl
+    look_at_same f slot store (Ok path) tx = refl
 
-    look_at_same : (f : List Step → StepReply) (domain : ℕ) (mode : Mode) (path : Result (List Step) PathTextFault) → Same (look_at f domain mode path) client
-    look_at_same f domain mode (Err fault) = refl
-    look_at_same f domain mode (Ok path) = shown_same domain mode (f path)
-
-    look_same : (f : Open → List Step → List Row → StepReply) (store : Store) (text : List ℕ) (tx : Option Open) → Same (λ c. look table world log f store text c tx) client
-    look_same f store text None = refl
-    look_same f store text (Some tx) = look_at_same (λ path. f tx path (seen_by world log tx store)) tx.domain tx.mode (read_path table text)
+    look_same : (f : Open → List Step → List Row → StepReply) (slot : ℕ) (store : Store) (text : List ℕ) (tx : Option Open) → Same (λ c. look table world log f slot store text c tx) client
+    look_same f slot store text None = refl
+    look_same f slot store text (Some tx) = look_at_same (λ path. f tx path (seen_by world log tx store)) slot store (read_path table text) tx
 
   module _ (client : Client) where
     submit_in_same : (tx : Open) (mode : Mode) → Same (submit_in tx mode) client
     submit_in_same tx Ro = refl
     submit_in_same tx Wo = refl
     submit_in_same tx Rw = refl
+    submit_in_same tx Checked = refl
 
     submit_same : (tx : Option Open) → Same (λ c. submit c tx) client
     submit_same None = refl
@@ -134,16 +131,16 @@ module _ (rs : List StepReply) where
     write_with_same : (slot : ℕ) (store : Store) (text : List ℕ) (data_act : DataAct) (tx : Option Open) → Same (λ c. write_with tables world log slot store text data_act c tx) client
     write_with_same slot store text data_act tx = write_same (table_for tables tx) world log client slot store text data_act tx
 
-    look_with_same : (f : Open → List Step → List Row → StepReply) (store : Store) (text : List ℕ) (tx : Option Open) → Same (λ c. look_with tables world log f store text c tx) client
-    look_with_same f store text tx = look_same (table_for tables tx) world log client f store text tx
+    look_with_same : (f : Open → List Step → List Row → StepReply) (slot : ℕ) (store : Store) (text : List ℕ) (tx : Option Open) → Same (λ c. look_with tables world log f slot store text c tx) client
+    look_with_same f slot store text tx = look_same (table_for tables tx) world log client f slot store text tx
 
     pub meet_same : (step : Move) → meet tables world log (answering rs client) step ≡ lift rs (meet tables world log client step)
     meet_same (Begin slot domain mode) = refl
     meet_same (Put slot store path value) = write_with_same slot store path (putting value) (client.transactions slot)
     meet_same (Merge slot store path value) = write_with_same slot store path (merging value) (client.transactions slot)
     meet_same (Delete slot store path) = write_with_same slot store path deleting (client.transactions slot)
-    meet_same (Read slot store path) = look_with_same rows_read store path (client.transactions slot)
-    meet_same (Exists slot store path) = look_with_same found store path (client.transactions slot)
+    meet_same (Read slot store path) = look_with_same rows_read slot store path (client.transactions slot)
+    meet_same (Exists slot store path) = look_with_same found slot store path (client.transactions slot)
     meet_same (Submit slot) = submit_same client (client.transactions slot)
     meet_same (Cancel slot) = cancel_same client (client.transactions slot)
     meet_same (Settle slot) = settle_same client (client.receipts slot)

@@ -1,4 +1,4 @@
--- All clients where some replies were told: they are the same as before.
+-- All clients, with some more replies written: they are the same as before.
 use Rattle.std.proofs.Common.{◌≡◌, ◌⊎◌, ⊎_elim, ℕ, zero, suc, ◌+◌, ◌<◌, ◌≤◌, Bool, false, List, [], ◌∷◌, length, map, set, get_or, Option, None, Some, Result, Ok, Err, refl, ap, sym, ◌∙◌, subst, arith, inl, inr}
 use Rattle.std.specs.Prelude.{not, slice_get}
 use Rattle.std.specs.Option.{is_some, option_map_or}
@@ -54,7 +54,7 @@ module _ (tables : List SchemaTable) where
   pub follow_none : (callers : List Caller) → AllFollow tables callers callers
   follow_none callers = record { long = refl; each = λ c old new was now. follows_same tables old new (same_Some new old (sym now ∙ was)) }
 
-  -- one of them tells its reply
+  -- the reply of one of them is written
   pub follow_set : (olds mids : List Caller) (i : ℕ) (mid new : Caller) → AllFollow tables olds mids → i < length mids → mid ≡ get_or mids i mid → Follows tables mid new → AllFollow tables olds (set mids i new)
   follow_set olds mids i mid new was within at one = record {
     long = length-set mids i new ∙ was.long;
@@ -95,7 +95,7 @@ abbrev lost_at : Option Caller → Bool
 lost_at found = option_map_or (λ (caller : Caller). not (is_some caller.run)) found false
 
 module _ (tables : List SchemaTable) (known : HubHistory) (olds news : List Caller) (follow : AllFollow tables olds news) where
-  -- the client that stood there
+  -- the client that was there
   stood : (c : ℕ) (new : Caller) → slice_get news c ≡ Some new → (old : Caller) × (slice_get olds c ≡ Some old)
   stood c new at = let below = get_below news c new at in get_some olds c (omega (arith, below, follow.long))
 

@@ -1,4 +1,4 @@
--- A client at the end of its program goes on along the same log with one step more.
+-- A client at the end of its program continues along the same log with one step more.
 use Rattle.std.proofs.Common.{◌≡◌, ℕ, Bool, true, false, List, [], ◌∷◌, ◌++◌, Option, None, Some, if◌then◌else◌, refl, ap, sym, ◌∙◌, subst, append_assoc}
 use Rattle.std.specs.Prelude.{nat_eq, option_and_then}
 use Rattle.std.specs.List.{fold}
@@ -11,12 +11,12 @@ use Rattle.sal_script.specs.Tables.{Versions}
 use Rattle.sal_script.specs.Along.{IsAt, along, new_run, pass}
 use Rattle.sal_script.proofs.Along.{along_from, made_of}
 
--- a run with these steps behind its own
+-- a run with these steps after its own
 abbrev pub before : List Move → Run → Run
 before steps run = record { client = run.client; steps = run.steps ++ steps }
 
 module _ (tables : List Versions) (world : List Domain) (steps : List Move) where
-  -- where a client comes to with these steps behind those that brought it there
+  -- the place of a client with these steps after those that brought it there
   abbrev pub onward : List Entry → Arrival → Arrival
   onward log (ended client) = arrive tables world log client steps
   onward log (calls call step run) = calls call step (before steps run)
@@ -40,7 +40,7 @@ module _ (tables : List Versions) (world : List Domain) (steps : List Move) wher
     make_on log (ended client) made is = cc
     make_on log (calls call step run) made is = ap made_on is
 
-    -- the same entries of its own, and the same run with the steps behind
+    -- the same entries of its own, and the same run with the steps after
     pass_on : (made next : Made) (e : Entry) → pass tables world c made e ≡ Some next → pass tables world c (made_of made.log (before steps made.run)) e ≡ Some (made_of next.log (before steps next.run))
     pass_on made next e is = by (nat_eq e.client c) is
       where
@@ -67,7 +67,7 @@ module _ (tables : List Versions) (world : List Domain) (steps : List Move) wher
     pub along_on : (log : List Entry) (first : List Move) (called : Run) → along tables world c log (new_run first) ≡ Some (made_of log called) → along tables world c log (new_run (first ++ steps)) ≡ Some (made_of log (before steps called))
     along_on log first called is = from_on log (made_of [] (new_run first)) (made_of log called) is
 
-    -- at the end of its program, and so with steps behind that
+    -- at the end of its program, and so with steps after that
     pub at_longer : (log : List Entry) (first : List Move) (client : Client) → IsAt tables world c first log (record { client = client; steps = [] }) → IsAt tables world c (first ++ steps) log (record { client = client; steps = steps })
     at_longer log first client was = record {
       called = before steps was.called;

@@ -1,4 +1,4 @@
--- What the clients came to when one of them made a step.
+-- The clients after one of them made a step.
 use Rattle.std.proofs.Common.{◌≡◌, ◌⊎◌, ⊎_elim, ℕ, zero, suc, ◌+◌, ◌<◌, ◌≤◌, Bool, true, false, List, [], ◌∷◌, ◌++◌, length, set, get_or, Option, None, Some, Result, Ok, Err, refl, ap, sym, ◌∙◌, subst, arith, inl, inr}
 use Rattle.std.specs.Prelude.{not, slice_get}
 use Rattle.std.specs.Option.{is_some, option_map_or}
@@ -23,7 +23,7 @@ use Rattle.sal_embed.specs.Scripts.{Programs, Replies, with}
 use Rattle.sal_embed.proofs.Turns.{not_longer}
 use Rattle.sal_embed.proofs.Coming.{callers_beside, come_on, come_same, lost_beside, lost_own}
 
--- what stands at an index
+-- the item at an index
 pub get_at : {X : Type 0} (xs : List X) (i : ℕ) (x : X) → i < length xs → x ≡ get_or xs i x → slice_get xs i ≡ Some x
 get_at [] i x h at = absurd (omega arith)
 get_at (y ∷ xs) zero x h at = ap Some (sym at)
@@ -71,7 +71,7 @@ module _ (lasts : TokensLast) (old new : Clients) (c : ℕ) (caller caller' : Ca
         | inr differs ↦ loses_no_other k (λ own. elim differs [ inl less ↦ omega (arith, less, own) | inr more ↦ omega (arith, more, own) ])
       ]
 
-  -- by what the step came to, and whether the log has grown
+  -- by the result of the step, and whether the log has grown
   pub makes_by : (tables : List SchemaTable) (step : Move) (grown : Bool) → (grown ≡ false → length new.hub.log ≤ length old.hub.log) → tables ≡ tables_of old.hub.world → (result : Result (List ℕ) StepFault)
       → Steps tables old.hub caller step new.hub caller' result → Makes old new c step (broken_if grown result)
   makes_by tables step grown few of (Ok text) (r, is, here, goes) = (r, is ∙ ap (λ (ts : List SchemaTable). reply_text ts r) of, has_stepped step r goes, loses_none here)

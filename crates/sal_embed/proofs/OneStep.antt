@@ -43,11 +43,11 @@ client_in other None = other
 client_in other (Some made) = made.run.client
 
 module _ (tables : List Versions) (known : HubHistory) (step : Move) (old new : ClientState) where
-  -- where the client comes to, by what the step comes to
+  -- the place of the client, by the result of the step
   abbrev arrived : Meeting → Arrival
   arrived m = arrive_by (λ next. arrive tables known.world known.log next []) (λ call. calls call step (record { client = client_of old; steps = [] })) m
 
-  -- it came to its end: the step is local
+  -- it reached its end: the step is local
   pub by_itself : arrive tables known.world known.log (client_of old) (step ∷ []) ≡ ended (client_of new) → IsAnswered tables step known old known new
   by_itself is = by (meet tables known.world known.log (client_of old) step) refl is
     where

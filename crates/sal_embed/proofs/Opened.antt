@@ -75,6 +75,17 @@ pub opened_bad : (bytes : List ℕ) (it : Prepared) (status : Status) → prepar
 opened_bad bytes it status made is =
     bind_fault (opened bytes) (λ (p : Prepared). Ok p.world) status (subst (λ (r : Result Prepared Status). IsStatusOf (r >>= bare) status) (sym made) is)
 
+-- and whether reads are checked, likewise
+pub opened_reads : (bytes : List ℕ) (it : Prepared) → prepared bytes ≡ Ok it → bare it ≡ Ok it → reads_of (opened bytes) ≡ Ok it.parts.checked
+opened_reads bytes it made is = ap (λ (r : Result Prepared Status). reads_of (r >>= bare)) made ∙ ap reads_of is
+
+pub reads_fault : (bytes : List ℕ) (status : Status) → IsStatusOf (prepared bytes) status → IsStatusOf (reads_of (opened bytes)) status
+reads_fault bytes status is = bind_fault (opened bytes) (λ (it : Prepared). Ok it.parts.checked) status (bind_fault (prepared bytes) bare status is)
+
+pub reads_bad : (bytes : List ℕ) (it : Prepared) (status : Status) → prepared bytes ≡ Ok it → IsStatusOf (bare it) status → IsStatusOf (reads_of (opened bytes)) status
+reads_bad bytes it status made is =
+    bind_fault (opened bytes) (λ (p : Prepared). Ok p.parts.checked) status (subst (λ (r : Result Prepared Status). IsStatusOf (r >>= bare) status) (sym made) is)
+
 -- ---- no step was made
 
 none_at : {A : Type 0} (i : ℕ) (x : A) → slice_get [] i ≡ Some x → ⊥
@@ -102,7 +113,7 @@ whole_begun it schemas readers tables few versions callers = record {
   placed = omega (arith, ap length callers);
 }
 
--- ---- behind a call
+-- ---- after a call
 
 pub whole_on : (old new : Clients) (schemas : List SchemaTable) (readers : List Versions) → IsWhole old schemas readers → new.hub.world ≡ old.hub.world → AreCallers new.hub new.callers.items → length new.callers.items ≤ 65536
     → IsWhole new schemas readers
@@ -115,7 +126,7 @@ whole_on old new schemas readers was world callers placed = record {
 }
 
 -- bytes that are no step
-pub bad_step : (it : Clients) (c : ℕ) (bytes : List ℕ) (e : ScriptFault) → c < 65536 → IsFaultOf (one_step bytes) e → Steps it it c bytes (Err (fault_of e))
+pub bad_step : (it : Clients) (c : ℕ) (bytes : List ℕ) (e : ScriptFault) → c < 65536 → IsFaultOf (one_step it.checked_reads bytes) e → Steps it it c bytes (Err (fault_of e))
 bad_step it c bytes (script.BadScript place) within is = (within, (place, is), refl)
 bad_step it c bytes script.NoMemory within is = (record { hub = refl; come = λ programs replies was. was }, λ k other. refl)
 

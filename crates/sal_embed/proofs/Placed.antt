@@ -1,4 +1,4 @@
--- A client that has a place, and has made no step; and what a step comes to behind that.
+-- A client that has a place, and has made no step; and the result of a step after that.
 use Rattle.std.proofs.Common.{◌≡◌, ◌⊎◌, ⊎_elim, ℕ, zero, suc, ◌+◌, ◌<◌, ◌≤◌, Bool, true, false, List, [], ◌∷◌, ◌++◌, length, Option, None, Some, Result, Ok, Err, refl, ap, sym, ◌∙◌, subst, arith, inl, inr, length-append}
 use Rattle.std.specs.Prelude.{MatchOption, ⊤, not, slice_get, string_bytes}
 use Rattle.std.specs.Option.{is_some, option_map_or}
@@ -157,7 +157,7 @@ module _ (old mid new : Clients) where
     loses = λ k. more.loses k ∙ first.loses k;
   }
 
-  -- ---- a step behind that
+  -- ---- a step after that
 
   module _ (first : IsPlacing old mid) (c : ℕ) (step : Move) where
     stepped_on : (r : StepReply) → HasStepped mid new c step r → HasStepped old new c step r
@@ -182,7 +182,7 @@ module _ (old mid new : Clients) where
     makes_on (Err BadStep) made = absurd made
     makes_on (Err BadClient) made = absurd made
 
-    pub steps_by : (bytes : List ℕ) → c < 65536 → one_step bytes ≡ Ok step → (result : Result (List ℕ) StepFault) → Makes mid new c step result → Steps old new c bytes result
+    pub steps_by : (bytes : List ℕ) → c < 65536 → one_step old.checked_reads bytes ≡ Ok step → (result : Result (List ℕ) StepFault) → Makes mid new c step result → Steps old new c bytes result
     steps_by bytes within is (Ok text) made = (within, (step, is, makes_on (Ok text) made))
     steps_by bytes within is (Err Untold) made = (within, (step, is, makes_on (Err Untold) made))
     steps_by bytes within is (Err Full) made = (within, (step, is, makes_on (Err Full) made))

@@ -1,4 +1,4 @@
--- How a client stands after a step of its own, and after a call of another.
+-- A client after a step of its own, and after a call of another.
 use Rattle.std.proofs.Common.{◌≡◌, ◌⊎◌, ⊎_elim, ℕ, ◌<◌, List, [], ◌∷◌, ◌++◌, length, Option, None, Some, refl, ap, sym, ◌∙◌, subst, append-nil}
 use Rattle.std.specs.Prelude.{MatchOption, ⊤, string_bytes}
 use Rattle.std.specs.Option.{option_map}
@@ -48,7 +48,7 @@ module _ (tables : List Versions) (c : ℕ) (step : Move) (r : StepReply) (known
 -- ---- a step of its own
 
 module _ (c : ℕ) (steps : List Move) (step : Move) where
-  -- the client with these replies, which stood at the end of its program
+  -- the client with these replies, which was at the end of its program
   pub goes_on : (known known' : HubHistory) (rs : List StepReply) (r : StepReply) (old next : Client) → Answers (versions_of known.world) c step r known old known' next
       → IsAt (versions_of known.world) known.world c steps known.log (record { client = answering rs old; steps = [] })
       → IsAt (versions_of known'.world) known'.world c (steps ++ step ∷ []) known'.log (record { client = answering (rs ++ r ∷ []) next; steps = [] })
@@ -75,7 +75,7 @@ abbrev pub kept_by : Client → Option ClientRun → Type 0
 kept_by client run = MatchOption run ⊤ (λ (it : ClientRun). client ≡ answering client.replies (client_of it.client))
 
 module _ (tables : List Versions) (step : Move) (known known' : HubHistory) (old new : Caller) (a b : ClientRun) where
-  -- a client that had told all, and made one step more
+  -- a client whose replies were all written, and which made one step more
   pub stands_on : tables ≡ versions_of known.world → old.run ≡ Some a → new.run ≡ Some b → a.client.number ≡ old.number → untold old ≡ [] → new.lines ≡ old.lines → new.told ≡ old.told → known'.world ≡ known.world
       → (answered : IsAnswered tables step known a.client known' b.client)
       → (untold new ≡ answered.0 ∷ []) × ((steps : List Move) (rs : List StepReply) → StandsAt known old.number steps rs old → StandsAt known' old.number (steps ++ step ∷ []) (rs ++ answered.0 ∷ []) new)

@@ -20,7 +20,7 @@ lines-push tables c s (x ∷ rs) r =
     ap (λ (rest : List ℕ). reply_line tables c s x ++ rest) (lines-push tables c (s + 1) rs r ∙ ap (λ (n : ℕ). client_lines tables c (s + 1) rs ++ reply_line tables c n r) e)
     ∙ sym (append_assoc (reply_line tables c s x) (client_lines tables c (s + 1) rs) (reply_line tables c (s + suc (length rs)) r))
 
--- a client that has told all has its lines
+-- a client whose replies are all written has its lines
 pub told_lines : (known : HubHistory) (c : ℕ) (steps : List Move) (rs : List StepReply) (caller : Caller) → StandsAt known c steps rs caller → untold caller ≡ [] → lines_in caller ≡ client_lines (tables_of known.world) c 0 rs
 told_lines known c steps rs caller at none =
     let told : at.keeps.told ≡ rs = sym (at.keeps.all ∙ ap (λ (us : List StepReply). at.keeps.told ++ us) none ∙ append-nil at.keeps.told) ∙ at.through.replies in
@@ -35,7 +35,7 @@ all_lines tables replies start (caller ∷ callers) each =
     let rest = all_lines tables replies (start + 1) callers (λ i x at. let f : start + suc i ≡ (start + 1) + i = omega arith in each (suc i) x at ∙ ap (λ (n : ℕ). client_lines tables n 0 (replies n)) f) in
     λ k. first k ++ rest k
 
--- the report of what all clients came to
+-- the report of the steps of all clients
 pub reported : (known : HubHistory) (callers : List Caller) (programs : Programs) (replies : Replies) → AreThrough known callers programs replies → AreTold callers
     → report_with known (map lines_in callers) ≡ report known.world (record { log = known.log; replies = listed (length callers) replies })
 reported known callers programs replies come told =

@@ -1,4 +1,4 @@
--- A client through one step: its last reply is told, it makes the step, and its reply is told.
+-- A client through one step: its last reply is written, it makes the step, and its reply is written.
 use Rattle.std.proofs.Common.{◌≡◌, ◌⊎◌, ⊎_elim, ℕ, zero, suc, ◌+◌, ◌≤◌, Bool, true, false, List, [], ◌∷◌, ◌++◌, length, Option, None, Some, Result, Ok, Err, refl, ap, sym, ◌∙◌, subst, arith, append_assoc, append-nil, length-append, inl, inr, true≢false}
 use Rattle.std.specs.Prelude.{MatchOption, Vec, ⊤, string_bytes}
 use Rattle.std.specs.Option.{is_some}
@@ -48,11 +48,11 @@ held_near : (known : HubHistory) (c : ℕ) (run : Option ClientRun) → MatchOpt
 held_near known c None held = omega arith
 held_near known c (Some run) held = held.few
 
--- it has at most one reply that is not told
+-- it has at most one reply that is not written
 pub near : (known : HubHistory) (c : ℕ) (caller : Caller) → IsCaller known c caller → length (untold caller) ≤ 1
 near known c caller is = held_near known c caller.run is.held
 
--- ---- a reply is told
+-- ---- a reply is written
 
 -- the run without replies
 abbrev pub emptied : ClientRun → Vec StepReply Global → ClientRun
@@ -130,7 +130,7 @@ module _ (tables : List SchemaTable) (old mid new : Caller) (r : StepReply) wher
       from_none : (n : ℕ) → n ≡ 0 + n
       from_none n = omega arith
 
--- nothing was to be told
+-- there was nothing to write
 pub follows_same : (tables : List SchemaTable) (old new : Caller) → new ≡ old → Follows tables old new
 follows_same tables old new same = subst (λ (it : Caller). Follows tables old it) (sym same) (record {
   number = refl;
@@ -164,7 +164,7 @@ head_or r [] = r
 head_or r (x ∷ xs) = x
 
 module _ (tables : List SchemaTable) (known known' : HubHistory) (old before after new : Caller) (step : Move) where
-  -- told, made and told again
+  -- written, made and written again
   pub steps_on : tables ≡ tables_of known.world → known'.world ≡ known.world → Follows tables old before → Follows tables after new → after.number ≡ before.number → (r : StepReply) → GoesOn known before step r known' after → GoesOn known old step r known' new
   steps_on of world first last number r goes steps rs at =
       let c : ℕ = old.number in
@@ -174,7 +174,7 @@ module _ (tables : List SchemaTable) (known known' : HubHistory) (old before aft
       last.stands known' (steps ++ step ∷ []) (rs ++ r ∷ []) (of ∙ ap tables_of (sym world)) (subst (λ (n : ℕ). StandsAt known' n (steps ++ step ∷ []) (rs ++ r ∷ []) after) (sym number) made) in
       subst (λ (n : ℕ). StandsAt known' n (steps ++ step ∷ []) (rs ++ r ∷ []) new) (number ∙ first.number) told
 
-  -- told, and not made
+  -- written, and not made
   pub stays_on : tables ≡ tables_of known.world → Follows tables old before → IsSameAt known before known' after → IsSameAt known old known' after
   stays_on of first same = record {
     hub = same.hub;
@@ -183,7 +183,7 @@ module _ (tables : List SchemaTable) (known known' : HubHistory) (old before aft
         (same.stands steps rs (subst (λ (n : ℕ). StandsAt known n steps rs before) (sym first.number) (first.stands known steps rs of at)));
   }
 
--- nothing was made, and a reply may have been told
+-- nothing was made, and a reply may have been written
 pub stays_told : (tables : List SchemaTable) (known : HubHistory) (old new : Caller) → tables ≡ tables_of known.world → Follows tables old new → IsSameAt known old known new
 stays_told tables known old new of follows = record { hub = refl; stands = λ steps rs at. follows.stands known steps rs of at }
 
@@ -191,11 +191,11 @@ stays_told tables known old new of follows = record { hub = refl; stands = λ st
 pub waiting : (rs : List StepReply) (r : StepReply) → rs ≡ r ∷ [] → rs ≡ [] → ⊥
 waiting rs r one none = cc
 
--- the one reply that is not told
+-- the one reply that is not written
 pub same_reply : (rs : List StepReply) (r s : StepReply) → rs ≡ r ∷ [] → rs ≡ s ∷ [] → r ≡ s
 same_reply rs r s one other = ap (head_or r) (sym one ∙ other)
 
--- the step was made, and its reply is told or waits
+-- the step was made, and its reply is written or waits
 pub finished : (known known' : HubHistory) (old before after new : Caller) (step : Move) → known'.world ≡ known.world → Follows (tables_of known.world) old before → Follows (tables_of known.world) after new
     → after.number ≡ before.number → IsMade known before step known' after → (result : Result (List ℕ) StepFault) → IsFinished (tables_of known.world) after result
     → Steps (tables_of known.world) known old step known' new result
@@ -233,7 +233,7 @@ module _ (known : HubHistory) (old new : Caller) (number : new.number ≡ old.nu
     };
   }
 
-  -- the client is lost, which had told all
+  -- the client is lost, whose replies were all written
   pub stays_lost : new.run ≡ None → untold old ≡ [] → IsSameAt known old known new
   stays_lost gone all = record {
     hub = refl;
@@ -249,7 +249,7 @@ module _ (known : HubHistory) (old new : Caller) (number : new.number ≡ old.nu
     };
   }
 
--- behind the telling of the reply before
+-- after the telling of the reply before
 pub fails_on : (tables : List SchemaTable) (known known' : HubHistory) (old before after : Caller) (step : Move) → tables ≡ tables_of known.world → Follows tables old before → (fault : StepFault) → Fails known before known' after fault
     → Steps tables known old step known' after (Err fault)
 fails_on tables known known' old before after step of first Lost (was, now, same) = (sym first.here ∙ was, now, stays_on tables known known' old before after after step of first same)

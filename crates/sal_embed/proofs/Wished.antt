@@ -1,4 +1,4 @@
--- A wish that can be made asks for a shared call; so a client with such a wish is the one that came to it.
+-- A wish that can be made asks for a shared call; so a client with such a wish is the one whose next step it is.
 use Rattle.std.proofs.Common.{◌≡◌, ℕ, Bool, true, false, List, [], ◌∷◌, Option, None, Some, Result, Ok, Err, if◌then◌else◌, refl, ap, sym, ◌∙◌}
 use Rattle.std.specs.Prelude.{IsSome, option_map}
 use Rattle.sal_types.specs.declared.value.Store.{Store}
@@ -7,7 +7,7 @@ use Rattle.sal_pathtext.specs.declared.fault.PathTextFault.{PathTextFault}
 use Rattle.sal_pathtext.specs.Read.{read_path}
 use Rattle.serde_json.specs.View.{view}
 use Rattle.sal_rows.specs.declared.outcome.Mode.{Mode}
-use Rattle.sal_rows.specs.declared.outcome.Mode.TheVariants.{Ro, Wo, Rw}
+use Rattle.sal_rows.specs.declared.outcome.Mode.TheVariants.{Ro, Wo, Rw, Checked}
 use Rattle.sal_history.specs.declared.call.Call.{Call}
 use Rattle.sal_history.specs.declared.call.Call.TheVariants as made
 use Rattle.sal_history.specs.declared.call.Entry.{Entry}
@@ -46,6 +46,7 @@ submit_mode : (tx : Open) (mode : Mode) (client : Client) → standing_in mode �
 submit_mode tx Ro client is = cc
 submit_mode tx Wo client is = (made.Submit tx.place tx.ops, refl)
 submit_mode tx Rw client is = (made.Submit tx.place tx.ops, refl)
+submit_mode tx Checked client is = (made.Submit tx.place tx.ops, refl)
 
 submit_is : (client : Client) (tx : Option Open) → standing_of tx ≡ Writable → IsShared (submit client tx)
 submit_is client None is = cc
@@ -145,7 +146,7 @@ before_call other (ended client) = other
 before_call other (calls call step run) = run.client
 
 module _ (tables : List Versions) (world : List Domain) (log : List Entry) (old mid : ClientState) (step : Move) (wish : Wish) (rest : List Move) where
-  -- where the client comes to by one step that comes to this
+  -- the place of the client after one step with this result
   abbrev arrived : ClientState → Move → List Move → Meeting → Arrival
   arrived c s steps m = arrive_by (λ next. arrive tables world log next steps) (λ call. calls call s (record { client = client_of c; steps = steps })) m
 

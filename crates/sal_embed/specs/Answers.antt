@@ -1,4 +1,4 @@
--- What one step of a client comes to after a log, by the definitions of a script that is played.
+-- The result of one step of a client after a log, by the definitions of a script that is played.
 use Rattle.std.specs.Prelude.{◌≡◌, ◌⊎◌, ◌≤◌, ℕ, List, [], ◌∷◌, length}
 use Rattle.sal_history.specs.declared.call.Call.{Call}
 use Rattle.sal_script.specs.Moves.{Move}

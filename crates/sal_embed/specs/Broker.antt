@@ -1,4 +1,4 @@
--- An embedded broker: how its clients stand at the steps that they made.
+-- An embedded broker: its clients after the steps that they made.
 use Rattle.std.specs.Prelude.{◌≡◌, ◌≤◌, ◌<◌, ℕ, ⊤, List, [], ◌∷◌, ◌++◌, MatchOption, None, Option, Some, length, map, slice_get, string_bytes}
 use Rattle.std.specs.List.{flat_map}
 use Rattle.std.specs.Option.{is_some}
@@ -29,17 +29,17 @@ abbrev pub told_by : Option ClientRun → List StepReply
 told_by None = []
 told_by (Some run) = replies_in run
 
--- the reply that is not told yet, if there is one
+-- the reply that is not written yet, if there is one
 abbrev pub untold : Caller → List StepReply
 untold caller = told_by caller.run
 
--- Client c came to the end of these steps along the log, with these replies.
+-- Client c reached the end of these steps along the log, with these replies.
 pub record IsThrough (world : List Domain) (log : List Entry) (c : ℕ) (steps : List Move) (rs : List StepReply) : Type 0 where
   pub client : Client
   pub at : IsAt (versions_of world) world c steps log (record { client = client; steps = [] })
   pub replies : client.replies ≡ rs
 
--- What is kept of that client: its slots, until it is lost, and the lines of the replies that were told.
+-- What is kept of that client: its slots, until it is lost, and the lines of the replies that were written.
 pub record Keeps (tables : List SchemaTable) (c : ℕ) (client : Client) (caller : Caller) : Type 0 where
   pub slots : MatchOption caller.run ⊤ (λ run. client ≡ answering client.replies (client_of run.client))
   pub told : List StepReply
@@ -52,7 +52,7 @@ pub record StandsAt (known : HubHistory) (c : ℕ) (steps : List Move) (rs : Lis
   pub through : IsThrough known.world known.log c steps rs
   pub keeps : Keeps (tables_of known.world) c through.client caller
 
--- a run of this number, sound for the log, with at most one reply that is not told
+-- a run of this number, sound for the log, with at most one reply that is not written
 pub record IsHeld (known : HubHistory) (c : ℕ) (run : ClientRun) : Type 0 where
   pub number : run.client.number ≡ c
   pub sound : IsSound known run.client
@@ -63,7 +63,7 @@ pub record IsCaller (known : HubHistory) (c : ℕ) (caller : Caller) : Type 0 wh
   pub number : caller.number ≡ c
   pub held : MatchOption caller.run ⊤ (IsHeld known c)
 
--- The client is the same as before, wherever it stood.
+-- The client is the same as before, wherever it was.
 pub record Follows (tables : List SchemaTable) (old new : Caller) : Type 0 where
   pub number : new.number ≡ old.number
   pub here : is_some new.run ≡ is_some old.run
@@ -86,7 +86,7 @@ pub record AllFollow (tables : List SchemaTable) (olds news : List Caller) : Typ
   pub long : length news ≡ length olds
   pub each : (c : ℕ) (old new : Caller) → slice_get olds c ≡ Some old → slice_get news c ≡ Some new → Follows tables old new
 
--- each has at most one reply that is not told, or has none
+-- each has at most one reply that is not written, or has none
 abbrev pub AreNear : List Caller → Type 0
 AreNear callers = (c : ℕ) (caller : Caller) → slice_get callers c ≡ Some caller → length (untold caller) ≤ 1
 

@@ -27,7 +27,7 @@ pub record IsFresh (c : ℕ) (caller : Caller) : Type 0 where
 abbrev pub line_with : ℕ → ℕ → List ℕ → List ℕ
 line_with client step text = decimal client ++ (number step ++ (32 ∷ (text ++ (10 ∷ []))))
 
--- what was not told before is told by this text; nothing is, where nothing was left to tell
+-- the reply that was not written before is written as this text; none is, if none was left
 abbrev pub IsTold : List SchemaTable → Caller → Option (List ℕ) → Type 0
 IsTold tables old None = untold old ≡ []
 IsTold tables old (Some text) = (r : StepReply) × (untold old ≡ r ∷ []) × (text ≡ reply_text tables r)
@@ -42,7 +42,7 @@ IsEmptied None None = ⊤
 IsEmptied (Some old) (Some new) = IsLetGo old new
 IsEmptied old new = ⊥
 
--- the same client, but that it has no reply that is not told
+-- the same client, but without a reply that is not written
 pub record IsForgotten (old new : Caller) : Type 0 where
   pub number : new.number ≡ old.number
   pub lines : new.lines ≡ old.lines
@@ -59,15 +59,15 @@ abbrev pub GoesOn : HubHistory → Caller → Move → StepReply → HubHistory 
 GoesOn known old step r known' new =
     (steps : List Move) (rs : List StepReply) → StandsAt known old.number steps rs old → StandsAt known' old.number (steps ++ step ∷ []) (rs ++ r ∷ []) new
 
--- it was made, and its reply is not told
+-- it was made, and its reply is not written
 abbrev pub IsMade : HubHistory → Caller → Move → HubHistory → Caller → Type 0
 IsMade known old step known' new = (r : StepReply) × (untold new ≡ r ∷ []) × (is_some new.run ≡ is_some old.run) × GoesOn known old step r known' new
 
--- there is a reply that is not told
+-- there is a reply that is not written
 abbrev pub Waits : Caller → Type 0
 Waits caller = untold caller ≡ [] → ⊥
 
--- the reply that waits is told, or memory ran out
+-- the reply that waits is written, or memory ran out
 abbrev pub IsFinished : List SchemaTable → Caller → Result (List ℕ) StepFault → Type 0
 IsFinished tables old (Ok text) = (r : StepReply) × (untold old ≡ r ∷ []) × (text ≡ reply_text tables r)
 IsFinished tables old (Err Untold) = Unit {0}
@@ -80,7 +80,7 @@ Fails known old known' new Full = (limit ≤ length known.log) × (is_some new.r
 Fails known old known' new NoMemory = known' ≡ known → IsSameAt known old known' new
 Fails known old known' new fault = ⊥
 
--- what a step comes to, with the text of its reply
+-- the result of a step, with the text of its reply
 abbrev pub Steps : List SchemaTable → HubHistory → Caller → Move → HubHistory → Caller → Result (List ℕ) StepFault → Type 0
 Steps tables known old step known' new (Ok text) = (r : StepReply) × (text ≡ reply_text tables r) × (is_some new.run ≡ is_some old.run) × GoesOn known old step r known' new
 Steps tables known old step known' new (Err Untold) = (r : StepReply) × (is_some new.run ≡ is_some old.run) × GoesOn known old step r known' new

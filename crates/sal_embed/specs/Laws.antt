@@ -1,4 +1,4 @@
--- What the steps so far come to.
+-- The steps so far are a script.
 use Rattle.std.specs.Prelude.{◌≡◌, ◌≤◌, ℕ, List, length, Ok}
 use Rattle.sal_script.specs.Along.{order_of}
 use Rattle.sal_script.specs.Moves.{Move}

@@ -1,5 +1,5 @@
 -- A script that an embedded broker is opened from: it has no clients and no order, since the host makes the steps.
-use Rattle.std.specs.Prelude.{◌≡◌, ℕ, List, [], ◌∷◌, MatchResult, codes, Result, Ok, Err}
+use Rattle.std.specs.Prelude.{◌≡◌, ℕ, Bool, List, [], ◌∷◌, MatchResult, codes, Result, Ok, Err}
 use Rattle.sal_types.specs.Reading.{◌>>=◌}
 use Rattle.sal_history.specs.World.{Domain}
 use Rattle.sal_script.specs.Moves.{Move}
@@ -28,6 +28,10 @@ opened bytes = prepared bytes >>= bare
 -- its world
 abbrev pub world_of : Result Prepared Status → Result (List Domain) Status
 world_of made = made >>= (λ it. Ok it.world)
+
+-- whether its reads are checked
+abbrev pub reads_of : Result Prepared Status → Result Bool Status
+reads_of made = made >>= (λ it. Ok it.parts.checked)
 
 -- no step was made
 pub record IsBegun (it : Clients) : Type 0 where

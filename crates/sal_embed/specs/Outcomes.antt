@@ -43,7 +43,7 @@ pub record HasStepped (old new : Clients) (c : ℕ) (step : Move) (r : StepReply
   pub grows : GrowsAtMost c old.hub new.hub
   pub come : (programs : Programs) (replies : Replies) → HasCome old programs replies → HasCome new (with c step programs) (with c r replies)
 
--- A step of the client, which has a place: it was made, and this is the text of its reply; or it was not, or is not told.
+-- A step of the client, which has a place: it was made, and this is the text of its reply; or it was not, or its reply is not known.
 abbrev pub Makes : Clients → Clients → ℕ → Move → Result (List ℕ) StepFault → Type 0
 Makes old new c step (Ok text) = (r : StepReply) × (text ≡ reply_text (tables_of old.hub.world) r) × HasStepped old new c step r × LosesNone old new
 Makes old new c step (Err Untold) = (r : StepReply) × HasStepped old new c step r × LosesNone old new
@@ -53,7 +53,7 @@ Makes old new c step (Err NoMemory) = IsSame old new × LosesNoOther c old new
 Makes old new c step (Err Broken) = GrowsAtMost c old.hub new.hub
 Makes old new c step (Err fault) = ⊥
 
--- what a step came to, where the log has grown or not: with it grown, want of memory is that of a call that was made
+-- the result of a step, by whether the log has grown: if it has, want of memory is that of a call that was made
 abbrev pub broken_if : Bool → Result (List ℕ) StepFault → Result (List ℕ) StepFault
 broken_if grown (Err NoMemory) = Err (if grown then Broken else NoMemory)
 broken_if grown result = result
@@ -63,12 +63,12 @@ pub record IsPlacing (old new : Clients) : Type 0 where
   pub same : IsSame old new
   pub loses : LosesNone old new
 
--- The step that the bytes stand for was made by client c, and so on; or they are no step, or the client is none.
+-- The step that the bytes denote was made by client c, and so on; or they are no step, or the client is none.
 abbrev pub Steps : Clients → Clients → ℕ → List ℕ → Result (List ℕ) StepFault → Type 0
 Steps old new c bytes (Err BadClient) = (65536 ≤ c) × (new ≡ old)
-Steps old new c bytes (Err BadStep) = (c < 65536) × ((place : List ℕ) × (one_step bytes ≡ Err place)) × (new ≡ old)
+Steps old new c bytes (Err BadStep) = (c < 65536) × ((place : List ℕ) × (one_step old.checked_reads bytes ≡ Err place)) × (new ≡ old)
 Steps old new c bytes (Err NoMemory) = IsSame old new × LosesNoOther c old new
-Steps old new c bytes result = (c < 65536) × ((step : Move) × (one_step bytes ≡ Ok step) × Makes old new c step result)
+Steps old new c bytes result = (c < 65536) × ((step : Move) × (one_step old.checked_reads bytes ≡ Ok step) × Makes old new c step result)
 
 -- the report of all steps
 abbrev pub Reports : Clients → Clients → Result (List ℕ) Wanting → Type 0

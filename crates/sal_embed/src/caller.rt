@@ -21,12 +21,12 @@ use sal_types::{NoMemory, Str};
 use std::alloc::Global;
 use std::sync::Arc;
 
-/// A client. Its run keeps the reply that is not told yet, if there is one, and no other; it is none once it is lost.
+/// A client. Its run keeps the reply that is not written yet, if there is one, and no other; it is none once it is lost.
 #[derive(Drop)]
 pub struct Caller {
     pub(crate) number: u32,
     pub(crate) run: Option<ClientRun>,
-    /// The lines of the steps whose replies were told, and how many these are.
+    /// The lines of the steps whose replies were written, and how many these are.
     pub(crate) lines: String,
     pub(crate) told: u64,
 }
@@ -66,7 +66,7 @@ impl Caller {
         self.finish(alloc, schemas)
     }
 
-    // Tells the reply that waits.
+    // Writes the reply that waits.
     fn finish(&mut self, alloc: Global, schemas: &[Arc<Schema>]) -> Result<Str, StepFault>
         requires few { length (untold self.old) ≤ 1 }
         requires waits { Waits self.old }
@@ -80,7 +80,7 @@ impl Caller {
         }
     }
 
-    // Makes the step. Its reply is not told yet.
+    // Makes the step. Its reply is not written yet.
     fn make(
         &mut self,
         alloc: Global,
@@ -110,7 +110,7 @@ impl Caller {
         }
     }
 
-    /// Adds the line of the reply that is not told yet and returns its text, if there is one.
+    /// Adds the line of the reply that is not written yet and returns its text, if there is one.
     pub(crate) fn tell(
         &mut self,
         alloc: Global,
@@ -130,7 +130,7 @@ impl Caller {
         Ok(Some(text))
     }
 
-    // The text of the reply that is not told yet, if there is one.
+    // The text of the reply that is not written yet, if there is one.
     fn next_text(&self, alloc: Global, schemas: &[Arc<Schema>]) -> Result<Option<Str>, NoMemory>
         requires few { length (untold self.now) ≤ 1 }
         ensures { IfOk result (IsTold (tables_in schemas.now) self.now) }
@@ -144,7 +144,7 @@ impl Caller {
         }
     }
 
-    // The reply that is not told yet, if there is one.
+    // The reply that is not written yet, if there is one.
     fn untold(&self) -> Option<&StepReply>
         requires few { length (untold self.now) ≤ 1 }
         ensures { MatchOption result (untold self.now ≡ []) (λ reply. untold self.now ≡ reply.now ∷ []) }
@@ -155,7 +155,7 @@ impl Caller {
         }
     }
 
-    // Lets go of the reply that was told.
+    // Drops the reply that was written.
     fn forget(&mut self)
         ensures { IsForgotten self.old self.new }
     {

@@ -20,11 +20,12 @@ use sal_types::{NoMemory, Str};
 use std::alloc::Global;
 use std::sync::Arc;
 
-/// The hub, and the clients that have a place, by number.
+/// The hub, the clients that have a place, by number, and whether their reads are checked.
 #[derive(Drop)]
 pub struct Clients {
     pub(crate) hub: Hub,
     pub(crate) callers: Vec<Caller>,
+    pub(crate) checked_reads: bool,
 }
 
 impl Clients {
@@ -37,6 +38,7 @@ impl Clients {
         ensures callers { AreCallers self.new.hub self.new.callers.items }
         ensures few { length self.new.callers.items ≤ 65536 }
         ensures placed { OnOk result (client < length self.new.callers.items) }
+        ensures reads { self.new.checked_reads ≡ self.old.checked_reads }
     {
         for number in self.callers.len()..client as usize + 1 {
             self.callers.push(Caller::new(alloc, number as u32))?;
@@ -62,6 +64,7 @@ impl Clients {
         ensures callers { AreCallers self.new.hub self.new.callers.items }
         ensures long { length self.new.callers.items ≡ length self.old.callers.items }
         ensures world { self.new.hub.world ≡ self.old.hub.world }
+        ensures reads { self.new.checked_reads ≡ self.old.checked_reads }
     {
         laws::tokens_last();
         let calls = self.hub.log().len();
@@ -79,6 +82,7 @@ impl Clients {
         ensures callers { AreCallers self.new.hub self.new.callers.items }
         ensures long { length self.new.callers.items ≡ length self.old.callers.items }
         ensures hub { self.new.hub ≡ self.old.hub }
+        ensures reads { self.new.checked_reads ≡ self.old.checked_reads }
     {
         tell_all(alloc, &mut self.callers, schemas)?;
         told_report(alloc, schemas, &self.hub, &self.callers)
@@ -92,7 +96,7 @@ fn has_grown(hub: &Hub, calls: usize) -> bool
     hub.log().len() > calls
 }
 
-// What a step came to, where want of memory in a log that has grown is told as such.
+// The result of a step. Want of memory in a log that has grown is reported as such.
 fn broken_if(grown: bool, made: Result<Str, StepFault>) -> Result<Str, StepFault>
     ensures { result ≡ broken_if grown made }
 {
@@ -102,7 +106,7 @@ fn broken_if(grown: bool, made: Result<Str, StepFault>) -> Result<Str, StepFault
     }
 }
 
-// Tells each reply that is not told yet.
+// Writes each reply that is not written yet.
 fn tell_all(
     alloc: Global,
     callers: &mut Vec<Caller>,
@@ -119,7 +123,7 @@ fn tell_all(
     Ok(())
 }
 
-// The report, where all replies are told.
+// The report, if all replies are written.
 fn told_report(
     alloc: Global,
     schemas: &[Arc<Schema>],

@@ -48,13 +48,14 @@ impl Model for Embedded {
 
 impl Embedded {
     ghost use Rattle.std.specs.Prelude.{IfOk};
-    ghost use Rattle.sal_embed.specs.Opening.{IsBegun, opened, world_of};
+    ghost use Rattle.sal_embed.specs.Opening.{IsBegun, opened, reads_of, world_of};
     ghost use Rattle.sal_embed.specs.Outcomes.{Reports, Steps};
     ghost use Rattle.sal_prepare.specs.Scripted as prepared;
 
     /// Opens the broker of a script that has no clients and no order; or says what is wrong first.
     pub fn open(alloc: Global, script: &[u8]) -> Result<Embedded, Status>
         ensures opens { prepared.Comes (λ e. e.hub.world) (world_of (opened script.now)) result }
+        ensures reads { prepared.Comes (λ e. e.checked_reads) (reads_of (opened script.now)) result }
         ensures begun { IfOk result IsBegun }
     {
         let prepared = prepare(alloc, script)?;
@@ -64,12 +65,13 @@ impl Embedded {
 
     /// Makes the client's next step, and returns the text of its reply.
     pub fn step(&mut self, alloc: Global, client: u32, step: &[u8]) -> Result<Str, StepFault>
-        ensures { Steps self.old self.new client step.now result }
+        ensures steps { Steps self.old self.new client step.now result }
+        ensures reads { self.new.checked_reads ≡ self.old.checked_reads }
     {
         if client >= CLIENTS {
             return Err(StepFault::BadClient);
         }
-        let step = read_step(alloc, step)?;
+        let step = read_step(alloc, self.clients.checked_reads, step)?;
         self.clients.place(alloc, client)?;
         self.clients
             .make(alloc, &self.readers, &self.schemas, client, &step)
@@ -77,7 +79,8 @@ impl Embedded {
 
     /// The report of all steps so far.
     pub fn report(&mut self, alloc: Global) -> Result<Str, NoMemory>
-        ensures { Reports self.old self.new result }
+        ensures reports { Reports self.old self.new result }
+        ensures reads { self.new.checked_reads ≡ self.old.checked_reads }
     {
         self.clients.report(alloc, &self.schemas)
     }
@@ -91,16 +94,22 @@ fn over(alloc: Global, prepared: Prepared) -> Embedded
     requires fresh { prepared.hub.log ≡ [] }
     ensures hub { result.hub ≡ prepared.hub }
     ensures callers { result.callers.items ≡ [] }
+    ensures reads { result.checked_reads ≡ (parts prepared.read.script).checked }
 {
     let Prepared { read, hub } = prepared;
     let ReadScript {
-        script: _,
+        script,
         schemas,
         readers,
     } = read;
+    let checked_reads = script.checked_reads;
     let callers: Vec<Caller> = Vec::new(alloc);
     Embedded {
-        clients: Clients { hub, callers },
+        clients: Clients {
+            hub,
+            callers,
+            checked_reads,
+        },
         schemas,
         readers,
     }

@@ -17,7 +17,7 @@ pub enum StepFault {
     NoMemory,
     /// The step was made, and memory ran out for the text of its reply. The report has it.
     Untold,
-    /// Memory ran out behind a call that is in the log. The broker is not to be used again.
+    /// Memory ran out after a call that is in the log. The broker is not to be used again.
     Broken,
 }
 

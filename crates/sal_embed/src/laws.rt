@@ -1,4 +1,4 @@
-//! Laws of what an embedded broker came to. A call does nothing: its clauses are the laws.
+//! Laws of the steps of an embedded broker. A call does nothing: its clauses are the laws.
 ghost use Rattle.sal_embed.specs.Laws.{AreAScript, WorldsAreOfModules};
 
 use crate::embedded::Embedded;

@@ -5,7 +5,7 @@
 //! | `Embedded` | the broker: `open`, `step`, `report`; it is closed by dropping it |
 //! | `StepFault` | why a step has no reply |
 //! | `CLIENTS` | client numbers are below this |
-//! | `laws` | what the steps so far come to: a script, played in the order of the log |
+//! | `laws` | the steps so far are a script, played in the order of the log |
 //!
 //! The steps have the form that a script's clients have, and a reply has the words of a report's line. There are no threads and
 //! no waiting: a call returns when its step is answered. A client is there from its first step on, under the number that the

@@ -1,4 +1,4 @@
--- One client more tells its reply.
+-- The reply of one client more is written.
 use Rattle.std.proofs.Common.{◌≡◌, ◌≤◌, ◌<◌, ℕ, List, [], length, arith, sym, ap, ◌∙◌, subst}
 use Rattle.sal_script.specs.declared.reply.StepReply.{StepReply}
 use Rattle.sal_prepare.specs.Scripted.{tables_in}

@@ -1,4 +1,4 @@
--- Each client is the same as before; those before the index have told all, and the others have at most one reply to tell.
+-- Each client is the same as before; the replies of those before the index are all written, and the others have at most one to write.
 use Rattle.std.proofs.Common.{◌≡◌, ℕ, ◌<◌, ◌≤◌, [], Some, length, map}
 use Rattle.std.specs.Prelude.{slice_get}
 use Rattle.sal_embed.specs.declared.caller.Caller.{Caller}

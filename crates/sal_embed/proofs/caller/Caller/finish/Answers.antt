@@ -1,4 +1,4 @@
--- A reply waits, so one is told.
+-- A reply waits, so one is written.
 use Rattle.std.proofs.Common.{List, Option, ℕ, subst}
 use Rattle.sal_prepare.specs.Scripted.{tables_in}
 use Rattle.sal_embed.specs.Callers.{IsTold}

@@ -1,4 +1,4 @@
--- The replies are let go of, where there is a run.
+-- The replies are dropped, if there is a run.
 use Rattle.std.proofs.Common.{◌≡◌, Option, Some, refl, sym, subst}
 use Rattle.sal_client.specs.declared.run.ClientRun.{ClientRun}
 use Rattle.sal_embed.specs.Callers.{IsEmptied}

@@ -1,4 +1,4 @@
--- The client goes on by its step, or stays as it was; or it is lost.
+-- The client continues by its step, or stays as it was; or it is lost.
 use Rattle.std.proofs.Common.{◌≡◌, ℕ, ◌≤◌, List, Option, length, refl, ap, sym, ◌∙◌, subst, arith}
 use Rattle.std.specs.Prelude.{MatchOption, None, Some, ⊤}
 use Rattle.std.specs.Option.{is_some}

@@ -1,4 +1,4 @@
--- The reply of the step before is told, the step is made, and its reply is told.
+-- The reply of the step before is written, the step is made, and its reply is written.
 use Rattle.std.proofs.Common.{◌≡◌, ℕ, List, Result, Ok, Err, length, refl, ap, sym, ◌∙◌, subst, arith}
 use Rattle.sal_schema.specs.declared.table.SchemaTable.{SchemaTable}
 use Rattle.sal_script.specs.Moves.{move_of}

@@ -6,7 +6,7 @@ use Rattle.sal_embed.proofs.Placed.{callers_same, placed_callers, placed_long, p
 use Rattle.sal_embed.proofs.clients.Clients.place.Goals as goal
 
 pub loop-number-init : goal.loop-number-init
-loop-number-init c = record { placing = placing_none c.args.self.now; callers = c.requires.callers; long = omega (arith, c.len-number.ensures); few = c.requires.few }
+loop-number-init c = record { placing = placing_none c.args.self.now; callers = c.requires.callers; long = omega (arith, c.len-number.ensures); few = c.requires.few; reads = refl }
 
 pub loop-number-preserved : goal.loop-number-preserved
 loop-number-preserved c =
@@ -22,6 +22,7 @@ loop-number-preserved c =
       callers = placed_callers mid new caller fresh refl items was.callers;
       long = omega (arith, long, was.long);
       few = omega (arith, long, was.long, c.loop-number-test.true, c.requires.client);
+      reads = was.reads;
     }
 
 pub returns-in_err-push-clause-placing : goal.returns-in_err-push-clause-placing

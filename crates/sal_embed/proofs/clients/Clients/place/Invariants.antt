@@ -10,4 +10,5 @@ invariant-loop-number l = record {
   callers : AreCallers l.self.hub l.self.callers.items;
   long : length l.self.callers.items ≡ l.number;
   few : length l.self.callers.items ≤ 65536;
+  reads : l.self.checked_reads ≡ l.initial.self.checked_reads;
 }

@@ -1,4 +1,4 @@
--- All replies are told, and then the report is written.
+-- All replies are written, and then the report.
 use Rattle.std.proofs.Common.{◌≡◌, List, Result, Ok, Err, ℕ, map, refl, ap, sym, ◌∙◌, subst}
 use Rattle.std.specs.Prelude.{IfOk}
 use Rattle.sal_types.specs.declared.memory.NoMemory.{NoMemory as Wanting}

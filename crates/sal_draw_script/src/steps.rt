@@ -150,5 +150,6 @@ fn mode_word(mode: Mode) -> &'static str
         Mode::Ro => " ro",
         Mode::Wo => " wo",
         Mode::Rw => " rw",
+        Mode::Checked => " rw",
     }
 }

@@ -70,7 +70,7 @@ pub comes_err : {A X : Type 0} (seen : X → A) (made : Result A Status) (result
 comes_err seen made (Ok x) e is fault = absurd is
 comes_err seen made (Err d) e is fault = subst (IsStatusOf made) (sym is) fault
 
--- what fails comes to nothing further
+-- what fails has no further result
 pub bind_fault : {A B : Type 0} (r : Result A Status) (f : A → Result B Status) (e : Status) → IsStatusOf r e → IsStatusOf (r >>= f) e
 bind_fault r f NoMemory fault = tt
 bind_fault r f (BadScript place) fault = ap (λ made. made >>= f) fault

@@ -10,7 +10,7 @@ device_of_index [] k d within is = absurd (omega (arith, within))
 device_of_index (x ∷ ds) zero d within is = ap (λ (y : ScriptDevice). Some (device y)) (sym is)
 device_of_index (x ∷ ds) (suc k) d within is = device_of_index ds k d (omega (arith, within)) is
 
--- behind the controller's own
+-- after the controller's own
 pub behind_own : (own : DeviceParts) (ds : List ScriptDevice) (n : ℕ) (d : ScriptDevice) → 0 < n → n - 1 < length ds → d ≡ get_or ds (n - 1) d → slice_get (own ∷ devices ds) n ≡ Some (device d)
 behind_own own ds zero d behind within is = absurd (omega (arith, behind))
 behind_own own ds (suc k) d behind within is =

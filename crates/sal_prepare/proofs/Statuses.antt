@@ -1,4 +1,4 @@
--- The status of what fails is that of all that stands on it.
+-- The status of what fails is that of all that depends on it.
 use Rattle.std.proofs.Common.{◌≡◌, Result, Ok, Err, ap, sym, ◌∙◌}
 use Rattle.sal_prepare.specs.declared.status.Status.{Status}
 use Rattle.sal_prepare.specs.declared.status.Status.TheVariants.{Done, BadWords, ReadFault, WriteFault, TooLong, BadScript, BadSchema, BadOpening, BadOrder, NoMemory, NoPart, BadStream, BadExport}

@@ -1,4 +1,4 @@
--- What the elements of a list come to, one after another.
+-- The results of the elements of a list, one after another.
 use Rattle.std.specs.Prelude.{ℕ, ◌+◌, List, [], ◌∷◌, Result, Ok, Err}
 use Rattle.sal_types.specs.Reading.{◌>>=◌}
 

@@ -26,7 +26,7 @@ pub record AreChains (tables : List (List SchemaTable)) : Type 0 where
 abbrev pub OpenSound : List DeviceParts → List (List SchemaTable) → Type 0
 OpenSound domains tables = (rules : Rules) (world : List Domain) → each_from (opening_by rules tables) 0 domains ≡ Ok world → AreSound world
 
--- What the domains of a script come to, over such versions, is sound.
+-- The domains of a script, over such versions, are sound.
 abbrev pub WorldsAreSound : Type 0
 WorldsAreSound =
     (rules : Rules) (domains : List DeviceParts) (tables : List (List SchemaTable)) (world : List Domain) → AreJsonDevices domains → length domains ≤ length tables → AreChains tables

@@ -162,7 +162,7 @@ over_world parts tables = world_over parts.rules (domains_of parts) tables >>= (
 abbrev pub prepared_of : Parts → Result Prepared Status
 prepared_of parts = reader_versions parts >>= over_world parts
 
--- What the bytes stand for, or the status of the first that is wrong with them.
+-- What the bytes denote, or the status of the first that is wrong with them.
 abbrev pub prepared : List ℕ → Result Prepared Status
 prepared bytes = or_script (script_of bytes) >>= prepared_of
 
@@ -192,7 +192,7 @@ given domain = record { modules = domain.modules.now; config = view domain.confi
 abbrev pub versions_shared : Schemas → List (List SchemaTable)
 versions_shared schemas = versions_by (tables_in schemas.own.items) (tables_in schemas.devices.items)
 
--- one more behind what was made before
+-- one more after what was made before
 abbrev pub with_next : {A : Type 0} → List A → Result A Status → Result (List A) Status
 with_next done next = next >>= (λ x. Ok (done ++ x ∷ []))
 

@@ -3,7 +3,7 @@ use Rattle.std.specs.Prelude.{◌≡◌, ℕ, List, MatchResult, Result, Ok, Err
 use Rattle.sal_prepare.specs.declared.status.Status.{Status}
 use Rattle.sal_prepare.specs.declared.status.Status.TheVariants.{BadScript, BadSchema, BadOpening, BadOrder, NoMemory, NoPart, BadStream, BadExport}
 
--- the status is the one that the making comes to; nothing is said of want of memory
+-- the status is that of the making; nothing is said of want of memory
 abbrev pub IsTextStatus : Result (List ℕ) Status → Status → Type 0
 IsTextStatus made NoMemory = Unit {0}
 IsTextStatus made (BadScript place) = made ≡ Err (BadScript place)
@@ -15,6 +15,6 @@ IsTextStatus made (BadStream text) = made ≡ Err (BadStream text)
 IsTextStatus made (BadExport commit) = made ≡ Err (BadExport commit)
 IsTextStatus made status = ⊥
 
--- the text that is made, or the status that the making comes to; nothing is said of want of memory
+-- the text that is made, or the status of the making; nothing is said of want of memory
 abbrev pub IsTextOr : Result (List ℕ) Status → Result (List ℕ) Status → Type 0
 IsTextOr made result = MatchResult result (λ text. made ≡ Ok text) (IsTextStatus made)

@@ -6,7 +6,7 @@
 //! | `domains`, `openings` | the schemas of the controller's own domain and of the devices, with what reads by them; their opening trees |
 //! | `own_schema` | the last version of the schema of domain 0 alone, with its patterns |
 //! | `parted` | an input of two parts, which its first zero byte divides |
-//! | `plays` | what a played script comes to: its report, the trees at the end, the status of what failed |
+//! | `plays` | the result of a played script: its report, the trees at the end, the status of what failed |
 //! | `status` | how the command ends |
 //! | `laws` | the worlds of scripts are sound; a load's own script is always a script |
 //!

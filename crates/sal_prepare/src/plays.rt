@@ -1,4 +1,4 @@
-//! What a played script comes to: its report, the trees at the end, or the status of what failed.
+//! The result of a played script: its report, the trees at the end, or the status of what failed.
 ghost use Rattle.std.specs.Prelude.{◌≡◌, ◌<◌, ◌≤◌, All, IfOk, length, map};
 ghost use Rattle.sal_script.specs.Report as spec;
 ghost use Rattle.sal_script.specs.Tables.{tables_of};
@@ -40,7 +40,7 @@ pub fn report_of(alloc: Global, schemas: &[Arc<Schema>], played: &Played) -> Res
     )
 }
 
-/// The trees at the end of each domain of which the report tells, out of so many domains.
+/// The trees at the end of each of these domains that the report shows.
 pub fn trees_of<'a>(
     alloc: Global,
     hub: &'a Hub,

@@ -31,7 +31,7 @@ pub struct Prepared {
     pub hub: Hub,
 }
 
-/// Reads the script that the bytes stand for and opens the hub that it is played over. The first that is wrong is answered:
+/// Reads the script that the bytes denote and opens the hub that it is played over. The first that is wrong is answered:
 /// with the script, the modules of its domains, their patterns, the data of the opening trees, or their rules.
 pub fn prepare(alloc: Global, bytes: &[u8]) -> Result<Prepared, Status>
     ensures prepared { spec.Comes spec.seen (spec.prepared bytes.now) result }
@@ -68,7 +68,7 @@ pub fn prepare_script(alloc: Global, script: Script) -> Result<Prepared, Status>
     Ok(Prepared { read, hub })
 }
 
-/// The script that the bytes stand for.
+/// The script that the bytes denote.
 pub fn script_of(alloc: Global, bytes: &[u8]) -> Result<Script, Status>
     ensures { spec.Comes parts (spec.or_script (script_of bytes.now)) result }
 {

@@ -10,7 +10,7 @@ use Rattle.sal_schema.specs.Table.{all_from, child_at, children_in, children_of,
 use Rattle.sal_schema.specs.Valid.{IsTable, has_numbers}
 use Rattle.sal_schema.proofs.Conjuncts.{and_first, and_second}
 
--- a parent before k is not the node n behind it
+-- a parent before k is not the node n after it
 other_parent : (parent : Option ℕ) (k n : ℕ) → k ≤ n → IsTrue (option_map_or (λ p. nat_lt p k) parent true) → is_same parent (Some n) ≡ false
 other_parent None k n far h = refl
 other_parent (Some p) k n far h = grind (arith, nat_tests)

@@ -39,7 +39,7 @@ module _ (tables : List SchemaTable) where
 
 -- ---- arrays
 
--- the items behind the first one
+-- the items after the first one
 module _ {A : Type 0} (f : A → Data) where
   abbrev pub behind_comma : A → List ℕ
   behind_comma x = 44 ∷ compact_text (f x)
@@ -51,7 +51,7 @@ module _ {A : Type 0} (f : A → Data) where
   pub array_text : (x : A) (xs : List A) → compact_text (list_data (map f (x ∷ xs))) ≡ 91 ∷ (compact_text (f x) ++ (flat_map behind_comma xs ++ 93 ∷ []))
   array_text x xs = ap (λ (rest : List ℕ). 91 ∷ (compact_text (f x) ++ rest)) (more_items xs)
 
-  -- an array that was written behind a text, with its first item and those behind it
+  -- an array that was written after a text, with its first item and those after it
   pub array_written : (xs : List A) (x : A) (old opened one more : List ℕ) → 1 ≤ length xs → x ≡ get_or xs 0 x → opened ≡ old ++ 91 ∷ [] → one ≡ opened ++ compact_text (f x) → more ≡ one ++ flat_map behind_comma (take (length xs - 1) (drop 1 xs))
       → more ++ 93 ∷ [] ≡ old ++ compact_text (list_data (map f xs))
   array_written xs x old opened one more long first opens writes goes =

@@ -136,7 +136,7 @@ numbers_below m a (suc n) ends = All-cons (λ d. d < m) a (range_with_len (a + 1
 pub all_below : (p : ℕ → Bool) (n : ℕ) → All (λ d. d < n) (filter p (range_with_len 0 n))
 all_below p n = All-filter p (λ d. d < n) (range_with_len 0 n) (numbers_below n 0 n (omega arith))
 
--- the numbers by their marks are the domains of which is told
+-- the numbers by their marks are the domains that a report shows
 pub told-is : (world : List Domain) (log : List Entry) (n : ℕ) (marks : List Bool) → length world ≡ n → length marks ≡ n
     → ((d : ℕ) → d < n → slice_index_or marks d false ≡ was_mounted (made_of n (mounts_in log)) d)
     → filter (λ d. nat_eq d 0 || slice_index_or marks d false) (range_with_len 0 (length marks)) ≡ told_domains world log

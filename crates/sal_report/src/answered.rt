@@ -14,7 +14,7 @@ use sal_types::{NoMemory, Seq, Str};
 use std::alloc::Global;
 use std::sync::Arc;
 
-/// The text of a reply, as its line has it behind client and step. It fails only where memory runs out.
+/// The text of a reply, as its line has it after client and step. It fails only where memory runs out.
 pub fn reply_text(
     alloc: Global,
     schemas: &[Arc<Schema>],

@@ -1,4 +1,4 @@
-//! Arrays of JSON. Each function writes behind what stands in the text, and copies no item.
+//! Arrays of JSON. Each function appends to the text, and copies no item.
 ghost use Rattle.std.specs.Prelude.{◌≡◌, ◌∷◌, ◌++◌, OnOk, map, string_bytes};
 ghost use Rattle.std.specs.List.{flat_map};
 ghost use Rattle.serde_json.specs.Data.{Data};
@@ -10,7 +10,7 @@ use sal_schema::Schema;
 use sal_types::{NoMemory, push_word};
 use std::alloc::Global;
 
-// What stands in an array.
+// The items of an array.
 pub(crate) trait Item {
     // What it is as JSON data.
     ghost json: { SchemaTable → Self → Data };

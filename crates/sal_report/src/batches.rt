@@ -1,4 +1,4 @@
-//! The parts of a listener's batch as JSON texts. Each function writes behind what stands in the text, and copies no change.
+//! The parts of a listener's batch as JSON texts. Each function appends to the text, and copies no change.
 ghost use Rattle.std.specs.Prelude.{◌≡◌, ◌∷◌, ◌++◌, ◌<◌, IfOk, IfSome, OnOk, length, option_map, string_bytes};
 ghost use Rattle.serde_json.specs.View.{view};
 ghost use Rattle.serde_json.specs.Written.{compact_text};

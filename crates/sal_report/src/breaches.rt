@@ -18,8 +18,8 @@ pub fn path_words(alloc: Global, schema: &Schema, path: &Path) -> Result<Str, No
     Ok(Str::from_string(text))
 }
 
-/// A space and where a rule is broken, as a JSON text, and behind it which: its word, and the node that states it with its
-/// module, as `max-elements shop:seen`. A number of no node stands for empty names. It fails only where memory runs out.
+/// A space and where a rule is broken, as a JSON text, and after it which: its word, and the node that states it with its
+/// module, as `max-elements shop:seen`. A number of no node denotes empty names. It fails only where memory runs out.
 pub fn breach_text(alloc: Global, schema: &Schema, breach: &Breach) -> Result<Str, NoMemory>
     ensures { IfOk result (λ text. text ≡ spec.breach_text schema.now breach.now.path breach.now.rule) }
 {

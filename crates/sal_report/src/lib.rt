@@ -7,14 +7,14 @@
 //! | `reply_text` | the text of one reply, as its line has it |
 //! | `report_of_lines` | the text of a run, where the lines of the steps are texts already |
 //! | `tree_line` | the line of a domain with its trees, alone |
-//! | `told_domains` | the domains of which it tells the trees: the controller's own, and each device that was ever mounted |
+//! | `told_domains` | the domains of which it shows the trees: the controller's own, and each device that was ever mounted |
 //! | `data_fault_text` | why a value is no data of the schema, in words |
 //! | `summary` | the summary of a load: how many calls, commits and rows, and the sum of the numbers |
 //! | `breach_text`, `path_words` | where a structural rule is broken and which; a path |
 //!
-//! What the texts are, to the byte, stands in `sal_script` (`specs/Report`, with its words in `specs/Words`): for all schemas, logs,
+//! What the texts are, to the byte, is in `sal_script` (`specs/Report`, with its words in `specs/Words`): for all schemas, logs,
 //! replies and trees. Paths are written by `sal_pathtext` and rows by `sal_data`, as JSON (RFC 7951). What is of a domain is written
-//! by the last version of its schema, or by one without nodes where it has none; requests, outputs, notifications, mounts and upgrades are
+//! by the last version of its schema, or by one without nodes if it has none; requests, outputs, notifications, mounts and upgrades are
 //! of domain 0.
 //!
 //! ```
@@ -29,7 +29,7 @@
 //! // tree 0 1 {"topo:network":{"node":[{"id":"a"}]}} {}
 //! ```
 //!
-//! Cost: the text grows in place. Beside it stands the JSON of one reply at a time; trees are written from their nodes, and a load's rows are
+//! Cost: the text grows in place, with the JSON of one reply at a time; trees are written from their nodes, and a load's rows are
 //! counted on them (`sal_tree_text`). Time is linear in the text, beside what `sal_data` takes to write the rows of a reply and `sal_pathtext`
 //! to write the paths. `told_domains` goes once through the log and makes its calls on mounts once more, which takes what `sal_mount` takes for them.
 #![tactic(auto)]

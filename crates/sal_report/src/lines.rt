@@ -1,4 +1,4 @@
-//! The lines of a report. Each function writes behind what stands in the text.
+//! The lines of a report. Each function appends to the text.
 ghost use Rattle.std.specs.Prelude.{◌≡◌, [], ◌∷◌, ◌++◌, IfOk, OnOk, map, string_bytes};
 ghost use Rattle.std.specs.List.{flat_map};
 ghost use Rattle.sal_script.specs.Report as spec;
@@ -18,8 +18,8 @@ use std::sync::Arc;
 /// The report of a run: the line of the order, a line for each reply by client and step, and a line for each domain with its trees.
 ///
 /// `schemas` has those of the domains by number, each by its last version, `log` the calls in order, `replies` for each client its steps' replies in order, and
-/// `trees` what the domains of which is told have at the end. What is of a domain without a schema is written by one without nodes.
-/// It fails only where memory runs out.
+/// `trees` those of the domains that the report shows, at the end. What is of a domain without a schema is written by one without nodes.
+/// It fails only if memory runs out.
 pub fn report(
     alloc: Global,
     schemas: &[Arc<Schema>],

@@ -1,4 +1,4 @@
-//! The texts of what listeners are answered. Each function writes behind what stands in the text.
+//! The texts of what listeners are answered. Each function appends to the text.
 ghost use Rattle.std.specs.Prelude.{◌≡◌, ◌∷◌, ◌++◌, OnOk, codes, string_bytes};
 ghost use Rattle.serde_json.specs.Written.{compact_text};
 ghost use Rattle.sal_script.specs.BatchData.{batch_data};

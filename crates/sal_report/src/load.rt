@@ -1,4 +1,4 @@
-//! The summary of a load: how many calls, commits and rows it came to, and the sum of its numbers.
+//! The summary of a load: how many calls, commits and rows it has, and the sum of its numbers.
 ghost use Rattle.std.specs.Prelude.{◌≡◌, ◌++◌, [], ◌∷◌, IfOk, OnOk, codes, string_bytes};
 ghost use Rattle.sal_script.specs.Load as spec;
 ghost use Rattle.sal_script.specs.Words.{number};
@@ -9,7 +9,7 @@ use sal_tree_text::tally_of;
 use sal_types::{NoMemory, Str};
 use std::alloc::Global;
 
-/// The summary of a load of so many rounds behind this number: its words, the entries of the log, the commits, the rows of the
+/// The summary of a load of this many rounds, whose values begin after this number: its words, the entries of the log, the commits, the rows of the
 /// configuration at the end, and the sum of the unsigned leafs of node 2 there, which in the schema of a load is `v`. It fails only where memory runs out.
 pub fn summary(
     alloc: Global,

@@ -14,8 +14,8 @@ use sal_mount::{MountFault, Mounts};
 use sal_types::{NoMemory, Path};
 use std::alloc::Global;
 
-/// The domains of which a report tells the trees, by number: of so many, the controller's own, and each device that was ever mounted
-/// by a call of the log. It fails only where memory runs out.
+/// The domains whose trees a report shows, by number: of as many domains, the controller's own, and each device that was ever mounted
+/// by a call of the log. It fails only if memory runs out.
 pub fn told_domains(alloc: Global, domains: u32, log: &[Entry]) -> Result<Vec<u32>, NoMemory>
     ensures told { IfOk result (λ told. (world : List Domain) → length world ≡ domains → told.items ≡ spec.told_domains world log.now) }
     ensures within { IfOk result (λ told. All (λ d. d < domains) told.items) }
@@ -25,7 +25,7 @@ pub fn told_domains(alloc: Global, domains: u32, log: &[Entry]) -> Result<Vec<u3
     Ok(told)
 }
 
-// The numbers of the domains of which is told.
+// The numbers of the domains that a report shows.
 fn told_numbers(alloc: Global, marks: &[bool]) -> Result<Vec<u32>, NoMemory>
     requires { length marks.now < 2 ^ 32 }
     ensures told { IfOk result (λ told. told.items ≡ filter (λ d. nat_eq d 0 || slice_index_or marks.now d false) (range_with_len 0 (length marks.now))) }

@@ -1,4 +1,4 @@
-//! The pieces of a line: words, numbers, paths and rows. Each function writes behind what stands in the text.
+//! The pieces of a line: words, numbers, paths and rows. Each function appends to the text.
 ghost use Rattle.std.specs.Prelude.{◌≡◌, ◌∷◌, ◌++◌, OnOk, false, string_bytes};
 ghost use Rattle.json.specs.Print.{quoted};
 ghost use Rattle.serde_json.specs.View.{view};

@@ -1,4 +1,4 @@
-//! The texts of replies. Each function writes behind what stands in the text.
+//! The texts of replies. Each function appends to the text.
 ghost use Rattle.std.specs.Prelude.{◌≡◌, ◌∷◌, ◌++◌, OnOk, codes, string_bytes};
 ghost use Rattle.sal_script.specs.Report as spec;
 

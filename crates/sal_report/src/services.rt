@@ -1,4 +1,4 @@
-//! The texts of what services answer: requests and their outputs, notifications, mounts. Each function writes behind what stands in
+//! The texts of what services answer: requests and their outputs, notifications, mounts. Each function appends to
 //! the text.
 ghost use Rattle.std.specs.Prelude.{◌≡◌, [], ◌∷◌, ◌++◌, IfOk, OnOk, Some, codes, string_bytes};
 ghost use Rattle.std.specs.List.{slice_get};

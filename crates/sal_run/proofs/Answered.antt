@@ -18,7 +18,7 @@ module _ (tables : List Versions) (world : List Domain) (c : ℕ) (steps : List 
   none_along [] last is = cc
   none_along (e ∷ log) last is = none_along log last is
 
-  -- where it comes to from there
+  -- its place after that
   going : (log : List Entry) (run : Run) → IsOnWay world log c steps run → Reaches steps (exchanges_in world log c) (arrive tables world log run.client run.steps)
   going log run way =
       subst (λ (ms : List Move). Reaches ms (exchanges_in world log c) (arrive tables world log run.client run.steps)) (sym way.parts)

@@ -49,7 +49,7 @@ map_push : {X Y : Type 0} (f : X → Y) (xs : List X) (x : X) → map f (xs ++ x
 map_push f [] x = refl
 map_push f (y ∷ xs) x = ap (λ (ys : List _). f y ∷ ys) (map_push f xs x)
 
--- what stands at an index
+-- the item at an index
 pub at_index : {X : Type 0} (xs : List X) (i : ℕ) (x : X) → i < length xs → x ≡ get_or xs i x → slice_get xs i ≡ Some x
 at_index xs i x within is = let own = get_some xs i within in own.1 ∙ ap Some (sym (is ∙ get_or_from_slice_get xs i own.0 x own.1))
 

@@ -54,7 +54,7 @@ listens_of known c is slot listener at =
 -- ---- the client's own call
 
 module _ (tables : List Versions) (c : ℕ) (steps : List Move) (known known' : HubHistory) where
-  -- behind a call that it made
+  -- after a call that it made
   pub at_made : (old now : Run) → GrowsBy c known known' → go tables known.world known.log c old ≡ Some (record { log = known'.log; run = now })
       → BeganIn known'.log now.client → ListensIn known.world c known'.log now.client
       → IsAt tables known.world c steps known.log old → IsAt tables known.world c steps known'.log now
@@ -76,7 +76,7 @@ module _ (tables : List Versions) (c : ℕ) (steps : List Move) (known known' : 
 
 -- ---- the entries of others
 
--- behind the entries that are known there is none of the client's
+-- after the entries that are known there is none of the client's
 pub none_behind : (c : ℕ) (log found own : List Entry) (begins : IsPrefix log found) → entries_by maker_of c log ≡ own → entries_by maker_of c found ≡ own → entries_of begins.0 c ≡ 0
 none_behind c log found own begins before after =
     let p : Entry → Bool = λ e. nat_eq e.client c in
@@ -86,7 +86,7 @@ none_behind c log found own begins before after =
     let second = ap length after in
     sym (length-filter p begins.0) ∙ omega (arith, whole, first, second)
 
--- ---- a client that stands somewhere
+-- ---- a client at some place
 
 module _ (lasts : TokensLast) (tables : List Versions) (steps : List ScriptStep) (c : ℕ) where
   -- it has answered local steps, and is ready to make a call

@@ -102,7 +102,7 @@ module _ (world : List Domain) (c : ℕ) where
       ∙ ap (λ (es : List Exchange). exchanges_in world log c ++ es) (append-nil (exchange_by c (answered_as world (history world log) e (reply world log e))))
       ∙ ap (λ (is : Bool). exchanges_in world log c ++ (let es : List Exchange = if is then exchange log e ∷ [] else [] in es)) (eq-eqb e.client c own)
 
--- ---- the call that a step came to
+-- ---- the call of a step
 
 abbrev log_in : Option Made → List Entry
 log_in None = []

@@ -31,12 +31,12 @@ one_more v n found hub left same start grows = ⊎_elim
     (λ (h : GrowsBy n hub left). let o : OneMoreAtMost v found left = inr (h.0, h.1 ∙ same, h.2 ∙ ap (λ (k : HubHistory). more k h.0) start) in o)
     grows
 
--- the entries behind those of a list
+-- the entries after those of a list
 pub behind : {X : Type 0} (xs ys : List X) → drop (length xs) (xs ++ ys) ≡ ys
 behind [] ys = refl
 behind (x ∷ xs) ys = behind xs ys
 
--- the own entries, behind one more
+-- the own entries, after one more
 mine_more : (c : ℕ) (log own : List Entry) (e : Entry) → e.client ≡ c → entries_by maker_of c log ≡ own → entries_by maker_of c (log ++ e ∷ []) ≡ own ++ e ∷ []
 mine_more c log own e is was =
     filter-append (λ (x : Entry). nat_eq x.client c) log (e ∷ [])
@@ -74,7 +74,7 @@ module _ (lasts : TokensLast) (tables : List Versions) (steps : List ScriptStep)
   found_stands lock h r now enters was =
       stands_found lasts tables steps v.number (known v) h.found v.own r now (ap (λ (g : Option (List Domain)). unwrap_or g []) enters.world) enters.seen enters.mine was
 
-  -- behind a turn in which the client made its call
+  -- after a turn in which the client made its call
   pub left_stands : (lock : TableId) (h : Holding) (left : HubHistory) (w : SeatView) (wish : Wish) (old new : CodeRun) → Enters lock v h → SameRights h.view w → TurnOf h.view h.view.number h.found left w
       → MakesNext tables old.client.number h.hub wish (client_of old.client) left (client_of new.client) → IsSound left new.client → new.at ≡ old.at → new.client.number ≡ old.client.number
       → Stands tables steps v old (asking wish steps old) → Stands tables steps w new (run_of steps new)

@@ -35,7 +35,7 @@ pub record AreSeated (lock : TableId) (giver : SeatView) (n : ℕ) (runs : List 
   pub long : length runs ≡ n
   pub each : (i : ℕ) (s : SeatedRun) → slice_get runs i ≡ Some s → IsSeated lock giver i s
 
--- what a client was answered, behind the others', unless one of them stopped
+-- what a client was answered, after the others', unless one of them stopped
 abbrev pub with_replies : Result (List (List StepReply)) RunFault → Result (Unit {0}) RunFault → List StepReply → Result (List (List StepReply)) RunFault
 with_replies (Ok list) (Ok done) replies = Ok (list ++ replies ∷ [])
 with_replies (Ok list) (Err fault) replies = Err fault

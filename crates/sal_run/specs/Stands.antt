@@ -1,4 +1,4 @@
--- Where a client with a seat stands between two turns.
+-- The place of a client with a seat between two turns.
 use Rattle.std.specs.Prelude.{◌≡◌, ℕ, List, [], Some}
 use mathlib.Core.List.{IsPrefix}
 use Rattle.sal_history.specs.declared.call.Entry.{Entry}
@@ -16,7 +16,7 @@ use Rattle.sal_client.specs.declared.run.ClientRun.{ClientRun as CodeRun}
 use Rattle.sal_client.specs.Clients.{IsSound, client_of}
 use Rattle.sal_client.specs.Runs.{IsProgram}
 
--- Client c with these steps stands at this run: along the log it made the calls that are its own there, and no others.
+-- Client c with these steps is at this run: along the log it made the calls that are its own there, and no others.
 pub record StandsIn (tables : List Versions) (steps : List ScriptStep) (c : ℕ) (log : HubHistory) (own : List Entry) (r : CodeRun) (now : Run) : Type 0 where
   pub number : r.client.number ≡ c
   pub reads : tables ≡ versions_of log.world
@@ -29,7 +29,7 @@ pub record StandsIn (tables : List Versions) (steps : List ScriptStep) (c : ℕ)
 abbrev pub Stands : List Versions → List ScriptStep → SeatView → CodeRun → Run → Type 0
 Stands tables steps v r now = StandsIn tables steps v.number (known v) v.own r now
 
--- the client of a seat has come to its end
+-- the client of a seat has reached its end
 pub record HasEnded (tables : List Versions) (steps : List ScriptStep) (v : SeatView) (r : CodeRun) : Type 0 where
   pub whole : entries_by maker_of v.number v.seen ≡ v.own
   pub at : IsAt tables (known v).world v.number (moves_of steps) v.seen (record { client = client_of r.client; steps = [] })

@@ -23,14 +23,14 @@ pub struct Hall<'a, G> {
     pub gate: &'a G,
 }
 
-/// A client with its seat at the broker: before its first step, and when it has ended or was stopped. It stands where it came to, with its
+/// A client with its seat at the broker: before its first step, and when it has ended or was stopped. It keeps its place and its
 /// replies so far.
 #[derive(Drop)]
 pub struct SeatedRun {
     pub run: ClientRun,
     /// Its seat: none only while it runs.
     pub seat: Option<Seat>,
-    /// Whether it came to the end of its program; of a client before its first step it says nothing.
+    /// Whether it reached the end of its program; of a client before its first step it says nothing.
     pub end: Result<(), RunFault>,
 }
 
@@ -69,8 +69,8 @@ fn run_one<R: Wait, G: Gate>(
 }
 
 /// Takes each client through its program, on a thread of its own. The clients are at their beginning, in one of the programs each,
-/// and their seats have no entries. Each comes to its end or stops: where its seat has seen a full log, or for want of memory. It then
-/// stands where it came to, at its seat. The threads themselves take no memory of `alloc`.
+/// and their seats have no entries. Each reaches its end or stops: where its seat has seen a full log, or for want of memory. It then
+/// keeps its place and its seat. The threads themselves take no memory of `alloc`.
 pub fn run_clients<R: Threads + Wait + Sync, G: Gate>(
     rt: &R,
     alloc: Global,

@@ -55,7 +55,7 @@ pub(crate) fn seat_all(
     Ok(runs)
 }
 
-// What one more client was answered, behind the others.
+// What one more client was answered, after the others.
 fn with_next(replies: Replies, run: ClientRun, end: Result<(), RunFault>) -> Replies
     ensures { (result ≡ with_replies replies end (replies_in run)) ⊎ (result ≡ Err RunFault.NoMemory) }
 {

@@ -3,14 +3,14 @@
 //! | item | what it is |
 //! |---|---|
 //! | `run` | a whole script: each client on a thread, with a seat of its own; then the hub, and what each client was answered |
-//! | `run_clients` | clients that have their seats already, each on a thread, until its program ends or it stops; each then stands where it came to |
+//! | `run_clients` | clients that have their seats already, each on a thread, until its program ends or it stops; each keeps its place |
 //! | `Hall` | where they run: the broker that they share, and what reads their steps |
 //! | `SeatedRun` | a client with its seat, before and after |
 //!
 //! A client answers its local steps by itself, beside all others, and takes a turn at the hub for each shared call. A look for a
 //! mark takes a turn for each time that it looks. What is said holds in whatever order the turns come: the log that they leave
 //! has each client's calls, each once and in its order, and each client's replies are those that the definitions give along it
-//! (`AreLogOf` of `sal_script`). By the laws there this is what the script comes to when it is played in the order of that log.
+//! (`AreLogOf` of `sal_script`). By the laws there this is the result of the script when it is played in the order of that log.
 //!
 //! ```
 //! let ran = run(rt, alloc, &readers, &script, hub, &gate)?;

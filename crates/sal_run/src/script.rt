@@ -21,7 +21,7 @@ use std::alloc::Global;
 use std::sync::Wait;
 use std::thread::Threads;
 
-// The clients where they came to, each on a thread.
+// The clients as they ended, each on a thread.
 fn all_run<R: Threads + Wait + Sync, G: Gate>(
     rt: &R,
     alloc: Global,

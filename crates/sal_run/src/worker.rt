@@ -16,7 +16,7 @@ use sal_types::NoMemory;
 use std::alloc::Global;
 use std::sync::Wait;
 
-// Turns within which each client comes to its end: one for each of its steps, and one more.
+// Turns within which each client reaches its end: one for each of its steps, and one more.
 const MOST_TURNS: usize = 60001;
 
 /// What a client needs to go through its program.
@@ -74,7 +74,7 @@ impl<'a, G: Gate> Worker<'a, G> {
         }
     }
 
-    // Goes on to the next shared call and makes it. False where the program ends first.
+    // Proceeds to the next shared call and makes it. False if the program ends first.
     fn go<R: Wait>(
         &self,
         rt: &R,

@@ -1,4 +1,4 @@
--- Behind the controller's own domain stand those of the devices.
+-- The domains of the devices are after the controller's own.
 use Rattle.std.proofs.Common.{rules, ◌≡◌, ℕ, ◌-◌, ◌<◌, suc, List, length, get_or, Some, ap, sym, ◌∙◌, subst, arith}
 use Rattle.std.proofs.lemmas.List.{length-map}
 use Rattle.serde_json.specs.View.{view}

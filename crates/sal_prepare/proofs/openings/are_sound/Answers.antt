@@ -25,7 +25,7 @@ own_in_order law parts own devices made =
     let rest = bind_ok (each_from table_by 1 parts.devices) (λ tables. Ok (versions_by (tables_of first.0) tables)) (versions_by own devices) first.2 in
     subst AreInOrder (ap (λ ts. versions_in ts 0) (same_ok rest.2)) (law parts.modules parts.upgrades first.0 (schema-ok 0 (versions_of parts.modules parts.upgrades) first.0 first.1))
 
--- what is told of lent schemas is told of these
+-- what holds of lent schemas holds of these
 lent : {xs ys : List (Arc SchemaTable Global)} → xs ≡ ys → All IsTable (tables_in xs) → All IsTable (tables_in ys)
 lent same tables = subst (λ (xs : List (Arc SchemaTable Global)). All IsTable (tables_in xs)) same tables
 

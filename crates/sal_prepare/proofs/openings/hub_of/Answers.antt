@@ -1,4 +1,4 @@
--- The domain that is refused is one of the world, and so the status is told by its schema.
+-- The domain that is refused is one of the world, and so the status is written by its schema.
 use Rattle.std.proofs.Common.{◌≡◌, ℕ, ◌<◌, ◌≤◌, ◌∷◌, List, length, ap, sym, ◌∙◌, subst, arith}
 use Rattle.std.proofs.lemmas.Bool.Decides.{nat_tests}
 use Rattle.std.proofs.lemmas.List.{length-map}

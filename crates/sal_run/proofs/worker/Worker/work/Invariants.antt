@@ -1,4 +1,4 @@
--- The client stands where its turns so far brought it; each took it on by one step at least.
+-- The client is where its turns so far brought it; each moved it by one step at least.
 use Rattle.std.proofs.Common.{◌≤◌, length}
 use Rattle.sal_broker.specs.Turns.{Keeps}
 use Rattle.sal_client.specs.Runs.{run_of}

@@ -28,7 +28,7 @@ fn count_up(alloc: Global, hub: &mut Hub, counter: &Counter) -> anyhow::Result<(
 
 // A transaction that puts the number after the last one.
 fn counted_up(alloc: Global, hub: &mut Hub, counter: &Counter) -> anyhow::Result<WriteTx>
-    ensures { IfOk result (λ tx. IsBegun hub.new tx.begun tx.base) }
+    ensures { IfOk result (λ tx. IsBegun hub.new tx.begun tx.mode tx.base) }
 {
     let mut tx = begin(alloc, hub)?;
     counter.count_up(alloc, &mut tx)?;
@@ -37,7 +37,7 @@ fn counted_up(alloc: Global, hub: &mut Hub, counter: &Counter) -> anyhow::Result
 
 // Begins a transaction that reads and writes.
 fn begin(alloc: Global, hub: &mut Hub) -> anyhow::Result<WriteTx>
-    ensures { IfOk result (λ tx. IsBegun hub.new tx.begun tx.base) }
+    ensures { IfOk result (λ tx. IsBegun hub.new tx.begun tx.mode tx.base) }
 {
     match hub.begin(alloc, CLIENT, 0, Mode::Rw)? {
         Tx::Write(tx) => Ok(tx),
@@ -47,7 +47,7 @@ fn begin(alloc: Global, hub: &mut Hub) -> anyhow::Result<WriteTx>
 
 // Submits the transaction.
 fn submit(alloc: Global, hub: &mut Hub, tx: WriteTx) -> anyhow::Result<Receipt>
-    requires { IsBegun hub.old tx.begun tx.base }
+    requires { IsBegun hub.old tx.begun tx.mode tx.base }
     ensures { IfOk result (IsGiven hub.new) }
 {
     match hub.submit(alloc, CLIENT, tx) {

@@ -5,6 +5,7 @@ pub use Rattle.sal_broker.specs.Looks
 pub use Rattle.sal_broker.specs.Seats
 pub use Rattle.sal_broker.specs.Turns
 pub use Rattle.sal_hub.specs.Answers
+pub use Rattle.sal_hub.specs.Begins
 pub use Rattle.sal_hub.specs.HubHistory
 pub use Rattle.sal_hub.specs.Listeners
 pub use Rattle.sal_hub.specs.Marks

@@ -1,5 +1,6 @@
 -- The tokens that a caller has stay tokens, whoever makes the entries behind.
 use Rattle.std.specs.Prelude.{List}
+use Rattle.sal_rows.specs.declared.outcome.Mode.{Mode}
 use Rattle.sal_tree.specs.declared.commit.Pair.{Pair}
 use Rattle.sal_tx.specs.declared.begun.Begun.{Begun}
 use Rattle.sal_history.specs.declared.call.Entry.{Entry}
@@ -18,7 +19,7 @@ with_log known log = record { world = known.world; log = log }
 
 -- the tokens of the one hub are tokens of the other
 pub record TokensStay (old new : HubHistory) : Type 0 where
-  pub begun : (begun : Begun) (base : Pair) → IsBegun old begun base → IsBegun new begun base
+  pub begun : (begun : Begun) (mode : Mode) (base : Pair) → IsBegun old begun mode base → IsBegun new begun mode base
   pub given : (receipt : Receipt) → IsGiven old receipt → IsGiven new receipt
   pub opened : (chain : Chain) → IsChain old chain → IsChain new chain
   pub listener : (id : ListenerId) → IsListener old id → IsListener new id

@@ -51,7 +51,7 @@ impl Sal {
         tx: WriteTx,
     ) -> Result<Receipt, (WriteTx, CallFault)>
         requires seat { seat.old.lock ≡ self.now }
-        requires token { IsBegun (known seat.old.view) tx.begun tx.base }
+        requires token { IsBegun (known seat.old.view) tx.begun tx.mode tx.base }
         ensures same { Keeps self.now seat.old seat.new }
         ensures turn { InTurn seat.old.view seat.new.view (λ client found left. CallsOr found left (entry_of found client (Submit tx.begun.place tx.changes)) (λ (receipt : Given). Numbered receipt.number) tx result) }
         ensures given { IfOk result (IsGiven (known seat.new.view)) }

@@ -86,8 +86,8 @@ impl Held {
     }
 
     pub(crate) fn knows_write(&self, tx: &WriteTx)
-        requires { IsBegun (known self.now.view) tx.now.begun tx.now.base }
-        ensures { IsBegun self.now.found tx.now.begun tx.now.base }
+        requires { IsBegun (known self.now.view) tx.now.begun tx.now.mode tx.now.base }
+        ensures { IsBegun self.now.found tx.now.begun tx.now.mode tx.now.base }
     {
         self.keeps_tokens();
     }

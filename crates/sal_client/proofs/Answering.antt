@@ -97,7 +97,7 @@ now_version world log e =
     ∙ version_at-now past
 
 -- it is by the version that was present at the begin
-pub begun_by : {known known' : HubHistory} {e : Entry} {answer : Reply} (domain : ℕ) (begun : Begun) (trees : Pair) → Made known known' e answer → IsBegun known' begun trees → begun.place ≡ length known.log → begun.domain ≡ domain
+pub begun_by : {known known' : HubHistory} {e : Entry} {answer : Reply} {under : Mode} (domain : ℕ) (begun : Begun) (trees : Pair) → Made known known' e answer → IsBegun known' begun under trees → begun.place ≡ length known.log → begun.domain ≡ domain
     → begun.version ≡ version_for domain (schema_version (history known.world known.log))
 begun_by {known} {known'} {e} {answer} domain begun trees made is place of =
     let now : version_at (history known.world (known.log ++ e ∷ [])) (length known.log) ≡ schema_version (history known.world known.log) =

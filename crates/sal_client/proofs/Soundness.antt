@@ -6,6 +6,7 @@ use Rattle.std.proofs.lemmas.Bool.Decides.{nat_tests}
 use Rattle.std.proofs.lemmas.List.Sums.{sum_by-cons}
 use Rattle.std.proofs.lemmas.Option.{same_Some}
 use Rattle.sal_types.specs.declared.value.Store.{Store}
+use Rattle.sal_rows.specs.declared.outcome.Mode.{Mode}
 use Rattle.sal_tree.specs.declared.commit.Pair.{Pair}
 use Rattle.sal_tx.specs.declared.begun.Begun.{Begun}
 use Rattle.sal_tx.specs.declared.tx.Tx.{Tx}
@@ -22,7 +23,7 @@ use Rattle.sal_hub.specs.declared.call_id.CallId.{CallId}
 use Rattle.sal_hub.specs.declared.chain.Chain.{Chain}
 use Rattle.sal_hub.specs.declared.receipt.Receipt.{Receipt}
 use Rattle.sal_hub.specs.HubHistory.{HubHistory, more}
-use Rattle.sal_hub.specs.Tokens.{IsBegun, IsCall, IsChain, IsGiven, begun_of, base_of}
+use Rattle.sal_hub.specs.Tokens.{IsBegun, IsCall, IsChain, IsGiven, begun_of, base_of, mode_of}
 use Rattle.sal_client.specs.declared.client.ClientState.{ClientState}
 use Rattle.sal_client.specs.declared.follower.Follower.{Follower}
 use Rattle.sal_client.specs.Clients.{HasSchema, IsOwn, IsSound, IsSteady, IsWithin}
@@ -34,7 +35,7 @@ use Rattle.sal_client.proofs.Places.{each_emptied, each_filled}
 
 -- the laws of the hub's tokens
 abbrev pub BegunLasts : Type 0
-BegunLasts = (known : HubHistory) (e : Entry) (begun : Begun) (base : Pair) → IsBegun known begun base → IsBegun (more known e) begun base
+BegunLasts = (known : HubHistory) (e : Entry) (begun : Begun) (mode : Mode) (base : Pair) → IsBegun known begun mode base → IsBegun (more known e) begun mode base
 
 abbrev pub GivenLasts : Type 0
 GivenLasts = (known : HubHistory) (e : Entry) (receipt : Receipt) → IsGiven known receipt → IsGiven (more known e) receipt
@@ -62,7 +63,7 @@ none_of e later c none = by (nat_eq e.client c) refl (sym (sum_by-cons (λ (x : 
 
 module _ (lasts : TokensLast) where
   IsOwn-more : (known : HubHistory) (e : Entry) (tx : Tx) → IsOwn known tx → IsOwn (more known e) tx
-  IsOwn-more known e tx is = record { token = lasts.0 known e (begun_of tx) (base_of tx) is.token; within = is.within }
+  IsOwn-more known e tx is = record { token = lasts.0 known e (begun_of tx) (mode_of tx) (base_of tx) is.token; within = is.within }
 
   -- whatever the entry
   pub IsSteady-more : (known : HubHistory) (e : Entry) (c : ClientState) → IsSteady known c → IsSteady (more known e) c
@@ -113,7 +114,7 @@ HasSchema-sound tables known c is of k tx at =
     }
 
 -- the trees that are a transaction's base
-pub based : (known : HubHistory) (begun : Begun) (trees : Pair) → IsBegun known begun trees → (s : Store) → base_tree known.world known.log begun.place s ≡ rows_in trees s
+pub based : {mode : Mode} (known : HubHistory) (begun : Begun) (trees : Pair) → IsBegun known begun mode trees → (s : Store) → base_tree known.world known.log begun.place s ≡ rows_in trees s
 based known begun trees is s = ap (λ (b : Option Base). (unwrap_or b nowhere).trees s) is.began
 
 -- ---- one slot changed

@@ -5,6 +5,7 @@ use Rattle.sal_types.specs.declared.value.Store.{Store}
 use Rattle.sal_rows.specs.declared.op.Op.{Op}
 use Rattle.sal_rows.specs.Apply.{apply_ops}
 use Rattle.sal_schema.specs.declared.table.SchemaTable.{SchemaTable}
+use Rattle.sal_rows.specs.declared.outcome.Mode.{Mode}
 use Rattle.sal_tree.specs.declared.commit.Pair.{Pair}
 use Rattle.sal_tx.specs.declared.begun.Begun.{Begun}
 use Rattle.sal_tx.specs.declared.tx.Tx.TheVariants.{Write}
@@ -89,7 +90,9 @@ IsOwn-written known old own op new (Ok u) outcome err =
     let begun : new.begun ≡ old.begun = has.1 in
     let base : new.base ≡ old.base = has.3 in
     record {
-      token = subst (λ (b : Begun). IsBegun known b new.base) (sym begun) (subst (λ (t : Pair). IsBegun known old.begun t) (sym base) own.token);
+      token =
+          subst (λ (b : Begun). IsBegun known b new.mode new.base) (sym begun)
+          (subst (λ (t : Pair). IsBegun known old.begun new.mode t) (sym base) (subst (λ (m : Mode). IsBegun known old.begun m old.base) (sym has.2) own.token));
       within = subst (λ (b : Begun). IsWithin (length known.world) b.domain) (sym begun) own.within;
     }
 IsOwn-written known old own op new (Err fault) outcome err = subst (λ (w : Writing). IsOwn known (Write w)) (sym err) (own_refused known op.store fault old own)

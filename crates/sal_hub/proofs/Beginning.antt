@@ -1,6 +1,6 @@
 -- Calls that decide nothing, and transactions that begin: what is kept stays, and the transaction is one that the log gives.
 use Rattle.std.proofs.Common.{◌≡◌, ℕ, ◌<◌, true, false, List, [], ◌∷◌, length, map, None, Some, ap, sym, ◌∙◌, subst, arith, length-append, if◌then◌else◌, refl}
-use Rattle.std.specs.Prelude.{slice_get, option_and_then}
+use Rattle.std.specs.Prelude.{slice_get}
 use Rattle.sal_types.specs.declared.value.Store.{Store}
 use Rattle.sal_rows.specs.declared.outcome.Mode.{Mode}
 use Rattle.sal_rows.specs.declared.outcome.CallFault.TheVariants.{NoDomain}
@@ -29,11 +29,11 @@ use Rattle.sal_hub.specs.Current.{IsCurrent, IsKept, answers, known_of, number_o
 use Rattle.sal_hub.specs.Journals.{Noted, jotted, mark_at}
 use Rattle.sal_hub.specs.PipelineView.{IsStored, is_live_in, queue_of, shown, world_in}
 use Rattle.sal_hub.specs.Starts.{IsNewest, Starts}
-use Rattle.sal_hub.specs.Tokens.{IsBegun, IsToken, base_of, begun_of}
+use Rattle.sal_hub.specs.Begins.{mode_at, mode_by, on_at, on_by}
+use Rattle.sal_hub.specs.Tokens.{IsBegun, IsToken, base_of, begun_of, mode_of}
 use Rattle.sal_hub.proofs.Deciding.{opening-at}
-use Rattle.sal_hub.proofs.Histories.{history-push, length-history, now_of}
+use Rattle.sal_hub.proofs.Histories.{found-last, history-push, length-history, now_of}
 use Rattle.sal_hub.proofs.Keeping.{commits-current, quiet}
-use Rattle.sal_hub.proofs.Listed.{slice_get_seam}
 use Rattle.sal_hub.proofs.Starting.{same_rows}
 use Rattle.sal_hub.proofs.Versioned.{schema-present, version-present}
 
@@ -65,16 +65,17 @@ module _ (journal journal' : Noted) (p : Pipeline) (is : IsKept journal p) (clie
   made_now r room reply = record { room = room; log = λ i. record { world = w; log = log i }; reply = reply }
 
   -- the transaction that it begins
-  pub token_now : (begun : Token) (base : Pair) → begun.place ≡ length journal.log
+  pub token_now : (begun : Token) (under : Mode) (base : Pair) → begun.place ≡ length journal.log
       → began_by (world_in (queue_of p).domains) (answers journal.log (queue_of p)) call (reply_to (world_in (queue_of p).domains) (answers journal.log (queue_of p)) client call) ≡ Some (record { domain = begun.domain; commit = begun.base_commit; chain = begun.chain; trees = rows_in base })
-      → begun.schema.value ≡ world.table_of (world_in (queue_of p).domains) begun.version begun.domain → begun.version ≡ number_of (schema_version (answers journal.log (queue_of p))) begun.domain → IsBegun (known_of journal' p) begun base
-  token_now begun base place began schema version = record {
+      → begun.schema.value ≡ world.table_of (world_in (queue_of p).domains) begun.version begun.domain → begun.version ≡ number_of (schema_version (answers journal.log (queue_of p))) begun.domain
+      → mode_by call ≡ Some under → on_by (reply_to (world_in (queue_of p).domains) (answers journal.log (queue_of p)) client call) ≡ Some begun.on → IsBegun (known_of journal' p) begun under base
+  token_now begun under base place began schema version mode on = record {
     before = omega (arith, place, ap length log, length-append journal.log (entry ∷ []));
-    began =
-        (λ i. began_at (history w (log i)) (place i)) ∙ (λ i. began_at (history-push w journal.log entry i) (sym (length-history w journal.log) i))
-        ∙ ap (option_and_then (λ (a : Answered). a.began)) (slice_get_seam answered (now_of w answered entry) []) ∙ began;
+    began = (λ i. began_at (history w (log i)) (place i)) ∙ found-last w (λ (a : Answered). a.began) journal.log entry ∙ began;
     schema = schema;
     version = version ∙ ap (λ v. number_of v begun.domain) (sym version_there);
+    mode = (λ i. mode_at (history w (log i)) (place i)) ∙ found-last w (λ (a : Answered). mode_by a.entry.call) journal.log entry ∙ mode;
+    on = (λ i. on_at (history w (log i)) (place i)) ∙ found-last w (λ (a : Answered). on_by a.reply) journal.log entry ∙ on;
   }
     where
       -- the version at its place is the present one
@@ -136,13 +137,14 @@ module _ (journal journal' : Noted) (p : Pipeline) (is : IsKept journal p) (clie
     trees : (s : Store) → rows_in (base_of tx) s ≡ trees_of there so_far domain s
     trees s = ap (λ (x : Pair). rows_in x s) starts.base ∙ same_rows footing.trees s ∙ newest_trees journal p is domain d at footing newest s
 
+    pub begin_reply : reply_to (world_in (queue_of p).domains) (answers journal.log (queue_of p)) client (Begin domain mode) ≡ Begun (begun_of tx).base_commit (begun_of tx).on
+    begin_reply = reply_live ∙ (λ i. Begun (sym commit i) (sym (starts.on ∙ newest.alone) i))
+
     pub begin_token : IsToken (known_of journal' p) tx
     begin_token =
-        token_now journal journal' p is client (Begin domain mode) log (begun_of tx) (base_of tx) starts.place
+        token_now journal journal' p is client (Begin domain mode) log (begun_of tx) (mode_of tx) (base_of tx) starts.place
         (ap (began_by there so_far (Begin domain mode)) reply_live
         ∙ (λ i. Some (let b : Base = record { domain = sym number i; commit = sym commit i; chain = sym starts.chain i; trees = λ s. sym (trees s) i } in b)))
         (starts.schema ∙ schema-present journal p is domain d at ∙ (λ i. world.table_of there (sym starts.version i) (sym number i)))
         (starts.version ∙ version-present journal p is domain d at ∙ ap (number_of (schema_version so_far)) (sym number))
-
-    pub begin_reply : reply_to (world_in (queue_of p).domains) (answers journal.log (queue_of p)) client (Begin domain mode) ≡ Begun (begun_of tx).base_commit (begun_of tx).on
-    begin_reply = reply_live ∙ (λ i. Begun (sym commit i) (sym (starts.on ∙ newest.alone) i))
+        (ap Some (sym starts.mode)) (ap on_by begin_reply)

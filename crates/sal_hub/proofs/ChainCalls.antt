@@ -35,7 +35,8 @@ use Rattle.sal_hub.specs.Journals.{Noted, jotted, mark_at}
 use Rattle.sal_hub.specs.HubHistory.{HubHistory, more}
 use Rattle.sal_hub.specs.PipelineView.{AllKept, IsSound, PipelineView, is_live_in, queue_of, sent_of, shown, world_in}
 use Rattle.sal_hub.specs.Starts.{Starts}
-use Rattle.sal_hub.specs.Tokens.{IsChain, IsFresh, IsToken, base_of, begun_of}
+use Rattle.sal_hub.specs.Begins.{on_by}
+use Rattle.sal_hub.specs.Tokens.{IsChain, IsFresh, IsToken, base_of, begun_of, mode_of}
 use Rattle.sal_hub.proofs.Beginning.{made_now, newest_commit, newest_trees, quiet_kept, token_now}
 use Rattle.sal_hub.proofs.Chained.{adds_even, chains_now, steady}
 use Rattle.sal_hub.proofs.Deciding.{versions-same}
@@ -324,8 +325,9 @@ module _ (journal : Noted) (p : Pipeline) (is : IsKept journal p) (cs : Chains) 
 
     pub next_token : IsToken (known_of journal' p) tx
     next_token =
-        token_now journal journal' p is client (ChainBegin chain.id mode) log (begun_of tx) (base_of tx) starts.place began_is
+        token_now journal journal' p is client (ChainBegin chain.id mode) log (begun_of tx) (mode_of tx) (base_of tx) starts.place began_is
         (starts.schema ∙ schema-present journal p is chain.domain d at ∙ (λ i. world.table_of there (sym starts.version i) (sym number i))) (starts.version ∙ version-present journal p is chain.domain d at ∙ ap (number_of (schema_version so_far)) (sym number))
+        (ap Some (sym starts.mode)) (ap on_by next_reply)
 
     pub next_chains : (cs' : Chains) → cs'.domains.items ≡ cs.domains.items → cs'.closed.items ≡ cs.closed.items → cs'.begun.items ≡ noted_with cs.begun.items (Some chain.id) (length journal.log) → cs'.sent.items ≡ cs.sent.items → AreChains (known_of journal' p) cs'
     next_chains cs' domains closed begun sents_same =

@@ -1,6 +1,6 @@
 -- What one more entry does to the answered log.
-use Rattle.std.proofs.Common.{◌≡◌, ℕ, ◌+◌, ◌<◌, ◌≤◌, Bool, true, false, List, [], ◌∷◌, ◌++◌, length, Option, None, Some, refl, ap, ◌∙◌, arith, append-nil, length-append, if◌then◌else◌}
-use Rattle.std.specs.Prelude.{option_and_then, ◌||◌}
+use Rattle.std.proofs.Common.{◌≡◌, ℕ, ◌+◌, ◌<◌, ◌≤◌, Bool, true, false, List, [], ◌∷◌, ◌++◌, length, Option, None, Some, refl, ap, sym, ◌∙◌, arith, append-nil, length-append, if◌then◌else◌}
+use Rattle.std.specs.Prelude.{option_and_then, slice_get, ◌||◌}
 use Rattle.std.specs.Option.{option_or, option_to_list}
 use Rattle.std.specs.List.{fold, list_any}
 use Rattle.std.proofs.lemmas.Grind.{flat_map-append}
@@ -15,7 +15,7 @@ use Rattle.sal_history.specs.World.{Domain}
 use Rattle.sal_history.specs.History.{Answered, answer, answered_as, began_at, begins_in, chain_domains, closes, decided_by, history, is_closed, is_live, is_marked, is_spent, last_begun, marks, opened_chain, outcomes, reply_to, sent_by, sents, spends}
 use Rattle.sal_history.specs.Services.{mount_call, mounting, note_asked, note_calls, rpc_asked, rpc_calls}
 use Rattle.sal_history.specs.Submissions.{Sent}
-use Rattle.sal_hub.proofs.Listed.{slice_get_left}
+use Rattle.sal_hub.proofs.Listed.{found_more, slice_get_left, slice_get_seam}
 use Rattle.sal_hub.proofs.Members.{last_from-push}
 pub use Rattle.sal_types.proofs.Shared.{listed}
 
@@ -97,6 +97,16 @@ module _ (world : List Domain) where
   began_at-push log e place h =
       let within : place < length (history world log) = omega (arith, length-history log, h) in
       ap (λ (a : List Answered). began_at a place) (history-push log e) ∙ ap (option_and_then (λ (a : Answered). a.began)) (slice_get_left (history world log) (now_of (history world log) e ∷ []) place within)
+
+  -- what the entry at a place has, it has in a longer log
+  pub found-push : {X : Type 0} (f : Answered → Option X) (log : List Entry) (e : Entry) (place : ℕ) (x : X) → option_and_then f (slice_get (history world log) place) ≡ Some x → option_and_then f (slice_get (history world (log ++ e ∷ [])) place) ≡ Some x
+  found-push f log e place x is =
+      ap (λ (answered : List Answered). option_and_then f (slice_get answered place)) (history-push log e) ∙ found_more f (history world log) (now_of (history world log) e ∷ []) place x is
+
+  -- what the last entry has
+  pub found-last : {X : Type 0} (f : Answered → Option X) (log : List Entry) (e : Entry) → option_and_then f (slice_get (history world (log ++ e ∷ [])) (length log)) ≡ f (now_of (history world log) e)
+  found-last f log e =
+      (λ i. option_and_then f (slice_get (history-push log e i) (sym (length-history log) i))) ∙ ap (option_and_then f) (slice_get_seam (history world log) (now_of (history world log) e) [])
 
   pub begun-push : (log : List Entry) (e : Entry) (id : ℕ) → last_begun (history world (log ++ e ∷ [])) id ≡ option_or (if begins_in id (now_of (history world log) e) then Some (length log) else None) (last_begun (history world log) id)
   begun-push log e id =

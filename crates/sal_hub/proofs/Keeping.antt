@@ -1,28 +1,31 @@
 -- What is kept stays the log's with each call.
 use Rattle.std.proofs.Common.{◌≡◌, ℕ, ◌+◌, ◌≤◌, ◌<◌, Bool, true, false, List, [], ◌∷◌, ◌++◌, length, map, Option, None, Some, refl, ap, sym, ◌∙◌, subst, arith, append-nil, length-append, inl, inr}
-use Rattle.std.specs.Prelude.{◌||◌, slice_get}
+use Rattle.std.specs.Prelude.{◌||◌, slice_get, unwrap_or}
 use Rattle.std.specs.Option.{option_to_list}
 use Rattle.std.proofs.lemmas.List.{drop-append-le, length-map, map-append}
 use Rattle.std.proofs.lemmas.Option.{none-some}
 use Rattle.sal_rows.specs.declared.op.Op.{Op}
 use Rattle.sal_rows.specs.declared.outcome.Outcome.{Outcome}
 use Rattle.sal_tx.specs.declared.tx.Submission.{Submission}
+use Rattle.sal_history.specs.declared.call.Call.TheVariants.{Submit}
 use Rattle.sal_history.specs.declared.call.Entry.{Entry}
 use Rattle.sal_history.specs.declared.reply.Reply.{Reply}
+use Rattle.sal_history.specs.declared.reply.Reply.TheVariants.{Receipt}
 use Rattle.sal_history.specs.World.{Domain, OneIsUpgraded, table_of}
 use Rattle.sal_history.specs.Versions.{schema_version, tables_now, upgraded}
 use Rattle.sal_history.proofs.Versions.{schema_version-same}
-use Rattle.sal_history.specs.History.{Answered, chain_domains, commits, decided_by, history, is_live, is_spent, opened_chain, outcomes, reply_to, sent_by, sents, spends}
+use Rattle.sal_history.specs.History.{Answered, began_at, chain_domains, commits, decided_by, history, is_live, is_spent, nowhere, opened_chain, outcomes, reply_to, sent_by, sents, spends}
 use Rattle.sal_history.specs.Services.{mount_call}
 use Rattle.sal_history.specs.Submissions.{Sent, done_chains, done_ops}
 use Rattle.sal_history_laws.proofs.Versions.{sents_stay_lawful}
 use Rattle.sal_history_laws.specs.Logs.{AreSentLawful, AreSound, IsSentLawful}
+use Rattle.sal_hub.specs.Begins.{AreByWriters, BeganToWrite, mode_by}
 use Rattle.sal_hub.specs.Current.{IsCurrent, answers, number_of}
 use Rattle.sal_hub.specs.Journals.{mark_at}
 use Rattle.sal_hub.specs.CommitReceipts.{commit_receipts}
 use Rattle.sal_hub.specs.PipelineView.{IsSound, KeepVersions, PipelineView, Stands, chains_in, commits_in, is_live_in, opened_as, receipts_in, sent_of, table_in, version_of, world_in}
 use Rattle.sal_hub.proofs.Deciding.{count_is, done-submit, versions-same}
-use Rattle.sal_hub.proofs.Histories.{chains-push, history-push, live-quiet, now_of, outcomes-push, sents-push, spent-push}
+use Rattle.sal_hub.proofs.Histories.{chains-push, found-push, history-push, length-history, live-quiet, now_of, outcomes-push, sents-push, spent-push}
 use Rattle.sal_hub.proofs.Listed.{last_or_before}
 use Rattle.sal_hub.proofs.Members.{failing-submit}
 use Rattle.sal_hub.proofs.Numbered.{receipts-submit}
@@ -63,11 +66,17 @@ module _ (log : List Entry) (marks : List Bool) (queue : PipelineView) (was : Is
   pub still_version : upgraded e.call (reply_to (world_in queue.domains) (answers log queue) e.client e.call) ≡ false → schema_version (history (world_in queue.domains) (log ++ e ∷ [])) ≡ schema_version (answers log queue)
   still_version none = ap schema_version (history-push world log e) ∙ schema_version-same answered (now_of world answered e) none
 
+  -- what the call submits, if anything, is of a transaction that began in a mode that writes
+  abbrev pub IsOfWriter : Type 0
+  IsOfWriter =
+      (place number : ℕ) (ops : List Op) → e.call ≡ Submit place ops → reply_to (world_in queue.domains) (answers log queue) e.client e.call ≡ Receipt number → (place < length log) × BeganToWrite (answers log queue) place
+
   -- what the call submits, if anything: the submissions with it, and its operations, which are lawful
   abbrev pub Adds : PipelineView → Type 0
   Adds queue' =
       IsSound (sents (answers log queue) ++ option_to_list (sent_by (answers log queue) e.call (reply_to (world_in queue.domains) (answers log queue) e.client e.call))) queue'
       × ((s : Sent) → sent_by (answers log queue) e.call (reply_to (world_in queue.domains) (answers log queue) e.client e.call) ≡ Some s → IsSentLawful (tables_now (world_in queue.domains) (answers log queue)) s)
+      × IsOfWriter
 
   -- a call that submits nothing
   pub unsent : (queue' : PipelineView) → sent_by (answers log queue) e.call (reply_to (world_in queue.domains) (answers log queue) e.client e.call) ≡ None → IsSound (sents (answers log queue)) queue'
@@ -75,6 +84,7 @@ module _ (log : List Entry) (marks : List Bool) (queue : PipelineView) (was : Is
   unsent queue' none sound = (
     subst (λ (ss : List Sent). IsSound ss queue') (sym (append-nil (sents answered)) ∙ ap (λ (o : Option Sent). sents answered ++ option_to_list o) (sym none)) sound,
     λ s e. absurd (none-some s (sym none ∙ e)),
+    λ place number ops is_call is_reply. let s : Sent = record { base = unwrap_or (began_at answered place) nowhere; ops = ops } in absurd (none-some s (sym none ∙ (λ i. sent_by answered (is_call i) (is_reply i)))),
   )
 
   -- with it, the submissions of the log are lawful, whether the call is an upgrade or not
@@ -91,6 +101,25 @@ module _ (log : List Entry) (marks : List Bool) (queue : PipelineView) (was : Is
         | inl old ↦ was.lawful i s old
         | inr w ↦ new s (is ∙ ap Some w.1)
       ]
+
+  -- and each is of a transaction that began in a mode that writes
+  pub writers-push : IsOfWriter → AreByWriters (history (world_in queue.domains) (log ++ e ∷ []))
+  writers-push new k place number ops a at is_call is_reply =
+      elim (last_or_before answered (now_of world answered e) a k (ap (λ (xs : List Answered). slice_get xs k) (sym (history-push world log e)) ∙ at)) [
+        | inl old ↦ let had = was.writers k place number ops a old is_call is_reply in (had.0, later had.1)
+        | inr w ↦
+            let had = new place number ops (ap (λ (x : Answered). x.entry.call) w.1 ∙ is_call) (ap (λ (x : Answered). x.reply) w.1 ∙ is_reply) in
+            (omega (arith, had.0, w.0, length-history world log), later had.1)
+      ]
+    where
+      later : BeganToWrite answered place → BeganToWrite (history world (log ++ e ∷ [])) place
+      later b = record {
+        mode = b.mode;
+        base = b.base;
+        asked = found-push world (λ (x : Answered). mode_by x.entry.call) log e place b.mode b.asked;
+        writes = b.writes;
+        began = found-push world (λ (x : Answered). x.began) log e place b.base b.began;
+      }
 
   long : (queue' : PipelineView) → world_in queue'.domains ≡ world_in queue.domains → length queue'.domains ≡ length queue.domains
   long queue' same = sym (length-map queue'.domains opened_as) ∙ ap length same ∙ length-map queue.domains opened_as
@@ -118,6 +147,7 @@ module _ (log : List Entry) (marks : List Bool) (queue : PipelineView) (was : Is
         ∙ (λ i. length (chain_domains (history (sym same i) (log ++ e ∷ []))));
     live = λ n. live n ∙ (λ i. is_live (sym same i) (history (sym same i) (log ++ e ∷ [])) n);
     lawful = subst (λ (w : List Domain). AreSentLawful w (history w (log ++ e ∷ []))) (sym same) (lawful-push adds.1);
+    writers = subst (λ (w : List Domain). AreByWriters (history w (log ++ e ∷ []))) (sym same) (writers-push adds.2);
     openings = subst AreSound (sym same) was.openings;
     only = subst OneIsUpgraded (sym same) was.only;
     tables = λ n. tables n ∙ (λ i. tables_now (sym same i) (history (sym same i) (log ++ e ∷ [])) n);

@@ -1,6 +1,6 @@
 -- Lists looked at by index.
-use Rattle.std.proofs.Common.{◌≡◌, ℕ, zero, suc, ◌+◌, ◌<◌, ◌≤◌, List, [], ◌∷◌, ◌++◌, drop, length, get_or, set, take, None, Some, refl, ap, sym, ◌∙◌, arith, append_assoc, length-append, inl, inr, ◌⊎◌}
-use Rattle.std.specs.Prelude.{slice_get}
+use Rattle.std.proofs.Common.{◌≡◌, ℕ, zero, suc, ◌+◌, ◌<◌, ◌≤◌, List, [], ◌∷◌, ◌++◌, drop, length, get_or, set, take, Option, None, Some, refl, ap, sym, ◌∙◌, arith, append_assoc, length-append, inl, inr, ◌⊎◌}
+use Rattle.std.specs.Prelude.{option_and_then, slice_get}
 use Rattle.std.proofs.lemmas.Option.{same_Some}
 use Rattle.std.proofs.Math.Seq.{take-append_seam}
 use Rattle.sal_hub.specs.PipelineView.{Grows}
@@ -49,6 +49,12 @@ slice_get_more (y ∷ xs) ys (suc k) x e = slice_get_more xs ys k x e
 pub slice_get_seam : {X : Type 0} (xs : List X) (y : X) (ys : List X) → slice_get (xs ++ y ∷ ys) (length xs) ≡ Some y
 slice_get_seam [] y ys = refl
 slice_get_seam (x ∷ xs) y ys = slice_get_seam xs y ys
+
+-- what is found at an index of a list is found there in a longer one
+pub found_more : {X Y : Type 0} (f : X → Option Y) (xs ys : List X) (k : ℕ) (y : Y) → option_and_then f (slice_get xs k) ≡ Some y → option_and_then f (slice_get (xs ++ ys) k) ≡ Some y
+found_more f [] ys k y e = cc
+found_more f (x ∷ xs) ys zero y e = e
+found_more f (x ∷ xs) ys (suc k) y e = found_more f xs ys k y e
 
 -- what stands behind the first ones
 pub slice_get-drop : {X : Type 0} (xs : List X) (k i : ℕ) → slice_get (drop k xs) i ≡ slice_get xs (k + i)

@@ -16,6 +16,7 @@ use Rattle.sal_tx.specs.declared.writing.Writing.{Writing}
 use Rattle.sal_tx.specs.Views.{AreLawful, IsRight, Shows, rows_in as tx_rows}
 use Rattle.sal_tx.proofs.Nexts.{lie_below}
 use Rattle.sal_commit.specs.declared.domain.Domain.{Domain}
+use Rattle.sal_history.specs.declared.call.Call.{Call}
 use Rattle.sal_history.specs.declared.call.Call.TheVariants.{Submit}
 use Rattle.sal_history.specs.declared.call.Entry.{Entry}
 use Rattle.sal_history.specs.declared.reply.Reply.{Reply}
@@ -29,6 +30,7 @@ use Rattle.sal_history_laws.proofs.Versions.{later_lawful}
 use Rattle.sal_history_laws.specs.Logs.{IsSentLawful}
 use Rattle.sal_hub.specs.declared.pipeline.Pipeline.{Pipeline}
 use Rattle.sal_hub.specs.Answers.{Fails, Made}
+use Rattle.sal_hub.specs.Begins.{BeganToWrite}
 use Rattle.sal_hub.specs.Current.{IsCurrent, IsKept, answers, known_of}
 use Rattle.sal_hub.specs.Failures.{IsWithin}
 use Rattle.sal_hub.specs.Journals.{Noted, jotted, mark_at}
@@ -135,7 +137,7 @@ given_domain journal p is i s at = ap (option_map (λ (t : Sent). t.base.domain)
 
 -- ---- a submission more
 
-module _ (journal journal' : Noted) (p p' : Pipeline) (is : IsKept journal p) (client : ℕ) (tx : Writing) (token : IsBegun (known_of journal p) tx.begun tx.base) (right : IsRight tx) (view : Option Pair) (shown_so : IfSome view (Shows tx.base tx.changes)) (log : journal'.log ≡ jotted journal.log client (Submit tx.begun.place tx.changes)) (open_now : refusal_of (p.gone + length p.waiting.items - length p.outcomes.items) (mark_at journal.marks tx.begun.place) ≡ None)
+module _ (journal journal' : Noted) (p p' : Pipeline) (is : IsKept journal p) (client : ℕ) (tx : Writing) (token : IsBegun (known_of journal p) tx.begun tx.mode tx.base) (right : IsRight tx) (view : Option Pair) (shown_so : IfSome view (Shows tx.base tx.changes)) (log : journal'.log ≡ jotted journal.log client (Submit tx.begun.place tx.changes)) (open_now : refusal_of (p.gone + length p.waiting.items - length p.outcomes.items) (mark_at journal.marks tx.begun.place) ≡ None)
     (member : IsWithin (length p.failures.items) tx.begun.chain) (domains : p'.domains ≡ p.domains) (failures_same : p'.failures ≡ p.failures) (outcomes_same : p'.outcomes ≡ p.outcomes) (as_gone : p'.gone ≡ p.gone) (waits : p'.waiting.items ≡ p.waiting.items ++ submission_of tx (p.gone + length p.waiting.items + 1) view ∷ []) (marks : (k : ℕ) → mark_at journal'.marks k ≡ (nat_eq tx.begun.place k || mark_at journal.marks k)) where
   abbrev new_world : List world.Domain
   new_world = world_in (queue_of p).domains
@@ -193,10 +195,22 @@ module _ (journal journal' : Noted) (p p' : Pipeline) (is : IsKept journal p) (c
   lawful_now : (s : Sent) → sent_by before (Submit tx.begun.place tx.changes) (reply_to new_world before client (Submit tx.begun.place tx.changes)) ≡ Some s → IsSentLawful (tables_now new_world before) s
   lawful_now s e = subst (IsSentLawful (tables_now new_world before)) (same_Some (sent_of sub) s (sym sent_now ∙ e)) sub_lawful
 
+  abbrev submits : Call → Option ℕ
+  submits (Submit place ops) = Some place
+  submits call = None
+
+  -- its transaction began in a mode that writes
+  writer_now : (place number : ℕ) (ops : List Op) → Submit tx.begun.place tx.changes ≡ Submit place ops → reply_to new_world before client (Submit tx.begun.place tx.changes) ≡ Receipt number → (place < length journal.log) × BeganToWrite before place
+  writer_now place number ops is reply =
+      let same : tx.begun.place ≡ place = same_Some tx.begun.place place (ap submits is) in
+      let b : Base = record { domain = tx.begun.domain; commit = tx.begun.base_commit; chain = tx.begun.chain; trees = tx_rows tx.base } in
+      let began : BeganToWrite before tx.begun.place = record { mode = tx.mode; base = b; asked = token.mode; writes = right.writes; began = token.began } in
+      (subst (λ k. k < length journal.log) same token.before, subst (BeganToWrite before) same began)
+
   current_now : IsCurrent (journal.log ++ made_entry ∷ []) journal'.marks more
   current_now =
       pushed journal.log journal.marks (queue_of p) is.current made_entry refl more journal'.marks
-      (subst (λ (o : Option Sent). IsSound (sents before ++ option_to_list o) more) (sym sent_now) (sound-longer (sents before) (queue_of p) is.current.sound sub stands refl), lawful_now) refl (versions-same (queue_of p).domains)
+      (subst (λ (o : Option Sent). IsSound (sents before ++ option_to_list o) more) (sym sent_now) (sound-longer (sents before) (queue_of p) is.current.sound sub stands refl), lawful_now, writer_now) refl (versions-same (queue_of p).domains)
       (sym (append-nil (queue_of p).outcomes))
       (λ k.
       marks k ∙ swapped (nat_eq tx.begun.place k) (mark_at journal.marks k)

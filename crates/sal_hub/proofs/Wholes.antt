@@ -408,9 +408,9 @@ seen_now journal p cs ms ls sv client mark b whole is =
     ap (λ x. if x then Found else Late) (marked (known_of journal p).world journal.log mark ∙ sym (whole.marked mark) ∙ is)
 
 -- the chain of a transaction is one of those that are kept
-module _ (journal : Noted) (p : Pipeline) (cs : Chains) (ms : Marks) (ls : Listeners) (sv : Services) (whole : IsWhole journal p cs ms ls sv) (known : HubHistory) (view : known_of journal p ≡ known) (begun : Token) (base : Pair) (token : IsBegun known begun base) where
+module _ (journal : Noted) (p : Pipeline) (cs : Chains) (ms : Marks) (ls : Listeners) (sv : Services) (whole : IsWhole journal p cs ms ls sv) (known : HubHistory) (view : known_of journal p ≡ known) (begun : Token) (mode : Mode) (base : Pair) (token : IsBegun known begun mode base) where
   pub token_began : began_at (history (known_of journal p).world journal.log) begun.place ≡ Some (record { domain = begun.domain; commit = begun.base_commit; chain = begun.chain; trees = rows_in base })
-  token_began = (subst (λ k. IsBegun k begun base) (sym view) token).began
+  token_began = (subst (λ k. IsBegun k begun mode base) (sym view) token).began
 
   member_domains : IsWithin (length cs.domains.items) begun.chain
   member_domains = member_within (known_of journal p) cs whole.chains begun.place (record { domain = begun.domain; commit = begun.base_commit; chain = begun.chain; trees = rows_in base }) token_began

@@ -6,6 +6,7 @@ use Rattle.sal_history.specs.Versions.{schema_version, tables_now}
 use Rattle.sal_history.specs.World.{OneIsUpgraded}
 use Rattle.sal_history_laws.specs.Logs.{AreSentLawful, AreSound}
 use Rattle.sal_hub.specs.declared.pipeline.Pipeline.{Pipeline}
+use Rattle.sal_hub.specs.Begins.{AreByWriters}
 use Rattle.sal_hub.specs.Journals.{Noted, mark_at}
 use Rattle.sal_hub.specs.HubHistory.{HubHistory}
 use Rattle.sal_hub.specs.PipelineView.{AllKept, IsSound, PipelineView, is_live_in, queue_of, table_in, version_of, world_in}
@@ -19,8 +20,8 @@ abbrev pub number_of : ℕ → ℕ → ℕ
 number_of version domain = if nat_eq domain 0 then version else 0
 
 -- The submissions, the outcomes, the commits, the marks, the chains that failed and the domains that are live are the log's; the
--- operations of each submission are lawful over what its transaction stands on, and the opening trees of each domain are closed. Each
--- domain has the present version of its schema, and domain 0 alone has more than one.
+-- operations of each submission are lawful over what its transaction stands on, which began in a mode that writes, and the opening trees of each
+-- domain are closed. Each domain has the present version of its schema, and domain 0 alone has more than one.
 pub record IsCurrent (log : List Entry) (noted : List Bool) (queue : PipelineView) : Type 0 where
   pub sound : IsSound (sents (answers log queue)) queue
   pub outcomes : queue.outcomes ≡ outcomes (answers log queue)
@@ -28,6 +29,7 @@ pub record IsCurrent (log : List Entry) (noted : List Bool) (queue : PipelineVie
   pub chains : length queue.failures ≡ length (chain_domains (answers log queue))
   pub live : (domain : ℕ) → is_live_in queue.domains domain ≡ is_live (world_in queue.domains) (answers log queue) domain
   pub lawful : AreSentLawful (world_in queue.domains) (answers log queue)
+  pub writers : AreByWriters (answers log queue)
   pub openings : AreSound (world_in queue.domains)
   pub only : OneIsUpgraded (world_in queue.domains)
   pub tables : (domain : ℕ) → table_in queue.domains domain ≡ tables_now (world_in queue.domains) (answers log queue) domain

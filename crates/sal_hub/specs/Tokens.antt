@@ -1,6 +1,7 @@
 -- The tokens that a hub has given: transactions, receipts, chains, listeners and requests.
 use Rattle.std.specs.Prelude.{◌≡◌, ℕ, ◌-◌, ◌<◌, List, [], length, Option, Some, if◌then◌else◌, nat_eq, slice_get}
 use Rattle.std.specs.Option.{option_map}
+use Rattle.sal_types.specs.declared.value.Store.{Store}
 use Rattle.sal_rows.specs.declared.op.Op.{Op}
 use Rattle.sal_rows.specs.declared.outcome.Mode.{Mode}
 use Rattle.sal_rows.specs.declared.outcome.Mode.TheVariants.{Ro}
@@ -19,6 +20,7 @@ use Rattle.sal_hub.specs.declared.call_id.CallId.{CallId}
 use Rattle.sal_hub.specs.declared.chain.Chain.{Chain}
 use Rattle.sal_hub.specs.declared.listener.ListenerId.{ListenerId}
 use Rattle.sal_hub.specs.declared.receipt.Receipt.{Receipt}
+use Rattle.sal_hub.specs.Begins.{mode_at, on_at}
 use Rattle.sal_hub.specs.HubHistory.{HubHistory}
 
 abbrev pub begun_of : Tx → Begun
@@ -38,15 +40,29 @@ ops_of (Read tx) = []
 ops_of (Write tx) = tx.changes
 
 -- The transaction was begun by the entry at its place: its domain, the number of its base commit, its chain and the trees
--- that it stands on are those that the log gives, and its schema is the version that was present there.
-pub record IsBegun (known : HubHistory) (begun : Begun) (trees : Pair) : Type 0 where
+-- that it stands on are those that the log gives, and its schema is the version that was present there. The entry asked for its mode, and its
+-- reply names the pending receipt that it stands on. So a token of one mode is none of another.
+pub record IsBegun (known : HubHistory) (begun : Begun) (under : Mode) (trees : Pair) : Type 0 where
   pub before : begun.place < length known.log
   pub began : began_at (history known.world known.log) begun.place ≡ Some (record { domain = begun.domain; commit = begun.base_commit; chain = begun.chain; trees = rows_in trees })
   pub schema : begun.schema.value ≡ table_of known.world begun.version begun.domain
   pub version : begun.version ≡ (if nat_eq begun.domain 0 then version_at (history known.world known.log) begun.place else 0)
+  pub mode : mode_at (history known.world known.log) begun.place ≡ Some under
+  pub on : on_at (history known.world known.log) begun.place ≡ Some begun.on
+
+-- two transactions that agree in all that the log says of a transaction
+pub record AreAlike (a b : Begun) (under under' : Mode) (trees trees' : Pair) : Type 0 where
+  pub mode : under ≡ under'
+  pub on : a.on ≡ b.on
+  pub domain : a.domain ≡ b.domain
+  pub commit : a.base_commit ≡ b.base_commit
+  pub chain : a.chain ≡ b.chain
+  pub version : a.version ≡ b.version
+  pub schema : a.schema.value ≡ b.schema.value
+  pub rows : (s : Store) → rows_in trees s ≡ rows_in trees' s
 
 abbrev pub IsToken : HubHistory → Tx → Type 0
-IsToken known tx = IsBegun known (begun_of tx) (base_of tx)
+IsToken known tx = IsBegun known (begun_of tx) (mode_of tx) (base_of tx)
 
 -- the transaction that the entry behind the log begins, in this domain, chain and mode, without operations
 pub record IsFresh (known : HubHistory) (asked : ℕ) (member : Option ℕ) (under : Mode) (tx : Tx) : Type 0 where

@@ -5,6 +5,7 @@ ghost use Rattle.sal_types.specs.declared.value.Store.{Store};
 ghost use Rattle.sal_rules.specs.Breaches.{breach};
 ghost use Rattle.sal_history.specs.History.{history, newest_tree};
 ghost use Rattle.sal_history.specs.Versions.{tables_now};
+ghost use Rattle.sal_hub.specs.Begins.{AreByWriters};
 
 use crate::hub::Hub;
 
@@ -30,10 +31,12 @@ impl Hub {
     }
 
     /// Does nothing; its contract is a law of each hub. Each version of a schema extends the one before, the opening trees are closed by
-    /// version 0, and each submission is lawful over what its transaction stands on, by the present version.
+    /// version 0. Each submission is lawful, by the present version, over what its transaction stands on, and an earlier entry began that
+    /// transaction in a mode that writes.
     pub fn stays_lawful(&self)
         ensures sound { AreSound self.now.world }
         ensures lawful { AreSentLawful self.now.world (history self.now.world self.now.log) }
+        ensures writers { AreByWriters (history self.now.world self.now.log) }
     {
         // (a part of the hub is borrowed, so that the proof has what the hub's type keeps)
         let _log = self.journal.entries();

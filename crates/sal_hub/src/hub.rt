@@ -212,7 +212,7 @@ impl Hub {
         client: u32,
         tx: WriteTx,
     ) -> Result<Receipt, (WriteTx, CallFault)>
-        requires token { IsBegun self.old tx.begun tx.base }
+        requires token { IsBegun self.old tx.begun tx.mode tx.base }
         ensures answer { CallsOr self.old self.new (entry_of self.old client (Submit tx.begun.place tx.changes)) (λ (receipt : Given). Numbered receipt.number) tx result }
         ensures given { IfOk result (IsGiven self.new) }
     {

@@ -14,8 +14,8 @@
 //! | `Hub::mark`, `after`, `has_mark` | the same, of marks, by which clients show each other how far they are; and a look that makes no entry |
 //! | `Receipt`, `Chain`, `ListenerId`, `CallId` | the tokens of a submission, of a chain, of a listener and of a request |
 //! | `Seen` | what a look for a mark finds |
-//! | `Hub::stays_closed`, `keeps_the_rules` | do nothing: their contracts are the laws that committed trees are closed by the present versions of their schemas, and that the newest break no rule of them |
-//! | `laws` | a function that does nothing, with a law of the tokens as its contract |
+//! | `Hub::stays_closed`, `keeps_the_rules`, `stays_lawful` | do nothing: their contracts are the laws that committed trees are closed by the present versions of their schemas, that the newest break no rule of them, and that each submission is lawful and of a transaction that began in a mode that writes |
+//! | `laws` | functions that do nothing, with laws of the tokens as their contracts |
 //!
 //! Each call tests first that the log has room, then takes all memory that it needs, and changes what is seen last and all at
 //! once: if memory runs out, the hub is as it was. A settle that finds no memory undoes what it decided, and a call on a

@@ -105,7 +105,7 @@ fn start(
     let base = footing.trees;
     match wish.mode {
         Mode::Ro => Ok(Tx::Read(ReadTx::open(begun, base))),
-        Mode::Wo | Mode::Rw => {
+        Mode::Wo | Mode::Rw | Mode::Checked => {
             let tx = WriteTx::open(alloc, begun, base, wish.mode)?;
             Ok(Tx::Write(tx))
         }

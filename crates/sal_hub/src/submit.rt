@@ -32,7 +32,7 @@ pub(crate) fn submit(
 ) -> Result<Receipt, (WriteTx, CallFault)>
     requires kept { IsKept journal.old pipeline.old }
     requires room { length journal.old.log < limit }
-    requires token { IsBegun (known_of journal.old pipeline.old) tx.begun tx.base }
+    requires token { IsBegun (known_of journal.old pipeline.old) tx.begun tx.mode tx.base }
     requires member { IsWithin (length pipeline.old.failures.items) tx.begun.chain }
     ensures kept { IsKept journal.new pipeline.new }
     ensures answer { CallsOr (known_of journal.old pipeline.old) (known_of journal.new pipeline.new) (entry_of (known_of journal.old pipeline.old) client (Submit tx.begun.place tx.changes)) (λ (receipt : Given). Numbered receipt.number) tx result }

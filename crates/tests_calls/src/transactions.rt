@@ -62,7 +62,7 @@ pub(crate) fn given_up<R: Wait>(at: &Desk<'_, R>, seat: &mut Seat) -> [u64; 2]
 // The receipt of the submission.
 fn submitted<R: Wait>(at: &Desk<'_, R>, seat: &mut Seat, tx: WriteTx) -> Option<Receipt>
     requires lock { seat.old.lock ≡ at.now.sal.now }
-    requires token { IsBegun (known seat.old.view) tx.begun tx.base }
+    requires token { IsBegun (known seat.old.view) tx.begun tx.mode tx.base }
     ensures same { Keeps at.now.sal.now seat.old seat.new }
     ensures given { IfSome result (IsGiven (known seat.new.view)) }
 {

@@ -16,11 +16,11 @@ use Rattle.sal_hub.proofs.Wholes.{member_failures, member_sent, submit_whole, to
 use Rattle.sal_hub.proofs.hub.Hub.submit.Goals as goal
 
 pub submit-requires-clause-member : goal.submit-requires-clause-member
-submit-requires-clause-member c = member_failures c.self.inside.journal c.self.inside.pipeline c.self.inside.chains c.self.inside.marks c.self.inside.listeners c.self.inside.services c.self.invariant c.args.self.now c.self.view_is c.args.tx.begun c.args.tx.base c.requires.token
+submit-requires-clause-member c = member_failures c.self.inside.journal c.self.inside.pipeline c.self.inside.chains c.self.inside.marks c.self.inside.listeners c.self.inside.services c.self.invariant c.args.self.now c.self.view_is c.args.tx.begun c.args.tx.mode c.args.tx.base c.requires.token
 
 pub note-requires : goal.note-requires
 note-requires c =
-    let is : IsWithin (length c.self.inside.chains.sent.items) c.args.tx.begun.chain = member_sent c.self.inside.journal c.self.inside.pipeline c.self.inside.chains c.self.inside.marks c.self.inside.listeners c.self.inside.services c.self.invariant c.args.self.now c.self.view_is c.args.tx.begun c.args.tx.base c.requires.token in
+    let is : IsWithin (length c.self.inside.chains.sent.items) c.args.tx.begun.chain = member_sent c.self.inside.journal c.self.inside.pipeline c.self.inside.chains c.self.inside.marks c.self.inside.listeners c.self.inside.services c.self.invariant c.args.self.now c.self.view_is c.args.tx.begun c.args.tx.mode c.args.tx.base c.requires.token in
     subst (λ (notes : List (Option ℕ)). IsWithin (length notes) c.begun.result.now.chain) (sym c.deref_mut.ensures.value)
     (subst (λ (b : Begun). IsWithin (length c.self.inside.chains.sent.items) b.chain) (sym c.begun.ensures) is)
 
@@ -38,8 +38,8 @@ invariant_of-self c =
     ap length c.note.ensures ∙ length-with c.deref_mut.result.now c.begun.result.now.chain c.number.result ∙ c.deref_mut.ensures.len in
     let cs' : Chains = record { domains = cs.domains; closed = cs.closed; begun = cs.begun; sent = with_items cs.sent c.note.new.notes } in
     submit_whole j c.submit.new.journal p c.submit.new.pipeline cs ms c.self.inside.listeners c.self.inside.services c.self.invariant c.in-Ok.ensures.kept c.args.client (entries_of j.log c.args.client) tx.begun.place tx.changes c.in-Ok.receipt.number b cs'
-    (token_began j p cs ms c.self.inside.listeners c.self.inside.services c.self.invariant c.args.self.now c.self.view_is tx.begun tx.base c.requires.token) c.in-Ok.ensures.answer
-    (member_sent j p cs ms c.self.inside.listeners c.self.inside.services c.self.invariant c.args.self.now c.self.view_is tx.begun tx.base c.requires.token) refl refl refl (with_items_is cs.sent c.note.new.notes long ∙ noted)
+    (token_began j p cs ms c.self.inside.listeners c.self.inside.services c.self.invariant c.args.self.now c.self.view_is tx.begun tx.mode tx.base c.requires.token) c.in-Ok.ensures.answer
+    (member_sent j p cs ms c.self.inside.listeners c.self.inside.services c.self.invariant c.args.self.now c.self.view_is tx.begun tx.mode tx.base c.requires.token) refl refl refl (with_items_is cs.sent c.note.new.notes long ∙ noted)
 
 pub invariant_of-self-in-Err : goal.invariant_of-self-in-Err
 invariant_of-self-in-Err c =

@@ -1,25 +1,24 @@
 -- What is kept stays the log's with each call.
 use Rattle.std.proofs.Common.{◌≡◌, ℕ, ◌+◌, ◌≤◌, ◌<◌, Bool, true, false, List, [], ◌∷◌, ◌++◌, length, map, Option, None, Some, refl, ap, sym, ◌∙◌, subst, arith, append-nil, length-append, inl, inr}
-use Rattle.std.specs.Prelude.{◌||◌, slice_get, unwrap_or}
+use Rattle.std.specs.Prelude.{◌||◌, slice_get}
 use Rattle.std.specs.Option.{option_to_list}
 use Rattle.std.proofs.lemmas.List.{drop-append-le, length-map, map-append}
 use Rattle.std.proofs.lemmas.Option.{none-some}
 use Rattle.sal_rows.specs.declared.op.Op.{Op}
 use Rattle.sal_rows.specs.declared.outcome.Outcome.{Outcome}
 use Rattle.sal_tx.specs.declared.tx.Submission.{Submission}
-use Rattle.sal_history.specs.declared.call.Call.TheVariants.{Submit}
+use Rattle.sal_history.specs.declared.call.Call.{Call}
 use Rattle.sal_history.specs.declared.call.Entry.{Entry}
 use Rattle.sal_history.specs.declared.reply.Reply.{Reply}
-use Rattle.sal_history.specs.declared.reply.Reply.TheVariants.{Receipt}
 use Rattle.sal_history.specs.World.{Domain, OneIsUpgraded, table_of}
 use Rattle.sal_history.specs.Versions.{schema_version, tables_now, upgraded}
 use Rattle.sal_history.proofs.Versions.{schema_version-same}
-use Rattle.sal_history.specs.History.{Answered, began_at, chain_domains, commits, decided_by, history, is_live, is_spent, nowhere, opened_chain, outcomes, reply_to, sent_by, sents, spends}
+use Rattle.sal_history.specs.History.{Answered, chain_domains, commits, decided_by, history, is_live, is_spent, opened_chain, outcomes, reply_to, sent_by, sents, spends}
 use Rattle.sal_history.specs.Services.{mount_call}
 use Rattle.sal_history.specs.Submissions.{Sent, done_chains, done_ops}
 use Rattle.sal_history_laws.proofs.Versions.{sents_stay_lawful}
 use Rattle.sal_history_laws.specs.Logs.{AreSentLawful, AreSound, IsSentLawful}
-use Rattle.sal_hub.specs.Begins.{AreByWriters, BeganToWrite, mode_by}
+use Rattle.sal_hub.specs.Begins.{AreOfWriters, IsOfWriter, mode_by}
 use Rattle.sal_hub.specs.Current.{IsCurrent, answers, number_of}
 use Rattle.sal_hub.specs.Journals.{mark_at}
 use Rattle.sal_hub.specs.CommitReceipts.{commit_receipts}
@@ -67,16 +66,15 @@ module _ (log : List Entry) (marks : List Bool) (queue : PipelineView) (was : Is
   still_version none = ap schema_version (history-push world log e) ∙ schema_version-same answered (now_of world answered e) none
 
   -- what the call submits, if anything, is of a transaction that began in a mode that writes
-  abbrev pub IsOfWriter : Type 0
-  IsOfWriter =
-      (place number : ℕ) (ops : List Op) → e.call ≡ Submit place ops → reply_to (world_in queue.domains) (answers log queue) e.client e.call ≡ Receipt number → (place < length log) × BeganToWrite (answers log queue) place
+  abbrev pub IsWritten : Type 0
+  IsWritten = (t : Sent) → sent_by (answers log queue) e.call (reply_to (world_in queue.domains) (answers log queue) e.client e.call) ≡ Some t → IsOfWriter (answers log queue) (length log) e.call t
 
   -- what the call submits, if anything: the submissions with it, and its operations, which are lawful
   abbrev pub Adds : PipelineView → Type 0
   Adds queue' =
       IsSound (sents (answers log queue) ++ option_to_list (sent_by (answers log queue) e.call (reply_to (world_in queue.domains) (answers log queue) e.client e.call))) queue'
       × ((s : Sent) → sent_by (answers log queue) e.call (reply_to (world_in queue.domains) (answers log queue) e.client e.call) ≡ Some s → IsSentLawful (tables_now (world_in queue.domains) (answers log queue)) s)
-      × IsOfWriter
+      × IsWritten
 
   -- a call that submits nothing
   pub unsent : (queue' : PipelineView) → sent_by (answers log queue) e.call (reply_to (world_in queue.domains) (answers log queue) e.client e.call) ≡ None → IsSound (sents (answers log queue)) queue'
@@ -84,7 +82,7 @@ module _ (log : List Entry) (marks : List Bool) (queue : PipelineView) (was : Is
   unsent queue' none sound = (
     subst (λ (ss : List Sent). IsSound ss queue') (sym (append-nil (sents answered)) ∙ ap (λ (o : Option Sent). sents answered ++ option_to_list o) (sym none)) sound,
     λ s e. absurd (none-some s (sym none ∙ e)),
-    λ place number ops is_call is_reply. let s : Sent = record { base = unwrap_or (began_at answered place) nowhere; ops = ops } in absurd (none-some s (sym none ∙ (λ i. sent_by answered (is_call i) (is_reply i)))),
+    λ t e. absurd (none-some t (sym none ∙ e)),
   )
 
   -- with it, the submissions of the log are lawful, whether the call is an upgrade or not
@@ -103,22 +101,25 @@ module _ (log : List Entry) (marks : List Bool) (queue : PipelineView) (was : Is
       ]
 
   -- and each is of a transaction that began in a mode that writes
-  pub writers-push : IsOfWriter → AreByWriters (history (world_in queue.domains) (log ++ e ∷ []))
-  writers-push new k place number ops a at is_call is_reply =
+  pub writers-push : IsWritten → AreOfWriters (history (world_in queue.domains) (log ++ e ∷ []))
+  writers-push new k a t at sent =
       elim (last_or_before answered (now_of world answered e) a k (ap (λ (xs : List Answered). slice_get xs k) (sym (history-push world log e)) ∙ at)) [
-        | inl old ↦ let had = was.writers k place number ops a old is_call is_reply in (had.0, later had.1)
+        | inl old ↦ later k a.entry.call (was.writers k a t old sent)
         | inr w ↦
-            let had = new place number ops (ap (λ (x : Answered). x.entry.call) w.1 ∙ is_call) (ap (λ (x : Answered). x.reply) w.1 ∙ is_reply) in
-            (omega (arith, had.0, w.0, length-history world log), later had.1)
+            let place : length log ≡ k = omega (arith, w.0, length-history world log) in
+            let call : e.call ≡ a.entry.call = ap (λ (x : Answered). x.entry.call) w.1 in
+            later k a.entry.call (subst (λ n. IsOfWriter answered n a.entry.call t) place (subst (λ c. IsOfWriter answered (length log) c t) call (new t (ap (λ (x : Answered). x.sent) w.1 ∙ sent))))
       ]
     where
-      later : BeganToWrite answered place → BeganToWrite (history world (log ++ e ∷ [])) place
-      later b = record {
+      later : (n : ℕ) (call : Call) → IsOfWriter answered n call t → IsOfWriter (history world (log ++ e ∷ [])) n call t
+      later n call b = record {
+        place = b.place;
         mode = b.mode;
-        base = b.base;
-        asked = found-push world (λ (x : Answered). mode_by x.entry.call) log e place b.mode b.asked;
+        named = b.named;
+        earlier = b.earlier;
+        asked = found-push world (λ (x : Answered). mode_by x.entry.call) log e b.place b.mode b.asked;
         writes = b.writes;
-        began = found-push world (λ (x : Answered). x.began) log e place b.base b.began;
+        began = found-push world (λ (x : Answered). x.began) log e b.place t.base b.began;
       }
 
   long : (queue' : PipelineView) → world_in queue'.domains ≡ world_in queue.domains → length queue'.domains ≡ length queue.domains
@@ -147,7 +148,7 @@ module _ (log : List Entry) (marks : List Bool) (queue : PipelineView) (was : Is
         ∙ (λ i. length (chain_domains (history (sym same i) (log ++ e ∷ []))));
     live = λ n. live n ∙ (λ i. is_live (sym same i) (history (sym same i) (log ++ e ∷ [])) n);
     lawful = subst (λ (w : List Domain). AreSentLawful w (history w (log ++ e ∷ []))) (sym same) (lawful-push adds.1);
-    writers = subst (λ (w : List Domain). AreByWriters (history w (log ++ e ∷ []))) (sym same) (writers-push adds.2);
+    writers = subst (λ (w : List Domain). AreOfWriters (history w (log ++ e ∷ []))) (sym same) (writers-push adds.2);
     openings = subst AreSound (sym same) was.openings;
     only = subst OneIsUpgraded (sym same) was.only;
     tables = λ n. tables n ∙ (λ i. tables_now (sym same i) (history (sym same i) (log ++ e ∷ [])) n);

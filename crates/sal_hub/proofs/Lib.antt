@@ -29,3 +29,4 @@ pub mod Telling
 pub mod Upgrading
 pub mod Versioned
 pub mod Wholes
+pub mod Writers

@@ -158,7 +158,7 @@ opened_kept rules devices p journal some sound versions kept are zeroth none und
       chains = refl;
       live = λ n. live_first rules n devices some ∙ or_none (nat_eq n 0);
       lawful = λ i s at. cc;
-      writers = λ k place number ops a at. cc;
+      writers = λ k a t at. cc;
       openings = subst AreSound (sym (world-shown rules 0 devices)) sound;
       only = subst OneIsUpgraded (sym (world-shown rules 0 devices)) versions.only;
       tables = λ n. first_tables rules 0 devices n ∙ ap (λ w. world.table_of w 0 n) (sym (world-shown rules 0 devices));

@@ -16,7 +16,6 @@ use Rattle.sal_tx.specs.declared.writing.Writing.{Writing}
 use Rattle.sal_tx.specs.Views.{AreLawful, IsRight, Shows, rows_in as tx_rows}
 use Rattle.sal_tx.proofs.Nexts.{lie_below}
 use Rattle.sal_commit.specs.declared.domain.Domain.{Domain}
-use Rattle.sal_history.specs.declared.call.Call.{Call}
 use Rattle.sal_history.specs.declared.call.Call.TheVariants.{Submit}
 use Rattle.sal_history.specs.declared.call.Entry.{Entry}
 use Rattle.sal_history.specs.declared.reply.Reply.{Reply}
@@ -30,7 +29,7 @@ use Rattle.sal_history_laws.proofs.Versions.{later_lawful}
 use Rattle.sal_history_laws.specs.Logs.{IsSentLawful}
 use Rattle.sal_hub.specs.declared.pipeline.Pipeline.{Pipeline}
 use Rattle.sal_hub.specs.Answers.{Fails, Made}
-use Rattle.sal_hub.specs.Begins.{BeganToWrite}
+use Rattle.sal_hub.specs.Begins.{IsOfWriter}
 use Rattle.sal_hub.specs.Current.{IsCurrent, IsKept, answers, known_of}
 use Rattle.sal_hub.specs.Failures.{IsWithin}
 use Rattle.sal_hub.specs.Journals.{Noted, jotted, mark_at}
@@ -195,17 +194,19 @@ module _ (journal journal' : Noted) (p p' : Pipeline) (is : IsKept journal p) (c
   lawful_now : (s : Sent) → sent_by before (Submit tx.begun.place tx.changes) (reply_to new_world before client (Submit tx.begun.place tx.changes)) ≡ Some s → IsSentLawful (tables_now new_world before) s
   lawful_now s e = subst (IsSentLawful (tables_now new_world before)) (same_Some (sent_of sub) s (sym sent_now ∙ e)) sub_lawful
 
-  abbrev submits : Call → Option ℕ
-  submits (Submit place ops) = Some place
-  submits call = None
-
-  -- its transaction began in a mode that writes
-  writer_now : (place number : ℕ) (ops : List Op) → Submit tx.begun.place tx.changes ≡ Submit place ops → reply_to new_world before client (Submit tx.begun.place tx.changes) ≡ Receipt number → (place < length journal.log) × BeganToWrite before place
-  writer_now place number ops is reply =
-      let same : tx.begun.place ≡ place = same_Some tx.begun.place place (ap submits is) in
-      let b : Base = record { domain = tx.begun.domain; commit = tx.begun.base_commit; chain = tx.begun.chain; trees = tx_rows tx.base } in
-      let began : BeganToWrite before tx.begun.place = record { mode = tx.mode; base = b; asked = token.mode; writes = right.writes; began = token.began } in
-      (subst (λ k. k < length journal.log) same token.before, subst (BeganToWrite before) same began)
+  -- it is of a transaction that began in a mode that writes
+  writer_now : (t : Sent) → sent_by before (Submit tx.begun.place tx.changes) (reply_to new_world before client (Submit tx.begun.place tx.changes)) ≡ Some t → IsOfWriter before (length journal.log) (Submit tx.begun.place tx.changes) t
+  writer_now t e =
+      let own : IsOfWriter before (length journal.log) (Submit tx.begun.place tx.changes) (sent_of sub) = record {
+        place = tx.begun.place;
+        mode = tx.mode;
+        named = refl;
+        earlier = token.before;
+        asked = token.mode;
+        writes = right.writes;
+        began = token.began ∙ (λ i. Some (let b : Base = record { domain = tx.begun.domain; commit = tx.begun.base_commit; chain = tx.begun.chain; trees = λ store. same_rows tx.base store i } in b));
+      } in
+      subst (IsOfWriter before (length journal.log) (Submit tx.begun.place tx.changes)) (same_Some (sent_of sub) t (sym sent_now ∙ e)) own
 
   current_now : IsCurrent (journal.log ++ made_entry ∷ []) journal'.marks more
   current_now =

@@ -1,14 +1,13 @@
 -- What the entries that begin transactions asked for, and were answered.
 use Rattle.std.specs.Prelude.{◌≡◌, ◌≢◌, ℕ, ◌<◌, List, Option, None, Some, option_and_then, slice_get}
-use Rattle.sal_rows.specs.declared.op.Op.{Op}
 use Rattle.sal_rows.specs.declared.outcome.Mode.{Mode}
 use Rattle.sal_rows.specs.declared.outcome.Mode.TheVariants.{Ro}
 use Rattle.sal_history.specs.declared.call.Call.{Call}
 use Rattle.sal_history.specs.declared.call.Call.TheVariants.{Begin, ChainBegin, Submit}
 use Rattle.sal_history.specs.declared.reply.Reply.{Reply}
-use Rattle.sal_history.specs.declared.reply.Reply.TheVariants.{Begun, Receipt}
+use Rattle.sal_history.specs.declared.reply.Reply.TheVariants.{Begun}
 use Rattle.sal_history.specs.History.{Answered, began_at}
-use Rattle.sal_history.specs.Submissions.{Base}
+use Rattle.sal_history.specs.Submissions.{Sent}
 
 -- the mode that a call asks for
 abbrev pub mode_by : Call → Option Mode
@@ -29,15 +28,22 @@ mode_at answered place = option_and_then (λ a. mode_by a.entry.call) (slice_get
 abbrev pub on_at : List Answered → ℕ → Option (Option ℕ)
 on_at answered place = option_and_then (λ a. on_by a.reply) (slice_get answered place)
 
--- the entry at the place began a transaction in a mode that writes
-pub record BeganToWrite (answered : List Answered) (place : ℕ) : Type 0 where
+-- the place of the entry that began the transaction, as a call that submits it names it
+abbrev pub place_by : Call → Option ℕ
+place_by (Submit place ops) = Some place
+place_by call = None
+
+-- The call after so many entries submits the transaction that the entry at a place before it began in a mode that writes; the submission stands on
+-- what that transaction stands on.
+pub record IsOfWriter (answered : List Answered) (k : ℕ) (call : Call) (t : Sent) : Type 0 where
+  pub place : ℕ
   pub mode : Mode
-  pub base : Base
+  pub named : place_by call ≡ Some place
+  pub earlier : place < k
   pub asked : mode_at answered place ≡ Some mode
   pub writes : mode ≢ Ro
-  pub began : began_at answered place ≡ Some base
+  pub began : began_at answered place ≡ Some t.base
 
--- each submission is of a transaction that an earlier entry began in a mode that writes
-abbrev pub AreByWriters : List Answered → Type 0
-AreByWriters answered =
-    (k place number : ℕ) (ops : List Op) (a : Answered) → slice_get answered k ≡ Some a → a.entry.call ≡ Submit place ops → a.reply ≡ Receipt number → (place < k) × BeganToWrite answered place
+-- so does each entry that submits
+abbrev pub AreOfWriters : List Answered → Type 0
+AreOfWriters answered = (k : ℕ) (a : Answered) (t : Sent) → slice_get answered k ≡ Some a → a.sent ≡ Some t → IsOfWriter answered k a.entry.call t

@@ -6,7 +6,7 @@ use Rattle.sal_history.specs.Versions.{schema_version, tables_now}
 use Rattle.sal_history.specs.World.{OneIsUpgraded}
 use Rattle.sal_history_laws.specs.Logs.{AreSentLawful, AreSound}
 use Rattle.sal_hub.specs.declared.pipeline.Pipeline.{Pipeline}
-use Rattle.sal_hub.specs.Begins.{AreByWriters}
+use Rattle.sal_hub.specs.Begins.{AreOfWriters}
 use Rattle.sal_hub.specs.Journals.{Noted, mark_at}
 use Rattle.sal_hub.specs.HubHistory.{HubHistory}
 use Rattle.sal_hub.specs.PipelineView.{AllKept, IsSound, PipelineView, is_live_in, queue_of, table_in, version_of, world_in}
@@ -29,7 +29,7 @@ pub record IsCurrent (log : List Entry) (noted : List Bool) (queue : PipelineVie
   pub chains : length queue.failures ≡ length (chain_domains (answers log queue))
   pub live : (domain : ℕ) → is_live_in queue.domains domain ≡ is_live (world_in queue.domains) (answers log queue) domain
   pub lawful : AreSentLawful (world_in queue.domains) (answers log queue)
-  pub writers : AreByWriters (answers log queue)
+  pub writers : AreOfWriters (answers log queue)
   pub openings : AreSound (world_in queue.domains)
   pub only : OneIsUpgraded (world_in queue.domains)
   pub tables : (domain : ℕ) → table_in queue.domains domain ≡ tables_now (world_in queue.domains) (answers log queue) domain

@@ -5,7 +5,7 @@ ghost use Rattle.sal_types.specs.declared.value.Store.{Store};
 ghost use Rattle.sal_rules.specs.Breaches.{breach};
 ghost use Rattle.sal_history.specs.History.{history, newest_tree};
 ghost use Rattle.sal_history.specs.Versions.{tables_now};
-ghost use Rattle.sal_hub.specs.Begins.{AreByWriters};
+ghost use Rattle.sal_hub.specs.Begins.{AreOfWriters};
 
 use crate::hub::Hub;
 
@@ -36,7 +36,7 @@ impl Hub {
     pub fn stays_lawful(&self)
         ensures sound { AreSound self.now.world }
         ensures lawful { AreSentLawful self.now.world (history self.now.world self.now.log) }
-        ensures writers { AreByWriters (history self.now.world self.now.log) }
+        ensures writers { AreOfWriters (history self.now.world self.now.log) }
     {
         // (a part of the hub is borrowed, so that the proof has what the hub's type keeps)
         let _log = self.journal.entries();

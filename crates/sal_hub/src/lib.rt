@@ -14,7 +14,7 @@
 //! | `Hub::mark`, `after`, `has_mark` | the same, of marks, by which clients show each other how far they are; and a look that makes no entry |
 //! | `Receipt`, `Chain`, `ListenerId`, `CallId` | the tokens of a submission, of a chain, of a listener and of a request |
 //! | `Seen` | what a look for a mark finds |
-//! | `Hub::stays_closed`, `keeps_the_rules`, `stays_lawful` | do nothing: their contracts are the laws that committed trees are closed by the present versions of their schemas, that the newest break no rule of them, and that each submission is lawful and of a transaction that began in a mode that writes |
+//! | `Hub::stays_closed`, `keeps_the_rules`, `stays_lawful`, `stays_serialisable` | do nothing: their contracts are the laws that committed trees are closed by the present versions of their schemas, that the newest break no rule of them, that each submission is lawful and of a transaction that began in a mode that writes, and that what was done reads the same if it is played in the order of the commits |
 //! | `laws` | functions that do nothing, with laws of the tokens as their contracts |
 //!
 //! Each call tests first that the log has room, then takes all memory that it needs, and changes what is seen last and all at
@@ -98,6 +98,7 @@ mod note_calls;
 mod opening;
 mod pipeline;
 mod pump;
+mod reads;
 mod receipt;
 mod rpc_calls;
 mod seen;

@@ -2,7 +2,7 @@
 use Rattle.std.proofs.Common.{subst}
 use Rattle.sal_history.specs.History.{history}
 use Rattle.sal_history_laws.specs.Logs.{AreSentLawful, AreSound}
-use Rattle.sal_hub.specs.Begins.{AreByWriters}
+use Rattle.sal_hub.specs.Begins.{AreOfWriters}
 use Rattle.sal_hub.specs.HubHistory.{HubHistory}
 use Rattle.sal_hub.proofs.hub.Hub.stays_lawful.Goals as goal
 
@@ -11,5 +11,5 @@ returns c =
     let current = c.self.invariant.kept.current in record {
       sound = subst (λ (known : HubHistory). AreSound known.world) c.self.view_is current.openings;
       lawful = subst (λ (known : HubHistory). AreSentLawful known.world (history known.world known.log)) c.self.view_is current.lawful;
-      writers = subst (λ (known : HubHistory). AreByWriters (history known.world known.log)) c.self.view_is current.writers;
+      writers = subst (λ (known : HubHistory). AreOfWriters (history known.world known.log)) c.self.view_is current.writers;
     }

@@ -1,10 +1,13 @@
 -- Each submission of a log is of an entry.
-use Rattle.std.proofs.Common.{◌≡◌, ℕ, zero, suc, List, [], ◌∷◌, Option, None, Some, refl, ◌∙◌}
+use Rattle.std.proofs.Common.{◌≡◌, ℕ, zero, suc, Bool, true, false, List, [], ◌∷◌, ◌++◌, Option, None, Some, refl, ◌∙◌, if◌then◌else◌, nat_eq}
 use Rattle.std.specs.Prelude.{slice_get}
 use Rattle.std.specs.List.{cons_option, filter_map}
+use Rattle.sal_types.specs.declared.row.Row.{Row}
+use Rattle.sal_types.specs.declared.value.Store.{Store}
+use Rattle.sal_rows.specs.declared.outcome.Outcome.{Outcome}
 use Rattle.sal_history.specs.History.{Answered, sents}
-use Rattle.sal_history.specs.Submissions.{Sent}
-use Rattle.sal_history_laws.specs.Serial.{IsOfBegun}
+use Rattle.sal_history.specs.Submissions.{Sent, done, is_done}
+use Rattle.sal_history_laws.specs.Serial.{AreSerial, IsOfBegun, played}
 use Rattle.sal_hub.specs.Begins.{AreOfWriters}
 
 -- the element from which a found one comes
@@ -26,3 +29,17 @@ sents_begun answered are i t at =
     let from = found_from (λ (a : Answered). a.sent) answered i t at in
     let writer = are from.0 from.1 t from.2 from.3 in
     (writer.place, writer.began)
+
+-- what holds of each submission holds of those that were done
+pub all_serial : (Holds : Sent → Type 0) (domain : ℕ) (ss : List Sent) (os : List Outcome) → ((i : ℕ) (t : Sent) → slice_get ss i ≡ Some t → Holds t) → (trees : Store → List Row) → AreSerial Holds trees (done domain ss os) → AreSerial (λ t. Unit {0}) trees (done domain ss os)
+all_serial Holds domain [] os each trees serial = tt
+all_serial Holds domain (s ∷ ss) [] each trees serial = tt
+all_serial Holds domain (s ∷ ss) (o ∷ os) each trees serial = by (nat_eq s.base.domain domain) (is_done o) serial
+  where
+    rest : (i : ℕ) (t : Sent) → slice_get ss i ≡ Some t → Holds t
+    rest i t at = each (suc i) t at
+
+    by : (own was_done : Bool) → AreSerial Holds trees ((if own then (if was_done then s ∷ [] else []) else []) ++ done domain ss os) → AreSerial (λ t. Unit {0}) trees ((if own then (if was_done then s ∷ [] else []) else []) ++ done domain ss os)
+    by true true is = (λ u. is.0 (each 0 s refl), all_serial Holds domain ss os rest (played trees s) is.1)
+    by true false is = all_serial Holds domain ss os rest trees is
+    by false was_done is = all_serial Holds domain ss os rest trees is

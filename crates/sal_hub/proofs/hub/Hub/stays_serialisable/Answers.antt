@@ -2,6 +2,7 @@
 use Rattle.std.proofs.Common.{subst}
 use Rattle.sal_history.specs.History.{history, outcomes, sents}
 use Rattle.sal_history.specs.World.{opening_of}
+use Rattle.sal_history_laws.specs.Logs.{AreSentLawful, AreSound}
 use Rattle.sal_history_laws.specs.Serial.{IsOfBegun}
 use Rattle.sal_hub.specs.Begins.{AreOfWriters}
 use Rattle.sal_hub.specs.HubHistory.{HubHistory}
@@ -13,10 +14,14 @@ returns c =
     let known = c.args.self.now in
     let laws = c.checked_runs_are_serialisable.ensures in
     let answered = history known.world known.log in
-    let writers : AreOfWriters (history known.world known.log) = subst (λ (k : HubHistory). AreOfWriters (history k.world k.log)) c.self.view_is c.self.invariant.kept.current.writers in record {
+    let current = c.self.invariant.kept.current in
+    let sound : AreSound known.world = subst (λ (k : HubHistory). AreSound k.world) c.self.view_is current.openings in
+    let lawful : AreSentLawful known.world answered = subst (λ (k : HubHistory). AreSentLawful k.world (history k.world k.log)) c.self.view_is current.lawful in
+    let writers : AreOfWriters (history known.world known.log) = subst (λ (k : HubHistory). AreOfWriters (history k.world k.log)) c.self.view_is current.writers in record {
       log = laws.log known.world known.log;
       serial = λ domain.
           all_serial (IsOfBegun answered) domain (sents answered) (outcomes answered) (sents_begun answered writers) (opening_of known.world domain) ((laws.log known.world known.log).reads domain);
       receipt = λ i t commit at done. laws.receipt known.world known.log i t commit at done (sents_begun answered writers i t at);
       read = λ i t commit s path ops more at done is. laws.read known.world known.log i t commit s path ops more at done (sents_begun answered writers i t at) is;
+      writes = λ i t commit. c.accepted_writes_stand.ensures.log known.world known.log i t commit sound lawful;
     }

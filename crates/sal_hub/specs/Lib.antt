@@ -16,6 +16,7 @@ pub mod Opened
 pub mod Openings
 pub mod Routed
 pub mod Seen
+pub mod Serial
 pub mod Services
 pub mod Starts
 pub mod Submits

@@ -11,6 +11,7 @@ pub use Rattle.sal_hub.specs.Listeners
 pub use Rattle.sal_hub.specs.Marks
 pub use Rattle.sal_hub.specs.Openings
 pub use Rattle.sal_hub.specs.Seen
+pub use Rattle.sal_hub.specs.Serial
 pub use Rattle.sal_hub.specs.Tokens
 pub use Rattle.sal_hub.specs.Upgrades
 pub use Rattle.sal_turn.specs.Entries

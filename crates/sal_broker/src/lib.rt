@@ -1,4 +1,4 @@
-//! The broker that threads share: a hub behind a lock, at which each caller has a seat.
+//! The broker that threads share: a hub under a lock, at which each caller has a seat.
 //!
 //! | item | what it is |
 //! |---|---|

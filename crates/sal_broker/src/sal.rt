@@ -28,7 +28,7 @@ use std::sync::Wait;
 /// The number of the opening seat. No client has it.
 pub const OPENING_NUMBER: u32 = 65535;
 
-/// The broker: a hub behind a lock. A contract sees the name of its lock.
+/// The broker: a hub under a lock. A contract sees the name of its lock.
 #[derive(Drop)]
 pub struct Sal {
     pub(crate) lock: Turn<Shared>,

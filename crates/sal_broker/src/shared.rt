@@ -5,7 +5,7 @@ use sal_rows::Rules;
 use sal_turn::Chronicle;
 use std::marker::Model;
 
-/// The hub behind the lock. A contract sees it as the hub.
+/// The hub under the lock. A contract sees it as the hub.
 #[derive(Drop)]
 pub(crate) struct Shared {
     pub(crate) hub: Hub,

@@ -4,8 +4,8 @@ use std::sync::atomic::AtomicU64;
 use std::sync::atomic::Ordering::SeqCst;
 use std::time::Duration;
 
-// The first pauses are no sleeps, but so many looks at the length each, some 30 microseconds in all: the mark is often there soon,
-// and a thread that goes on running is not kept from it by others that wait for a processor.
+// The first pauses are no sleeps, but as many looks at the length each, some 30 microseconds in all: the mark is often there soon,
+// and a running thread is not kept from it by others that wait for a processor.
 const SHORT_PAUSES: u32 = 8;
 
 const GLANCES: u32 = 4096;
@@ -35,7 +35,7 @@ impl Growth {
         }
     }
 
-    /// Tells how many entries the log has. The caller has the turn.
+    /// Stores how many entries the log has. The caller has the turn.
     pub(crate) fn tell(&self, length: usize) {
         let length = length as u64;
         if self.length.load(SeqCst) != length {

@@ -72,7 +72,7 @@ live-within [] n live = cc
 live-within (x ∷ ds) zero live = omega arith
 live-within (x ∷ ds) (suc n) live = omega (arith, live-within ds n live)
 
--- where one domain is replaced by one of which the same is told
+-- if one domain is replaced by one with the same facts
 told-set : {X : Type 0} (f : DomainView → X) (z : X) (ds : List DomainView) (i : ℕ) (d e : DomainView) → slice_get ds i ≡ Some d → f e ≡ f d → (n : ℕ) → option_map_or f (slice_get (set ds i e) n) z ≡ option_map_or f (slice_get ds n) z
 told-set f z [] i d e at same n = refl
 told-set f z (x ∷ ds) zero d e at same zero = same ∙ ap f (sym (same_Some x d at))
@@ -117,7 +117,7 @@ done-decide n (x ∷ ss) [] s o e =
 done-decide n (x ∷ ss) (p ∷ os) s o e =
     ap (λ (cs : List Sent). added n x p ++ cs) (done-decide n ss os s o e) ∙ sym (append_assoc (added n x p) (done n ss os) (added n s o))
 
--- what is told of the commits, as their operations or their chains
+-- a list over the commits, as of their operations or their chains
 module _ {X : Type 0} (f : Sent → X) (n : ℕ) where
   told-decide : (ss : List Sent) (os : List Outcome) (s : Sent) (o : Outcome) → slice_get ss (length os) ≡ Some s → map f (done n ss (os ++ o ∷ [])) ≡ map f (done n ss os) ++ map f (added n s o)
   told-decide ss os s o e = ap (map f) (done-decide n ss os s o e) ∙ map-append f (done n ss os) (added n s o)

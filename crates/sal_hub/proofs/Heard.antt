@@ -136,7 +136,7 @@ module _ (known : HubHistory) (ls : Listeners) (are : AreListeners known ls) (as
       ((λ i. adds.live i + cond (removes_one (call_of ask) (reply i)) 1 0) ∙ (let none : ls.live + 1 + 0 ≡ ls.live + 1 = omega arith in none)
       ∙ (λ i. ls.live + length (option_to_list (listens ask.client (call_of ask) (sym reply i)))))
 
--- ---- one that was told
+-- ---- a listener that took a batch
 
 module _ (known : HubHistory) (ls : Listeners) (are : AreListeners known ls) (client count n : ℕ) (l : Listener) (low : 0 < n) (at : slice_get ls.list.items (n - 1) ≡ Some l) (b : Batch)
     (reply : reply_to known.world (history known.world known.log) client (Take n) ≡ Told l.domain b) (reached : b.to ≤ length (commits (history known.world known.log) l.domain))

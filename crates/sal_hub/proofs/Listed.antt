@@ -12,19 +12,19 @@ slice_get_at [] i x h e = absurd (omega arith)
 slice_get_at (y ∷ xs) zero x h e = ap Some (sym e)
 slice_get_at (y ∷ xs) (suc i) x h e = slice_get_at xs i x (omega arith) e
 
--- nothing stands behind the end
+-- there is no item after the end
 pub slice_get_none : {X : Type 0} (xs : List X) (i : ℕ) → length xs ≤ i → slice_get xs i ≡ None
 slice_get_none [] i h = refl
 slice_get_none (y ∷ xs) zero h = absurd (omega arith)
 slice_get_none (y ∷ xs) (suc i) h = slice_get_none xs i (omega arith)
 
--- something stands at an index
+-- there is an item at an index
 pub slice_get_some : {X : Type 0} (xs : List X) (i : ℕ) → i < length xs → (x : X) × (slice_get xs i ≡ Some x)
 slice_get_some [] i h = absurd (omega arith)
 slice_get_some (y ∷ xs) zero h = (y, refl)
 slice_get_some (y ∷ xs) (suc i) h = slice_get_some xs i (omega arith)
 
--- what stands in a list where one element was replaced
+-- the items of a list in which one element was replaced
 pub slice_get-set : {X : Type 0} (xs : List X) (i : ℕ) (y : X) (n : ℕ) (z : X) → slice_get (set xs i y) n ≡ Some z → ((n ≡ i) × (y ≡ z)) ⊎ ((n ≡ i → ⊥) × (slice_get xs n ≡ Some z))
 slice_get-set [] i y n z e = cc
 slice_get-set (x ∷ xs) zero y zero z e = inl (refl, same_Some y z e)
@@ -56,7 +56,7 @@ found_more f [] ys k y e = cc
 found_more f (x ∷ xs) ys zero y e = e
 found_more f (x ∷ xs) ys (suc k) y e = found_more f xs ys k y e
 
--- what stands behind the first ones
+-- the items after the first ones
 pub slice_get-drop : {X : Type 0} (xs : List X) (k i : ℕ) → slice_get (drop k xs) i ≡ slice_get xs (k + i)
 slice_get-drop xs zero i = let same : i ≡ 0 + i = omega arith in ap (slice_get xs) same
 slice_get-drop [] (suc k) i = refl

@@ -26,7 +26,7 @@ use Rattle.sal_hub.proofs.Keeping.{or_false}
 use Rattle.sal_hub.proofs.Listed.{slice_get_more}
 use Rattle.sal_hub.proofs.Standing.{commits-more}
 
--- ---- calls that make, remove and tell no listener
+-- ---- calls that neither make, remove nor answer a listener
 
 abbrev pub is_listening : Call → Bool
 is_listening (Listen domain s path) = true
@@ -113,7 +113,7 @@ module _ (known : HubHistory) (e : Entry) (ls : Listeners) (are : AreListeners k
   abbrev reply : Reply
   reply = reply_to known.world answered e.client e.call
 
-  -- one that is neither removed nor told
+  -- one that neither is removed nor takes a batch
   pub still_listened : (id : ℕ) (l : Listener) → IsListened known id l → removes e.call (reply_to known.world (history known.world known.log) e.client e.call) id ≡ false
       → brings_to e.call (reply_to known.world (history known.world known.log) e.client e.call) id ≡ None → IsListened (more known e) id l
   still_listened id l was stays untold = record {

@@ -50,7 +50,7 @@ last_from-passes n test (x ∷ xs) k e =
       ] refl
     ] refl e
 
--- an element that passes is not behind the last one
+-- an element that passes is not after the last one
 pub last_from-some : {X : Type 0} (n : ℕ) (test : X → Bool) (xs : List X) (i : ℕ) (x : X) → slice_get xs i ≡ Some x → test x ≡ true → (k : ℕ) × (last_from n test xs ≡ Some k)
 last_from-some n test [] i x at passes = cc
 last_from-some n test (y ∷ xs) zero x at passes =

@@ -117,7 +117,7 @@ sound-with ss queue i b sound = record {
   failures = sound.failures;
 }
 
--- ---- what an answer tells
+-- ---- what follows from an answer
 
 accepted_fresh : (a b : Bool) (f g : MountFault) (o : Option MountFault) → refused_or (option_or (fault_if a f) (option_or (fault_if b g) o)) ≡ Accepted → b ≡ false
 accepted_fresh true b f g o e = cc

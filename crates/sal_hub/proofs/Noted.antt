@@ -51,7 +51,7 @@ at_chain_set xs c v k low high =
       | false ↦ λ no. chain_set_other xs c v k low (differ c k no)
     ] refl
 
--- a number that is noted for a chain, if any
+-- a number that is kept for a chain, if any
 pub noted_in-with : (xs : List (Option ℕ)) (chain : Option ℕ) (n k : ℕ) → IsWithin (length xs) chain → noted_in (noted_with xs chain n) k ≡ option_or (if is_of_chain (Some k) chain then Some n else None) (noted_in xs k)
 noted_in-with xs None n k w = refl
 noted_in-with xs (Some c) n k w =
@@ -105,7 +105,7 @@ pub flag_or : (xs : List Bool) (c : ℕ) → 0 < c → get_or xs (c - 1) false �
 flag_or xs zero low = absurd (omega (arith, low))
 flag_or xs (suc i) low = ap (λ j. get_or xs j false) (less_one i) ∙ flag_or_at xs i
 
--- what is noted is noted for a chain
+-- what is kept is kept for a chain
 some_within : (xs : List (Option ℕ)) (i n : ℕ) → option_and_then (λ (x : Option ℕ). x) (slice_get xs i) ≡ Some n → i < length xs
 some_within [] i n e = cc
 some_within (x ∷ xs) zero n e = omega arith
@@ -133,7 +133,7 @@ noted_in-after xs (Some c) n false k w =
       | false ↦ λ no. sym (option_or-none (noted_in xs k))
     ] refl
 
--- what was not noted late stays
+-- a list without numbers beyond the count stays
 pub cut_fixed : (count : ℕ) (xs : List (Option ℕ)) → ((k : ℕ) → up_to count (noted_in xs k) ≡ noted_in xs k) → cut_failures count xs ≡ xs
 cut_fixed count [] h = refl
 cut_fixed count (x ∷ xs) h = (λ i. h (suc zero) i ∷ cut_fixed count xs rest i)

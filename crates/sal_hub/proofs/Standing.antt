@@ -1,4 +1,4 @@
--- What a transaction that was begun stands on: a commit of its domain that there is.
+-- The base of a transaction that was begun: a commit that its domain has.
 use Rattle.std.proofs.Common.{◌≡◌, ◌⊎◌, ℕ, zero, suc, ◌-◌, ◌<◌, ◌≤◌, Bool, true, false, not, List, [], ◌∷◌, ◌++◌, length, map, Option, None, Some, refl, ap, sym, ◌∙◌, subst, arith, append-nil, length-append, inl, inr, if◌then◌else◌, nat_eq}
 use Rattle.std.specs.Prelude.{slice_get, option_and_then, unwrap_or}
 use Rattle.std.specs.Option.{option_map, option_or, option_to_list}
@@ -66,7 +66,7 @@ allowed_live world answered chain e =
     (last_none (fault_if (is_closed answered chain) ChainClosed) (option_map ChainFailed (failed_by answered chain)) (fault_if (has_open answered chain) PreviousOpen)
     (fault_if (not (is_live world answered (domain_of answered chain))) (NoDomain (domain_of answered chain))) e)
 
--- what a call submits stands on what began, if anything
+-- the base of what a call submits is that of its begin, if anything began
 pub submitted_base : (answered : List Answered) (call : Call) (r : Reply) (s : Sent) → sent_by answered call r ≡ Some s → (place : ℕ) × (s.base ≡ unwrap_or (began_at answered place) nowhere)
 submitted_base answered (Submit place ops) (Receipt n) s e = (place, ap (λ (t : Sent). t.base) (sym (same_Some (record { base = unwrap_or (began_at answered place) nowhere; ops = ops }) s e)))
 submitted_base answered call r s e = cc

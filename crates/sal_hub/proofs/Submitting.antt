@@ -184,7 +184,7 @@ module _ (journal journal' : Noted) (p p' : Pipeline) (is : IsKept journal p) (c
       token.schema ∙ ap (λ v. world.table_of new_world v tx.begun.domain) token.version
       ∙ sym (numbered new_world (version_at before tx.begun.place) tx.begun.domain is.current.only)
 
-  -- it is lawful over what its transaction stands on, by the present version as by that at its begin
+  -- it is lawful over its transaction's base, by the present version as by that at its begin
   sub_lawful : IsSentLawful (tables_now new_world before) (sent_of sub)
   sub_lawful =
       later_lawful new_world (version_at before tx.begun.place) (schema_version before) (sent_of sub) is.current.openings (version_at-low before tx.begun.place)

@@ -25,7 +25,7 @@ use Rattle.sal_hub.proofs.Listed.{slice_get_some}
 use Rattle.sal_hub.proofs.Serving.{count_is, domain_is, domains_are}
 use Rattle.sal_hub.proofs.Telling.{gone_reply, refused_listeners, told_reply, ungone_reply, untold_reply, with_next}
 
--- what was read at an index is what stands there
+-- what was read at an index is the item there
 pub same_at : {X : Type 0} (xs : List X) (i : ℕ) (x y : X) → x ≡ get_or xs i x → slice_get xs i ≡ Some y → x ≡ y
 same_at xs i x y read at = read ∙ get_or_from_slice_get xs i y x at
 
@@ -36,7 +36,7 @@ right_of false b e = cc
 live_of : (ls : List Listener) (client i : ℕ) (l : Listener) → slice_get ls i ≡ Some l → has_in ls client i ≡ true → l.live ≡ true
 live_of ls client i l at has = right_of (nat_eq l.client client) l.live (ap (λ (o : Option Listener). option_map_or (λ (x : Listener). nat_eq x.client client && x.live) o false) (sym at) ∙ has)
 
--- ---- its domain, and the commits there that it was not told
+-- ---- its domain, and the commits there that it has not taken
 
 module _ (journal : Noted) (p : Pipeline) (is : IsKept journal p) (ls : Listeners) (are : AreListeners (known_of journal p) ls) (n : ℕ) (l : Listener) (low : 0 < n) (at : slice_get ls.list.items (n - 1) ≡ Some l) where
   pub domain_within : l.domain < length p.domains.items

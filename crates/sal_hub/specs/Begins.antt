@@ -15,7 +15,7 @@ mode_by (Begin domain mode) = Some mode
 mode_by (ChainBegin chain mode) = Some mode
 mode_by call = None
 
--- the pending receipt, if any, on which the transaction of a reply stands
+-- the pending receipt, if any, that is the base of the transaction of a reply
 abbrev pub on_by : Reply → Option (Option ℕ)
 on_by (Begun commit on) = Some on
 on_by reply = None
@@ -24,7 +24,7 @@ on_by reply = None
 abbrev pub mode_at : List Answered → ℕ → Option Mode
 mode_at answered place = option_and_then (λ a. mode_by a.entry.call) (slice_get answered place)
 
--- the pending receipt, if any, on which the transaction stands that the entry at the place began
+-- the pending receipt, if any, that is the base of the transaction that the entry at the place began
 abbrev pub on_at : List Answered → ℕ → Option (Option ℕ)
 on_at answered place = option_and_then (λ a. on_by a.reply) (slice_get answered place)
 
@@ -33,8 +33,8 @@ abbrev pub place_by : Call → Option ℕ
 place_by (Submit place ops) = Some place
 place_by call = None
 
--- The call after so many entries submits the transaction that the entry at a place before it began in a mode that writes; the submission stands on
--- what that transaction stands on.
+-- The call after this many entries submits the transaction that the entry at a place before it began in a mode that writes; the submission has
+-- the base of that transaction.
 pub record IsOfWriter (answered : List Answered) (k : ℕ) (call : Call) (t : Sent) : Type 0 where
   pub place : ℕ
   pub mode : Mode

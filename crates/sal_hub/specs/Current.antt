@@ -20,7 +20,7 @@ abbrev pub number_of : ℕ → ℕ → ℕ
 number_of version domain = if nat_eq domain 0 then version else 0
 
 -- The submissions, the outcomes, the commits, the marks, the chains that failed and the domains that are live are the log's; the
--- operations of each submission are lawful over what its transaction stands on, which began in a mode that writes, and the opening trees of each
+-- operations of each submission are lawful over the base of its transaction, which began in a mode that writes, and the opening trees of each
 -- domain are closed. Each domain has the present version of its schema, and domain 0 alone has more than one.
 pub record IsCurrent (log : List Entry) (noted : List Bool) (queue : PipelineView) : Type 0 where
   pub sound : IsSound (sents (answers log queue)) queue

@@ -7,11 +7,11 @@ abbrev pub at_chain : {X : Type 0} → List X → ℕ → Option X
 at_chain xs zero = None
 at_chain xs (suc i) = slice_get xs i
 
--- the number that is noted for it, if any
+-- the number that is kept for it, if any
 abbrev pub noted_in : List (Option ℕ) → ℕ → Option ℕ
 noted_in notes chain = option_and_then (λ note. note) (at_chain notes chain)
 
--- the flag that is noted for it
+-- the flag that is kept for it
 abbrev pub flag_in : List Bool → ℕ → Bool
 flag_in flags chain = unwrap_or (at_chain flags chain) false
 
@@ -19,7 +19,7 @@ flag_in flags chain = unwrap_or (at_chain flags chain) false
 abbrev pub IsWithin : ℕ → Option ℕ → Type 0
 IsWithin count chain = (id : ℕ) → chain ≡ Some id → (0 < id) × (id ≤ count)
 
--- the list with a number that is noted for the chain, if any
+-- the list with a number that is kept for the chain, if any
 abbrev pub noted_with : List (Option ℕ) → Option ℕ → ℕ → List (Option ℕ)
 noted_with notes None number = notes
 noted_with notes (Some chain) number = set notes (chain - 1) (Some number)

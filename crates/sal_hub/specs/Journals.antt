@@ -11,7 +11,7 @@ pub record Noted : Type 0 where
   pub log : List Entry
   pub marks : List Bool
 
--- the mark at a place, none behind the list
+-- the mark at a place, none after the list
 abbrev pub mark_at : List Bool → ℕ → Bool
 mark_at marks place = slice_index_or marks place false
 

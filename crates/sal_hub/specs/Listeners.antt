@@ -57,7 +57,7 @@ IsMade known id l = listener_at (history known.world known.log) id.number ≡ So
 
 -- ---- what calls do
 
--- what is kept of a new one, of which the opening was told
+-- what is kept of a new one, which has its opening
 abbrev pub new_of : Ask → ℕ → Listener
 new_of ask version = record { client = ask.client; domain = ask.domain; store = ask.store; path = ask.path.now; version = version; live = true }
 
@@ -65,11 +65,11 @@ new_of ask version = record { client = ask.client; domain = ask.domain; store = 
 abbrev pub call_of : Ask → Call
 call_of ask = Listen ask.domain ask.store ask.path.now
 
--- what stands there at the newest commit of the domain
+-- the rows there at the newest commit of the domain
 abbrev pub opened_in : Domain → Ask → Opened
 opened_in d ask = opened (trees_of d.commits.items ask.store) ask.path.now (length d.commits.items - 1)
 
--- what the listener was not told of the domain; whether its path has a row of its own is told by the last version
+-- what the listener has not taken of the domain; whether its path has a row of its own is decided by the last version
 abbrev pub batch_in : Domain → Listener → Batch
 batch_in d l = batch (has_own_row (last_in d) l.path) (trees_of d.commits.items l.store) l.path l.version (length d.commits.items - 1)
 
@@ -77,7 +77,7 @@ batch_in d l = batch (has_own_row (last_in d) l.path) (trees_of d.commits.items 
 abbrev pub IsBatchFor : List Domain → List Listener → ℕ → Batch → Type 0
 IsBatchFor ds ls index b = (d : Domain) (l : Listener) → slice_get ls index ≡ Some l → slice_get ds l.domain ≡ Some d → b ≡ batch_in d l
 
--- why a domain, which is live or not, gets no further listener where there are so many live ones
+-- why a domain, which is live or not, gets no further listener if this many are live
 abbrev pub refusal_by : Bool → ℕ → ℕ → Option CallFault
 refusal_by live domain count = option_or (fault_if (not live) (NoDomain domain)) (fault_if (nat_le 256 count) TooManyListeners)
 
@@ -94,7 +94,7 @@ pub record Adds (old : Listeners) (l : Listener) (new : Listeners) : Type 0 wher
   pub list : new.list.items ≡ old.list.items ++ l ∷ []
   pub live : new.live ≡ old.live + 1
 
--- the one at the index was told up to this commit
+-- the one at the index has taken up to this commit
 pub record Tells (old : Listeners) (index : ℕ) (version : ℕ) (new : Listeners) : Type 0 where
   pub list : (l : Listener) → slice_get old.list.items index ≡ Some l → new.list.items ≡ set old.list.items index (record l { version = version })
   pub live : new.live ≡ old.live

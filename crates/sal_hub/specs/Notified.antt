@@ -13,7 +13,7 @@ AreNoted known notes = IsOf (note_calls (history known.world known.log)) notes
 
 -- ---- what calls do
 
--- the journal behind a call that failed: its entry stands, unless memory was wanting
+-- the journal after a call that failed: it has its entry, unless memory was wanting
 abbrev pub left_by : NoteFault → Noted → Noted
 left_by NoMemory j = taken_back j
 left_by (NoteRejected subscriber) j = j

@@ -46,7 +46,7 @@ pub record PipelineView : Type 0 where
   pub domains : List DomainView
   -- how many submissions were let go, those of the first receipts
   pub gone : ℕ
-  -- those behind
+  -- those after
   pub waiting : List Submission
   pub outcomes : List Outcome
   -- for each chain the receipt by which it failed
@@ -72,11 +72,11 @@ shown d =
 abbrev pub queue_of : Pipeline → PipelineView
 queue_of p = record { domains = map shown p.domains.items; gone = p.gone; waiting = p.waiting.items; outcomes = p.outcomes.items; failures = p.failures.items }
 
--- the domain of this number is live, by its flag; there is none behind the last
+-- the domain of this number is live, by its flag; there is none after the last
 abbrev pub is_live_in : List DomainView → ℕ → Bool
 is_live_in domains n = option_map_or (λ (d : DomainView). d.live) (slice_get domains n) false
 
--- the table of the present version of the domain of this number, without nodes where there is none
+-- the table of the present version of the domain of this number, without nodes if there is none
 abbrev pub table_in : List DomainView → ℕ → SchemaTable
 table_in domains n = option_map_or (λ (d : DomainView). d.table) (slice_get domains n) world.no_table
 
@@ -114,7 +114,7 @@ receipts_in ss queue n = commit_receipts n ss queue.outcomes
 
 -- ---- what holds of it, by all submissions
 
--- a domain has its number, and the commits that the outcomes tell, with their chains and receipts
+-- a domain has its number, and the commits that the outcomes give, with their chains and receipts
 pub record IsStored (ss : List Sent) (queue : PipelineView) (n : ℕ) (d : DomainView) : Type 0 where
   pub number : d.number ≡ n
   pub commits : d.ops ≡ commits_in ss queue n
@@ -126,7 +126,7 @@ pub record CanBeSeen (s : Submission) : Type 0 where
   pub below : LieBelow s.changes
   pub view : IfSome s.view (Shows s.base s.changes)
 
--- A submission stands on a commit of its domain, and its chain is one that was opened; its base after its operations can be seen.
+-- The base of a submission is a commit of its domain, and its chain is one that was opened; its base after its operations can be seen.
 pub record Stands (ss : List Sent) (queue : PipelineView) (s : Submission) : Type 0 where
   pub domain : s.domain < length queue.domains
   pub base : s.base_commit ≤ length (commits_in ss queue s.domain)
@@ -175,7 +175,7 @@ shorter queue = record { domains = queue.domains; gone = length queue.outcomes; 
 abbrev pub Grows : {X : Type 0} → List X → List X → Type 0
 Grows {X} old new = (more : List X) × (new ≡ old ++ more)
 
--- each domain is as it was, but for commits behind those that it had
+-- each domain is as it was, but for commits after those that it had
 abbrev pub HaveGrown : List DomainView → List DomainView → Type 0
 HaveGrown [] [] = Unit {0}
 HaveGrown [] (e ∷ es) = ⊥
@@ -190,13 +190,13 @@ pub record HasGrown (old new : PipelineView) : Type 0 where
   pub outcomes : Grows old.outcomes new.outcomes
   pub failures : cut_failures (length old.outcomes) new.failures ≡ old.failures
 
--- the domains with so many of their commits behind the opening
+-- the domains with so many of their commits after the opening
 abbrev pub cut_all : List DomainView → List ℕ → List DomainView
 cut_all [] ks = []
 cut_all (d ∷ ds) [] = d ∷ ds
 cut_all (d ∷ ds) (k ∷ ks) = record d { ops = take k d.ops; chains = take k d.chains; receipts = take (k + 1) d.receipts } ∷ cut_all ds ks
 
--- how many commits each domain has behind its opening
+-- how many commits each domain has after its opening
 abbrev pub counts_of : List DomainView → List ℕ
 counts_of ds = map (λ (d : DomainView). length d.ops) ds
 

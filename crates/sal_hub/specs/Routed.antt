@@ -30,7 +30,7 @@ collect_reply rpc (Some rows) = Output rpc rows
 
 -- ---- what calls do
 
--- the journal behind a call that failed: its entry stands, unless memory was wanting
+-- the journal after a call that failed: it has its entry, unless memory was wanting
 abbrev pub left_by : RpcFault → Noted → Noted
 left_by NoMemory j = taken_back j
 left_by fault j = j

@@ -40,8 +40,8 @@ ops_of (Read tx) = []
 ops_of (Write tx) = tx.changes
 
 -- The transaction was begun by the entry at its place: its domain, the number of its base commit, its chain and the trees
--- that it stands on are those that the log gives, and its schema is the version that was present there. The entry asked for its mode, and its
--- reply names the pending receipt that it stands on. So a token of one mode is none of another.
+-- of its base are those that the log gives, and its schema is the version that was present there. The entry asked for its mode, and its
+-- reply names the pending receipt of its base. So a token of one mode is none of another.
 pub record IsBegun (known : HubHistory) (begun : Begun) (under : Mode) (trees : Pair) : Type 0 where
   pub before : begun.place < length known.log
   pub began : began_at (history known.world known.log) begun.place ≡ Some (record { domain = begun.domain; commit = begun.base_commit; chain = begun.chain; trees = rows_in trees })
@@ -64,7 +64,7 @@ pub record AreAlike (a b : Begun) (under under' : Mode) (trees trees' : Pair) : 
 abbrev pub IsToken : HubHistory → Tx → Type 0
 IsToken known tx = IsBegun known (begun_of tx) (mode_of tx) (base_of tx)
 
--- the transaction that the entry behind the log begins, in this domain, chain and mode, without operations
+-- the transaction that the entry after the log begins, in this domain, chain and mode, without operations
 pub record IsFresh (known : HubHistory) (asked : ℕ) (member : Option ℕ) (under : Mode) (tx : Tx) : Type 0 where
   pub place : (begun_of tx).place ≡ length known.log
   pub domain : (begun_of tx).domain ≡ asked

@@ -216,7 +216,7 @@ fn begin_next(
     Ok(tx)
 }
 
-// Where a transaction behind the submission with this receipt, if any, begins.
+// Where a transaction after the submission with this receipt, if any, begins.
 fn footing_in(
     alloc: Global,
     pipeline: &Pipeline,

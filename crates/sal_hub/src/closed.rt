@@ -20,7 +20,7 @@ impl Hub {
     }
 
     /// Does nothing; its contract is a law of each hub. The trees of each domain at each of its commits are closed by the
-    /// present version of its schema, and so are those that a transaction stands on: each list entry and presence container above a row has its own
+    /// present version of its schema, and so are the bases of its transactions: each list entry and presence container above a row has its own
     /// row, and each entry its key leafs, with the values of its keys.
     pub fn stays_closed(&self)
         ensures { IsClosedLog self.now.world (history self.now.world self.now.log) }
@@ -31,7 +31,7 @@ impl Hub {
     }
 
     /// Does nothing; its contract is a law of each hub. Each version of a schema extends the one before, the opening trees are closed by
-    /// version 0. Each submission is lawful, by the present version, over what its transaction stands on, and an earlier entry began that
+    /// version 0. Each submission is lawful, by the present version, over its transaction's base, and an earlier entry began that
     /// transaction in a mode that writes.
     pub fn stays_lawful(&self)
         ensures sound { AreSound self.now.world }

@@ -70,7 +70,7 @@ fn is_table(schema: &Schema)
     let _ = schema.len();
 }
 
-// Opens one more domain, behind those that are open.
+// Opens one more domain, after those that are open.
 fn open_next(
     alloc: Global,
     domains: &mut Vec<Domain>,

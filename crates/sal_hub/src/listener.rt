@@ -32,7 +32,7 @@ impl ListenerId {
     }
 }
 
-/// What is kept of a listener: whose it is, to what it listens, the number of the commit up to which it was told, and
+/// What is kept of a listener: its client, its path and store, the number of the commit up to which it has taken, and
 /// whether it was not removed yet.
 #[derive(Drop)]
 pub(crate) struct Listener {

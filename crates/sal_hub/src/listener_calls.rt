@@ -103,7 +103,7 @@ impl Listeners {
         Ok(opened)
     }
 
-    // Adds the listener, which was told this commit, and the entry. Where memory is wanting, nothing changes that is seen.
+    // Adds the listener, at the version of this commit, and the entry. If memory runs out, nothing changes that is seen.
     fn add(&mut self, journal: &mut Journal, ask: &Ask, version: u64) -> Result<(), NoMemory>
         requires room { length journal.old.log < limit }
         requires few { self.old.live < 256 }
@@ -231,7 +231,7 @@ impl Listeners {
     }
 }
 
-// What is kept of a new listener, which was told this commit.
+// What is kept of a new listener, at the version of this commit.
 fn new_of(ask: &Ask, version: u64) -> Result<Listener, NoMemory>
     ensures { IfOk result (λ l. l ≡ spec.new_of ask.now version) }
 {
@@ -264,7 +264,7 @@ fn enter(journal: &mut Journal, ask: &Ask) -> Result<(), NoMemory>
     )
 }
 
-// What changed for the listener by the commits of its domain since it was told last.
+// What changed for the listener by the commits of its domain since its version.
 fn batch_for(alloc: Global, domain: &Domain, listener: &Listener) -> Result<Batch, NoMemory>
     requires kept { AreKept domain.now.commits.items }
     requires told { listener.now.version < length domain.now.commits.items }

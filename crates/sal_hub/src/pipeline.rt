@@ -123,7 +123,7 @@ impl Pipeline {
         Ok(outcome)
     }
 
-    /// Takes back what came behind so many outcomes, and so many commits of each domain. It takes no memory.
+    /// Takes back what came after so many outcomes, and so many commits of each domain. It takes no memory.
     fn cut_back(&mut self, outcomes: usize, counts: &[u64])
         requires kept { AllKept self.old.domains.items }
         requires long { length counts.now ≡ length self.old.domains.items }
@@ -192,7 +192,7 @@ fn let_go(waiting: &mut VecDeque<Submission>, gone: &mut usize, decided: usize)
     *gone = decided;
 }
 
-// Drops the first ones, as many as told. It takes no memory.
+// Drops the first `count` ones. It takes no memory.
 fn drop_first(waiting: &mut VecDeque<Submission>, count: usize)
     ensures { waiting.new.items ≡ drop count waiting.old.items }
 {
@@ -210,7 +210,7 @@ fn outcome_at(outcomes: &[Outcome], index: usize) -> Result<Outcome, NoMemory>
     Ok(outcome)
 }
 
-// How many commits each domain has behind its opening.
+// How many commits each domain has after its opening.
 fn counts_of(alloc: Global, domains: &[Domain]) -> Result<Vec<u64>, NoMemory>
     requires { AllKept domains.now }
     ensures { IfOk result (λ counts. counts.items ≡ counts_of (map shown domains.now)) }
@@ -222,7 +222,7 @@ fn counts_of(alloc: Global, domains: &[Domain]) -> Result<Vec<u64>, NoMemory>
     Ok(counts)
 }
 
-// Cuts each domain back to so many commits behind its opening.
+// Cuts each domain back to so many commits after its opening.
 fn cut_domains(domains: &mut [Domain], counts: &[u64])
     requires kept { AllKept domains.old }
     requires long { length counts.now ≡ length domains.old }

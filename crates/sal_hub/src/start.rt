@@ -27,7 +27,7 @@ use sal_types::{Duplicate, NoMemory};
 use std::alloc::Global;
 use std::sync::Arc;
 
-/// Where a transaction begins: the number of its base commit, the pending receipt that it stands on, if any, and the trees
+/// Where a transaction begins: the number of its base commit, the pending receipt of its base, if any, and the trees
 /// that it sees.
 #[derive(Drop)]
 pub(crate) struct Footing {

@@ -1,4 +1,4 @@
--- A submission that is pending can be seen, and the transaction stands on it.
+-- A submission that is pending can be seen, and is the transaction's base.
 use Rattle.std.proofs.Common.{◌≡◌, ℕ, ◌-◌, ◌<◌, Bool, true, length, Option, None, Some, Result, Ok, Err, if◌then◌else◌, nat_lt, ap, sym, subst, ◌∙◌, arith}
 use Rattle.std.proofs.lemmas.Bool.Decides.{nat_tests}
 use Rattle.std.specs.Prelude.{IfOk, slice_get}

@@ -1,4 +1,4 @@
--- One more domain stands behind the others.
+-- One more domain is after the others.
 use Rattle.std.proofs.Common.{sym, subst}
 use Rattle.std.proofs.lemmas.List.Elements.{All-push}
 use Rattle.sal_graft.specs.Kept.{AreKept}

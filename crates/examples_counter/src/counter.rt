@@ -31,7 +31,6 @@ impl Counter {
     pub fn count_up(&self, alloc: Global, tx: &mut WriteTx) -> anyhow::Result<()>
         ensures begun { tx.new.begun ≡ tx.old.begun }
         ensures mode { tx.new.mode ≡ tx.old.mode }
-        ensures mode { tx.new.mode ≡ tx.old.mode }
         ensures base { tx.new.base ≡ tx.old.base }
     {
         let last = self.last(alloc, tx)?;
@@ -42,7 +41,6 @@ impl Counter {
     fn last(&self, alloc: Global, tx: &mut WriteTx) -> anyhow::Result<u64>
         ensures begun { tx.new.begun ≡ tx.old.begun }
         ensures mode { tx.new.mode ≡ tx.old.mode }
-        ensures mode { tx.new.mode ≡ tx.old.mode }
         ensures base { tx.new.base ≡ tx.old.base }
     {
         let rows = tx.read(alloc, Store::Config, &self.path)?;
@@ -52,7 +50,6 @@ impl Counter {
     // Puts the last number given.
     fn put(&self, alloc: Global, tx: &mut WriteTx, number: u64) -> anyhow::Result<()>
         ensures begun { tx.new.begun ≡ tx.old.begun }
-        ensures mode { tx.new.mode ≡ tx.old.mode }
         ensures mode { tx.new.mode ≡ tx.old.mode }
         ensures base { tx.new.base ≡ tx.old.base }
     {

@@ -5,14 +5,14 @@ use Rattle.sal_typedefs.specs.Spots.{site_in}
 use Rattle.sal_typedefs.proofs.WholeTypes.{whole-faults, whole-type}
 use Rattle.sal_typedefs.proofs.evaluate.judge_at.Goals as goal
 
-pub returns-in-Some-clause-fault : goal.returns-in-Some-clause-fault
-returns-in-Some-clause-fault c =
+pub returns-in_ok-ty-in-Some-clause-fault : goal.returns-in_ok-ty-in-Some-clause-fault
+returns-in_ok-ty-in-Some-clause-fault c =
     let a = c.args in
     let site = site_in a.number a.around.now a.stmt.now in
     sym (ap (least None) (whole-faults a.typedefs.now site c.in-Some.builtin c.in-Some.ensures.names (steps_of a.typedefs.now) c.in-Some.ensures.is))
 
-pub returns-in-Some-clause-meant : goal.returns-in-Some-clause-meant
-returns-in-Some-clause-meant c none =
+pub returns-in_ok-ty-in-Some-clause-meant : goal.returns-in_ok-ty-in-Some-clause-meant
+returns-in_ok-ty-in-Some-clause-meant c none =
     let a = c.args in
     let site = site_in a.number a.around.now a.stmt.now in
     c.in_ok-ty.ensures.value ∙ sym (whole-type a.typedefs.now site c.in-Some.builtin c.in-Some.ensures.names (steps_of a.typedefs.now) c.in-Some.ensures.is)

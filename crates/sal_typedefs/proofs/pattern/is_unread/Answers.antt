@@ -1,5 +1,5 @@
 -- The parser's verdict is that of the grammar.
-use Rattle.std.proofs.Common.{List, map, option_map, sym, subst, ◌∙◌}
+use Rattle.std.proofs.Common.{map, option_map, sym, subst, ◌∙◌}
 use Rattle.std.specs.String.{string_bytes}
 use Rattle.regex_syntax.specs.Verdict.{Reads, Refuses}
 use Rattle.sal_typedefs.proofs.Grammars.{read-good, refused-bad}

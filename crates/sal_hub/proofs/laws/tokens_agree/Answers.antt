@@ -1,9 +1,8 @@
 -- Each says what the entry at its place says.
-use Rattle.std.proofs.Common.{◌≡◌, ℕ, Option, Some, ap, sym, ◌∙◌, if◌then◌else◌, nat_eq}
+use Rattle.std.proofs.Common.{◌≡◌, ap, sym, ◌∙◌, if◌then◌else◌, nat_eq}
 use Rattle.std.proofs.lemmas.Option.{same_Some}
-use Rattle.sal_tx.specs.declared.begun.Begun.{Begun}
 use Rattle.sal_tx.specs.Views.{rows_in}
-use Rattle.sal_history.specs.History.{Answered, began_at, history}
+use Rattle.sal_history.specs.History.{began_at, history}
 use Rattle.sal_history.specs.Submissions.{Base}
 use Rattle.sal_history.specs.Versions.{version_at}
 use Rattle.sal_history.specs.World.{table_of}

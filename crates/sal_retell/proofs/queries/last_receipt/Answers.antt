@@ -10,4 +10,4 @@ loop-i-preserved c =
     let i = c.loop-i.i in
     let last : Option ℕ = c.loop-i.last in
     let at : i + 1 ≡ 1 + i = omega arith in
-    last_more 1 (is_on c.args.chain) c.args.sent.now i (i + 1) _ last c.later.result c.loop-i-test.true at c.loop-i.invariant (c.later.ensures ∙ ap (λ (b : Bool). option_or (if b then Some (i + 1) else None) last) c.is_on.ensures)
+    last_more 1 (is_on c.args.chain) c.args.sent.now i (i + 1) _ last c.later-last.result c.loop-i-test.true at c.loop-i.invariant (c.later-last.ensures ∙ ap (λ (b : Bool). option_or (if b then Some (i + 1) else None) last) c.is_on.ensures)

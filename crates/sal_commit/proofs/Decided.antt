@@ -24,7 +24,7 @@ use Rattle.sal_commit.specs.declared.phases.PreFault.TheVariants.{Invalid, NoMem
 use Rattle.sal_commit.specs.Domains.{IsSame}
 use Rattle.sal_commit.specs.Deciding.{IsNext, Decides, breached, conflict, decide, gone, invalid, refused}
 use Rattle.sal_commit.specs.Sound.{BreakNone}
-use Rattle.sal_commit.specs.Stamps.{CanFollow, receipts_of}
+use Rattle.sal_commit.specs.Stamps.{CanFollow, first_receipt, receipts_of}
 
 -- ---- canCommit and preCommit
 
@@ -102,6 +102,13 @@ next-sound failed d sub c table same none next Oper =
     next-breach d sub c table same next Oper
     (none-breach Oper (breach d.schema.value Oper (rows_after d sub Oper)) (none-second (invalid d sub Config) (invalid d sub Oper) (none-second (refused failed d sub) (breached d sub) none)))
 
+-- the receipt of one commit more
+pub receipts_of-push : (commits : List Commit) (next : Commit) (receipt : ℕ) → 1 ≤ length commits → next.receipt ≡ first_receipt commits + receipt → receipts_of (commits ++ next ∷ []) ≡ receipts_of commits ++ receipt ∷ []
+receipts_of-push [] next receipt some is = absurd (omega (arith, some))
+receipts_of-push (o ∷ commits) next receipt some is =
+    let own : next.receipt - o.receipt ≡ receipt = omega (arith, is) in
+    map-append (λ (c : Commit). c.receipt - o.receipt) (o ∷ commits) (next ∷ []) ∙ ap (λ r. receipts_of (o ∷ commits) ++ r ∷ []) own
+
 module _ (old : Domain) (sub : Submission) (next : Commit) (are : AreKept old.commits.items) (is : IsNext old sub next) where
   last : Commit
   last = get_or old.commits.items (length old.commits.items - 1) next
@@ -123,7 +130,7 @@ module _ (old : Domain) (sub : Submission) (next : Commit) (are : AreKept old.co
     opening = ap opening_in pushed ∙ (λ i s. opening_in-push old.commits.items next s are.opened i);
     commits = ap ops_of pushed ∙ ops_of-push old.commits.items next are.opened ∙ ap (λ ops. ops_of old.commits.items ++ ops ∷ []) is.ops;
     chains = ap chains_of pushed ∙ chains_of-push old.commits.items next are.opened ∙ ap (λ chain. chains_of old.commits.items ++ chain ∷ []) is.chain;
-    receipts = ap receipts_of pushed ∙ map-append (λ (c : Commit). c.receipt) old.commits.items (next ∷ []) ∙ ap (λ receipt. receipts_of old.commits.items ++ receipt ∷ []) is.receipt;
+    receipts = ap receipts_of pushed ∙ receipts_of-push old.commits.items next sub.receipt are.opened is.receipt;
   }
 
 pub IsSame-trans : (old new newest : Domain) → IsSame old new → IsSame new newest → IsSame old newest

@@ -1,3 +1,4 @@
+pub mod Begun
 pub mod Following
 pub mod Applying
 pub mod Decided

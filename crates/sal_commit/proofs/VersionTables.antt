@@ -23,7 +23,7 @@ pub version-first : (table : SchemaTable) (upgrades : List SchemaTable) → vers
 version-first table [] = refl
 version-first table (next ∷ upgrades) = refl
 
--- and each later one stands at the index before its number
+-- and each later one is at the index before its number
 pub version-at : (table : SchemaTable) (upgrades : List (Arc SchemaTable Global)) (v : ℕ) (s : Arc SchemaTable Global) → v < length upgrades → s ≡ get_or upgrades v s
     → version_from table (tables_of upgrades) (suc v) ≡ s.value
 version-at table [] v s h at = absurd (omega (arith, h))

@@ -1,5 +1,5 @@
 -- The phases of a commit, by the trees that a domain keeps.
-use Rattle.std.specs.Prelude.{◌≡◌, ℕ, ◌<◌, List, ◌++◌, length, Option, unwrap_or}
+use Rattle.std.specs.Prelude.{◌≡◌, ℕ, ◌+◌, ◌<◌, List, ◌++◌, length, Option, unwrap_or}
 use Rattle.std.specs.Option.{option_or, option_map}
 use Rattle.sal_types.specs.declared.value.Store.{Store}
 use Rattle.sal_types.specs.declared.value.Store.TheVariants.{Config, Oper}
@@ -21,9 +21,9 @@ use Rattle.sal_history.specs.Outcome as outcome
 use Rattle.sal_history.specs.Submissions.{if_done}
 use Rattle.sal_commit.specs.declared.domain.Domain.{Domain}
 use Rattle.sal_commit.specs.Domains.{IsSame}
-use Rattle.sal_commit.specs.Stamps.{receipts_of}
+use Rattle.sal_commit.specs.Stamps.{first_receipt, receipts_of}
 
--- A submission that can be decided in the domain: it stands on one of the domain's commits, and its rows lie below their
+-- A submission that can be decided in the domain: its base is one of the domain's commits, and its rows lie below their
 -- paths.
 pub record IsFor (d : Domain) (sub : Submission) : Type 0 where
   pub kept : AreKept d.commits.items
@@ -64,10 +64,10 @@ decide failed d sub = unwrap_or (option_or (option_map ChainFailed failed) (gone
 abbrev pub refused : Option ℕ → Domain → Submission → Option Outcome
 refused failed d sub = option_or (option_map ChainFailed failed) (option_or (gone d) (conflict d sub))
 
--- the next commit of the domain: that of the submission
+-- the next commit of the domain: that of the submission, whose receipt counts on from that of the opening
 pub record IsNext (d : Domain) (sub : Submission) (c : Commit) : Type 0 where
   pub number : c.number ≡ length d.commits.items
-  pub receipt : c.receipt ≡ sub.receipt
+  pub receipt : c.receipt ≡ first_receipt d.commits.items + sub.receipt
   pub chain : c.chain ≡ sub.chain
   pub ops : c.ops.value ≡ sub.changes
   pub trees : (s : Store) → rows_in c.trees s ≡ apply_ops (tip (opening_in d.commits.items) (ops_of d.commits.items) s) s sub.changes

@@ -1,3 +1,4 @@
+pub mod Anew
 pub mod Deciding
 pub mod Domains
 pub mod Opening

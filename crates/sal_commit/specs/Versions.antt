@@ -36,7 +36,7 @@ upgrade_fault d version = fault_over (version_in d version) (newest_in d)
 abbrev pub IsUpgradeFault : Domain → ℕ → DomainFault → Type 0
 IsUpgradeFault d version fault = (fault ≡ NoMemory) ⊎ (upgrade_fault d version ≡ Some fault)
 
--- The domain behind the upgrade to the version: its commits stay, and the newest of them is the one from which on no tree breaks a
+-- The domain after the upgrade to the version: its commits stay, and the newest of them is the one from which on no tree breaks a
 -- rule by the new version.
 pub record Upgrades (old : Domain) (next : ℕ) (new : Domain) : Type 0 where
   pub number : new.number ≡ old.number

@@ -2,7 +2,7 @@
 ghost use Rattle.std.specs.Prelude.{◌≡◌, IfOk, OnErr};
 ghost use Rattle.sal_commit.specs.Deciding as spec;
 ghost use Rattle.sal_commit.specs.Domains.{IsSame};
-ghost use Rattle.sal_commit.specs.Stamps.{IsNewStamp};
+ghost use Rattle.sal_commit.specs.Stamps.{IsNewReceipt};
 
 use crate::domain::Domain;
 use crate::phases::{CanFault, PreFault, can, pre, publish};
@@ -11,19 +11,18 @@ use sal_tx::Submission;
 use sal_types::NoMemory;
 use std::alloc::Global;
 
-/// Decides the submission at the newest commit of its domain: the outcome, and where it is done the next commit with both
-/// trees. Where its chain has failed, by the receipt `failed`, that is the outcome, and else where the domain is not live any
-/// more, that it is unmounted. Nodes that it touches get the stamp `fresh`, that of its receipt, which is greater than the
-/// newest commit's. After want of memory the domain has the commits that it had.
+/// Decides the submission at the newest commit of its domain. Answers the outcome, and adds the next commit with both trees if it is done. If its
+/// chain has failed, by the receipt `failed`, that is the outcome; else, if the domain is not live, that it is unmounted. The commit's
+/// receipt, and the stamp of the nodes that it touches, count on from the receipt of the opening. If memory runs out, the domain has the commits that it
+/// had.
 pub fn decide(
     alloc: Global,
     sub: &Submission,
     domain: &mut Domain,
     failed: Option<u64>,
-    fresh: u64,
 ) -> Result<Outcome, NoMemory>
     requires given { spec.IsFor domain.old sub.now }
-    requires fresh { IsNewStamp domain.old.commits.items sub.now.receipt fresh }
+    requires later { IsNewReceipt domain.old.commits.items sub.now.receipt }
     ensures outcome { IfOk result (λ o. o ≡ spec.decide failed domain.old sub.now) }
     ensures decided { IfOk result (λ o. spec.Decides domain.old sub.now o domain.new) }
     ensures same { OnErr result (IsSame domain.old domain.new) }
@@ -34,7 +33,7 @@ pub fn decide(
         Err(CanFault::Refused { outcome }) => return Ok(outcome),
         Err(CanFault::NoMemory) => return Err(NoMemory),
     };
-    let prepared = match pre(alloc, ready, fresh) {
+    let prepared = match pre(alloc, ready) {
         Ok(prepared) => prepared,
         Err(PreFault::Invalid { outcome }) => return Ok(outcome),
         Err(PreFault::NoMemory) => return Err(NoMemory),

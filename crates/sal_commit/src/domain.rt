@@ -21,7 +21,7 @@ use std::alloc::Global;
 use std::sync::Arc;
 
 /// A domain: a pair of stores with one schema in some versions, of which one is the present one, and its commits from the opening
-/// on. Commit `k` stands at index `k`. From the newest commit at the last upgrade on, no tree of a commit breaks a structural rule
+/// on. Commit `k` is at index `k`. From the newest commit at the last upgrade on, no tree of a commit breaks a structural rule
 /// by the present version; the plan of rules is that of this version. Each commit was made of the one before it: what its
 /// operations touch has the stamp of its receipt, and every other node stayed. So where nodes of two neighbours have one path and
 /// one stamp, they are the same. Its submissions are decided by its version rules.
@@ -103,7 +103,7 @@ impl Domain {
         Ok(())
     }
 
-    /// Drops the commits behind this one, which is not before the last upgrade. It takes no memory.
+    /// Drops the commits after this one, which is not before the last upgrade. It takes no memory.
     pub fn cut_to(&mut self, number: u64)
         requires since { self.old.since ≤ number }
         ensures same { IsSame self.old self.new }

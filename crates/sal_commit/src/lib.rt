@@ -3,6 +3,7 @@
 //! | item | what it is |
 //! |---|---|
 //! | `Domain` | a domain: its number, its version rules, the versions of its schema with the present one, and its commits, the opening first; from the last upgrade on no tree of a commit breaks a structural rule, and each was made of the one before it by the commit's operations and the stamp of its receipt |
+//! | `Domain::begin_anew` | the domain in the next epoch, in place: its newest trees are its opening |
 //! | `NextVersion`, `Domain::next_version`, `upgrade` | the next version with the plan of its rules, where the newest trees break none; and the domain at that version |
 //! | `DomainFault` | why a domain is not opened |
 //! | `can` | whether a submission's chain has failed, its domain is not live, or it conflicts with the foreign commits after its base |
@@ -22,12 +23,15 @@
 //! by the present version, and those before may, so a domain is cut back to no commit before it. The versions are shared with
 //! who opened the domain.
 //!
+//! An epoch of a domain is the time from its opening on. `Domain::begin_anew` begins the next one: the newest commit becomes the opening, with its nodes
+//! and its receipt, and all other commits go. Each later receipt counts on from that of the opening, so the stamps of nodes grow over all epochs.
+//!
 //! `specs/` says which commits break no rule and what a change keeps of the newest trees (`Sound`), which stamp a new
-//! commit gives and what may stand behind others (`Stamps`), what opens a domain
-//! (`Opening`), what stays of one (`Domains`), what an upgrade leaves (`Versions`), and what each phase gives and what a decision leaves (`Deciding`).
+//! commit gives and what may follow others (`Stamps`), what opens a domain
+//! (`Opening`), how the next epoch begins (`Anew`), what stays of one (`Domains`), what an upgrade leaves (`Versions`), and what each phase gives and what a decision leaves (`Deciding`).
 //!
 //! ```
-//! let outcome = decide(alloc, &submission, &mut domain, None, fresh)?;
+//! let outcome = decide(alloc, &submission, &mut domain, None)?;
 //! ```
 //!
 //! | call | copied | shared | scanned |
@@ -35,6 +39,7 @@
 //! | `Domain::open` | a node for each path of the opening, and a list of numbers for each schema node | the schema | the opening's rows, and both trees whole |
 //! | `Domain::reserve` | the list of commits, as it grows, without what they hold | all of them | |
 //! | `Domain::cut_to` | | | the commits that it drops |
+//! | `Domain::begin_anew` | | the newest trees, which stay, and the present version with those after it | the commits that it drops |
 //! | `Domain::next_version` | a list of numbers for each schema node | the version | both newest trees whole |
 //! | `Domain::upgrade`, `last_schema` | | the version, which is moved | |
 //! | `can` | the spans between the commits of the chain, and the path that a conflict names | | of a chained submission the chains of the commits after its base; for each operation its path at both ends of each span; for a conflict whose path is absent at the end of its span that span's commits with their operations and rows; nothing where the chain has failed or the domain is not live |
@@ -46,6 +51,7 @@
 //! A refused one gives back all that it took.
 #![tactic(auto)]
 
+mod anew;
 mod clashing;
 mod deciding;
 mod domain;

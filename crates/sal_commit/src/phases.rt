@@ -1,11 +1,12 @@
 //! The three phases: canCommit, preCommit and commit.
-ghost use Rattle.std.specs.Prelude.{◌≡◌, ◌⊎◌, ◌+◌, ◌∷◌, [], ◌++◌, None, Some, IfOk, MatchResult, length};
+ghost use Rattle.std.specs.Prelude.{◌≡◌, ◌⊎◌, ◌+◌, ◌^◌, ◌<◌, ◌≤◌, ◌∷◌, [], ◌++◌, None, Some, IfOk, OnOk, MatchResult, length};
+ghost use Rattle.sal_graft.specs.Following.{stamp_of};
 ghost use Rattle.sal_rows.specs.declared.outcome.Outcome.TheVariants.{Done};
 ghost use Rattle.sal_rows.specs.declared.outcome.Outcome.{Outcome as Decided};
 ghost use Rattle.sal_commit.specs.Deciding as spec;
 ghost use Rattle.sal_commit.specs.Domains.{IsSame, is_roomy};
 ghost use Rattle.sal_commit.specs.Sound.{BreakNone};
-ghost use Rattle.sal_commit.specs.Stamps.{CanFollow, IsNewStamp};
+ghost use Rattle.sal_commit.specs.Stamps.{CanFollow, IsNewReceipt, first_receipt};
 
 use crate::clashing::conflict_in;
 use crate::domain::Domain;
@@ -100,17 +101,33 @@ pub fn can<'a>(
     }
 }
 
-/// preCommit: both trees after the submission, where they break no structural rule. Nodes that it touches get the stamp
-/// `fresh`, that of its receipt, which is greater than the newest commit's. It takes all memory of the decision, and changes
-/// nothing.
-pub fn pre(alloc: Global, ready: Ready, fresh: u64) -> Result<Prepared, PreFault>
+/// How many receipts are given in all epochs of a domain, at most; with more, memory runs out.
+const MAX_RECEIPTS: u64 = 2305843009213693952;
+
+// The stamp of what the submission touches: that of its receipt, which counts on from the opening's.
+fn fresh_stamp(sub: &Submission, domain: &Domain) -> Result<u64, NoMemory>
+    requires { 1 ≤ length domain.now.commits.items }
+    ensures stamp { IfOk result (λ fresh. fresh ≡ stamp_of (first_receipt domain.now.commits.items + sub.now.receipt)) }
+    ensures few { OnOk result (first_receipt domain.now.commits.items + sub.now.receipt < 2 ^ 62) }
+{
+    let first = domain.commits[0].receipt;
+    if first >= MAX_RECEIPTS || sub.receipt >= MAX_RECEIPTS {
+        return Err(NoMemory);
+    }
+    Ok((first + sub.receipt) * 2 + 1)
+}
+
+/// preCommit: both trees after the submission, if they break no structural rule. The commit's receipt counts on from that of the opening, and the nodes
+/// that it touches get the stamp of that receipt. It takes all memory of the decision, and changes nothing.
+pub fn pre(alloc: Global, ready: Ready) -> Result<Prepared, PreFault>
     requires given { spec.IsFor ready.domain.now ready.sub.now }
-    requires fresh { IsNewStamp ready.domain.now.commits.items ready.sub.now.receipt fresh }
+    requires later { IsNewReceipt ready.domain.now.commits.items ready.sub.now.receipt }
     ensures follows { IfOk result (λ prepared. CanFollow ready.entry.domain.now.commits.items prepared.commit) }
     ensures outcome { MatchResult result
         (λ prepared. spec.IsNext ready.entry.domain.now ready.entry.sub.now prepared.commit × (spec.breached ready.entry.domain.now ready.entry.sub.now ≡ None))
         (λ fault. (fault ≡ PreFault.NoMemory) ⊎ ((o : Decided) × (fault ≡ PreFault.Invalid o) × (spec.breached ready.entry.domain.now ready.entry.sub.now ≡ Some o))) }
 {
+    let fresh = fresh_stamp(ready.sub, ready.domain)?;
     let trees = next_trees(alloc, ready.sub, ready.domain, fresh)?;
     if let Some(outcome) = breached(alloc, ready.domain, &trees, fresh)? {
         return Err(PreFault::Invalid { outcome });
@@ -120,15 +137,17 @@ pub fn pre(alloc: Global, ready: Ready, fresh: u64) -> Result<Prepared, PreFault
 }
 
 // The commit of the submission, with the next number of the domain and with these trees. Its operations are the submission's own
-// list, which that shares with its entry of the log.
+// list, which that shares with its entry of the log. Its receipt counts on from that of the opening.
 fn next_commit(
     alloc: Global,
     sub: &Submission,
     domain: &Domain,
     trees: Pair,
 ) -> Result<Commit, NoMemory>
+    requires some { 1 ≤ length domain.now.commits.items }
+    requires few { first_receipt domain.now.commits.items + sub.now.receipt < 2 ^ 62 }
     ensures number { IfOk result (λ c. c.number ≡ length domain.now.commits.items) }
-    ensures receipt { IfOk result (λ c. c.receipt ≡ sub.now.receipt) }
+    ensures receipt { IfOk result (λ c. c.receipt ≡ first_receipt domain.now.commits.items + sub.now.receipt) }
     ensures chain { IfOk result (λ c. c.chain ≡ sub.now.chain) }
     ensures ops { IfOk result (λ c. c.ops.value ≡ sub.now.changes) }
     ensures trees { IfOk result (λ c. c.trees ≡ trees) }
@@ -136,7 +155,7 @@ fn next_commit(
     let ops = sub.changes.shared(alloc)?;
     Ok(Commit {
         number: domain.commits.len() as u64,
-        receipt: sub.receipt,
+        receipt: domain.commits[0].receipt + sub.receipt,
         chain: sub.chain,
         ops,
         trees,

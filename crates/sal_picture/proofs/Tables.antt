@@ -1,14 +1,13 @@
 -- Tables of commits by their receipts: one commit more, one domain more, and all domains of a hub.
-use Rattle.std.proofs.Common.{◌≡◌, ℕ, zero, suc, ◌+◌, ◌<◌, List, [], ◌∷◌, ◌++◌, length, get_or, take, ◌≤◌, Option, None, Some, refl, ap, sym, ◌∙◌, arith}
+use Rattle.std.proofs.Common.{◌≡◌, ℕ, suc, ◌+◌, ◌-◌, ◌<◌, List, [], ◌∷◌, ◌++◌, length, get_or, take, ◌≤◌, Option, None, Some, refl, ap, sym, ◌∙◌, arith}
 use Rattle.std.specs.Prelude.{map}
 use Rattle.std.specs.List.{range_with_len}
-use Rattle.std.proofs.lemmas.List.{length-map, length-take-le, map_more, take_all, take_more}
+use Rattle.std.proofs.lemmas.List.{length-map, length-take-le, map_more, take_all}
 use Rattle.std.specs.Option.{option_or}
 use Rattle.sal_commit.specs.declared.domain.Domain.{Domain}
-use Rattle.sal_commit.specs.Stamps.{receipts_of}
 use Rattle.sal_tree.specs.declared.commit.Commit.{Commit}
 use Rattle.sal_shapes.specs.declared.scene.Made.{Made}
-use Rattle.sal_picture.specs.Made.{here, made_among, made_from, receipts_in}
+use Rattle.sal_picture.specs.Made.{here, made_among, made_from, receipts_in, receipts_since}
 
 pub or_assoc : {X : Type 0} (a b c : Option X) → option_or (option_or a b) c ≡ option_or a (option_or b c)
 or_assoc None b c = refl
@@ -50,16 +49,18 @@ all_receipts f (d ∷ ds) n each =
     ap (λ (rs : List ℕ). rs ∷ map receipts_in ds) first ∙ ap (λ (rest : List (List ℕ)). f n ∷ rest) rest
 
 -- a commit more of those of a domain
-pub commit_more : (d : ℕ) (cs : List Commit) (n : ℕ) (c : Commit) (i : ℕ) (first : Option Made) → n < length cs → c ≡ get_or cs n c → option_or (option_or first (made_from d 0 (receipts_of (take n cs)) i)) (here d n c.receipt i) ≡ option_or first (made_from d 0 (receipts_of (take (n + 1) cs)) i)
-commit_more d cs n c i first h e =
-    let rs = receipts_of (take n cs) in
-    let count : 0 + length rs ≡ n = omega (arith, length-map (take n cs) (λ (x : Commit). x.receipt), length-take-le n cs (omega arith)) in
-    let more : receipts_of (take (n + 1) cs) ≡ rs ++ c.receipt ∷ [] = map_more (λ (x : Commit). x.receipt) cs n c h ∙ ap (λ (x : Commit). rs ++ x.receipt ∷ []) (sym e) in
-    or_assoc first (made_from d 0 rs i) (here d n c.receipt i)
-    ∙ ap (option_or first) (ap (λ (m : ℕ). option_or (made_from d 0 rs i) (here d m c.receipt i)) (sym count) ∙ sym (from_push d 0 rs c.receipt i) ∙ ap (λ (list : List ℕ). made_from d 0 list i) (sym more))
+pub commit_more : (since d : ℕ) (cs : List Commit) (n : ℕ) (c : Commit) (i : ℕ) (first : Option Made) → n < length cs → c ≡ get_or cs n c
+    → option_or (option_or first (made_from d 0 (receipts_since since (take n cs)) i)) (here d n (c.receipt - since) i) ≡ option_or first (made_from d 0 (receipts_since since (take (n + 1) cs)) i)
+commit_more since d cs n c i first h e =
+    let rs = receipts_since since (take n cs) in
+    let own : ℕ = c.receipt - since in
+    let count : 0 + length rs ≡ n = omega (arith, length-map (take n cs) (λ (x : Commit). x.receipt - since), length-take-le n cs (omega arith)) in
+    let more : receipts_since since (take (n + 1) cs) ≡ rs ++ own ∷ [] = map_more (λ (x : Commit). x.receipt - since) cs n c h ∙ ap (λ (x : Commit). rs ++ (x.receipt - since) ∷ []) (sym e) in
+    or_assoc first (made_from d 0 rs i) (here d n own i)
+    ∙ ap (option_or first) (ap (λ (m : ℕ). option_or (made_from d 0 rs i) (here d m own i)) (sym count) ∙ sym (from_push d 0 rs own i) ∙ ap (λ (list : List ℕ). made_from d 0 list i) (sym more))
 
-pub commits_all : (d : ℕ) (cs : List Commit) (n : ℕ) (i : ℕ) (first : Option Made) → length cs ≤ n → option_or first (made_from d 0 (receipts_of (take n cs)) i) ≡ option_or first (made_from d 0 (receipts_of cs) i)
-commits_all d cs n i first h = ap (λ (list : List Commit). option_or first (made_from d 0 (receipts_of list) i)) (take_all n cs h)
+pub commits_all : (since d : ℕ) (cs : List Commit) (n : ℕ) (i : ℕ) (first : Option Made) → length cs ≤ n → option_or first (made_from d 0 (receipts_since since (take n cs)) i) ≡ option_or first (made_from d 0 (receipts_since since cs) i)
+commits_all since d cs n i first h = ap (λ (list : List Commit). option_or first (made_from d 0 (receipts_since since list) i)) (take_all n cs h)
 
 -- a domain more, which has its place as its number
 pub domain_more : (ds : List Domain) (n : ℕ) (d : Domain) (i : ℕ) → n < length ds → d ≡ get_or ds n d → d.number ≡ n → option_or (made_among 0 (map receipts_in (take n ds)) i) (made_from d.number 0 (receipts_in d) i) ≡ made_among 0 (map receipts_in (take (n + 1) ds)) i

@@ -1,9 +1,10 @@
 -- The commits of a log by their receipts.
-use Rattle.std.specs.Prelude.{◌≡◌, ℕ, ◌+◌, ◌<◌, List, [], ◌∷◌, if◌then◌else◌, length, map, Option, None, Some, nat_eq, slice_index_or}
+use Rattle.std.specs.Prelude.{◌≡◌, ℕ, ◌+◌, ◌-◌, ◌<◌, List, [], ◌∷◌, if◌then◌else◌, length, map, Option, None, Some, nat_eq, slice_index_or}
 use Rattle.std.specs.List.{range_with_len}
 use Rattle.std.specs.Option.{option_or}
 use Rattle.sal_commit.specs.declared.domain.Domain.{Domain}
 use Rattle.sal_commit.specs.Stamps.{receipts_of as commit_receipts_of}
+use Rattle.sal_tree.specs.declared.commit.Commit.{Commit}
 use Rattle.sal_history.specs.History.{history, outcomes, sents}
 use Rattle.sal_hub.specs.CommitReceipts.{commit_receipts}
 use Rattle.sal_hub.specs.HubHistory.{HubHistory}
@@ -40,6 +41,10 @@ made_at known i = made_among 0 (receipts_of known) i
 -- the receipts of a domain's commits, as the code has it
 abbrev pub receipts_in : Domain → List ℕ
 receipts_in d = commit_receipts_of d.commits.items
+
+-- the receipts of commits, counted from one on
+abbrev pub receipts_since : ℕ → List Commit → List ℕ
+receipts_since first commits = map (λ (c : Commit). c.receipt - first) commits
 
 -- each domain has its index as its number
 abbrev pub AreNumbered : List Domain → Type 0

@@ -1,7 +1,7 @@
 //! The commits of a hub by their receipts.
 ghost use Rattle.std.specs.Prelude.{◌≡◌, ◌<◌, ◌^◌, ℕ, None, Some, IfOk, OnOk, if◌then◌else◌, length, map, nat_eq};
 ghost use Rattle.std.specs.Option.{option_or};
-ghost use Rattle.sal_commit.specs.Stamps.{receipts_of};
+ghost use Rattle.sal_commit.specs.Stamps.{first_receipt, receipts_of};
 ghost use Rattle.sal_draw.specs.Acts.{made_in};
 ghost use Rattle.sal_picture.specs.Made as spec;
 
@@ -55,15 +55,34 @@ fn add_commit(table: &mut Table, receipt: u64, made: Made) -> Result<(), NoMemor
     Ok(())
 }
 
+// The receipt of the opening, from which those of the commits count on.
+fn first_receipt(commits: &[Commit]) -> u64
+    ensures { result ≡ first_receipt commits.now }
+{
+    match commits.first() {
+        Some(opening) => opening.receipt,
+        None => 0,
+    }
+}
+
 fn add_domain(table: &mut Table, domain: u32, commits: &[Commit]) -> Result<(), NoMemory>
     ensures { OnOk result ((i : ℕ) → made_in table.new.items i ≡ option_or (made_in table.old.items i) (spec.made_from «domain» 0 (receipts_of commits.now) i)) }
+{
+    let first = first_receipt(commits);
+    add_since(table, domain, commits, first)
+}
+
+// The commits by their receipts, counted from this one on.
+fn add_since(table: &mut Table, domain: u32, commits: &[Commit], first: u64) -> Result<(), NoMemory>
+    ensures { OnOk result ((i : ℕ) → made_in table.new.items i ≡ option_or (made_in table.old.items i) (spec.made_from «domain» 0 (spec.receipts_since first commits.now) i)) }
 {
     for (number, commit) in commits.iter().enumerate() {
         let made = Made {
             domain,
             number: number as u64,
         };
-        add_commit(table, commit.receipt, made)?;
+        let receipt = commit.receipt.saturating_sub(first);
+        add_commit(table, receipt, made)?;
     }
     Ok(())
 }

@@ -2,7 +2,7 @@ ghost use Rattle.std.specs.Prelude.{◌≡◌, ◌-◌, ◌+◌, ◌*◌, ◌≤
 ghost use Rattle.sal_tree.specs.declared.commit.Commit.{Commit as Kept};
 ghost use Rattle.sal_graft.specs.Kept.{AreKept};
 ghost use Rattle.sal_commit.specs.Deciding.{IsFor, LieBelow};
-ghost use Rattle.sal_commit.specs.Stamps.{IsNewStamp};
+ghost use Rattle.sal_commit.specs.Stamps.{IsNewReceipt};
 
 use crate::ops::{Wish, lies_below, op_of};
 use crate::schemas::{Shape, device};
@@ -83,8 +83,7 @@ fn newest_receipt(commits: &[Commit]) -> u64
 // The receipt after that of the newest commit.
 fn next_receipt(domain: &Domain) -> Result<u64, Fail>
     requires { AreKept domain.now.commits.items }
-    ensures small { IfOk result (λ receipt. receipt ≤ 1000000) }
-    ensures fresh { IfOk result (λ receipt. IsNewStamp domain.now.commits.items receipt (receipt * 2 + 1)) }
+    ensures { IfOk result (IsNewReceipt domain.now.commits.items) }
 {
     let newest = newest_receipt(&domain.commits);
     if newest >= 1_000_000 {
@@ -97,8 +96,7 @@ fn next_receipt(domain: &Domain) -> Result<u64, Fail>
 pub(crate) fn submission(alloc: Global, domain: &Domain, wish: Wish) -> Result<Submission, Fail>
     requires { AreKept domain.now.commits.items }
     ensures given { IfOk result (IsFor domain.now) }
-    ensures small { IfOk result (λ sub. sub.receipt ≤ 1000000) }
-    ensures fresh { IfOk result (λ sub. IsNewStamp domain.now.commits.items sub.receipt (sub.receipt * 2 + 1)) }
+    ensures later { IfOk result (λ sub. IsNewReceipt domain.now.commits.items sub.receipt) }
 {
     let receipt = next_receipt(domain)?;
     let newest = domain.commits.len() - 1;
@@ -130,7 +128,7 @@ pub(crate) fn outcome_of(domain: &mut Domain, alloc: Global, wish: Wish) -> Resu
     ensures { IfOk result (λ o. AreKept domain.new.commits.items) }
 {
     let sub = submission(alloc, domain, wish)?;
-    Ok(decide(alloc, &sub, domain, None, sub.receipt * 2 + 1)?)
+    Ok(decide(alloc, &sub, domain, None)?)
 }
 
 /// The same: the number of its commit, or 0.
@@ -145,13 +143,12 @@ pub(crate) fn decided(domain: &mut Domain, alloc: Global, wish: Wish) -> Result<
 /// The commit of a submission, by the first two phases.
 pub(crate) fn prepared(alloc: Global, domain: &Domain, sub: &Submission) -> Result<Prepared, Fail>
     requires given { IsFor domain.now sub.now }
-    requires small { sub.now.receipt ≤ 1000000 }
-    requires fresh { IsNewStamp domain.now.commits.items sub.now.receipt (sub.now.receipt * 2 + 1) }
+    requires later { IsNewReceipt domain.now.commits.items sub.now.receipt }
 {
     let Ok(ready) = can(alloc, sub, domain, None) else {
         return Err("it cannot be committed".into());
     };
-    match pre(alloc, ready, sub.receipt * 2 + 1) {
+    match pre(alloc, ready) {
         Ok(prepared) => Ok(prepared),
         Err(_) => Err("it breaks a rule".into()),
     }

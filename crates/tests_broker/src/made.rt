@@ -1,7 +1,7 @@
 ghost use Rattle.std.specs.Prelude.{◌+◌, ◌*◌, ◌≤◌, IfOk};
 ghost use Rattle.sal_graft.specs.Kept.{AreKept};
 ghost use Rattle.sal_commit.specs.Deciding.{IsFor};
-ghost use Rattle.sal_commit.specs.Stamps.{IsNewStamp};
+ghost use Rattle.sal_commit.specs.Stamps.{IsNewReceipt};
 
 use crate::commit::{opened, prepared, submission};
 use crate::entries::add_entries;
@@ -73,8 +73,7 @@ fn many(alloc: Global) -> Result<Domain, Fail>
 // The nodes of the configuration after the submission.
 fn counted(alloc: Global, domain: &Domain, sub: &Submission) -> Result<[usize; 4], Fail>
     requires given { IsFor domain.now sub.now }
-    requires small { sub.now.receipt ≤ 1000000 }
-    requires fresh { IsNewStamp domain.now.commits.items sub.now.receipt (sub.now.receipt * 2 + 1) }
+    requires later { IsNewReceipt domain.now.commits.items sub.now.receipt }
 {
     let prepared = prepared(alloc, domain, sub)?;
     Ok(counts(alloc, &prepared.commit.trees.config)?)

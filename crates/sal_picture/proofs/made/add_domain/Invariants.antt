@@ -1,9 +1,0 @@
-use Rattle.std.proofs.Common.{◌≡◌, ℕ, take}
-use Rattle.std.specs.Option.{option_or}
-use Rattle.sal_commit.specs.Stamps.{receipts_of}
-use Rattle.sal_draw.specs.Acts.{made_in}
-use Rattle.sal_picture.specs.Made.{made_from}
-use Rattle.sal_picture.proofs.made.add_domain.Given as goal
-
-abbrev pub invariant-loop-number : goal.invariant-loop-number
-invariant-loop-number l = (i : ℕ) → made_in l.table.items i ≡ option_or (made_in l.initial.table.items i) (made_from l.domain 0 (receipts_of (take l.number l.commits)) i)

@@ -14,7 +14,7 @@ use Rattle.sal_graft.proofs.KeptLemmas.{length-ops_of}
 use Rattle.sal_tx.specs.declared.tx.Submission.{Submission}
 use Rattle.sal_commit.specs.declared.domain.Domain.{Domain as Stored}
 use Rattle.sal_commit.specs.Domains.{IsSame}
-use Rattle.sal_commit.specs.Stamps.{receipts_of}
+use Rattle.sal_commit.specs.Stamps.{first_receipt, receipts_of}
 use Rattle.sal_commit.specs.Versions.{tables_of}
 use Rattle.sal_schema.specs.declared.table.SchemaTable.{SchemaTable}
 use Rattle.sal_history.specs.World.{Domain}
@@ -65,7 +65,11 @@ chains_of-take [] zero = refl
 chains_of-take [] (suc k) = refl
 chains_of-take (c ∷ cs) k = chains-take cs k
 
-pub AreKept-take : (cs : List Commit) (k : ℕ) → AreKept cs → AreKept (take (suc k) cs)
+pub receipts_of-take : (cs : List Commit) (k : ℕ) → receipts_of (take (suc k) cs) ≡ take (suc k) (receipts_of cs)
+receipts_of-take [] k = refl
+receipts_of-take (c ∷ cs) k = ap (λ rs. (c.receipt - c.receipt) ∷ rs) (sym (take-map (λ (x : Commit). x.receipt - c.receipt) k cs))
+
+AreKept-take : (cs : List Commit) (k : ℕ) → AreKept cs → AreKept (take (suc k) cs)
 AreKept-take cs k are = record {
   opened = omega (arith, length-take (suc k) cs, are.opened);
   numbers = λ j c h is.
@@ -111,7 +115,7 @@ level (d ∷ ds) kept = ((each d.commits.items, with_opening d.commits.items (ke
     each (c ∷ cs) = as_long cs
 
     with_opening : (cs : List Commit) → 1 ≤ length cs → length (ops_of cs) + 1 ≡ length (receipts_of cs)
-    with_opening cs some = omega (arith, length-ops_of cs some, length-map cs (λ (c : Commit). c.receipt), some)
+    with_opening cs some = omega (arith, length-ops_of cs some, length-map cs (λ (c : Commit). c.receipt - first_receipt cs), some)
 
 -- what has grown is cut back to what it was
 cut_back : (ds es : List DomainView) → AreLevel ds → HaveGrown ds es → cut_all es (counts_of ds) ≡ ds
@@ -197,7 +201,7 @@ cut_one ds all ks i k d d' within d_is at_k same commits so_far =
     let opening : opening_in d'.commits.items ≡ opening_in d.commits.items = ap opening_in cs ∙ opening-take d.commits.items k in
     let ops : ops_of d'.commits.items ≡ take k (ops_of d.commits.items) = ap ops_of cs ∙ ops_of-take d.commits.items k in
     let chains : chains_of d'.commits.items ≡ take k (chains_of d.commits.items) = ap chains_of cs ∙ chains_of-take d.commits.items k in
-    let receipts : receipts_of d'.commits.items ≡ take (k + 1) (receipts_of d.commits.items) = ap receipts_of commits ∙ sym (take-map (λ (c : Commit). c.receipt) (k + 1) d.commits.items) in
+    let receipts : receipts_of d'.commits.items ≡ take (k + 1) (receipts_of d.commits.items) = ap receipts_of cs ∙ receipts_of-take d.commits.items k ∙ ap (λ n. take n (receipts_of d.commits.items)) (sym one) in
     let cut : shown d' ≡ record (shown d) { ops = take k (shown d).ops; chains = take k (shown d).chains; receipts = take (k + 1) (shown d).receipts } =
     λ j. record {
       number = same.number j;

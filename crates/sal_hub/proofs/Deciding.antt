@@ -12,7 +12,6 @@ use Rattle.sal_rows.specs.declared.op.Op.{Op}
 use Rattle.sal_rows.specs.declared.outcome.Outcome.{Outcome}
 use Rattle.sal_rows.specs.declared.outcome.Outcome.TheVariants.{ChainFailed}
 use Rattle.sal_rows.specs.Spans.{spans}
-use Rattle.sal_graft.specs.Following.{stamp_of}
 use Rattle.sal_graft.specs.Kept.{AreKept, chains_of, opening_in, ops_of, rows_in}
 use Rattle.sal_graft.proofs.KeptLemmas.{length-ops_of}
 use Rattle.sal_tx.specs.declared.tx.Submission.{Submission}
@@ -20,7 +19,7 @@ use Rattle.sal_commit.specs.declared.domain.Domain.{Domain}
 use Rattle.sal_commit.specs.Deciding.{Decides, IsFor}
 use Rattle.sal_commit.specs.Deciding as commit
 use Rattle.sal_commit.specs.Domains.{IsSame}
-use Rattle.sal_commit.specs.Stamps.{IsNewStamp, receipts_of}
+use Rattle.sal_commit.specs.Stamps.{IsNewReceipt, receipts_of}
 use Rattle.sal_commit.specs.Versions.{tables_of}
 use Rattle.sal_history.specs.Outcome as rules
 use Rattle.sal_history.specs.World.{last_of, no_table, opening_of, rules_of, version_from}
@@ -216,12 +215,9 @@ module _ (ss : List Sent) (queue : PipelineView) (sound : IsSound ss queue) (k :
   its_number = sound.numbers k sub next ∙ ap (λ n. n + 1) place
 
   -- the commits of its domain have smaller receipts
-  pub new_stamp : (stamp : ℕ) → stamp ≡ stamp_of (length queue.outcomes + 1) → IsNewStamp d.commits.items sub.receipt stamp
-  new_stamp stamp is = record {
-    own = is ∙ ap stamp_of (sym its_number);
-    later = λ c at_c.
-        omega (arith, its_number, receipt-decided sub.domain ss queue.outcomes d.commits.items (length d.commits.items - 1) c stored.receipts (omega (arith, kept.opened)) at_c);
-  }
+  pub new_receipt : IsNewReceipt d.commits.items sub.receipt
+  new_receipt c at_c =
+      omega (arith, its_number, receipt-decided sub.domain ss queue.outcomes d.commits.items (length d.commits.items - 1) c stored.receipts (omega (arith, kept.opened)) at_c)
 
   failed-here : (chain : Option ℕ) → failure_of queue.failures chain ≡ failing chain ss queue.outcomes
   failed-here None = sym (failing-none 1 ss queue.outcomes)
@@ -380,8 +376,8 @@ module _ (p : Pipeline) (kept : AllKept p.domains.items) (ss : List Sent) (sound
     pub can_now : IsFor d sub
     can_now = can_decide ss (queue_of p) sound (index - p.gone) place sub next d kept_here at
 
-    pub stamp_now : (stamp : ℕ) → stamp ≡ stamp_of (index + 1) → IsNewStamp d.commits.items sub.receipt stamp
-    stamp_now stamp is = new_stamp ss (queue_of p) sound (index - p.gone) place sub next d kept_here at stamp (is ∙ ap (λ n. stamp_of (n + 1)) here)
+    pub receipt_now : IsNewReceipt d.commits.items sub.receipt
+    receipt_now = new_receipt ss (queue_of p) sound (index - p.gone) place sub next d kept_here at
 
     -- where memory was wanting
     pub grown_nothing : (d' : Domain) (os : List Outcome) → IsSame d d' → d'.commits.items ≡ d.commits.items → os ≡ p.outcomes.items → HasGrown (queue_of p) (record { domains = map shown (set p.domains.items sub.domain d'); gone = p.gone; waiting = p.waiting.items; outcomes = os; failures = p.failures.items })

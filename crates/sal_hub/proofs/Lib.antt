@@ -1,4 +1,5 @@
-pub mod Beginning
+pub mod NextEpoch
+mod Beginning
 pub mod ChainCalls
 pub mod Chained
 pub mod Cutting

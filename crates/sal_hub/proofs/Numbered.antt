@@ -1,11 +1,11 @@
 -- The receipts of commits: each is one of those that were decided.
-use Rattle.std.proofs.Common.{◌≡◌, ℕ, zero, suc, ◌+◌, ◌<◌, ◌≤◌, true, false, List, [], ◌∷◌, ◌++◌, length, get_or, Some, refl, ap, sym, ◌∙◌, subst, arith, append_assoc, append-nil, if◌then◌else◌, nat_eq}
+use Rattle.std.proofs.Common.{◌≡◌, ℕ, zero, suc, ◌+◌, ◌-◌, ◌<◌, ◌≤◌, true, false, List, [], ◌∷◌, ◌++◌, length, map, get_or, Some, refl, ap, sym, ◌∙◌, subst, arith, append_assoc, append-nil, if◌then◌else◌, nat_eq}
 use Rattle.std.specs.Prelude.{slice_get}
 use Rattle.std.proofs.lemmas.Option.{same_Some}
 use Rattle.std.proofs.lemmas.Bool.Decides.{nat_tests}
 use Rattle.sal_rows.specs.declared.outcome.Outcome.{Outcome}
 use Rattle.sal_tree.specs.declared.commit.Commit.{Commit}
-use Rattle.sal_commit.specs.Stamps.{receipts_of}
+use Rattle.sal_commit.specs.Stamps.{first_receipt, receipts_of}
 use Rattle.sal_history.specs.Submissions.{Sent, if_done, is_done}
 use Rattle.sal_hub.specs.CommitReceipts.{commit_receipts, receipts_from}
 
@@ -66,14 +66,14 @@ below-from bound r n (s ∷ ss) [] h = tt
 below-from bound r n (s ∷ ss) (o ∷ os) h =
     below-more bound (added_receipt n s o r) (receipts_from (r + 1) n ss os) (below-added bound n s o r (omega (arith, h))) (below-from bound (r + 1) n ss os (omega (arith, h)))
 
-below-at : (bound : ℕ) (commits : List Commit) (k : ℕ) (c : Commit) → AreBelow bound (receipts_of commits) → k < length commits → c ≡ get_or commits k c → c.receipt < bound
-below-at bound [] k c low h at = absurd (omega arith)
-below-at bound (d ∷ commits) zero c low h at = subst (λ (x : Commit). x.receipt < bound) (sym at) low.0
-below-at bound (d ∷ commits) (suc k) c low h at = below-at bound commits k c low.1 (omega (arith, h)) at
+below-at : (bound first : ℕ) (commits : List Commit) (k : ℕ) (c : Commit) → AreBelow bound (map (λ (x : Commit). x.receipt - first) commits) → k < length commits → c ≡ get_or commits k c → c.receipt - first < bound
+below-at bound first [] k c low h at = absurd (omega arith)
+below-at bound first (d ∷ commits) zero c low h at = subst (λ (x : Commit). x.receipt - first < bound) (sym at) low.0
+below-at bound first (d ∷ commits) (suc k) c low h at = below-at bound first commits k c low.1 (omega (arith, h)) at
 
 -- a commit's receipt is that of the opening, or one of those decided
-pub receipt-decided : (n : ℕ) (ss : List Sent) (os : List Outcome) (commits : List Commit) (k : ℕ) (c : Commit) → receipts_of commits ≡ commit_receipts n ss os → k < length commits → c ≡ get_or commits k c → c.receipt < length os + 1
+pub receipt-decided : (n : ℕ) (ss : List Sent) (os : List Outcome) (commits : List Commit) (k : ℕ) (c : Commit) → receipts_of commits ≡ commit_receipts n ss os → k < length commits → c ≡ get_or commits k c → c.receipt < first_receipt commits + (length os + 1)
 receipt-decided n ss os commits k c are h at =
     let bound : ℕ = length os + 1 in
     let low : AreBelow bound (commit_receipts n ss os) = (omega arith, below-from bound 1 n ss os (omega arith)) in
-    below-at bound commits k c (subst (AreBelow bound) (sym are) low) h at
+    omega (arith, below-at bound (first_receipt commits) commits k c (subst (AreBelow bound) (sym are) low) h at)

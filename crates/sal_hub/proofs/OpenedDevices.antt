@@ -1,8 +1,10 @@
 -- The domains that devices open, and what is refused.
-use Rattle.std.proofs.Common.{◌≡◌, ℕ, zero, suc, ◌+◌, ◌<◌, ◌≤◌, Bool, true, false, not, ◌&&◌, ◌||◌, nat_eq, List, [], ◌∷◌, length, map, Option, None, Some, refl, ap, sym, ◌∙◌, subst, arith, inl, inr, ◌⊎◌, if◌then◌else◌}
+use Rattle.std.proofs.Common.{◌≡◌, ℕ, zero, suc, ◌+◌, ◌≤◌, Bool, true, false, not, ◌&&◌, ◌||◌, nat_eq, List, [], ◌∷◌, length, Option, None, Some, refl, ap, sym, ◌∙◌, subst, arith, inl, inr, ◌⊎◌, if◌then◌else◌}
 use Rattle.std.specs.Prelude.{All, IsTrue, slice_get}
 use Rattle.std.specs.List.{AllByRecursion}
-use Rattle.std.specs.Option.{option_map, option_or}
+use Rattle.std.specs.Option.{option_map, option_map_or, option_or}
+use Rattle.std.proofs.lemmas.Bool.{cases_lt}
+use Rattle.std.proofs.lemmas.List.{length-map}
 use Rattle.std.proofs.lemmas.Bool.Decides.{nat_tests}
 use Rattle.std.proofs.lemmas.List.Elements.{recursion_from_All}
 use Rattle.std.proofs.lemmas.Option.{none-some, same_Some}
@@ -22,7 +24,7 @@ use Rattle.sal_commit.specs.Versions.{tables_of}
 use Rattle.sal_schema.specs.Fitting.{is_closed}
 use Rattle.sal_history.specs.World as world
 use Rattle.sal_history.specs.World.{AreVersions, IsChain, OneIsUpgraded}
-use Rattle.sal_history.proofs.Versions.{at-version, chain-at, first-version}
+use Rattle.sal_history.proofs.Versions.{at-version, chain-at, first-version, table-in}
 use Rattle.sal_history_laws.specs.Logs.{AreSound, IsSound}
 use Rattle.sal_hub.specs.declared.opening.OpenFault.{OpenFault}
 use Rattle.sal_hub.specs.declared.opening.OpenFault.TheVariants.{Broken, NotConfig, NoMemory}
@@ -30,8 +32,10 @@ use Rattle.sal_hub.specs.declared.pipeline.Pipeline.{Pipeline}
 use Rattle.sal_hub.specs.Current.{IsCurrent, IsKept, number_of}
 use Rattle.sal_hub.specs.Failures.{noted_in}
 use Rattle.sal_hub.specs.Journals.{Noted}
-use Rattle.sal_hub.specs.PipelineView.{AllKept, PipelineView, DomainView, is_live_in, queue_of, shown, table_in, version_of, world_in}
-use Rattle.sal_hub.specs.Opened.{HaveTables, shown_from, shown_of}
+use Rattle.sal_hub.specs.PipelineView.{AllKept, PipelineView, DomainView, is_live_in, opened_as, queue_of, table_in, world_in}
+use Rattle.sal_hub.specs.Opened.{AreFirst, HaveTables, IsFirst, shown_from, shown_of}
+use Rattle.sal_hub.proofs.Deciding.{live-here, table-at, version-here, world-at}
+use Rattle.sal_hub.proofs.Listed.{slice_get_none, slice_get_some}
 use Rattle.sal_hub.specs.Openings.{AreClosedDevices, IsClosedDevice, domain_of, numbered, opening_fault, state_row, world_of}
 
 -- ---- one device
@@ -77,26 +81,19 @@ length-shown : (rules : Rules) (n : ℕ) (devices : List Device) → length (sho
 length-shown rules n [] = refl
 length-shown rules n (device ∷ devices) = ap suc (length-shown rules (n + 1) devices)
 
-shown_at : (rules : Rules) (n : ℕ) (devices : List Device) (k : ℕ) (d : DomainView) → slice_get (shown_from rules n devices) k ≡ Some d → (d.number ≡ n + k) × (d.ops ≡ []) × (d.chains ≡ []) × (d.receipts ≡ 0 ∷ [])
+shown_at : (rules : Rules) (n : ℕ) (devices : List Device) (k : ℕ) (d : DomainView) → slice_get (shown_from rules n devices) k ≡ Some d → IsFirst (n + k) d
 shown_at rules n [] k d e = cc
 shown_at rules n (device ∷ devices) zero d e =
     let here : n ≡ n + 0 = omega arith in
-    subst (λ (x : DomainView). (x.number ≡ n + 0) × (x.ops ≡ []) × (x.chains ≡ []) × (x.receipts ≡ 0 ∷ [])) (same_Some (shown_of rules n device) d e) (here, refl, refl, refl)
-shown_at rules n (device ∷ devices) (suc k) d e =
-    let next : n + 1 + k ≡ n + suc k = omega arith in
-    let rest = shown_at rules (n + 1) devices k d e in
-    (rest.0 ∙ next, rest.1, rest.2, rest.3)
+    subst (IsFirst (n + 0)) (same_Some (shown_of rules n device) d e) (record { number = here; live = ap (λ k. nat_eq k 0) here; table = refl; version = refl; ops = refl; chains = refl; receipts = refl })
+shown_at rules n (device ∷ devices) (suc k) d e = let next : n + 1 + k ≡ n + suc k = omega arith in subst (λ m. IsFirst m d) next (shown_at rules (n + 1) devices k d e)
 
--- the controller's own domain alone is live
-live_later : (rules : Rules) (n : ℕ) (devices : List Device) (k : ℕ) → 0 < n → is_live_in (shown_from rules n devices) k ≡ false
-live_later rules n [] k later = refl
-live_later rules n (device ∷ devices) zero later = grind (arith, nat_tests)
-live_later rules n (device ∷ devices) (suc k) later = live_later rules (n + 1) devices k (omega (arith, later))
-
-live_first : (rules : Rules) (k : ℕ) (devices : List Device) → 1 ≤ length devices → is_live_in (shown_from rules 0 devices) k ≡ nat_eq k 0
-live_first rules k [] some = absurd (omega (arith, some))
-live_first rules zero (device ∷ devices) some = refl
-live_first rules (suc k) (device ∷ devices) some = let other : nat_eq (suc k) 0 ≡ false = grind (arith, nat_tests) in live_later rules 1 devices k (omega arith) ∙ sym other
+-- the domains that devices open
+pub shown_first : (rules : Rules) (devices : List Device) → 1 ≤ length devices → AreFirst (shown_from rules 0 devices)
+shown_first rules devices some = record {
+  some = omega (arith, some, length-shown rules 0 devices);
+  each = λ n d at. let same : 0 + n ≡ n = omega arith in subst (λ m. IsFirst m d) same (shown_at rules 0 devices n d at);
+}
 
 -- the versions of a device have tables of schemas and extend each other, and its opening trees are closed by version 0
 sound_device : (rules : Rules) (device : Device) → HaveTables device → IsClosedDevice device → IsChain device.schema.value (tables_of device.upgrades.items) → IsSound (domain_of rules device)
@@ -121,17 +118,6 @@ sound_openings rules (device ∷ devices) tables closed chains (suc k) domain at
 pub are_sound : (rules : Rules) (devices : List Device) → All HaveTables devices → AreClosedDevices devices → AreVersions (world_of rules devices) → AreSound (world_of rules devices)
 are_sound rules devices tables closed versions = sound_openings rules devices (recursion_from_All HaveTables devices tables) closed versions.chain
 
--- each domain is at version 0
-first_tables : (rules : Rules) (n : ℕ) (devices : List Device) (k : ℕ) → table_in (shown_from rules n devices) k ≡ world.table_of (world_of rules devices) 0 k
-first_tables rules n [] k = refl
-first_tables rules n (device ∷ devices) zero = sym (first-version device.schema.value (tables_of device.upgrades.items))
-first_tables rules n (device ∷ devices) (suc k) = first_tables rules (n + 1) devices k
-
-first_versions : (rules : Rules) (n : ℕ) (devices : List Device) (k : ℕ) → version_of (shown_from rules n devices) k ≡ 0
-first_versions rules n [] k = refl
-first_versions rules n (device ∷ devices) zero = refl
-first_versions rules n (device ∷ devices) (suc k) = first_versions rules (n + 1) devices k
-
 none_later : (k : ℕ) → 0 ≡ number_of 0 k
 none_later k = elim (nat_eq k 0) as (λ b. ◌≡◌ {A = ℕ} 0 (if b then 0 else 0)) [ true ↦ refl | false ↦ refl ]
 
@@ -139,15 +125,44 @@ or_none : (b : Bool) → b ≡ (b || (false && not false))
 or_none true = refl
 or_none false = refl
 
-pub opened_kept : (rules : Rules) (devices : List Device) (p : Pipeline) (journal : Noted) → 1 ≤ length devices → AreSound (world_of rules devices) → AreVersions (world_of rules devices) → AllKept p.domains.items → map shown p.domains.items ≡ shown_from rules 0 devices → p.gone ≡ 0 → p.waiting.items ≡ [] → p.outcomes.items ≡ [] → p.failures.items ≡ [] → journal ≡ record { log = []; marks = [] } → IsKept journal p
-opened_kept rules devices p journal some sound versions kept are zeroth none undecided unopened empty =
-    let queue : PipelineView = record { domains = shown_from rules 0 devices; gone = 0; waiting = []; outcomes = []; failures = [] } in
+-- the controller's own domain alone is live
+first-live : (ds : List DomainView) (n : ℕ) → AreFirst ds → is_live_in ds n ≡ nat_eq n 0
+first-live ds n first = elim (cases_lt n (length ds)) [
+  | inl low ↦ let (d, at) = slice_get_some ds n low in live-here ds n d at ∙ (first.each n d at).live
+  | inr high ↦
+      let other : nat_eq n 0 ≡ false = grind (arith, nat_tests, first.some, high) in
+      ap (λ (o : Option DomainView). option_map_or (λ (d : DomainView). d.live) o false) (slice_get_none ds n high) ∙ sym other
+]
+
+-- each domain is at version 0
+first-table : (ds : List DomainView) (n : ℕ) → AreFirst ds → table_in ds n ≡ world.table_of (world_in ds) 0 n
+first-table ds n first = elim (cases_lt n (length ds)) [
+  | inl low ↦
+      let (d, at) = slice_get_some ds n low in
+      table-at ds n d at ∙ (first.each n d at).table ∙ sym (first-version d.first d.upgrades) ∙ sym (table-in (world_in ds) n 0 (opened_as d) (world-at ds n d at))
+  | inr high ↦
+      let long : length ds ≡ length (world_in ds) = sym (length-map ds opened_as) in
+      let none : slice_get (world_in ds) n ≡ None = slice_get_none (world_in ds) n (omega (arith, high, long)) in
+      ap (λ (o : Option DomainView). option_map_or (λ (d : DomainView). d.table) o world.no_table) (slice_get_none ds n high) ∙ sym (no-table-at (world_in ds) n 0 none)
+]
+  where
+    no-table-at : (w : List world.Domain) (n v : ℕ) → slice_get w n ≡ None → world.table_of w v n ≡ world.no_table
+    no-table-at [] n v none = refl
+    no-table-at (x ∷ w) zero v none = cc
+    no-table-at (x ∷ w) (suc n) v none = no-table-at w n v none
+
+-- what a hub keeps without calls
+pub first_kept : (p : Pipeline) (journal : Noted) → AreFirst (queue_of p).domains → AreSound (world_in (queue_of p).domains) → OneIsUpgraded (world_in (queue_of p).domains) → AllKept p.domains.items
+    → p.gone ≡ 0 → p.waiting.items ≡ [] → p.outcomes.items ≡ [] → p.failures.items ≡ [] → journal ≡ record { log = []; marks = [] } → IsKept journal p
+first_kept p journal first sound only kept zeroth none undecided unopened empty =
+    let ds : List DomainView = (queue_of p).domains in
+    let queue : PipelineView = record { domains = (queue_of p).domains; gone = 0; waiting = []; outcomes = []; failures = [] } in
     let start : IsCurrent [] [] queue = record {
       sound = record {
-        some = omega (arith, some, length-shown rules 0 devices);
+        some = first.some;
         within = omega arith;
         behind = omega arith;
-        domains = λ n d at. let facts = shown_at rules 0 devices n d at in let first : 0 + n ≡ n = omega arith in record { number = facts.0 ∙ first; commits = facts.1; chains = facts.2; receipts = facts.3 };
+        domains = λ n d at. let it = first.each n d at in record { number = it.number; commits = it.ops; chains = it.chains; receipts = it.receipts };
         waiting = refl;
         standing = λ i s at. cc;
         numbers = λ i s at. cc;
@@ -156,15 +171,15 @@ opened_kept rules devices p journal some sound versions kept are zeroth none und
       outcomes = refl;
       marks = λ place. refl;
       chains = refl;
-      live = λ n. live_first rules n devices some ∙ or_none (nat_eq n 0);
+      live = λ n. first-live ds n first ∙ or_none (nat_eq n 0);
       lawful = λ i s at. cc;
       writers = λ k a t at. cc;
-      openings = subst AreSound (sym (world-shown rules 0 devices)) sound;
-      only = subst OneIsUpgraded (sym (world-shown rules 0 devices)) versions.only;
-      tables = λ n. first_tables rules 0 devices n ∙ ap (λ w. world.table_of w 0 n) (sym (world-shown rules 0 devices));
-      versions = λ n low. first_versions rules 0 devices n ∙ none_later n;
+      openings = sound;
+      only = only;
+      tables = λ n. first-table ds n first;
+      versions = λ n low. (let (d, at) = slice_get_some ds n low in version-here ds n d at ∙ (first.each n d at).version ∙ none_later n);
     } in
-    let same : ◌≡◌ {A = PipelineView} queue (queue_of p) = λ i. record { domains = sym are i; gone = sym zeroth i; waiting = sym none i; outcomes = sym undecided i; failures = sym unopened i } in
+    let same : ◌≡◌ {A = PipelineView} queue (queue_of p) = λ i. record { domains = (queue_of p).domains; gone = sym zeroth i; waiting = sym none i; outcomes = sym undecided i; failures = sym unopened i } in
     record {
       kept = kept;
       current = subst (λ (j : Noted). IsCurrent j.log j.marks (queue_of p)) (sym empty) (subst (IsCurrent [] []) same start);

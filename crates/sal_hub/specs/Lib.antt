@@ -4,6 +4,7 @@ pub mod Chains
 pub mod CommitReceipts
 pub mod Current
 pub mod Domains
+pub mod Epochs
 pub mod Failures
 pub mod Journals
 pub mod HubHistory

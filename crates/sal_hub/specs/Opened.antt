@@ -1,5 +1,5 @@
 -- The domains that devices open, under version rules: the controller's own is live. Each is at version 0 of its schema.
-use Rattle.std.specs.Prelude.{ℕ, ◌+◌, All, List, [], ◌∷◌, nat_eq}
+use Rattle.std.specs.Prelude.{◌≡◌, ℕ, ◌+◌, ◌≤◌, All, List, [], ◌∷◌, Some, length, nat_eq, slice_get}
 use Rattle.sal_rows.specs.declared.clash.Rules.{Rules}
 use Rattle.sal_commit.specs.Opening.{opening_of_device}
 use Rattle.sal_commit.specs.Versions.{tables_of}
@@ -32,3 +32,20 @@ pub record HaveTables (device : Device) : Type 0 where
 abbrev pub shown_from : Rules → ℕ → List Device → List DomainView
 shown_from rules n [] = []
 shown_from rules n (device ∷ devices) = shown_of rules n device ∷ shown_from rules (n + 1) devices
+
+-- ---- domains without commits
+
+-- the domain of this number at version 0 of its schema, without commits
+pub record IsFirst (n : ℕ) (d : DomainView) : Type 0 where
+  pub number : d.number ≡ n
+  pub live : d.live ≡ nat_eq n 0
+  pub table : d.table ≡ d.first
+  pub version : d.version ≡ 0
+  pub ops : d.ops ≡ []
+  pub chains : d.chains ≡ []
+  pub receipts : d.receipts ≡ 0 ∷ []
+
+-- at least one, and each of them is so
+pub record AreFirst (ds : List DomainView) : Type 0 where
+  pub some : 1 ≤ length ds
+  pub each : (n : ℕ) (d : DomainView) → slice_get ds n ≡ Some d → IsFirst n d

@@ -24,6 +24,7 @@ use crate::chain::Chain;
 use crate::chain_calls::{NextAsk, chain_begin, close_chain, open_chain};
 use crate::chains::{Chains, note};
 use crate::devices::{have_tables, open_all};
+use crate::first::hub_of;
 use crate::journal::Journal;
 use crate::listener::ListenerId;
 use crate::listener_calls::Ask;
@@ -39,15 +40,11 @@ use crate::start::{begin, last_commit};
 use crate::submit::submit;
 use sal_commit::Domain;
 use sal_history::{Call, Device, Entry};
-use sal_mount::Mounts;
-use sal_note::Notes;
 use sal_rows::{Batch, CallFault, Mode, Outcome, Rules};
-use sal_rpc::Router;
 use sal_tree::Pair;
 use sal_tx::{Tx, WriteTx};
 use sal_types::{NoMemory, Path, Store};
 use std::alloc::Global;
-use std::collections::VecDeque;
 use std::marker::Model;
 
 /// How many entries the log has at most.
@@ -108,32 +105,7 @@ impl Hub {
     {
         have_tables(&devices);
         let domains = open_all(alloc, &devices, rules)?;
-        let mounts = Mounts::new(alloc, devices.len() as u32);
-        let pipeline = Pipeline {
-            domains,
-            gone: 0,
-            waiting: VecDeque::new(alloc),
-            outcomes: Vec::new(alloc),
-            failures: Vec::new(alloc),
-        };
-        let journal = Journal::new(alloc);
-        let chains = Chains::new(alloc);
-        let marks = Marks::new(alloc);
-        let listeners = Listeners::new(alloc);
-        let router = Router::new(alloc);
-        let notes = Notes::new(alloc);
-        Ok(Hub {
-            pipeline,
-            journal,
-            chains,
-            marks,
-            listeners,
-            services: Services {
-                mounts,
-                router,
-                notes,
-            },
-        })
+        Ok(hub_of(alloc, domains))
     }
 
     /// The log of the calls so far.

@@ -4,6 +4,7 @@
 //! |---|---|
 //! | `Hub` | the domains and the log; a contract sees the opening trees and the log alone, `HubHistory` |
 //! | `Hub::open` | a hub over some devices, whose opening trees fit at the root, unless one is refused (`OpenFault`); each device has its domain, the first is the controller's own |
+//! | `Hub::next_epoch` | the hub of the next epoch, which begins with the newest trees as they are; all else is dropped |
 //! | `Hub::begin`, `submit`, `cancel`, `settle`, `pump` | the shared calls: each makes one entry of the log and is answered as the log gives |
 //! | `Hub::open_chain`, `chain_begin`, `close_chain` | the same, of transaction chains (MD-SAL `DOMTransactionChain`) |
 //! | `Hub::listen`, `take`, `unlisten` | the same, of listeners (MD-SAL `DOMDataTreeChangeListener`): the rows at a path, and then what each commit changed there |
@@ -60,6 +61,7 @@
 //! | call | cost |
 //! |---|---|
 //! | `open` | for each device the nodes of its trees, and the check of both |
+//! | `next_epoch` | the drop of the log and of all commits but the newest; nothing for each node that stays |
 //! | `log`, `domains`, `outcomes`, `newest`, `trees`, `newest_of`, `trees_of` | constant |
 //! | `begin`, `cancel`, `open_chain`, `chain_begin`, `close_chain` | one search among the clients; a begin shares the nodes of its base |
 //! | `mark`, `after`; `has_mark` | the same, and one search among the marks; that search alone |
@@ -85,7 +87,9 @@ mod chains;
 mod closed;
 mod decided;
 mod devices;
+mod epoch;
 mod failures;
+mod first;
 mod hub;
 mod journal;
 pub mod laws;

@@ -96,7 +96,7 @@ impl Pipeline {
         let failed = failure_of(&self.failures, submission.chain);
         let domain = &mut self.domains[submission.domain as usize];
         let receipt = index as u64 + 1;
-        let outcome = decide(alloc, submission, domain, failed, receipt * 2 + 1)?;
+        let outcome = decide(alloc, submission, domain, failed)?;
         let done = is_done(&outcome);
         note_failure(&mut self.failures, submission.chain, receipt, done);
         self.outcomes.push(outcome).unwrap();

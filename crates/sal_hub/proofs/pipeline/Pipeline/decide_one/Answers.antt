@@ -1,5 +1,5 @@
 -- One more is decided, by the phases of a commit.
-use Rattle.std.proofs.Common.{refl, ◌≡◌, ◌<◌, ◌+◌, length, List, ℕ, Option, [], ◌∷◌, ◌++◌, subst, sym, ap, ◌∙◌, arith}
+use Rattle.std.proofs.Common.{◌≡◌, ◌<◌, ◌+◌, length, List, ℕ, Option, [], ◌∷◌, ◌++◌, subst, sym, ap, ◌∙◌, arith}
 use Rattle.std.specs.Vec.{with_items}
 use Rattle.std.proofs.lemmas.Grind.{common_steps}
 use Rattle.std.proofs.lemmas.List.{with_items_is}
@@ -8,7 +8,7 @@ use Rattle.sal_commit.specs.Deciding.{decide}
 use Rattle.sal_history.specs.Submissions.{is_done}
 use Rattle.sal_hub.specs.Failures.{IsWithin, failure_of, failures_after}
 use Rattle.sal_hub.specs.PipelineView.{HasGrown, queue_of}
-use Rattle.sal_hub.proofs.Deciding.{can_now, decided_now, domain_within, grown_none, grown_nothing, grown_now, stamp_now, within_here}
+use Rattle.sal_hub.proofs.Deciding.{can_now, decided_now, domain_within, grown_none, grown_nothing, grown_now, receipt_now, within_here}
 use Rattle.sal_hub.proofs.Noted.{length-after}
 use Rattle.sal_hub.proofs.pipeline.Pipeline.decide_one.Goals as goal
 
@@ -28,10 +28,10 @@ decide-requires-clause-given c =
     can_now c.args.self.now c.requires.kept c.requires.sound.0 c.requires.sound.1 c.args.index c.requires.next c.requires.given c.index-submission.result.now c.index-submission.ensures
     c.index_mut-domain.result.now c.index_mut-domain.ensures.value
 
-pub decide-requires-clause-fresh : goal.decide-requires-clause-fresh
-decide-requires-clause-fresh c =
-    stamp_now c.args.self.now c.requires.kept c.requires.sound.0 c.requires.sound.1 c.args.index c.requires.next c.requires.given c.index-submission.result.now c.index-submission.ensures
-    c.index_mut-domain.result.now c.index_mut-domain.ensures.value _ refl
+pub decide-requires-clause-later : goal.decide-requires-clause-later
+decide-requires-clause-later c =
+    receipt_now c.args.self.now c.requires.kept c.requires.sound.0 c.requires.sound.1 c.args.index c.requires.next c.requires.given c.index-submission.result.now c.index-submission.ensures
+    c.index_mut-domain.result.now c.index_mut-domain.ensures.value
 
 pub returns-in_err-reserve-clause-grown : goal.returns-in_err-reserve-clause-grown
 returns-in_err-reserve-clause-grown c =

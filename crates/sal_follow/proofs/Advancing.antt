@@ -19,7 +19,7 @@ pub text-length : (bytes : List ℕ) (n : ℕ) → front bytes ≡ Whole n → l
 text-length bytes n whole = let there : n + 9 < length bytes = (whole-there bytes n whole).0 in length-take-le n (drop 9 bytes) (omega (arith, length-drop 9 bytes))
 
 module _ (table : SchemaTable) (state next : State) (bytes text : List ℕ) (used n : ℕ) where
-  -- the bytes from the first one that was not used, and those behind one frame more
+  -- the bytes from the first one that was not used, and those after one frame more
   pub one_more : state.fault ≡ None → front (drop used bytes) ≡ Whole n → text ≡ text_in (drop used bytes) n → held next [] ≡ taken table (held state []) (size_of (length text)) text
       → followed table (held next []) (drop (used + (n + 10)) bytes) ≡ followed table (held state []) (drop used bytes)
   one_more going whole is took =
@@ -51,7 +51,7 @@ module _ (table : SchemaTable) (start state : State) (bytes : List ℕ) (used : 
   pub ends-part : front (drop used bytes) ≡ Part → used ≤ length bytes → IsWithin state → IsStepped table start bytes state used
   ends-part part inside within = record { state = sym (part-held table (held state []) going (drop used bytes) part) ∙ kept; part = part; inside = inside; within = within }
 
-  -- all bytes are behind a fault
+  -- all bytes are after a fault
   pub ends-broken : (s : State) → front (drop used bytes) ≡ Broken → held s [] ≡ failed (held state []) (BadFrame state.at) → IsWithin s → IsStepped table start bytes s (length bytes)
   ends-broken s broken is within =
       let none : drop (length bytes) bytes ≡ [] = drop_all (length bytes) bytes (omega arith) in record {

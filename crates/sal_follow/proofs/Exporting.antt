@@ -11,8 +11,9 @@ use Rattle.sal_schema.specs.declared.table.SchemaTable.{SchemaTable}
 use Rattle.sal_follow.specs.declared.fault.ExportFault.{ExportFault}
 use Rattle.sal_follow.specs.declared.fault.ExportFault.TheVariants.{TooLong, NoMemory}
 use Rattle.sal_follow.specs.declared.frame.Frame.{Frame}
-use Rattle.sal_follow.specs.Exporting.{patch_of, frame_at, Puts, AreBetween}
-use Rattle.sal_follow.specs.Framed.{Trees, nothing, before_at, frame_of, frames_from, frames, frames_since, frame_bytes, bytes_of, exported, patch_by, patches, too_long, AreTexts, ExportsSince}
+use Rattle.sal_follow.specs.Exporting.{patch_of, frame_on, Puts, AreBetween}
+use Rattle.sal_follow.specs.Laws.{StreamsGoOnAfter}
+use Rattle.sal_follow.specs.Framed.{Trees, nothing, before_at, frame_of, frames_from, frames, frames_on, frames_since, frame_bytes, bytes_of, exported, patch_by, patches, too_long, AreTexts, ExportsOn}
 
 -- what a fault that is handed on leaves
 pub err_so : {X E : Type 0} (P : Result X E → Type 0) (result : Result X E) (e : E) → IsErrAnd result (λ d. d ≡ e) → P (Err e) → P result
@@ -45,49 +46,49 @@ opening rows ascending = sym (set_by rows) ∙ ap (map patch_by) (merge-changes 
 
 -- ---- frames
 
-module _ (trees : List Trees) (k : ℕ) where
-  pub one_left : k < length trees → frames_since trees k ≡ frame_at trees k ∷ frames_since trees (k + 1)
+module _ (trees : List Trees) (k number : ℕ) where
+  pub one_left : k < length trees → frames_on trees k number ≡ frame_on trees k number ∷ frames_on trees (k + 1) (number + 1)
   one_left inside =
-      ap (frames_from k (before_at trees k)) (drop_more trees k nothing inside)
-      ∙ ap (λ b. frame_at trees k ∷ frames_from (k + 1) b (drop (k + 1) trees)) (sym (ap (λ m. get_or (nothing ∷ trees) m nothing) (next k)))
+      ap (frames_from number (before_at trees k)) (drop_more trees k nothing inside)
+      ∙ ap (λ b. frame_on trees k number ∷ frames_from (number + 1) b (drop (k + 1) trees)) (sym (ap (λ m. get_or (nothing ∷ trees) m nothing) (next k)))
 
-  pub none_left : length trees ≤ k → frames_since trees k ≡ []
-  none_left all = ap (frames_from k (before_at trees k)) (drop_all k trees all)
+  pub none_left : length trees ≤ k → frames_on trees k number ≡ []
+  none_left all = ap (frames_from number (before_at trees k)) (drop_all k trees all)
 
-module _ (table : SchemaTable) (trees : List Trees) (from : ℕ) where
-  pub begun : AreBetween table trees from [] from
+module _ (table : SchemaTable) (trees : List Trees) (from first : ℕ) where
+  pub begun : AreBetween table trees from first [] from first
   begun = record { whole = refl; short = refl; texts = λ all. all }
 
-  module _ (bytes : List ℕ) (k : ℕ) (before : AreBetween table trees from bytes k) where
-    pub one_more : (now : List ℕ) → k < length trees → Puts table (frame_at trees k) bytes now (Ok tt) → AreBetween table trees from now (k + 1)
+  module _ (bytes : List ℕ) (k number : ℕ) (before : AreBetween table trees from first bytes k number) where
+    pub one_more : (now : List ℕ) → k < length trees → Puts table (frame_on trees k number) bytes now (Ok tt) → AreBetween table trees from first now (k + 1) (number + 1)
     one_more now inside put =
-        let f : Frame = frame_at trees k in
-        let rest : List Frame = frames_since trees (k + 1) in
-        let split : frames_since trees k ≡ f ∷ rest = one_left trees k inside in record {
+        let f : Frame = frame_on trees k number in
+        let rest : List Frame = frames_on trees (k + 1) (number + 1) in
+        let split : frames_on trees k number ≡ f ∷ rest = one_left trees k number inside in record {
           whole =
               ap (λ b. b ++ bytes_of table rest) put.0 ∙ append_assoc bytes (frame_bytes table f) (bytes_of table rest) ∙ ap (λ fs. bytes ++ bytes_of table fs) (sym split) ∙ before.whole;
-          short = sym (ap (λ b. if b then too_long table rest else Some k) put.1) ∙ ap (too_long table) (sym split) ∙ before.short;
+          short = sym (ap (λ b. if b then too_long table rest else Some number) put.1) ∙ ap (too_long table) (sym split) ∙ before.short;
           texts = λ all. before.texts (subst (AreTexts table) (sym split) (put.2, all));
         }
 
-    pub too_long_now : (commit : ℕ) (now : List ℕ) → k < length trees → Puts table (frame_at trees k) bytes now (Err (TooLong commit)) → ExportsSince table trees from (Err (TooLong commit))
+    pub too_long_now : (commit : ℕ) (now : List ℕ) → k < length trees → Puts table (frame_on trees k number) bytes now (Err (TooLong commit)) → ExportsOn table trees from first (Err (TooLong commit))
     too_long_now commit now inside put =
-        sym before.short ∙ ap (too_long table) (one_left trees k inside) ∙ ap (λ b. if b then too_long table (frames_since trees (k + 1)) else Some k) put.1 ∙ ap Some (sym put.0)
+        sym before.short ∙ ap (too_long table) (one_left trees k number inside) ∙ ap (λ b. if b then too_long table (frames_on trees (k + 1) (number + 1)) else Some number) put.1 ∙ ap Some (sym put.0)
 
     -- a fault of this commit is the export's
-    pub fails : (e : ExportFault) (now : List ℕ) → k < length trees → Puts table (frame_at trees k) bytes now (Err e) → ExportsSince table trees from (Err e)
+    pub fails : (e : ExportFault) (now : List ℕ) → k < length trees → Puts table (frame_on trees k number) bytes now (Err e) → ExportsOn table trees from first (Err e)
     fails (TooLong commit) now inside put = too_long_now commit now inside put
     fails NoMemory now inside put = tt
 
-    pub all_put : length trees ≤ k → ExportsSince table trees from (Ok bytes)
+    pub all_put : length trees ≤ k → ExportsOn table trees from first (Ok bytes)
     all_put all =
-        let none : frames_since trees k ≡ [] = none_left trees k all in (
+        let none : frames_on trees k number ≡ [] = none_left trees k number all in (
           sym (append-nil bytes) ∙ ap (λ fs. bytes ++ bytes_of table fs) (sym none) ∙ before.whole,
           sym before.short ∙ ap (too_long table) none,
           before.texts (subst (AreTexts table) (sym none) tt),
         )
 
--- ---- a stream that goes on
+-- ---- a stream that continues
 
 split-at : (k : ℕ) (before : Trees) (trees : List Trees) (n : ℕ) → n ≤ length trees
     → frames_from k before (take n trees) ++ frames_from (k + n) (slice_index_or (before ∷ trees) n nothing) (drop n trees) ≡ frames_from k before trees
@@ -104,3 +105,19 @@ goes-on table trees k inside =
     sym (flat_map-append (frame_bytes table) (frames (take k trees)) (frames_since trees k))
     ∙ ap (λ m. bytes_of table (frames (take k trees) ++ frames_from m (before_at trees k) (drop k trees))) (sym from)
     ∙ ap (bytes_of table) (split-at 0 nothing trees k inside)
+
+-- one that goes on after its last frame
+append-frames : (k : ℕ) (before : Trees) (trees : List Trees) (last : Trees) (more : List Trees)
+    → frames_from k before (trees ++ last ∷ []) ++ frames_from (k + length trees + 1) last more ≡ frames_from k before (trees ++ last ∷ more)
+append-frames k before [] last more = let here : k + 0 + 1 ≡ k + 1 = omega arith in ap (λ m. frame_of k before last ∷ frames_from m last more) here
+append-frames k before (t ∷ trees) last more =
+    let on : k + suc (length trees) + 1 ≡ k + 1 + length trees + 1 = omega arith in
+    ap (λ m. frame_of k before t ∷ (frames_from (k + 1) t (trees ++ last ∷ []) ++ frames_from m last more)) on
+    ∙ ap (λ fs. frame_of k before t ∷ fs) (append-frames (k + 1) t trees last more)
+
+pub goes-on-after : StreamsGoOnAfter
+goes-on-after table trees last more =
+    let from : 0 + length trees + 1 ≡ length trees + 1 = omega arith in
+    sym (flat_map-append (frame_bytes table) (frames (trees ++ last ∷ [])) (frames_from (length trees + 1) last more))
+    ∙ ap (λ m. bytes_of table (frames (trees ++ last ∷ []) ++ frames_from m last more)) (sym from)
+    ∙ ap (bytes_of table) (append-frames 0 nothing trees last more)

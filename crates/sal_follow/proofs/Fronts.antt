@@ -1,4 +1,4 @@
--- What stands at the front of bytes stays when more bytes come.
+-- What bytes begin with stays when more bytes come.
 use Rattle.std.proofs.Common.{◌≡◌, inl, inr, ℕ, ◌+◌, ◌-◌, ◌<◌, ◌≤◌, ◌&&◌, ◌==◌, Bool, true, false, List, [], ◌∷◌, ◌++◌, length, take, drop, Option, Some, None, if◌then◌else◌, refl, ap, sym, ◌∙◌, arith, get_or, length-append, length-drop}
 use Rattle.std.specs.Prelude.{nat_le, nat_lt, slice_index}
 use Rattle.std.specs.List.{list_all}
@@ -12,7 +12,7 @@ use Rattle.sal_follow.specs.Head.{is_digit, value_of, max_text, head, head_of}
 use Rattle.sal_follow.specs.Front.{body, front, text_in, size_of, framed}
 use Rattle.sal_follow.proofs.Heads.{head-read}
 
--- ---- a head behind which more bytes come
+-- ---- a head after which more bytes come
 
 abbrev head_by : List ℕ → ℕ → Option ℕ
 head_by digits c = if (list_all is_digit digits && (c == 10)) && nat_le (value_of digits) max_text then Some (value_of digits) else None
@@ -22,7 +22,7 @@ head_stays x y long = λ i. head_by (take-append-le 8 x y (omega arith) i) (get_
 
 -- ---- the cases of a front
 
--- a body of n bytes, by the length of what stands there and the byte behind it
+-- a body of n bytes, by the length of what is there and the byte after it
 abbrev body_by : ℕ → ℕ → ℕ → Front
 body_by n len c = if nat_lt n len then (if c == 10 then Whole n else Broken) else Part
 
@@ -152,12 +152,12 @@ drop-all : (x y : List ℕ) → drop (length x) (x ++ y) ≡ y
 drop-all [] y = refl
 drop-all (c ∷ x) y = drop-all x y
 
--- behind the nine bytes of a head
+-- after the nine bytes of a head
 behind_head : (x y : List ℕ) (n : ℕ) → length x ≡ 9 → drop (n + 10) (x ++ y) ≡ drop (n + 1) y
 behind_head x y n nine =
     ap (λ k. drop k (x ++ y)) (omega arith) ∙ sym (drop-drop (n + 1) (length x) (x ++ y)) ∙ ap (drop (n + 1)) (drop-all x y)
 
--- behind a list and so many more
+-- after a list and so many more
 drop-past : (x y : List ℕ) (k : ℕ) → drop (length x + k) (x ++ y) ≡ drop k y
 drop-past x y k = sym (drop-drop k (length x) (x ++ y)) ∙ ap (drop k) (drop-all x y)
 

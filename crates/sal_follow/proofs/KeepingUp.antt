@@ -10,7 +10,7 @@ use Rattle.sal_follow.specs.States.{Following, Feeds}
 use Rattle.sal_follow.specs.Stream.{Held, fresh, after_byte, followed, answer}
 use Rattle.sal_follow.proofs.Followed.{exports_followed}
 
--- one piece behind another
+-- one piece after another
 pub joined : (table : SchemaTable) (h : Held) (before piece : List ℕ) → followed table h (before ++ piece) ≡ followed table (followed table h before) piece
 unfolding followed
 joined table h before piece = fold-append (after_byte table) h before piece

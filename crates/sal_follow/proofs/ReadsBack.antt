@@ -92,7 +92,7 @@ module _ (table : SchemaTable) where
   path-read path few fits r =
       ap (option_and_then (if_path table)) (steps-read None path r) ∙ is_path path (nat_le (length path) 32) (fits_path table path) (short (length path) few) fits
 
--- ---- null stands for no value
+-- ---- null denotes no value
 
 module _ (table : SchemaTable) where
   json-null : (m : ℕ) (layer : YangType-F YangType) → json_atom table m layer null ≡ Err WrongKind

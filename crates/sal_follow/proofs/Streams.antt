@@ -34,7 +34,7 @@ module _ (table : SchemaTable) (h : Held) (going : h.fault ≡ None) where
   abbrev pub at_rest : List ℕ → Held
   at_rest r = record h { rest = r }
 
-  -- what is held after more bytes, where these are all bytes from the unfinished frame on, and what stands at their front
+  -- what is held after more bytes, if these are all bytes from the unfinished frame on, and what they begin with
   abbrev Said : List ℕ → List ℕ → List ℕ → Front → Type 0
   Said r bytes all Part = followed table (at_rest r) bytes ≡ at_rest all
   Said r bytes all Broken = followed table (at_rest r) bytes ≡ failed h (BadFrame h.at)

@@ -58,9 +58,13 @@ frames trees = frames_from 0 nothing trees
 abbrev pub before_at : List Trees → ℕ → Trees
 before_at trees k = slice_index_or (nothing ∷ trees) k nothing
 
--- the frames from that commit on
+-- the frames from that commit on, of which the first has this number
+abbrev pub frames_on : List Trees → ℕ → ℕ → List Frame
+frames_on trees k number = frames_from number (before_at trees k) (drop k trees)
+
+-- those that have the numbers of their commits
 abbrev pub frames_since : List Trees → ℕ → List Frame
-frames_since trees k = frames_from k (before_at trees k) (drop k trees)
+frames_since trees k = frames_on trees k k
 
 -- ---- bytes
 
@@ -97,6 +101,10 @@ AreExported table fs (Err NoMemory) = ⊤
 abbrev pub Exports : SchemaTable → List Trees → Result (List ℕ) ExportFault → Type 0
 Exports table trees result = AreExported table (frames trees) result
 
+-- What `export_on` answers: the frames from the commit k on, of which the first has this number.
+abbrev pub ExportsOn : SchemaTable → List Trees → ℕ → ℕ → Result (List ℕ) ExportFault → Type 0
+ExportsOn table trees k number result = AreExported table (frames_on trees k number) result
+
 -- What `export_since` answers: the frames from the commit of this number on.
 abbrev pub ExportsSince : SchemaTable → List Trees → ℕ → Result (List ℕ) ExportFault → Type 0
-ExportsSince table trees k result = AreExported table (frames_since trees k) result
+ExportsSince table trees k result = ExportsOn table trees k k result

@@ -15,7 +15,7 @@ use Rattle.sal_schema.specs.Paths.{fits_path, last_step, node_from, node_of}
 use Rattle.sal_schema.specs.Table.{is_kind, keys_of}
 use Rattle.sal_data.specs.Laws.{IsReadable}
 use Rattle.sal_follow.specs.declared.front.Front.TheVariants.{Whole}
-use Rattle.sal_follow.specs.Framed.{Trees, nothing, frames, frames_since, bytes_of, exported, too_long, AreTexts}
+use Rattle.sal_follow.specs.Framed.{Trees, nothing, frames, frames_from, frames_since, bytes_of, exported, too_long, AreTexts}
 use Rattle.sal_follow.specs.Frames.{path_in, cell_in}
 use Rattle.sal_follow.specs.Front.{front, text_in, size_of, framed}
 use Rattle.sal_follow.specs.Head.{max_text}
@@ -52,7 +52,7 @@ IsReadableStep table (Some n) (Key values) = AreReadable table (keys_of table n)
 IsReadableStep table (Some n) (Item value) = IsReadable table n value
 IsReadableStep table None step = ⊥
 
--- steps behind a node: numbers of nodes have 32 bits, and keys and items read as they are written
+-- steps after a node: numbers of nodes have 32 bits, and keys and items read as they are written
 abbrev pub IsReadableFrom : SchemaTable → Option ℕ → List Step → Type 0
 IsReadableFrom table here [] = Unit {0}
 IsReadableFrom table here (step ∷ path) = IsReadableStep table here step × IsReadableFrom table (node_from here (step ∷ [])) path
@@ -63,7 +63,7 @@ PathsReadAsWritten =
     (table : SchemaTable) (path : List Step) → length path ≤ 32 → IsTrue (fits_path table path) → IsReadableFrom table None path
     → path_in table (path_json table path) ≡ Some path
 
--- a cell, or none, that may stand at a path, of a value that reads as it is written
+-- a cell, or none, that a path may have, of a value that reads as it is written
 abbrev pub IsReadableCell : SchemaTable → List Step → Option Cell → Type 0
 IsReadableCell table path None = has_own_row table path ≡ true
 IsReadableCell table path (Some Mark) = has_mark table (last_step path) ≡ true
@@ -126,6 +126,11 @@ HoldsTheLast =
 -- The frames of the commits before one of them, and then those from that one on, are the frames of all.
 abbrev pub StreamsGoOn : Type 0
 StreamsGoOn = (table : SchemaTable) (trees : List Trees) (k : ℕ) → k ≤ length trees → exported table (take k trees) ++ bytes_of table (frames_since trees k) ≡ exported table trees
+
+-- A stream that ends with the frame of a commit goes on with the frames of later trees, wherever these come from: numbered on, they are the frames of all.
+abbrev pub StreamsGoOnAfter : Type 0
+StreamsGoOnAfter =
+    (table : SchemaTable) (trees : List Trees) (last : Trees) (more : List Trees) → exported table (trees ++ last ∷ []) ++ bytes_of table (frames_from (length trees + 1) last more) ≡ exported table (trees ++ last ∷ more)
 
 -- ---- places
 

@@ -73,7 +73,7 @@ pub record IsStepped (table : SchemaTable) (start : State) (bytes : List ℕ) (s
 abbrev pub IsJudged : SchemaTable → State → List ℕ → State → List ℕ → Type 0
 IsJudged table start bytes s left = (used : ℕ) × IsStepped table start bytes s used × (left ≡ drop used bytes)
 
--- after a piece behind these bytes of an unfinished frame the state is s, with those
+-- after a piece after these bytes of an unfinished frame the state is s, with those
 pub record IsGained (table : SchemaTable) (start : State) (before piece : List ℕ) (s : State) (rest : List ℕ) : Type 0 where
   pub state : held s rest ≡ followed table (held start before) piece
   pub part : front rest ≡ Part

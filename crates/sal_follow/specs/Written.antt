@@ -25,7 +25,7 @@ keys_json table leafs values = []
 abbrev pub value_json : SchemaTable → Option ℕ → Value → Data
 value_json table here value = option_map_or (λ n. scalar_json table n value) here null
 
--- the step, behind the node
+-- the step, after the node
 abbrev pub step_json : SchemaTable → Option ℕ → Step → Data
 step_json table here (Node n) = number (unsigned n)
 step_json table here (Key values) = array (items_of (option_map_or (λ n. keys_json table (keys_of table n) values) here []))

@@ -76,7 +76,7 @@ fn opening_patches(alloc: Global, root: &Root) -> Result<Seq<Patch>, NoMemory>
     ensures { IfOk result (λ ps. ps ≡ spec.patches [] (rows_of root.now)) }
 {
     let rows = root.rows(alloc, &Path::root(alloc))?;
-    // For the proof alone: it tells that the rows ascend.
+    // For the proof alone: it says that the rows ascend.
     let _ = rows.items();
     let patches = patches_of(alloc, &rows)?;
     Ok(patches)

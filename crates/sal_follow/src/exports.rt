@@ -1,16 +1,17 @@
 //! The frames of the commits of a domain.
-ghost use Rattle.std.specs.Prelude.{◌≡◌, ◌≤◌, ◌<◌, ◌++◌, length, map, OnOk};
+ghost use Rattle.std.specs.Prelude.{◌≡◌, ◌≤◌, ◌<◌, ◌+◌, ◌++◌, length, map, IfOk, OnOk};
 ghost use Rattle.sal_delta.specs.Agreed.{AreAgreed};
 ghost use Rattle.sal_graft.specs.Kept.{AreKept};
-ghost use Rattle.sal_follow.specs.Framed.{Exports, ExportsSince, trees_of};
+ghost use Rattle.sal_follow.specs.Framed.{Exports, ExportsOn, ExportsSince, trees_of};
 ghost use Rattle.sal_follow.specs.Front.{framed};
 ghost use Rattle.sal_follow.specs.Head.{max_text};
-ghost use Rattle.sal_follow.specs.Exporting.{Puts, frame_at as frame_of_number};
+ghost use Rattle.sal_follow.specs.Exporting.{Puts, frame_at as frame_of_number, frame_on};
 
 use crate::commits::{frame_at, frame_kept};
 use crate::fault::ExportFault;
 use crate::frame::Frame;
 use crate::head::{MAX_TEXT, push_head};
+use crate::next::NextFrame;
 use crate::writer::Writer;
 use sal_schema::Schema;
 use sal_tree::Commit;
@@ -57,20 +58,31 @@ fn push_commit(
     push_text(bytes, writer, &frame)
 }
 
-// The same for commits that a domain keeps.
+// Puts the next frame at the end, for commits that a domain keeps.
 fn push_kept(
     bytes: &mut Vec<u8>,
     writer: &Writer,
     commits: &[Commit],
-    number: u64,
+    next: NextFrame,
 ) -> Result<(), ExportFault>
     requires agreed { AreAgreed commits.now }
     requires kept { AreKept commits.now }
-    requires inside { number < length commits.now }
-    ensures { Puts writer.now.schema.now (frame_of_number (map trees_of commits.now) number) bytes.old.items bytes.new.items result }
+    requires inside { next.commit < length commits.now }
+    ensures { Puts writer.now.schema.now (frame_on (map trees_of commits.now) next.commit next.number) bytes.old.items bytes.new.items result }
 {
-    let frame = frame_kept(writer.alloc, commits, number)?;
+    let mut frame = frame_kept(writer.alloc, commits, next.commit)?;
+    frame.commit = next.number;
     push_text(bytes, writer, &frame)
+}
+
+// The number of the frame after one. If there is none, memory runs out.
+fn following(number: u64) -> Result<u64, NoMemory>
+    ensures { IfOk result (λ next. next ≡ number + 1) }
+{
+    match number.checked_add(1) {
+        Some(next) => Ok(next),
+        None => Err(NoMemory),
+    }
 }
 
 /// The frames of a domain's commits, from its opening to the newest.
@@ -90,7 +102,7 @@ pub fn export(alloc: Global, schema: &Schema, commits: &[Commit]) -> Result<Byte
 
 /// The same for the commits that a domain keeps, at the cost of what each of them changed.
 ///
-/// Each commit has the trees that its operations make of those before it, so they tell where these differ.
+/// Each commit has the trees that its operations make of those before it, so they say where these differ.
 pub fn export_kept(alloc: Global, schema: &Schema, commits: &[Commit]) -> Result<Bytes, ExportFault>
     requires agreed { AreAgreed commits.now }
     requires kept { AreKept commits.now }
@@ -99,7 +111,7 @@ pub fn export_kept(alloc: Global, schema: &Schema, commits: &[Commit]) -> Result
     export_since(alloc, schema, commits, 0)
 }
 
-/// The frames from the commit of this number on: what a stream that has the frames before it goes on with.
+/// The frames from the commit of this number on, with the numbers of their commits: the rest of a stream that has the frames before it.
 pub fn export_since(
     alloc: Global,
     schema: &Schema,
@@ -110,10 +122,31 @@ pub fn export_since(
     requires kept { AreKept commits.now }
     ensures { ExportsSince schema.now (map trees_of commits.now) from result }
 {
+    let next = NextFrame {
+        commit: from,
+        number: from,
+    };
+    export_on(alloc, schema, commits, next)
+}
+
+/// The frames from a commit on, numbered from the number of the next frame on: what a stream goes on with whose earlier frames were those of other
+/// commits, as over epochs. Its frames before must lead to the trees before that commit (`laws::streams_go_on_after`).
+pub fn export_on(
+    alloc: Global,
+    schema: &Schema,
+    commits: &[Commit],
+    next: NextFrame,
+) -> Result<Bytes, ExportFault>
+    requires agreed { AreAgreed commits.now }
+    requires kept { AreKept commits.now }
+    ensures { ExportsOn schema.now (map trees_of commits.now) next.commit next.number result }
+{
     let writer = Writer { alloc, schema };
     let mut bytes = Vec::new(alloc);
-    for number in from..commits.len() as u64 {
-        push_kept(&mut bytes, &writer, commits, number)?;
+    let mut number = next.number;
+    for commit in next.commit..commits.len() as u64 {
+        push_kept(&mut bytes, &writer, commits, NextFrame { commit, number })?;
+        number = following(number)?;
     }
     Ok(Seq::from_items(bytes))
 }

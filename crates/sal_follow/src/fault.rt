@@ -2,7 +2,7 @@
 use sal_types::NoMemory;
 use thiserror::Error;
 
-/// Why a piece of a stream was not taken, or a follower does not go on.
+/// Why a piece of a stream was not taken, or a follower does not continue.
 #[derive(Clone, Copy, Debug, PartialEq, Eq, Error)]
 pub enum FollowFault {
     /// The bytes from this place of the stream on are no frame, or the trees after it would not be trees of the schema.

@@ -76,7 +76,7 @@ fn shortened(rest: &mut Vec<u8>, len: usize)
     rest.truncate(len);
 }
 
-// Takes all frames that are there, and leaves the bytes behind them. Without memory only the first bytes are left, so many of them.
+// Takes all frames that are there, and leaves the bytes after them. Without memory only the first bytes are left, so many of them.
 fn judged(
     reader: &Reader,
     twin: &mut Twin,

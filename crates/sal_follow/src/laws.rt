@@ -1,5 +1,5 @@
 //! Laws of the definitions. A call does nothing: its clauses are the laws.
-ghost use Rattle.sal_follow.specs.Laws.{CellsReadAsWritten, ExportsAreFollowed, FramesAreRead, HoldsTheLast, PathsReadAsWritten, PiecesDoNotMatter, PlacesCountBytes, StreamsGoOn, TakesWholeFrames};
+ghost use Rattle.sal_follow.specs.Laws.{CellsReadAsWritten, ExportsAreFollowed, FramesAreRead, HoldsTheLast, PathsReadAsWritten, PiecesDoNotMatter, PlacesCountBytes, StreamsGoOn, StreamsGoOnAfter, TakesWholeFrames};
 
 /// A frame is read where it begins, whatever follows it.
 pub fn frames_are_read()
@@ -16,7 +16,7 @@ pub fn frames_are_taken_whole()
     ensures { TakesWholeFrames }
 {}
 
-/// Paths that fit read as they are written, and so do the cells that may stand there.
+/// Paths that fit read as they are written, and so do the cells that such a path may have.
 pub fn rows_read_as_written()
     ensures paths { PathsReadAsWritten }
     ensures cells { CellsReadAsWritten }
@@ -29,9 +29,14 @@ pub fn exports_are_followed()
     ensures last { HoldsTheLast }
 {}
 
-/// A stream of the frames before a commit goes on with the frames from that commit on (`export_since`).
+/// A stream of the frames before a commit continues with the frames from that commit on (`export_since`).
 pub fn streams_go_on()
     ensures { StreamsGoOn }
+{}
+
+/// A stream goes on after its last frame with the frames of later trees, numbered on (`export_on`).
+pub fn streams_go_on_after()
+    ensures { StreamsGoOnAfter }
 {}
 
 /// The place of an unfinished frame in the stream, and the number of its bytes, are together at most the number of the bytes that came; and

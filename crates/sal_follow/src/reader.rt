@@ -47,7 +47,7 @@ fn node_in(number: &Number) -> Option<Step>
     }
 }
 
-// The node behind a step.
+// The node after a step.
 fn node_behind(here: Option<u32>, step: &Step) -> Option<u32>
     ensures { result ≡ node_from here (step.now ∷ []) }
 {
@@ -148,7 +148,7 @@ impl<'a> Reader<'a> {
         }
     }
 
-    // The step behind the node.
+    // The step after the node.
     fn step_in(&self, here: Option<u32>, json: &Json) -> Result<Option<Step>, NoMemory>
         ensures { IfOk result (λ o. o ≡ spec.step_in self.now.schema.now here (view json.now)) }
     {

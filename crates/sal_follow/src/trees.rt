@@ -119,7 +119,7 @@ pub(crate) fn trees_after(
     requires fits { FrameFits schema.now frame.now }
     ensures { IfOk result (λ o. o ≡ trees_after schema.now both frame.now.config frame.now.oper) }
 {
-    // For the proof alone: it tells that the rows ascend.
+    // For the proof alone: it says that the rows ascend.
     let _ = both.config.items();
     let _ = both.oper.items();
     let after = both_patched(alloc, both, frame.config.items(), frame.oper.items())?;

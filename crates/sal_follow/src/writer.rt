@@ -29,7 +29,7 @@ fn push_json(items: &mut Vec<Json>, json: Json) -> Result<(), NoMemory>
     Ok(())
 }
 
-// The node behind a step.
+// The node after a step.
 fn node_behind(here: Option<u32>, step: &Step) -> Option<u32>
     ensures { result ≡ node_from here (step.now ∷ []) }
 {
@@ -172,7 +172,7 @@ impl<'a> Writer<'a> {
     }
 }
 
-// The node that these steps come to.
+// The node that these steps name.
 fn node_at_end(steps: &[Step]) -> Option<u32>
     ensures { result ≡ node_of steps.now }
 {

@@ -17,7 +17,7 @@ use Rattle.sal_commit.specs.declared.domain.Domain.{Domain}
 use Rattle.sal_hub.specs.Domains.{IsDomain}
 use Rattle.sal_hub.specs.HubHistory.{HubHistory}
 use Rattle.sal_follow.specs.declared.fault.ExportFault.{ExportFault}
-use Rattle.sal_follow.specs.Framed.{Trees, ExportsSince, trees_of}
+use Rattle.sal_follow.specs.Framed.{Trees, ExportsOn, trees_of}
 use Rattle.sal_resume.specs.Committed.{trees_by, committed}
 
 -- each element is what its number gives, counted from n
@@ -56,7 +56,7 @@ leader known n d is =
     each ∙ ap (λ m. map (trees_by known n) (range_with_len 0 m)) long
 
 -- what is exported of them is exported of the log
-pub exported-committed : (known : HubHistory) (n from : ℕ) (d : Domain) (result : Result (List ℕ) ExportFault) → IsDomain known n d → ExportsSince d.schema.value (map trees_of d.commits.items) from result
-    → ExportsSince (tables_now known.world (history known.world known.log) n) (committed known n) from result
-exported-committed known n from d result is told =
-    subst (λ (table : SchemaTable). ExportsSince table (committed known n) from result) is.schema (subst (λ (trees : List Trees). ExportsSince d.schema.value trees from result) (leader known n d is) told)
+pub exported-committed : (known : HubHistory) (n k number : ℕ) (d : Domain) (result : Result (List ℕ) ExportFault) → IsDomain known n d → ExportsOn d.schema.value (map trees_of d.commits.items) k number result
+    → ExportsOn (tables_now known.world (history known.world known.log) n) (committed known n) k number result
+exported-committed known n k number d result is told =
+    subst (λ (table : SchemaTable). ExportsOn table (committed known n) k number result) is.schema (subst (λ (trees : List Trees). ExportsOn d.schema.value trees k number result) (leader known n d is) told)

@@ -1,3 +1,4 @@
 pub mod Committing
 pub mod Leading
 pub mod Opened
+pub mod OverEpochs

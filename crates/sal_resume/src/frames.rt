@@ -3,27 +3,27 @@ ghost use Rattle.std.specs.Prelude.{◌≡◌, ◌<◌, length, map};
 ghost use Rattle.sal_graft.specs.Kept.{AreKept};
 ghost use Rattle.sal_history.specs.History.{history};
 ghost use Rattle.sal_history.specs.Versions.{tables_now};
-ghost use Rattle.sal_follow.specs.Framed.{Exports, ExportsSince, trees_of};
+ghost use Rattle.sal_follow.specs.Framed.{Exports, ExportsOn, ExportsSince, trees_of};
 ghost use Rattle.sal_resume.specs.Committed.{committed};
 
 use sal_commit::Domain;
-use sal_follow::{ExportFault, export_since};
+use sal_follow::{ExportFault, NextFrame, export_on};
 use sal_hub::Hub;
 use sal_schema::Schema;
 use sal_types::Bytes;
 use std::alloc::Global;
 
-// The frames of its commits by the schema, from the commit of this number on.
+// The frames of its commits by the schema, from the next one on.
 fn domain_frames(
     alloc: Global,
     schema: &Schema,
     domain: &Domain,
-    from: u64,
+    next: NextFrame,
 ) -> Result<Bytes, ExportFault>
     requires { AreKept domain.now.commits.items }
-    ensures { ExportsSince schema.now (map trees_of domain.now.commits.items) from result }
+    ensures { ExportsOn schema.now (map trees_of domain.now.commits.items) next.commit next.number result }
 {
-    export_since(alloc, schema, &domain.commits, from)
+    export_on(alloc, schema, &domain.commits, next)
 }
 
 /// The frames of the domain's opening and of all its commits, by the present version of its schema.
@@ -36,12 +36,32 @@ pub fn frames_of(alloc: Global, hub: &Hub, domain: u32) -> Result<Bytes, ExportF
     frames_since(alloc, hub, domain, 0)
 }
 
-/// The frames of the domain's commits from that of this number on: what a stream goes on with that has the frames before it. There are none if the
+/// The frames of the domain's commits from that of this number on: the rest of a stream that has the frames before it. There are none if the
 /// newest commit has a smaller number.
 pub fn frames_since(alloc: Global, hub: &Hub, domain: u32, from: u64) -> Result<Bytes, ExportFault>
     requires { domain < length hub.now.world }
     ensures { ExportsSince (tables_now hub.now.world (history hub.now.world hub.now.log) domain) (committed hub.now domain) from result }
 {
+    let next = NextFrame {
+        commit: from,
+        number: from,
+    };
+    frames_on(alloc, hub, domain, next)
+}
+
+/// The frames of the domain's commits from a commit on, numbered from the number of the next frame on.
+///
+/// With them a stream goes on over epochs: after the frames of one epoch come those of the next hub from its commit 1 on, numbered on. A follower of the
+/// stream does not notice (`laws::streams_go_on_over_epochs`).
+pub fn frames_on(
+    alloc: Global,
+    hub: &Hub,
+    domain: u32,
+    next: NextFrame,
+) -> Result<Bytes, ExportFault>
+    requires { domain < length hub.now.world }
+    ensures { ExportsOn (tables_now hub.now.world (history hub.now.world hub.now.log) domain) (committed hub.now domain) next.commit next.number result }
+{
     let domain = &hub.domains()[domain as usize];
-    domain_frames(alloc, &domain.schema, domain, from)
+    domain_frames(alloc, &domain.schema, domain, next)
 }

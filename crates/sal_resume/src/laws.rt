@@ -1,7 +1,13 @@
-//! A law of the definitions. The call does nothing: its clause is the law.
+//! Laws of the definitions. A call does nothing: its clause is the law.
 ghost use Rattle.sal_resume.specs.Newest.{FramesLeadToTheNewest};
+ghost use Rattle.sal_resume.specs.OverEpochs.{StreamsGoOnOverEpochs};
 
 /// A follower of the frames of a domain holds its newest commit, and the newest trees.
 pub fn frames_lead_to_the_newest()
     ensures { FramesLeadToTheNewest }
+{}
+
+/// A stream that ends with the newest trees of a hub goes on with the frames of the next hub from commit 1 on, whatever calls come to it.
+pub fn streams_go_on_over_epochs()
+    ensures { StreamsGoOnOverEpochs }
 {}

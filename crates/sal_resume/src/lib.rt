@@ -1,9 +1,10 @@
-//! A controller that goes on from frames that were kept: the frames of a hub's domain, a follower of them, and a hub that begins where the follower
+//! A controller that continues from frames that were kept: the frames of a hub's domain, a follower of them, and a hub that begins where the follower
 //! is.
 //!
 //! | item | what it is |
 //! |---|---|
 //! | `frames_of`, `frames_since` | the frames of a domain of a hub, as bytes: all, and those from a commit on |
+//! | `frames_on` | those from a commit on, numbered from any number on: a stream goes on with them over epochs |
 //! | `follower_of` | a follower that has taken such bytes |
 //! | `resume` | a hub without calls, whose opening trees are those that a follower holds |
 //!
@@ -26,6 +27,6 @@ pub mod laws;
 mod resuming;
 mod stream;
 
-pub use frames::{frames_of, frames_since};
+pub use frames::{frames_of, frames_on, frames_since};
 pub use resuming::resume;
 pub use stream::follower_of;

@@ -8,7 +8,7 @@ use Rattle.sal_follow.proofs.exports.export.Goals as goal
 pub loop-number-init : goal.loop-number-init
 loop-number-init c =
     let trees : List Trees = map trees_of c.args.commits.now in
-    subst (λ (b : List ℕ). AreBetween c.args.schema.now trees 0 b 0) (sym c.new-bytes.ensures.items) (begun c.args.schema.now trees 0)
+    subst (λ (b : List ℕ). AreBetween c.args.schema.now trees 0 0 b 0 0) (sym c.new-bytes.ensures.items) (begun c.args.schema.now trees 0 0)
 
 pub loop-number-preserved : goal.loop-number-preserved
 loop-number-preserved c =
@@ -16,7 +16,7 @@ loop-number-preserved c =
     let trees : List Trees = map trees_of c.args.commits.now in
     let size : length trees ≡ length c.args.commits.now = length-mapped trees_of c.args.commits.now in
     let inside : l.number < length trees = omega (arith, size, c.loop-number-test.true) in
-    one_more c.args.schema.now trees 0 l.bytes.items l.number l.invariant c.push_commit.new.bytes.items inside c.in_ok-push_commit.ensures
+    one_more c.args.schema.now trees 0 0 l.bytes.items l.number l.number l.invariant c.push_commit.new.bytes.items inside c.in_ok-push_commit.ensures
 
 pub returns-in_err-push_commit : goal.returns-in_err-push_commit
 returns-in_err-push_commit c =
@@ -25,7 +25,7 @@ returns-in_err-push_commit c =
     let trees : List Trees = map trees_of c.args.commits.now in
     let size : length trees ≡ length c.args.commits.now = length-mapped trees_of c.args.commits.now in
     let inside : l.number < length trees = omega (arith, size, c.loop-number-test.true) in
-    err_so (Exports c.args.schema.now trees) _ e c.from_residual.ensures.1 (fails c.args.schema.now trees 0 l.bytes.items l.number l.invariant e c.push_commit.new.bytes.items inside c.in_err-push_commit.ensures)
+    err_so (Exports c.args.schema.now trees) _ e c.from_residual.ensures.1 (fails c.args.schema.now trees 0 0 l.bytes.items l.number l.number l.invariant e c.push_commit.new.bytes.items inside c.in_err-push_commit.ensures)
 
 pub returns : goal.returns
 returns c =
@@ -33,4 +33,4 @@ returns c =
     let trees : List Trees = map trees_of c.args.commits.now in
     let size : length trees ≡ length c.args.commits.now = length-mapped trees_of c.args.commits.now in
     let all : length trees ≤ l.number = omega (arith, size, c.loop-number-test.false) in
-    subst (λ (b : List ℕ). Exports c.args.schema.now trees (Ok b)) (sym c.from_items.ensures) (all_put c.args.schema.now trees 0 l.bytes.items l.number l.invariant all)
+    subst (λ (b : List ℕ). Exports c.args.schema.now trees (Ok b)) (sym c.from_items.ensures) (all_put c.args.schema.now trees 0 0 l.bytes.items l.number l.number l.invariant all)

@@ -5,4 +5,4 @@ use Rattle.sal_follow.specs.Framed.{trees_of}
 use Rattle.sal_follow.proofs.exports.export.Given as goal
 
 abbrev pub invariant-loop-number : goal.invariant-loop-number
-invariant-loop-number l = AreBetween l.schema (map trees_of l.commits) 0 l.bytes.items l.number
+invariant-loop-number l = AreBetween l.schema (map trees_of l.commits) 0 0 l.bytes.items l.number l.number

@@ -6,7 +6,8 @@ use crossbeam_channel::Sender;
 use examples_counter::{Counter, LAST_NUMBER, count, device, number_in, schema};
 use sal::{Bytes, Hub, Rules};
 use sal_epoch::next_hub;
-use sal_resume::frames_since;
+use sal_follow::NextFrame;
+use sal_resume::frames_on;
 use std::alloc::Global;
 use std::sync::{Arc, Wait};
 
@@ -22,6 +23,13 @@ const COMMITS: u64 = 250;
 /// Some bytes of frames.
 pub(crate) type Piece = Vec<u8>;
 
+/// Where the frames go, and the one that comes next.
+#[derive(Drop)]
+struct Stream {
+    to: Sender<Piece, Global>,
+    next: NextFrame,
+}
+
 /// Counts through all epochs, and answers the last number.
 pub(crate) fn lead<R: Wait>(
     rt: &R,
@@ -32,7 +40,11 @@ pub(crate) fn lead<R: Wait>(
     let counter = Counter::at(alloc, &schema, LAST_NUMBER)?;
     let devices = vec![in alloc; device(alloc, &schema)?]?;
     let hub = Hub::open(alloc, devices, Rules::Two)?;
-    let hub = all_epochs(rt, alloc, &to, hub, &counter)?;
+    let next = NextFrame {
+        commit: 0,
+        number: 0,
+    };
+    let hub = all_epochs(rt, alloc, Stream { to, next }, hub, &counter)?;
     last(alloc, &hub, &counter)
 }
 
@@ -40,70 +52,79 @@ pub(crate) fn lead<R: Wait>(
 fn all_epochs<R: Wait>(
     rt: &R,
     alloc: Global,
-    to: &Sender<Piece, Global>,
+    mut stream: Stream,
     mut hub: Hub,
     counter: &Counter,
 ) -> anyhow::Result<Hub> {
-    epoch(rt, alloc, to, &mut hub, counter)?;
+    epoch(rt, alloc, &mut stream, &mut hub, counter)?;
     for _ in 1..EPOCHS {
-        hub = next_epoch(rt, alloc, to, hub, counter)?;
+        hub = next_epoch(rt, alloc, &mut stream, hub, counter)?;
     }
     Ok(hub)
 }
 
-// The epoch of the next hub.
+// The epoch of the next hub. Its opening has no frame: the last frame led to it.
 fn next_epoch<R: Wait>(
     rt: &R,
     alloc: Global,
-    to: &Sender<Piece, Global>,
+    stream: &mut Stream,
     hub: Hub,
     counter: &Counter,
 ) -> anyhow::Result<Hub> {
     let mut hub = next(alloc, hub)?;
-    epoch(rt, alloc, to, &mut hub, counter)?;
+    stream.next.commit = 1;
+    epoch(rt, alloc, stream, &mut hub, counter)?;
     Ok(hub)
 }
 
 // The hub that begins with the newest trees of this one.
 fn next(alloc: Global, hub: Hub) -> anyhow::Result<Hub> {
-    if !has_domains(&hub) {
-        bail!("the hub has no domain, or too many");
+    if !has_few_domains(&hub) {
+        bail!("the hub has too many domains");
     }
-    Ok(next_hub(alloc, hub, Rules::Two)?)
+    Ok(next_hub(alloc, hub, Rules::Two))
 }
 
-// Whether there are as many domains as a hub may have.
-fn has_domains(hub: &Hub) -> bool
-    ensures { result ≡ true → (1 ≤ length hub.now.world) × (length hub.now.world ≤ 64) }
+// Whether there are no more domains than a hub may have.
+fn has_few_domains(hub: &Hub) -> bool
+    ensures { result ≡ true → length hub.now.world ≤ 64 }
 {
-    let count = hub.domains().len();
-    1 <= count && count <= 64
+    hub.domains().len() <= 64
 }
 
 // Counts, and sends the frames of what was committed since the last sending.
 fn epoch<R: Wait>(
     rt: &R,
     alloc: Global,
-    to: &Sender<Piece, Global>,
+    stream: &mut Stream,
     hub: &mut Hub,
     counter: &Counter,
 ) -> anyhow::Result<()> {
-    let mut next = 0u64;
     for _ in 0..SENDINGS {
         count(alloc, hub, counter, COMMITS)?;
-        let bytes = frames(alloc, hub, next)?;
-        send(rt, to, bytes.into_items())?;
-        next = hub.newest().saturating_add(1);
+        let bytes = frames(alloc, hub, stream.next)?;
+        send(rt, &stream.to, bytes.into_items())?;
+        stream.next = after(stream.next, hub.newest());
     }
     Ok(())
 }
 
-// The frames from this commit of the hub on.
-fn frames(alloc: Global, hub: &Hub, from: u64) -> anyhow::Result<Bytes> {
+// The next frame, once those up to the newest commit were sent.
+fn after(next: NextFrame, newest: u64) -> NextFrame {
+    let commit = newest.saturating_add(1);
+    let sent = commit.saturating_sub(next.commit);
+    NextFrame {
+        commit,
+        number: next.number.saturating_add(sent),
+    }
+}
+
+// The frames from the next one on.
+fn frames(alloc: Global, hub: &Hub, next: NextFrame) -> anyhow::Result<Bytes> {
     if hub.domains().is_empty() {
         bail!("the hub has no domain");
     }
-    Ok(frames_since(alloc, hub, 0, from)?)
+    Ok(frames_on(alloc, hub, 0, next)?)
 }
 
 fn send<R: Wait>(rt: &R, to: &Sender<Piece, Global>, piece: Piece) -> anyhow::Result<()> {

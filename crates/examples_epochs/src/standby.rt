@@ -1,4 +1,4 @@
-//! The stand-by: a follower of one epoch after another.
+//! The stand-by: one follower over all epochs.
 ghost use Rattle.std.specs.Prelude.{◌≡◌, ◌+◌, ◌<◌, ◌^◌, IfOk, length};
 ghost use Rattle.examples_epochs.specs.Fed.{IsFedBy};
 
@@ -14,10 +14,8 @@ use std::sync::{Arc, Wait};
 /// What the stand-by saw.
 #[derive(Drop)]
 pub(crate) struct Seen {
-    /// How many epochs there were.
-    pub(crate) epochs: u64,
-    /// The last commit of the last one.
-    pub(crate) commit: u64,
+    /// The number of the last frame.
+    pub(crate) frame: u64,
     /// The number in the counter.
     pub(crate) number: u64,
 }
@@ -27,7 +25,6 @@ pub(crate) struct Seen {
 struct Standing {
     follower: Follower,
     fed: u64,
-    epochs: u64,
 }
 
 /// Takes all that comes, to the end.
@@ -36,49 +33,24 @@ pub(crate) fn follow<R: Wait>(
     alloc: Global,
     from: Receiver<Piece, Global>,
 ) -> anyhow::Result<Seen> {
-    let mut standing = begin(alloc, 1)?;
+    let mut standing = begin(alloc)?;
     for _ in rt.forever() {
         let Ok(piece) = from.recv(rt) else {
             break;
         };
-        standing = take(alloc, standing, &piece)?;
+        feed(&mut standing, &piece)?;
     }
     seen_by(&standing)
 }
 
-// A follower of an epoch of which nothing came yet.
-fn begin(alloc: Global, epochs: u64) -> anyhow::Result<Standing>
+// A follower before the stream.
+fn begin(alloc: Global) -> anyhow::Result<Standing>
     ensures { IfOk result (λ s. IsFedBy s.fed s.follower) }
 {
     let schema = Arc::new(alloc, schema(alloc)?)?;
     let patterns = Patterns::of(alloc, &schema)?;
     let follower = Follower::new(alloc, schema, patterns)?;
-    Ok(Standing {
-        follower,
-        fed: 0,
-        epochs,
-    })
-}
-
-// Takes the frames of a piece. Where frame 0 comes behind others, a new epoch begins, and a new follower takes the piece.
-fn take(alloc: Global, mut standing: Standing, piece: &[u8]) -> anyhow::Result<Standing>
-    requires { IsFedBy standing.fed standing.follower }
-    ensures { IfOk result (λ s. IsFedBy s.fed s.follower) }
-{
-    match feed(&mut standing, piece) {
-        Ok(()) => Ok(standing),
-        Err(FollowFault::Gap { got: 0, .. }) => take_first(alloc, standing.epochs, piece),
-        Err(fault) => Err(fault.into()),
-    }
-}
-
-// Takes the first frames of the next epoch.
-fn take_first(alloc: Global, before: u64, piece: &[u8]) -> anyhow::Result<Standing>
-    ensures { IfOk result (λ s. IsFedBy s.fed s.follower) }
-{
-    let mut standing = begin(alloc, before.saturating_add(1))?;
-    feed(&mut standing, piece)?;
-    Ok(standing)
+    Ok(Standing { follower, fed: 0 })
 }
 
 // Feeds the piece to the follower.
@@ -109,13 +81,9 @@ fn feed_behind(follower: &mut Follower, before: u64, piece: &[u8]) -> Result<(),
 
 // What a follower saw.
 fn seen_by(standing: &Standing) -> anyhow::Result<Seen> {
-    let Some(commit) = standing.follower.version() else {
+    let Some(frame) = standing.follower.version() else {
         bail!("no frame came");
     };
     let number = number_in(standing.follower.rows(Store::Config));
-    Ok(Seen {
-        epochs: standing.epochs,
-        commit,
-        number,
-    })
+    Ok(Seen { frame, number })
 }

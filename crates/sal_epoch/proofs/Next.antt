@@ -1,10 +1,8 @@
--- The world of the next epoch, device by device.
-use Rattle.std.proofs.Common.{◌≡◌, ℕ, zero, suc, ◌+◌, ◌-◌, ◌<◌, ◌≤◌, Bool, true, false, not, List, [], ◌∷◌, ◌++◌, length, map, take, Option, Some, None, refl, ap, sym, subst, ◌∙◌, arith, append_assoc, append-nil, IsTrue}
+-- The newest trees, device by device.
+use Rattle.std.proofs.Common.{◌≡◌, ℕ, zero, suc, ◌+◌, ◌-◌, ◌<◌, ◌≤◌, true, false, not, List, [], ◌∷◌, ◌++◌, length, take, Some, None, refl, ap, sym, subst, ◌∙◌, arith, append_assoc, append-nil, IsTrue}
 use Rattle.std.specs.Prelude.{find, option_map, slice_get, if◌then◌else◌, ◌&&◌, Result, Ok, Err, IfOk}
 use Rattle.std.specs.Option.{option_or}
-use Rattle.std.specs.List.{AllByRecursion, list_all}
-use Rattle.std.proofs.lemmas.Bool.{and_parts}
-use Rattle.std.proofs.lemmas.List.{take_all, length-map}
+use Rattle.std.proofs.lemmas.List.{take_all}
 use Rattle.std.proofs.lemmas.Option.{none-some, same_Some}
 use Rattle.sal_types.specs.declared.value.Store.{Store}
 use Rattle.sal_types.specs.declared.value.Store.TheVariants.{Config, Oper}
@@ -18,22 +16,22 @@ use Rattle.sal_rows.proofs.Quiet.{no_map, or_none_first, or_none_second}
 use Rattle.sal_rules.specs.Breaches.{breach}
 use Rattle.sal_schema.specs.declared.table.SchemaTable.{SchemaTable}
 use Rattle.sal_schema.specs.Fitting.{is_closed, is_of_state}
-use Rattle.sal_history.specs.declared.call.Entry.{Entry}
 use Rattle.sal_history.specs.declared.opening.Device.{Device}
-use Rattle.sal_history.specs.History.{commits, history, newest_tree, trees_at}
+use Rattle.sal_history.specs.History.{commits, history, newest_tree}
 use Rattle.sal_history.specs.Versions.{tables_now}
 use Rattle.sal_history.specs.World.{AreVersions, Domain, IsChain, opening_of}
-use Rattle.sal_history_laws.specs.Logs.{AreSentLawful, AreSound, IsClosedLog}
-use Rattle.sal_config_laws.specs.Configurations.{BeginWithoutState, is_config, is_config_row}
+use Rattle.sal_history_laws.specs.Logs.{IsClosedLog}
+use Rattle.sal_config_laws.specs.Configurations.{BeginWithoutState, is_config}
 use Rattle.sal_config_laws.proofs.Stateless.{configurations_have_no_state}
 use Rattle.sal_commit.specs.declared.domain.Domain.{Domain as Kept}
 use Rattle.sal_commit.specs.Versions.{tables_of}
 use Rattle.sal_hub.specs.Domains.{IsDomain}
+use Rattle.sal_hub.specs.Epochs.{next_from, next_world}
 use Rattle.sal_hub.specs.HubHistory.{HubHistory}
 use Rattle.sal_hub.specs.declared.opening.OpenFault.{OpenFault}
 use Rattle.sal_hub.specs.declared.opening.OpenFault.TheVariants.{Broken, NotConfig}
 use Rattle.sal_hub.specs.Openings.{AreClosedDevices, IsClosedDevice, domain_of, state_row, opening_fault, fault_from, fault_of, broken}
-use Rattle.sal_epoch.specs.Epochs.{AreStateless, EpochsBeginWhereOneEnds, HubsAreStateless, OpensAtTheNewest, next_domain, next_from, next_world}
+use Rattle.sal_epoch.specs.Epochs.{AreStateless, HubsAreStateless, copied_domain, copied_from, copied_world}
 
 -- ---- the newest trees
 
@@ -54,7 +52,7 @@ under-root (row ∷ rows) = ap (λ rest. row ∷ rest) (under-root rows)
 
 -- the device of the domain
 pub device-is : (rules : Rules) (known : HubHistory) (n : ℕ) (device : Device) → device.schema.value ≡ tables_now known.world (history known.world known.log) n → device.upgrades.items ≡ []
-    → device.opening.config ≡ newest_tree known.world known.log n Config → device.opening.oper ≡ newest_tree known.world known.log n Oper → domain_of rules device ≡ next_domain rules known n
+    → device.opening.config ≡ newest_tree known.world known.log n Config → device.opening.oper ≡ newest_tree known.world known.log n Oper → domain_of rules device ≡ copied_domain rules known n
 device-is rules known n device schema upgrades config oper = λ i. record { table = schema i; upgrades = tables_of (upgrades i); opening = record { config = config i; oper = oper i }; rules = rules }
 
 pub device-closed : (known : HubHistory) (n : ℕ) (device : Device) → IsClosedLog known.world (history known.world known.log)
@@ -83,7 +81,7 @@ module _ (known : HubHistory) (n : ℕ) (domain : Kept) (is : IsDomain known n d
   by-number s = ap (λ k. newest_tree known.world known.log k s) is.number
 
   pub next-so : (result : Result Device NoMemory) → IfOk result HasSchema → IfOk result (λ device. device.upgrades.items ≡ []) → IfOk result (HasTree config_of Config) → IfOk result (HasTree oper_of Oper)
-      → IfOk result (λ (device : Device). (rules : Rules) → domain_of rules device ≡ next_domain rules known n)
+      → IfOk result (λ (device : Device). (rules : Rules) → domain_of rules device ≡ copied_domain rules known n)
   next-so (Ok device) schema upgrades config oper = λ rules. device-is rules known n device (schema ∙ is.schema) upgrades (config ∙ by-number Config) (oper ∙ by-number Oper)
   next-so (Err e) schema upgrades config oper = tt
 
@@ -96,58 +94,43 @@ closed-more [] d all here = (here, tt)
 closed-more (x ∷ ds) d all here = (all.0, closed-more ds d all.1 here)
 
 -- one device more
-pub next-step : (rules : Rules) (known : HubHistory) (done more whole : List Domain) (i : ℕ) → i < length known.world → more ≡ done ++ next_domain rules known i ∷ []
-    → done ++ next_from rules known i (length known.world - i) ≡ whole → more ++ next_from rules known (i + 1) (length known.world - (i + 1)) ≡ whole
+pub next-step : (rules : Rules) (known : HubHistory) (done more whole : List Domain) (i : ℕ) → i < length known.world → more ≡ done ++ copied_domain rules known i ∷ []
+    → done ++ copied_from rules known i (length known.world - i) ≡ whole → more ++ copied_from rules known (i + 1) (length known.world - (i + 1)) ≡ whole
 next-step rules known done more whole i inside is so =
     let rest : length known.world - i ≡ suc (length known.world - (i + 1)) = omega (arith, inside) in
-    ap (λ ds. ds ++ next_from rules known (i + 1) (length known.world - (i + 1))) is
-    ∙ append_assoc done (next_domain rules known i ∷ []) (next_from rules known (i + 1) (length known.world - (i + 1)))
-    ∙ ap (λ k. done ++ next_from rules known i k) (sym rest)
+    ap (λ ds. ds ++ copied_from rules known (i + 1) (length known.world - (i + 1))) is
+    ∙ append_assoc done (copied_domain rules known i ∷ []) (copied_from rules known (i + 1) (length known.world - (i + 1)))
+    ∙ ap (λ k. done ++ copied_from rules known i k) (sym rest)
     ∙ so
 
-pub next-end : (rules : Rules) (known : HubHistory) (done whole : List Domain) (i : ℕ) → length known.world ≤ i → done ++ next_from rules known i (length known.world - i) ≡ whole → done ≡ whole
+pub next-end : (rules : Rules) (known : HubHistory) (done whole : List Domain) (i : ℕ) → length known.world ≤ i → done ++ copied_from rules known i (length known.world - i) ≡ whole → done ≡ whole
 next-end rules known done whole i past so =
     let none : length known.world - i ≡ 0 = omega (arith, past) in
-    sym (append-nil done) ∙ ap (λ k. done ++ next_from rules known i k) (sym none) ∙ so
+    sym (append-nil done) ∙ ap (λ k. done ++ copied_from rules known i k) (sym none) ∙ so
 
-pub next-start : (rules : Rules) (known : HubHistory) → next_from rules known 0 (length known.world - 0) ≡ next_world rules known
-next-start rules known = let all : length known.world - 0 ≡ length known.world = omega arith in ap (next_from rules known 0) all
+pub next-start : (rules : Rules) (known : HubHistory) → copied_from rules known 0 (length known.world - 0) ≡ copied_world rules known
+next-start rules known = let all : length known.world - 0 ≡ length known.world = omega arith in ap (copied_from rules known 0) all
 
-pub next-length : (rules : Rules) (known : HubHistory) (n count : ℕ) → length (next_from rules known n count) ≡ count
+pub next-length : (rules : Rules) (known : HubHistory) (n count : ℕ) → length (copied_from rules known n count) ≡ count
 next-length rules known n zero = refl
 next-length rules known n (suc count) = ap suc (next-length rules known (n + 1) count)
 
 -- ---- versions
 
 -- each domain has one version
-alone : (rules : Rules) (known : HubHistory) (n count k : ℕ) (d : Domain) → slice_get (next_from rules known n count) k ≡ Some d → d.upgrades ≡ []
+alone : (rules : Rules) (known : HubHistory) (n count k : ℕ) (d : Domain) → slice_get (copied_from rules known n count) k ≡ Some d → d.upgrades ≡ []
 alone rules known n zero k d at = absurd (none-some d at)
-alone rules known n (suc count) zero d at = ap (λ (x : Domain). x.upgrades) (sym (same_Some (next_domain rules known n) d at))
+alone rules known n (suc count) zero d at = ap (λ (x : Domain). x.upgrades) (sym (same_Some (copied_domain rules known n) d at))
 alone rules known n (suc count) (suc k) d at = alone rules known (n + 1) count k d at
 
 chain-of : (d : Domain) → d.upgrades ≡ [] → IsChain d.table d.upgrades
 chain-of d none = subst (λ us. IsChain d.table us) (sym none) tt
 
-pub next-versions : (rules : Rules) (known : HubHistory) → AreVersions (next_world rules known)
+pub next-versions : (rules : Rules) (known : HubHistory) → AreVersions (copied_world rules known)
 next-versions rules known = record {
   chain = λ k d at. chain-of d (alone rules known 0 (length known.world) k d at);
   only = λ k d at. alone rules known 0 (length known.world) (suc k) d at;
 }
-
--- ---- the trees at commit 0
-
-opening-from : (rules : Rules) (known : HubHistory) (i count n : ℕ) (s : Store) → n < count → opening_of (next_from rules known i count) n s ≡ newest_tree known.world known.log (i + n) s
-opening-from rules known i zero n s inside = absurd (omega (arith, inside))
-opening-from rules known i (suc count) zero Config inside = let here : i ≡ i + 0 = omega arith in ap (λ k. newest_tree known.world known.log k Config) here
-opening-from rules known i (suc count) zero Oper inside = let here : i ≡ i + 0 = omega arith in ap (λ k. newest_tree known.world known.log k Oper) here
-opening-from rules known i (suc count) (suc n) s inside =
-    let there : (i + 1) + n ≡ i + suc n = omega arith in
-    opening-from rules known (i + 1) count n s (omega (arith, inside)) ∙ ap (λ k. newest_tree known.world known.log k s) there
-
-pub begin-where-one-ends : EpochsBeginWhereOneEnds
-begin-where-one-ends rules known n s log inside =
-    let same : 0 + n ≡ n = omega arith in
-    opening-from rules known 0 (length known.world) n s inside ∙ ap (λ k. newest_tree known.world known.log k s) same
 
 -- ---- the only faults
 
@@ -155,20 +138,28 @@ module _ (rules : Rules) (known : HubHistory) where
   abbrev pub KeepsRules : Type 0
   KeepsRules = (n : ℕ) (s : Store) → n < length known.world → breach (tables_now known.world (history known.world known.log) n) s (newest_tree known.world known.log n s) ≡ None
 
-  no-fault : (n : ℕ) → n < length known.world → KeepsRules → AreStateless known → opening_fault n (next_domain rules known n) ≡ None
+  no-fault : (n : ℕ) → n < length known.world → KeepsRules → AreStateless known → opening_fault n (copied_domain rules known n) ≡ None
   no-fault n inside keeps stateless =
       λ i. option_or (option_map (NotConfig n) (stateless n inside i)) (option_or (option_map (broke Config) (keeps n Config inside i)) (option_map (broke Oper) (keeps n Oper inside i)))
     where
       broke : Store → Breach → OpenFault
       broke s b = Broken n s b
 
-  no-faults : (n count : ℕ) → n + count ≤ length known.world → KeepsRules → AreStateless known → fault_from n (next_from rules known n count) ≡ None
+  no-faults : (n count : ℕ) → n + count ≤ length known.world → KeepsRules → AreStateless known → fault_from n (copied_from rules known n count) ≡ None
   no-faults n zero inside keeps stateless = refl
   no-faults n (suc count) inside keeps stateless =
-      ap (λ o. option_or o (fault_from (n + 1) (next_from rules known (n + 1) count))) (no-fault n (omega (arith, inside)) keeps stateless) ∙ no-faults (n + 1) count (omega (arith, inside)) keeps stateless
+      ap (λ o. option_or o (fault_from (n + 1) (copied_from rules known (n + 1) count))) (no-fault n (omega (arith, inside)) keeps stateless) ∙ no-faults (n + 1) count (omega (arith, inside)) keeps stateless
 
-  pub no-fault-of : KeepsRules → AreStateless known → fault_of (next_world rules known) ≡ None
+  pub no-fault-of : KeepsRules → AreStateless known → fault_of (copied_world rules known) ≡ None
   no-fault-of keeps stateless = no-faults 0 (length known.world) (omega arith) keeps stateless
+
+-- the next world has the same faults
+same-faults : (rules : Rules) (known : HubHistory) (n count : ℕ) → fault_from n (next_from rules known n count) ≡ fault_from n (copied_from rules known n count)
+same-faults rules known n zero = refl
+same-faults rules known n (suc count) = ap (option_or (opening_fault n (copied_domain rules known n))) (same-faults rules known (n + 1) count)
+
+pub next-fault-of : (rules : Rules) (known : HubHistory) → fault_of (next_world rules known) ≡ fault_of (copied_world rules known)
+next-fault-of rules known = same-faults rules known 0 (length known.world)
 
 -- ---- no state data
 

@@ -1,4 +1,4 @@
--- What is mounted when an epoch ends: the mounts of a log are made once more, and those whose domain is live are told.
+-- What is mounted when an epoch ends: the mounts of a log are made once more, and those whose domain is live are listed.
 use Rattle.std.specs.Prelude.{◌≡◌, ℕ, Bool, List, [], ◌∷◌, ◌++◌, cond, length, map, Option, None, Some}
 use Rattle.std.specs.List.{filter, fold}
 use Rattle.sal_types.specs.declared.value.Step.{Step}

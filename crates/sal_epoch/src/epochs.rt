@@ -1,16 +1,17 @@
 //! The next hub.
-ghost use Rattle.std.specs.Prelude.{◌≡◌, ◌<◌, ◌≤◌, [], ◌∷◌, ◌++◌, IfOk, MatchResult, IfErr, OnOk, length};
+ghost use Rattle.std.specs.Prelude.{◌≡◌, ◌<◌, ◌≤◌, [], ◌∷◌, ◌++◌, IfOk, None, OnOk, length};
 ghost use Rattle.sal_types.specs.declared.value.Store.TheVariants.{Config, Oper};
 ghost use Rattle.sal_rows.specs.declared.clash.Rules.{Rules as RulesOf};
 ghost use Rattle.sal_tree.specs.Rows.{rows_of};
 ghost use Rattle.sal_history.specs.History.{newest_tree};
-ghost use Rattle.sal_hub.specs.declared.opening.OpenFault.TheVariants.{NoMemory as Full};
-ghost use Rattle.sal_hub.specs.Openings.{AreClosedDevices, IsClosedDevice, IsFaultOf, domain_of, fault_of, world_of};
-ghost use Rattle.sal_epoch.specs.Epochs.{AreStateless, OpensAtTheNewest, next_domain, next_hub, next_world};
+ghost use Rattle.sal_history.specs.World.{AreVersions};
+ghost use Rattle.sal_hub.specs.Epochs.{OpensAtTheNewest, next_hub};
+ghost use Rattle.sal_hub.specs.Openings.{AreClosedDevices, IsClosedDevice, domain_of, fault_of, world_of};
+ghost use Rattle.sal_epoch.specs.Epochs.{AreStateless, copied_domain, copied_world};
 
 use sal_commit::Domain;
 use sal_history::{Device, Opening};
-use sal_hub::{Hub, OpenFault};
+use sal_hub::Hub;
 use sal_rows::{Rows, Rules};
 use sal_tree::Root;
 use sal_types::{NoMemory, Path, append};
@@ -57,7 +58,7 @@ fn device_of(alloc: Global, hub: &Hub, domain: &Domain) -> Result<Device, NoMemo
 // The device of the domain at the index. Its trees are closed.
 fn next_device(alloc: Global, hub: &Hub, index: usize) -> Result<Device, NoMemory>
     requires { index < length hub.now.world }
-    ensures next { IfOk result (λ device. (rules : RulesOf) → domain_of rules device ≡ next_domain rules hub.now index) }
+    ensures next { IfOk result (λ device. (rules : RulesOf) → domain_of rules device ≡ copied_domain rules hub.now index) }
     ensures closed { IfOk result IsClosedDevice }
 {
     hub.stays_closed();
@@ -65,7 +66,7 @@ fn next_device(alloc: Global, hub: &Hub, index: usize) -> Result<Device, NoMemor
     device_of(alloc, hub, domain)
 }
 
-// Puts the device of the domain at the index behind the others.
+// Puts the device of the domain at the index after the others.
 fn add_next(
     alloc: Global,
     hub: &Hub,
@@ -73,7 +74,7 @@ fn add_next(
     index: usize,
 ) -> Result<(), NoMemory>
     requires { index < length hub.now.world }
-    ensures next { OnOk result ((rules : RulesOf) → world_of rules devices.new.items ≡ world_of rules devices.old.items ++ next_domain rules hub.now index ∷ []) }
+    ensures next { OnOk result ((rules : RulesOf) → world_of rules devices.new.items ≡ world_of rules devices.old.items ++ copied_domain rules hub.now index ∷ []) }
     ensures closed { OnOk result (AreClosedDevices devices.old.items → AreClosedDevices devices.new.items) }
 {
     let device = next_device(alloc, hub, index)?;
@@ -83,7 +84,7 @@ fn add_next(
 
 // The devices of all domains, in order. Their trees are closed.
 fn all_devices(alloc: Global, hub: &Hub) -> Result<Vec<Device>, NoMemory>
-    ensures world { IfOk result (λ devices. (rules : RulesOf) → world_of rules devices.items ≡ next_world rules hub.now) }
+    ensures world { IfOk result (λ devices. (rules : RulesOf) → world_of rules devices.items ≡ copied_world rules hub.now) }
     ensures closed { IfOk result (λ devices. AreClosedDevices devices.items) }
 {
     let mut devices = Vec::new(alloc);
@@ -93,40 +94,33 @@ fn all_devices(alloc: Global, hub: &Hub) -> Result<Vec<Device>, NoMemory>
     Ok(devices)
 }
 
-/// A device for each domain of the hub: the present version of its schema as version 0, and its newest trees as its opening.
+/// A device for each domain of the hub: the present version of its schema as version 0, and a copy of its newest trees as its opening. A hub over these and
+/// more devices has a domain more; without that, `next_hub` copies nothing.
 ///
 /// The trees are closed by that version, as `Hub::open` requires, and break no structural rule of it. So `Hub::open` refuses these devices only if
 /// memory runs out, unless a newest configuration has state data; none has (`laws::hubs_are_stateless`).
 pub fn next_devices(alloc: Global, hub: &Hub) -> Result<Vec<Device>, NoMemory>
-    ensures world { IfOk result (λ devices. (rules : RulesOf) → world_of rules devices.items ≡ next_world rules hub.now) }
+    ensures world { IfOk result (λ devices. (rules : RulesOf) → world_of rules devices.items ≡ copied_world rules hub.now) }
     ensures closed { IfOk result (λ devices. AreClosedDevices devices.items) }
-    ensures sound { AreStateless hub.now → (rules : RulesOf) → fault_of (next_world rules hub.now) ≡ None }
+    ensures sound { AreStateless hub.now → (rules : RulesOf) → fault_of (copied_world rules hub.now) ≡ None }
+    ensures versions { IfOk result (λ devices. (rules : RulesOf) → AreVersions (world_of rules devices.items)) }
 {
     hub.keeps_the_rules();
     all_devices(alloc, hub)
 }
 
-// The same, of a hub that is let go.
-fn devices_of(alloc: Global, hub: Hub) -> Result<Vec<Device>, NoMemory>
-    ensures world { IfOk result (λ devices. (rules : RulesOf) → world_of rules devices.items ≡ next_world rules hub) }
-    ensures closed { IfOk result (λ devices. AreClosedDevices devices.items) }
-    ensures sound { AreStateless hub → (rules : RulesOf) → fault_of (next_world rules hub) ≡ None }
-{
-    next_devices(alloc, &hub)
-}
-
-/// A hub without calls that begins with the newest trees of this one, by the present version of each schema, under the version rules.
+/// A hub without calls that begins with the newest trees of this one, by the present version of each schema, under the version rules. The versions after
+/// the present one stay.
 ///
-/// The old hub is let go once the rows of its newest trees are copied, before the new one is made; so it is gone also if memory runs out. To keep it
-/// then, call `next_devices` and `Hub::open`.
-pub fn next_hub(alloc: Global, hub: Hub, rules: Rules) -> Result<Hub, OpenFault>
-    requires some { 1 ≤ length hub.world }
-    requires few { length hub.world ≤ 64 }
-    ensures opened { MatchResult result (λ next. next ≡ next_hub rules hub) (IsFaultOf (next_world rules hub)) }
-    ensures sound { IfOk result (λ next. fault_of next.world ≡ None) }
-    ensures whole { AreStateless hub → IfErr result (λ fault. fault ≡ Full) }
-    ensures leader { IfOk result (λ next. OpensAtTheNewest hub next.world) }
+/// It takes over the trees as they are, and drops all else of the old hub. It copies no node and makes no check, and cannot fail. The next hub has no fault
+/// in its openings if this one has none (`sound`), through all epochs.
+pub fn next_hub(alloc: Global, hub: Hub, rules: Rules) -> Hub
+    requires { length hub.world ≤ 64 }
+    ensures next { result ≡ next_hub rules hub }
+    ensures leader { OpensAtTheNewest hub result.world }
+    ensures sound { fault_of hub.world ≡ None → fault_of result.world ≡ None }
 {
-    let devices = devices_of(alloc, hub)?;
-    Hub::open(alloc, devices, rules)
+    hub.stays_lawful();
+    hub.keeps_the_rules();
+    hub.next_epoch(alloc, rules)
 }

@@ -6,7 +6,7 @@ pub fn hubs_are_stateless()
     ensures { HubsAreStateless }
 {}
 
-/// Whatever calls come to the next hub, its trees at commit 0 are the newest ones of the hub before.
+/// Whatever calls the next hub gets, its trees at commit 0 are the newest ones of the hub before.
 pub fn epochs_begin_where_one_ends()
     ensures { EpochsBeginWhereOneEnds }
 {}

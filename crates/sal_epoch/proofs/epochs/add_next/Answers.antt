@@ -1,5 +1,5 @@
 -- One device more.
-use Rattle.std.proofs.Common.{List, [], ◌∷◌, ◌++◌, ap, sym, subst, ◌∙◌}
+use Rattle.std.proofs.Common.{[], ◌∷◌, ◌++◌, ap, sym, subst, ◌∙◌}
 use Rattle.std.proofs.lemmas.List.{map-append}
 use Rattle.sal_history.specs.World.{Domain}
 use Rattle.sal_hub.specs.Openings.{AreClosedDevices, domain_of, world_of}

@@ -1,5 +1,5 @@
 -- The newest trees break no rule of the present version, and their nodes have no later stamps than their receipt.
-use Rattle.std.proofs.Common.{◌<◌, List, length, refl, ap, sym, ◌∙◌, subst}
+use Rattle.std.proofs.Common.{rules, ◌<◌, List, length, refl, ap, sym, ◌∙◌, subst}
 use Rattle.sal_tree.specs.declared.commit.Commit.{Commit}
 use Rattle.sal_graft.specs.Following.{AreFollowing}
 use Rattle.sal_graft.specs.Kept.{AreKept, chains_of, opening_in, ops_of}
@@ -25,7 +25,7 @@ returns c =
     let is = c.keep_newest.ensures in
     record {
       number = refl;
-      live = refl;
+      live = search rules;
       schema = refl;
       first = c.drop_versions.ensures.first;
       upgrades = c.drop_versions.ensures.upgrades;

@@ -1,5 +1,6 @@
 -- Steps that check their reads are as many, and have the same values.
-use Rattle.std.proofs.Common.{◌≡◌, ℕ, suc, Bool, true, false, List, [], ◌∷◌, length, map, IsTrue, nat_le, refl, ap}
+use Rattle.std.proofs.Common.{◌≡◌, ℕ, zero, suc, ◌+◌, ◌<◌, Bool, true, false, List, [], ◌∷◌, ◌++◌, length, map, take, drop, get_or, IsTrue, refl, ap, ◌∙◌, arith}
+use Rattle.std.specs.Prelude.{slice_set}
 use Rattle.std.specs.List.{list_all}
 use Rattle.std.proofs.lemmas.List.{length-map}
 use Rattle.sal_script.specs.declared.script.ScriptStep.{ScriptStep}
@@ -58,3 +59,24 @@ limits_with checked old new made limits =
     let is = same_limits new in
     let same = same_lengths checked (clients_of old) in
     rw (← is.0, ← is.1, made, same.0, same.1, was.0, was.1) limits
+
+-- ---- in place
+
+-- one element more is changed, as it is seen
+pub mapped_next : {A B : Type 0} (f : B → B) (g : A → B) (was now : List A) (i : ℕ) (x y : A) → i < length was → x ≡ get_or now i x → g y ≡ f (g x)
+    → map g now ≡ map f (map g (take i was)) ++ map g (drop i was) → map g (slice_set now i y) ≡ map f (map g (take (i + 1) was)) ++ map g (drop (i + 1) was)
+mapped_next f g [] now i x y within here is so_far = absurd (omega (arith, within))
+mapped_next f g (w ∷ was) [] zero x y within here is so_far = let none : [] ≡ g w ∷ map g was = so_far in absurd cc
+mapped_next f g (w ∷ was) [] (suc i) x y within here is so_far = let none : [] ≡ f (g w) ∷ (map f (map g (take i was)) ++ map g (drop i was)) = so_far in absurd cc
+mapped_next f g (w ∷ was) (n ∷ now) zero x y within here is so_far =
+    let all : g n ∷ map g now ≡ g w ∷ map g was = so_far in
+    let first : g n ≡ g w = cc in
+    let rest : map g now ≡ map g was = cc in
+    let changed : g y ≡ f (g w) = is ∙ ap (λ z. f (g z)) here ∙ ap f first in
+    λ k. changed k ∷ rest k
+mapped_next f g (w ∷ was) (n ∷ now) (suc i) x y within here is so_far =
+    let all : g n ∷ map g now ≡ f (g w) ∷ (map f (map g (take i was)) ++ map g (drop i was)) = so_far in
+    let first : g n ≡ f (g w) = cc in
+    let rest : map g now ≡ map f (map g (take i was)) ++ map g (drop i was) = cc in
+    let more = mapped_next f g was now i x y (omega (arith, within)) here is rest in
+    λ k. first k ∷ more k

@@ -11,7 +11,7 @@ invariant_of-result c =
     record {
       short = c.in_ok-beginning.beginning.own.short;
       few = rw (c.from_items.ensures, beginning.domains.1) domains.few;
-      limits = rw c.from_items-2.ensures (limits_with c.in_ok-ending.ending.checked_reads c.in_ok-beginning.beginning.clients.items c.with_reads.result.items c.with_reads.ensures beginning.limits);
+      limits = rw c.from_items-2.ensures (limits_with c.in_ok-ending.ending.checked_reads c.in_ok-beginning.beginning.clients.items c.with_reads-clients.result.items c.with_reads-clients.ensures beginning.limits);
       opening = c.in_ok-beginning.beginning.own.device.opening;
-      json = rw (c.from_items-2.ensures, c.with_reads.ensures, json_with) beginning.json;
+      json = rw (c.from_items-2.ensures, c.with_reads-clients.ensures, json_with) beginning.json;
     }

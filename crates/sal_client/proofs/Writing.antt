@@ -1,6 +1,6 @@
 -- A write in a transaction, as the definitions have it.
 use Rattle.std.proofs.Common.{◌≡◌, ℕ, List, [], ◌∷◌, ◌++◌, length, Some, Result, Ok, Err, ap, sym, ◌∙◌, subst, inl, inr}
-use Rattle.std.specs.Prelude.{MatchResult, ⊤}
+use Rattle.std.specs.Prelude.{IfErr, MatchResult, ⊤}
 use Rattle.sal_types.specs.declared.value.Store.{Store}
 use Rattle.sal_rows.specs.declared.op.Op.{Op}
 use Rattle.sal_rows.specs.Apply.{apply_ops}
@@ -27,7 +27,7 @@ use Rattle.sal_client.proofs.Soundness.{based}
 
 -- what a refused write leaves
 abbrev pub Leaves : Writing → Op → Writing → Result ⊤ TxFault → Type 0
-Leaves old op new answer = MatchResult answer (λ _. ⊤) (λ fault. new ≡ after_refusal fault op.store old)
+Leaves old op new answer = IfErr answer (λ fault. new ≡ after_refusal fault op.store old)
 
 -- as the definitions have it
 open_refused : (store : Store) (fault : TxFault) (w : Writing) → open_of (Write (after_refusal fault store w)) ≡ record (open_of (Write w)) { ops = tried fault w.mode store w.changes }

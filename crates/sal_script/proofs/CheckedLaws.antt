@@ -1,7 +1,6 @@
 -- What a transaction read is known to its operations, which only grow.
 use Rattle.std.proofs.Common.{◌≡◌, ℕ, Bool, true, false, List, [], ◌∷◌, ◌++◌, ◌||◌, Option, None, Some, Result, Ok, Err, if◌then◌else◌, nat_eq, refl, ap, sym, ◌∙◌, subst, append-nil}
 use Rattle.std.specs.Prelude.{⊤}
-use Rattle.std.specs.List.{list_any}
 use Rattle.std.proofs.lemmas.Bool.{eqb-true, or_left, or_right}
 use Rattle.std.proofs.lemmas.List.Folds.{list_any-append}
 use Rattle.std.proofs.lemmas.Option.{same_Some}
@@ -17,7 +16,7 @@ use Rattle.sal_rows.specs.declared.outcome.Mode.{Mode}
 use Rattle.sal_rows.specs.declared.outcome.Mode.TheVariants.{Ro, Wo, Rw, Checked}
 use Rattle.sal_rows.specs.Apply.{same_store}
 use Rattle.sal_rows.specs.PathClash.{is_covered}
-use Rattle.sal_rows.specs.Reads.{is_known, read_of, recorded, was_read, with_read}
+use Rattle.sal_rows.specs.Reads.{is_known, read_of, recorded, was_read}
 use Rattle.sal_schema.specs.declared.table.SchemaTable.{SchemaTable}
 use Rattle.sal_history.specs.declared.call.Call.{Call}
 use Rattle.sal_history.specs.declared.call.Call.TheVariants as called
@@ -32,10 +31,10 @@ use Rattle.sal_rules.specs.Refusals.{refusal}
 use Rattle.sal_script.specs.declared.reply.StepReply.{StepReply}
 use Rattle.sal_script.specs.declared.reply.StepReply.TheVariants.{Refused}
 use Rattle.sal_script.specs.declared.reply.StepRefusal.TheVariants.{NoDevice, NoUpgrade, Write}
-use Rattle.sal_script.specs.CheckedLaws.{Answers, Grows, KnownStays, LooksAreKnown, MissedParentsAreKnown, TransactionsGrow}
+use Rattle.sal_script.specs.CheckedLaws.{Grows, KnownStays, LooksAreKnown, MissedParentsAreKnown, TransactionsGrow}
 use Rattle.sal_script.specs.Moves.{Move, Begin, Put, Merge, Delete, Read, Exists, Submit, Cancel, Settle, OpenChain, ChainBegin, CloseChain, Pump, Listen, Take, Unlisten, Mirror, Provide, Withdraw, Invoke, NextCall, Answer, Collect, Subscribe, Offer, TakeNotes, Mount, Unmount, MountAt, Mark, After, Upgrade}
-use Rattle.sal_script.specs.Play.{upgrade, Client, DataAct, Listener, Meeting, Open, Opened, accept_unless, act_of, after_refusal, ask, cancel, chain_begin, close_chain, deleting, found, listen, listen_at, local, look, look_at, look_in, look_reply, look_with, meet, merging, mirror, op_of, putting, refused, rows_read, seen_by, set_slot, settle, shared, submit, submit_in, table_for, take_batch, unlisten, with_ops, write, write_act, write_at, write_in, write_op, write_with}
-use Rattle.sal_script.specs.Services.{Invocation, OrRefusal, answer, collect, invoke, mount, mount_at, offer, provide, subscribe, withdraw}
+use Rattle.sal_script.specs.Play.{upgrade, Client, DataAct, Listener, Meeting, Open, Opened, accept_unless, act_of, after_refusal, ask, cancel, chain_begin, close_chain, deleting, found, listen, listen_at, local, look, look_at, look_reply, look_with, meet, merging, mirror, op_of, putting, refused, rows_read, seen_by, settle, shared, submit, submit_in, table_for, take_batch, unlisten, with_ops, write, write_act, write_at, write_in, write_with}
+use Rattle.sal_script.specs.Services.{OrRefusal, answer, collect, invoke, mount, mount_at, offer, provide, subscribe, withdraw}
 use Rattle.sal_script.specs.Tables.{Versions, has_domain, has_upgrade, last_in}
 
 -- ---- what is known

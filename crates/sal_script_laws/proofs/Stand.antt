@@ -1,17 +1,13 @@
 -- What a done transaction looked at is what it would see over the trees just before its commit.
-use Rattle.std.proofs.Common.{◌≡◌, ℕ, ◌+◌, ◌-◌, ◌<◌, Bool, true, false, List, [], ◌∷◌, ◌++◌, length, Option, None, Some, Ok, if◌then◌else◌, refl, ap, sym, ◌∙◌, subst, arith, append-nil, append_assoc}
+use Rattle.std.proofs.Common.{◌≡◌, ℕ, ◌+◌, ◌-◌, Bool, true, false, List, [], ◌∷◌, ◌++◌, length, Option, Some, if◌then◌else◌, refl, ap, sym, ◌∙◌, arith, append-nil, append_assoc}
 use Rattle.std.specs.Prelude.{slice_get, unwrap_or}
-use Rattle.std.specs.List.{fold, list_all}
+use Rattle.std.specs.List.{fold}
 use Rattle.std.specs.Option.{option_to_list}
 use Rattle.std.proofs.lemmas.List.Sums.{fold-append}
-use Rattle.sal_types.specs.declared.value.Store.{Store}
-use Rattle.sal_types.specs.declared.value.Step.{Step}
-use Rattle.sal_types.specs.declared.row.Row.{Row}
 use Rattle.sal_types.specs.Tree.{under}
 use Rattle.sal_rows.specs.declared.op.Op.{Op}
 use Rattle.sal_rows.specs.declared.outcome.CallFault.TheVariants.{PipelineFull, TxSpent}
 use Rattle.sal_rows.specs.declared.outcome.Mode.TheVariants.{Checked}
-use Rattle.sal_rows.specs.declared.outcome.Outcome.TheVariants.{Done}
 use Rattle.sal_rows.specs.Apply.{apply_ops}
 use Rattle.sal_rows.specs.Reads.{recorded}
 use Rattle.sal_history.specs.declared.call.Call.TheVariants as made
@@ -19,19 +15,18 @@ use Rattle.sal_history.specs.declared.call.Entry.{Entry}
 use Rattle.sal_history.specs.declared.reply.Reply.{Reply}
 use Rattle.sal_history.specs.declared.reply.Reply.TheVariants.{Receipt, Refused}
 use Rattle.sal_history.specs.Answered.{Answered}
-use Rattle.sal_history.specs.History.{answer, answered_as, began_at, entries_of, history, is_spent, nowhere, outcomes, pending, reply, reply_to, sent_by, sents, trees_at}
+use Rattle.sal_history.specs.History.{answer, answered_as, began_at, entries_of, history, is_spent, nowhere, reply, reply_to, sent_by, sents}
 use Rattle.sal_history.specs.Submissions.{Base, Sent}
 use Rattle.sal_history.specs.World.{Domain}
 use Rattle.sal_history.proofs.Numbers.{get_seam}
 use Rattle.sal_history.proofs.Unbroken.{sents-push}
 use Rattle.sal_history_laws.specs.SerialLaws.{EachReadStands}
-use Rattle.sal_pathtext.specs.Read.{read_path}
 use Rattle.sal_script.specs.CheckedLaws.{LooksAreKnown, TransactionsGrow}
 use Rattle.sal_script.specs.Moves.{Move, Submit}
-use Rattle.sal_script.specs.Play.{Meeting, Open, local, meet, seen_by, shared}
-use Rattle.sal_script.specs.Tables.{Versions, table_at}
+use Rattle.sal_script.specs.Play.{Meeting, local, meet, shared}
+use Rattle.sal_script.specs.Tables.{Versions}
 use Rattle.sal_script.proofs.Later.{began_later}
-use Rattle.sal_script_laws.specs.Submitted.{Deed, IsLook, PlayedReadsStand, Point, after_deed, after_deeds, deed_spares, stepped, takes, waits}
+use Rattle.sal_script_laws.specs.Submitted.{Deed, PlayedReadsStand, Point, after_deed, after_deeds, stepped, takes, waits}
 use Rattle.sal_script_laws.proofs.Submitted.{reads_are_submitted}
 
 -- ---- the log only grows

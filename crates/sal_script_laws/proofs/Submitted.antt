@@ -2,7 +2,6 @@
 use Rattle.std.proofs.Common.{◌≡◌, ℕ, Bool, true, false, not, List, [], ◌∷◌, ◌++◌, Option, None, Some, Ok, if◌then◌else◌, nat_eq, refl, ap, sym, ◌∙◌, subst, append-nil, append_assoc, inl, inr}
 use Rattle.std.specs.List.{list_all}
 use Rattle.std.proofs.lemmas.Bool.{and_parts, eq-eqb}
-use Rattle.std.proofs.lemmas.Option.{same_Some}
 use Rattle.sal_types.specs.declared.value.Store.{Store}
 use Rattle.sal_types.specs.declared.value.Step.{Step}
 use Rattle.sal_types.specs.declared.row.Row.{Row}
@@ -11,15 +10,14 @@ use Rattle.sal_rows.specs.declared.outcome.Mode.{Mode}
 use Rattle.sal_rows.specs.declared.outcome.Mode.TheVariants.{Checked}
 use Rattle.sal_rows.specs.Reads.{recorded}
 use Rattle.sal_history.specs.declared.call.Call.TheVariants as made
-use Rattle.sal_history.specs.declared.call.Entry.{Entry}
 use Rattle.sal_history.specs.declared.reply.Reply.{Reply}
 use Rattle.sal_history.specs.declared.reply.Reply.TheVariants.{Begun, Chain, Accepted as Done, Receipt, Listener as Listening, Batch, CallMade, Request}
 use Rattle.sal_history.specs.World.{Domain}
 use Rattle.sal_pathtext.specs.Read.{read_path}
 use Rattle.sal_script.specs.declared.reply.StepReply.{StepReply}
 use Rattle.sal_script.specs.CheckedLaws.{Grows, LooksAreKnown, TransactionsGrow}
-use Rattle.sal_script.specs.Moves.{Move, Begin, ChainBegin, Submit, Cancel, OpenChain, Listen, Take, Invoke, NextCall, Read, Exists}
-use Rattle.sal_script.specs.Play.{Client, Meeting, Open, Spot, found, keep, local, look, meet, replied, rows_read, seen_by, shared, submit, submit_in, table_for, with_ops}
+use Rattle.sal_script.specs.Moves.{Move, Begin, ChainBegin, Submit, Cancel, OpenChain, Listen, Take, Invoke, NextCall}
+use Rattle.sal_script.specs.Play.{Client, Meeting, Open, Spot, found, keep, local, look, meet, rows_read, shared, submit, submit_in, table_for, with_ops}
 use Rattle.sal_script.specs.Tables.{Versions, table_at}
 use Rattle.sal_script_laws.specs.Submitted.{Deed, IsLook, Point, ReadsAreSubmitted, after_deed, after_deeds, deed_spares, spares, stepped, takes, waits}
 

@@ -1,11 +1,11 @@
 -- A path that is none, or what the transaction sees there.
-use Rattle.std.proofs.Common.{◌≡◌, ◌∙◌, inl, inr, refl}
+use Rattle.std.proofs.Common.{◌∙◌, inl, refl}
 use Rattle.sal_script.specs.Tables.{table_at}
 use Rattle.sal_pathtext.specs.Read.{read_path}
 use Rattle.sal_script.specs.Services.{path_or}
 use Rattle.sal_client.specs.Looks.{IsLooked}
-use Rattle.sal_client.proofs.Faults.{if_ok, if_refused, refuses_is}
-use Rattle.sal_client.proofs.Looking.{looked_there, looks_badly, looks_there}
+use Rattle.sal_client.proofs.Faults.{if_refused, refuses_is}
+use Rattle.sal_client.proofs.Looking.{looked_there, looks_badly}
 use Rattle.sal_client.proofs.looks.looked.Goals as goal
 
 pub returns-in-Ok : goal.returns-in-Ok

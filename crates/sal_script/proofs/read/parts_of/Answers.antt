@@ -1,7 +1,4 @@
-use Rattle.std.proofs.Common.{◌∙◌, ap, sym}
-use Rattle.sal_script.specs.JsonMoves.{have_json_moves}
 use Rattle.sal_script.proofs.CheckedReads.{json_with, limits_with}
-use Rattle.sal_script.specs.Moves.{clients_of}
 use Rattle.sal_script.proofs.read.parts_of.Goals as goal
 
 pub invariant_of-result : goal.invariant_of-result

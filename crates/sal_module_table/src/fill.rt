@@ -145,8 +145,11 @@ fn filled_at(
     ensures { IfOk result (λ t. t ≡ spec.filled_at own.now (lists edges.now) (spec.type_at all.now) k) }
 {
     let types = types_at(alloc, all, out_of(edges, k))?;
-    let t = type_at(alloc, own, k)?;
-    filled(alloc, &t, &types)
+    if k < own.len() {
+        filled(alloc, &own[k], &types)
+    } else {
+        filled(alloc, &empty_type(), &types)
+    }
 }
 
 /// The type of this number is made anew from those of its targets.
@@ -239,7 +242,7 @@ fn types_slowly(
 ///
 /// Each is made once, after those of its targets. Where a way leads into a cycle, which is a fault that stands before this, each
 /// way is gone along by itself.
-pub(crate) fn filled_types(
+fn filled_types(
     alloc: Global,
     own: &[YangType],
     edges: &[Vec<usize>],
@@ -251,4 +254,16 @@ pub(crate) fn filled_types(
         None => types_slowly(alloc, own, edges),
         Some(order) => types_by(alloc, own, edges, &order),
     }
+}
+
+/// The same of types that nobody needs any more.
+pub(crate) fn filled_of(
+    alloc: Global,
+    own: Vec<YangType>,
+    edges: &[Vec<usize>],
+) -> Result<Vec<YangType>, NoMemory>
+    ensures count { IfOk result (λ all. length all.items ≡ length edges.now) }
+    ensures each { IfOk result (λ all. (k : ℕ) → k < length edges.now → spec.type_at all.items k ≡ spec.type_of_node own.items (lists edges.now) k) }
+{
+    filled_types(alloc, &own, edges)
 }

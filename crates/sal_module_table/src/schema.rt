@@ -17,7 +17,7 @@ ghost use Rattle.sal_module_table.specs.Table.{infos_of};
 ghost use Rattle.sal_module_table.specs.Typed.{AreTyped};
 ghost use Rattle.sal_module_table.specs.Types as types;
 
-use crate::fill::{filled_types, type_at};
+use crate::fill::{filled_of, type_at};
 use crate::identities::{identity_fault, identity_infos};
 use crate::info::{infos_of as nodes_of, is_typed};
 use crate::leafrefs::{Targets, find_targets};
@@ -53,14 +53,14 @@ fn types_of(
     alloc: Global,
     modules: &Modules,
     forest: &[Branch],
-    own: &[YangType],
+    own: Vec<YangType>,
     edges: &[Vec<usize>],
 ) -> Result<Vec<YangType>, NoMemory>
-    requires own { own.now ≡ leads.own_types modules.now forest.now }
+    requires own { own.items ≡ leads.own_types modules.now forest.now }
     requires edges { lists edges.now ≡ leads.edges_of modules.now forest.now }
     ensures { IfOk result (λ types. types.items ≡ leads.types_of modules.now forest.now) }
 {
-    let filled = filled_types(alloc, own, edges)?;
+    let filled = filled_of(alloc, own, edges)?;
     let mut types = Vec::new(alloc);
     for (k, branch) in forest.iter().enumerate() {
         push_type(&mut types, alloc, is_typed(modules, branch), &filled, k)?;
@@ -106,7 +106,7 @@ fn types_in(
     ensures { IfOk result (λ types. types.items ≡ leads.types_of nodes.now.modules.now nodes.now.forest.now) }
 {
     let own = own_types(nodes.alloc, nodes.modules, typed, nodes.forest)?;
-    types_of(nodes.alloc, nodes.modules, nodes.forest, &own, edges)
+    types_of(nodes.alloc, nodes.modules, nodes.forest, own, edges)
 }
 
 /// The nodes and types of a table.

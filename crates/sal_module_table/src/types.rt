@@ -9,7 +9,7 @@ ghost use Rattle.sal_module_table.specs.Types as spec;
 
 use sal_module::{Found, Keyword, Modules, better, is_named, keyword_of};
 use sal_stmt::Stmt;
-use sal_typedefs::{Block, Typedefs, judge_at, name_fault_at};
+use sal_typedefs::{Block, Typedefs, name_fault_at, other_fault_at};
 use sal_types::{NoMemory, append};
 use std::alloc::Global;
 
@@ -69,10 +69,7 @@ fn fault_at<'j, 'x, 'a>(
 {
     match judge.asked {
         Asked::Names => name_fault_at(judge.alloc, judge.typedefs, judge.number, around, stmt),
-        Asked::Others => {
-            let (found, _ty) = judge_at(judge.alloc, judge.typedefs, judge.number, around, stmt)?;
-            Ok(found)
-        }
+        Asked::Others => { other_fault_at(judge.alloc, judge.typedefs, judge.number, around, stmt) }
     }
 }
 

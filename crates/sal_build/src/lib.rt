@@ -3,6 +3,7 @@
 //! | item | what it is |
 //! |---|---|
 //! | `build` | the schema of modules, or their first fault |
+//! | `build_owned` | the same of statements that are handed over |
 //! | `build_first`, `build_on` | the first version of modules, and the next one, in which all numbers stay |
 //! | `SchemaVersion` | a version: its schema, and the nodes from which the next version grows |
 //! | `laws` | functions that do nothing, each with a law as its contract |
@@ -26,5 +27,5 @@ pub mod laws;
 mod schema;
 mod versions;
 
-pub use schema::build;
+pub use schema::{build, build_owned};
 pub use versions::{SchemaVersion, build_first, build_on};

@@ -7,7 +7,7 @@ ghost use Rattle.sal_build.specs.Readable.{are_readable};
 
 use crate::laws::tables_are_tables;
 use sal_module::BuildFault;
-use sal_module_table::table_of_modules;
+use sal_module_table::{table_of_modules, table_of_owned};
 use sal_schema::Schema;
 use sal_stmt::Stmt;
 use std::alloc::Global;
@@ -22,5 +22,15 @@ pub fn build(alloc: Global, stmts: &[Stmt]) -> Result<Schema, BuildFault>
 {
     tables_are_tables();
     let table = table_of_modules(alloc, stmts)?;
+    Ok(Schema::from_table(alloc, table)?)
+}
+
+/// The same of statements that nobody needs any more: none is copied.
+pub fn build_owned(alloc: Global, stmts: Vec<Stmt>) -> Result<Schema, BuildFault>
+    requires { IsTrue (are_readable stmts.items) }
+    ensures { GivesUnless Fault.NoMemory (λ schema. schema) result (spec.build stmts.items) }
+{
+    tables_are_tables();
+    let table = table_of_owned(alloc, stmts)?;
     Ok(Schema::from_table(alloc, table)?)
 }

@@ -3,6 +3,7 @@
 //! | item | what it is |
 //! |---|---|
 //! | `table_of_modules` | the table of modules, or their first fault |
+//! | `table_of_owned` | the same of statements that are handed over |
 //! | `first_version` | the same table with the nodes from which a later version grows |
 //! | `next_version` | the table of a later version of modules, in which the numbers of the older one stay, or its first fault |
 //! | `Version`, `Older` | a version, and what of the older version the next one is made from |
@@ -50,5 +51,5 @@ mod walk;
 mod words;
 
 pub use child::Key;
-pub use schema::table_of_modules;
+pub use schema::{table_of_modules, table_of_owned};
 pub use versions::{Older, Version, first_version, next_version};

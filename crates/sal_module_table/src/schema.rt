@@ -28,7 +28,7 @@ use crate::tables::tables_of;
 use crate::typed::{NodeTypes, leafrefs_of_nodes, node_types, own_types};
 use crate::types::{type_name_fault, type_other_fault};
 use sal_grouping::{Branch, Forest, expand};
-use sal_module::{BuildFault, Found, Modules, argument_of, better, check};
+use sal_module::{BuildFault, Found, Modules, argument_of, better, check, check_owned};
 use sal_restrict::YangType;
 use sal_schema::{IdentityInfo, NodeInfo, SchemaTable};
 use sal_stmt::Stmt;
@@ -390,6 +390,16 @@ pub fn table_of_modules(alloc: Global, stmts: &[Stmt]) -> Result<SchemaTable, Bu
     ensures { GivesUnless Fault.NoMemory (λ table. table) result (spec.build stmts.now) }
 {
     let modules = check(alloc, stmts)?;
+    let forest = expand(alloc, &modules)?;
+    judge(alloc, &modules, &forest)
+}
+
+/// The same of statements that nobody needs any more: none is copied.
+pub fn table_of_owned(alloc: Global, stmts: Vec<Stmt>) -> Result<SchemaTable, BuildFault>
+    requires { steps_of stmts.items < 2 ^ 32 }
+    ensures { GivesUnless Fault.NoMemory (λ table. table) result (spec.build stmts.items) }
+{
+    let modules = check_owned(alloc, stmts)?;
     let forest = expand(alloc, &modules)?;
     judge(alloc, &modules, &forest)
 }

@@ -5,7 +5,7 @@ ghost use Rattle.sal_stmt.specs.Text.{Gives, read};
 ghost use Rattle.sal_versions.specs.Schemas as spec;
 
 use crate::schema_fault::{SchemaFault, of_modules, of_text};
-use sal_build::build;
+use sal_build::build_owned;
 use sal_build::laws::what_is_read_is_readable;
 use sal_schema::Schema;
 use sal_stmt::{Stmt, StmtFault, read_module};
@@ -19,7 +19,7 @@ pub fn schema_of(alloc: Global, texts: &[Str]) -> Result<Schema, SchemaFault>
 {
     what_is_read_is_readable();
     let stmts = statements_of(alloc, 0, texts)?;
-    match build(alloc, &stmts) {
+    match build_owned(alloc, stmts) {
         Ok(schema) => Ok(schema),
         Err(fault) => Err(of_modules(alloc, &fault)),
     }

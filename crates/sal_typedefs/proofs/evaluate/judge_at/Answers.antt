@@ -15,4 +15,4 @@ pub returns-in_ok-ty-in-Some-clause-meant : goal.returns-in_ok-ty-in-Some-clause
 returns-in_ok-ty-in-Some-clause-meant c none =
     let a = c.args in
     let site = site_in a.number a.around.now a.stmt.now in
-    c.in_ok-ty.ensures.value ∙ sym (whole-type a.typedefs.now site c.in-Some.builtin c.in-Some.ensures.names (steps_of a.typedefs.now) c.in-Some.ensures.is)
+    c.in_ok-ty-in-Some.ensures.value ∙ sym (whole-type a.typedefs.now site c.in-Some.builtin c.in-Some.ensures.names (steps_of a.typedefs.now) c.in-Some.ensures.is)

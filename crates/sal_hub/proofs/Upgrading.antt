@@ -179,7 +179,7 @@ high_enough (x ∷ ds) d version some is high =
     let same : length d.upgrades.items ≡ length x.upgrades.items = ap (λ (y : Stored). length y.upgrades.items) is in
     omega (arith, high, same, length-map x.upgrades.items (λ (v : Arc SchemaTable Global). v.value))
 
-own_number : (v : ℕ) → number_of v 0 ≡ v
+pub own_number : (v : ℕ) → number_of v 0 ≡ v
 own_number v = let own : nat_eq 0 0 ≡ true = grind (arith, nat_tests) in ap (λ b. if b then v else 0) own
 
 module _ (journal : Noted) (p : Pipeline) (is : IsKept journal p) (d : Stored) (version : ℕ) (some : 0 < length p.domains.items) (at : d ≡ get_or p.domains.items 0 d) where

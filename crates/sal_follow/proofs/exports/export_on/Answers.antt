@@ -1,4 +1,4 @@
-use Rattle.std.proofs.Common.{◌≡◌, ◌<◌, ◌≤◌, ℕ, List, map, length, Ok, sym, subst, arith}
+use Rattle.std.proofs.Common.{◌≡◌, ◌+◌, ◌<◌, ◌≤◌, ℕ, List, map, length, Ok, sym, subst, arith}
 use Rattle.sal_follow.specs.Exporting.{AreBetween}
 use Rattle.sal_follow.specs.Framed.{Trees, trees_of, ExportsOn}
 use Rattle.sal_follow.proofs.Exporting.{begun, one_more, fails, err_so, all_put}
@@ -16,7 +16,8 @@ loop-commit-preserved c =
     let trees : List Trees = map trees_of c.args.commits.now in
     let size : length trees ≡ length c.args.commits.now = length-mapped trees_of c.args.commits.now in
     let inside : l.commit < length trees = omega (arith, size, c.loop-commit-test.true) in
-    one_more c.args.schema.now trees c.args.next.commit c.args.next.number l.bytes.items l.commit l.number l.invariant c.push_kept.new.bytes.items inside c.in_ok-push_kept.ensures
+    subst (λ number. AreBetween c.args.schema.now trees c.args.next.commit c.args.next.number c.push_kept.new.bytes.items (l.commit + 1) number) (sym c.in_ok-number.ensures)
+    (one_more c.args.schema.now trees c.args.next.commit c.args.next.number l.bytes.items l.commit l.number l.invariant c.push_kept.new.bytes.items inside c.in_ok-push_kept.ensures)
 
 pub returns-in_err-push_kept : goal.returns-in_err-push_kept
 returns-in_err-push_kept c =

@@ -1,5 +1,5 @@
 -- Steps that check their reads are as many, and have the same values.
-use Rattle.std.proofs.Common.{◌≡◌, ℕ, zero, suc, ◌+◌, ◌<◌, Bool, true, false, List, [], ◌∷◌, ◌++◌, length, map, take, drop, get_or, IsTrue, refl, ap, ◌∙◌, arith}
+use Rattle.std.proofs.Common.{◌≡◌, ℕ, zero, suc, ◌+◌, ◌<◌, Bool, true, false, List, [], ◌∷◌, ◌++◌, length, map, take, drop, get_or, IsTrue, refl, ap, sym, ◌∙◌, arith}
 use Rattle.std.specs.Prelude.{slice_set}
 use Rattle.std.specs.List.{list_all}
 use Rattle.std.proofs.lemmas.List.{length-map}
@@ -63,8 +63,8 @@ limits_with checked old new made limits =
 -- ---- in place
 
 -- one element more is changed, as it is seen
-pub mapped_next : {A B : Type 0} (f : B → B) (g : A → B) (was now : List A) (i : ℕ) (x y : A) → i < length was → x ≡ get_or now i x → g y ≡ f (g x)
-    → map g now ≡ map f (map g (take i was)) ++ map g (drop i was) → map g (slice_set now i y) ≡ map f (map g (take (i + 1) was)) ++ map g (drop (i + 1) was)
+mapped_next : {A B : Type 0} (f : B → B) (g : A → B) (was now : List A) (i : ℕ) (x y : A) → i < length was → x ≡ get_or now i x → g y ≡ f (g x)
+    → map g now ≡ map f (map g (take i was)) ++ map g (drop i was) → map g (slice_set now i y) ≡ map f (map g (take (suc i) was)) ++ map g (drop (suc i) was)
 mapped_next f g [] now i x y within here is so_far = absurd (omega (arith, within))
 mapped_next f g (w ∷ was) [] zero x y within here is so_far = let none : [] ≡ g w ∷ map g was = so_far in absurd cc
 mapped_next f g (w ∷ was) [] (suc i) x y within here is so_far = let none : [] ≡ f (g w) ∷ (map f (map g (take i was)) ++ map g (drop i was)) = so_far in absurd cc
@@ -80,3 +80,9 @@ mapped_next f g (w ∷ was) (n ∷ now) (suc i) x y within here is so_far =
     let rest : map g now ≡ map f (map g (take i was)) ++ map g (drop i was) = cc in
     let more = mapped_next f g was now i x y (omega (arith, within)) here is rest in
     λ k. first k ∷ more k
+
+pub mapped_more : {A B : Type 0} (f : B → B) (g : A → B) (was now : List A) (i : ℕ) (x y : A) → i < length was → get_or now i x ≡ x → g y ≡ f (g x)
+    → map g now ≡ map f (map g (take i was)) ++ map g (drop i was) → map g (slice_set now i y) ≡ map f (map g (take (i + 1) was)) ++ map g (drop (i + 1) was)
+mapped_more f g was now i x y within here is so_far =
+    let next : suc i ≡ i + 1 = omega arith in
+    mapped_next f g was now i x y within (sym here) is so_far ∙ ap (λ n. map f (map g (take n was)) ++ map g (drop n was)) next

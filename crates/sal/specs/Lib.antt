@@ -27,6 +27,9 @@ pub use Rattle.sal_schema.specs.Versions
 pub use Rattle.sal_rows.specs.Apply
 pub use Rattle.sal_rows.specs.Patch
 pub use Rattle.sal_types.specs.Reading
+pub use Rattle.sal_draw_log.specs.Drawn as Pictures
+pub use Rattle.sal_draw_log.specs.Words as PictureWords
+pub use Rattle.sal_retell.specs.Told
 pub use Rattle.sal_listen.specs.Mirrors
 pub use Rattle.sal_build.specs.Readable
 pub use Rattle.sal_build.specs.Versions as BuiltVersions

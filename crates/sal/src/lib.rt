@@ -21,6 +21,7 @@
 //! | `Patterns`, `read_path`, `write_path`, `read_data`, `write_data`, `fits_rows` | paths as texts, and data as JSON |
 //! | `empty_device` | a device without data |
 //! | `is_for`, `is_place` | whether a transaction may put or merge these rows there, and whether it may delete there |
+//! | `draw_log` | what the clients of a hub did to each other, as a picture |
 //! | `what_is_read_is_readable` | does nothing: the law that shows what `build` requires |
 //!
 //! `specs/` has the definitions that the contracts of these calls cite: a clause of an application names
@@ -44,16 +45,19 @@
 //! | `empty_device` | constant |
 //! | `is_for` | that of `fits_rows` and a walk along the path |
 //! | `is_place` | a walk along the path |
+//! | `draw_log` | that of `sal_draw_log` |
 //!
 //! The heads of the crates that have the other calls say what these cost.
 #![tactic(auto)]
 
 mod devices;
 mod modules;
+mod picture;
 mod writes;
 
 pub use devices::empty_device;
 pub use modules::{SchemaFault, schema_of};
+pub use picture::draw_log;
 pub use sal_broker::{Held, MAX_LOOKS, OPENING_NUMBER, Sal, Seat};
 pub use sal_build::laws::what_is_read_is_readable;
 pub use sal_build::{SchemaVersion, build, build_first, build_on};

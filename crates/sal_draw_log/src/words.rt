@@ -122,6 +122,13 @@ fn push_outcome(text: &mut String, outcome: &Outcome) -> Result<(), NoMemory>
     }
 }
 
+// A word and the number of a domain.
+fn push_domain(text: &mut String, word: &str, id: u32) -> Result<(), NoMemory>
+    ensures { OnOk result (string_bytes text.new ≡ string_bytes text.old ++ spec.one word.now id) }
+{
+    push_one(text, word, u64::from(id))
+}
+
 fn push_fault(text: &mut String, fault: &CallFault) -> Result<(), NoMemory>
     ensures { OnOk result (string_bytes text.new ≡ string_bytes text.old ++ spec.fault_text fault.now) }
 {
@@ -133,9 +140,9 @@ fn push_fault(text: &mut String, fault: &CallFault) -> Result<(), NoMemory>
         CallFault::ChainFailed { receipt } => {
             push_one(text, "chain failed by receipt ", *receipt)
         }
-        CallFault::NoDomain { id } => push_one(text, "no live domain ", u64::from(*id)),
-        CallFault::DeviceUsed { id } => push_one(text, "mounted before: domain ", u64::from(*id)),
-        CallFault::MountTaken { id } => push_one(text, "mounted there: domain ", u64::from(*id)),
+        CallFault::NoDomain { id } => push_domain(text, "no live domain ", *id),
+        CallFault::DeviceUsed { id } => push_domain(text, "mounted before: domain ", *id),
+        CallFault::MountTaken { id } => push_domain(text, "mounted there: domain ", *id),
         _ => push_word(text, "refused"),
     }
 }
